@@ -1,0 +1,60 @@
+-- What a call that can be refused answers, want of memory aside.
+use Rattle.std.specs.Prelude.{◌≡◌, ℕ, Option, None, Result, Ok, Err}
+use Rattle.coding.specs.declared.fault.Fault.{Fault}
+use Rattle.coding.specs.declared.fault.FaultName.{FaultName}
+use Rattle.coding.specs.declared.fault.FaultName.TheVariants.{NoInput, Level, Options, SplitOrder, SplitCount, Workers, Snapshot, Size, Short, Magic, Handle, Range, Trailer, Compressed, BlockType, Block, Key, Index, Order, Empty, Bounds, Duplicate, Numbers, TooLarge, LogChecksum, LogShape, EditTag, EditField, Comparator, Apply, Lawless, Device, Missing, Memory}
+
+-- the fault of this name that is about no input
+abbrev pub fault : FaultName → Fault
+fault n = record { name = n; input = None }
+
+-- the number of each name
+abbrev pub code_of : FaultName → ℕ
+code_of NoInput = 1
+code_of Level = 2
+code_of Options = 3
+code_of SplitOrder = 4
+code_of SplitCount = 5
+code_of Workers = 6
+code_of Snapshot = 7
+code_of Size = 8
+code_of Short = 9
+code_of Magic = 10
+code_of Handle = 11
+code_of Range = 12
+code_of Trailer = 13
+code_of Compressed = 14
+code_of BlockType = 15
+code_of Block = 16
+code_of Key = 17
+code_of Index = 18
+code_of Order = 19
+code_of Empty = 20
+code_of Bounds = 21
+code_of Duplicate = 22
+code_of Numbers = 23
+code_of TooLarge = 24
+code_of LogChecksum = 30
+code_of LogShape = 31
+code_of EditTag = 32
+code_of EditField = 33
+code_of Comparator = 34
+code_of Apply = 35
+code_of Lawless = 36
+code_of Device = 40
+code_of Missing = 41
+code_of Memory = 99
+
+-- the fact, unless the name is that of want of memory
+abbrev pub UnlessMemory : FaultName → Type 0 → Type 0
+UnlessMemory Memory P = Unit {0}
+UnlessMemory _ P = P
+
+-- an error that is want of memory, or the refusal that the definition answers
+abbrev pub Fails : {Y : Type 0} → Fault → Result Y Fault → Type 0
+Fails e answer = UnlessMemory e.name (answer ≡ Err e)
+
+-- What a call answers, seen by view, is what the definition answers, want of memory aside.
+abbrev pub Gives : {X Y : Type 0} → (X → Y) → Result X Fault → Result Y Fault → Type 0
+Gives view (Ok x) answer = answer ≡ Ok (view x)
+Gives view (Err e) answer = Fails e answer

@@ -1,5 +1,5 @@
 -- What a call that can be refused answers, want of memory aside.
-use Rattle.std.specs.Prelude.{◌≡◌, ℕ, Option, None, Result, Ok, Err}
+use Rattle.std.specs.Prelude.{◌≡◌, ℕ, None, Result, Ok, Err}
 use Rattle.coding.specs.declared.fault.Fault.{Fault}
 use Rattle.coding.specs.declared.fault.FaultName.{FaultName}
 use Rattle.coding.specs.declared.fault.FaultName.TheVariants.{NoInput, Level, Options, SplitOrder, SplitCount, Workers, Snapshot, Size, Short, Magic, Handle, Range, Trailer, Compressed, BlockType, Block, Key, Index, Order, Empty, Bounds, Duplicate, Numbers, TooLarge, LogChecksum, LogShape, EditTag, EditField, Comparator, Apply, Lawless, Device, Missing, Memory}

@@ -1,5 +1,5 @@
 -- Varints: a number in groups of seven bits, the lowest first, with the high bit set on each byte but the last.
-use Rattle.std.specs.Prelude.{◌≡◌, ℕ, zero, suc, ◌+◌, ◌*◌, ◌-◌, ◌/◌, ◌%◌, ◌<◌, nat_eq, nat_lt, ◌&&◌, if◌then◌else◌, List, [], ◌∷◌, ◌++◌, length, Option, Some, None}
+use Rattle.std.specs.Prelude.{◌≡◌, ℕ, zero, suc, ◌+◌, ◌*◌, ◌-◌, ◌/◌, ◌%◌, ◌<◌, ◌≤◌, ◌⊎◌, nat_eq, nat_lt, ◌&&◌, if◌then◌else◌, List, [], ◌∷◌, ◌++◌, length, Option, Some, None}
 use Rattle.std.specs.List.{starts_with}
 
 -- the number in at most n + 1 groups
@@ -15,6 +15,11 @@ varint x = groups 9 x
 abbrev pub front_number : List ℕ → ℕ
 front_number [] = 0
 front_number (b ∷ bytes) = if nat_lt b 128 then b else (b - 128) + 128 * front_number bytes
+
+-- one number's groups: the high bit on each byte but the last
+abbrev pub IsGroups : List ℕ → Type 0
+IsGroups [] = ⊥
+IsGroups (b ∷ bytes) = ((b < 128) × (bytes ≡ [])) ⊎ ((128 ≤ b) × (b < 256) × IsGroups bytes)
 
 -- the number below a limit whose spelling begins the bytes, and the length of that spelling
 unfoldable pub varint_reading : ℕ → List ℕ → Option (ℕ × ℕ)

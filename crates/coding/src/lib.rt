@@ -4,5 +4,10 @@
 #![tactic(auto)]
 
 mod fault;
+mod varint;
 
 pub use fault::{Fault, FaultName};
+pub use varint::{one_reading, push_slice, push_varint, read_u32_varint, read_u64_varint};
+
+#[cfg(test)]
+mod tests;

@@ -1,0 +1,6 @@
+pub mod Pieces
+pub mod Restarts
+pub mod Areas
+pub mod Splits
+pub mod Walks
+pub mod Checks

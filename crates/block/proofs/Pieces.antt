@@ -1,0 +1,141 @@
+-- A piece that is read is the piece that was spelt, and what was spelt is read again.
+use Rattle.std.proofs.Common.{◌≡◌, ℕ, zero, suc, ◌+◌, ◌-◌, ◌^◌, ◌<◌, ◌≤◌, Bool, true, false, cond, List, [], ◌∷◌, ◌++◌, length, take, drop, Option, Some, None, refl, sym, ap, subst, ◌∙◌, append_assoc, arith, lit≤, leb}
+use Rattle.std.specs.List.{flat_map}
+use Rattle.std.proofs.lemmas.List.{take_at, drop_at, take-append-drop, length-append, length-take-le, length-drop, drop-drop}
+use Rattle.std.proofs.lemmas.Bool.{le-leb, leb-true}
+use Rattle.std.proofs.lemmas.Option.{same_Some, cond_some}
+use Rattle.coding.specs.Varint.{varint, varint_reading}
+use Rattle.block.specs.Piece.{Entry, Piece, piece_bytes, key_after, entries_after, IsPieceAfter, ArePieces}
+use Rattle.block.specs.Reading.{Field, and_then, length_at, piece_at, entries_in, entries_behind}
+use Rattle.coding.proofs.Varints.{varint_reading-varint, reads_varint, length-varint_pos}
+
+-- a piece at which no restart points
+abbrev pub plain : Piece → Piece
+plain p = record { is_restart = false; shared = p.shared; unshared = p.unshared; value = p.value }
+
+abbrev found : {A : Type 0} → A → List ℕ → Option (Field A)
+found x rest = Some (record { field = x; rest = rest })
+
+-- each length has its width
+pub record Widths (p : Piece) : Type 0 where
+  pub shared : p.shared < 2 ^ 32
+  pub unshared : length p.unshared < 2 ^ 32
+  pub value : length p.value < 2 ^ 32
+
+pub Widths-of : (before : ℕ) (p : Piece) → IsPieceAfter before p → Widths p
+Widths-of before p h = record { shared = h.shared_fits; unshared = h.unshared_fits; value = h.value_fits }
+
+length_at-varint : (x : ℕ) (rest : List ℕ) → x < 2 ^ 32 → length_at (varint x ++ rest) ≡ found x rest
+length_at-varint x rest lt =
+    rw (varint_reading-varint (2 ^ 32) x rest lt (lit≤ tt), drop_at (varint x) rest (length (varint x)) refl) refl
+
+-- what is behind the three lengths
+tail_at : List ℕ → List ℕ → List ℕ → List ℕ
+tail_at unshared value rest = unshared ++ (value ++ rest)
+
+regrouped : (p : Piece) (rest : List ℕ) → piece_bytes p ++ rest ≡ varint p.shared ++ (varint (length p.unshared) ++ (varint (length p.value) ++ (p.unshared ++ (p.value ++ rest))))
+regrouped p rest = simp append_assoc
+
+pub piece_at-piece_bytes : (p : Piece) (rest : List ℕ) → Widths p → piece_at (piece_bytes p ++ rest) ≡ found (plain p) rest
+unfolding piece_at
+piece_at-piece_bytes p rest h =
+    let fits : leb (length p.unshared + length p.value) (length (p.unshared ++ (p.value ++ rest))) ≡ true =
+    le-leb _ _ (simp length-append (omega arith)) in
+    ap piece_at (regrouped p rest)
+    ∙ rw (length_at-varint p.shared _ h.shared, length_at-varint (length p.unshared) _ h.unshared, length_at-varint (length p.value) _ h.value, fits, ← drop-drop (length p.value) (length p.unshared) (p.unshared ++ (p.value ++ rest)), take_at p.unshared (p.value ++ rest) (length p.unshared) refl, drop_at p.unshared (p.value ++ rest) (length p.unshared) refl, take_at p.value rest (length p.value) refl, drop_at p.value rest (length p.value) refl) refl
+
+-- the value of a step that did not fail
+and_then_some : {A B : Type 0} (o : Option A) (f : A → Option B) (y : B) → and_then o f ≡ Some y → (x : A) × (o ≡ Some x) × (f x ≡ Some y)
+and_then_some None f y e = absurd cc
+and_then_some (Some x) f y e = (x, refl, e)
+
+-- a length that is read is spelt at the front
+record ReadsLength (bytes : List ℕ) (x : Field ℕ) : Type 0 where
+  below : x.field < 2 ^ 32
+  parts : bytes ≡ varint x.field ++ x.rest
+
+reads_length : (bytes : List ℕ) (x : Field ℕ) → length_at bytes ≡ Some x → ReadsLength bytes x
+reads_length bytes x e =
+    let a = and_then_some (varint_reading (2 ^ 32) bytes) (λ r. found r.0 (drop r.1 bytes)) x e in
+    let r = reads_varint (2 ^ 32) bytes a.0.0 a.0.1 a.1 in
+    let same : record { field = a.0.0; rest = drop a.0.1 bytes } ≡ x = same_Some _ _ a.2 in
+    subst (ReadsLength bytes) same (record { below = r.below; parts = r.parts })
+
+pub record ReadsPiece (bytes : List ℕ) (p : Piece) (rest : List ℕ) : Type 0 where
+  pub plain : p.is_restart ≡ false
+  pub widths : Widths p
+  pub parts : bytes ≡ piece_bytes p ++ rest
+
+-- the piece of three lengths and what is behind them
+made : Field ℕ → Field ℕ → Field ℕ → Field Piece
+made shared unshared value = record {
+  field = record {
+    is_restart = false;
+    shared = shared.field;
+    unshared = take unshared.field value.rest;
+    value = take value.field (drop unshared.field value.rest);
+  };
+  rest = drop (unshared.field + value.field) value.rest;
+}
+
+reads_made : (bytes : List ℕ) (s u v : Field ℕ) → ReadsLength bytes s → ReadsLength s.rest u → ReadsLength u.rest v → u.field + v.field ≤ length v.rest
+    → ReadsPiece bytes (made s u v).field (made s u v).rest
+unfolding made
+reads_made bytes s u v rs ru rv long =
+    let unshared_len : length (take u.field v.rest) ≡ u.field = length-take-le u.field v.rest (omega arith) in
+    let value_len : length (take v.field (drop u.field v.rest)) ≡ v.field = length-take-le v.field (drop u.field v.rest) (simp length-drop (omega arith)) in
+    let back : v.rest ≡ take u.field v.rest ++ (take v.field (drop u.field v.rest) ++ drop (u.field + v.field) v.rest) =
+    sym (take-append-drop u.field v.rest) ∙ ap (λ (t : List ℕ). take u.field v.rest ++ t) (sym (take-append-drop v.field (drop u.field v.rest)) ∙ ap (λ (t : List ℕ). take v.field (drop u.field v.rest) ++ t) (drop-drop v.field u.field v.rest)) in
+    record {
+      plain = refl;
+      widths = record { shared = rs.below; unshared = rw unshared_len ru.below; value = rw value_len rv.below };
+      parts = rs.parts ∙ ap (λ (t : List ℕ). varint s.field ++ t) (ru.parts ∙ ap (λ (t : List ℕ). varint u.field ++ t) (rv.parts ∙ ap (λ (t : List ℕ). varint v.field ++ t) back))
+          ∙ sym (regrouped (made s u v).field (made s u v).rest ∙ rw (unshared_len, value_len) refl);
+    }
+
+-- three lengths that are read, and enough bytes behind them
+pub reads_piece : (bytes : List ℕ) (x : Field Piece) → piece_at bytes ≡ Some x → ReadsPiece bytes x.field x.rest
+unfolding piece_at made
+reads_piece bytes x e =
+    let a = and_then_some (length_at bytes) _ x e in
+    let b = and_then_some (length_at a.0.rest) _ x a.2 in
+    let c = and_then_some (length_at b.0.rest) _ x b.2 in
+    let g = cond_some _ _ _ c.2 in
+    subst (λ (y : Field Piece). ReadsPiece bytes y.field y.rest) g.1
+    (reads_made bytes a.0 b.0 c.0 (reads_length bytes a.0 a.1) (reads_length a.0.rest b.0 b.1) (reads_length b.0.rest c.0 c.1) (leb-true _ _ g.0))
+
+-- a piece at the front is read, and no other
+pub piece_at_front : (bytes : List ℕ) (p : Piece) (rest : List ℕ) → Widths p → bytes ≡ piece_bytes p ++ rest → piece_at bytes ≡ found (plain p) rest
+piece_at_front bytes p rest h e = ap piece_at e ∙ piece_at-piece_bytes p rest h
+
+pub length-piece_bytes_pos : (p : Piece) → 0 < length (piece_bytes p)
+length-piece_bytes_pos p = simp length-append (omega (arith, length-varint_pos p.shared))
+
+-- each of the pieces has its widths
+abbrev pub AreWide : List Piece → Type 0
+AreWide [] = Unit {0}
+AreWide (p ∷ ps) = Widths p × AreWide ps
+
+pub AreWide-of : (before : ℕ) (ps : List Piece) → ArePieces before ps → AreWide ps
+AreWide-of before [] h = tt
+AreWide-of before (p ∷ ps) h = (Widths-of before p h.0, AreWide-of (p.shared + length p.unshared) ps h.1)
+
+-- no piece stands in no bytes
+pub piece_at-nil : piece_at [] ≡ None
+unfolding piece_at varint_reading varint
+piece_at-nil = refl
+
+-- pieces that were spelt are read again
+pub entries_in-pieces : (n : ℕ) (before : List ℕ) (ps : List Piece) → AreWide ps → length ps ≤ n → entries_in n before (flat_map piece_bytes ps) ≡ entries_after before ps
+entries_in-pieces zero before [] h le = refl
+entries_in-pieces zero before (p ∷ ps) h le = absurd (omega arith)
+entries_in-pieces (suc n) before [] h le = rw piece_at-nil refl
+entries_in-pieces (suc n) before (p ∷ ps) h le =
+    rw (piece_at-piece_bytes p (flat_map piece_bytes ps) h.0) (ap (λ (es : List Entry). record { key = key_after before p; value = p.value } ∷ es) (entries_in-pieces n (key_after before p) ps h.1 (omega arith)))
+
+pub length-pieces : (ps : List Piece) → length ps ≤ length (flat_map piece_bytes ps)
+length-pieces [] = omega arith
+length-pieces (p ∷ ps) = omega (arith, length-append (piece_bytes p) (flat_map piece_bytes ps), length-piece_bytes_pos p, length-pieces ps)
+
+pub entries_behind-pieces : (before : List ℕ) (ps : List Piece) → AreWide ps → entries_behind before (flat_map piece_bytes ps) ≡ entries_after before ps
+entries_behind-pieces before ps h = entries_in-pieces (length (flat_map piece_bytes ps)) before ps h (length-pieces ps)

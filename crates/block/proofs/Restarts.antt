@@ -1,0 +1,66 @@
+-- Numbers of four bytes, one after the other.
+use Rattle.std.proofs.Common.{◌≡◌, ◌≢◌, ℕ, zero, suc, ◌+◌, ◌-◌, ◌*◌, ◌^◌, ◌<◌, ◌≤◌, Bool, true, false, cond, List, [], ◌∷◌, ◌++◌, length, take, drop, get_or, refl, sym, ap, subst, ◌∙◌, append_assoc, arith, inl, inr}
+use Rattle.std.specs.List.{flat_map, AllByRecursion}
+use Rattle.std.specs.Int.{w32, from_le_bytes, to_le_bytes}
+use Rattle.std.proofs.lemmas.List.{take_at, drop_at, take-append-drop, length-append, length-take, length-take-le, get_or-take, get_or-drop, get_or_past}
+use Rattle.std.proofs.lemmas.Bool.{cases_lt}
+use Rattle.std.proofs.lemmas.Nat.{le_bytes_4}
+use Rattle.byteorder.specs.Endian.{little_bytes, little_number, little_from}
+use Rattle.block.specs.Parts.{BeginsWith}
+use Rattle.byteorder.specs.Numbers.{little_number-reads_back, little_from-take, little_from-lt, length-bytes_low_first}
+
+-- the numbers, four bytes each
+abbrev pub words : List ℕ → List ℕ
+words restarts = flat_map (little_bytes 4) restarts
+
+abbrev pub IsBytes : List ℕ → Type 0
+IsBytes bytes = (i : ℕ) → get_or bytes i 0 < 256
+
+pub length-words : (rs : List ℕ) → length (words rs) ≡ 4 * length rs
+length-words [] = refl
+length-words (r ∷ rs) = omega (arith, length-append (little_bytes 4 r) (words rs), length-words rs)
+
+-- the number at the front
+pub front_word : (x : ℕ) (rest : List ℕ) → x < 2 ^ 32 → little_number 4 (little_bytes 4 x ++ rest) ≡ x
+front_word x rest lt = little_number-reads_back 4 x rest lt
+
+pub same_word : (x y : ℕ) (a b : List ℕ) → x < 2 ^ 32 → y < 2 ^ 32 → little_bytes 4 x ++ a ≡ little_bytes 4 y ++ b → (x ≡ y) × (a ≡ b)
+same_word x y a b lx ly e =
+    (sym (front_word x a lx) ∙ ap (little_number 4) e ∙ front_word y b ly, ap (λ (t : List ℕ). drop 4 t) e)
+
+pub IsBytes-take : (n : ℕ) (bytes : List ℕ) → IsBytes bytes → IsBytes (take n bytes)
+IsBytes-take n bytes h i =
+    elim (cases_lt i n) [
+      | inl lt ↦ rw (get_or-take n bytes i 0 lt) (h i)
+      | inr le ↦ rw (get_or_past (take n bytes) i 0 (omega (arith, length-take n bytes))) (omega arith)
+    ]
+
+pub IsBytes-drop : (n : ℕ) (bytes : List ℕ) → IsBytes bytes → IsBytes (drop n bytes)
+IsBytes-drop n bytes h i = rw get_or-drop (h (n + i))
+
+-- four bytes are those of the number that they spell
+pub word_parts : (bytes : List ℕ) → IsBytes bytes → 4 ≤ length bytes → bytes ≡ little_bytes 4 (little_number 4 bytes) ++ drop 4 bytes
+word_parts bytes fits le =
+    let four : length (take 4 bytes) ≡ 4 = length-take-le 4 bytes le in
+    let fits4 : IsBytes (take 4 bytes) = IsBytes-take 4 bytes fits in
+    let spelt : little_bytes 4 (little_number 4 bytes) ≡ take 4 bytes =
+    le_bytes_4 (take 4 bytes) (little_number 4 bytes) four fits4
+    (omega (arith, get_or-take 4 bytes 0 0 (omega arith), get_or-take 4 bytes 1 0 (omega arith), get_or-take 4 bytes 2 0 (omega arith), get_or-take 4 bytes 3 0 (omega arith))) in
+    sym (take-append-drop 4 bytes) ∙ ap (λ (t : List ℕ). t ++ drop 4 bytes) (sym spelt)
+
+pub word_fits : (bytes : List ℕ) → IsBytes bytes → little_number 4 bytes < 2 ^ 32
+word_fits bytes fits = little_from-lt 0 4 bytes fits
+
+-- the numbers behind the one that bytes begin with
+pub begins_drop : (pending : List ℕ) (at : ℕ) → BeginsWith pending at → pending ≡ little_bytes 4 at ++ drop 4 pending
+begins_drop pending at b = b.1 ∙ ap (λ (t : List ℕ). little_bytes 4 at ++ t) (sym (ap (drop 4) b.1))
+
+pub begins_long : (pending : List ℕ) (at : ℕ) → BeginsWith pending at → 4 ≤ length pending
+begins_long pending at b = omega (arith, ap length b.1)
+
+-- the number at the front is this one exactly where the bytes begin with it
+pub begins_iff : (pending : List ℕ) (at : ℕ) → IsBytes pending → 4 ≤ length pending → (little_number 4 pending ≡ at → (at < 2 ^ 32) × BeginsWith pending at) × ((at < 2 ^ 32) × BeginsWith pending at → little_number 4 pending ≡ at)
+begins_iff pending at fits long = (
+  λ e. (subst (λ (n : ℕ). n < 2 ^ 32) e (word_fits pending fits), (drop 4 pending, subst (λ (n : ℕ). pending ≡ little_bytes 4 n ++ drop 4 pending) e (word_parts pending fits long))),
+  λ b. ap (little_number 4) b.1.1 ∙ front_word at b.1.0 b.0,
+)

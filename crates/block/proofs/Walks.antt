@@ -1,0 +1,56 @@
+-- One step over the pieces of a block.
+use Rattle.std.proofs.Common.{◌≡◌, ◌≢◌, ℕ, ◌+◌, ◌≤◌, ◌<◌, Bool, true, false, cond, List, [], ◌∷◌, ◌++◌, length, take, drop, Option, Some, None, refl, sym, ap, subst, ◌∙◌, arith}
+use Rattle.std.specs.List.{flat_map}
+use Rattle.std.proofs.lemmas.List.{length-append, length-take-le}
+use Rattle.std.proofs.lemmas.Option.{same_Some, none-some}
+use Rattle.block.specs.Piece.{Entry, Piece, piece_bytes, key_after, entries_after, IsPieceAfter, ArePieces, IsBlock, IsArea}
+use Rattle.block.specs.Reading.{Field, piece_at, entries_behind}
+use Rattle.block.specs.Walking.{ArePiecesBehind}
+use Rattle.block.proofs.Pieces.{plain, Widths-of, piece_at_front, piece_at-nil, entries_behind-pieces, AreWide-of}
+
+length-key_after : (before : List ℕ) (p : Piece) → p.shared ≤ length before → length (key_after before p) ≡ p.shared + length p.unshared
+length-key_after before p le = omega (arith, length-append (take p.shared before) p.unshared, length-take-le p.shared before le)
+
+-- the entry of the piece at the front, and those behind it
+pub record Steps (before rest : List ℕ) (x : Field Piece) : Type 0 where
+  pub entries : entries_behind before rest ≡ record { key = key_after before x.field; value = x.field.value } ∷ entries_behind (key_after before x.field) x.rest
+  pub behind : ArePiecesBehind (key_after before x.field) x.rest
+
+front_read : (before rest : List ℕ) (p : Piece) (ps : List Piece) → ArePieces (length before) (p ∷ ps) → rest ≡ flat_map piece_bytes (p ∷ ps) → piece_at rest ≡ Some (record { field = plain p; rest = flat_map piece_bytes ps })
+front_read before rest p ps h e = piece_at_front rest p (flat_map piece_bytes ps) (Widths-of (length before) p h.0) e
+
+behind_of : (before rest : List ℕ) (ps : List Piece) → ArePieces (length before) ps → rest ≡ flat_map piece_bytes ps → entries_behind before rest ≡ entries_after before ps
+behind_of before rest ps h e = ap (entries_behind before) e ∙ entries_behind-pieces before ps (AreWide-of (length before) ps h)
+
+steps_of : (before rest : List ℕ) (x : Field Piece) (ps : List Piece) → ArePieces (length before) ps → rest ≡ flat_map piece_bytes ps → piece_at rest ≡ Some x → Steps before rest x
+steps_of before rest x [] h e f = absurd (none-some x (sym piece_at-nil ∙ ap piece_at (sym e) ∙ f))
+steps_of before rest x (p ∷ ps) h e f =
+    let pieces : ArePieces (length (key_after before p)) ps = subst (λ (n : ℕ). ArePieces n ps) (sym (length-key_after before p h.0.shared)) h.1 in
+    subst (Steps before rest) (same_Some _ _ (sym (front_read before rest p ps h e) ∙ f))
+    (record {
+      entries = behind_of before rest (p ∷ ps) h e ∙ ap (λ (es : List Entry). record { key = key_after before p; value = p.value } ∷ es) (sym (behind_of (key_after before p) (flat_map piece_bytes ps) ps pieces refl));
+      behind = (ps, pieces, refl);
+    })
+
+pub steps : (before rest : List ℕ) (x : Field Piece) → ArePiecesBehind before rest → piece_at rest ≡ Some x → Steps before rest x
+steps before rest x b f = steps_of before rest x b.0 b.1 b.2 f
+
+-- no piece stands at the front of no pieces alone
+pub ends : (before rest : List ℕ) → ArePiecesBehind before rest → piece_at rest ≡ None → entries_behind before rest ≡ []
+ends before rest b f = ends_of b.0 b.1 b.2
+  where
+    ends_of : (ps : List Piece) → ArePieces (length before) ps → rest ≡ flat_map piece_bytes ps → entries_behind before rest ≡ []
+    ends_of [] h e = behind_of before rest [] h e
+    ends_of (p ∷ ps) h e = absurd (none-some _ (sym f ∙ front_read before rest p ps h e))
+
+-- the pieces of a block's area
+pub behind_area : (area restarts : List ℕ) → IsArea area restarts → ArePiecesBehind [] area
+behind_area area restarts h = (h.0, h.1.pieces, h.2)
+
+pub entries_of_area : (area restarts : List ℕ) (h : IsArea area restarts) → entries_behind [] area ≡ entries_after [] h.0
+entries_of_area area restarts h = behind_of [] area h.0 h.1.pieces h.2
+
+-- the place moves on by one entry
+pub advanced : (valid : Bool) (e first : Entry) (behind more now : List Entry) → cond valid (e ∷ behind) [] ≡ now → 0 < length now → behind ≡ first ∷ more → cond valid (first ∷ more) [] ≡ drop 1 now
+advanced true e first behind more now view some same = sym same ∙ ap (drop 1) view
+advanced false e first behind more now view some same = absurd (omega (arith, ap length view))

@@ -1,0 +1,6 @@
+pub mod Piece
+pub mod Writing
+pub mod Reading
+pub mod Lent
+pub mod Parts
+pub mod Walking

@@ -1,0 +1,26 @@
+-- The one block that is written of a list of entries.
+use Rattle.std.specs.Prelude.{ℕ, ◌+◌, ◌%◌, nat_eq, ◌==◌, Bool, true, false, if◌then◌else◌, List, [], ◌∷◌, drop}
+use Rattle.std.specs.List.{common_prefix_len}
+use Rattle.block.specs.Piece.{Entry, Piece, block_bytes}
+
+-- The piece of the entry at a place, after this key: at each multiple of the interval there is a restart, and
+-- elsewhere all of the longest common beginning is shared.
+abbrev pub piece_of : ℕ → ℕ → List ℕ → Entry → Piece
+piece_of interval place before e =
+    if place % interval == 0
+    then record { is_restart = true; shared = 0; unshared = e.key; value = e.value }
+    else record {
+      is_restart = false;
+      shared = common_prefix_len nat_eq before e.key;
+      unshared = drop (common_prefix_len nat_eq before e.key) e.key;
+      value = e.value;
+    }
+
+-- the pieces of entries, the first of them at this place and after this key
+abbrev pub pieces_from : ℕ → ℕ → List ℕ → List Entry → List Piece
+pieces_from interval place before [] = []
+pieces_from interval place before (e ∷ es) = piece_of interval place before e ∷ pieces_from interval (place + 1) e.key es
+
+-- the block of a list at a restart interval
+unfoldable pub block : ℕ → List Entry → List ℕ
+block interval entries = block_bytes (pieces_from interval 0 [] entries)

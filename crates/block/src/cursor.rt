@@ -1,0 +1,111 @@
+//! The walk over the entries of a block.
+
+ghost use Rattle.std.specs.Prelude.{◌≡◌, ◌<◌, ◌↔◌, length, IsTrue, IfOk, OnOk, OnErr, IsOkUnless, IfErr, slice_get, Some, take, drop, ◌++◌};
+ghost use Rattle.std.specs.Option.{option_map};
+ghost use Rattle.coding.specs.Answers.{fault};
+ghost use Rattle.coding.specs.declared.fault.FaultName.TheVariants.{Memory};
+
+use crate::piece::piece_at;
+use crate::sound_block::SoundBlock;
+use coding::Fault;
+use std::alloc::Global;
+use std::marker::Model;
+
+/// Keeps so many bytes of a key and appends the others. A refused growth leaves the key as it was.
+fn replace_end(key: &mut Vec<u8>, shared: usize, unshared: &[u8]) -> Result<(), Fault>
+    ensures ok { OnOk result (key.new.items ≡ take shared key.old.items ++ unshared.now) }
+    ensures err { OnErr result (key.new.items ≡ key.old.items) }
+    ensures memory { IsOkUnless result (fault Memory) }
+{
+    key.reserve(unshared.len())?;
+    key.truncate(shared);
+    key.extend_from_slice(unshared).unwrap();
+    Ok(())
+}
+
+/// A place in a block, seen as the entries from there on.
+#[derive(Drop)]
+pub struct BlockCursor<'a> {
+    valid: bool,
+    key: Vec<u8>,
+    value: &'a [u8],
+    rest: &'a [u8],
+}
+
+impl<'a> Model for BlockCursor<'a> {
+    ghost use Rattle.std.specs.Prelude.{List};
+    ghost use Rattle.block.specs.Piece.{Entry};
+
+    ghost Value = { List Entry };
+
+    ghost use Rattle.block.specs.Walking.{to_come, IsWalking};
+
+    ghost view = { to_come };
+
+    ghost invariant = { IsWalking };
+}
+
+impl<'a> BlockCursor<'a> {
+    /// All entries of a block. Refused only for want of memory.
+    pub fn new(alloc: Global, block: &SoundBlock<'a>) -> Result<BlockCursor<'a>, Fault>
+        ensures all { IfOk result (λ cursor. cursor ≡ block.now) }
+        ensures memory { IfErr result (λ e. e ≡ fault Memory) }
+    {
+        let mut key = Vec::new(alloc);
+        let Some(piece) = piece_at(block.area()) else {
+            return Ok(BlockCursor {
+                valid: false,
+                key,
+                value: &[],
+                rest: &[],
+            });
+        };
+        replace_end(&mut key, piece.shared, piece.unshared)?;
+        Ok(BlockCursor {
+            valid: true,
+            key,
+            value: piece.value,
+            rest: piece.rest,
+        })
+    }
+
+    /// Whether an entry is still to come.
+    pub fn valid(&self) -> bool
+        ensures { IsTrue result ↔ (0 < length self.now) }
+    {
+        self.valid
+    }
+
+    /// The key of the first entry that is still to come.
+    pub fn key(&self) -> &[u8]
+        requires { 0 < length self.now }
+        ensures { option_map (λ e. e.key) (slice_get self.now 0) ≡ Some result.now }
+    {
+        &self.key
+    }
+
+    /// The value of the first entry that is still to come, a part of the block's bytes.
+    pub fn value(&self) -> &'a [u8]
+        requires { 0 < length self.now }
+        ensures { option_map (λ e. e.value) (slice_get self.now 0) ≡ Some result.now }
+    {
+        self.value
+    }
+
+    /// Takes the first entry off. Refused only for want of memory, and then nothing is taken off.
+    pub fn advance(&mut self) -> Result<(), Fault>
+        requires { 0 < length self.old }
+        ensures ok { OnOk result (self.new ≡ drop 1 self.old) }
+        ensures err { OnErr result (self.new ≡ self.old) }
+        ensures memory { IsOkUnless result (fault Memory) }
+    {
+        let Some(piece) = piece_at(self.rest) else {
+            self.valid = false;
+            return Ok(());
+        };
+        replace_end(&mut self.key, piece.shared, piece.unshared)?;
+        self.value = piece.value;
+        self.rest = piece.rest;
+        Ok(())
+    }
+}

@@ -1,0 +1,3 @@
+pub mod Varints
+mod Groups
+mod Steps

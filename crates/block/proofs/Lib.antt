@@ -1,6 +1,9 @@
 pub mod Pieces
 pub mod Restarts
-pub mod Areas
 pub mod Splits
+pub mod Areas
 pub mod Walks
 pub mod Checks
+pub mod Written
+pub mod Built
+pub mod Sizes

@@ -1,5 +1,6 @@
 pub mod Piece
 pub mod Writing
+pub mod Building
 pub mod Reading
 pub mod Lent
 pub mod Parts

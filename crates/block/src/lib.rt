@@ -1,10 +1,21 @@
 //! Blocks: lists of entries whose keys share their beginnings.
 #![tactic(auto)]
 
+ghost use Rattle.std.specs.Prelude.{◌^◌, ◌≤◌, length, List, ℕ};
+ghost use Rattle.block.specs.Piece.{Entry, IsBlock};
+ghost use Rattle.block.specs.Writing.{block};
+
+mod builder;
 mod cursor;
 mod lent;
 mod piece;
 mod sound_block;
 
+pub use builder::BlockBuilder;
 pub use cursor::BlockCursor;
 pub use sound_block::{SoundBlock, check};
+
+/// The block of a list at any interval reads as that list.
+pub fn reads_back()
+    ensures { (r : ℕ) (q : List Entry) → length (block r q) ≤ 2 ^ 31 → IsBlock (block r q) q }
+{}

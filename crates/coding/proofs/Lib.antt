@@ -1,3 +1,9 @@
 pub mod Varints
 mod Groups
 mod Steps
+pub mod Refusals
+pub mod CrcDivision
+pub mod CrcKernel
+pub mod CrcMask
+pub mod CrcRegisterLemmas
+pub mod CrcTables

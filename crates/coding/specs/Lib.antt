@@ -1,2 +1,4 @@
 pub mod Answers
 pub mod Varint
+pub mod Crc
+pub mod CrcRegister

@@ -1,11 +1,13 @@
-//! What all layers share: the one [`Fault`], varints and length-prefixed slices.
+//! What all layers share: the one [`Fault`], varints and length-prefixed slices, CRC-32C and its mask.
 //!
 //! Fixed-width numbers are little-endian and are read and written by `byteorder`.
 #![tactic(auto)]
 
+mod crc;
 mod fault;
 mod varint;
 
+pub use crc::{crc32c, crc32c_pair, crc32c_plain, mask, remainder_law, unmask};
 pub use fault::{Fault, FaultName};
 pub use varint::{one_reading, push_slice, push_varint, read_u32_varint, read_u64_varint};
 

@@ -1,0 +1,31 @@
+use Rattle.std.proofs.Common.{◌≡◌, [], vec_len, sym, ap, ◌∙◌, inl, inr, arith}
+use Rattle.std.proofs.lemmas.Bool.{eqb-true, eqb-false}
+use Rattle.block.specs.Piece.{restarts_of}
+use Rattle.block.specs.Reading.{entries_behind}
+use Rattle.block.specs.Writing.{pieces_from, block}
+use Rattle.block.specs.Building.{Building}
+use Rattle.block.proofs.Built.{restarts_of-written, length-written, finished}
+use Rattle.block.proofs.builder.BlockBuilder.finish.Goals as goal
+use Rattle.block.proofs.builder.BlockBuilder.finish.Goals.{then-is_empty+in_ok-push, else-is_empty}
+
+pub push_restarts-requires : goal.push_restarts-requires
+push_restarts-requires c =
+    let kept = c.self.inside.restarts in
+    let written : restarts_of (pieces_from c.self.inside.interval 0 [] (entries_behind [] c.self.inside.bytes.items)) ≡ c.if-is_empty.restarts.items =
+    restarts_of-written c.if-is_empty.restarts.items c.self.invariant (elim c.if-is_empty.branch [
+      | then-is_empty+in_ok-push w ↦ inl (omega (arith, eqb-true (vec_len kept) 0 (sym w.if-is_empty.ensures)), ap (λ v. v.items) w.restarts-is ∙ w.in_ok-push.ensures.items)
+      | else-is_empty w ↦ inr (omega (arith, eqb-false (vec_len kept) 0 (sym w.if-is_empty.ensures)), ap (λ v. v.items) w.restarts-is)
+    ]) in
+    rw c.deref.ensures.value (length-written c.if-is_empty.restarts.items c.self.invariant written)
+
+pub returns-clause-ok : goal.returns-clause-ok
+returns-clause-ok c =
+    let kept = c.self.inside.restarts in
+    let written : restarts_of (pieces_from c.self.inside.interval 0 [] (entries_behind [] c.self.inside.bytes.items)) ≡ c.if-is_empty.restarts.items =
+    restarts_of-written c.if-is_empty.restarts.items c.self.invariant (elim c.if-is_empty.branch [
+      | then-is_empty+in_ok-push w ↦ inl (omega (arith, eqb-true (vec_len kept) 0 (sym w.if-is_empty.ensures)), ap (λ v. v.items) w.restarts-is ∙ w.in_ok-push.ensures.items)
+      | else-is_empty w ↦ inr (omega (arith, eqb-false (vec_len kept) 0 (sym w.if-is_empty.ensures)), ap (λ v. v.items) w.restarts-is)
+    ]) in
+    let whole : c.push_restarts.new.out.items ≡ block c.self.inside.interval (entries_behind [] c.self.inside.bytes.items) =
+    c.in_ok-push_restarts.ensures.ok ∙ rw c.deref.ensures.value (finished c.if-is_empty.restarts.items c.self.invariant written) in
+    whole ∙ ap (λ (b : Building). block b.interval b.entries) c.self.view_is

@@ -1,0 +1,192 @@
+//! Writing a block, entry by entry.
+
+ghost use Rattle.std.specs.Prelude.{◌≡◌, ◌^◌, ◌<◌, ◌≤◌, ◌↔◌, ◌==◌, if◌then◌else◌, [], ◌++◌, nat_eq, length, take, false, IsTrue, IfOk, IfErr, OnOk, OnErr, IsOkUnless};
+ghost use Rattle.std.specs.List.{common_prefix_len};
+ghost use Rattle.coding.specs.Answers.{fault};
+ghost use Rattle.coding.specs.declared.fault.FaultName.TheVariants.{Memory};
+ghost use Rattle.block.specs.Piece.{piece_bytes, restart_bytes};
+ghost use Rattle.block.specs.Writing.{block};
+ghost use Rattle.block.specs.Building.{with_entry};
+
+use coding::{Fault, push_varint};
+use std::alloc::Global;
+use std::marker::Model;
+
+/// A block that is being written, seen as its restart interval and its entries so far.
+///
+/// At each multiple of the interval an entry stands with its whole key, and a restart points at it. Elsewhere the
+/// bytes that its key shares with the key before it are left out.
+#[derive(Drop)]
+pub struct BlockBuilder {
+    /// How many entries there are for each restart.
+    interval: u32,
+    /// The entries as they will stand in the block.
+    bytes: Vec<u8>,
+    /// The offsets of the entries with whole keys.
+    restarts: Vec<u32>,
+    /// The key of the last entry; empty where there is none.
+    last: Vec<u8>,
+    /// The number of entries behind the last whole interval.
+    since: u32,
+}
+
+impl Model for BlockBuilder {
+    ghost use Rattle.std.specs.Prelude.{[]};
+    ghost use Rattle.block.specs.Reading.{entries_behind};
+    ghost use Rattle.block.specs.Building.{Building, IsBuilt};
+
+    ghost Value = { Building };
+
+    ghost view = { λ b. record { interval = b.interval; entries = entries_behind [] b.bytes.items } };
+
+    ghost invariant = { λ b. IsBuilt b.interval (entries_behind [] b.bytes.items) b.bytes.items b.restarts.items b.last.items b.since };
+}
+
+impl BlockBuilder {
+    /// A block without entries, at a restart interval from 1 to 1,024. Takes no memory.
+    pub fn new(alloc: Global, interval: u32) -> BlockBuilder
+        requires positive { 1 ≤ interval }
+        requires limited { interval ≤ 1024 }
+        ensures { result ≡ record { interval = interval; entries = [] } }
+    {
+        BlockBuilder {
+            interval,
+            bytes: Vec::new(alloc),
+            restarts: Vec::new(alloc),
+            last: Vec::new(alloc),
+            since: 0,
+        }
+    }
+
+    /// Appends an entry. A key is any bytes: the order of keys isn't tested.
+    ///
+    /// Refused only for want of memory, and then the block is as it was.
+    pub fn add(&mut self, key: &[u8], value: &[u8]) -> Result<(), Fault>
+        requires { length (block self.old.interval (with_entry self.old.entries key.now value.now)) ≤ 2 ^ 31 }
+        ensures ok { OnOk result (self.new ≡ record { interval = self.old.interval; entries = with_entry self.old.entries key.now value.now }) }
+        ensures err { OnErr result (self.new ≡ self.old) }
+        ensures memory { IsOkUnless result (fault Memory) }
+    {
+        let shared = shared_len(self.since, &self.last, key);
+        // Each growth comes before the first change, so that a refused one changes nothing.
+        self.restarts.reserve(1)?;
+        self.last.reserve(key.len())?;
+        let offset = self.bytes.len();
+        push_piece(&mut self.bytes, shared, &key[shared..], value)?;
+        if self.since == 0 {
+            self.restarts.push(offset as u32)?;
+        }
+        self.last.truncate(shared);
+        self.last.extend_from_slice(&key[shared..])?;
+        self.since = if self.since + 1 == self.interval {
+            0
+        } else {
+            self.since + 1
+        };
+        Ok(())
+    }
+
+    /// The length in bytes of the block, if it were finished now.
+    pub fn estimate(&self) -> usize
+        ensures { result ≡ length (block self.now.interval self.now.entries) }
+    {
+        // A block without entries has one restart.
+        self.bytes.len() + 4 * self.restarts.len().max(1) + 4
+    }
+
+    /// Whether there is no entry.
+    pub fn is_empty(&self) -> bool
+        ensures { IsTrue result ↔ (self.now.entries ≡ []) }
+    {
+        self.bytes.is_empty()
+    }
+
+    /// The block of the entries.
+    ///
+    /// Refused only for want of memory.
+    pub fn finish(self) -> Result<Vec<u8>, Fault>
+        ensures ok { IfOk result (λ bytes. bytes.items ≡ block self.interval self.entries) }
+        ensures memory { IfErr result (λ e. e ≡ fault Memory) }
+    {
+        let BlockBuilder {
+            mut bytes,
+            mut restarts,
+            ..
+        } = self;
+        if restarts.is_empty() {
+            restarts.push(0)?;
+        }
+        push_restarts(&mut bytes, &restarts)?;
+        Ok(bytes)
+    }
+}
+
+/// How many bytes of the key before it the next entry leaves out: none where a restart points at it.
+fn shared_len(since: u32, before: &[u8], key: &[u8]) -> usize
+    ensures value { result ≡ (if since == 0 then 0 else common_prefix_len nat_eq before.now key.now) }
+    ensures within { result ≤ length key.now }
+{
+    if since == 0 {
+        0
+    } else {
+        common_len(before, key)
+    }
+}
+
+/// How many bytes two keys share at their beginnings.
+fn common_len(before: &[u8], key: &[u8]) -> usize
+    ensures { result ≡ common_prefix_len nat_eq before.now key.now }
+{
+    let end = before.len().min(key.len());
+    for i in 0..end {
+        if before[i] != key[i] {
+            return i;
+        }
+    }
+    end
+}
+
+/// Appends the three lengths, the key's own bytes and the value. A refused growth appends nothing.
+fn push_piece(out: &mut Vec<u8>, shared: usize, unshared: &[u8], value: &[u8]) -> Result<(), Fault>
+    ensures ok { OnOk result (out.new.items ≡ out.old.items ++ piece_bytes (record { is_restart = false; shared = shared; unshared = unshared.now; value = value.now })) }
+    ensures err { OnErr result (out.new.items ≡ out.old.items) }
+    ensures memory { IsOkUnless result (fault Memory) }
+{
+    let start = out.len();
+    let written = push_fields(out, shared, unshared, value);
+    if written.is_err() {
+        out.truncate(start);
+    }
+    written
+}
+
+/// Appends the three lengths, the key's own bytes and the value, or on a refused growth some of them.
+fn push_fields(out: &mut Vec<u8>, shared: usize, unshared: &[u8], value: &[u8]) -> Result<(), Fault>
+    ensures ok { OnOk result (out.new.items ≡ out.old.items ++ piece_bytes (record { is_restart = false; shared = shared; unshared = unshared.now; value = value.now })) }
+    ensures err { OnErr result (take (length out.old.items) out.new.items ≡ out.old.items) }
+    ensures memory { IsOkUnless result (fault Memory) }
+{
+    push_varint(out, shared as u64)?;
+    push_varint(out, unshared.len() as u64)?;
+    push_varint(out, value.len() as u64)?;
+    out.extend_from_slice(unshared)?;
+    out.extend_from_slice(value)?;
+    Ok(())
+}
+
+/// Appends the restarts and their number, four bytes each.
+fn push_restarts(out: &mut Vec<u8>, restarts: &[u32]) -> Result<(), Fault>
+    requires { length restarts.now < 2 ^ 32 }
+    ensures ok { OnOk result (out.new.items ≡ out.old.items ++ restart_bytes restarts.now) }
+    ensures memory { IsOkUnless result (fault Memory) }
+{
+    out.reserve(4 * restarts.len() + 4)?;
+    for restart in restarts {
+        out.extend_from_slice(&restart.to_le_bytes())?;
+    }
+    out.extend_from_slice(&(restarts.len() as u32).to_le_bytes())?;
+    Ok(())
+}
+
+#[cfg(test)]
+mod tests;

@@ -1,0 +1,204 @@
+//! CRC-32C (Castagnoli), and the mask under which formats store it.
+//!
+//! A register of 32 bits takes the bits of the bytes in, the lowest of each byte first. It holds a
+//! remainder, with the coefficient of power 31 in its lowest bit. Steps are linear over exclusive
+//! or: so a table holds what some steps make of each byte, and the sixteen bytes of a chunk are four
+//! words that are advanced apart from each other, over the same four tables.
+
+mod tables;
+#[cfg(test)]
+mod tests;
+
+ghost use Rattle.std.specs.Prelude.{◌≡◌, ℕ, ◌+◌, ◌^◌, ◌<◌, ◌++◌, bit_xor};
+ghost use Rattle.coding.specs.Crc.{RemainderLaw, bits_of, crc32c, masked};
+ghost use Rattle.coding.specs.CrcRegister.{fed, settled, after_steps};
+ghost use Rattle.std.specs.List.{concat};
+
+use tables::{AFTER_FIFTEEN, AFTER_FOURTEEN, AFTER_ONE, AFTER_SIXTEEN, AFTER_THIRTEEN};
+
+/// The divisor without its leading coefficient, that of power 31 in the lowest bit.
+const CASTAGNOLI: u32 = 0x82f6_3b78;
+
+/// What a mask adds.
+const MASK_DELTA: u32 = 0xa282_ead8;
+
+/// CRC-32C (Castagnoli) of bytes: the remainder by the polynomial 0x11edc6f41, the lowest bit of
+/// each byte first, with the first 32 bits and the remainder turned over. That of no bytes is 0.
+pub fn crc32c(bytes: &[u8]) -> u32
+    ensures { result ≡ crc32c bytes.now }
+{
+    !advanced(u32::MAX, bytes)
+}
+
+/// CRC-32C of the bytes of `first` and then those of `second`, which need not lie side by side.
+pub fn crc32c_pair(first: &[u8], second: &[u8]) -> u32
+    ensures { result ≡ crc32c (first.now ++ second.now) }
+{
+    let register = advanced(u32::MAX, first);
+    !advanced(register, second)
+}
+
+/// What [`crc32c`] gives, computed bit by bit with no table: many times slower, to hold that against.
+pub fn crc32c_plain(bytes: &[u8]) -> u32
+    ensures { result ≡ crc32c bytes.now }
+{
+    let mut register = u32::MAX;
+    for byte in bytes {
+        register = eight_steps(register ^ u32::from(*byte));
+    }
+    !register
+}
+
+/// A CRC as formats store it: rotated right by 15 bits, plus 0xa282ead8 modulo 2^32. Stored as they
+/// are, CRCs would give all bytes that end with their own CRC one CRC.
+pub fn mask(crc: u32) -> u32
+    ensures { result ≡ masked crc }
+{
+    crc.rotate_right(15).wrapping_add(MASK_DELTA)
+}
+
+/// The CRC whose [`mask`] this is: each number of 32 bits is the mask of one CRC.
+pub fn unmask(masked_crc: u32) -> u32
+    ensures mask_undone { masked result ≡ masked_crc }
+    ensures only { (crc : ℕ) → crc < 2 ^ 32 → masked crc ≡ masked_crc → result ≡ crc }
+{
+    masked_crc.wrapping_sub(MASK_DELTA).rotate_left(15)
+}
+
+/// The law under [`crc32c`]: what long division leaves of a polynomial of at least 32 coefficients is
+/// its remainder, and no other list is. A call does nothing.
+pub fn remainder_law()
+    ensures { RemainderLaw }
+{}
+
+/// The register after eight steps.
+fn eight_steps(mut register: u32) -> u32
+    ensures { result ≡ after_steps 8 register }
+{
+    for _taken in 0..8u32 {
+        register = register >> 1 ^ register % 2 * CASTAGNOLI;
+    }
+    register
+}
+
+/// The register after these bytes.
+fn advanced(register: u32, bytes: &[u8]) -> u32
+    ensures { result ≡ fed register (bits_of bytes.now) }
+{
+    let (chunks, rest) = bytes.as_chunks::<16>();
+    match chunks.split_first() {
+        Some((first, chunks)) => {
+            let lanes = Lanes::begun(register, first);
+            advanced_by_bytes(lanes.over(chunks).settled(), rest)
+        }
+        None => advanced_by_bytes(register, rest),
+    }
+}
+
+/// The register after these bytes, taken in one by one.
+fn advanced_by_bytes(mut register: u32, bytes: &[u8]) -> u32
+    ensures { result ≡ fed register (bits_of bytes.now) }
+{
+    for byte in bytes {
+        register = past_one(register ^ u32::from(*byte));
+    }
+    register
+}
+
+/// A register that is advanced by one byte.
+#[inline(always)]
+fn past_one(register: u32) -> u32
+    ensures { result ≡ after_steps 8 register }
+{
+    register >> 8 ^ AFTER_ONE[(register % 256) as usize]
+}
+
+/// A register that is advanced by four bytes.
+fn past_four(register: u32) -> u32
+    ensures { result ≡ after_steps 32 register }
+{
+    past_one(past_one(past_one(past_one(register))))
+}
+
+/// A register that is advanced by sixteen bytes.
+#[inline(always)]
+fn past_sixteen(register: u32) -> u32
+    ensures { result ≡ after_steps 128 register }
+{
+    let [first, second, third, fourth] = register.to_le_bytes();
+    AFTER_SIXTEEN[first as usize]
+        ^ AFTER_FIFTEEN[second as usize]
+        ^ AFTER_FOURTEEN[third as usize]
+        ^ AFTER_THIRTEEN[fourth as usize]
+}
+
+/// The four words of a chunk, to which what the register held before it was added. The steps of
+/// sixteen bytes are still to come, and each word takes its own.
+#[derive(Clone, Copy)]
+struct Lanes {
+    first: u32,
+    second: u32,
+    third: u32,
+    fourth: u32,
+}
+
+impl Lanes {
+    /// The words of a chunk.
+    #[inline(always)]
+    fn of(chunk: &[u8; 16]) -> Lanes
+        ensures { (register : ℕ) →
+            fed register (bits_of chunk.now) ≡ settled (record result { first = bit_xor register result.first }) }
+    {
+        Lanes {
+            first: u32::from_le_bytes([chunk[0], chunk[1], chunk[2], chunk[3]]),
+            second: u32::from_le_bytes([chunk[4], chunk[5], chunk[6], chunk[7]]),
+            third: u32::from_le_bytes([chunk[8], chunk[9], chunk[10], chunk[11]]),
+            fourth: u32::from_le_bytes([chunk[12], chunk[13], chunk[14], chunk[15]]),
+        }
+    }
+
+    /// The first chunk, after a register.
+    fn begun(register: u32, chunk: &[u8; 16]) -> Lanes
+        ensures { settled result ≡ fed register (bits_of chunk.now) }
+    {
+        let words = Lanes::of(chunk);
+        Lanes {
+            first: register ^ words.first,
+            ..words
+        }
+    }
+
+    /// One chunk more.
+    #[inline(always)]
+    fn with(self, chunk: &[u8; 16]) -> Lanes
+        ensures { settled result ≡ fed (settled self) (bits_of chunk.now) }
+    {
+        let words = Lanes::of(chunk);
+        Lanes {
+            first: past_sixteen(self.first) ^ words.first,
+            second: past_sixteen(self.second) ^ words.second,
+            third: past_sixteen(self.third) ^ words.third,
+            fourth: past_sixteen(self.fourth) ^ words.fourth,
+        }
+    }
+
+    /// More chunks.
+    fn over(mut self, chunks: &[[u8; 16]]) -> Lanes
+        ensures { settled result ≡ fed (settled self) (bits_of (concat chunks.now)) }
+    {
+        for chunk in chunks {
+            self = self.with(chunk);
+        }
+        self
+    }
+
+    /// The register after all the chunks.
+    fn settled(self) -> u32
+        ensures { result ≡ settled self }
+    {
+        let register = past_four(self.first);
+        let register = past_four(register ^ self.second);
+        let register = past_four(register ^ self.third);
+        past_four(register ^ self.fourth)
+    }
+}

@@ -1,0 +1,4 @@
+pub mod Keys
+pub mod Ordered
+pub mod Shortened
+pub mod Answered

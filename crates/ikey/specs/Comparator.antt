@@ -1,0 +1,22 @@
+-- What a comparator of user keys promises of its short keys.
+use Rattle.std.specs.Prelude.{◌≡◌, ◌≢◌, ℕ, List}
+use Rattle.std.specs.declared.cmp.Ordering.{Ordering}
+use Rattle.std.specs.declared.cmp.Ordering.TheVariants.{Less, Equal, Greater}
+
+-- equal keys are the same bytes
+abbrev pub IsExact : (List ℕ → List ℕ → Ordering) → Type 0
+IsExact cmp = (a b : List ℕ) → cmp a b ≡ Equal → a ≡ b
+
+-- middle is at least start and below limit
+pub record IsBetween (cmp : List ℕ → List ℕ → Ordering) (start limit middle : List ℕ) : Type 0 where
+  pub at_least : cmp start middle ≢ Greater
+  pub below : cmp middle limit ≡ Less
+
+-- each separator of start < limit is at least start and below limit
+abbrev pub Separates : (List ℕ → List ℕ → Ordering) → (List ℕ → List ℕ → List ℕ) → Type 0
+Separates cmp separator_of =
+    (start limit : List ℕ) → cmp start limit ≡ Less → IsBetween cmp start limit (separator_of start limit)
+
+-- each successor of a key is at least the key
+abbrev pub Succeeds : (List ℕ → List ℕ → Ordering) → (List ℕ → List ℕ) → Type 0
+Succeeds cmp successor_of = (key : List ℕ) → cmp key (successor_of key) ≢ Greater

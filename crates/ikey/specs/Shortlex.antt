@@ -1,0 +1,21 @@
+-- The order of user keys by length first.
+use Rattle.std.specs.Prelude.{codes, ℕ, List, length}
+use Rattle.std.specs.Ordering.{nat_cmp, ordering_then}
+use Rattle.std.specs.Cmp.Lexicographic.{slice_cmp}
+use Rattle.std.specs.declared.cmp.Ordering.{Ordering}
+
+-- the comparator's name
+abbrev pub shortlex_name : List ℕ
+shortlex_name = codes "subcompaction.ShortlexComparator"
+
+-- a shorter user key first, equally long ones as unsigned bytes
+abbrev pub shortlex_cmp : List ℕ → List ℕ → Ordering
+shortlex_cmp a b = ordering_then (nat_cmp (length a) (length b)) (slice_cmp nat_cmp a b)
+
+-- every separator is the lower key
+abbrev pub shortlex_separator : List ℕ → List ℕ → List ℕ
+shortlex_separator start limit = start
+
+-- every successor is the key
+abbrev pub shortlex_successor : List ℕ → List ℕ
+shortlex_successor key = key

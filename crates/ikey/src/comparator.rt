@@ -1,0 +1,47 @@
+//! The orders of user keys.
+
+ghost use Rattle.std.specs.Prelude.{◌≡◌, ℕ, List, Ok, codes};
+ghost use Rattle.std.specs.declared.cmp.Ordering.{Ordering};
+ghost use Rattle.std.specs.Cmp.{IsTotalOrder};
+ghost use Rattle.coding.specs.Answers.{Gives};
+ghost use Rattle.ikey.specs.Comparator.{IsExact, Separates, Succeeds};
+
+use coding::Fault;
+use std::alloc::Global;
+use std::cmp::Ordering;
+
+/// A total order of user keys, which has a name and finds short keys between two keys and above one.
+pub trait Comparator {
+    ghost name_bytes: { List ℕ };
+
+    ghost cmp: { List ℕ → List ℕ → Ordering };
+
+    ghost separator_of: { List ℕ → List ℕ → List ℕ };
+
+    ghost successor_of: { List ℕ → List ℕ };
+
+    /// The name that a version edit states.
+    fn name() -> &'static str
+        ensures { result.now ≡ name_bytes };
+
+    /// How two user keys are ordered.
+    fn compare(a: &[u8], b: &[u8]) -> Ordering
+        ensures { result ≡ cmp a.now b.now };
+
+    /// A key of `start` or above it, and below `limit`, where `start` is below `limit`. Fails for want
+    /// of memory alone.
+    fn separator(alloc: Global, start: &[u8], limit: &[u8]) -> Result<Vec<u8>, Fault>
+        ensures { Gives (λ v. v.items) result (Ok (separator_of start.now limit.now)) };
+
+    /// A key of `key` or above it. Fails for want of memory alone.
+    fn successor(alloc: Global, key: &[u8]) -> Result<Vec<u8>, Fault>
+        ensures { Gives (λ v. v.items) result (Ok (successor_of key.now)) };
+
+    ghost total: { IsTotalOrder cmp };
+
+    ghost exact: { IsExact cmp };
+
+    ghost between: { Separates cmp separator_of };
+
+    ghost above: { Succeeds cmp successor_of };
+}

@@ -1,0 +1,58 @@
+//! An internal key that owns its bytes.
+
+ghost use Rattle.std.specs.Prelude.{◌≡◌, ℕ, ◌^◌, ◌<◌, ◌≤◌, List, Ok, length};
+ghost use Rattle.coding.specs.Answers.{Gives};
+ghost use Rattle.ikey.specs.Key.{internal_key};
+
+use crate::key::InternalKey;
+use crate::kind::Kind;
+use coding::Fault;
+use std::alloc::Global;
+use std::marker::Model;
+
+/// An internal key that owns its bytes. Contracts see it as those bytes.
+#[derive(Drop)]
+pub struct KeyBuf {
+    bytes: Vec<u8>,
+}
+
+impl Model for KeyBuf {
+    ghost use Rattle.std.specs.Prelude.{ℕ, List};
+    ghost use Rattle.ikey.specs.Key.{IsInternalKey};
+
+    ghost Value = { List ℕ };
+
+    ghost view = { λ a. a.bytes.items };
+
+    ghost invariant = { λ a. IsInternalKey a.bytes.items };
+}
+
+impl KeyBuf {
+    /// A copy of an internal key. Fails for want of memory alone.
+    pub fn of(alloc: Global, key: InternalKey) -> Result<KeyBuf, Fault>
+        ensures { Gives (λ own. own) result (Ok key.entry.bytes.now) }
+    {
+        let bytes = Vec::from_slice(alloc, key.bytes())?;
+        Ok(KeyBuf { bytes })
+    }
+
+    /// The internal key of a user key, a sequence and a type. Fails for want of memory alone.
+    pub fn new(alloc: Global, user: &[u8], sequence: u64, kind: Kind) -> Result<KeyBuf, Fault>
+        requires user_fits { length user.now ≤ 65535 }
+        requires sequence_fits { sequence < 2 ^ 56 }
+        ensures { Gives (λ own. own) result (Ok (internal_key user.now sequence kind)) }
+    {
+        let tag = sequence * 256 + u64::from(kind.number());
+        let mut bytes = Vec::with_capacity(alloc, user.len() + 8)?;
+        bytes.extend_from_slice(user)?;
+        bytes.extend_from_slice(&tag.to_le_bytes())?;
+        Ok(KeyBuf { bytes })
+    }
+
+    /// The key, seen where it lies.
+    pub fn as_key(&self) -> InternalKey<'_>
+        ensures { result.bytes.now ≡ self.now }
+    {
+        InternalKey { bytes: &self.bytes }
+    }
+}

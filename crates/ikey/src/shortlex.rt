@@ -1,0 +1,47 @@
+//! The order of user keys by length first.
+
+ghost use Rattle.ikey.specs.Shortlex.{shortlex_name, shortlex_cmp, shortlex_separator, shortlex_successor};
+ghost use Rattle.ikey.specs.ShortlexLaws.{shortlex_total, shortlex_exact, shortlex_between, shortlex_above};
+
+use crate::comparator::Comparator;
+use coding::Fault;
+use std::alloc::Global;
+use std::cmp::Ordering;
+
+/// A shorter user key first, equally long ones as unsigned bytes. Its separator answers the lower key,
+/// and its successor the key.
+pub struct Shortlex;
+
+impl Comparator for Shortlex {
+    ghost name_bytes = { shortlex_name };
+
+    ghost cmp = { shortlex_cmp };
+
+    ghost separator_of = { shortlex_separator };
+
+    ghost successor_of = { shortlex_successor };
+
+    ghost total = { shortlex_total };
+
+    ghost exact = { shortlex_exact };
+
+    ghost between = { shortlex_between };
+
+    ghost above = { shortlex_above };
+
+    fn name() -> &'static str {
+        "subcompaction.ShortlexComparator"
+    }
+
+    fn compare(a: &[u8], b: &[u8]) -> Ordering {
+        a.len().cmp(&b.len()).then_with(|| a.cmp(b))
+    }
+
+    fn separator(alloc: Global, start: &[u8], _limit: &[u8]) -> Result<Vec<u8>, Fault> {
+        Ok(Vec::from_slice(alloc, start)?)
+    }
+
+    fn successor(alloc: Global, key: &[u8]) -> Result<Vec<u8>, Fault> {
+        Ok(Vec::from_slice(alloc, key)?)
+    }
+}

@@ -1,0 +1,5 @@
+mod TestedLists
+mod Unions
+mod DigitLemmas
+mod LineLemmas
+mod TextLemmas

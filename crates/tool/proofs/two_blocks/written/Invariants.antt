@@ -1,0 +1,14 @@
+use Rattle.std.proofs.Common.{◌≡◌, ◌++◌, ◌≤◌, ◌^◌, length}
+use Rattle.block.specs.Writing.{block}
+use Rattle.tool.specs.Merging.{entries_of}
+use Rattle.tool.proofs.two_blocks.written.Given as goal
+
+abbrev pub invariant-loop-entry : goal.invariant-loop-entry
+invariant-loop-entry l = record {
+  interval : l.builder.interval ≡ 16;
+  entries : l.builder.entries ++ entries_of l.entries.items ≡ entries_of l.fn.entries.items;
+  small : length (block 16 l.builder.entries) ≤ 2 ^ 30;
+}
+
+abbrev pub decreases-loop-entry : goal.decreases-loop-entry
+decreases-loop-entry l = length l.entries.items

@@ -1,0 +1,9 @@
+pub mod Union
+pub mod Testing
+pub mod Merging
+pub mod Ranges
+pub mod Blocks
+pub mod Line
+pub mod Status
+pub mod Text
+pub mod Usage

@@ -1,0 +1,33 @@
+-- Keys and values as text.
+use Rattle.std.specs.Prelude.{◌≡◌, ℕ, List, [], ◌∷◌, Option, Some, None, Result, Ok, Err, codes, map, if◌then◌else◌}
+use Rattle.std.specs.Str.{bytes_eq}
+use Rattle.std.specs.Char.{to_ascii_lowercase}
+use Rattle.hex.specs.Hex.{decode_of, encode_lower}
+use Rattle.hex.specs.declared.error.FromHexError.{FromHexError}
+
+-- the text of no bytes
+abbrev pub nothing_text : List ℕ
+nothing_text = codes "-"
+
+-- the lower-case hexadecimal digits of bytes, and the text of no bytes
+abbrev pub text_of_bytes : List ℕ → List ℕ
+text_of_bytes [] = nothing_text
+text_of_bytes (b ∷ bytes) = encode_lower (b ∷ bytes)
+
+-- the value of an answer, whatever the error is
+abbrev pub answered : Result (List ℕ) FromHexError → Option (List ℕ)
+answered (Ok bytes) = Some bytes
+answered (Err e) = None
+
+-- the bytes whose digits, of either case, a text is; the empty text is no bytes' text
+abbrev pub bytes_of_digits : List ℕ → Option (List ℕ)
+bytes_of_digits [] = None
+bytes_of_digits (c ∷ text) = answered (decode_of (c ∷ text))
+
+-- the bytes that a text stands for
+abbrev pub bytes_of_text : List ℕ → Option (List ℕ)
+bytes_of_text text = if bytes_eq text nothing_text then Some [] else bytes_of_digits text
+
+-- A text stands for bytes where it is their text but for the case of its letters.
+abbrev pub StandsFor : List ℕ → List ℕ → Type 0
+StandsFor text bytes = map to_ascii_lowercase text ≡ text_of_bytes bytes

@@ -1,0 +1,24 @@
+//! What the program `sedvokt` does: its command line, its files and what it prints, and the calls behind its commands.
+#![tactic(auto)]
+
+mod asked;
+mod command_line;
+mod files;
+mod merge;
+mod program;
+mod ranges;
+mod state;
+mod tested;
+mod testing;
+mod text;
+mod two_blocks;
+
+pub use asked::{Line, Usage};
+pub use command_line::line;
+pub use program::run;
+pub use state::status;
+pub use text::{key_of, text_of};
+pub use two_blocks::blocks;
+
+#[cfg(test)]
+mod tests;

@@ -1,0 +1,79 @@
+//! The merge of two files over ranges of user keys.
+
+ghost use Rattle.std.specs.Prelude.{◌≡◌, ◌<◌, ◌++◌, ◌∷◌, [], ◌⊎◌, MatchOption, IfOk, IsTrue, ◌↔◌};
+ghost use Rattle.std.specs.List.Sorted.{IsPermutation};
+ghost use Rattle.ikey.specs.Bytewise.{bytewise_cmp};
+ghost use Rattle.std.specs.VecDeque.{deque_len};
+ghost use Rattle.tool.specs.Merging.{entries_of};
+ghost use Rattle.tool.specs.Union.{IsBehind, IsRising, version_cmp};
+
+use crate::tested::TestedEntry;
+use coding::{Fault, FaultName};
+use ikey::{Bytewise, Comparator};
+use std::alloc::Global;
+use std::cmp::Ordering;
+use std::collections::VecDeque;
+
+/// How two entries are ordered: by user key rising, then sequence falling.
+fn version_order(x: &TestedEntry<'_>, y: &TestedEntry<'_>) -> Ordering
+    ensures { result ≡ version_cmp bytewise_cmp x.now.key y.now.key }
+{
+    let (x, y) = (x.key.as_key(), y.key.as_key());
+    Bytewise::compare(x.user(), y.user()).then(y.sequence().cmp(&x.sequence()))
+}
+
+/// Whether the first entry of the second list comes before that of the first.
+fn is_second(a: &VecDeque<TestedEntry<'_>>, b: &VecDeque<TestedEntry<'_>>) -> bool
+    ensures { IsTrue result → 0 < deque_len b.now }
+{
+    match (a.front(), b.front()) {
+        (Some(x), Some(y)) => version_order(y, x).is_lt(),
+        (None, Some(_)) => true,
+        (_, None) => false,
+    }
+}
+
+/// Takes the lesser of the first entries of two lists off.
+fn pop_first<'a>(
+    a: &mut VecDeque<TestedEntry<'a>>,
+    b: &mut VecDeque<TestedEntry<'a>>,
+) -> Option<TestedEntry<'a>>
+    ensures { MatchOption result ((a.old.items ≡ []) × (b.old.items ≡ []))
+        (λ entry. ((a.old.items ≡ entry ∷ a.new.items) × (b.new.items ≡ b.old.items))
+        ⊎ ((b.old.items ≡ entry ∷ b.new.items) × (a.new.items ≡ a.old.items))) }
+{
+    if a.is_empty() || is_second(a, b) {
+        b.pop_front()
+    } else {
+        a.pop_front()
+    }
+}
+
+/// Whether an entry's version is behind the last one of a run.
+fn is_behind(run: &VecDeque<TestedEntry<'_>>, entry: &TestedEntry<'_>) -> bool
+    ensures { IsTrue result ↔ IsBehind (entries_of run.now.items) entry.now.key }
+{
+    match run.back() {
+        Some(last) => version_order(last, entry).is_lt(),
+        None => true,
+    }
+}
+
+/// The entries of two lists in order. Refused as Duplicate where a version comes twice.
+pub(crate) fn merged<'a>(
+    alloc: Global,
+    mut a: VecDeque<TestedEntry<'a>>,
+    mut b: VecDeque<TestedEntry<'a>>,
+) -> Result<VecDeque<TestedEntry<'a>>, Fault>
+    ensures rising { IfOk result (λ run. IsRising (version_cmp bytewise_cmp) (entries_of run.items)) }
+    ensures same { IfOk result (λ run. IsPermutation (entries_of a.entry.items ++ entries_of b.entry.items) (entries_of run.items)) }
+{
+    let mut run: VecDeque<TestedEntry<'a>> = VecDeque::new(alloc);
+    while let Some(entry) = pop_first(&mut a, &mut b) {
+        if !is_behind(&run, &entry) {
+            return Err(Fault::of(FaultName::Duplicate));
+        }
+        run.push_back(entry)?;
+    }
+    Ok(run)
+}

@@ -1,0 +1,187 @@
+use super::*;
+use coding::{Fault, FaultName};
+use std::alloc::Global;
+use std::test::Fail;
+
+#[test]
+fn bytes_as_text(rt: HostRuntime) -> Result<(), Fail> {
+    let alloc = rt.alloc();
+    assert_eq!(rt; text_of(alloc, &[])?.as_str(), "-");
+    assert_eq!(rt; text_of(alloc, &[0, 0xab, 0xff])?.as_str(), "00abff");
+    Ok(())
+}
+
+#[test]
+fn text_as_bytes(rt: HostRuntime) -> Result<(), Fail> {
+    let alloc = rt.alloc();
+    let key = key_of(alloc, "00aBFf")?.ok_or("digits of both cases")?;
+    assert_eq!(rt; key.as_slice(), [0, 0xab, 0xff].as_slice());
+    let key = key_of(alloc, "-")?.ok_or("no bytes")?;
+    assert!(rt; key.is_empty());
+    for text in ["", "6", "6g", "--", "-62", "62 ", "0x62"] {
+        let found = key_of(alloc, text)?;
+        assert!(rt; found.is_none(), "{text}");
+    }
+    Ok(())
+}
+
+/// What the program makes of a command line, in a word or two.
+fn outcome(alloc: Global, words: &[&str]) -> Result<String, Fail> {
+    match line(alloc, words) {
+        Ok(line) => Ok(format!(in alloc; "{line:?}")?),
+        Err(usage) => Ok(String::from_str(alloc, reason(usage))?),
+    }
+}
+
+fn reason(usage: Usage) -> &'static str {
+    match usage {
+        Usage::Key => "key",
+        Usage::Memory => "memory",
+        Usage::Clap(error) => {
+            if error.use_stderr() {
+                "mistake"
+            } else {
+                "help"
+            }
+        }
+    }
+}
+
+#[test]
+fn command_lines(rt: HostRuntime) -> Result<(), Fail> {
+    let alloc = rt.alloc();
+    let words = ["sedvokt", "blocks", "one", "two", "--at", "62", "three"];
+    let given = outcome(alloc, words.as_slice())?;
+    let wanted = r#"Blocks { a: "one", b: "two", at: [98], out: "three" }"#;
+    assert_eq!(rt; given.as_str(), wanted);
+    let words = ["sedvokt", "blocks", "--at", "-", "one", "two", "three"];
+    let given = outcome(alloc, words.as_slice())?;
+    let wanted = r#"Blocks { a: "one", b: "two", at: [], out: "three" }"#;
+    assert_eq!(rt; given.as_str(), wanted);
+    Ok(())
+}
+
+#[test]
+fn faults_of_usage(rt: HostRuntime) -> Result<(), Fail> {
+    let alloc = rt.alloc();
+    let words = ["sedvokt", "blocks", "one", "two", "--at", "6", "three"];
+    assert_eq!(rt; outcome(alloc, words.as_slice())?.as_str(), "key");
+    let words = ["sedvokt", "blocks", "one", "two", "--at", "6"];
+    assert_eq!(rt; outcome(alloc, words.as_slice())?.as_str(), "mistake");
+    let words = ["sedvokt", "blocks", "--help"];
+    assert_eq!(rt; outcome(alloc, words.as_slice())?.as_str(), "help");
+    Ok(())
+}
+
+#[test]
+fn statuses(rt: HostRuntime) {
+    assert_eq!(rt; status(&Fault::of(FaultName::Device)), 3);
+    assert_eq!(rt; status(&Fault::of(FaultName::Missing)), 1);
+}
+
+/// What the merge of two files answers, as the program would print it, with the block as text.
+fn merged(alloc: Global, a: &[u8], b: &[u8], at: &[u8]) -> Result<String, Fail> {
+    match blocks(alloc, a, b, at) {
+        Ok((entries, block)) => {
+            let text = text_of(alloc, &block)?;
+            let length = block.len();
+            Ok(format!(in alloc; "{entries} entries, {length} bytes: {text}")?)
+        }
+        Err(fault) => Ok(format!(in alloc; "refused: {fault}")?),
+    }
+}
+
+/// The block of `a@1 put x`.
+const A: &str = "000901610101000000000000780000000001000000";
+
+/// The block of `b@2 put y`.
+const B: &str = "000901620102000000000000790000000001000000";
+
+const EMPTY: &str = "0000000001000000";
+
+#[test]
+fn two_blocks_into_one(rt: HostRuntime) -> Result<(), Fail> {
+    let alloc = rt.alloc();
+    let both = "2 entries, 34 bytes: 00090161010100000000000078000901620102000000000000790000000001000000";
+    // Wherever the ranges part.
+    for at in [b"".as_slice(), b"a".as_slice(), b"b".as_slice(), b"c".as_slice()] {
+        let (a, b) = (hex::decode(alloc, A)?, hex::decode(alloc, B)?);
+        assert_eq!(rt; merged(alloc, &a, &b, at)?.as_str(), both);
+        assert_eq!(rt; merged(alloc, &b, &a, at)?.as_str(), both);
+    }
+    let empty = hex::decode(alloc, EMPTY)?;
+    let none = "0 entries, 8 bytes: 0000000001000000";
+    assert_eq!(rt; merged(alloc, &empty, &empty, b"")?.as_str(), none);
+    Ok(())
+}
+
+/// A file of this hexadecimal text before the block of no entries, and behind it.
+fn refusals(alloc: Global, text: &str) -> Result<(String, String), Fail> {
+    let file = hex::decode(alloc, text)?;
+    let empty = hex::decode(alloc, EMPTY)?;
+    Ok((
+        merged(alloc, &file, &empty, b"m")?,
+        merged(alloc, &empty, &file, b"m")?,
+    ))
+}
+
+#[test]
+fn refused_files(rt: HostRuntime) -> Result<(), Fail> {
+    let alloc = rt.alloc();
+    let cases = [
+        ("", "refused: Block"),
+        ("00000000", "refused: Block"),
+        // A key of seven bytes, and one of type 2.
+        ("000701616101000000000000780000000001000000", "refused: Block"),
+        ("0007016101000000000000780000000001000000", "refused: Key"),
+        ("000901610201000000000000780000000001000000", "refused: Key"),
+        // The same key twice, and a lesser sequence before a greater one.
+        ("00090061010100000000000009000061010100000000000000000001000000", "refused: Block"),
+        ("0009006101010000000000000009006101010000000000000000000001000000", "refused: Order"),
+        ("0009006101010000000000000009006101020000000000000000000001000000", "refused: Order"),
+        // One sequence as a value and as a deletion.
+        ("0009006101010000000000000009006100010000000000000000000001000000", "refused: Duplicate"),
+    ];
+    for (text, wanted) in cases {
+        let (first, second) = refusals(alloc, text)?;
+        assert_eq!(rt; first.as_str(), wanted, "{text}");
+        assert_eq!(rt; second.as_str(), wanted, "{text}");
+    }
+    Ok(())
+}
+
+#[test]
+fn first_refusal(rt: HostRuntime) -> Result<(), Fail> {
+    let alloc = rt.alloc();
+    let a = hex::decode(alloc, A)?;
+    let key = hex::decode(alloc, "000901610201000000000000780000000001000000")?;
+    assert_eq!(rt; merged(alloc, &a, &a, b"a")?.as_str(), "refused: Duplicate");
+    assert_eq!(rt; merged(alloc, &a, b"", b"a")?.as_str(), "refused: Block");
+    // The first file is tested whole before the second.
+    assert_eq!(rt; merged(alloc, &key, b"", b"a")?.as_str(), "refused: Key");
+    assert_eq!(rt; merged(alloc, b"", &key, b"a")?.as_str(), "refused: Block");
+    Ok(())
+}
+
+/// The block of one entry of a user key of so many bytes, without a value.
+fn block_of_key(alloc: Global, length: usize) -> Result<Vec<u8>, Fail> {
+    let mut bytes = hex::decode(alloc, "00")?;
+    coding::push_varint(&mut bytes, length.saturating_add(8) as u64)?;
+    bytes.push(0)?;
+    bytes.resize(bytes.len().saturating_add(length), b'k')?;
+    bytes.extend_from_slice(&hex::decode(alloc, "01010000000000000000000001000000")?)?;
+    Ok(bytes)
+}
+
+#[test]
+fn longest_user_key(rt: HostRuntime) -> Result<(), Fail> {
+    let alloc = rt.alloc();
+    let empty = hex::decode(alloc, EMPTY)?;
+    let longest = block_of_key(alloc, 65_535)?;
+    let (entries, block) = blocks(alloc, &longest, &empty, b"")?;
+    assert_eq!(rt; entries, 1);
+    assert_eq!(rt; block.as_slice(), longest.as_slice());
+    let longer = block_of_key(alloc, 65_536)?;
+    assert_eq!(rt; merged(alloc, &longer, &empty, b"")?.as_str(), "refused: TooLarge");
+    Ok(())
+}

@@ -1,0 +1,62 @@
+//! Two blocks into one.
+
+ghost use Rattle.std.specs.Prelude.{◌≡◌, ◌++◌, ℕ, ◌^◌, IfOk};
+ghost use Rattle.std.specs.List.Sorted.{IsPermutation};
+ghost use Rattle.coding.specs.Answers.{Gives};
+ghost use Rattle.tool.specs.Blocks.{IsMerged, block_within};
+ghost use Rattle.tool.specs.Merging.{entries_of};
+
+use crate::merge::merged;
+use crate::ranges::split_off_at;
+use crate::tested::TestedEntry;
+use crate::testing::tested;
+use block::BlockBuilder;
+use coding::{Fault, FaultName};
+use std::alloc::Global;
+use std::collections::VecDeque;
+
+/// How many entries stand for each restart of a block that is made.
+const INTERVAL: u32 = 16;
+
+/// The most bytes of a block that is made, 2^30.
+const MAX_BLOCK: usize = 1_073_741_824;
+
+/// The block of entries, or TooLarge where that is over its limit.
+fn written(alloc: Global, mut entries: VecDeque<TestedEntry<'_>>) -> Result<Vec<u8>, Fault>
+    ensures { Gives (λ v. v.items) result (block_within (entries_of entries.entry.items)) }
+{
+    let mut builder = BlockBuilder::new(alloc, INTERVAL);
+    while let Some(entry) = entries.pop_front() {
+        let key = entry.key.as_key();
+        builder.add(key.bytes(), entry.value)?;
+        if builder.estimate() > MAX_BLOCK {
+            return Err(Fault::of(FaultName::TooLarge));
+        }
+    }
+    builder.finish()
+}
+
+/// The number of entries of two blocks together, and their block at interval 16.
+///
+/// Each file is tested whole, the first before the second: Block where its bytes are no block; then each entry in
+/// order: Key where its key is no internal key, TooLarge where its user key or its value is over its limit, Order where
+/// its key isn't above the one before it. Then Duplicate where a user key comes twice with one sequence, and TooLarge
+/// where the block would have more than 2^30 bytes. Memory comes only where a growth was refused.
+///
+/// The entries are merged in two ranges of user keys, those before `at` and those from `at` on, and the runs joined:
+/// the block doesn't depend on `at`.
+pub fn blocks(alloc: Global, a: &[u8], b: &[u8], at: &[u8]) -> Result<(u64, Vec<u8>), Fault>
+    ensures merged { IfOk result (λ r. IsMerged a.now b.now r.0 r.1.items) }
+{
+    let mut before_a = tested(alloc, a)?;
+    let mut before_b = tested(alloc, b)?;
+    let from_a = split_off_at(&mut before_a, at)?;
+    let from_b = split_off_at(&mut before_b, at)?;
+    // A job for each range, and a seat for each job: the seats are worked in turn.
+    let mut entries = merged(alloc, before_a, before_b)?;
+    let mut behind = merged(alloc, from_a, from_b)?;
+    entries.append(&mut behind)?;
+    let count = entries.len() as u64;
+    let block = written(alloc, entries)?;
+    Ok((count, block))
+}

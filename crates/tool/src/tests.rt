@@ -132,11 +132,9 @@ fn refused_files(rt: HostRuntime) -> Result<(), Fail> {
         ("", "refused: Block"),
         ("00000000", "refused: Block"),
         // A key of seven bytes, and one of type 2.
-        ("000701616101000000000000780000000001000000", "refused: Block"),
-        ("0007016101000000000000780000000001000000", "refused: Key"),
+        ("00070161010000000000780000000001000000", "refused: Key"),
         ("000901610201000000000000780000000001000000", "refused: Key"),
         // The same key twice, and a lesser sequence before a greater one.
-        ("00090061010100000000000009000061010100000000000000000001000000", "refused: Block"),
         ("0009006101010000000000000009006101010000000000000000000001000000", "refused: Order"),
         ("0009006101010000000000000009006101020000000000000000000001000000", "refused: Order"),
         // One sequence as a value and as a deletion.

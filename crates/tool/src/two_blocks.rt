@@ -52,7 +52,7 @@ pub fn blocks(alloc: Global, a: &[u8], b: &[u8], at: &[u8]) -> Result<(u64, Vec<
     let mut before_b = tested(alloc, b)?;
     let from_a = split_off_at(&mut before_a, at)?;
     let from_b = split_off_at(&mut before_b, at)?;
-    // A job for each range, and a seat for each job: the seats are worked in turn.
+    // A range a job: the two are worked in turn, and their runs joined.
     let mut entries = merged(alloc, before_a, before_b)?;
     let mut behind = merged(alloc, from_a, from_b)?;
     entries.append(&mut behind)?;

@@ -14,12 +14,36 @@ struct Case {
 }
 
 const CASES: [Case; 6] = [
-    Case { name: "apart", at: "757365723a3030303035303a6e616d65", accepted: true },
-    Case { name: "same_store", at: "6b6579303033", accepted: true },
-    Case { name: "edges", at: "-", accepted: true },
-    Case { name: "restarts", at: "ff", accepted: true },
-    Case { name: "twice", at: "757365723a3030303035303a6e616d65", accepted: false },
-    Case { name: "cut_short", at: "75736572", accepted: false },
+    Case {
+        name: "apart",
+        at: "757365723a3030303035303a6e616d65",
+        accepted: true,
+    },
+    Case {
+        name: "same_store",
+        at: "6b6579303033",
+        accepted: true,
+    },
+    Case {
+        name: "edges",
+        at: "-",
+        accepted: true,
+    },
+    Case {
+        name: "restarts",
+        at: "ff",
+        accepted: true,
+    },
+    Case {
+        name: "twice",
+        at: "757365723a3030303035303a6e616d65",
+        accepted: false,
+    },
+    Case {
+        name: "cut_short",
+        at: "75736572",
+        accepted: false,
+    },
 ];
 
 /// The bytes of a case's file.

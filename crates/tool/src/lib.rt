@@ -3,10 +3,11 @@
 
 mod asked;
 mod command_line;
+mod cut;
 mod files;
 mod merge;
 mod program;
-mod ranges;
+mod range;
 mod state;
 mod tested;
 mod testing;

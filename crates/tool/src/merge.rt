@@ -1,12 +1,13 @@
 //! The merge of two files over ranges of user keys.
 
-ghost use Rattle.std.specs.Prelude.{◌≡◌, ◌<◌, ◌++◌, ◌∷◌, [], ◌⊎◌, MatchOption, IfOk, IsTrue, ◌↔◌};
+ghost use Rattle.std.specs.Prelude.{◌≡◌, ◌<◌, ◌++◌, ◌∷◌, [], drop, ◌⊎◌, MatchOption, IfOk, IsTrue, ◌↔◌};
 ghost use Rattle.std.specs.List.Sorted.{IsPermutation};
 ghost use Rattle.ikey.specs.Bytewise.{bytewise_cmp};
 ghost use Rattle.std.specs.VecDeque.{deque_len};
-ghost use Rattle.tool.specs.Merging.{entries_of};
+ghost use Rattle.tool.specs.Merging.{IsRunOfFirst, entries_of};
 ghost use Rattle.tool.specs.Union.{IsBehind, IsRising, version_cmp};
 
+use crate::range::Range;
 use crate::tested::TestedEntry;
 use coding::{Fault, FaultName};
 use ikey::{Bytewise, Comparator};
@@ -60,7 +61,7 @@ fn is_behind(run: &VecDeque<TestedEntry<'_>>, entry: &TestedEntry<'_>) -> bool
 }
 
 /// The entries of two lists in order. Refused as Duplicate where a version comes twice.
-pub(crate) fn merged<'a>(
+fn merged<'a>(
     alloc: Global,
     mut a: VecDeque<TestedEntry<'a>>,
     mut b: VecDeque<TestedEntry<'a>>,
@@ -76,4 +77,18 @@ pub(crate) fn merged<'a>(
         run.push_back(entry)?;
     }
     Ok(run)
+}
+
+/// Draws the next job and merges its range. A seat that finds no job has an empty run.
+pub(crate) fn worked<'a>(
+    alloc: Global,
+    jobs: &mut VecDeque<Range<'a>>,
+) -> Result<VecDeque<TestedEntry<'a>>, Fault>
+    ensures drawn { jobs.new.items ≡ drop 1 jobs.old.items }
+    ensures run { IfOk result (λ run. IsRunOfFirst jobs.old.items (entries_of run.items)) }
+{
+    match jobs.pop_front() {
+        Some(range) => merged(alloc, range.a, range.b),
+        None => Ok(VecDeque::new(alloc)),
+    }
 }

@@ -102,9 +102,15 @@ const EMPTY: &str = "0000000001000000";
 #[test]
 fn two_blocks_into_one(rt: HostRuntime) -> Result<(), Fail> {
     let alloc = rt.alloc();
-    let both = "2 entries, 34 bytes: 00090161010100000000000078000901620102000000000000790000000001000000";
+    let both =
+        "2 entries, 34 bytes: 00090161010100000000000078000901620102000000000000790000000001000000";
     // Wherever the ranges part.
-    for at in [b"".as_slice(), b"a".as_slice(), b"b".as_slice(), b"c".as_slice()] {
+    for at in [
+        b"".as_slice(),
+        b"a".as_slice(),
+        b"b".as_slice(),
+        b"c".as_slice(),
+    ] {
         let (a, b) = (hex::decode(alloc, A)?, hex::decode(alloc, B)?);
         assert_eq!(rt; merged(alloc, &a, &b, at)?.as_str(), both);
         assert_eq!(rt; merged(alloc, &b, &a, at)?.as_str(), both);
@@ -135,10 +141,19 @@ fn refused_files(rt: HostRuntime) -> Result<(), Fail> {
         ("00070161010000000000780000000001000000", "refused: Key"),
         ("000901610201000000000000780000000001000000", "refused: Key"),
         // The same key twice, and a lesser sequence before a greater one.
-        ("0009006101010000000000000009006101010000000000000000000001000000", "refused: Order"),
-        ("0009006101010000000000000009006101020000000000000000000001000000", "refused: Order"),
+        (
+            "0009006101010000000000000009006101010000000000000000000001000000",
+            "refused: Order",
+        ),
+        (
+            "0009006101010000000000000009006101020000000000000000000001000000",
+            "refused: Order",
+        ),
         // One sequence as a value and as a deletion.
-        ("0009006101010000000000000009006100010000000000000000000001000000", "refused: Duplicate"),
+        (
+            "0009006101010000000000000009006100010000000000000000000001000000",
+            "refused: Duplicate",
+        ),
     ];
     for (text, wanted) in cases {
         let (first, second) = refusals(alloc, text)?;
@@ -180,6 +195,9 @@ fn longest_user_key(rt: HostRuntime) -> Result<(), Fail> {
     assert_eq!(rt; entries, 1);
     assert_eq!(rt; block.as_slice(), longest.as_slice());
     let longer = block_of_key(alloc, 65_536)?;
-    assert_eq!(rt; merged(alloc, &longer, &empty, b"")?.as_str(), "refused: TooLarge");
+    assert_eq!(rt;
+        merged(alloc, &longer, &empty, b"")?.as_str(),
+        "refused: TooLarge"
+    );
     Ok(())
 }

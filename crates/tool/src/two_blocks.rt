@@ -6,8 +6,9 @@ ghost use Rattle.coding.specs.Answers.{Gives};
 ghost use Rattle.tool.specs.Blocks.{IsMerged, block_within};
 ghost use Rattle.tool.specs.Merging.{entries_of};
 
-use crate::merge::merged;
-use crate::ranges::split_off_at;
+use crate::cut::split_off_at;
+use crate::merge::worked;
+use crate::range::Range;
 use crate::tested::TestedEntry;
 use crate::testing::tested;
 use block::BlockBuilder;
@@ -52,9 +53,18 @@ pub fn blocks(alloc: Global, a: &[u8], b: &[u8], at: &[u8]) -> Result<(u64, Vec<
     let mut before_b = tested(alloc, b)?;
     let from_a = split_off_at(&mut before_a, at)?;
     let from_b = split_off_at(&mut before_b, at)?;
-    // A range a job: the two are worked in turn, and their runs joined.
-    let mut entries = merged(alloc, before_a, before_b)?;
-    let mut behind = merged(alloc, from_a, from_b)?;
+    let mut jobs: VecDeque<Range<'_>> = VecDeque::new(alloc);
+    jobs.push_back(Range {
+        a: before_a,
+        b: before_b,
+    })?;
+    jobs.push_back(Range {
+        a: from_a,
+        b: from_b,
+    })?;
+    // Two seats, which are worked in turn: each draws a job, and their runs are joined in order.
+    let mut entries = worked(alloc, &mut jobs)?;
+    let mut behind = worked(alloc, &mut jobs)?;
     entries.append(&mut behind)?;
     let count = entries.len() as u64;
     let block = written(alloc, entries)?;

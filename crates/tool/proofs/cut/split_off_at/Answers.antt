@@ -6,7 +6,7 @@ use Rattle.tool.specs.Merging.{entry_of, entries_of}
 use Rattle.tool.specs.Ranges.{IsBefore, IsFrom}
 use Rattle.tool.specs.declared.tested.TestedEntry.{TestedEntry}
 use Rattle.tool.proofs.Unions.{before_cut, from_cut}
-use Rattle.tool.proofs.ranges.split_off_at.Goals as goal
+use Rattle.tool.proofs.cut.split_off_at.Goals as goal
 
 pub returns-clause-parts : goal.returns-clause-parts
 returns-clause-parts c =

@@ -1,14 +1,14 @@
 -- One pass over the pieces of a block, with the restarts beside it.
-use Rattle.std.proofs.Common.{◌≡◌, ◌≢◌, ℕ, zero, suc, ◌+◌, ◌-◌, ◌*◌, ◌^◌, ◌<◌, ◌≤◌, Bool, true, false, cond, List, [], ◌∷◌, ◌++◌, length, take, drop, Option, Some, None, refl, sym, ap, subst, ◌∙◌, append_assoc, arith, inl, inr}
+use Rattle.std.proofs.Common.{◌≡◌, ◌≢◌, ℕ, ◌+◌, ◌-◌, ◌^◌, ◌<◌, ◌≤◌, Bool, true, false, cond, List, [], ◌∷◌, ◌++◌, length, Some, None, refl, sym, ap, subst, ◌∙◌, append_assoc, arith}
 use Rattle.std.specs.List.{flat_map, AllByRecursion}
-use Rattle.std.proofs.lemmas.List.{append-nil, append_cancel_left, length-append, take_at, drop_at, nil_from_length}
+use Rattle.std.proofs.lemmas.List.{append-nil, append_cancel_left, length-append, nil_from_length}
 use Rattle.std.proofs.lemmas.Grind.{flat_map-append}
 use Rattle.std.proofs.lemmas.Option.{same_Some, none-some}
 use Rattle.byteorder.specs.Endian.{little_bytes}
-use Rattle.block.specs.Piece.{Entry, Piece, piece_bytes, restarts_from, restarts_of, IsPieceAfter, ArePieces, BeginsWithRestart, AreOfBlock, IsArea}
+use Rattle.block.specs.Piece.{Piece, piece_bytes, restarts_from, restarts_of, IsPieceAfter, ArePieces, BeginsWithRestart, AreOfBlock, IsArea}
 use Rattle.block.specs.Parts.{BeginsWith}
 use Rattle.block.specs.Reading.{Field, piece_at}
-use Rattle.block.proofs.Pieces.{plain, Widths, Widths-of, ReadsPiece, reads_piece, piece_at_front, piece_at-nil, length-piece_bytes_pos}
+use Rattle.block.proofs.Pieces.{plain, Widths, Widths-of, reads_piece, piece_at_front, piece_at-nil, length-piece_bytes_pos}
 use Rattle.block.proofs.Restarts.{words, length-words, same_word}
 
 -- the length of the last key, after a key of so many bytes
@@ -43,15 +43,15 @@ pub record Ahead (rest pending : List ℕ) (key_len at : ℕ) : Type 0 where
 
 -- ---- restarts
 
-AllByRecursion-append : (P : ℕ → Type 0) (xs ys : List ℕ) → AllByRecursion P xs → AllByRecursion P ys → AllByRecursion P (xs ++ ys)
+pub AllByRecursion-append : (P : ℕ → Type 0) (xs ys : List ℕ) → AllByRecursion P xs → AllByRecursion P ys → AllByRecursion P (xs ++ ys)
 AllByRecursion-append P [] ys h q = q
 AllByRecursion-append P (x ∷ xs) ys h q = (h.0, AllByRecursion-append P xs ys h.1 q)
 
-AllByRecursion-weaker : (P Q : ℕ → Type 0) → ((x : ℕ) → P x → Q x) → (xs : List ℕ) → AllByRecursion P xs → AllByRecursion Q xs
+pub AllByRecursion-weaker : (P Q : ℕ → Type 0) → ((x : ℕ) → P x → Q x) → (xs : List ℕ) → AllByRecursion P xs → AllByRecursion Q xs
 AllByRecursion-weaker P Q f [] h = tt
 AllByRecursion-weaker P Q f (x ∷ xs) h = (f x h.0, AllByRecursion-weaker P Q f xs h.1)
 
-marks : (b : Bool) (at : ℕ) → AllByRecursion (λ r. at ≤ r) (cond b (at ∷ []) [])
+pub marks : (b : Bool) (at : ℕ) → AllByRecursion (λ r. at ≤ r) (cond b (at ∷ []) [])
 marks true at = (omega arith, tt)
 marks false at = tt
 

@@ -168,10 +168,8 @@ restarts_of-some {q = []} h some = absurd (omega (arith, ap length h.restarts_ar
 restarts_of-some {q = e ∷ es} h some = sym h.restarts_are
 
 -- The restarts that are written of those that are kept: 0 where there is none.
-pub restarts_of-written : {r : ℕ} {q : List Entry} {pieces restarts last : List ℕ} {since : ℕ} (written : List ℕ) → IsBuilt r q pieces restarts last since → ((length restarts ≡ 0) × (written ≡ restarts ++ 0 ∷ [])) ⊎ ((0 < length restarts) × (written ≡ restarts)) → restarts_of (pieces_from r 0 [] q) ≡ written
-restarts_of-written {restarts = restarts} written h (inl (none, is)) =
-    let nil = nil_from_length restarts none in
-    restarts_of-none h nil ∙ sym (is ∙ ap (λ (x : List ℕ). x ++ 0 ∷ []) nil)
+pub restarts_of-written : {r : ℕ} {q : List Entry} {pieces restarts last : List ℕ} {since : ℕ} (written : List ℕ) → IsBuilt r q pieces restarts last since → ((length restarts ≡ 0) × (written ≡ 0 ∷ [])) ⊎ ((0 < length restarts) × (written ≡ restarts)) → restarts_of (pieces_from r 0 [] q) ≡ written
+restarts_of-written {restarts = restarts} written h (inl (none, is)) = restarts_of-none h (nil_from_length restarts none) ∙ sym is
 restarts_of-written written h (inr (some, is)) = restarts_of-some h some ∙ sym is
 
 -- the restarts that are written of what is kept

@@ -1,13 +1,15 @@
 -- A block is its area, its restarts and their number.
-use Rattle.std.proofs.Common.{◌≡◌, ◌≢◌, ℕ, ◌+◌, ◌*◌, ◌<◌, ◌≤◌, Bool, true, cond, List, [], ◌∷◌, ◌++◌, length, refl, sym, ap, subst, ◌∙◌, arith}
+use Rattle.std.proofs.Common.{◌≡◌, ℕ, ◌+◌, ◌<◌, Bool, cond, List, [], ◌∷◌, ◌++◌, length, refl, sym, ap, subst, ◌∙◌, arith}
 use Rattle.std.specs.List.{flat_map}
 use Rattle.byteorder.specs.Endian.{little_bytes}
-use Rattle.block.specs.Piece.{Entry, Piece, piece_bytes, restarts_from, restarts_of, restart_bytes, block_bytes, entries_after, BeginsWithRestart, AreOfBlock, IsBlock, IsArea}
+use Rattle.block.specs.Piece.{Entry, Piece, piece_bytes, restarts_from, restarts_of, block_bytes, BeginsWithRestart, IsBlock, IsArea}
 use Rattle.block.specs.Parts.{IsSplit}
 use Rattle.block.specs.Reading.{entries_behind}
 use Rattle.block.proofs.Restarts.{words, length-words}
 use Rattle.block.proofs.Splits.{one_split}
 use Rattle.block.proofs.Walks.{entries_of_area}
+use Rattle.block.proofs.Places.{places_of_area}
+use Rattle.block.specs.Sound.{PointsAt, sound_in}
 
 -- there is a restart
 some_restart : (ps : List Piece) → BeginsWithRestart ps → 0 < length (restarts_of ps)
@@ -33,14 +35,16 @@ parted bytes entries h =
       same = entries_of_area (flat_map piece_bytes h.0) (words (restarts_of h.0)) sound ∙ h.3;
     }
 
+whole_of : (bytes area restarts : List ℕ) → IsSplit bytes area restarts → (h : IsArea area restarts) → bytes ≡ block_bytes h.0
+whole_of bytes area restarts s h =
+    let count : s.count ≡ length (restarts_of h.0) = omega (arith, s.len, ap length h.3, length-words (restarts_of h.0)) in
+    s.whole ∙ ap (λ (t : List ℕ). t ++ (restarts ++ little_bytes 4 s.count)) h.2 ∙ ap (λ (t : List ℕ). flat_map piece_bytes h.0 ++ (t ++ little_bytes 4 s.count)) h.3 ∙ ap (λ (n : ℕ). flat_map piece_bytes h.0 ++ (words (restarts_of h.0) ++ little_bytes 4 n)) count
+
 pub is_block : (bytes area restarts : List ℕ) → IsSplit bytes area restarts → IsArea area restarts → IsBlock bytes (entries_behind [] area)
-is_block bytes area restarts s h =
-    let count : s.count ≡ length (restarts_of h.0) = omega (arith, s.len, ap length h.3, length-words (restarts_of h.0)) in (
-      h.0,
-      h.1,
-      s.whole ∙ ap (λ (t : List ℕ). t ++ (restarts ++ little_bytes 4 s.count)) h.2 ∙ ap (λ (t : List ℕ). flat_map piece_bytes h.0 ++ (t ++ little_bytes 4 s.count)) h.3 ∙ ap (λ (n : ℕ). flat_map piece_bytes h.0 ++ (words (restarts_of h.0) ++ little_bytes 4 n)) count,
-      sym (entries_of_area area restarts h),
-    )
+is_block bytes area restarts s h = (h.0, h.1, whole_of bytes area restarts s h, sym (entries_of_area area restarts h))
+
+pub points_at : (bytes area restarts : List ℕ) → IsSplit bytes area restarts → IsArea area restarts → PointsAt bytes (sound_in area restarts).restarts
+points_at bytes area restarts s h = (h.0, h.1, whole_of bytes area restarts s h, sym (places_of_area area restarts h))
 
 -- bytes without such parts are no block
 pub no_parts : (bytes : List ℕ) (entries : List Entry) → IsBlock bytes entries → ((area restarts : List ℕ) → IsSplit bytes area restarts → ⊥) → ⊥

@@ -3,6 +3,7 @@ pub mod Restarts
 pub mod Splits
 pub mod Areas
 pub mod Walks
+pub mod Places
 pub mod Checks
 pub mod Written
 pub mod Built

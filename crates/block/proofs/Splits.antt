@@ -1,5 +1,5 @@
 -- The number of restarts at a block's end, and the restarts before it.
-use Rattle.std.proofs.Common.{◌≡◌, ℕ, ◌+◌, ◌-◌, ◌*◌, ◌^◌, ◌<◌, ◌≤◌, List, [], ◌∷◌, ◌++◌, length, take, drop, refl, sym, ap, subst, ◌∙◌, append_assoc, arith}
+use Rattle.std.proofs.Common.{◌≡◌, ℕ, ◌+◌, ◌-◌, ◌*◌, ◌<◌, List, [], ◌++◌, length, take, drop, refl, sym, ap, ◌∙◌, append_assoc, arith}
 use Rattle.std.proofs.lemmas.List.{append-nil, length-append, drop_at, take_at, append_cancel_right, nil_from_length, length-drop}
 use Rattle.byteorder.specs.Endian.{little_bytes, little_number}
 use Rattle.block.specs.Parts.{IsSplit}

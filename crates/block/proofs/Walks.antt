@@ -1,14 +1,13 @@
 -- One step over the pieces of a block.
-use Rattle.std.proofs.Common.{◌≡◌, ◌≢◌, ℕ, ◌+◌, ◌≤◌, ◌<◌, Bool, true, false, cond, List, [], ◌∷◌, ◌++◌, length, take, drop, Option, Some, None, refl, sym, ap, subst, ◌∙◌, arith}
+use Rattle.std.proofs.Common.{◌≡◌, ℕ, ◌+◌, ◌≤◌, ◌<◌, Bool, true, false, cond, List, [], ◌∷◌, length, take, drop, Some, None, refl, sym, ap, subst, ◌∙◌, arith}
 use Rattle.std.specs.List.{flat_map}
 use Rattle.std.proofs.lemmas.List.{length-append, length-take-le}
 use Rattle.std.proofs.lemmas.Option.{same_Some, none-some}
-use Rattle.block.specs.Piece.{Entry, Piece, piece_bytes, key_after, entries_after, IsPieceAfter, ArePieces, IsBlock, IsArea}
-use Rattle.block.specs.Reading.{Field, piece_at, entries_behind}
-use Rattle.block.specs.Walking.{ArePiecesBehind}
+use Rattle.block.specs.Piece.{Entry, Piece, piece_bytes, key_after, entries_after, ArePieces, IsArea}
+use Rattle.block.specs.Reading.{Field, piece_at, entries_behind, ArePiecesBehind}
 use Rattle.block.proofs.Pieces.{plain, Widths-of, piece_at_front, piece_at-nil, entries_behind-pieces, AreWide-of}
 
-length-key_after : (before : List ℕ) (p : Piece) → p.shared ≤ length before → length (key_after before p) ≡ p.shared + length p.unshared
+pub length-key_after : (before : List ℕ) (p : Piece) → p.shared ≤ length before → length (key_after before p) ≡ p.shared + length p.unshared
 length-key_after before p le = omega (arith, length-append (take p.shared before) p.unshared, length-take-le p.shared before le)
 
 -- the entry of the piece at the front, and those behind it

@@ -1,5 +1,5 @@
 -- What a piece in a block's bytes stands for.
-use Rattle.std.specs.Prelude.{Bool, false}
+use Rattle.std.specs.Prelude.{false}
 use Rattle.block.specs.Piece.{Piece}
 use Rattle.block.specs.Reading.{Field}
 use Rattle.block.specs.declared.lent.LentPiece.{LentPiece}

@@ -1,5 +1,5 @@
 -- The parts of a block's bytes.
-use Rattle.std.specs.Prelude.{◌≡◌, ℕ, ◌*◌, ◌+◌, ◌<◌, ◌^◌, List, ◌++◌, length}
+use Rattle.std.specs.Prelude.{◌≡◌, ℕ, ◌*◌, ◌<◌, ◌^◌, List, ◌++◌, length}
 use Rattle.byteorder.specs.Endian.{little_bytes}
 
 -- the bytes begin with the number of this offset

@@ -1,8 +1,9 @@
 -- The list of entries that stands in a block's bytes before its restarts.
-use Rattle.std.specs.Prelude.{ℕ, zero, suc, ◌+◌, ◌^◌, nat_le, Bool, false, if◌then◌else◌, List, [], ◌∷◌, length, take, drop, Option, Some, None}
+use Rattle.std.specs.Prelude.{◌≡◌, ℕ, zero, suc, ◌+◌, ◌^◌, nat_le, false, if◌then◌else◌, List, [], ◌∷◌, length, take, drop, Option, Some, None}
+use Rattle.std.specs.List.{flat_map}
 use Rattle.std.specs.Option.{option_map_or}
 use Rattle.coding.specs.Varint.{varint_reading}
-use Rattle.block.specs.Piece.{Entry, Piece, key_after}
+use Rattle.block.specs.Piece.{Entry, Piece, piece_bytes, key_after, ArePieces}
 
 -- a field, and the bytes behind it
 pub record Field (A : Type 0) : Type 0 where
@@ -45,3 +46,7 @@ entries_in (suc n) before bytes =
 -- the entries that stand after this key, up to the first bytes that are no piece
 abbrev pub entries_behind : List ℕ → List ℕ → List Entry
 entries_behind before bytes = entries_in (length bytes) before bytes
+
+-- the bytes are pieces that stand after this key
+abbrev pub ArePiecesBehind : List ℕ → List ℕ → Type 0
+ArePiecesBehind before rest = (ps : List Piece) × ArePieces (length before) ps × (rest ≡ flat_map piece_bytes ps)

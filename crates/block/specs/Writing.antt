@@ -1,5 +1,5 @@
 -- The one block that is written of a list of entries.
-use Rattle.std.specs.Prelude.{ℕ, ◌+◌, ◌%◌, nat_eq, ◌==◌, Bool, true, false, if◌then◌else◌, List, [], ◌∷◌, drop}
+use Rattle.std.specs.Prelude.{ℕ, ◌+◌, ◌%◌, nat_eq, ◌==◌, true, false, if◌then◌else◌, List, [], ◌∷◌, drop}
 use Rattle.std.specs.List.{common_prefix_len}
 use Rattle.block.specs.Piece.{Entry, Piece, block_bytes}
 

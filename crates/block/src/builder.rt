@@ -14,8 +14,9 @@ use std::marker::Model;
 
 /// A block that is being written, seen as its restart interval and its entries so far.
 ///
-/// At each multiple of the interval an entry stands with its whole key, and a restart points at it. Elsewhere the
-/// bytes that its key shares with the key before it are left out.
+/// The entry at each multiple of the interval, counted from 0, stands with its whole key, and a restart points at it.
+/// Elsewhere the key leaves out its longest beginning that the key before it has too. `check` reads the block as the same
+/// entries. The block may have 2^31 bytes at most.
 #[derive(Drop)]
 pub struct BlockBuilder {
     /// How many entries there are for each restart.
@@ -58,7 +59,8 @@ impl BlockBuilder {
         }
     }
 
-    /// Appends an entry. A key is any bytes: the order of keys isn't tested.
+    /// Appends an entry, after which the block has at most 2^31 bytes: one entry adds at most 34 to the bytes of its key and
+    /// value. A key is any bytes, and the order of keys isn't tested.
     ///
     /// Refused only for want of memory, and then the block is as it was.
     pub fn add(&mut self, key: &[u8], value: &[u8]) -> Result<(), Fault>
@@ -86,7 +88,7 @@ impl BlockBuilder {
         Ok(())
     }
 
-    /// The length in bytes of the block, if it were finished now.
+    /// The length in bytes, from 8 to 2^31, of the block that `finish` would give now.
     pub fn estimate(&self) -> usize
         ensures { result ≡ length (block self.now.interval self.now.entries) }
     {
@@ -101,7 +103,8 @@ impl BlockBuilder {
         self.bytes.is_empty()
     }
 
-    /// The block of the entries.
+    /// The block of the entries: the entries, their restarts, and the number of restarts. One without entries has the one
+    /// restart 0.
     ///
     /// Refused only for want of memory.
     pub fn finish(self) -> Result<Vec<u8>, Fault>
@@ -110,13 +113,17 @@ impl BlockBuilder {
     {
         let BlockBuilder {
             mut bytes,
-            mut restarts,
+            restarts,
             ..
         } = self;
-        if restarts.is_empty() {
-            restarts.push(0)?;
-        }
-        push_restarts(&mut bytes, &restarts)?;
+        // A block without entries has one restart.
+        let first = [0];
+        let written = if restarts.is_empty() {
+            first.as_slice()
+        } else {
+            restarts.as_slice()
+        };
+        push_restarts(&mut bytes, written)?;
         Ok(bytes)
     }
 }

@@ -1,7 +1,8 @@
 //! The walk over the entries of a block.
 
-ghost use Rattle.std.specs.Prelude.{◌≡◌, ◌<◌, ◌↔◌, length, IsTrue, IfOk, OnOk, OnErr, IsOkUnless, IfErr, slice_get, Some, take, drop, ◌++◌};
+ghost use Rattle.std.specs.Prelude.{◌≡◌, ◌<◌, ◌↔◌, [], length, IsTrue, IfOk, OnOk, OnErr, IsOkUnless, IfErr, slice_get, slice_index, Some, take, drop, ◌++◌};
 ghost use Rattle.std.specs.Option.{option_map};
+ghost use Rattle.block.specs.Reading.{entries_behind, ArePiecesBehind};
 ghost use Rattle.coding.specs.Answers.{fault};
 ghost use Rattle.coding.specs.declared.fault.FaultName.TheVariants.{Memory};
 
@@ -23,7 +24,9 @@ fn replace_end(key: &mut Vec<u8>, shared: usize, unshared: &[u8]) -> Result<(), 
     Ok(())
 }
 
-/// A place in a block, seen as the entries from there on.
+/// A place in a block, seen as the entries from there on, in the order of the block.
+///
+/// It lends the block's bytes, and owns those of one key.
 #[derive(Drop)]
 pub struct BlockCursor<'a> {
     valid: bool,
@@ -46,13 +49,35 @@ impl<'a> Model for BlockCursor<'a> {
 }
 
 impl<'a> BlockCursor<'a> {
-    /// All entries of a block. Refused only for want of memory.
+    /// All entries of a block.
+    ///
+    /// Refused only for want of memory: it takes the bytes of one key.
     pub fn new(alloc: Global, block: &SoundBlock<'a>) -> Result<BlockCursor<'a>, Fault>
-        ensures all { IfOk result (λ cursor. cursor ≡ block.now) }
+        ensures all { IfOk result (λ cursor. cursor ≡ block.now.entries) }
+        ensures memory { IfErr result (λ e. e ≡ fault Memory) }
+    {
+        BlockCursor::over(alloc, block.area())
+    }
+
+    /// The entries from a restart on. Restarts are counted from 0.
+    ///
+    /// Refused only for want of memory: it takes the bytes of one key.
+    pub fn at(alloc: Global, block: &SoundBlock<'a>, restart: u64) -> Result<BlockCursor<'a>, Fault>
+        requires { restart < length block.now.restarts }
+        ensures from { IfOk result (λ cursor. cursor ≡ drop (slice_index block.now.restarts restart) block.now.entries) }
+        ensures memory { IfErr result (λ e. e ≡ fault Memory) }
+    {
+        BlockCursor::over(alloc, block.area_from(restart))
+    }
+
+    /// The entries of pieces, the first of which has its whole key.
+    fn over(alloc: Global, pieces: &'a [u8]) -> Result<BlockCursor<'a>, Fault>
+        requires { ArePiecesBehind [] pieces.now }
+        ensures all { IfOk result (λ cursor. cursor ≡ entries_behind [] pieces.now) }
         ensures memory { IfErr result (λ e. e ≡ fault Memory) }
     {
         let mut key = Vec::new(alloc);
-        let Some(piece) = piece_at(block.area()) else {
+        let Some(piece) = piece_at(pieces) else {
             return Ok(BlockCursor {
                 valid: false,
                 key,
@@ -76,7 +101,7 @@ impl<'a> BlockCursor<'a> {
         self.valid
     }
 
-    /// The key of the first entry that is still to come.
+    /// The key of the first entry that is still to come, until the next `advance`.
     pub fn key(&self) -> &[u8]
         requires { 0 < length self.now }
         ensures { option_map (λ e. e.key) (slice_get self.now 0) ≡ Some result.now }

@@ -19,3 +19,6 @@ pub use sound_block::{SoundBlock, check};
 pub fn reads_back()
     ensures { (r : ℕ) (q : List Entry) → length (block r q) ≤ 2 ^ 31 → IsBlock (block r q) q }
 {}
+
+#[cfg(test)]
+mod tests;

@@ -1,8 +1,11 @@
 //! Which bytes are a block.
 
-ghost use Rattle.std.specs.Prelude.{◌≡◌, ◌<◌, ◌^◌, ◌↔◌, [], length, IsTrue, IfSome, IfNone, IfOk, IfErr, List, ℕ};
+ghost use Rattle.std.specs.Prelude.{◌≡◌, ◌<◌, ◌^◌, ◌↔◌, [], length, drop, slice_get, slice_index, Some, IsTrue, IfSome, IfNone, IfOk, IsOkAnd, IfErr, List, ℕ};
+ghost use Rattle.std.specs.List.{All};
+ghost use Rattle.std.specs.List.Sorted.{IsStrictlyIncreasing};
 ghost use Rattle.block.specs.Piece.{Entry, IsArea, IsBlock};
-ghost use Rattle.block.specs.Reading.{entries_behind};
+ghost use Rattle.block.specs.Reading.{entries_behind, ArePiecesBehind};
+ghost use Rattle.block.specs.Sound.{PointsAt};
 ghost use Rattle.block.specs.Parts.{BeginsWith, IsSplit};
 ghost use Rattle.coding.specs.Answers.{fault};
 ghost use Rattle.coding.specs.declared.fault.FaultName.TheVariants.{Block};
@@ -80,7 +83,10 @@ fn are_pieces(area: &[u8], restarts: &[u8]) -> bool
     pending.is_empty()
 }
 
-/// The bytes of a block that were checked, seen as its entries and the places of those at which restarts point.
+/// The bytes of a block that were checked, seen as its entries and the places among them at which its restarts point.
+///
+/// The place of a restart is the number of entries that stand before it. The entry there has its whole key, so that a
+/// walk can begin there. The first place is 0, and each is above the one before it.
 #[derive(Drop)]
 pub struct SoundBlock<'a> {
     area: &'a [u8],
@@ -88,34 +94,65 @@ pub struct SoundBlock<'a> {
 }
 
 impl<'a> Model for SoundBlock<'a> {
-    ghost use Rattle.block.specs.Piece.{Entry, IsArea};
-    ghost use Rattle.std.specs.Prelude.{List, []};
+    ghost use Rattle.block.specs.Piece.{IsArea};
+    ghost use Rattle.block.specs.Sound.{Sound, sound_in};
 
-    ghost Value = { List Entry };
+    ghost Value = { Sound };
 
-    ghost use Rattle.block.specs.Reading.{entries_behind};
-
-    ghost view = { λ b. entries_behind [] b.area.now };
+    ghost view = { λ b. sound_in b.area.now b.restarts.now };
 
     ghost invariant = { λ b. IsArea b.area.now b.restarts.now };
 }
 
 impl<'a> SoundBlock<'a> {
+    /// How many restarts the block has: 1 or more.
+    pub fn restarts(&self) -> u64
+        ensures count { result ≡ length self.now.restarts }
+        ensures some { 0 < result }
+        ensures first { slice_get self.now.restarts 0 ≡ Some 0 }
+        ensures rising { IsStrictlyIncreasing self.now.restarts }
+        ensures within { 0 < length self.now.entries → All (λ place. place < length self.now.entries) self.now.restarts }
+    {
+        (self.restarts.len() / RESTART_LEN) as u64
+    }
+
     /// The bytes before the restarts.
     pub(crate) fn area(&self) -> &'a [u8]
-        ensures entries { entries_behind [] result.now ≡ self.now }
-        ensures sound { (restarts : List ℕ) × IsArea result.now restarts }
+        ensures entries { entries_behind [] result.now ≡ self.now.entries }
+        ensures pieces { ArePiecesBehind [] result.now }
     {
         self.area
     }
+
+    /// The bytes from a restart on, up to the restarts.
+    pub(crate) fn area_from(&self, restart: u64) -> &'a [u8]
+        requires { restart < length self.now.restarts }
+        ensures entries { entries_behind [] result.now ≡ drop (slice_index self.now.restarts restart) self.now.entries }
+        ensures pieces { ArePiecesBehind [] result.now }
+    {
+        let (_, numbers) = self.restarts.split_at(restart as usize * RESTART_LEN);
+        let offset = LittleEndian::read_u32(numbers) as usize;
+        let (_, rest) = self.area.split_at(offset);
+        rest
+    }
 }
 
-/// The entries of a block, where the bytes are one.
+/// Reads bytes as a block: its entries, and the places among them at which its restarts point.
 ///
-/// Refused as Block exactly where the bytes have no reading as a block. It takes no memory.
+/// A block is its entries, then its restarts, then the number of restarts. An entry is three varints below 2^32, then the
+/// last bytes of its key, then its value: the varints say how many bytes of the key before begin its key, how many more
+/// its key has, and how many its value has. Restarts and their number have four bytes each, the lowest first. The
+/// restarts are offsets of entries that share nothing: the first is 0, each is above the one before it, and there is at
+/// least one. A block without entries has just the one.
+///
+/// Each such spelling is read, and not only that of `BlockBuilder`: a key may share fewer bytes than it could, and a
+/// restart may point at any entry that shares nothing. The order of keys isn't tested.
+///
+/// Refused as Block exactly where the bytes have no reading as a block. It reads them once, and takes no memory.
 pub fn check(bytes: &[u8]) -> Result<SoundBlock<'_>, Fault>
-    ensures found { IfOk result (IsBlock bytes.now) }
-    ensures only { (entries : List Entry) → IsBlock bytes.now entries → result ≡ Ok entries }
+    ensures found { IfOk result (λ block. IsBlock bytes.now block.entries) }
+    ensures places { IfOk result (λ block. PointsAt bytes.now block.restarts) }
+    ensures only { (entries : List Entry) → IsBlock bytes.now entries → IsOkAnd result (λ block. block.entries ≡ entries) }
     ensures refused { IfErr result (λ e. e ≡ fault Block) }
 {
     let Some(parts) = split(bytes) else {

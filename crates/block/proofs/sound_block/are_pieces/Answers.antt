@@ -1,11 +1,10 @@
-use Rattle.std.proofs.Common.{◌≡◌, ◌≢◌, true, false, Bool, ◌-◌, ◌+◌, ◌++◌, List, ℕ, Bor, length, drop, [], sym, subst, ap, ◌∙◌, arith}
+use Rattle.std.proofs.Common.{◌≡◌, ◌≢◌, true, ◌-◌, ◌+◌, List, ℕ, Bor, length, drop, [], sym, subst, ap, ◌∙◌}
 use Rattle.std.proofs.lemmas.List.{nil_from_length}
 use Rattle.std.proofs.lemmas.Bool.{eqb-true, eqb-false, eq-eqb}
 use Rattle.block.specs.Piece.{IsArea}
 use Rattle.block.specs.Lent.{lent_field}
-use Rattle.block.proofs.Areas.{Kept, shorter, kept_none, kept_marked, kept_plain, no_piece, too_much_shared, restart_shares, kept_all, is_area, is_area_nil, area_nil}
+use Rattle.block.proofs.Areas.{Kept, shorter, kept_marked, kept_plain, no_piece, too_much_shared, restart_shares, kept_all, is_area, is_area_nil, area_nil}
 use Rattle.block.proofs.Restarts.{begins_drop}
-use Rattle.byteorder.specs.Endian.{little_bytes}
 use Rattle.block.proofs.sound_block.are_pieces.Goals as goal
 use Rattle.block.proofs.sound_block.are_pieces.Goals.{then-is_next+else-piece-ne0, else-is_next}
 

@@ -1,7 +1,5 @@
-use Rattle.std.proofs.Common.{◌≡◌, List, true, false, ap, sym, ◌∙◌, Ok, Result}
-use Rattle.coding.specs.declared.fault.Fault.{Fault}
-use Rattle.block.specs.Piece.{Entry}
-use Rattle.block.proofs.Checks.{is_block, no_parts, parts_sound}
+use Rattle.std.proofs.Common.{◌≡◌, true}
+use Rattle.block.proofs.Checks.{is_block, points_at, no_parts, parts_sound}
 use Rattle.block.proofs.sound_block.check.Goals as goal
 
 pub returns-in_default-clause-only : goal.returns-in_default-clause-only
@@ -13,14 +11,14 @@ returns-then-not-are_pieces-clause-only c entries h =
     let yes : c.are_pieces.result ≡ true = c.are_pieces.ensures.1 sound.0 in
     absurd cc
 
-abbrev accepted : List Entry → Result (List Entry) Fault
-accepted es = Ok es
-
 pub returns-clause-found : goal.returns-clause-found
 returns-clause-found c =
     is_block c.args.bytes.now c.in-Some.parts.area.now c.in-Some.parts.restarts.now c.in-Some.ensures.found (c.are_pieces.ensures.0 c.if-not-are_pieces.false)
 
+pub returns-clause-places : goal.returns-clause-places
+returns-clause-places c =
+    points_at c.args.bytes.now c.in-Some.parts.area.now c.in-Some.parts.restarts.now c.in-Some.ensures.found (c.are_pieces.ensures.0 c.if-not-are_pieces.false)
+
 pub returns-clause-only : goal.returns-clause-only
 returns-clause-only c entries h =
-    let sound = parts_sound c.args.bytes.now c.in-Some.parts.area.now c.in-Some.parts.restarts.now entries h c.in-Some.ensures.found in
-    ap accepted sound.1
+    (parts_sound c.args.bytes.now c.in-Some.parts.area.now c.in-Some.parts.restarts.now entries h c.in-Some.ensures.found).1

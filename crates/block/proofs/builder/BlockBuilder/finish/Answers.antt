@@ -1,4 +1,4 @@
-use Rattle.std.proofs.Common.{◌≡◌, [], vec_len, sym, ap, ◌∙◌, inl, inr, arith}
+use Rattle.std.proofs.Common.{◌≡◌, ℕ, List, Bor, [], vec_len, sym, ap, ◌∙◌, inl, inr, arith}
 use Rattle.std.proofs.lemmas.Bool.{eqb-true, eqb-false}
 use Rattle.block.specs.Piece.{restarts_of}
 use Rattle.block.specs.Reading.{entries_behind}
@@ -6,26 +6,25 @@ use Rattle.block.specs.Writing.{pieces_from, block}
 use Rattle.block.specs.Building.{Building}
 use Rattle.block.proofs.Built.{restarts_of-written, length-written, finished}
 use Rattle.block.proofs.builder.BlockBuilder.finish.Goals as goal
-use Rattle.block.proofs.builder.BlockBuilder.finish.Goals.{then-is_empty+in_ok-push, else-is_empty}
+use Rattle.block.proofs.builder.BlockBuilder.finish.Goals.{then-is_empty, else-is_empty}
 
 pub push_restarts-requires : goal.push_restarts-requires
 push_restarts-requires c =
     let kept = c.self.inside.restarts in
-    let written : restarts_of (pieces_from c.self.inside.interval 0 [] (entries_behind [] c.self.inside.bytes.items)) ≡ c.if-is_empty.restarts.items =
-    restarts_of-written c.if-is_empty.restarts.items c.self.invariant (elim c.if-is_empty.branch [
-      | then-is_empty+in_ok-push w ↦ inl (omega (arith, eqb-true (vec_len kept) 0 (sym w.if-is_empty.ensures)), ap (λ v. v.items) w.restarts-is ∙ w.in_ok-push.ensures.items)
-      | else-is_empty w ↦ inr (omega (arith, eqb-false (vec_len kept) 0 (sym w.if-is_empty.ensures)), ap (λ v. v.items) w.restarts-is)
+    let written : restarts_of (pieces_from c.self.inside.interval 0 [] (entries_behind [] c.self.inside.bytes.items)) ≡ c.if-is_empty.written.now =
+    restarts_of-written c.if-is_empty.written.now c.self.invariant (elim c.if-is_empty.branch [
+      | then-is_empty w ↦ inl (omega (arith, eqb-true (vec_len kept) 0 (sym w.if-is_empty.ensures)), ap (λ (b : Bor (List ℕ)). b.now) w.written-is ∙ w.as_slice-written.ensures)
+      | else-is_empty w ↦ inr (omega (arith, eqb-false (vec_len kept) 0 (sym w.if-is_empty.ensures)), ap (λ (b : Bor (List ℕ)). b.now) w.written-is ∙ w.as_slice-written-else-is_empty.ensures.value)
     ]) in
-    rw c.deref.ensures.value (length-written c.if-is_empty.restarts.items c.self.invariant written)
+    length-written c.if-is_empty.written.now c.self.invariant written
 
 pub returns-clause-ok : goal.returns-clause-ok
 returns-clause-ok c =
     let kept = c.self.inside.restarts in
-    let written : restarts_of (pieces_from c.self.inside.interval 0 [] (entries_behind [] c.self.inside.bytes.items)) ≡ c.if-is_empty.restarts.items =
-    restarts_of-written c.if-is_empty.restarts.items c.self.invariant (elim c.if-is_empty.branch [
-      | then-is_empty+in_ok-push w ↦ inl (omega (arith, eqb-true (vec_len kept) 0 (sym w.if-is_empty.ensures)), ap (λ v. v.items) w.restarts-is ∙ w.in_ok-push.ensures.items)
-      | else-is_empty w ↦ inr (omega (arith, eqb-false (vec_len kept) 0 (sym w.if-is_empty.ensures)), ap (λ v. v.items) w.restarts-is)
+    let written : restarts_of (pieces_from c.self.inside.interval 0 [] (entries_behind [] c.self.inside.bytes.items)) ≡ c.if-is_empty.written.now =
+    restarts_of-written c.if-is_empty.written.now c.self.invariant (elim c.if-is_empty.branch [
+      | then-is_empty w ↦ inl (omega (arith, eqb-true (vec_len kept) 0 (sym w.if-is_empty.ensures)), ap (λ (b : Bor (List ℕ)). b.now) w.written-is ∙ w.as_slice-written.ensures)
+      | else-is_empty w ↦ inr (omega (arith, eqb-false (vec_len kept) 0 (sym w.if-is_empty.ensures)), ap (λ (b : Bor (List ℕ)). b.now) w.written-is ∙ w.as_slice-written-else-is_empty.ensures.value)
     ]) in
-    let whole : c.push_restarts.new.out.items ≡ block c.self.inside.interval (entries_behind [] c.self.inside.bytes.items) =
-    c.in_ok-push_restarts.ensures.ok ∙ rw c.deref.ensures.value (finished c.if-is_empty.restarts.items c.self.invariant written) in
+    let whole = c.in_ok-push_restarts.ensures.ok ∙ finished c.if-is_empty.written.now c.self.invariant written in
     whole ∙ ap (λ (b : Building). block b.interval b.entries) c.self.view_is

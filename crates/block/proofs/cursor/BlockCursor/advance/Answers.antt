@@ -1,8 +1,7 @@
-use Rattle.std.proofs.Common.{◌≡◌, List, ℕ, ◌∷◌, ap, subst, sym, ◌∙◌, drop, cond}
+use Rattle.std.proofs.Common.{◌≡◌, List, ℕ, ◌∷◌, ap, subst, sym, ◌∙◌}
 use Rattle.block.specs.Piece.{Entry}
 use Rattle.block.specs.Lent.{lent_field}
-use Rattle.block.specs.Reading.{entries_behind}
-use Rattle.block.specs.Walking.{ArePiecesBehind}
+use Rattle.block.specs.Reading.{entries_behind, ArePiecesBehind}
 use Rattle.block.proofs.Walks.{steps, advanced}
 use Rattle.block.proofs.cursor.BlockCursor.advance.Goals as goal
 

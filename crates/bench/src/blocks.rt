@@ -1,0 +1,134 @@
+//! Figures of blocks: written, checked and walked over.
+
+ghost use Rattle.std.specs.Prelude.{◌<◌, ◌≡◌, length};
+ghost use Rattle.block.specs.Writing.{block};
+
+use crate::figures::{Call, Figures, Work};
+use anyhow::Result;
+use block::{BlockBuilder, BlockCursor, SoundBlock, check};
+use coding::Fault;
+use std::alloc::Global;
+use std::mem;
+use std::rt::Clock;
+
+/// The bytes of a value. Those of a key are 16.
+const VALUE_LEN: usize = 100;
+/// The bytes that an entry takes at least, with its three lengths and a byte of its key.
+const ENTRY_LEN: usize = VALUE_LEN + 4;
+/// A block of so many bytes gets no further entry.
+const BLOCK_LEN: usize = 4096;
+/// How many entries there are for each restart.
+const INTERVAL: u32 = 16;
+/// The first key: eight bytes that are the same in all keys, and a number, the highest byte first.
+const FIRST_KEY: u128 = 0x6265_6e63_682d_6b65 << 64;
+
+/// Takes the figures of blocks whose values are pseudo-random bytes, about as many as there are bytes.
+pub fn measure(
+    clock: &impl Clock,
+    alloc: Global,
+    bytes: &[u8],
+    figures: &mut Figures,
+) -> Result<()> {
+    let (values, _) = bytes.split_at(bytes.len() / ENTRY_LEN * VALUE_LEN);
+    let blocks = written(alloc, values)?;
+    let len = len_of(&blocks);
+    let entries = values.len() / VALUE_LEN;
+    let over = |call| Work {
+        call,
+        bytes: len,
+        entries,
+    };
+    figures.take(clock, over(Call::Check), || Ok(check_all(&blocks)?))?;
+    let sound = all_sound(alloc, &blocks)?;
+    figures.take(clock, over(Call::Cursor), || Ok(walk_all(alloc, &sound)?))?;
+    figures.take(clock, over(Call::Builder), || Ok(write_all(alloc, values)?))
+}
+
+/// Blocks of entries whose keys rise and whose values are these bytes, in turn.
+fn written(alloc: Global, values: &[u8]) -> Result<Vec<Vec<u8>>, Fault> {
+    let mut blocks = Vec::new(alloc);
+    let mut builder = BlockBuilder::new(alloc, INTERVAL);
+    let (values, _) = values.as_chunks::<VALUE_LEN>();
+    for (i, value) in values.iter().enumerate() {
+        if builder.estimate() >= BLOCK_LEN {
+            blocks.push(taken(alloc, &mut builder)?)?;
+        }
+        add(&mut builder, i, value)?;
+    }
+    blocks.push(builder.finish()?)?;
+    Ok(blocks)
+}
+
+/// Writes the blocks, and gives the number of their bytes modulo 2^32.
+fn write_all(alloc: Global, values: &[u8]) -> Result<u32, Fault> {
+    Ok((len_of(&written(alloc, values)?) % (1 << 32)) as u32)
+}
+
+/// Takes the builder's block, and begins the next.
+fn taken(alloc: Global, builder: &mut BlockBuilder) -> Result<Vec<u8>, Fault>
+    ensures { length (block builder.new.interval builder.new.entries) ≡ 8 }
+{
+    mem::replace(builder, BlockBuilder::new(alloc, INTERVAL)).finish()
+}
+
+/// Appends the entry of this number to a block that is not full.
+#[tactic(auto, using(block::proofs::Sizes::fits_with_entry))]
+fn add(builder: &mut BlockBuilder, number: usize, value: &[u8; VALUE_LEN]) -> Result<(), Fault>
+    requires { length (block builder.old.interval builder.old.entries) < BLOCK_LEN }
+{
+    builder.add(&(FIRST_KEY + number as u128).to_be_bytes(), value)
+}
+
+/// How many bytes there are in all blocks, modulo 2^64.
+fn len_of(blocks: &[Vec<u8>]) -> usize {
+    let mut len = 0usize;
+    for block in blocks {
+        len = len.wrapping_add(block.len());
+    }
+    len
+}
+
+/// Checks each block, and gives their number modulo 2^32.
+fn check_all(blocks: &[Vec<u8>]) -> Result<u32, Fault> {
+    let mut checked = 0u32;
+    for block in blocks {
+        check(block)?;
+        checked = checked.wrapping_add(1);
+    }
+    Ok(checked)
+}
+
+/// What the checks of the blocks give.
+fn all_sound<'a>(alloc: Global, blocks: &'a [Vec<u8>]) -> Result<Vec<SoundBlock<'a>>, Fault> {
+    let mut sound = Vec::new(alloc);
+    for block in blocks {
+        sound.push(check(block)?)?;
+    }
+    Ok(sound)
+}
+
+/// Walks over each block, and folds what the walks give.
+fn walk_all(alloc: Global, blocks: &[SoundBlock<'_>]) -> Result<u32, Fault> {
+    let mut folded = 0u32;
+    for block in blocks {
+        folded = folded.wrapping_add(walk(alloc, block)?);
+    }
+    Ok(folded)
+}
+
+/// The sum of the last bytes of all keys and values of a block, modulo 2^32.
+fn walk(alloc: Global, block: &SoundBlock<'_>) -> Result<u32, Fault> {
+    let mut cursor = BlockCursor::new(alloc, block)?;
+    let mut folded = 0u32;
+    while cursor.valid() {
+        folded = folded.wrapping_add(last_of(cursor.key()));
+        folded = folded.wrapping_add(last_of(cursor.value()));
+        cursor.advance()?;
+    }
+    Ok(folded)
+}
+
+/// The last of some bytes; 0 where there is none.
+fn last_of(bytes: &[u8]) -> u32 {
+    bytes.last().map_or(0, |byte| u32::from(*byte))
+}

@@ -1,0 +1,144 @@
+//! Figures: what was timed, and how long it took.
+
+ghost use Rattle.std.specs.Prelude.{◌<◌};
+
+use anyhow::Result;
+use std::alloc::Global;
+use std::fmt;
+use std::rt::Clock;
+use std::time::{Duration, Instant};
+
+/// A call that is timed.
+#[derive(Clone, Copy)]
+pub enum Call {
+    Copy,
+    Crc,
+    CrcByTable,
+    CrcByBit,
+    Check,
+    Cursor,
+    Builder,
+    Additions,
+    OneWorker,
+    TwoWorkers,
+    FourWorkers,
+}
+
+impl Call {
+    /// How its line in the table begins.
+    fn label(self) -> &'static str {
+        match self {
+            Call::Copy => "copy",
+            Call::Crc => "crc32c",
+            Call::CrcByTable => "CRC by one table",
+            Call::CrcByBit => "crc32c_plain",
+            Call::Check => "block check",
+            Call::Cursor => "block cursor",
+            Call::Builder => "block builder",
+            Call::Additions => "atomic additions",
+            Call::OneWorker => "jobs, 1 worker",
+            Call::TwoWorkers => "jobs, 2 workers",
+            Call::FourWorkers => "jobs, 4 workers",
+        }
+    }
+}
+
+/// What is timed.
+#[derive(Clone, Copy)]
+pub struct Work {
+    pub call: Call,
+    /// The bytes that are read or written; 0 where there are none.
+    pub bytes: usize,
+    /// The entries among them, or the jobs; 0 where there are none.
+    pub entries: usize,
+}
+
+/// The time that some work took, in its fastest round.
+#[derive(Clone, Copy)]
+struct Figure {
+    work: Work,
+    time: Duration,
+}
+
+impl Figure {
+    /// The speed in MiB a second.
+    fn speed(&self) -> u128 {
+        (self.work.bytes as u128 * 1_000_000_000 >> 20) / self.nanos()
+    }
+
+    /// The time in nanoseconds, at least 1.
+    fn nanos(&self) -> u128
+        ensures { 0 < result }
+    {
+        self.time.as_nanos().max(1)
+    }
+}
+
+impl fmt::Display for Figure {
+    fn fmt<W: fmt::Write>(&self, f: &mut fmt::Formatter<W>) -> fmt::Result {
+        write!(f, "{:<20}", self.work.call.label())?;
+        if self.work.bytes > 0 {
+            write!(f, " {:>7} MiB/s", self.speed())?;
+        }
+        if self.work.entries > 0 {
+            let tenths = self.nanos().saturating_mul(10) / self.work.entries as u128;
+            write!(f, " {:>5}.{} ns each", tenths / 10, tenths % 10)?;
+        }
+        Ok(())
+    }
+}
+
+/// The figures of a run.
+#[derive(Drop)]
+pub struct Figures {
+    /// How many times all work is done.
+    rounds: u32,
+    taken: Vec<Figure>,
+    /// What all runs gave, folded: what is used can't be left out by a compiler.
+    folded: u32,
+}
+
+impl Figures {
+    /// No figures so far. Takes no memory.
+    pub fn new(alloc: Global, rounds: u32) -> Figures {
+        Figures {
+            rounds,
+            taken: Vec::new(alloc),
+            folded: 0,
+        }
+    }
+
+    /// Does some work once for each round and keeps the time of the fastest. A run gives a number that
+    /// depends on all of its work.
+    ///
+    /// Refused where a run, the clock or a growth of memory is.
+    pub fn take<F: FnMut() -> Result<u32>>(
+        &mut self,
+        clock: &impl Clock,
+        work: Work,
+        mut run: F,
+    ) -> Result<()>
+    where
+        F: Drop,
+        requires { F.IsAlwaysCallable run }
+    {
+        let mut time = Duration::MAX;
+        for _round in 0..self.rounds {
+            let start = Instant::now(clock)?;
+            let given = run()?;
+            time = time.min(start.elapsed(clock)?);
+            self.folded = self.folded.rotate_left(1) ^ given;
+        }
+        self.taken.push(Figure { work, time })?;
+        Ok(())
+    }
+
+    /// Prints a line for each figure, and what the runs gave, folded.
+    pub fn print(&self, rt: &impl Print) -> Result<()> {
+        for figure in self.taken.iter() {
+            println!(rt; "{figure}")?;
+        }
+        println!(rt; "checksum {:08x}", self.folded)?;
+        Ok(())
+    }
+}

@@ -1,0 +1,312 @@
+// The board as threads share it.
+ghost use Rattle.std.specs.Prelude.{◌≡◌, ◌≢◌, ℕ, ◌+◌, ◌≤◌, ◌<◌, ◌^◌, ◌⊎◌, ◌↔◌, [], Err, IfOk, IfErr, IfSome, IfNone, All, List, ◌∷◌, length, vec_len};
+ghost use Rattle.coding.specs.Answers.{fault};
+ghost use Rattle.coding.specs.declared.fault.FaultName.TheVariants.{Workers as NamedWorkers, Memory as NamedMemory};
+ghost use Rattle.board.specs.Rule.{fresh, drew, saw_empty, opening_words, no_fault, Looks, IsWhole, has_looked_for};
+ghost use Rattle.board.specs.Progress.{Progress, layout, unused_seats, IsInShare, IsShare, DrawsJob, DrawsNone, IsUnspent, after_done, after_fail, after_look, after_skip, fault_word};
+ghost use Rattle.board.specs.Shares.{times, once_below};
+ghost use Rattle.board.specs.Closing.{CountsOf, HasSpentAll, IsClosed, Gathers, times_spent, all_drawn};
+
+use crate::gathered::Gathered;
+use crate::job::Job;
+use crate::rule::{
+    ByShares, Claim, Extent, Gathering, Look, SeatView, Seating, Settle, Skip, Skipping,
+};
+use crate::seat::Seat;
+use crate::share::Share;
+use crate::tally::Tally;
+use crate::trail::Trail;
+use atomic_table::{Seat as Token, Table};
+use coding::{Fault, FaultName};
+use std::alloc::{AllocError, Global};
+use std::marker::{Brand, Model};
+
+// Where the fault word stands, behind the claim words.
+const FAULT: usize = 64;
+
+// What it holds while no job has failed.
+const NO_FAULT: u64 = u64::MAX;
+
+/// Jobs numbered from 0, each of which one seat draws. Contracts see which board it is, and how many jobs and seats it has.
+///
+/// Of `n` jobs and `w` seats, seat `s` owns the share from job `s * n / w` to before `(s + 1) * n / w`, both rounded down.
+#[derive(Drop)]
+pub struct Board {
+    table: Table<(), SeatView, Extent, ByShares, Global>,
+}
+
+impl Model for Board {
+    ghost use Rattle.std.specs.Prelude.{◌≡◌};
+    ghost use Rattle.std.specs.Prelude.{◌<◌};
+    ghost use Rattle.board.specs.Progress.{Layout, layout};
+
+    ghost Value = { Layout };
+
+    ghost view = { λ b. layout b.table.shared.table_id b.table.shared.key.jobs b.table.shared.key.seats };
+
+    ghost invariant = { λ b. (b.table.shared.table_id.words ≡ 65) × (b.table.shared.table_id.slots ≡ 0) × (0 < b.table.shared.key.seats) };
+}
+
+// No job is claimed, and none has failed.
+fn opening_words() -> [u64; 65]
+    ensures { result ≡ opening_words }
+{
+    let mut words = [0; 65];
+    words[FAULT] = NO_FAULT;
+    words
+}
+
+fn make_table(
+    alloc: Global,
+    extent: Extent,
+) -> Result<
+    (
+        Table<(), SeatView, Extent, ByShares, Global>,
+        Token<(), SeatView>,
+    ),
+    AllocError,
+>
+    requires few { (0 < extent.seats) × (extent.seats ≤ 64) × (extent.jobs ≤ 2 ^ 40) }
+    ensures { IfOk result (λ t. (t.0.shared.table_id.words ≡ 65) × (t.0.shared.table_id.slots ≡ 0) × (t.0.shared.key ≡ extent) × (t.1.table_id ≡ t.0.shared.table_id) × (t.1.me ≡ (fresh extent.seats extent.jobs extent.seats, []))) }
+{
+    Table::of_words(alloc, &opening_words(), &extent)
+}
+
+impl Board {
+    /// A board of at most 2^40 jobs, and its 1 to 64 seats in the order of their numbers.
+    ///
+    /// Any other number of seats is `Workers`. The one other refusal is `Memory`, where a growth was refused.
+    pub fn new(alloc: Global, jobs: u64, seats: u32) -> Result<(Board, Vec<Seat>), Fault>
+        requires { jobs ≤ 2 ^ 40 }
+        ensures workers { (result ≡ Err (fault NamedWorkers)) ↔ ((seats ≡ 0) ⊎ (64 < seats)) }
+        ensures err { IfErr result (λ e. (e ≡ fault NamedWorkers) ⊎ (e ≡ fault NamedMemory)) }
+        ensures ok { IfOk result (λ r. (r.0 ≡ layout r.0.table jobs seats) × (r.1.items ≡ unused_seats r.0 seats)) }
+        ensures boards { IfOk result (λ r. All (λ p. p.board ≡ r.0) r.1.items) }
+    {
+        if seats == 0 || seats > 64 {
+            return Err(Fault::of(FaultName::Workers));
+        }
+        let seats = u64::from(seats);
+        match Board::of(alloc, Extent { jobs, seats }) {
+            Ok(made) => Ok(made),
+            Err(AllocError) => Err(Fault::of(FaultName::Memory)),
+        }
+    }
+
+    // The first seat stands for all, until each other is cut from it.
+    fn of(alloc: Global, extent: Extent) -> Result<(Board, Vec<Seat>), AllocError>
+        requires few { (0 < extent.seats) × (extent.seats ≤ 64) × (extent.jobs ≤ 2 ^ 40) }
+        ensures { IfOk result (λ r. (r.0 ≡ layout r.0.table extent.jobs extent.seats) × (r.1.items ≡ unused_seats r.0 extent.seats)) }
+    {
+        let Extent { jobs, seats } = extent;
+        let (table, mut token) = make_table(alloc, extent)?;
+        let mut all = Vec::new(alloc);
+        for number in 0..seats - 1 {
+            let next = table.shared.split_seat::<Seating>(&mut token);
+            all.push(Seat::new(number, jobs, seats, next))?;
+        }
+        all.push(Seat::new(seats - 1, jobs, seats, token))?;
+        Ok((Board { table }, all))
+    }
+
+    /// The next job, which no other seat draws: one of the seat's own share until that is seen empty, and then of the next shares in turn, round all.
+    ///
+    /// There is none once the seat has seen each share empty. It takes no memory and waits for nobody.
+    pub fn draw(&self, seat: &mut Seat) -> Option<Job>
+        requires board { seat.old.board ≡ self.now }
+        ensures job { IfSome result (λ x. DrawsJob seat.old x seat.new) }
+        ensures unspent { IfSome result (λ x. IsUnspent seat.new x) }
+        ensures none { IfNone result (DrawsNone seat.old seat.new) }
+        ensures few { length seat.new.drawn ≤ seat.new.board.jobs }
+    {
+        while seat.passed < seat.seats {
+            if let Some(number) = self.claim(&mut seat.token, seat.share) {
+                return Some(Job::new(number));
+            }
+            seat.passed += 1;
+            let share = (seat.number + seat.passed) % seat.seats;
+            seat.share = Share::of(seat.jobs, seat.seats, share);
+        }
+        None
+    }
+
+    /// Spends a job that was done. It makes no step on what the seats share.
+    pub fn done(&self, seat: &mut Seat, job: Job)
+        requires board { seat.old.board ≡ self.now }
+        requires unspent { IsUnspent seat.old job }
+        ensures { seat.new ≡ after_done seat.old job }
+    {
+        seat.trail = Trail::with(&seat.trail, &job);
+        job.spend();
+        seat.done += 1;
+    }
+
+    /// Spends a job that failed, and settles it: the least job settled is what `least_fault` and `skip` see.
+    pub fn fail(&self, seat: &mut Seat, job: Job)
+        requires board { seat.old.board ≡ self.now }
+        requires unspent { IsUnspent seat.old job }
+        ensures { seat.new ≡ after_fail seat.old job }
+    {
+        let number = job.spend();
+        self.table
+            .shared
+            .fetch_min::<Settle>(&mut seat.token, FAULT, number);
+        seat.failed += 1;
+    }
+
+    /// The least job that has failed by now at any seat, where one has.
+    pub fn least_fault(&self, seat: &mut Seat) -> Option<u64>
+        requires board { seat.old.board ≡ self.now }
+        ensures look { seat.new ≡ after_look seat.old (fault_word result) }
+        ensures least { (x : ℕ) → 0 < times x seat.old.failed + times x seat.old.looked → fault_word result ≤ x }
+        ensures some { IfSome result (λ y. y ≢ no_fault) }
+        ensures none { IfNone result ((seat.old.failed ≡ []) × ((x : ℕ) → 0 < times x seat.old.looked → x ≡ no_fault)) }
+    {
+        fault_at(self.look(&mut seat.token))
+    }
+
+    /// Spends a job that lies above one that has failed. Any other comes back.
+    pub fn skip(&self, seat: &mut Seat, job: Job) -> Option<Job>
+        requires board { seat.old.board ≡ self.now }
+        requires unspent { IsUnspent seat.old job }
+        ensures none { IfNone result ((y : ℕ) × (y < job) × (seat.new ≡ after_skip (after_look seat.old y) job)) }
+        ensures some { IfSome result (λ j. (j ≡ job) × ((y : ℕ) × (job ≤ y) × (seat.new ≡ after_look seat.old y))) }
+    {
+        let number = job.number();
+        let found = self.look_for::<Brand>(&mut seat.token, number);
+        if found < number {
+            job.spend();
+            seat.skipped += 1;
+            None
+        } else {
+            Some(job)
+        }
+    }
+
+    /// Ends the board, and counts what was done at these seats together. With all seats of the board, `least` is the least job that failed.
+    pub fn close(self, mut seats: Vec<Seat>) -> Tally
+        requires boards { All (λ p. p.board ≡ self) seats.items }
+        ensures counts { CountsOf seats.items result }
+        ensures spent { All HasSpentAll seats.items → (x : ℕ) → times_spent x seats.items ≡ times x (all_drawn seats.items) }
+        ensures all { vec_len seats ≡ self.seats → IsClosed self seats.items result.least }
+    {
+        let Some(first) = seats.pop() else {
+            seats.destroy_empty();
+            return Tally {
+                done: 0,
+                failed: 0,
+                skipped: 0,
+                least: None,
+            };
+        };
+        let mut gathered = Gathered::of(first);
+        while let Some(seat) = seats.pop() {
+            self.gather(&mut gathered, seat);
+        }
+        seats.destroy_empty();
+        let Gathered {
+            token,
+            done,
+            failed,
+            skipped,
+        } = gathered;
+        Tally {
+            done,
+            failed,
+            skipped,
+            least: fault_at(self.last_fault(token)),
+        }
+    }
+
+    // Takes in one seat more.
+    fn gather(&self, gathered: &mut Gathered, seat: Seat)
+        requires board { (layout gathered.old.token.table_id gathered.old.token.me.0.jobs gathered.old.token.me.0.seats ≡ self.now) × (seat.board ≡ self.now) }
+        requires seats { 0 < gathered.old.token.me.0.parts }
+        ensures { (ps : List Progress) → Gathers self.now gathered.old ps → Gathers self.now gathered.new (seat ∷ ps) }
+    {
+        let Seat {
+            number: _,
+            passed: _,
+            share: _,
+            jobs: _,
+            seats: _,
+            done,
+            failed,
+            skipped,
+            trail: _,
+            token,
+        } = seat;
+        self.table
+            .shared
+            .join_seat::<Gathering>(&mut gathered.token, token);
+        gathered.done = gathered.done.saturating_add(done);
+        gathered.failed = gathered.failed.saturating_add(failed);
+        gathered.skipped = gathered.skipped.saturating_add(skipped);
+    }
+
+    // The fault word at the end.
+    fn last_fault(self, token: Token<(), SeatView>) -> u64
+        requires board { layout token.table_id token.me.0.jobs token.me.0.seats ≡ self }
+        requires seats { 0 < token.me.0.parts }
+        ensures once { (x : ℕ) → times x token.me.0.drawn ≤ once_below x token.me.0.jobs }
+        ensures few { token.me.0.jobs ≤ 2 ^ 40 }
+        ensures whole { token.me.0.parts ≡ token.me.0.seats → IsWhole token.me.0 result }
+    {
+        let Board { table } = self;
+        let closed = table.close_with(token);
+        let fault = closed.word(FAULT);
+        closed.free();
+        fault
+    }
+
+    // The fault word.
+    fn look(&self, token: &mut Token<(), SeatView>) -> u64
+        requires board { token.old.table_id ≡ self.now.table }
+        requires seats { 0 < token.old.me.0.parts }
+        ensures token { (token.new.table_id ≡ token.old.table_id) × (token.new.me.1 ≡ token.old.me.1) }
+        ensures looks { Looks token.old.me.0 result token.new.me.0 }
+    {
+        self.table.shared.load::<Look>(token, FAULT)
+    }
+
+    // The fault word, looked at on behalf of a job, which is noted as skipped where it lies above.
+    fn look_for<J: Skipping>(&self, token: &mut Token<(), SeatView>, number: u64) -> u64
+        requires board { token.old.table_id ≡ self.now.table }
+        requires seats { 0 < token.old.me.0.parts }
+        requires job { number ≡ J.job }
+        ensures token { (token.new.table_id ≡ token.old.table_id) × (token.new.me.1 ≡ token.old.me.1) }
+        ensures looks { token.new.me.0 ≡ has_looked_for token.old.me.0 number result }
+    {
+        self.table.shared.load::<Skip<J>>(token, FAULT)
+    }
+
+    // One claim of a share that was not seen empty.
+    fn claim(&self, token: &mut Token<(), SeatView>, share: Share) -> Option<u64>
+        requires board { token.old.table_id ≡ self.now.table }
+        requires few { (token.old.me.0.seats ≤ 64) × (token.old.me.0.jobs ≤ 2 ^ 40) }
+        requires share { IsShare token.old.me.0.jobs token.old.me.0.seats share.number share }
+        requires left { (share.number < token.old.me.0.seats) × (times share.number token.old.me.0.empty < token.old.me.0.parts) }
+        ensures token { (token.new.table_id ≡ token.old.table_id) × (token.new.me.1 ≡ token.old.me.1) }
+        ensures number { IfSome result (λ x. (token.new.me.0 ≡ drew token.old.me.0 x) × IsInShare token.old.me.0.jobs token.old.me.0.seats share.number x) }
+        ensures new { IfSome result (λ x. (x < token.old.me.0.jobs) × (times x token.old.me.0.drawn ≡ 0)) }
+        ensures none { IfNone result (token.new.me.0 ≡ saw_empty token.old.me.0 share.number) }
+    {
+        let found = self
+            .table
+            .shared
+            .fetch_add::<Claim>(token, share.word as usize, 1);
+        if found < share.len {
+            Some(share.start + found)
+        } else {
+            None
+        }
+    }
+}
+
+// The least job that has failed, by the fault word.
+fn fault_at(word: u64) -> Option<u64>
+    ensures word { fault_word result ≡ word }
+    ensures some { IfSome result (λ y. y ≢ no_fault) }
+{
+    if word == NO_FAULT { None } else { Some(word) }
+}

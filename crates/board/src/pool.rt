@@ -1,0 +1,165 @@
+// All jobs of a labour, done by several workers.
+ghost use Rattle.std.specs.Prelude.{◌≡◌, ◌⊎◌, ◌↔◌, ◌<◌, ◌≤◌, ◌^◌, ℕ, List, [], ◌++◌, Option, None, Err, IfOk, IfErr, All, replicate, vec_len, vec_capacity};
+ghost use Rattle.coding.specs.declared.fault.Fault.{Fault};
+ghost use Rattle.board.specs.declared.pool.RunFault.{RunFault};
+ghost use Rattle.board.specs.Progress.{IsUnused};
+ghost use Rattle.board.specs.Running.{AreResults, IsShift, IsFiled, IsLeastFailed, IsRefused};
+
+use crate::board::Board;
+use crate::labour::{Gate, Labour};
+use crate::places::{place, take_all};
+use crate::seat::Seat;
+use crate::shift::Shift;
+use crate::worker::serve;
+use coding::{Fault, FaultName};
+use std::alloc::{AllocError, Global};
+use std::thread;
+use std::thread::Threads;
+
+/// Why a run has no results.
+#[derive(Clone, Copy, Debug, PartialEq, Eq)]
+pub enum RunFault {
+    /// The least job that failed, with its fault: `Memory`, or the one that the labour states of it.
+    Job { job: u64, fault: Fault },
+    /// The number of workers is outside 1 to 64.
+    Workers,
+    /// There was no room for the seats or the results.
+    Memory,
+}
+
+/// Does all jobs of the labour by 1 to 64 workers, and answers their results in order. There are at most 2^40 jobs.
+///
+/// Workers draw the jobs from one board, and skip those above a job that has failed. Each calls the gate around each job that it draws.
+/// Room for all results is there before a worker starts, and where a thread can't be started, workers follow each other.
+/// A worker that finds no room for a result fails that job with `Memory`.
+pub fn run<L: Labour + Sync, G: Gate + Sync, R: Threads + Sync>(
+    rt: &R,
+    alloc: Global,
+    labour: &L,
+    jobs: u64,
+    workers: u32,
+    gate: &G,
+) -> Result<Vec<L::Out>, RunFault>
+where
+    L::Out: Drop + Send,
+    requires { jobs ≤ 2 ^ 40 }
+    ensures ok { IfOk result (λ v. AreResults (L.refusal labour.now) (L.holds labour.now) jobs v.items) }
+    ensures workers { (result ≡ Err RunFault.Workers) ↔ ((workers ≡ 0) ⊎ (64 < workers)) }
+    ensures refused { (job : ℕ) (fault : Fault) → result ≡ Err (RunFault.Job job fault) → IsRefused (L.refusal labour.now) (L.holds labour.now) jobs job fault }
+{
+    let (board, seats) = match Board::new(alloc, jobs, workers) {
+        Ok(made) => made,
+        Err(fault) if fault.name == FaultName::Workers => return Err(RunFault::Workers),
+        Err(_) => return Err(RunFault::Memory),
+    };
+    match run_board(rt, alloc, labour, board, jobs, seats, gate) {
+        Ok(Ok(results)) => Ok(results),
+        Ok(Err((job, fault))) => Err(RunFault::Job { job, fault }),
+        Err(AllocError) => Err(RunFault::Memory),
+    }
+}
+
+// The results of all jobs, or the least job that failed.
+fn run_board<L: Labour + Sync, G: Gate + Sync, R: Threads + Sync>(
+    rt: &R,
+    alloc: Global,
+    labour: &L,
+    board: Board,
+    jobs: u64,
+    seats: Vec<Seat>,
+    gate: &G,
+) -> Result<Result<Vec<L::Out>, (u64, Fault)>, AllocError>
+where
+    L::Out: Drop + Send,
+    requires jobs { (board.jobs ≡ jobs) × (jobs ≤ 2 ^ 40) }
+    requires seats { All (IsUnused board) seats.items × (vec_len seats ≡ board.seats) × (0 < board.seats) }
+    ensures ok { IfOk result (λ o. IfOk o (λ v. AreResults (L.refusal labour.now) (L.holds labour.now) jobs v.items)) }
+    ensures refused { IfOk result (λ o. IfErr o (λ r. IsRefused (L.refusal labour.now) (L.holds labour.now) jobs r.0 r.1)) }
+{
+    let mut places = no_results(alloc, jobs as usize)?;
+    let results = Vec::with_capacity(alloc, jobs as usize)?;
+    let mut back = Vec::with_capacity(alloc, seats.len())?;
+    let shifts = work_all(rt, alloc, &board, labour, gate, seats)?;
+    let refused = file_all(labour, &board, shifts, &mut places, &mut back);
+    let _tally = board.close(back);
+    match refused {
+        Some(refused) => Ok(Err(refused)),
+        None => Ok(Ok(take_all(labour, places, results))),
+    }
+}
+
+// A place for each result.
+fn no_results<T: Drop>(alloc: Global, count: usize) -> Result<Vec<Option<T>>, AllocError>
+    ensures { IfOk result (λ v. v.items ≡ replicate count None) }
+{
+    let mut places = Vec::with_capacity(alloc, count)?;
+    while places.len() < count {
+        places.push_reserved(None);
+    }
+    Ok(places)
+}
+
+// Files what came back of each worker.
+fn file_all<L: Labour>(
+    labour: &L,
+    board: &Board,
+    mut shifts: Vec<Shift<L::Out>>,
+    places: &mut Vec<Option<L::Out>>,
+    seats: &mut Vec<Seat>,
+) -> Option<(u64, Fault)>
+where
+    L::Out: Drop,
+    requires shifts { All (IsShift (L.refusal labour.now) (L.holds labour.now) board.now) shifts.items }
+    requires places { IsFiled (L.refusal labour.now) (L.holds labour.now) board.now seats.old.items places.old.items None }
+    requires room { (seats.old.items ≡ []) × (vec_len shifts ≤ vec_capacity seats.old) }
+    ensures filed { IsFiled (L.refusal labour.now) (L.holds labour.now) board.now seats.new.items places.new.items result }
+    ensures len { vec_len seats.new ≡ vec_len shifts }
+{
+    let mut refused = None;
+    while let Some(shift) = shifts.pop() {
+        let Shift {
+            seat,
+            results,
+            refused: least,
+        } = shift;
+        place(labour, places, results);
+        refused = least_of(refused, least);
+        seats.push_reserved(seat);
+    }
+    shifts.destroy_empty();
+    refused
+}
+
+// The lesser of two jobs that failed, each the least of some.
+fn least_of(one: Option<(u64, Fault)>, other: Option<(u64, Fault)>) -> Option<(u64, Fault)>
+    ensures { (refusal : ℕ → Option Fault) (xs ys : List ℕ) → IsLeastFailed refusal xs one → IsLeastFailed refusal ys other → IsLeastFailed refusal (xs ++ ys) result }
+{
+    let Some((job, fault)) = one else {
+        return other;
+    };
+    let Some((next, reason)) = other else {
+        return Some((job, fault));
+    };
+    if job <= next {
+        return Some((job, fault));
+    }
+    Some((next, reason))
+}
+
+// Each seat is given to a worker.
+fn work_all<L: Labour + Sync, G: Gate + Sync, R: Threads + Sync>(
+    rt: &R,
+    alloc: Global,
+    board: &Board,
+    labour: &L,
+    gate: &G,
+    seats: Vec<Seat>,
+) -> Result<Vec<Shift<L::Out>>, AllocError>
+where
+    L::Out: Drop + Send,
+    requires { All (IsUnused board.now) seats.items }
+    ensures shifts { IfOk result (λ v. All (IsShift (L.refusal labour.now) (L.holds labour.now) board.now) v.items) }
+    ensures len { IfOk result (λ v. vec_len v ≡ vec_len seats) }
+{
+    thread::map_vec(rt, seats, &|seat| serve(board, labour, gate, alloc, seat))
+}

@@ -1,0 +1,106 @@
+// What the seats share: 64 claim words, of which each share has one, and behind them the fault word. What a seat has done is its view.
+ghost use Rattle.std.specs.Prelude.{ℕ};
+
+use atomic_table::{Join, Play, Split, TableRule};
+use std::collections::LinkedList;
+use std::marker::{Brand, PhantomData};
+
+// What a seat has done, or several that stand together as `parts`. No value of it is made.
+pub struct SeatView {
+    pub parts: u64,
+    pub jobs: u64,
+    pub seats: u64,
+    pub drawn: LinkedList<u64>,
+    pub empty: LinkedList<u64>,
+    pub failed: LinkedList<u64>,
+    pub looked: LinkedList<u64>,
+    pub skipped: LinkedList<u64>,
+}
+
+// How many jobs and seats a board has.
+#[derive(Clone, Copy)]
+pub struct Extent {
+    pub jobs: u64,
+    pub seats: u64,
+}
+
+// The rule that ties the words to the views.
+pub struct ByShares;
+
+impl TableRule<(), SeatView, Extent> for ByShares {
+    ghost use Rattle.board.specs.Rule.{Kept, fresh};
+
+    ghost holds = { Kept };
+
+    ghost first = { λ e. fresh e.seats e.jobs e.seats };
+}
+
+// A claim draws one number more of a share, or sees the share empty.
+pub struct Claim;
+
+impl Play<(), SeatView> for Claim {
+    ghost use Rattle.board.specs.Rule.{Claimed};
+
+    ghost then = { Claimed };
+}
+
+// A number is failed.
+pub struct Settle;
+
+impl Play<(), SeatView> for Settle {
+    ghost use Rattle.board.specs.Rule.{Settled};
+
+    ghost then = { Settled };
+}
+
+// The fault word is looked at.
+pub struct Look;
+
+impl Play<(), SeatView> for Look {
+    ghost use Rattle.board.specs.Rule.{Looked};
+
+    ghost then = { Looked };
+}
+
+// Names the job that a seat would skip. Each call picks it.
+pub trait Skipping {
+    ghost job: { ℕ };
+}
+
+impl Skipping for Brand {
+    ghost job = { 0 };
+}
+
+// The fault word is looked at, and a job above it is skipped.
+pub struct Skip<J> {
+    of: PhantomData<J>,
+}
+
+impl<J: Skipping> Play<(), SeatView> for Skip<J> {
+    ghost use Rattle.board.specs.Rule.{Skipped};
+
+    ghost then = { Skipped J.job };
+}
+
+// The first seat is cut from a view of several that have done nothing.
+pub struct Seating;
+
+impl Split<SeatView> for Seating {
+    ghost use Rattle.std.specs.Prelude.{◌-◌};
+    ghost use Rattle.board.specs.Rule.{fresh};
+
+    ghost left = { λ v. fresh (v.parts - 1) v.jobs v.seats };
+
+    ghost right = { λ v. fresh 1 v.jobs v.seats };
+}
+
+// Two views are put together, and the second is spent.
+pub struct Gathering;
+
+impl Join<SeatView> for Gathering {
+    ghost use Rattle.board.specs.Rule.{gathered, fresh};
+
+    ghost both = { gathered };
+
+    ghost spent = { fresh 0 0 0 };
+}

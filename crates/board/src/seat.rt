@@ -1,0 +1,67 @@
+// A seat at a board.
+ghost use Rattle.std.specs.Prelude.{◌≡◌, ◌<◌, ◌≤◌, ◌^◌, []};
+ghost use Rattle.board.specs.Rule.{fresh};
+
+use crate::rule::SeatView;
+use crate::share::Share;
+use crate::trail::Trail;
+use atomic_table::Seat as Token;
+use std::marker::Model;
+
+/// A place at a board, which one thread at a time draws from. Contracts see what was done at it.
+// So many shares as `passed` were seen empty, and `share` is the next one in turn.
+#[derive(Drop)]
+pub struct Seat {
+    pub(crate) number: u64,
+    pub(crate) passed: u64,
+    pub(crate) share: Share,
+    pub(crate) jobs: u64,
+    pub(crate) seats: u64,
+    pub(crate) done: u64,
+    pub(crate) failed: u64,
+    pub(crate) skipped: u64,
+    pub(crate) trail: Trail,
+    pub(crate) token: Token<(), SeatView>,
+}
+
+impl Model for Seat {
+    ghost use Rattle.board.specs.Progress.{Progress, progress_of, share_in_turn, IsSeated, IsCounted, IsShare};
+
+    ghost Value = { Progress };
+
+    ghost view = { λ s. progress_of s.token.table_id s.number s.token.me.0 s.trail.items };
+
+    ghost invariant = { λ s. IsSeated s.number s.passed s.jobs s.seats s.token.me × IsCounted s.token.me.0 s.trail.items s.done s.failed s.skipped × IsShare s.jobs s.seats (share_in_turn s.seats s.number s.passed) s.share };
+}
+
+impl Seat {
+    ghost use Rattle.board.specs.Progress.{layout, unused};
+
+    // The seat of this number, which has done nothing.
+    pub(crate) fn new(number: u64, jobs: u64, seats: u64, token: Token<(), SeatView>) -> Seat
+        requires view { token.me ≡ (fresh 1 jobs seats, []) }
+        requires number { number < seats }
+        requires few { (seats ≤ 64) × (jobs ≤ 2 ^ 40) }
+        ensures { result ≡ unused (layout token.table_id jobs seats) number }
+    {
+        Seat {
+            number,
+            passed: 0,
+            share: Share::of(jobs, seats, number),
+            jobs,
+            seats,
+            done: 0,
+            failed: 0,
+            skipped: 0,
+            trail: Trail::new(),
+            token,
+        }
+    }
+
+    /// The seat's number, from 0 on.
+    pub fn number(&self) -> u32
+        ensures { result ≡ self.now.number }
+    {
+        self.number as u32
+    }
+}

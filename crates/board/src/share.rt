@@ -1,0 +1,48 @@
+// A share of a board's jobs, as a seat claims from it.
+ghost use Rattle.std.specs.Prelude.{◌≡◌, ◌<◌, ◌≤◌, ◌^◌};
+ghost use Rattle.board.specs.Shares.{start, word_of};
+ghost use Rattle.board.specs.Progress.{IsShare};
+
+// What a claim needs, worked out once for each share that a seat comes to.
+#[derive(Clone, Copy)]
+pub struct Share {
+    pub number: u64,
+    pub word: u64,
+    pub start: u64,
+    pub len: u64,
+}
+
+impl Share {
+    // Share `number` of `seats`.
+    pub(crate) fn of(jobs: u64, seats: u64, number: u64) -> Share
+        requires few { (number < seats) × (seats ≤ 64) × (jobs ≤ 2 ^ 40) }
+        ensures { IsShare jobs seats number result }
+    {
+        let start = first_of(jobs, seats, number);
+        Share {
+            number,
+            word: word_of(seats, number),
+            start,
+            len: first_of(jobs, seats, number + 1) - start,
+        }
+    }
+}
+
+// The claim word of a share. Those in use are spread over all 64, so that seats on two processors seldom write next to one another.
+fn word_of(seats: u64, share: u64) -> u64
+    requires { (share < seats) × (seats ≤ 64) }
+    ensures value { result ≡ word_of seats share }
+    ensures within { result < 64 }
+{
+    share * (64 / seats)
+}
+
+// The first number of a share, and, of the share after the last one, the number of jobs.
+fn first_of(jobs: u64, seats: u64, share: u64) -> u64
+    requires few { (0 < seats) × (seats ≤ 64) × (jobs ≤ 2 ^ 40) }
+    requires share { share ≤ seats }
+    ensures value { result ≡ start jobs seats share }
+    ensures within { result ≤ jobs }
+{
+    share * jobs / seats
+}

@@ -1,0 +1,12 @@
+/// What was done at the seats of a board that was closed.
+#[derive(Clone, Copy, Debug, PartialEq, Eq)]
+pub struct Tally {
+    /// How many jobs were done.
+    pub done: u64,
+    /// How many failed.
+    pub failed: u64,
+    /// How many were skipped.
+    pub skipped: u64,
+    /// The least job that failed, where one did.
+    pub least: Option<u64>,
+}

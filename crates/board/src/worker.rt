@@ -1,0 +1,118 @@
+// What a worker does.
+ghost use Rattle.std.specs.Prelude.{◌≡◌, ℕ, List, [], ◌∷◌, ◌++◌, Option};
+ghost use Rattle.coding.specs.declared.fault.Fault.{Fault};
+ghost use Rattle.board.specs.Progress.{IsUnspent, IsUnused};
+ghost use Rattle.board.specs.Running.{IsWorking, IsShift, IsLeastFailed, IsFaultOf};
+
+use crate::board::Board;
+use crate::job::Job;
+use crate::labour::{Gate, Labour};
+use crate::seat::Seat;
+use crate::shift::Shift;
+use coding::{Fault, FaultName};
+use std::alloc::Global;
+
+/// Draws jobs until there is none, and does them.
+pub(crate) fn serve<L: Labour, G: Gate>(
+    board: &Board,
+    labour: &L,
+    gate: &G,
+    alloc: Global,
+    seat: Seat,
+) -> Shift<L::Out>
+where
+    L::Out: Drop,
+    requires { IsUnused board.now seat }
+    ensures { IsShift (L.refusal labour.now) (L.holds labour.now) board.now result }
+{
+    let mut shift = Shift {
+        seat,
+        results: Vec::new(alloc),
+        refused: None,
+    };
+    while let Some(job) = board.draw(&mut shift.seat) {
+        serve_job(board, labour, gate, &mut shift, job);
+    }
+    shift
+}
+
+// Does one job between the gate's calls.
+fn serve_job<L: Labour, G: Gate>(
+    board: &Board,
+    labour: &L,
+    gate: &G,
+    shift: &mut Shift<L::Out>,
+    job: Job,
+)
+where
+    L::Out: Drop,
+    requires works { IsWorking (L.refusal labour.now) (L.holds labour.now) board.now (job ∷ []) shift.old }
+    requires unspent { IsUnspent shift.old.seat job }
+    ensures works { IsWorking (L.refusal labour.now) (L.holds labour.now) board.now [] shift.new }
+    ensures drawn { (shift.new.seat.drawn ≡ shift.old.seat.drawn) × (shift.new.seat.empty ≡ shift.old.seat.empty) }
+{
+    let number = job.number();
+    let seat = shift.seat.number();
+    gate.pass(seat, number);
+    do_job(board, labour, shift, job);
+    gate.left(seat, number);
+}
+
+// Does one job, unless it is skipped.
+fn do_job<L: Labour>(board: &Board, labour: &L, shift: &mut Shift<L::Out>, job: Job)
+where
+    L::Out: Drop,
+    requires works { IsWorking (L.refusal labour.now) (L.holds labour.now) board.now (job ∷ []) shift.old }
+    requires unspent { IsUnspent shift.old.seat job }
+    ensures works { IsWorking (L.refusal labour.now) (L.holds labour.now) board.now [] shift.new }
+    ensures drawn { (shift.new.seat.drawn ≡ shift.old.seat.drawn) × (shift.new.seat.empty ≡ shift.old.seat.empty) }
+{
+    let Some(job) = board.skip(&mut shift.seat, job) else {
+        return;
+    };
+    let number = job.number();
+    let out = match labour.work(number) {
+        Ok(out) => out,
+        Err(fault) => {
+            refuse(board, labour, shift, job, fault);
+            return;
+        }
+    };
+    let Ok(()) = shift.results.push((number, out)) else {
+        refuse(board, labour, shift, job, Fault::of(FaultName::Memory));
+        return;
+    };
+    board.done(&mut shift.seat, job);
+}
+
+// A job is refused.
+fn refuse<L: Labour>(board: &Board, labour: &L, shift: &mut Shift<L::Out>, job: Job, fault: Fault)
+where
+    L::Out: Drop,
+    requires works { IsWorking (L.refusal labour.now) (L.holds labour.now) board.now (job ∷ []) shift.old }
+    requires unspent { IsUnspent shift.old.seat job }
+    requires fault { IsFaultOf (L.refusal labour.now) job fault }
+    ensures works { IsWorking (L.refusal labour.now) (L.holds labour.now) board.now [] shift.new }
+    ensures drawn { (shift.new.seat.drawn ≡ shift.old.seat.drawn) × (shift.new.seat.empty ≡ shift.old.seat.empty) }
+{
+    let _ = labour;
+    shift.refused = lesser(shift.refused, job.number(), fault);
+    board.fail(&mut shift.seat, job);
+}
+
+// The fault of the lesser of two jobs that were refused.
+pub(crate) fn lesser(
+    refused: Option<(u64, Fault)>,
+    number: u64,
+    fault: Fault,
+) -> Option<(u64, Fault)>
+    ensures { (refusal : ℕ → Option Fault) (failed : List ℕ) → IsLeastFailed refusal failed refused → IsFaultOf refusal number fault → IsLeastFailed refusal (failed ++ number ∷ []) result }
+{
+    let Some((least, first)) = refused else {
+        return Some((number, fault));
+    };
+    if least <= number {
+        return Some((least, first));
+    }
+    Some((number, fault))
+}

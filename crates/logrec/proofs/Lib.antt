@@ -1,0 +1,5 @@
+pub mod Bytes
+pub mod Pieces
+pub mod Lefts
+pub mod Logs
+pub mod Loops

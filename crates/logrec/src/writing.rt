@@ -1,0 +1,68 @@
+//! Writing a record at a log's end.
+
+ghost use Rattle.std.specs.Prelude.{◌≡◌, ◌≤◌, ◌++◌, true, length, IfOk, OnOk, OnErr, IsOkUnless};
+ghost use Rattle.coding.specs.Answers.{fault};
+ghost use Rattle.coding.specs.declared.fault.FaultName.TheVariants.{Memory};
+ghost use Rattle.logrec.specs.Log.{fragment, fragments, written};
+
+use crate::format::{HEADER_LEN, MAX_CONTENT_LEN, ZEROS, checksum, room_at, type_of, zeros_len};
+use coding::Fault;
+use std::alloc::Global;
+
+/// The log `old` with the record at its end: `old` and what is written at its length.
+///
+/// `old` is taken as it is; only its length counts. Refused only for want of memory; memory for the whole
+/// log is asked for once.
+pub fn append(alloc: Global, old: &[u8], record: &[u8]) -> Result<Vec<u8>, Fault>
+    ensures ok { IfOk result (λ v. v.items ≡ old.now ++ written (length old.now) «record».now) }
+    ensures memory { IsOkUnless result (fault Memory) }
+{
+    let zeros = zeros_len(old.len());
+    let room = room_at(old.len());
+    let mut log = Vec::with_capacity(alloc, grown_len(old.len(), room, record.len()))?;
+    log.extend_from_slice(old)?;
+    log.extend_from_slice(&ZEROS[..zeros])?;
+    push_fragments(&mut log, room, record)?;
+    Ok(log)
+}
+
+/// No less than the bytes of a log after a record, where that is a `usize`.
+fn grown_len(old: usize, room: usize, record: usize) -> usize {
+    let headers = 2 + record.saturating_sub(room) / MAX_CONTENT_LEN;
+    old.saturating_add(record)
+        .saturating_add(headers * HEADER_LEN)
+        .saturating_add(ZEROS.len())
+}
+
+/// Appends the fragments of a record of which the first has this room.
+fn push_fragments(log: &mut Vec<u8>, room: usize, record: &[u8]) -> Result<(), Fault>
+    requires { room ≤ 32761 }
+    ensures ok { OnOk result (log.new.items ≡ log.old.items ++ fragments (length «record».now) true room «record».now) }
+    ensures memory { IsOkUnless result (fault Memory) }
+{
+    let mut begins = true;
+    let mut room = room;
+    let mut left = record;
+    while left.len() > room {
+        let (content, behind) = left.split_at(room);
+        push_fragment(log, type_of(begins, false), content)?;
+        begins = false;
+        room = MAX_CONTENT_LEN;
+        left = behind;
+    }
+    push_fragment(log, type_of(begins, true), left)
+}
+
+/// Appends one fragment.
+#[tactic(auto, unfolding(crate::specs::Log::fragment))]
+fn push_fragment(log: &mut Vec<u8>, kind: u8, content: &[u8]) -> Result<(), Fault>
+    requires { length content.now ≤ 32761 }
+    ensures ok { OnOk result (log.new.items ≡ log.old.items ++ fragment kind content.now) }
+    ensures memory { IsOkUnless result (fault Memory) }
+{
+    log.extend_from_slice(&checksum(kind, content).to_le_bytes())?;
+    log.extend_from_slice(&(content.len() as u16).to_le_bytes())?;
+    log.push(kind)?;
+    log.extend_from_slice(content)?;
+    Ok(())
+}

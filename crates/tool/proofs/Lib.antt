@@ -1,5 +1,7 @@
 mod TestedLists
 mod Unions
+mod Repeats
+mod Answering
 mod DigitLemmas
 mod LineLemmas
 mod TextLemmas

@@ -1,4 +1,5 @@
 pub mod Union
+pub mod Repeats
 pub mod Testing
 pub mod Merging
 pub mod Ranges

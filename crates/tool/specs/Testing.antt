@@ -1,5 +1,5 @@
 -- The tests of the entries of a file of block contents, in order, and the first that fails.
-use Rattle.std.specs.Prelude.{◌≡◌, ℕ, nat_lt, Bool, true, if◌then◌else◌, List, [], ◌∷◌, length, Option, Some, None, Result, Ok, Err}
+use Rattle.std.specs.Prelude.{ℕ, nat_lt, Bool, true, if◌then◌else◌, List, [], ◌∷◌, length, Option, Some, None, Result, Ok, Err}
 use Rattle.std.specs.Ordering.{is_lt}
 use Rattle.coding.specs.Answers.{fault}
 use Rattle.coding.specs.declared.fault.Fault.{Fault}

@@ -1,7 +1,9 @@
 //! The cut of a file's entries at a user key.
 
-ghost use Rattle.std.specs.Prelude.{◌≡◌, ◌++◌, ◌↔◌, ℕ, ◌<◌, ◌≤◌, length, IsTrue, IfOk, slice_index_or};
+ghost use Rattle.std.specs.Prelude.{◌≡◌, ◌++◌, ◌↔◌, ℕ, ◌<◌, ◌≤◌, length, IsTrue, IfOk, IfErr, slice_index_or};
 ghost use Rattle.std.specs.List.{AllByRecursion};
+ghost use Rattle.coding.specs.Answers.{fault};
+ghost use Rattle.coding.specs.declared.fault.FaultName.TheVariants.{Memory};
 ghost use Rattle.ikey.specs.Bytewise.{bytewise_cmp};
 ghost use Rattle.ikey.specs.Order.{internal_cmp};
 ghost use Rattle.tool.specs.Merging.{entry_of, entries_of};
@@ -43,6 +45,7 @@ pub(crate) fn split_off_at<'a>(
     ensures parts { IfOk result (λ from. entries_of entries.old.items ≡ entries_of entries.new.items ++ entries_of from.items) }
     ensures before { IfOk result (λ _. AllByRecursion (IsBefore at.now) (entries_of entries.new.items)) }
     ensures from { IsRising (internal_cmp bytewise_cmp) (entries_of entries.old.items) → IfOk result (λ from. AllByRecursion (IsFrom at.now) (entries_of from.items)) }
+    ensures memory { IfErr result (λ e. e ≡ fault Memory) }
 {
     let place = first_from(entries, at);
     Ok(entries.split_off(place)?)

@@ -1,10 +1,12 @@
 //! The merge of two files over ranges of user keys.
 
-ghost use Rattle.std.specs.Prelude.{◌≡◌, ◌<◌, ◌++◌, ◌∷◌, [], drop, ◌⊎◌, MatchOption, IfOk, IsTrue, ◌↔◌};
+ghost use Rattle.std.specs.Prelude.{◌≡◌, ◌++◌, [], drop, ◌⊎◌, MatchBool, MatchOption, IfOk, IfErr, IsTrue, ◌↔◌};
 ghost use Rattle.std.specs.List.Sorted.{IsPermutation};
 ghost use Rattle.ikey.specs.Bytewise.{bytewise_cmp};
-ghost use Rattle.std.specs.VecDeque.{deque_len};
+ghost use Rattle.coding.specs.Answers.{UnlessMemory, fault};
+ghost use Rattle.coding.specs.declared.fault.FaultName.TheVariants.{Duplicate};
 ghost use Rattle.tool.specs.Merging.{IsRunOfFirst, entries_of};
+ghost use Rattle.tool.specs.Repeats.{HasFirstRepeat, HasRepeat, IsFirst, IsFirstOrdered, IsOrdered, Takes};
 ghost use Rattle.tool.specs.Union.{IsBehind, IsRising, version_cmp};
 
 use crate::range::Range;
@@ -23,13 +25,13 @@ fn version_order(x: &TestedEntry<'_>, y: &TestedEntry<'_>) -> Ordering
     Bytewise::compare(x.user(), y.user()).then(y.sequence().cmp(&x.sequence()))
 }
 
-/// Whether the first entry of the second list comes before that of the first.
+/// Whether the first entry of the second list comes before that of the first, or the first list has none.
 fn is_second(a: &VecDeque<TestedEntry<'_>>, b: &VecDeque<TestedEntry<'_>>) -> bool
-    ensures { IsTrue result → 0 < deque_len b.now }
+    ensures { MatchBool result (IsFirst (entries_of b.now.items) (entries_of a.now.items)) (IsFirst (entries_of a.now.items) (entries_of b.now.items)) }
 {
     match (a.front(), b.front()) {
         (Some(x), Some(y)) => version_order(y, x).is_lt(),
-        (None, Some(_)) => true,
+        (None, _) => true,
         (_, None) => false,
     }
 }
@@ -40,10 +42,9 @@ fn pop_first<'a>(
     b: &mut VecDeque<TestedEntry<'a>>,
 ) -> Option<TestedEntry<'a>>
     ensures { MatchOption result ((a.old.items ≡ []) × (b.old.items ≡ []))
-        (λ entry. ((a.old.items ≡ entry ∷ a.new.items) × (b.new.items ≡ b.old.items))
-        ⊎ ((b.old.items ≡ entry ∷ b.new.items) × (a.new.items ≡ a.old.items))) }
+        (λ entry. Takes a.old.items a.new.items b.old.items b.new.items entry ⊎ Takes b.old.items b.new.items a.old.items a.new.items entry) }
 {
-    if a.is_empty() || is_second(a, b) {
+    if is_second(a, b) {
         b.pop_front()
     } else {
         a.pop_front()
@@ -66,8 +67,11 @@ fn merged<'a>(
     mut a: VecDeque<TestedEntry<'a>>,
     mut b: VecDeque<TestedEntry<'a>>,
 ) -> Result<VecDeque<TestedEntry<'a>>, Fault>
+    requires ordered_a { IsOrdered (entries_of a.items) }
+    requires ordered_b { IsOrdered (entries_of b.items) }
     ensures rising { IfOk result (λ run. IsRising (version_cmp bytewise_cmp) (entries_of run.items)) }
     ensures same { IfOk result (λ run. IsPermutation (entries_of a.entry.items ++ entries_of b.entry.items) (entries_of run.items)) }
+    ensures refused { IfErr result (λ e. UnlessMemory e.name ((e ≡ fault Duplicate) × HasRepeat (entries_of a.entry.items ++ entries_of b.entry.items))) }
 {
     let mut run: VecDeque<TestedEntry<'a>> = VecDeque::new(alloc);
     while let Some(entry) = pop_first(&mut a, &mut b) {
@@ -84,8 +88,10 @@ pub(crate) fn worked<'a>(
     alloc: Global,
     jobs: &mut VecDeque<Range<'a>>,
 ) -> Result<VecDeque<TestedEntry<'a>>, Fault>
+    requires { IsFirstOrdered jobs.old.items }
     ensures drawn { jobs.new.items ≡ drop 1 jobs.old.items }
     ensures run { IfOk result (λ run. IsRunOfFirst jobs.old.items (entries_of run.items)) }
+    ensures refused { IfErr result (λ e. UnlessMemory e.name ((e ≡ fault Duplicate) × HasFirstRepeat jobs.old.items)) }
 {
     match jobs.pop_front() {
         Some(range) => merged(alloc, range.a, range.b),

@@ -1,11 +1,11 @@
 //! The tests of a file of block contents.
 
-ghost use Rattle.std.specs.Prelude.{◌≡◌, List, Result, Ok, Err, IfOk, None};
+ghost use Rattle.std.specs.Prelude.{◌≡◌, IfOk, None};
 ghost use Rattle.std.specs.Option.{option_map};
 ghost use Rattle.std.specs.Result.{result_map_both};
-ghost use Rattle.block.specs.Piece.{Entry, IsBlock};
-ghost use Rattle.coding.specs.Answers.{Gives, fault};
-ghost use Rattle.coding.specs.declared.fault.FaultName.TheVariants.{Block};
+ghost use Rattle.block.specs.Piece.{IsBlock};
+ghost use Rattle.coding.specs.Answers.{Gives};
+ghost use Rattle.tool.specs.Blocks.{Answers, IsFileAnswer};
 ghost use Rattle.tool.specs.Merging.{entries_of};
 ghost use Rattle.ikey.specs.Bytewise.{bytewise_cmp};
 ghost use Rattle.ikey.specs.Order.{internal_cmp};
@@ -75,8 +75,7 @@ fn tested_all<'a>(
 pub(crate) fn tested(alloc: Global, bytes: &[u8]) -> Result<VecDeque<TestedEntry<'_>>, Fault>
     ensures found { IfOk result (λ v. IsBlock bytes.now (entries_of v.items)) }
     ensures rising { IfOk result (λ v. IsRising (internal_cmp bytewise_cmp) (entries_of v.items)) }
-    ensures tested { (entries : List Entry) → IsBlock bytes.now entries → Gives (λ v. entries_of v.items) result (tested_after None entries) }
-    ensures refused { ((entries : List Entry) → IsBlock bytes.now entries → ⊥) → Gives (λ v. entries_of v.items) result (Err (fault Block)) }
+    ensures answer { Answers (λ v. entries_of v.items) result (IsFileAnswer bytes.now) }
 {
     let block = check(bytes)?;
     tested_all(alloc, BlockCursor::new(alloc, &block)?)

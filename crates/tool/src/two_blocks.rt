@@ -1,10 +1,12 @@
 //! Two blocks into one.
 
-ghost use Rattle.std.specs.Prelude.{◌≡◌, ◌++◌, ℕ, ◌^◌, IfOk};
-ghost use Rattle.std.specs.List.Sorted.{IsPermutation};
+ghost use Rattle.std.specs.Prelude.{IfOk};
 ghost use Rattle.coding.specs.Answers.{Gives};
-ghost use Rattle.tool.specs.Blocks.{IsMerged, block_within};
+ghost use Rattle.tool.specs.Blocks.{Answers, IsBlocksAnswer, IsMerged, IsUnionAnswer, block_within};
+ghost use Rattle.ikey.specs.Bytewise.{bytewise_cmp};
+ghost use Rattle.ikey.specs.Order.{internal_cmp};
 ghost use Rattle.tool.specs.Merging.{entries_of};
+ghost use Rattle.tool.specs.Union.{IsRising};
 
 use crate::cut::split_off_at;
 use crate::merge::worked;
@@ -37,6 +39,34 @@ fn written(alloc: Global, mut entries: VecDeque<TestedEntry<'_>>) -> Result<Vec<
     builder.finish()
 }
 
+/// The union of two files, merged in two ranges of user keys, those before `at` and those from `at` on.
+///
+/// Refused as Duplicate where there is none.
+fn united<'a>(
+    alloc: Global,
+    mut a: VecDeque<TestedEntry<'a>>,
+    mut b: VecDeque<TestedEntry<'a>>,
+    at: &[u8],
+) -> Result<VecDeque<TestedEntry<'a>>, Fault>
+    requires rising_a { IsRising (internal_cmp bytewise_cmp) (entries_of a.items) }
+    requires rising_b { IsRising (internal_cmp bytewise_cmp) (entries_of b.items) }
+    ensures { Answers (λ v. entries_of v.items) result (IsUnionAnswer (entries_of a.entry.items) (entries_of b.entry.items)) }
+{
+    let from_a = split_off_at(&mut a, at)?;
+    let from_b = split_off_at(&mut b, at)?;
+    let mut jobs: VecDeque<Range<'a>> = VecDeque::new(alloc);
+    jobs.push_back(Range { a, b })?;
+    jobs.push_back(Range {
+        a: from_a,
+        b: from_b,
+    })?;
+    // Two seats, which are worked in turn: each draws a job, and their runs are joined in order.
+    let mut entries = worked(alloc, &mut jobs)?;
+    let mut behind = worked(alloc, &mut jobs)?;
+    entries.append(&mut behind)?;
+    Ok(entries)
+}
+
 /// The number of entries of two blocks together, and their block at interval 16.
 ///
 /// Each file is tested whole, the first before the second: Block where its bytes are no block; then each entry in
@@ -47,25 +77,12 @@ fn written(alloc: Global, mut entries: VecDeque<TestedEntry<'_>>) -> Result<Vec<
 /// The entries are merged in two ranges of user keys, those before `at` and those from `at` on, and the runs joined:
 /// the block doesn't depend on `at`.
 pub fn blocks(alloc: Global, a: &[u8], b: &[u8], at: &[u8]) -> Result<(u64, Vec<u8>), Fault>
+    ensures answer { Answers (λ r. (r.0, r.1.items)) result (IsBlocksAnswer a.now b.now) }
     ensures merged { IfOk result (λ r. IsMerged a.now b.now r.0 r.1.items) }
 {
-    let mut before_a = tested(alloc, a)?;
-    let mut before_b = tested(alloc, b)?;
-    let from_a = split_off_at(&mut before_a, at)?;
-    let from_b = split_off_at(&mut before_b, at)?;
-    let mut jobs: VecDeque<Range<'_>> = VecDeque::new(alloc);
-    jobs.push_back(Range {
-        a: before_a,
-        b: before_b,
-    })?;
-    jobs.push_back(Range {
-        a: from_a,
-        b: from_b,
-    })?;
-    // Two seats, which are worked in turn: each draws a job, and their runs are joined in order.
-    let mut entries = worked(alloc, &mut jobs)?;
-    let mut behind = worked(alloc, &mut jobs)?;
-    entries.append(&mut behind)?;
+    let entries_a = tested(alloc, a)?;
+    let entries_b = tested(alloc, b)?;
+    let entries = united(alloc, entries_a, entries_b, at)?;
     let count = entries.len() as u64;
     let block = written(alloc, entries)?;
     Ok((count, block))

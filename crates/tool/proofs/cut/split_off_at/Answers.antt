@@ -1,7 +1,6 @@
-use Rattle.std.proofs.Common.{◌≡◌, ◌++◌, List, take, drop, sym, ap, subst, ◌∙◌}
+use Rattle.std.proofs.Common.{◌++◌, List, take, drop, sym, ap, subst, ◌∙◌}
 use Rattle.std.specs.List.{AllByRecursion}
 use Rattle.std.proofs.lemmas.List.{take-append-drop, map-append}
-use Rattle.block.specs.Piece.{Entry}
 use Rattle.tool.specs.Merging.{entry_of, entries_of}
 use Rattle.tool.specs.Ranges.{IsBefore, IsFrom}
 use Rattle.tool.specs.declared.tested.TestedEntry.{TestedEntry}

@@ -1,48 +1,39 @@
-use Rattle.std.proofs.Common.{◌≡◌, ◌++◌, ◌∷◌, [], List, ℕ, length, drop, sym, ap, subst, ◌∙◌, arith}
-use Rattle.std.proofs.lemmas.List.{map-append, length-map}
-use Rattle.block.specs.Piece.{Entry}
-use Rattle.block.specs.Writing.{block}
-use Rattle.ikey.specs.Bytewise.{bytewise_cmp}
-use Rattle.tool.specs.Union.{IsUnion}
-use Rattle.tool.specs.Merging.{IsRunOfFirst, entry_of, entries_of}
-use Rattle.tool.specs.declared.range.Range.{Range}
-use Rattle.tool.specs.declared.tested.TestedEntry.{TestedEntry}
-use Rattle.tool.proofs.Unions.{Cut, block_of, union_of_runs}
+use Rattle.std.proofs.Common.{◌≡◌, Err, length, sym, subst, arith}
+use Rattle.std.proofs.lemmas.List.{length-map}
+use Rattle.std.proofs.lemmas.Result.{err_from_is_err_and}
+use Rattle.coding.specs.Answers.{UnlessMemory}
+use Rattle.coding.specs.declared.fault.Fault.{Fault}
+use Rattle.tool.specs.Blocks.{IsBlocksAnswer}
+use Rattle.tool.specs.Merging.{entry_of, entries_of}
+use Rattle.tool.proofs.Unions.{block_of}
+use Rattle.tool.proofs.Answering.{union_refused, block_refused, block_written}
 use Rattle.tool.proofs.two_blocks.blocks.Goals as goal
 
-pub returns : goal.returns
-returns c =
-    let joined : entries_of c.append.new.self.items ≡ entries_of c.in_ok-entries.entries.items ++ entries_of c.in_ok-behind.behind.items =
-    ap entries_of c.in_ok-append.ensures.items ∙ map-append entry_of c.in_ok-entries.entries.items c.in_ok-behind.behind.items in
-    let cut_a : Cut c.args.at.now (entries_of c.in_ok-before_a.before_a.items) (entries_of c.split_off_at.new.entries.items) (entries_of c.in_ok-from_a.from_a.items) = record {
-      parts = c.in_ok-from_a.ensures.parts;
-      before = c.in_ok-from_a.ensures.before;
-      from = c.in_ok-from_a.ensures.from c.in_ok-before_a.ensures.rising;
-    } in
-    let cut_b : Cut c.args.at.now (entries_of c.in_ok-before_b.before_b.items) (entries_of c.split_off_at-2.new.entries.items) (entries_of c.in_ok-from_b.from_b.items) = record {
-      parts = c.in_ok-from_b.ensures.parts;
-      before = c.in_ok-from_b.ensures.before;
-      from = c.in_ok-from_b.ensures.from c.in_ok-before_b.ensures.rising;
-    } in
-    let before : Range = record { a = c.split_off_at.new.entries; b = c.split_off_at-2.new.entries } in
-    let from : Range = record { a = c.in_ok-from_a.from_a; b = c.in_ok-from_b.from_b } in
-    let jobs : c.push_back-2.new.self.items ≡ before ∷ from ∷ [] =
-    c.in_ok-push_back-2.ensures.items ∙ ap (λ (rs : List Range). rs ++ from ∷ []) (c.in_ok-push_back.ensures.items ∙ ap (λ (rs : List Range). rs ++ before ∷ []) c.new-jobs.ensures.items) in
-    let first = subst (λ (rs : List Range). IsRunOfFirst rs (entries_of c.in_ok-entries.entries.items)) jobs c.in_ok-entries.ensures.run in
-    let left : c.worked.new.jobs.items ≡ from ∷ [] = c.in_ok-entries.ensures.drawn ∙ ap (λ (rs : List Range). drop 1 rs) jobs in
-    let second = subst (λ (rs : List Range). IsRunOfFirst rs (entries_of c.in_ok-behind.behind.items)) left c.in_ok-behind.ensures.run in
-    let union = union_of_runs c.args.at.now (entries_of c.in_ok-before_a.before_a.items) (entries_of c.in_ok-before_b.before_b.items)
-    (entries_of c.split_off_at.new.entries.items) (entries_of c.in_ok-from_a.from_a.items) (entries_of c.split_off_at-2.new.entries.items) (entries_of c.in_ok-from_b.from_b.items)
-    (entries_of c.in_ok-entries.entries.items) (entries_of c.in_ok-behind.behind.items) cut_a cut_b first.0 first.1 second.0 second.1 in
-    record {
-      merged = record {
-        entries_a = entries_of c.in_ok-before_a.before_a.items;
-        entries_b = entries_of c.in_ok-before_b.before_b.items;
-        block_a = c.in_ok-before_a.ensures.found;
-        block_b = c.in_ok-before_b.ensures.found;
-        union = entries_of c.append.new.self.items;
-        is_union = subst (IsUnion bytewise_cmp (entries_of c.in_ok-before_a.before_a.items ∷ entries_of c.in_ok-before_b.before_b.items ∷ [])) (sym joined) union;
-        counted = omega (arith, c.len-count.ensures, c.append.new.self.ok.0, length-map c.append.new.self.items entry_of);
-        written = block_of (entries_of c.append.new.self.items) c.in_ok-block.block.items c.in_ok-block.ensures;
-      };
-    }
+pub returns-in_err-entries-clause-answer : goal.returns-in_err-entries-clause-answer
+returns-in_err-entries-clause-answer c =
+    let p = err_from_is_err_and c.from_residual-in_err-entries.result c.from_residual-in_err-entries.ensures.1 in
+    let answer = union_refused c.args.a.now c.args.b.now (entries_of c.in_ok-entries_a.entries_a.items) (entries_of c.in_ok-entries_b.entries_b.items) c.in_err-entries.field-0.0 c.in_ok-entries_a.ensures.answer c.in_ok-entries_b.ensures.answer c.in_err-entries.ensures in
+    rw (p.1) (subst (λ (e : Fault). UnlessMemory e.name (IsBlocksAnswer c.args.a.now c.args.b.now (Err e))) (sym p.2) answer)
+
+pub returns-in_err-block-clause-answer : goal.returns-in_err-block-clause-answer
+returns-in_err-block-clause-answer c =
+    let p = err_from_is_err_and c.from_residual-in_err-block.result c.from_residual-in_err-block.ensures.1 in
+    let answer = block_refused c.args.a.now c.args.b.now (entries_of c.in_ok-entries_a.entries_a.items) (entries_of c.in_ok-entries_b.entries_b.items) (entries_of c.in_ok-entries.entries.items) c.in_err-block.field-0.0 c.in_ok-entries_a.ensures.answer c.in_ok-entries_b.ensures.answer c.in_ok-entries.ensures c.in_err-block.ensures in
+    rw (p.1) (subst (λ (e : Fault). UnlessMemory e.name (IsBlocksAnswer c.args.a.now c.args.b.now (Err e))) (sym p.2) answer)
+
+pub returns-clause-answer : goal.returns-clause-answer
+returns-clause-answer c =
+    let many : c.len-count.result ≡ length (entries_of c.in_ok-entries.entries.items) = omega (arith, c.len-count.ensures, c.in_ok-entries.entries.ok.0, length-map c.in_ok-entries.entries.items entry_of) in
+    block_written c.args.a.now c.args.b.now (entries_of c.in_ok-entries_a.entries_a.items) (entries_of c.in_ok-entries_b.entries_b.items) (entries_of c.in_ok-entries.entries.items) c.len-count.result c.in_ok-block.block.items c.in_ok-entries_a.ensures.answer c.in_ok-entries_b.ensures.answer c.in_ok-entries.ensures many c.in_ok-block.ensures
+
+pub returns-clause-merged : goal.returns-clause-merged
+returns-clause-merged c = record {
+  entries_a = entries_of c.in_ok-entries_a.entries_a.items;
+  entries_b = entries_of c.in_ok-entries_b.entries_b.items;
+  block_a = c.in_ok-entries_a.ensures.found;
+  block_b = c.in_ok-entries_b.ensures.found;
+  union = entries_of c.in_ok-entries.entries.items;
+  is_union = c.in_ok-entries.ensures;
+  counted = omega (arith, c.len-count.ensures, c.in_ok-entries.entries.ok.0, length-map c.in_ok-entries.entries.items entry_of);
+  written = block_of (entries_of c.in_ok-entries.entries.items) c.in_ok-block.block.items c.in_ok-block.ensures;
+}

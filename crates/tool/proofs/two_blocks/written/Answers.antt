@@ -1,10 +1,10 @@
-use Rattle.std.proofs.Common.{◌≡◌, ◌++◌, ◌∷◌, ◌≤◌, ◌<◌, ◌^◌, ◌+◌, [], List, ℕ, length, refl, sym, ap, subst, ◌∙◌, append_assoc, arith}
+use Rattle.std.proofs.Common.{◌≡◌, ◌++◌, ◌∷◌, ◌≤◌, ◌+◌, [], List, ℕ, length, sym, ap, ◌∙◌, append_assoc, arith}
 use Rattle.block.specs.Piece.{Entry}
 use Rattle.block.specs.Writing.{block}
 use Rattle.block.specs.Building.{Building, with_entry}
 use Rattle.block.proofs.Sizes.{length-block-nil}
 use Rattle.tool.specs.Blocks.{block_within}
-use Rattle.tool.specs.Merging.{entry_of, entries_of}
+use Rattle.tool.specs.Merging.{entries_of}
 use Rattle.tool.specs.declared.tested.TestedEntry.{TestedEntry}
 use Rattle.tool.proofs.Unions.{room, too_large}
 use Rattle.tool.proofs.two_blocks.written.Goals as goal

@@ -84,6 +84,19 @@ fn a_refused_growth_leaves_the_cursor(rt: HostRuntime) -> Result<(), Fail> {
 }
 
 #[test]
+fn a_refused_growth_at_a_restart(rt: HostRuntime) -> Result<(), Fail> {
+    let block = check(WORKED[1])?;
+    let cursor = match BlockCursor::at(rt.alloc(), &block, 1) {
+        Ok(cursor) => cursor,
+        Err(refused) => {
+            assert_eq!(rt; refused, Fault::of(FaultName::Memory));
+            BlockCursor::at(rt.alloc(), &block, 1)?
+        }
+    };
+    has(&rt, cursor, &ENTRIES[1..])
+}
+
+#[test]
 fn any_lawful_sharing_is_read(rt: HostRuntime) -> Result<(), Fail> {
     let rows = [
         (SHARING.as_slice(), [0].as_slice()),

@@ -1,6 +1,7 @@
 use super::*;
 use coding::{Fault, FaultName};
 use std::cmp::Ordering;
+use std::process::Abort;
 use std::test::*;
 
 #[test]
@@ -137,5 +138,44 @@ fn short_internal_keys(rt: HostRuntime) -> Result<(), Fail> {
         .ok()
         .ok_or("memory")?;
     assert_eq!(rt; kept.as_key().bytes(), last.as_key().bytes());
+    Ok(())
+}
+
+/// The answer is these bytes, or Memory where a growth was refused.
+fn is_or_memory(rt: &impl Abort, answer: Result<Vec<u8>, Fault>, want: &[u8]) {
+    match answer {
+        Ok(bytes) => assert_eq!(rt; bytes.as_slice(), want),
+        Err(refused) => assert_eq!(rt; refused, Fault::of(FaultName::Memory)),
+    }
+}
+
+/// The key is these bytes, or Memory where a growth was refused.
+fn is_key_or_memory(rt: &impl Abort, answer: Result<KeyBuf, Fault>, want: &[u8]) {
+    match answer {
+        Ok(key) => assert_eq!(rt; key.as_key().bytes(), want),
+        Err(refused) => assert_eq!(rt; refused, Fault::of(FaultName::Memory)),
+    }
+}
+
+const START: [u8; 12] = *b"abcz\x01\x05\0\0\0\0\0\0";
+
+const LIMIT: [u8; 12] = *b"abfa\x01\x03\0\0\0\0\0\0";
+
+// With `rt try --test --fail-alloc N` the Nth growth is refused; without it, none is.
+#[test]
+fn a_refused_growth_is_memory(rt: HostRuntime) -> Result<(), Fault> {
+    let alloc = rt.alloc();
+    is_or_memory(&rt, Bytewise::separator(alloc, b"abcz", b"abfa"), b"abd");
+    is_or_memory(&rt, Bytewise::successor(alloc, b"ab"), b"b");
+    is_or_memory(&rt, Shortlex::separator(alloc, b"b", b"aa"), b"b");
+    is_or_memory(&rt, Shortlex::successor(alloc, b"b"), b"b");
+    let (start, limit) = (InternalKey::parse(&START)?, InternalKey::parse(&LIMIT)?);
+    let short = internal_separator::<Bytewise>(alloc, start, limit);
+    is_key_or_memory(&rt, short, b"abd\x01\xff\xff\xff\xff\xff\xff\xff");
+    let short = internal_successor::<Bytewise>(alloc, start);
+    is_key_or_memory(&rt, short, b"b\x01\xff\xff\xff\xff\xff\xff\xff");
+    is_key_or_memory(&rt, KeyBuf::of(alloc, start), &START);
+    let made = KeyBuf::new(alloc, b"abcz", 5, Kind::Put);
+    is_key_or_memory(&rt, made, &START);
     Ok(())
 }

@@ -103,6 +103,30 @@ impl BlockBuilder {
         self.bytes.is_empty()
     }
 
+    /// Appends the block that `finish` would give now.
+    ///
+    /// Refused only for want of memory, and then nothing is appended.
+    pub fn push_block(&self, out: &mut Vec<u8>) -> Result<(), Fault>
+        ensures ok { OnOk result (out.new.items ≡ out.old.items ++ block self.now.interval self.now.entries) }
+        ensures err { OnErr result (out.new.items ≡ out.old.items) }
+        ensures memory { IsOkUnless result (fault Memory) }
+    {
+        let start = out.len();
+        // A block without entries has one restart.
+        let only = [0];
+        let written = if self.restarts.is_empty() {
+            only.as_slice()
+        } else {
+            self.restarts.as_slice()
+        };
+        out.extend_from_slice(&self.bytes)?;
+        if let Err(refused) = push_restarts(out, written) {
+            out.truncate(start);
+            return Err(refused);
+        }
+        Ok(())
+    }
+
     /// The block of the entries: the entries, their restarts, and the number of restarts. One without entries has the one
     /// restart 0.
     ///
@@ -181,10 +205,11 @@ fn push_fields(out: &mut Vec<u8>, shared: usize, unshared: &[u8], value: &[u8]) 
     Ok(())
 }
 
-/// Appends the restarts and their number, four bytes each.
+/// Appends the restarts and their number, four bytes each, or on a refused growth some of those bytes.
 fn push_restarts(out: &mut Vec<u8>, restarts: &[u32]) -> Result<(), Fault>
     requires { length restarts.now < 2 ^ 32 }
     ensures ok { OnOk result (out.new.items ≡ out.old.items ++ restart_bytes restarts.now) }
+    ensures err { OnErr result (take (length out.old.items) out.new.items ≡ out.old.items) }
     ensures memory { IsOkUnless result (fault Memory) }
 {
     out.reserve(4 * restarts.len() + 4)?;

@@ -1,0 +1,12 @@
+pub mod Memory
+pub mod Texts
+pub mod Bytes
+pub mod Contents
+pub mod Fields
+pub mod Edits
+pub mod Written
+pub mod Tested
+pub mod Kept
+pub mod Applied
+pub mod Sorting
+pub mod Snapshots

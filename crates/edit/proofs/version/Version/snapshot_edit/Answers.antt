@@ -1,0 +1,16 @@
+use Rattle.std.proofs.Common.{◌≤◌, ap, sym, subst}
+use Rattle.std.specs.List.{All}
+use Rattle.std.proofs.lemmas.List.Elements.{All-nil}
+use Rattle.edit.specs.Edit.{Edit}
+use Rattle.edit.specs.declared.meta.NewFile.{NewFile}
+use Rattle.edit.specs.declared.meta.CompactPointer.{CompactPointer}
+use Rattle.edit.specs.declared.meta.DeletedFile.{DeletedFile}
+use Rattle.edit.proofs.Snapshots.{added_low, pointers_low}
+use Rattle.edit.proofs.version.Version.snapshot_edit.Goals as goal
+
+pub returns-clause-levels : goal.returns-clause-levels
+returns-clause-levels g c = record {
+  pointers = subst (All (λ (p : CompactPointer). p.level ≤ 6)) (sym c.in_ok-edit.ensures.ok) (pointers_low c.self.inside.pointers.entries c.self.invariant.pointer_levels);
+  deleted = subst (All (λ (f : DeletedFile). f.level ≤ 6)) (sym (ap (λ (e : Edit). e.deleted) c.empty-edit.ensures)) (All-nil (λ (f : DeletedFile). f.level ≤ 6));
+  added = subst (All (λ (f : NewFile). f.level ≤ 6)) (sym c.in_ok-edit-2.ensures.ok) (added_low g.C.Comparator.cmp c.deref.result.now);
+}

@@ -1,0 +1,107 @@
+-- Versions: files at their levels, counters and compact pointers; and a version after an edit.
+use Rattle.std.specs.Prelude.{◌≡◌, ℕ, ◌≤◌, nat_eq, Bool, true, false, not, ◌&&◌, ◌==◌, if◌then◌else◌, List, [], ◌∷◌, ◌++◌, filter, fold, Option, Some, None, Result, Err}
+use Rattle.std.specs.List.{All, list_any, list_all}
+use Rattle.std.specs.Option.{option_map, option_map_or, option_or, ok_or}
+use Rattle.std.specs.Ordering.{nat_cmp}
+use Rattle.std.specs.Str.{bytes_eq}
+use Rattle.std.specs.Map.{lookup, keys_of}
+use Rattle.std.specs.BTreeMap.{insert_entry, is_at}
+use Rattle.coding.specs.Answers.{fault}
+use Rattle.coding.specs.declared.fault.Fault.{Fault}
+use Rattle.coding.specs.declared.fault.FaultName.TheVariants.{Comparator, Apply}
+use Rattle.edit.specs.Edit.{Edit}
+use Rattle.edit.specs.declared.meta.NewFile.{NewFile}
+use Rattle.edit.specs.declared.meta.CompactPointer.{CompactPointer}
+use Rattle.edit.specs.declared.meta.DeletedFile.{DeletedFile}
+
+-- what a version holds
+pub record State : Type 0 where
+  pub log_number : Option ℕ
+  pub previous_log : Option ℕ
+  pub next_file : Option ℕ
+  pub last_sequence : Option ℕ
+  -- a level and its key, by level, each level once
+  pub pointers : List (ℕ × List ℕ)
+  -- in the order in which edits put them in
+  pub files : List NewFile
+
+-- no file, no number, no pointer
+abbrev pub empty_state : State
+empty_state = record {
+  log_number = None;
+  previous_log = None;
+  next_file = None;
+  last_sequence = None;
+  pointers = [];
+  files = [];
+}
+
+-- the compact pointer of a level
+abbrev pub pointer_of : State → ℕ → Option (List ℕ)
+pointer_of v level = lookup (is_at (nat_cmp level)) v.pointers
+
+-- where a file stands: its level and its number
+abbrev pub place_of : NewFile → DeletedFile
+place_of f = record { level = f.level; number = f.meta.number }
+
+abbrev pub is_same_place : DeletedFile → DeletedFile → Bool
+is_same_place a b = a.level == b.level && a.number == b.number
+
+-- whether a deletion names the file
+abbrev pub is_deleted : List DeletedFile → NewFile → Bool
+is_deleted deleted f = list_any (is_same_place (place_of f)) deleted
+
+-- the files that no deletion names
+abbrev pub kept_files : List DeletedFile → List NewFile → List NewFile
+kept_files deleted files = filter (λ f. not (is_deleted deleted f)) files
+
+-- whether a file stands at a level under a number
+abbrev pub has_place : List NewFile → DeletedFile → Bool
+has_place files place = list_any (λ f. is_same_place (place_of f) place) files
+
+-- whether a file has the number
+abbrev pub has_number : List NewFile → ℕ → Bool
+has_number files number = list_any (λ f. nat_eq number f.meta.number) files
+
+-- whether no two files have one number
+abbrev pub are_apart : List NewFile → Bool
+are_apart [] = true
+are_apart (f ∷ files) = not (has_number files f.meta.number) && are_apart files
+
+-- The files after an edit: those that are kept, and the new ones. There are none where a deletion names no file of its
+-- level, where two new files have one number, or where a kept file has the number of a new one.
+abbrev pub files_after : List NewFile → List DeletedFile → List NewFile → Option (List NewFile)
+files_after files deleted added =
+    if list_all (has_place files) deleted && are_apart added && not (list_any (λ f. has_number added f.meta.number) (kept_files deleted files))
+    then Some (kept_files deleted files ++ added)
+    else None
+
+-- the pointers with one more, which replaces that of its level
+abbrev pub with_pointer : List (ℕ × List ℕ) → CompactPointer → List (ℕ × List ℕ)
+with_pointer pointers pointer = insert_entry nat_cmp pointers pointer.level pointer.key
+
+-- A version after an edit: files are taken out and put in, and then numbers and pointers are replaced that the edit sets.
+abbrev pub applied : State → Edit → Option State
+applied v e =
+    option_map (λ files. record {
+      log_number = option_or e.log_number v.log_number;
+      previous_log = option_or e.previous_log v.previous_log;
+      next_file = option_or e.next_file v.next_file;
+      last_sequence = option_or e.last_sequence v.last_sequence;
+      pointers = fold with_pointer v.pointers e.pointers;
+      files = files;
+    }) (files_after v.files e.deleted e.added)
+
+-- whether an edit names a comparator of another name
+abbrev pub names_another : List ℕ → Edit → Bool
+names_another name e = option_map_or (λ other. not (bytes_eq other name)) e.comparator false
+
+-- the version after an edit, by the comparator of this name
+abbrev pub applied_by : List ℕ → State → Edit → Result State Fault
+applied_by name v e = if names_another name e then Err (fault Comparator) else ok_or (applied v e) (fault Apply)
+
+-- what holds of each version: no two files have one number, and the levels are from 0 to 6
+pub record IsState (pointers : List (ℕ × List ℕ)) (files : List NewFile) : Type 0 where
+  pub apart : are_apart files ≡ true
+  pub levels : All (λ (f : NewFile). f.level ≤ 6) files
+  pub pointer_levels : All (λ (level : ℕ). level ≤ 6) (keys_of pointers)

@@ -1,0 +1,34 @@
+//! One field of an edit, lent.
+
+use crate::meta::DeletedFile;
+use ikey::InternalKey;
+
+/// A compact pointer, its key where it lies.
+#[derive(Clone, Copy)]
+pub(crate) struct LentPointer<'a> {
+    pub level: u64,
+    pub key: InternalKey<'a>,
+}
+
+/// A new file, its keys where they lie.
+#[derive(Clone, Copy)]
+pub(crate) struct LentFile<'a> {
+    pub level: u64,
+    pub number: u64,
+    pub size: u64,
+    pub smallest: InternalKey<'a>,
+    pub largest: InternalKey<'a>,
+}
+
+/// A field of an edit, with its text and its keys where they lie.
+#[derive(Clone, Copy)]
+pub(crate) enum Field<'a> {
+    Comparator(&'a str),
+    LogNumber(u64),
+    NextFile(u64),
+    LastSequence(u64),
+    Pointer(LentPointer<'a>),
+    Deleted(DeletedFile),
+    Added(LentFile<'a>),
+    PreviousLog(u64),
+}

@@ -1,0 +1,25 @@
+//! Version edits, and the versions that they give.
+//!
+//! A version is the set of tables of a database, each at a level from 0 to 6, with the counters of the database and a
+//! compact pointer for each level. An edit is a change of a version; a manifest is a log of edits.
+#![tactic(auto)]
+
+mod applying;
+mod field;
+mod laws;
+mod meta;
+mod order;
+mod reading;
+mod snapshot;
+mod tag;
+mod version;
+mod version_edit;
+mod writing;
+
+pub use laws::edit_laws;
+pub use meta::{CompactPointer, DeletedFile, FileMeta, NewFile};
+pub use version::Version;
+pub use version_edit::VersionEdit;
+
+#[cfg(test)]
+mod tests;

@@ -1,0 +1,78 @@
+//! What an edit says of files and of compact pointers.
+
+ghost use Rattle.std.specs.Prelude.{Ok};
+ghost use Rattle.coding.specs.Answers.{Gives};
+
+use coding::Fault;
+use ikey::KeyBuf;
+use std::alloc::Global;
+
+/// How many levels there are: 0 to 6.
+pub(crate) const LEVELS: u64 = 7;
+
+/// A table's number, its length, and its bounds.
+#[derive(Drop)]
+pub struct FileMeta {
+    /// The number in the table's name.
+    pub number: u64,
+    /// The table's length in bytes.
+    pub size: u64,
+    /// The first internal key of the table.
+    pub smallest: KeyBuf,
+    /// The last internal key of the table.
+    pub largest: KeyBuf,
+}
+
+impl FileMeta {
+    /// A copy of what is known of the file. Fails for want of memory alone.
+    pub(crate) fn copy(&self, alloc: Global) -> Result<FileMeta, Fault>
+        ensures { Gives (λ file. file) result (Ok self.now) }
+    {
+        Ok(FileMeta {
+            number: self.number,
+            size: self.size,
+            smallest: KeyBuf::of(alloc, self.smallest.as_key())?,
+            largest: KeyBuf::of(alloc, self.largest.as_key())?,
+        })
+    }
+}
+
+/// A file and its level.
+#[derive(Drop)]
+pub struct NewFile {
+    /// From 0 to 6.
+    pub level: u64,
+    /// The file.
+    pub meta: FileMeta,
+}
+
+impl NewFile {
+    /// A copy of the file. Fails for want of memory alone.
+    pub(crate) fn copy(&self, alloc: Global) -> Result<NewFile, Fault>
+        ensures { Gives (λ file. file) result (Ok self.now) }
+    {
+        let meta = self.meta.copy(alloc)?;
+        Ok(NewFile {
+            level: self.level,
+            meta,
+        })
+    }
+}
+
+/// Where the next compaction of a level begins: above this internal key.
+#[derive(Drop)]
+pub struct CompactPointer {
+    /// From 0 to 6.
+    pub level: u64,
+    /// The greatest internal key of the level's inputs to its last compaction.
+    pub key: KeyBuf,
+}
+
+/// The level and the number of a file that an edit takes out. They are ordered by level, then number.
+#[derive(Clone, Copy, Debug, PartialEq, Eq, PartialOrd, Ord)]
+pub struct DeletedFile {
+    /// From 0 to 6.
+    pub level: u64,
+    /// The number in the table's name.
+    pub number: u64,
+}

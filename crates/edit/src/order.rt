@@ -1,0 +1,47 @@
+//! The order of files in a version.
+
+ghost use Rattle.std.specs.Prelude.{◌≡◌, map, true, Ok};
+ghost use Rattle.coding.specs.Answers.{Gives};
+ghost use Rattle.edit.specs.Version.{are_apart};
+ghost use Rattle.edit.specs.VersionOrder.{version_cmp, in_version_order, files_at};
+
+use crate::meta::{FileMeta, NewFile};
+use coding::Fault;
+use ikey::Comparator;
+use std::alloc::Global;
+use std::cmp::Ordering;
+
+/// How two files are ordered in a version: by smallest internal key, then number.
+fn version_order<C: Comparator>(a: &FileMeta, b: &FileMeta) -> Ordering
+    ensures { result ≡ version_cmp C.cmp a.now b.now }
+{
+    let keys = a.smallest.as_key().compare::<C>(&b.smallest.as_key());
+    keys.then(a.number.cmp(&b.number))
+}
+
+/// The files that stand at a level.
+fn files_at(alloc: Global, files: &[NewFile], level: u64) -> Result<Vec<&FileMeta>, Fault>
+    ensures { Gives (λ v. map (λ f. f.now) v.items) result (Ok (files_at files.now level)) }
+{
+    let mut found = Vec::new(alloc);
+    for file in files {
+        if file.level == level {
+            found.push(&file.meta)?;
+        }
+    }
+    Ok(found)
+}
+
+/// The files that stand at a level, in version order.
+pub(crate) fn ordered_at<C: Comparator>(
+    alloc: Global,
+    files: &[NewFile],
+    level: u64,
+) -> Result<Vec<&FileMeta>, Fault>
+    requires { are_apart files.now ≡ true }
+    ensures { Gives (λ v. map (λ f. f.now) v.items) result (Ok (in_version_order C.cmp (files_at files.now level))) }
+{
+    let mut found = files_at(alloc, files, level)?;
+    found.sort_unstable_by(|a, b| version_order::<C>(a, b));
+    Ok(found)
+}

@@ -1,0 +1,155 @@
+//! Versions, and how edits change them.
+
+ghost use Rattle.std.specs.Prelude.{◌≡◌, ◌<◌, ◌≤◌, ◌^◌, length, map, Ok, IfOk, IfErr};
+ghost use Rattle.coding.specs.declared.fault.FaultName.TheVariants.{Memory};
+ghost use Rattle.std.specs.Option.{option_copied};
+ghost use Rattle.coding.specs.Answers.{Gives};
+ghost use Rattle.edit.specs.Edit.{HasLevels, HasShortName};
+ghost use Rattle.edit.specs.Version.{IsState, empty_state, pointer_of, applied_by};
+ghost use Rattle.edit.specs.VersionOrder.{level_files, snapshot_of};
+
+use crate::applying::{files_after, pointers_after};
+use crate::meta::{FileMeta, NewFile};
+use crate::order::ordered_at;
+use crate::snapshot::{all_added, all_pointers};
+use crate::version_edit::VersionEdit;
+use coding::{Fault, FaultName};
+use ikey::{Comparator, KeyBuf};
+use std::alloc::Global;
+use std::collections::BTreeMap;
+use std::marker::Model;
+
+/// The files of a database, each at a level from 0 to 6, with the counters of the database and the compact pointers.
+///
+/// No two files have one number. Contracts see the files in the order in which edits put them in.
+#[derive(Drop)]
+pub struct Version {
+    log_number: Option<u64>,
+    previous_log: Option<u64>,
+    next_file: Option<u64>,
+    last_sequence: Option<u64>,
+    pointers: BTreeMap<u64, KeyBuf>,
+    files: Vec<NewFile>,
+}
+
+impl Model for Version {
+    ghost use Rattle.edit.specs.Version.{State, IsState};
+
+    ghost Value = { State };
+
+    ghost view = { λ v. record {
+      log_number = v.log_number;
+      previous_log = v.previous_log;
+      next_file = v.next_file;
+      last_sequence = v.last_sequence;
+      pointers = v.pointers.entries;
+      files = v.files.items;
+    } };
+
+    ghost invariant = { λ v. IsState v.pointers.entries v.files.items };
+}
+
+impl Version {
+    ghost use Rattle.edit.specs.Edit.{edit_in};
+
+    /// The version without files, numbers and pointers.
+    pub fn empty(alloc: Global) -> Version
+        ensures { result ≡ empty_state }
+    {
+        Version {
+            log_number: None,
+            previous_log: None,
+            next_file: None,
+            last_sequence: None,
+            pointers: BTreeMap::new(alloc),
+            files: Vec::new(alloc),
+        }
+    }
+
+    /// The number of the write-ahead log in use, where an edit has set it.
+    pub fn log_number(&self) -> Option<u64>
+        ensures { result ≡ self.now.log_number }
+    {
+        self.log_number
+    }
+
+    /// The number of the write-ahead log before, where an edit has set it.
+    pub fn previous_log(&self) -> Option<u64>
+        ensures { result ≡ self.now.previous_log }
+    {
+        self.previous_log
+    }
+
+    /// The least number that no file has yet, where an edit has set it.
+    pub fn next_file(&self) -> Option<u64>
+        ensures { result ≡ self.now.next_file }
+    {
+        self.next_file
+    }
+
+    /// The greatest sequence in use, where an edit has set it.
+    pub fn last_sequence(&self) -> Option<u64>
+        ensures { result ≡ self.now.last_sequence }
+    {
+        self.last_sequence
+    }
+
+    /// The compact pointer of a level, where it has one.
+    pub fn pointer(&self, level: u64) -> Option<&KeyBuf>
+        requires { level ≤ 6 }
+        ensures { option_copied result ≡ pointer_of self.now level }
+    {
+        self.pointers.get(&level)
+    }
+
+    /// The version after an edit, which first takes files out, then puts files in, then sets numbers and pointers; this
+    /// one stays as it is.
+    ///
+    /// The edit's levels are from 0 to 6. `Comparator` where the edit names another comparator than `C`. Else `Apply`
+    /// where the edit doesn't fit: it takes out a file that isn't at that level, or it puts in a file whose number is then
+    /// there, or it puts in two files of one number. Also refused for want of memory.
+    pub fn apply<C: Comparator>(&self, alloc: Global, edit: &VersionEdit) -> Result<Version, Fault>
+        requires { HasLevels (edit_in edit.now) }
+        ensures after { Gives (λ v. v) result (applied_by C.name_bytes self.now (edit_in edit.now)) }
+    {
+        if edit.names_another::<C>() {
+            return Err(Fault::of(FaultName::Comparator));
+        }
+        let files = files_after(alloc, &self.files, &edit.deleted, &edit.added)?;
+        let pointers = pointers_after(alloc, &self.pointers, &edit.pointers)?;
+        Ok(Version {
+            log_number: edit.log_number.or(self.log_number),
+            previous_log: edit.previous_log.or(self.previous_log),
+            next_file: edit.next_file.or(self.next_file),
+            last_sequence: edit.last_sequence.or(self.last_sequence),
+            pointers,
+            files,
+        })
+    }
+
+    /// The files of a level in version order: by smallest internal key, then number. Refused only for want of memory.
+    pub fn files<C: Comparator>(&self, alloc: Global, level: u64) -> Result<Vec<&FileMeta>, Fault>
+        requires { level ≤ 6 }
+        ensures ordered { Gives (λ files. map (λ file. file.now) files.items) result (Ok (level_files C.cmp self.now level)) }
+        // No two files have one number, and the levels are from 0 to 6.
+        ensures state { IsState self.now.pointers self.now.files }
+    {
+        ordered_at::<C>(alloc, &self.files, level)
+    }
+
+    /// The edit that makes the version of an empty one, but for its numbers: the comparator's name, the compact pointers by
+    /// level, and all files as new files, by level and in version order. Refused only for want of memory.
+    pub fn snapshot_edit<C: Comparator>(&self, alloc: Global) -> Result<VersionEdit, Fault>
+        ensures edit { IfOk result (λ e. edit_in e ≡ snapshot_of C.name_bytes C.cmp self.now) }
+        ensures memory { IfErr result (λ e. e.name ≡ Memory) }
+        // It can be applied, and written where the comparator's name is short enough.
+        ensures levels { IfOk result (λ e. HasLevels (edit_in e)) }
+        ensures name { length C.name_bytes < 2 ^ 32 → IfOk result (λ e. HasShortName (edit_in e)) }
+    {
+        let mut edit = VersionEdit::empty(alloc);
+        edit.comparator = Some(String::from_str(alloc, C::name())?);
+        edit.pointers = all_pointers(alloc, &self.pointers)?;
+        edit.added = all_added::<C>(alloc, &self.files)?;
+        Ok(edit)
+    }
+}

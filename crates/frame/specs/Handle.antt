@@ -1,0 +1,34 @@
+-- A block handle: where a block stands in its file, by its offset and the size of its contents.
+use Rattle.std.specs.Prelude.{◌≡◌, ℕ, ◌<◌, ◌^◌, ◌↔◌, List, ◌++◌, drop, Option, Some, None}
+use Rattle.coding.specs.Varint.{varint, varint_reading}
+use Rattle.frame.specs.declared.handle.BlockHandle.{BlockHandle}
+
+-- the one spelling of a handle: two varints
+unfoldable pub handle_bytes : ℕ → ℕ → List ℕ
+handle_bytes offset size = varint offset ++ varint size
+
+-- a handle at the front of bytes, and the bytes behind it
+pub record HandleBehind : Type 0 where
+  pub handle : BlockHandle
+  pub rest : List ℕ
+
+-- the ? of the logic
+abbrev pub and_then : {A B : Type 0} → Option A → (A → Option B) → Option B
+and_then None f = None
+and_then (Some x) f = f x
+
+-- the handle whose spelling begins the bytes, its numbers below 2 ^ 64, and the bytes behind the spelling
+unfoldable pub handle_reading : List ℕ → Option HandleBehind
+handle_reading bytes =
+    and_then (varint_reading (2 ^ 64) bytes) (λ offset.
+    and_then (varint_reading (2 ^ 64) (drop offset.1 bytes)) (λ size.
+    Some (record {
+      handle = record { offset = offset.0; size = size.0 };
+      rest = drop size.1 (drop offset.1 bytes);
+    })))
+
+-- a handle is read exactly where its spelling begins the bytes
+abbrev pub HandleReadLaw : Type 0
+HandleReadLaw = (bytes : List ℕ) (offset size : ℕ) (rest : List ℕ) →
+    (handle_reading bytes ≡ Some (record { handle = record { offset = offset; size = size }; rest = rest })) ↔
+    ((offset < 2 ^ 64) × (size < 2 ^ 64) × (bytes ≡ handle_bytes offset size ++ rest))

@@ -1,0 +1,107 @@
+//! Stored blocks: contents, and a trailer behind them.
+
+ghost use Rattle.std.specs.Prelude.{◌≡◌, ◌≤◌, ◌<◌, ◌^◌, ◌++◌, ◌∷◌, ◌-◌, take, drop, slice_index, length, OnOk, OnErr, IsOkUnless};
+ghost use Rattle.byteorder.specs.Endian.{little_bytes, little_number};
+ghost use Rattle.frame.specs.Trailer.{stored, stored_reading};
+ghost use Rattle.coding.specs.Answers.{Gives, fault};
+ghost use Rattle.coding.specs.declared.fault.FaultName.TheVariants.{Memory};
+
+use byteorder::{ByteOrder, LittleEndian};
+use coding::{Fault, FaultName, crc32c, crc32c_pair, mask};
+
+/// The bytes of a trailer.
+pub const TRAILER_LEN: usize = 5;
+
+/// The type of contents that are stored as they are.
+const PLAIN: u8 = 0;
+
+/// The type of contents that Snappy compressed.
+const SNAPPY: u8 = 1;
+
+/// What stands behind a block's contents: 5 bytes, the type and then the checksum, the lowest byte first.
+#[derive(Clone, Copy, Debug, PartialEq, Eq)]
+pub struct Trailer {
+    /// The type of the contents: 0 where they stand as they are, 1 where Snappy compressed them.
+    pub block_type: u8,
+    /// The mask of the CRC-32C of the contents and the type.
+    pub checksum: u32,
+}
+
+impl Trailer {
+    ghost use Rattle.frame.specs.Trailer.{trailer_bytes};
+
+    /// The trailer of contents that are stored as they are. Takes no memory.
+    #[tactic(auto, unfolding(crate::specs::Trailer::trailer_bytes))]
+    pub fn of(contents: &[u8]) -> Trailer
+        ensures { result.block_type ∷ little_bytes 4 result.checksum ≡ trailer_bytes contents.now }
+    {
+        Trailer {
+            block_type: PLAIN,
+            checksum: mask(crc32c_pair(contents, &[PLAIN])),
+        }
+    }
+
+    /// The trailer that the first 5 of these bytes are. Takes no memory.
+    pub fn read(bytes: &[u8]) -> Trailer
+        requires { 5 ≤ length bytes.now }
+        ensures block_type { result.block_type ≡ slice_index bytes.now 0 }
+        ensures checksum { result.checksum ≡ little_number 4 (drop 1 bytes.now) }
+    {
+        Trailer {
+            block_type: bytes[0],
+            checksum: LittleEndian::read_u32(&bytes[1..]),
+        }
+    }
+
+    /// Appends the 5 bytes.
+    ///
+    /// Refused only for want of memory, and then nothing is appended.
+    pub fn push(self, out: &mut Vec<u8>) -> Result<(), Fault>
+        ensures ok { OnOk result (out.new.items ≡ out.old.items ++ self.block_type ∷ little_bytes 4 self.checksum) }
+        ensures err { OnErr result (out.new.items ≡ out.old.items) }
+        ensures memory { IsOkUnless result (fault Memory) }
+    {
+        let [first, second, third, fourth] = self.checksum.to_le_bytes();
+        out.extend_from_slice(&[self.block_type, first, second, third, fourth])?;
+        Ok(())
+    }
+}
+
+/// Appends contents as they are, and their trailer.
+///
+/// Refused only for want of memory, and then nothing is appended.
+pub fn push_stored(out: &mut Vec<u8>, contents: &[u8]) -> Result<(), Fault>
+    ensures ok { OnOk result (out.new.items ≡ out.old.items ++ stored contents.now) }
+    ensures err { OnErr result (out.new.items ≡ out.old.items) }
+    ensures memory { IsOkUnless result (fault Memory) }
+{
+    let start = out.len();
+    out.extend_from_slice(contents)?;
+    if let Err(refused) = Trailer::of(contents).push(out) {
+        // The contents go too.
+        out.truncate(start);
+        return Err(refused);
+    }
+    Ok(())
+}
+
+/// The contents of a stored block, which is contents and the 5 bytes of their trailer.
+///
+/// `Trailer` where the checksum isn't that of the contents and the type, else `Compressed` where the type is 1, else
+/// `BlockType` where it isn't 0. Takes no memory.
+#[tactic(auto, unfolding(crate::specs::Trailer::stored_reading))]
+pub fn contents(bytes: &[u8]) -> Result<&[u8], Fault>
+    requires { 5 ≤ length bytes.now }
+    ensures { Gives (λ found. found.now) result (stored_reading bytes.now) }
+{
+    let (summed, checksum) = bytes.split_at(bytes.len() - 4);
+    if LittleEndian::read_u32(checksum) != mask(crc32c(summed)) {
+        return Err(Fault::of(FaultName::Trailer));
+    }
+    let size = bytes.len() - TRAILER_LEN;
+    match bytes[size] {
+        PLAIN => Ok(&bytes[..size]),
+        SNAPPY => Err(Fault::of(FaultName::Compressed)),
+        _ => Err(Fault::of(FaultName::BlockType)),
+    }
+}

@@ -1,0 +1,5 @@
+pub mod Rising
+pub mod Covers
+pub mod Sorted
+pub mod Places
+pub mod OneChoice

@@ -1,0 +1,13 @@
+-- The boundaries between ranges of user keys.
+use Rattle.std.specs.Prelude.{◌≡◌, ℕ, ◌≤◌, List, length, AllPairs}
+use Rattle.std.specs.declared.cmp.Ordering.{Ordering}
+use Rattle.std.specs.declared.cmp.Ordering.TheVariants.{Less}
+
+-- each key is before all later ones
+abbrev pub IsRising : (List ℕ → List ℕ → Ordering) → List (List ℕ) → Type 0
+IsRising cmp keys = AllPairs (λ key later. cmp key later ≡ Less) keys
+
+-- what the boundaries of a split are: at most 4,095 user keys that rise strictly
+pub record IsSplit (cmp : List ℕ → List ℕ → Ordering) (boundaries : List (List ℕ)) : Type 0 where
+  pub few : length boundaries ≤ 4095
+  pub rising : IsRising cmp boundaries

@@ -1,0 +1,44 @@
+-- The ranges of user keys between boundaries.
+use Rattle.std.specs.Prelude.{◌≡◌, ◌≢◌, ℕ, zero, suc, ◌<◌, ◌≤◌, List, length, Option, None, slice_get}
+use Rattle.std.specs.Option.{option_map, ForSome}
+use Rattle.std.specs.declared.cmp.Ordering.{Ordering}
+use Rattle.std.specs.declared.cmp.Ordering.TheVariants.{Less}
+use Rattle.split.specs.declared.range.Range.{Range}
+
+-- the first user key that may lie in a range, and the first behind it
+pub record KeyRange : Type 0 where
+  pub lower : Option (List ℕ)
+  pub upper : Option (List ℕ)
+
+abbrev pub key_range : Range → KeyRange
+key_range range = record {
+  lower = option_map (λ key. key.now) range.lower;
+  upper = option_map (λ key. key.now) range.upper;
+}
+
+-- the boundary before the range of a number
+abbrev pub boundary_before : List (List ℕ) → ℕ → Option (List ℕ)
+boundary_before boundaries zero = None
+boundary_before boundaries (suc i) = slice_get boundaries i
+
+-- range i: from boundary i - 1 to before boundary i
+abbrev pub range_at : List (List ℕ) → ℕ → KeyRange
+range_at boundaries i = record { lower = boundary_before boundaries i; upper = slice_get boundaries i }
+
+-- the user key is at or after the range's lower bound and before its upper bound, where it has these
+pub record IsIn (cmp : List ℕ → List ℕ → Ordering) (range : KeyRange) (key : List ℕ) : Type 0 where
+  pub from : ForSome range.lower (λ lower. cmp key lower ≢ Less)
+  pub before : ForSome range.upper (λ upper. cmp key upper ≡ Less)
+
+-- the one range that a user key lies in
+pub record LiesInOne (cmp : List ℕ → List ℕ → Ordering) (boundaries : List (List ℕ)) (key : List ℕ) : Type 0 where
+  pub number : ℕ
+  pub below : number ≤ length boundaries
+  pub within : IsIn cmp (range_at boundaries number) key
+  pub only : (other : ℕ) → other ≤ length boundaries → IsIn cmp (range_at boundaries other) key → other ≡ number
+
+-- the ranges between boundaries hold each user key once, in order
+pub record IsCover (cmp : List ℕ → List ℕ → Ordering) (boundaries : List (List ℕ)) : Type 0 where
+  pub each_once : (key : List ℕ) → LiesInOne cmp boundaries key
+  pub in_order : (i j : ℕ) (key later : List ℕ) → i < j → j ≤ length boundaries
+      → IsIn cmp (range_at boundaries i) key → IsIn cmp (range_at boundaries j) later → cmp key later ≡ Less

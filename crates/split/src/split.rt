@@ -1,0 +1,121 @@
+//! Boundaries, and the ranges between them.
+
+ghost use Rattle.std.specs.Prelude.{◌≡◌, ◌+◌, ◌<◌, ◌≤◌, ◌↔◌, ◌⊎◌, true, nat_le, if◌then◌else◌, map, length, slice_get, IsOk, IfOk, IfErr};
+ghost use Rattle.std.specs.Option.{option_map};
+ghost use Rattle.coding.specs.Answers.{fault, UnlessMemory};
+ghost use Rattle.coding.specs.declared.fault.FaultName.TheVariants.{SplitCount, SplitOrder};
+ghost use Rattle.split.specs.Boundaries.{IsRising, IsSplit};
+ghost use Rattle.split.specs.Choosing.{index_users_of, IsChoice};
+ghost use Rattle.split.specs.Ranges.{range_at, key_range, IsCover};
+
+use crate::choosing::{at_places, each_once, index_users};
+use crate::range::Range;
+use coding::{Fault, FaultName};
+use ikey::Comparator;
+use std::alloc::Global;
+use std::marker::{Model, PhantomData};
+use table::SoundTable;
+
+/// The most boundaries of a split.
+pub const MAX_BOUNDARIES: usize = 4_095;
+
+/// The most ranges of a split.
+pub const MAX_RANGES: u64 = 4_096;
+
+/// A cutting of all user keys into ranges, seen as its boundaries: user keys that rise strictly, 4,095 at most.
+#[derive(Drop)]
+pub struct Split<C: Comparator> {
+    boundaries: Vec<Vec<u8>>,
+    order: PhantomData<C>,
+}
+
+impl<C: Comparator> Model for Split<C> {
+    ghost use Rattle.std.specs.Prelude.{ℕ, List, map};
+    ghost use Rattle.split.specs.Boundaries.{IsSplit};
+
+    ghost Value = { List (List ℕ) };
+
+    ghost view = { λ s. map (λ key. key.items) s.boundaries.items };
+
+    ghost invariant = { λ s. IsSplit C.cmp (map (λ key. key.items) s.boundaries.items) };
+}
+
+/// Whether the keys rise strictly.
+fn is_rising<C: Comparator>(keys: &[Vec<u8>]) -> bool
+    ensures { (result ≡ true) ↔ IsRising C.cmp (map (λ key. key.items) keys.now) }
+{
+    keys.is_sorted_by(|key, next| C::compare(key, next).is_lt())
+}
+
+/// The key at a place, where there is one.
+fn key_at(keys: &[Vec<u8>], place: usize) -> Option<&[u8]>
+    ensures { option_map (λ key. key.now) result ≡ slice_get (map (λ key. key.items) keys.now) place }
+{
+    keys.get(place).map(|key| key.as_slice())
+}
+
+impl<C: Comparator> Split<C> {
+    /// The split at these boundaries. `SplitCount` where there are more than 4,095, and else `SplitOrder` where they
+    /// don't rise strictly. Takes no memory.
+    pub fn from_keys(keys: Vec<Vec<u8>>) -> Result<Split<C>, Fault>
+        ensures accepted { IsOk result ↔ IsSplit C.cmp (map (λ key. key.items) keys.items) }
+        ensures boundaries { IfOk result (λ split. split ≡ map (λ key. key.items) keys.items) }
+        ensures refused { IfErr result (λ e. e ≡ fault (if nat_le (length keys.items) 4095 then SplitOrder else SplitCount)) }
+    {
+        if keys.len() > MAX_BOUNDARIES {
+            return Err(Fault::of(FaultName::SplitCount));
+        }
+        if !is_rising::<C>(&keys) {
+            return Err(Fault::of(FaultName::SplitOrder));
+        }
+        Ok(Split {
+            boundaries: keys,
+            order: PhantomData,
+        })
+    }
+
+    /// The split of the user keys of these tables' index entries into at most `want` ranges. Of the m keys of all of them,
+    /// each once and in order, its boundaries are those at the places `j * m / want`, rounded down, for j from 1 to
+    /// `want - 1`, each place once; where there are no keys there is no boundary. `SplitCount` where `want` is not from
+    /// 1 to 4,096, and else refused only for want of memory.
+    pub fn choose(alloc: Global, tables: &[SoundTable<'_, C>], want: u64) -> Result<Split<C>, Fault>
+        ensures wanted { (result ≡ Err (fault SplitCount)) ↔ ((want ≡ 0) ⊎ (4096 < want)) }
+        ensures chosen { IfOk result (λ split. IsChoice C.cmp (index_users_of tables.now) want split) }
+        ensures refused { IfErr result (λ e. UnlessMemory e.name (e ≡ fault SplitCount)) }
+    {
+        if want == 0 || want > MAX_RANGES {
+            return Err(Fault::of(FaultName::SplitCount));
+        }
+        let keys = each_once::<C>(index_users(alloc, tables)?);
+        let boundaries = at_places::<C>(alloc, &keys, want)?;
+        Ok(Split {
+            boundaries,
+            order: PhantomData,
+        })
+    }
+
+    /// The number of ranges, one more than there are boundaries. Takes no memory.
+    pub fn len(&self) -> usize
+        ensures number { result ≡ length self.now + 1 }
+        ensures split { IsSplit C.cmp self.now }
+    {
+        self.boundaries.len() + 1
+    }
+
+    /// The range of a number below `len`: from the boundary before it, where there is one, to before the boundary of its
+    /// number, where there is one. Together the ranges hold each user key once, in order. Takes no memory.
+    pub fn range(&self, number: usize) -> Range<'_>
+        requires { number < length self.now + 1 }
+        ensures bounds { key_range result ≡ range_at self.now number }
+        ensures cover { IsCover C.cmp self.now }
+    {
+        Range {
+            lower: if number == 0 {
+                None
+            } else {
+                key_at(&self.boundaries, number - 1)
+            },
+            upper: key_at(&self.boundaries, number),
+        }
+    }
+}

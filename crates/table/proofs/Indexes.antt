@@ -1,0 +1,51 @@
+-- The index block, and what stands behind the data blocks.
+use Rattle.std.proofs.Common.{◌≡◌, ℕ, ◌+◌, ◌^◌, ◌≤◌, List, ◌++◌, length, take, drop, sym, ap, ◌∙◌, append_assoc, arith}
+use Rattle.std.proofs.lemmas.List.{length-append, map-append, take-append-drop}
+use Rattle.block.specs.Piece.{Entry}
+use Rattle.block.specs.Writing.{block}
+use Rattle.block.specs.Building.{Building, with_entry}
+use Rattle.block.proofs.Sizes.{length-block-nil, length-block-append, fits_with_entry}
+use Rattle.frame.specs.Handle.{handle_bytes}
+use Rattle.frame.specs.Trailer.{stored}
+use Rattle.frame.specs.Footer.{footer_bytes}
+use Rattle.frame.specs.declared.handle.BlockHandle.{BlockHandle}
+use Rattle.frame.proofs.Handles.{length-handle_bytes}
+use Rattle.frame.proofs.Stored.{length-stored}
+use Rattle.frame.proofs.Footers.{length-footer_bytes}
+use Rattle.table.specs.declared.index_entry.IndexEntry.{IndexEntry}
+use Rattle.table.specs.Table.{index_entry, metaindex, footer_at, closing}
+use Rattle.table.specs.Flushed.{index_entries}
+
+-- the index of some blocks is no longer than that of all
+pub length-index_part : (index : List IndexEntry) (i : ℕ) → length (block 1 (index_entries (take i index))) ≤ length (block 1 (index_entries index))
+length-index_part index i =
+    let parts : index_entries index ≡ index_entries (take i index) ++ index_entries (drop i index) =
+    ap index_entries (sym (take-append-drop i index)) ∙ map-append (λ (x : IndexEntry). index_entry x.key x.handle.offset x.handle.size) (take i index) (drop i index) in
+    omega (arith, length-block-append 1 (index_entries (take i index)) (index_entries (drop i index)), ap (λ (x : List Entry). length (block 1 x)) parts)
+
+-- one more entry of the index, behind an index that is no longer than a table
+pub index_fits : (b : Building) (key handle : List ℕ) (offset size : ℕ) → length (block b.interval b.entries) ≤ 2 ^ 30 → length key ≤ 65535 + 8 → handle ≡ handle_bytes offset size → length (block b.interval (with_entry b.entries key handle)) ≤ 2 ^ 31
+index_fits b key handle offset size len key_fits handle_is =
+    fits_with_entry b key handle (omega (arith, ap length handle_is, length-handle_bytes offset size))
+
+pub length-closing : (at : ℕ) (index : List Entry) → length (closing at index) ≡ length (block 1 index) + 66
+unfolding closing
+length-closing at index =
+    let last : List ℕ = footer_bytes (footer_at at (length (block 1 index))) in
+    omega (arith, length-append (stored metaindex) (stored (block 1 index) ++ last), length-append (stored (block 1 index)) last, length-stored metaindex, length-stored (block 1 index), length-block-nil 1, length-footer_bytes (footer_at at (length (block 1 index))))
+
+-- metaindex, index and footer behind other bytes
+pub closing_written : (out a b : List ℕ) (index : List Entry) (first second : BlockHandle) → a ≡ out ++ stored metaindex → first ≡ record { offset = length out; size = length metaindex }
+    → b ≡ a ++ stored (block 1 index) → second ≡ record { offset = length a; size = length (block 1 index) } → b ++ footer_bytes (record { metaindex = first; index = second }) ≡ out ++ closing (length out) index
+unfolding closing
+closing_written out a b index first second a_is first_is b_is second_is =
+    let len : length a ≡ length out + length metaindex + 5 = omega (arith, ap length a_is, length-append out (stored metaindex), length-stored metaindex) in
+    let footers : List ℕ = footer_bytes (footer_at (length out) (length (block 1 index))) in
+    let footer : footer_bytes (record { metaindex = first; index = second }) ≡ footers =
+    ap (λ (h : BlockHandle). footer_bytes (record { metaindex = h; index = second })) first_is
+    ∙ ap (λ (h : BlockHandle). footer_bytes (record { metaindex = record { offset = length out; size = length metaindex }; index = h })) second_is
+    ∙ ap (λ (n : ℕ). footer_bytes (record { metaindex = record { offset = length out; size = length metaindex }; index = record { offset = n; size = length (block 1 index) } })) len in
+    ap (λ (x : List ℕ). b ++ x) footer
+    ∙ ap (λ (x : List ℕ). x ++ footers) (b_is ∙ ap (λ (x : List ℕ). x ++ stored (block 1 index)) a_is)
+    ∙ append_assoc (out ++ stored metaindex) (stored (block 1 index)) footers
+    ∙ append_assoc out (stored metaindex) (stored (block 1 index) ++ footers)

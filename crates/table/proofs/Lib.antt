@@ -1,0 +1,17 @@
+pub mod BlockEntries
+pub mod Flushes
+pub mod Builds
+pub mod Closes
+pub mod Refused
+pub mod Indexes
+pub mod Cuts
+pub mod BlockReadings
+pub mod Steps
+pub mod DataSteps
+pub mod CheckedTables
+pub mod EntryTests
+pub mod Walks
+pub mod ReadBack
+pub mod StoredTables
+pub mod Tables
+pub mod NamedBlocks

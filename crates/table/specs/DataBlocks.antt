@@ -1,0 +1,51 @@
+-- The data blocks that a list of entries is cut into. A block ends with the entry that makes its bytes reach the block
+-- size; the last one may stay below it.
+use Rattle.std.specs.Prelude.{◌≡◌, ◌≢◌, ℕ, ◌+◌, ◌<◌, nat_le, Bool, true, false, if◌then◌else◌, List, [], ◌∷◌, ◌++◌, length, take, ◌⊎◌, ◌↔◌}
+use Rattle.std.specs.List.{sum_by}
+use Rattle.block.specs.Piece.{Entry}
+use Rattle.block.specs.Writing.{block}
+use Rattle.table.specs.declared.options.Options.{Options}
+
+-- whether the entries are some, and their block reaches the block size
+abbrev pub is_full : Options → List Entry → Bool
+is_full o [] = false
+is_full o (e ∷ es) = nat_le o.block_size (length (block o.restart_interval (e ∷ es)))
+
+-- the entries of an open block, where there are any
+abbrev pub open_block : List Entry → List (List Entry)
+open_block [] = []
+open_block (e ∷ es) = (e ∷ es) ∷ []
+
+-- the data blocks of entries that are open and of those behind them
+abbrev pub blocks_behind : Options → List Entry → List Entry → List (List Entry)
+blocks_behind o latest [] = open_block latest
+blocks_behind o latest (e ∷ es) =
+    if is_full o latest then latest ∷ blocks_behind o (e ∷ []) es else blocks_behind o (latest ++ e ∷ []) es
+
+-- the data blocks of a list
+unfoldable pub data_blocks : Options → List Entry → List (List Entry)
+data_blocks o q = blocks_behind o [] q
+
+-- A data block, with these entries behind it: it has an entry, no shorter beginning of it is full, and it is full itself
+-- unless nothing is behind it.
+pub record IsDataBlock (o : Options) (p rest : List Entry) : Type 0 where
+  pub some : p ≢ []
+  pub shortest : (n : ℕ) → n < length p → is_full o (take n p) ≡ false
+  pub full : (is_full o p ≡ true) ⊎ (rest ≡ [])
+
+-- the parts are the data blocks of the list: the first of them is one with the entries of the others behind it
+abbrev pub AreDataBlocks : Options → List Entry → List (List Entry) → Type 0
+AreDataBlocks o q [] = q ≡ []
+AreDataBlocks o q (p ∷ ps) = (rest : List Entry) × (q ≡ p ++ rest) × IsDataBlock o p rest × AreDataBlocks o rest ps
+
+-- each list has these data blocks and no others
+abbrev pub DataBlocksLaw : Type 0
+DataBlocksLaw = (o : Options) (q : List Entry) (parts : List (List Entry)) → AreDataBlocks o q parts ↔ (data_blocks o q ≡ parts)
+
+-- what a data block adds to the flushed size: its bytes and the 5 of its trailer, if it is full
+abbrev pub flushed_len : Options → List Entry → ℕ
+flushed_len o p = if is_full o p then length (block o.restart_interval p) + 5 else 0
+
+-- the flushed size of a list: of all its data blocks, an open last one not counted
+unfoldable pub flushed : Options → List Entry → ℕ
+flushed o q = sum_by (flushed_len o) (data_blocks o q)

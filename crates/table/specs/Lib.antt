@@ -1,0 +1,16 @@
+pub mod Options
+pub mod DataBlocks
+pub mod Table
+pub mod Flushed
+pub mod Building
+pub mod ReadingSteps
+pub mod ReadingBlocks
+pub mod ReadingEntries
+pub mod ReadingIndex
+pub mod Reading
+pub mod Placed
+pub mod Checked
+pub mod ReadingCursors
+pub mod TableEntries
+pub mod ReadingBack
+pub mod ReadingTables

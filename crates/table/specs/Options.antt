@@ -1,0 +1,11 @@
+-- The limits of what a writer of tables keeps to.
+use Rattle.std.specs.Prelude.{◌≤◌, ◌^◌}
+use Rattle.table.specs.declared.options.Options.{Options}
+
+pub record AreInLimits (o : Options) : Type 0 where
+  pub block_size_some : 1 ≤ o.block_size
+  pub block_size_le : o.block_size ≤ 4194304
+  pub interval_some : 1 ≤ o.restart_interval
+  pub interval_le : o.restart_interval ≤ 1024
+  pub file_size_some : 1 ≤ o.file_size
+  pub file_size_le : o.file_size ≤ 2 ^ 30

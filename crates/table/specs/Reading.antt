@@ -1,0 +1,105 @@
+-- What stands in a table's bytes, and the first test that other bytes fail.
+use Rattle.std.specs.Prelude.{ℕ, ◌-◌, ◌^◌, nat_le, Bool, true, ◌&&◌, not, List, [], ◌∷◌, length, map, drop, Option, Some, None, Result, Ok, Err}
+use Rattle.std.specs.List.{flat_map}
+use Rattle.std.specs.Ordering.{is_gt}
+use Rattle.std.specs.declared.cmp.Ordering.{Ordering}
+use Rattle.coding.specs.declared.fault.Fault.{Fault}
+use Rattle.coding.specs.declared.fault.FaultName.TheVariants.{Size, Short, Empty, Index}
+use Rattle.block.specs.Piece.{Entry}
+use Rattle.block.specs.Building.{last_key}
+use Rattle.ikey.specs.Key.{user_of}
+use Rattle.ikey.specs.Order.{internal_cmp}
+use Rattle.frame.specs.Footer.{footer_reading}
+use Rattle.table.specs.ReadingSteps.{◌>>=◌, pass}
+use Rattle.table.specs.ReadingEntries.{Ends, first_key, key_behind, is_above, is_some_list, data_test}
+use Rattle.table.specs.ReadingIndex.{IndexEntry, stored_at, block_in, index_reading}
+
+-- the entries of a data block, and its key in the index
+pub record DataBlock : Type 0 where
+  pub index_key : List ℕ
+  pub entries : List Entry
+
+-- The data blocks in the order of the index, the first of them after this key: each is a block, has an entry, and each
+-- of its entries passes its test after the key before it in the table.
+abbrev pub blocks_reading : (List ℕ → List ℕ → Ordering) → Option (List ℕ) → List IndexEntry → Result (List DataBlock) Fault
+blocks_reading cmp before [] = Ok []
+blocks_reading cmp before (i ∷ is) = do
+  entries ← block_in i.stored
+  _ ← data_test cmp before entries
+  others ← blocks_reading cmp (key_behind before entries) is
+  Ok (record { index_key = i.key; entries = entries } ∷ others)
+
+-- whether a block is above the index key before it, where there is one, and none of its keys is above its own
+abbrev pub is_between : (List ℕ → List ℕ → Ordering) → Option (List ℕ) → DataBlock → Bool
+is_between cmp below b = is_above cmp below (first_key b.entries) && not (is_gt (internal_cmp cmp (last_key [] b.entries) b.index_key))
+
+-- whether each index key is at or after its block's last key and before the next block's first key, the first block
+-- being above this index key
+abbrev pub index_fits : (List ℕ → List ℕ → Ordering) → Option (List ℕ) → List DataBlock → Bool
+index_fits cmp below [] = true
+index_fits cmp below (b ∷ bs) = is_between cmp below b && index_fits cmp (Some b.index_key) bs
+
+-- the data blocks that the index names, and the order of the index keys among them
+abbrev pub data_reading : (List ℕ → List ℕ → Ordering) → List IndexEntry → Result (List DataBlock) Fault
+data_reading cmp index = do
+  _ ← pass (is_some_list index) Empty
+  blocks ← blocks_reading cmp None index
+  _ ← pass (index_fits cmp None blocks) Index
+  Ok blocks
+
+-- The index of the bytes. They have a footer of 48 bytes with the magic and two handles, that of the metaindex and that
+-- of the index; both blocks lie before it, the metaindex is a block, and so is the index.
+abbrev pub index_in : List ℕ → Result (List Entry) Fault
+index_in bytes = do
+  _ ← pass (nat_le (length bytes) (2 ^ 30)) Size
+  _ ← pass (nat_le 48 (length bytes)) Short
+  footer ← footer_reading (drop (length bytes - 48) bytes)
+  metaindex ← stored_at bytes footer.metaindex
+  index ← stored_at bytes footer.index
+  _ ← block_in metaindex
+  block_in index
+
+-- the data blocks of the bytes
+unfoldable pub blocks_of : (List ℕ → List ℕ → Ordering) → List ℕ → Result (List DataBlock) Fault
+blocks_of cmp bytes = do
+  entries ← index_in bytes
+  index ← index_reading bytes entries
+  data_reading cmp index
+
+-- the entries of data blocks
+abbrev pub entries_of : List DataBlock → List Entry
+entries_of blocks = flat_map (λ b. b.entries) blocks
+
+-- what a table holds: its bytes, its one list of entries, and the user keys of its index in order
+pub record Contents : Type 0 where
+  pub bytes : List ℕ
+  pub entries : List Entry
+  pub index_users : List (List ℕ)
+
+abbrev pub contents_of : List ℕ → List DataBlock → Contents
+contents_of bytes blocks = record {
+  bytes = bytes;
+  entries = entries_of blocks;
+  index_users = map (λ b. user_of b.index_key) blocks;
+}
+
+-- what the bytes hold as a table, or the first test that they fail
+abbrev pub contents_reading : (List ℕ → List ℕ → Ordering) → List ℕ → Result Contents Fault
+contents_reading cmp bytes = blocks_of cmp bytes >>= λ blocks. Ok (contents_of bytes blocks)
+
+-- the entries of the bytes as a table, or the first test that they fail
+abbrev pub table_reading : (List ℕ → List ℕ → Ordering) → List ℕ → Result (List Entry) Fault
+table_reading cmp bytes = blocks_of cmp bytes >>= λ blocks. Ok (entries_of blocks)
+
+-- what is there, or else this
+abbrev pub ok_or : {A : Type 0} → A → Result A Fault → A
+ok_or otherwise (Ok x) = x
+ok_or otherwise (Err e) = otherwise
+
+-- what bytes that are a table hold
+abbrev pub contents_in : (List ℕ → List ℕ → Ordering) → List ℕ → Contents
+contents_in cmp bytes = ok_or (contents_of bytes []) (contents_reading cmp bytes)
+
+-- the first and the last key of data blocks
+abbrev pub ends_of : List DataBlock → Ends
+ends_of blocks = record { smallest = first_key (entries_of blocks); largest = last_key [] (entries_of blocks) }

@@ -1,0 +1,63 @@
+-- The tests of a table's entries, in order.
+use Rattle.std.specs.Prelude.{ℕ, nat_le, Bool, true, false, List, [], ◌∷◌, length, Option, Some, None, Result, Ok}
+use Rattle.std.specs.Ordering.{is_lt}
+use Rattle.std.specs.declared.cmp.Ordering.{Ordering}
+use Rattle.coding.specs.declared.fault.Fault.{Fault}
+use Rattle.coding.specs.declared.fault.FaultName.TheVariants.{TooLarge, Order, Empty}
+use Rattle.block.specs.Piece.{Entry}
+use Rattle.block.specs.Building.{last_key}
+use Rattle.ikey.specs.Key.{internal_key_reading}
+use Rattle.ikey.specs.Order.{internal_cmp}
+use Rattle.table.specs.ReadingSteps.{◌>>=◌, pass}
+
+-- the key of the first entry
+abbrev pub first_key : List Entry → List ℕ
+first_key [] = []
+first_key (e ∷ es) = e.key
+
+-- the key of the last entry, or else this
+abbrev pub key_behind : Option (List ℕ) → List Entry → Option (List ℕ)
+key_behind before [] = before
+key_behind before (e ∷ es) = Some (last_key e.key es)
+
+-- whether an internal key is above the one before it, where there is one
+abbrev pub is_above : (List ℕ → List ℕ → Ordering) → Option (List ℕ) → List ℕ → Bool
+is_above cmp None key = true
+is_above cmp (Some before) key = is_lt (internal_cmp cmp before key)
+
+-- An entry after this key: its key is an internal key of a user key within its limit, its value is within its limit,
+-- and its key is above the key before.
+abbrev pub entry_test : (List ℕ → List ℕ → Ordering) → Option (List ℕ) → Entry → Result (Unit {0}) Fault
+entry_test cmp before e = do
+  _ ← internal_key_reading e.key
+  _ ← pass (nat_le (length e.value) 16777215) TooLarge
+  pass (is_above cmp before e.key) Order
+
+-- each entry after the one before it, the first of them after this key
+abbrev pub entries_test : (List ℕ → List ℕ → Ordering) → Option (List ℕ) → List Entry → Result (Unit {0}) Fault
+entries_test cmp before [] = Ok tt
+entries_test cmp before (e ∷ es) = do
+  _ ← entry_test cmp before e
+  entries_test cmp (Some e.key) es
+
+-- whether there is an element
+abbrev pub is_some_list : {A : Type 0} → List A → Bool
+is_some_list [] = false
+is_some_list (x ∷ xs) = true
+
+-- the entries of a data block after this key: there is one, and each passes its test
+abbrev pub data_test : (List ℕ → List ℕ → Ordering) → Option (List ℕ) → List Entry → Result (Unit {0}) Fault
+data_test cmp before entries = do
+  _ ← pass (is_some_list entries) Empty
+  entries_test cmp before entries
+
+-- the first and the last key of entries
+pub record Ends : Type 0 where
+  pub smallest : List ℕ
+  pub largest : List ℕ
+
+-- the first and the last key of a data block after this key, where its entries pass their tests
+abbrev pub ends_reading : (List ℕ → List ℕ → Ordering) → Option (List ℕ) → List Entry → Result Ends Fault
+ends_reading cmp before entries = do
+  _ ← data_test cmp before entries
+  Ok (record { smallest = first_key entries; largest = last_key [] entries })

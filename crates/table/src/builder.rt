@@ -1,0 +1,145 @@
+//! Writing a table, entry by entry.
+
+ghost use Rattle.std.specs.Prelude.{◌≡◌, ◌≤◌, ◌<◌, ◌^◌, ◌↔◌, [], length, IsTrue, OnOk, OnErr, IfErr};
+ghost use Rattle.coding.specs.Answers.{Gives};
+ghost use Rattle.coding.specs.declared.fault.FaultName.TheVariants.{Memory};
+ghost use Rattle.block.specs.Building.{with_entry};
+ghost use Rattle.table.specs.Options.{AreInLimits};
+ghost use Rattle.table.specs.DataBlocks.{flushed, is_full};
+ghost use Rattle.table.specs.Table.{table, within_limit};
+
+use crate::flushed::Flushed;
+use crate::options::Options;
+use block::BlockBuilder;
+use coding::Fault;
+use frame::TRAILER_LEN;
+use ikey::{Comparator, InternalKey, internal_separator, internal_successor};
+use std::alloc::Global;
+use std::marker::{Model, PhantomData};
+
+/// A table that is being written, seen as its options and its entries so far.
+///
+/// Entries are gathered into a block until that reaches the block size; with the next entry the block is flushed.
+#[derive(Drop)]
+pub struct TableBuilder<C: Comparator> {
+    alloc: Global,
+    options: Options,
+    /// The blocks that were flushed.
+    flushed: Flushed,
+    /// The block that takes the next entry, unless it is full.
+    block: BlockBuilder,
+    /// The last key of that block; empty where there is none.
+    last: Vec<u8>,
+    order: PhantomData<C>,
+}
+
+impl<C: Comparator> Model for TableBuilder<C> {
+    ghost use Rattle.table.specs.Table.{index_keys};
+    ghost use Rattle.table.specs.Building.{TableBuilding, entries_so_far, IsKept};
+
+    ghost Value = { TableBuilding };
+
+    ghost view = { λ b. record { options = b.options; entries = entries_so_far b.flushed.bytes.items b.flushed.index.items b.block.entries } };
+
+    ghost invariant = { λ b. IsKept (index_keys C.cmp C.separator_of C.successor_of) b.options b.flushed.bytes.items b.flushed.index.items b.block b.last.items };
+}
+
+/// Whether a block has an entry and reaches the block size.
+fn is_full(block: &BlockBuilder, options: &Options) -> bool
+    requires { block.now.interval ≡ options.now.restart_interval }
+    ensures { result ≡ is_full options.now block.now.entries }
+{
+    !block.is_empty() && block.estimate() as u64 >= options.block_size
+}
+
+impl<C: Comparator> TableBuilder<C> {
+    ghost use Rattle.table.specs.Building.{IsAboveLast};
+
+    /// A table without entries. Takes no memory.
+    pub fn new(alloc: Global, options: Options) -> TableBuilder<C>
+        requires { AreInLimits options }
+        ensures { result ≡ record { options = options; entries = [] } }
+    {
+        TableBuilder {
+            alloc,
+            options,
+            flushed: Flushed {
+                bytes: Vec::new(alloc),
+                index: Vec::new(alloc),
+            },
+            block: BlockBuilder::new(alloc, options.restart_interval as u32),
+            last: Vec::new(alloc),
+            order: PhantomData,
+        }
+    }
+
+    /// Whether a key is above the last one, as [`TableBuilder::add`] asks of its key. Each key is above none. Takes no memory.
+    pub fn is_above_last(&self, key: &InternalKey) -> bool
+        ensures { IsTrue result ↔ IsAboveLast C.cmp self.now.entries key.now.bytes.now }
+    {
+        if self.block.is_empty() {
+            return true;
+        }
+        let last = InternalKey { bytes: &self.last };
+        last.compare::<C>(key).is_lt()
+    }
+
+    /// Appends an entry: a key above the last one, and a value of at most 16,777,215 bytes.
+    ///
+    /// Refused only for want of memory, and then the table is as it was.
+    pub fn add(&mut self, key: InternalKey, value: &[u8]) -> Result<(), Fault>
+        requires above { IsAboveLast C.cmp self.old.entries key.bytes.now }
+        requires value_fits { length value.now < 2 ^ 24 }
+        ensures ok { OnOk result (self.new ≡ record { options = self.old.options; entries = with_entry self.old.entries key.entry.bytes.now value.now }) }
+        ensures err { OnErr result (self.new ≡ self.old) }
+        ensures memory { IfErr result (λ e. e.name ≡ Memory) }
+    {
+        // Each growth comes before the first change, so that a refused one changes nothing.
+        self.last.reserve(key.bytes.len())?;
+        if is_full(&self.block, &self.options) {
+            let mut next = BlockBuilder::new(self.alloc, self.options.restart_interval as u32);
+            next.add(key.bytes, value)?;
+            let last = InternalKey { bytes: &self.last };
+            let between = internal_separator::<C>(self.alloc, last, key)?;
+            self.flushed.push(between, &self.block)?;
+            self.block = next;
+        } else {
+            self.block.add(key.bytes, value)?;
+        }
+        self.last.clear();
+        self.last.extend_from_slice(key.bytes)?;
+        Ok(())
+    }
+
+    /// The bytes of the data blocks that are flushed, each with the 5 of its trailer: those that reach the block size. An
+    /// open block isn't counted.
+    pub fn flushed(&self) -> u64
+        ensures { result ≡ flushed self.now.options self.now.entries }
+    {
+        let open = if is_full(&self.block, &self.options) {
+            self.block.estimate() + TRAILER_LEN
+        } else {
+            0
+        };
+        (self.flushed.bytes.len() + open) as u64
+    }
+
+    /// The table of the entries. TooLarge where it would have more than 2^30 bytes.
+    pub fn finish(self) -> Result<Vec<u8>, Fault>
+        ensures { Gives (λ v. v.items) result (within_limit (table C.cmp C.separator_of C.successor_of self.options self.entries)) }
+    {
+        let TableBuilder {
+            alloc,
+            mut flushed,
+            block,
+            last,
+            ..
+        } = self;
+        if !block.is_empty() {
+            let last = InternalKey { bytes: &last };
+            let above = internal_successor::<C>(alloc, last)?;
+            flushed.push(above, &block)?;
+        }
+        flushed.finish(alloc)
+    }
+}

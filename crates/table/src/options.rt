@@ -1,0 +1,40 @@
+//! What a writer of tables is given to keep to.
+
+ghost use Rattle.std.specs.Prelude.{◌≡◌, ◌↔◌, IsTrue};
+
+/// What a writer of tables is given to keep to. Each number has its limits.
+#[derive(Clone, Copy, Debug, PartialEq, Eq)]
+pub struct Options {
+    /// A data block ends with the entry that makes it at least this long: 1 to 4,194,304 bytes.
+    pub block_size: u64,
+    /// In data blocks each so-manieth entry stands with its whole key, and a restart points at it: 1 to 1,024.
+    pub restart_interval: u64,
+    /// A file ends with the entry at which its flushed blocks are at least this long: 1 to 2^30 bytes.
+    pub file_size: u64,
+}
+
+impl Options {
+    ghost use Rattle.table.specs.Options.{AreInLimits};
+
+    /// Whether each number is within its limits.
+    pub fn are_in_limits(&self) -> bool
+        ensures { IsTrue result ↔ AreInLimits self.now }
+    {
+        (1..=4_194_304).contains(&self.block_size)
+            && (1..=1_024).contains(&self.restart_interval)
+            && (1..=1 << 30).contains(&self.file_size)
+    }
+}
+
+impl Default for Options {
+    ghost is_default = { λ o. o ≡ record { block_size = 4096; restart_interval = 16; file_size = 2097152 } };
+
+    /// Blocks of 4,096 bytes, a restart for each 16 entries, and files of 2,097,152 bytes.
+    fn default() -> Self {
+        Options {
+            block_size: 4_096,
+            restart_interval: 16,
+            file_size: 2_097_152,
+        }
+    }
+}

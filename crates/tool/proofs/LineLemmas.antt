@@ -1,9 +1,11 @@
 -- Facts on the texts of a command line.
-use Rattle.std.proofs.Common.{◌≡◌, Bool, true, false, List, [], Option, Some, None, Result, Ok, Err, option_map, if◌then◌else◌, unwrap_or, codes, inl, inr, refl, subst, sym, ap, ◌∙◌}
+use Rattle.std.proofs.Common.{◌≡◌, Bool, true, false, List, [], Option, Some, None, Result, Ok, Err, option_map, if◌then◌else◌, unwrap_or, codes, inl, inr, refl, subst, sym, ap, ap₂, ◌∙◌}
 use Rattle.std.specs.Prelude.{IsErr, IsErrAnd, MatchOption, Box}
 use Rattle.std.specs.Borrow.{Bor}
 use Rattle.std.specs.Str.{bytes_eq}
-use Rattle.clap.specs.Words.{App, IsAmong, Row, Text, fault_of, is_simple, is_simple_and_free, kind_of, subcommand_of, subcommand_rows, subcommand_rows_of}
+use Rattle.clap.specs.declared.builder.command.Command.{Command}
+use Rattle.clap.specs.declared.builder.command.Command.TheViews.{out-Command}
+use Rattle.clap.specs.Words.{AddsSubcommand, App, app_of, IsAmong, Row, Text, fault_of, first_of, is_simple, is_simple_and_free, kind_of, subcommand_of, subcommand_rows, subcommand_rows_of, with_subcommand}
 use Rattle.clap.specs.Matches.{subcommand_name_of}
 use Rattle.clap.specs.Kinds.{HasKind}
 use Rattle.clap.specs.declared.error.Error.{Error}
@@ -13,8 +15,11 @@ use Rattle.clap.specs.declared.parser.matches.SubCommand.{SubCommand}
 use Rattle.clap.proofs.OnLiterals.{clap_on_literals}
 use Rattle.std.proofs.lemmas.Slice.Eq.{bytes_eq-Decides}
 use Rattle.std.specs.Box.{box_value}
-use Rattle.tool.specs.Line.{GivesTexts, Has, HasTexts, Lacks, LacksText, TextsGiven, blocks_rows, program_app, rows_of_blocks}
+use Rattle.tool.specs.Line.{BlocksLine, GivesBlocks, LineGives, GivesCommand, GivesTexts, Has, HasPath, HasTexts, Lacks, LacksAll, LacksPath, LacksText, TextsGiven, program_app, rows_under}
+use Rattle.tool.specs.declared.command_line.BlocksTexts.{BlocksTexts}
 use Rattle.tool.specs.declared.command_line.Given.{Given}
+use Rattle.tool.specs.declared.asked.Line.{Line}
+use Rattle.tool.specs.declared.asked.Line.TheVariants as line
 use Rattle.tool.specs.Usage.{TurnsInto}
 use Rattle.tool.specs.declared.asked.Usage.{Usage}
 use Rattle.tool.specs.declared.asked.Usage.TheVariants.{Key, Memory, Clap}
@@ -24,6 +29,11 @@ pub MatchOption-now : (o : Option (Bor Text)) (first : Option Text) → option_m
     → MatchOption o (first ≡ None) (λ text. first ≡ Some text.now)
 MatchOption-now None first e = sym e
 MatchOption-now (Some s) first e = sym e
+
+-- what a command is with one subcommand more
+pub with_one_more : (old sub new : Command) (app sub_app : App) → app_of old ≡ app → app_of sub ≡ sub_app → (out-Command sub).has_globals ≡ false → AddsSubcommand old sub new
+    → app_of new ≡ with_subcommand app sub_app.top
+with_one_more old sub new app sub_app is sub_is local adds = adds.shape local ∙ ap₂ with_subcommand is (ap (λ (a : App). a.top) sub_is)
 
 -- the program is a command of which `clap` states the matches
 pub is_simple-program : is_simple program_app ≡ true
@@ -43,30 +53,40 @@ subcommand_name_of-rows m = go (out-ArgMatches m).subcommand
     go None = refl
     go (Some b) = refl
 
--- the rows of the command that is `blocks`
-pub rows_of_blocks-named : (s : Option (Text × List Row)) (rows : List Row) → option_map (λ p. p.0) s ≡ Some (codes "blocks")
-    → option_map (λ p. p.1) s ≡ Some rows → rows_of_blocks s ≡ Some rows
-rows_of_blocks-named None rows n r = cc r
-rows_of_blocks-named (Some p) rows n r =
-    let name : p.0 ≡ codes "blocks" = ap (λ (o : Option Text). unwrap_or o []) n in
-    rw name r
+-- the rows of the command of a name
+pub rows_under-named : (name : Text) (s : Option (Text × List Row)) (rows : List Row) → option_map (λ p. p.0) s ≡ Some name
+    → option_map (λ p. p.1) s ≡ Some rows → rows_under name s ≡ Some rows
+rows_under-named name None rows n r = cc r
+rows_under-named name (Some p) rows n r =
+    let named : p.0 ≡ name = ap (λ (o : Option Text). unwrap_or o []) n in
+    if-true (bytes_eq p.0 name) ((bytes_eq-Decides p.0 name).1 named) ∙ r
+  where
+    if-true : (b : Bool) → b ≡ true → (if b then Some p.1 else None) ≡ Some p.1
+    if-true true h = refl
+    if-true false h = absurd cc
 
 -- a command of another name has none
-pub rows_of_blocks-other : (s : Option (Text × List Row)) → (option_map (λ p. p.0) s ≡ Some (codes "blocks") → ⊥) → rows_of_blocks s ≡ None
-rows_of_blocks-other None other = refl
-rows_of_blocks-other (Some p) other =
-    if-false (bytes_eq p.0 (codes "blocks")) (λ same. other (ap Some ((bytes_eq-Decides p.0 (codes "blocks")).0 same)))
+pub rows_under-other : (name : Text) (s : Option (Text × List Row)) → (option_map (λ p. p.0) s ≡ Some name → ⊥) → rows_under name s ≡ None
+rows_under-other name None other = refl
+rows_under-other name (Some p) other =
+    if-false (bytes_eq p.0 name) (λ same. other (ap Some ((bytes_eq-Decides p.0 name).0 same)))
   where
     if-false : (b : Bool) → (b ≡ true → ⊥) → (if b then Some p.1 else None) ≡ None
     if-false true h = absurd (h refl)
     if-false false h = refl
 
 -- what the texts of the rows are to a parse that gave them
-pub MatchOption-given : (given : Option (List Row)) (rows : List Row) (r : Option Given) → given ≡ Some rows
+pub MatchOption-texts : (given : Option (List Row)) (rows : List Row) (r : Option BlocksTexts) → given ≡ Some rows
     → MatchOption r (Lacks rows) (λ texts. Has rows texts.a.now texts.b.now texts.at.now texts.out.now)
     → MatchOption r (LacksText given) (λ texts. HasTexts given texts.a.now texts.b.now texts.at.now texts.out.now)
-MatchOption-given given rows None e h = inr (rows, (e, h))
-MatchOption-given given rows (Some texts) e h = (rows, (e, h))
+MatchOption-texts given rows None e h = inr (rows, (e, h))
+MatchOption-texts given rows (Some texts) e h = (rows, (e, h))
+
+pub MatchOption-path : (id : Text) (given : Option (List Row)) (rows : List Row) (r : Option (Bor Text)) → given ≡ Some rows
+    → MatchOption r (first_of id rows ≡ None) (λ text. first_of id rows ≡ Some text.now)
+    → MatchOption r (LacksPath id given) (λ text. HasPath id given text.now)
+MatchOption-path id given rows None e h = inr (rows, (e, h))
+MatchOption-path id given rows (Some text) e h = (rows, (e, h))
 
 -- the usage that `clap`'s error turns into
 TurnsInto-refused : (words : List Text) (e : Error) (u : Usage) → HasKind (fault_of program_app words) e
@@ -88,26 +108,42 @@ TextsGiven-refused app words e (Err u) same kind h =
     TurnsInto-refused words e u
     (subst (λ (a : App). HasKind (fault_of a words) e) same (kind (ap is_simple_and_free same ∙ is_simple_and_free-program))) h.1
 
--- the rows that `clap` gives the command `blocks`
+-- what `clap` gives the program's command
 given_rows : (app : App) (words : List Text) (s : Option (Text × List Row)) → app ≡ program_app → s ≡ subcommand_of app words
-    → rows_of_blocks s ≡ blocks_rows words
-given_rows app words s same e = ap rows_of_blocks (e ∙ ap (λ (a : App). subcommand_of a words) same)
+    → s ≡ subcommand_of program_app words
+given_rows app words s same e = e ∙ ap (λ (a : App). subcommand_of a words) same
 
 -- the texts that a parse gives
-pub GivesTexts-parsed : {P : Type 0} (app : App) (words : List Text) (s : Option (Text × List Row)) (a b at out : Text) → app ≡ program_app
+pub GivesTexts-parsed : {P : Type 0} (app : App) (words : List Text) (s : Option (Text × List Row)) (given : Given) → app ≡ program_app
     → (is_simple_and_free app ≡ true → fault_of app words ≡ []) → (is_simple app ≡ true → P × (s ≡ subcommand_of app words))
-    → HasTexts (rows_of_blocks s) a b at out → GivesTexts words a b at out
-GivesTexts-parsed app words s a b at out same taken walked h = (
+    → GivesCommand s given → GivesTexts words given
+GivesTexts-parsed app words s given same taken walked h = (
   subst (λ (x : App). fault_of x words ≡ []) same (taken (ap is_simple_and_free same ∙ is_simple_and_free-program)),
-  subst (λ (given : Option (List Row)). HasTexts given a b at out)
+  subst (λ (t : Option (Text × List Row)). GivesCommand t given)
       (given_rows app words s same (walked (ap is_simple same ∙ is_simple-program)).1) h,
 )
 
--- the usage of words that lack a text
+-- the usage of words that are no command with its texts
 pub TextsGiven-lacking : {P : Type 0} (app : App) (words : List Text) (s : Option (Text × List Row)) (e : Error) (u : Usage) → app ≡ program_app
-    → (is_simple app ≡ true → P × (s ≡ subcommand_of app words)) → LacksText (rows_of_blocks s) → TurnsInto e u
+    → (is_simple app ≡ true → P × (s ≡ subcommand_of app words)) → LacksAll s → TurnsInto e u
     → TextsGiven words (Err u)
 TextsGiven-lacking app words s e Key same walked lacks h = absurd h
 TextsGiven-lacking app words s e Memory same walked lacks h = tt
 TextsGiven-lacking app words s e (Clap d) same walked lacks h =
-    inr (subst LacksText (given_rows app words s same (walked (ap is_simple same ∙ is_simple-program)).1) lacks)
+    inr (subst LacksAll (given_rows app words s same (walked (ap is_simple same ∙ is_simple-program)).1) lacks)
+
+-- the line of the texts of `blocks`
+pub LineGives-blocks : (words : List Text) (a b at out : Text) (r : Result Line Usage) → GivesBlocks words a b at out → BlocksLine a b at out r → LineGives words r
+LineGives-blocks words a b at out (Ok (line.Blocks a' b' key out')) given h = (
+  at,
+  (
+    subst (λ (x : Text). GivesBlocks words x b'.now at out'.now) (sym h.0)
+        (subst (λ (x : Text). GivesBlocks words a x at out'.now) (sym h.1.0) (subst (GivesBlocks words a b at) (sym h.1.1.1) given)),
+    h.1.1.0,
+  ),
+)
+LineGives-blocks words a b at out (Ok (line.Dump table)) given h = absurd h
+LineGives-blocks words a b at out (Ok (line.Manifest folder)) given h = absurd h
+LineGives-blocks words a b at out (Err Key) given h = (a, b, at, out, (given, h))
+LineGives-blocks words a b at out (Err Memory) given h = tt
+LineGives-blocks words a b at out (Err (Clap e)) given h = absurd h

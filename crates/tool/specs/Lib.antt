@@ -5,6 +5,14 @@ pub mod Merging
 pub mod Ranges
 pub mod Blocks
 pub mod Line
+pub mod Dump
 pub mod Status
 pub mod Text
 pub mod Usage
+pub mod Names
+pub mod Folder
+pub mod Manifest
+pub mod Opening
+pub mod Levels
+pub mod Loading
+pub mod Lines

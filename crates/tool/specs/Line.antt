@@ -5,8 +5,9 @@ use Rattle.clap.specs.Words.{App, IsAmong, Row, Rule, Text, fault_of, first_of, 
 use Rattle.clap.specs.declared.error.Error.{Error}
 use Rattle.tool.specs.Text.{bytes_of_text}
 use Rattle.tool.specs.declared.asked.Line.{Line}
-use Rattle.tool.specs.declared.asked.Line.TheVariants.{Blocks}
+use Rattle.tool.specs.declared.asked.Line.TheVariants as line
 use Rattle.tool.specs.declared.command_line.Given.{Given}
+use Rattle.tool.specs.declared.command_line.Given.TheVariants.{Blocks, Dump, Manifest}
 use Rattle.tool.specs.declared.asked.Usage.{Usage}
 use Rattle.tool.specs.declared.asked.Usage.TheVariants.{Key, Memory, Clap}
 
@@ -27,21 +28,23 @@ blocks_app =
 abbrev pub with_command_required : App → App
 with_command_required app = record app { top = record app.top { subcommand_required = true } }
 
+-- a command of one argument, which has to be given, as `dump TABLE`
+abbrev pub path_app : Text → Text → App
+path_app name id = with_rule (new_app name) (wanted id)
+
 -- the program with its commands
 abbrev pub program_app : App
-program_app = with_subcommand (with_command_required (new_app (codes "sedvokt"))) blocks_app.top
+program_app =
+    with_subcommand (with_subcommand (with_subcommand (with_command_required (new_app (codes "sedvokt"))) blocks_app.top)
+    (path_app (codes "dump") (codes "TABLE")).top) (path_app (codes "manifest") (codes "DIR")).top
 
 -- the rows of the command of this name
 abbrev pub rows_of_command : Text → Text × List Row → Option (List Row)
 rows_of_command name p = if bytes_eq p.0 name then Some p.1 else None
 
--- what a parse gives the command `blocks`, if that is the command
-abbrev pub rows_of_blocks : Option (Text × List Row) → Option (List Row)
-rows_of_blocks = option_and_then (rows_of_command (codes "blocks"))
-
--- what the words give the command `blocks`, if they name it
-abbrev pub blocks_rows : List Text → Option (List Row)
-blocks_rows words = rows_of_blocks (subcommand_of program_app words)
+-- what a parse gives the command of this name, if that is the command
+abbrev pub rows_under : Text → Option (Text × List Row) → Option (List Row)
+rows_under name = option_and_then (rows_of_command name)
 
 -- the rows give these texts of A, B, `--at` and OUT
 abbrev pub Has : List Row → Text → Text → Text → Text → Type 0
@@ -61,27 +64,65 @@ HasTexts given a b at out = (rows : List Row) × ((given ≡ Some rows) × Has r
 abbrev pub LacksText : Option (List Row) → Type 0
 LacksText given = (given ≡ None) ⊎ ((rows : List Row) × ((given ≡ Some rows) × Lacks rows))
 
--- `clap` takes the words, and they give `blocks` these texts of A, B, `--at` and OUT
-abbrev pub GivesTexts : List Text → Text → Text → Text → Text → Type 0
-GivesTexts words a b at out = (fault_of program_app words ≡ []) × HasTexts (blocks_rows words) a b at out
+-- there are rows, and they give this text of one argument
+abbrev pub HasPath : Text → Option (List Row) → Text → Type 0
+HasPath id given text = (rows : List Row) × ((given ≡ Some rows) × (first_of id rows ≡ Some text))
 
--- `clap` refuses the words with this error, or they lack a text
+-- there are no rows, or they give no text of one argument
+abbrev pub LacksPath : Text → Option (List Row) → Type 0
+LacksPath id given = (given ≡ None) ⊎ ((rows : List Row) × ((given ≡ Some rows) × (first_of id rows ≡ None)))
+
+-- what a parse gives is a command with these texts
+abbrev pub GivesCommand : Option (Text × List Row) → Given → Type 0
+GivesCommand parsed (Blocks texts) = HasTexts (rows_under (codes "blocks") parsed) texts.a.now texts.b.now texts.at.now texts.out.now
+GivesCommand parsed (Dump table) = HasPath (codes "TABLE") (rows_under (codes "dump") parsed) table.now
+GivesCommand parsed (Manifest folder) = HasPath (codes "DIR") (rows_under (codes "manifest") parsed) folder.now
+
+-- what a parse gives is no command with all its texts
+abbrev pub LacksAll : Option (Text × List Row) → Type 0
+LacksAll parsed = LacksText (rows_under (codes "blocks") parsed)
+    × (LacksPath (codes "TABLE") (rows_under (codes "dump") parsed)
+    × LacksPath (codes "DIR") (rows_under (codes "manifest") parsed))
+
+-- `clap` takes the words, and they give a command with these texts
+abbrev pub GivesTexts : List Text → Given → Type 0
+GivesTexts words given = (fault_of program_app words ≡ []) × GivesCommand (subcommand_of program_app words) given
+
+-- `clap` refuses the words with this error, or they are no command with all its texts
 abbrev pub RefusedWith : List Text → Error → Type 0
-RefusedWith words e = IsAmong (kind_of e) (fault_of program_app words) ⊎ LacksText (blocks_rows words)
+RefusedWith words e = IsAmong (kind_of e) (fault_of program_app words) ⊎ LacksAll (subcommand_of program_app words)
 
--- the texts that a command line gives `blocks`, or `clap`'s refusal; memory comes at any words
+-- the texts that a command line gives, or `clap`'s refusal; memory comes at any words
 abbrev pub TextsGiven : List Text → Result Given Usage → Type 0
-TextsGiven words (Ok given) = GivesTexts words given.a.now given.b.now given.at.now given.out.now
+TextsGiven words (Ok given) = GivesTexts words given
 TextsGiven words (Err Key) = ⊥
 TextsGiven words (Err Memory) = Unit {0}
 TextsGiven words (Err (Clap e)) = RefusedWith words e
 
+-- the line of `blocks` with these texts, or Key where that of the key is no key's
+abbrev pub BlocksLine : Text → Text → Text → Text → Result Line Usage → Type 0
+BlocksLine a b at out (Ok (line.Blocks a' b' key out')) = (a'.now ≡ a) × ((b'.now ≡ b) × ((bytes_of_text at ≡ Some key.items) × (out'.now ≡ out)))
+BlocksLine a b at out (Ok _) = ⊥
+BlocksLine a b at out (Err Key) = bytes_of_text at ≡ None
+BlocksLine a b at out (Err Memory) = Unit {0}
+BlocksLine a b at out (Err (Clap e)) = ⊥
+
+-- `clap` takes the words, and they give `blocks` these texts of A, B, `--at` and OUT
+abbrev pub GivesBlocks : List Text → Text → Text → Text → Text → Type 0
+GivesBlocks words a b at out = (fault_of program_app words ≡ []) × HasTexts (rows_under (codes "blocks") (subcommand_of program_app words)) a b at out
+
+-- `clap` takes the words, and they give the command of this name this text of its one argument
+abbrev pub GivesPath : List Text → Text → Text → Text → Type 0
+GivesPath words name id text = (fault_of program_app words ≡ []) × HasPath id (rows_under name (subcommand_of program_app words)) text
+
 -- What a command line asks for: the texts of its command, with the key's text read. Key is the answer exactly where
 -- that text is no key's, and `clap`'s error where it refuses the words. Memory comes at any words.
 abbrev pub LineGives : List Text → Result Line Usage → Type 0
-LineGives words (Ok (Blocks a b at out)) =
-    (text : Text) × (GivesTexts words a.now b.now text out.now × (bytes_of_text text ≡ Some at.items))
+LineGives words (Ok (line.Blocks a b at out)) =
+    (text : Text) × (GivesBlocks words a.now b.now text out.now × (bytes_of_text text ≡ Some at.items))
+LineGives words (Ok (line.Dump table)) = GivesPath words (codes "dump") (codes "TABLE") table.now
+LineGives words (Ok (line.Manifest folder)) = GivesPath words (codes "manifest") (codes "DIR") folder.now
 LineGives words (Err Key) =
-    (a b text out : Text) × (GivesTexts words a b text out × (bytes_of_text text ≡ None))
+    (a b text out : Text) × (GivesBlocks words a b text out × (bytes_of_text text ≡ None))
 LineGives words (Err Memory) = Unit {0}
 LineGives words (Err (Clap e)) = RefusedWith words e

@@ -21,6 +21,16 @@ pub enum Line<'a> {
         /// The path of the file that gets the block.
         out: &'a str,
     },
+    /// Prints the entries of a table.
+    Dump {
+        /// The path of the table's file.
+        table: &'a str,
+    },
+    /// Prints the version that a database folder holds.
+    Manifest {
+        /// The path of the folder.
+        folder: &'a str,
+    },
 }
 
 /// Why a command line asks for nothing that can be done.

@@ -1,9 +1,9 @@
 //! The command line.
 
-ghost use Rattle.std.specs.Prelude.{◌≡◌, IfOk, MatchOption, false, map};
+ghost use Rattle.std.specs.Prelude.{◌≡◌, IfOk, MatchOption, codes, false, map};
 ghost use Rattle.clap.specs.Words.{app_of, first_of, found_of, rows_of, rule_of, subcommand_rows_of};
 ghost use Rattle.clap.specs.declared.builder.command.Command.TheViews.{out-Command};
-ghost use Rattle.tool.specs.Line.{Has, HasTexts, Lacks, LacksText, LineGives, TextsGiven, blocks_app, program_app, rows_of_blocks, wanted};
+ghost use Rattle.tool.specs.Line.{BlocksLine, GivesCommand, Has, HasPath, HasTexts, Lacks, LacksAll, LacksPath, LacksText, LineGives, TextsGiven, blocks_app, path_app, program_app, rows_under, wanted};
 
 use crate::asked::{Line, Usage};
 use crate::text::key_of;
@@ -16,6 +16,10 @@ const AT_HELP: &str =
     "The user key at which the second range begins: hexadecimal digits, or - for the empty key";
 
 const BLOCKS_ABOUT: &str = "Merges the entries of two blocks into the block of their sorted union";
+
+const DUMP_ABOUT: &str = "Prints the entries of a table, a line an entry";
+
+const MANIFEST_ABOUT: &str = "Prints the version that a database folder holds";
 
 const STATUSES: &str =
     "A key is written as hexadecimal digits of either case, two a byte; - is the empty key.
@@ -47,49 +51,99 @@ fn blocks_command<'a>(alloc: Global) -> Result<Command<'a>, AllocError>
     command.arg(at)?.arg(out)
 }
 
+/// A command of one argument, the path of what it reads.
+fn path_command<'a>(
+    alloc: Global,
+    name: &'a str,
+    about: &'a str,
+    id: &'a str,
+    help: &'a str,
+) -> Result<Command<'a>, AllocError>
+    ensures app { IfOk result (λ command. app_of command ≡ path_app name.entry.now id.entry.now) }
+    ensures local { IfOk result (λ command. (out-Command command).has_globals ≡ false) }
+{
+    Command::new(alloc, name)
+        .about(about)
+        .arg(wanted(alloc, id, help))
+}
+
 /// The program with its commands.
 fn program_command<'a>(alloc: Global) -> Result<Command<'a>, AllocError>
     ensures { IfOk result (λ command. app_of command ≡ program_app) }
 {
     let blocks = blocks_command(alloc)?;
+    let dump = path_command(alloc, "dump", DUMP_ABOUT, "TABLE", "The file of the table")?;
+    let manifest = path_command(alloc, "manifest", MANIFEST_ABOUT, "DIR", "The folder")?;
     let command = Command::new(alloc, "sedvokt")
         .about("Carries out compactions of sorted tables, by proved code")
         .after_help(STATUSES)
         .subcommand_required(true);
-    command.subcommand(blocks)
+    let command = command.subcommand(blocks)?;
+    let command = command.subcommand(dump)?;
+    command.subcommand(manifest)
 }
 
-/// The texts that `blocks` is given.
+/// The texts of the arguments of `blocks`.
 #[derive(Clone, Copy)]
-struct Given<'a> {
+struct BlocksTexts<'a> {
     a: &'a str,
     b: &'a str,
     at: &'a str,
     out: &'a str,
 }
 
-impl<'a> Given<'a> {
-    /// The texts of `blocks`, where that is the command and all four are there.
-    fn of_blocks(matches: &ArgMatches<'a>) -> Option<Given<'a>>
-        ensures { let given = rows_of_blocks (subcommand_rows_of matches.now) in
-            MatchOption result (LacksText given)
-            (λ texts. HasTexts given texts.a.now texts.b.now texts.at.now texts.out.now) }
-    {
-        Given::of(matches.subcommand_matches("blocks")?)
-    }
-
+impl<'a> BlocksTexts<'a> {
     /// The texts of all four arguments.
-    fn of(values: &ArgMatches<'a>) -> Option<Given<'a>>
+    fn of(values: &ArgMatches<'a>) -> Option<BlocksTexts<'a>>
         ensures { MatchOption result (Lacks (rows_of (found_of values.now)))
-            (λ given. Has (rows_of (found_of values.now)) given.a.now given.b.now given.at.now given.out.now) }
+            (λ texts. Has (rows_of (found_of values.now)) texts.a.now texts.b.now texts.at.now texts.out.now) }
     {
-        Some(Given {
+        Some(BlocksTexts {
             a: first_text(values, "A")?,
             b: first_text(values, "B")?,
             at: first_text(values, "at")?,
             out: first_text(values, "OUT")?,
         })
     }
+}
+
+/// The texts that a command is given.
+#[derive(Clone, Copy)]
+enum Given<'a> {
+    Blocks(BlocksTexts<'a>),
+    Dump(&'a str),
+    Manifest(&'a str),
+}
+
+/// The texts of the command, where it is one of the program's and its texts are there.
+fn texts_in<'a>(matches: &ArgMatches<'a>) -> Option<Given<'a>>
+    ensures { MatchOption result (LacksAll (subcommand_rows_of matches.now)) (GivesCommand (subcommand_rows_of matches.now)) }
+{
+    if let Some(texts) = blocks_texts(matches) {
+        return Some(Given::Blocks(texts));
+    }
+    if let Some(table) = path_text(matches, "dump", "TABLE") {
+        return Some(Given::Dump(table));
+    }
+    let folder = path_text(matches, "manifest", "DIR")?;
+    Some(Given::Manifest(folder))
+}
+
+/// The texts of `blocks`, where that is the command and all four are there.
+fn blocks_texts<'a>(matches: &ArgMatches<'a>) -> Option<BlocksTexts<'a>>
+    ensures { let given = rows_under (codes "blocks") (subcommand_rows_of matches.now) in
+        MatchOption result (LacksText given)
+        (λ texts. HasTexts given texts.a.now texts.b.now texts.at.now texts.out.now) }
+{
+    BlocksTexts::of(matches.subcommand_matches("blocks")?)
+}
+
+/// The text of the one argument of a command, where that is the command and the text is there.
+fn path_text<'a>(matches: &ArgMatches<'a>, name: &str, id: &str) -> Option<&'a str>
+    ensures { let given = rows_under name.now (subcommand_rows_of matches.now) in
+        MatchOption result (LacksPath id.now given) (λ text. HasPath id.now given text.now) }
+{
+    first_text(matches.subcommand_matches(name)?, id)
 }
 
 /// The text that an argument is given.
@@ -106,7 +160,7 @@ fn texts_given<'a, S: AsStr>(alloc: Global, words: &'a [S]) -> Result<Given<'a>,
 {
     let mut command = program_command(alloc)?;
     let matches = command.try_get_matches_from_mut(words)?;
-    match Given::of_blocks(&matches) {
+    match texts_in(&matches) {
         Some(given) => Ok(given),
         None => {
             let kind = ErrorKind::MissingRequiredArgument;
@@ -122,17 +176,27 @@ fn texts_given<'a, S: AsStr>(alloc: Global, words: &'a [S]) -> Result<Given<'a>,
 pub fn line<'a, S: AsStr>(alloc: Global, words: &'a [S]) -> Result<Line<'a>, Usage>
     ensures { LineGives (map S.text words.entry.now) result }
 {
-    let given = texts_given(alloc, words)?;
+    match texts_given(alloc, words)? {
+        Given::Blocks(texts) => blocks_line(alloc, texts),
+        Given::Dump(table) => Ok(Line::Dump { table }),
+        Given::Manifest(folder) => Ok(Line::Manifest { folder }),
+    }
+}
+
+/// The line of `blocks`, where the text of its key is a key's.
+fn blocks_line<'a>(alloc: Global, texts: BlocksTexts<'a>) -> Result<Line<'a>, Usage>
+    ensures { BlocksLine texts.entry.a.now texts.entry.b.now texts.entry.at.now texts.entry.out.now result }
+{
     // Memory alone refuses a key.
-    let Ok(key) = key_of(alloc, given.at) else {
+    let Ok(key) = key_of(alloc, texts.at) else {
         return Err(Usage::Memory);
     };
     match key {
         Some(at) => Ok(Line::Blocks {
-            a: given.a,
-            b: given.b,
+            a: texts.a,
+            b: texts.b,
             at,
-            out: given.out,
+            out: texts.out,
         }),
         None => Err(Usage::Key),
     }

@@ -2,12 +2,15 @@
 
 use crate::asked::{Line, Usage};
 use crate::command_line::line;
+use crate::disk::Disk;
+use crate::dumping::dump;
 use crate::files;
+use crate::showing::manifest;
 use crate::state::status;
 use crate::two_blocks::blocks;
 use coding::{Fault, FaultName};
 use std::env::Env;
-use std::io::ErrorKind;
+use std::io::{ErrorKind, Write};
 use std::rt::Files;
 use std::{env, io};
 
@@ -55,7 +58,23 @@ fn done<R: Files + Print + AllocGlobal>(rt: &R, line: Line<'_>) -> Result<(), Fa
             let length = block.len();
             println!(rt; "{entries} entries, {length} bytes").map_err(|error| files::failed(&error))
         }
+        Line::Dump { table } => {
+            let bytes = files::read(rt, table)?;
+            let lines = dump(rt.alloc(), bytes.as_slice())?;
+            written_out(rt, lines.as_slice())
+        }
+        Line::Manifest { folder } => {
+            let lines = manifest(rt.alloc(), &mut Disk::new(rt, folder))?;
+            written_out(rt, lines.as_slice())
+        }
     }
+}
+
+/// Writes lines to the standard output.
+fn written_out<R: Print>(rt: &R, lines: &[u8]) -> Result<(), Fault> {
+    io::writer(rt)
+        .write_all(lines)
+        .map_err(|error| files::failed(&error))
 }
 
 /// Tells a refusal, and answers its status.

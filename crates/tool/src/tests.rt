@@ -58,6 +58,10 @@ fn command_lines(rt: HostRuntime) -> Result<(), Fail> {
     let given = outcome(alloc, words.as_slice())?;
     let wanted = r#"Blocks { a: "one", b: "two", at: [], out: "three" }"#;
     assert_eq!(rt; given.as_str(), wanted);
+    let given = outcome(alloc, ["sedvokt", "dump", "one"].as_slice())?;
+    assert_eq!(rt; given.as_str(), r#"Dump { table: "one" }"#);
+    let given = outcome(alloc, ["sedvokt", "manifest", "one"].as_slice())?;
+    assert_eq!(rt; given.as_str(), r#"Manifest { folder: "one" }"#);
     Ok(())
 }
 
@@ -67,6 +71,8 @@ fn faults_of_usage(rt: HostRuntime) -> Result<(), Fail> {
     let words = ["sedvokt", "blocks", "one", "two", "--at", "6", "three"];
     assert_eq!(rt; outcome(alloc, words.as_slice())?.as_str(), "key");
     let words = ["sedvokt", "blocks", "one", "two", "--at", "6"];
+    assert_eq!(rt; outcome(alloc, words.as_slice())?.as_str(), "mistake");
+    let words = ["sedvokt", "dump"];
     assert_eq!(rt; outcome(alloc, words.as_slice())?.as_str(), "mistake");
     let words = ["sedvokt", "blocks", "--help"];
     assert_eq!(rt; outcome(alloc, words.as_slice())?.as_str(), "help");
@@ -199,5 +205,35 @@ fn longest_user_key(rt: HostRuntime) -> Result<(), Fail> {
         merged(alloc, &longer, &empty, b"")?.as_str(),
         "refused: TooLarge"
     );
+    Ok(())
+}
+
+/// The lines of a table, or its refusal.
+fn dumped(alloc: Global, bytes: &[u8]) -> Result<String, Fail> {
+    match dump(alloc, bytes) {
+        Ok(lines) => Ok(String::from_str(alloc, str::from_utf8(&lines)?)?),
+        Err(fault) => Ok(format!(in alloc; "refused: {fault}")?),
+    }
+}
+
+/// The table of a deletion of `u` at sequence 4 and a value `x` of it at 2.
+const TWO_ENTRIES: [u8; 125] = [
+    0x00, 0x09, 0x00, 0x75, 0x00, 0x04, 0x00, 0x00, 0x00, 0x00, 0x00, 0x00, 0x01, 0x08, 0x01, 0x01,
+    0x02, 0x00, 0x00, 0x00, 0x00, 0x00, 0x00, 0x78, 0x00, 0x00, 0x00, 0x00, 0x01, 0x00, 0x00, 0x00,
+    0x00, 0xef, 0xe0, 0xe5, 0x28, 0x00, 0x00, 0x00, 0x00, 0x01, 0x00, 0x00, 0x00, 0x00, 0xc0, 0xf2,
+    0xa1, 0xb0, 0x00, 0x09, 0x02, 0x75, 0x01, 0x02, 0x00, 0x00, 0x00, 0x00, 0x00, 0x00, 0x00, 0x20,
+    0x00, 0x00, 0x00, 0x00, 0x01, 0x00, 0x00, 0x00, 0x00, 0x0a, 0xb0, 0x5c, 0x0c, 0x25, 0x08, 0x32,
+    0x16, 0x00, 0x00, 0x00, 0x00, 0x00, 0x00, 0x00, 0x00, 0x00, 0x00, 0x00, 0x00, 0x00, 0x00, 0x00,
+    0x00, 0x00, 0x00, 0x00, 0x00, 0x00, 0x00, 0x00, 0x00, 0x00, 0x00, 0x00, 0x00, 0x00, 0x00, 0x00,
+    0x00, 0x00, 0x00, 0x00, 0x00, 0x57, 0xfb, 0x80, 0x8b, 0x24, 0x75, 0x47, 0xdb,
+];
+
+#[test]
+fn a_table_as_lines(rt: HostRuntime) -> Result<(), Fail> {
+    let alloc = rt.alloc();
+    let lines = dumped(alloc, &TWO_ENTRIES)?;
+    assert_eq!(rt; lines.as_str(), "75 4 del\n75 2 put 78\n");
+    assert_eq!(rt; dumped(alloc, &[])?.as_str(), "refused: Short");
+    assert_eq!(rt; dumped(alloc, &[0; 48])?.as_str(), "refused: Magic");
     Ok(())
 }

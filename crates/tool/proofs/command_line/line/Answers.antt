@@ -1,12 +1,11 @@
-use Rattle.std.proofs.Common.{◌≡◌, ℕ, List, Option, None, Result, ap, option_map, ◌∙◌}
-use Rattle.std.specs.Result.{result_unwrap_or}
-use Rattle.coding.specs.declared.fault.Fault.{Fault}
-use Rattle.tool.specs.Text.{bytes_of_text}
+use Rattle.std.proofs.Common.{map, subst}
+use Rattle.clap.specs.Words.{subcommand_of}
+use Rattle.tool.specs.Line.{GivesCommand, program_app}
+use Rattle.tool.proofs.LineLemmas.{LineGives-blocks}
 use Rattle.tool.proofs.command_line.line.Goals as goal
 
-pub returns-in-None : goal.returns-in-None
-returns-in-None g c =
-    let given = c.in_ok-given.given in
-    let no_key : bytes_of_text given.at.now ≡ None =
-    ap (λ (answer : Result (Option (List ℕ)) Fault). result_unwrap_or answer None) c.in-Ok.ensures.answer ∙ ap (option_map _) c.in-None.is in
-    (given.a.now, given.b.now, given.at.now, given.out.now, (c.in_ok-given.ensures, no_key))
+pub returns-in-Blocks : goal.returns-in-Blocks
+returns-in-Blocks g c =
+    let texts = c.in-Blocks.texts in
+    let command = subst (GivesCommand (subcommand_of program_app (map g.S.AsStr.text c.args.words.now))) c.in-Blocks.is c.in_ok-texts.ensures.1 in
+    LineGives-blocks (map g.S.AsStr.text c.args.words.now) texts.a.now texts.b.now texts.at.now texts.out.now c.blocks_line.result (c.in_ok-texts.ensures.0, command) c.blocks_line.ensures

@@ -12,7 +12,7 @@ returns-in_err-matches g c =
 pub returns-in-Some : goal.returns-in-Some
 returns-in-Some g c =
     GivesTexts-parsed (app_of c.in_ok-command.command) (map g.S.AsStr.text c.args.words.now) (subcommand_rows_of c.in_ok-matches.matches)
-    _ _ _ _ c.in_ok-command.ensures c.in_ok-matches.ensures.kinds c.in_ok-matches.ensures.ok.2 c.in-Some.ensures
+    c.in-Some.given c.in_ok-command.ensures c.in_ok-matches.ensures.kinds c.in_ok-matches.ensures.ok.2 c.in-Some.ensures
 
 pub returns : goal.returns
 returns g c =

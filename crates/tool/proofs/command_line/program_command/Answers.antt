@@ -1,0 +1,16 @@
+use Rattle.std.proofs.Common.{rules, ap, codes, ◌≡◌, ◌∙◌}
+use Rattle.std.proofs.lemmas.Result.{IfOk-weaker}
+use Rattle.clap.specs.Words.{App, app_of, new_app, with_subcommand}
+use Rattle.clap.specs.Simple.{app_of_fields}
+use Rattle.tool.specs.Line.{blocks_app, path_app, with_command_required}
+use Rattle.tool.proofs.LineLemmas.{with_one_more}
+use Rattle.tool.proofs.command_line.program_command.Goals as goal
+
+pub returns : goal.returns
+returns c =
+    let start : app_of c.subcommand_required-command.result ≡ with_command_required (new_app (codes "sedvokt")) =
+    ap app_of_fields c.subcommand_required-command.ensures
+    ∙ ap with_command_required (ap app_of_fields c.after_help.ensures ∙ ap app_of_fields c.about.ensures ∙ c.new.ensures.app) in
+    let one = with_one_more _ _ c.in_ok-command.command _ _ start c.in_ok-blocks.ensures.app c.in_ok-blocks.ensures.local c.in_ok-command.ensures in
+    let two = with_one_more _ _ c.in_ok-command-2.command _ _ one c.in_ok-dump.ensures.app c.in_ok-dump.ensures.local c.in_ok-command-2.ensures in
+    IfOk-weaker c.subcommand-3.result _ _ (λ command h. with_one_more _ _ command _ _ two c.in_ok-manifest.ensures.app c.in_ok-manifest.ensures.local h) c.subcommand-3.ensures

@@ -1,0 +1,31 @@
+use Rattle.std.proofs.Common.{◌≡◌, ℕ, ◌<◌, Bool, true, false, ◌++◌, List, [], ◌∷◌, length, Result, Ok, Err, string_bytes, sym, ap, ◌∙◌, arith}
+use Rattle.std.specs.declared.vec.Vec.{Vec}
+use Rattle.std.proofs.lemmas.Bool.{false≢true}
+use Rattle.std.proofs.lemmas.List.{append-nil}
+use Rattle.coding.specs.declared.fault.Fault.{Fault}
+use Rattle.block.specs.Piece.{Entry}
+use Rattle.ikey.specs.Bytewise.{bytewise_cmp}
+use Rattle.table.specs.Reading.{Contents, DataBlock, blocks_of, contents_of, contents_reading, entries_of, table_reading}
+use Rattle.table.specs.ReadingSteps.{◌>>=◌ as ◌>=>◌}
+use Rattle.tool.specs.Dump.{dump_lines, dumped}
+use Rattle.tool.specs.Testing.{◌>>=◌}
+use Rattle.tool.proofs.TestedLists.{ok_is}
+use Rattle.tool.proofs.dumping.dump.Goals as goal
+
+-- the entries of what the bytes hold
+from_contents : (b : Result (List DataBlock) Fault) (bytes : List ℕ) (t : Contents) → (b >=> λ blocks. Ok (contents_of bytes blocks)) ≡ Ok t → (b >=> λ blocks. Ok (entries_of blocks)) ≡ Ok t.entries
+from_contents (Ok blocks) bytes t h = cc
+from_contents (Err e) bytes t h = absurd cc
+
+-- no line is left where no entry is
+all_told : (out : List ℕ) (q : List Entry) (some : Bool) → some ≡ false → (0 < length q → some ≡ true) → out ++ dump_lines q ≡ out
+all_told out [] some none left = append-nil out
+all_told out (e ∷ q) some none left = absurd (false≢true (sym none ∙ left (omega arith)))
+
+pub returns : goal.returns
+returns c =
+    let read : table_reading bytewise_cmp c.args.bytes.now ≡ Ok c.in_ok-table.table.entries = from_contents (blocks_of bytewise_cmp c.args.bytes.now) c.args.bytes.now c.in_ok-table.table c.in_ok-table.ensures.exact in
+    let same : c.in_ok-table.table.entries ≡ c.in_ok-cursor.cursor = ok_is c.in_ok-table.table.entries c.in_ok-cursor.cursor c.in_ok-cursor.ensures in
+    let told = all_told (string_bytes c.loop-alloc.out) c.loop-alloc.cursor c.valid.result c.loop-alloc-test.false c.valid.ensures.some.1 in
+    let lines : dump_lines c.in_ok-table.table.entries ≡ c.into_bytes.result.items = ap dump_lines same ∙ sym c.loop-alloc.invariant ∙ told ∙ sym (ap (λ v. v.items) c.into_bytes.ensures.value) in
+    ap (λ (r : Result (List Entry) Fault). r >>= λ entries. Ok (dump_lines entries)) read ∙ ap (λ (x : List ℕ). Ok x) lines

@@ -1,0 +1,119 @@
+use crate::names::{number_in_current, old_table_name, table_name};
+use crate::*;
+use coding::{Fault, FaultName};
+use std::alloc::Global;
+use std::test::Fail;
+use std::{env, fs, process};
+
+/// The number of the manifest that CURRENT names by this text, or the refusal.
+fn named(alloc: Global, text: &str) -> Result<u64, FaultName> {
+    number_in_current(alloc, text.as_bytes()).map_err(|fault| fault.name)
+}
+
+#[test]
+fn names_of_manifests(rt: HostRuntime) {
+    let alloc = rt.alloc();
+    let taken = [
+        ("MANIFEST-000009\n", 9),
+        ("MANIFEST-000000\n", 0),
+        ("MANIFEST-1000000\n", 1_000_000),
+        ("MANIFEST-18446744073709551615\n", u64::MAX),
+    ];
+    for (text, number) in taken {
+        assert_eq!(rt; named(alloc, text), Ok(number), "{text}");
+    }
+    let refused = [
+        "",
+        "\n",
+        "MANIFEST-\n",
+        "MANIFEST-000009",
+        "MANIFEST-000009\n\n",
+        "MANIFEST-000009\r\n",
+        "MANIFEST-9\n",
+        "MANIFEST-0000009\n",
+        "MANIFEST-+00009\n",
+        "MANIFEST-00000a\n",
+        "MANIFEST-18446744073709551616\n",
+        "manifest-000009\n",
+        "../MANIFEST-000009\n",
+        "MANIFEST-../000009\n",
+        "MANIFEST-000009/\n",
+    ];
+    for text in refused {
+        assert_eq!(rt; named(alloc, text), Err(FaultName::Apply), "{text}");
+    }
+}
+
+#[test]
+fn names_of_tables(rt: HostRuntime) -> Result<(), Fail> {
+    assert_eq!(rt; table_name(rt.alloc(), 9)?.as_str(), "000009.ldb");
+    assert_eq!(rt;
+        old_table_name(rt.alloc(), 1_234_567)?.as_str(),
+        "1234567.sst"
+    );
+    Ok(())
+}
+
+#[test]
+fn faults_of_folders(rt: HostRuntime) {
+    assert_eq!(rt;
+        Fault::from(FolderFault::Device),
+        Fault::of(FaultName::Device)
+    );
+    assert_eq!(rt;
+        Fault::from(FolderFault::Memory),
+        Fault::of(FaultName::Memory)
+    );
+}
+
+/// A folder of the system that is made for a test.
+fn new_folder(rt: &HostRuntime, name: &str) -> Result<String, Fail> {
+    let id = process::id(rt.process());
+    let base = env::temp_dir(rt)?;
+    let base = base.as_str();
+    let path = format!(in rt.alloc(); "{base}/sedvokt-{name}-{id}")?;
+    fs::create_dir(rt, path.as_str())?;
+    Ok(path)
+}
+
+#[test]
+fn a_file_is_made_and_gets_another_name(rt: HostRuntime) -> Result<(), Fail> {
+    let path = new_folder(&rt, "made")?;
+    let mut disk = Disk::new(&rt, path.as_str());
+    assert!(rt; disk.read("CURRENT")?.is_none());
+    disk.create("1", b"a longer text")?;
+    disk.create("1", b"text")?;
+    disk.sync("1")?;
+    disk.rename("1", "CURRENT")?;
+    disk.sync_folder()?;
+    assert!(rt; disk.read("1")?.is_none());
+    let text = disk.read("CURRENT")?.ok_or("the renamed file")?;
+    assert_eq!(rt; text.as_slice(), b"text".as_slice());
+    assert_eq!(rt; disk.failures(), 0);
+    fs::remove_dir_all(&rt, path.as_str())?;
+    Ok(())
+}
+
+#[test]
+fn what_the_system_refuses_is_counted(rt: HostRuntime) -> Result<(), Fail> {
+    let path = new_folder(&rt, "refused")?;
+    let mut disk = Disk::new(&rt, path.as_str());
+    assert_eq!(rt; disk.sync("1"), Err(FolderFault::Device));
+    assert_eq!(rt; disk.rename("1", "2"), Err(FolderFault::Device));
+    // A folder is no file.
+    assert!(rt; disk.read(".").is_err());
+    assert_eq!(rt; disk.failures(), 3);
+    fs::remove_dir_all(&rt, path.as_str())?;
+    assert_eq!(rt; disk.sync_folder(), Err(FolderFault::Device));
+    assert_eq!(rt; disk.create("1", b"text"), Err(FolderFault::Device));
+    assert_eq!(rt; disk.failures(), 5);
+    Ok(())
+}
+
+#[test]
+fn no_folder_has_the_empty_path(rt: HostRuntime) -> Result<(), Fail> {
+    let mut disk = Disk::new(&rt, "");
+    assert!(rt; disk.read("tmp")?.is_none());
+    assert_eq!(rt; disk.failures(), 0);
+    Ok(())
+}

@@ -9,6 +9,7 @@ mod checksums;
 mod figures;
 mod jobs;
 mod random;
+mod tables;
 
 use anyhow::Result;
 use figures::Figures;
@@ -37,6 +38,7 @@ fn main(rt: HostRuntime) -> Result<()> {
     let mut figures = Figures::new(alloc, rounds);
     checksums::measure(&rt, alloc, &bytes, &mut figures)?;
     blocks::measure(&rt, alloc, &bytes, &mut figures)?;
+    tables::measure(&rt, alloc, &bytes, &mut figures)?;
     jobs::measure(&rt, alloc, jobs, &mut figures)?;
     if full {
         figures.print(&rt)?;

@@ -86,6 +86,7 @@ fn a_refused_growth_leaves_the_cursor(rt: HostRuntime) -> Result<(), Fail> {
 #[test]
 fn a_refused_growth_at_a_restart(rt: HostRuntime) -> Result<(), Fail> {
     let block = check(WORKED[1])?;
+    assert_eq!(rt; block.restarts(), 2);
     let cursor = match BlockCursor::at(rt.alloc(), &block, 1) {
         Ok(cursor) => cursor,
         Err(refused) => {

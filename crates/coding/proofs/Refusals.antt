@@ -11,3 +11,8 @@ unless _ P p = p
 
 pub Fails-from : {Y : Type 0} (e : Fault) (answer : Result Y Fault) → answer ≡ Err e → Fails e answer
 Fails-from e answer h = unless e.name (answer ≡ Err e) h
+
+-- what follows of a fact that holds, want of memory aside
+pub unless_from : (n : FaultName) (P Q : Type 0) → (P → Q) → UnlessMemory n P → UnlessMemory n Q
+unless_from Memory P Q f h = tt
+unless_from _ P Q f h = f h

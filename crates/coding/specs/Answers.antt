@@ -58,3 +58,23 @@ Fails e answer = UnlessMemory e.name (answer ≡ Err e)
 abbrev pub Gives : {X Y : Type 0} → (X → Y) → Result X Fault → Result Y Fault → Type 0
 Gives view (Ok x) answer = answer ≡ Ok (view x)
 Gives view (Err e) answer = Fails e answer
+
+-- the ? of the logic
+infixl 10 ◌>>=◌
+abbrev pub ◌>>=◌ : {A B : Type 0} → Result A Fault → (A → Result B Fault) → Result B Fault
+(Ok x) >>= f = f x
+(Err e) >>= f = Err e
+
+-- What a call answers, seen by view, is such an answer, want of memory aside.
+abbrev pub Answers : {X Y : Type 0} → (X → Y) → Result X Fault → (Result Y Fault → Type 0) → Type 0
+Answers view (Ok x) IsAnswer = IsAnswer (Ok (view x))
+Answers view (Err e) IsAnswer = UnlessMemory e.name (IsAnswer (Err e))
+
+-- what follows a first answer: a next one from its value, or else its refusal
+abbrev pub Follows : {A B : Type 0} → (A → Result B Fault → Type 0) → Result A Fault → Result B Fault → Type 0
+Follows IsNext (Ok x) answer = IsNext x answer
+Follows IsNext (Err e) answer = answer ≡ Err e
+
+-- the answer of two steps, one after the other
+abbrev pub IsThen : {A B : Type 0} → (Result A Fault → Type 0) → (A → Result B Fault → Type 0) → Result B Fault → Type 0
+IsThen {A} IsFirst IsNext answer = (first : Result A Fault) × (IsFirst first × Follows IsNext first answer)

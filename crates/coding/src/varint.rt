@@ -75,6 +75,19 @@ pub fn push_varint(out: &mut Vec<u8>, number: u64) -> Result<(), Fault>
     ensures err { OnErr result (out.new.items ≡ out.old.items) }
     ensures memory { IsOkUnless result (fault Memory) }
 {
+    if number < 128 {
+        out.push(number as u8)?;
+        return Ok(());
+    }
+    push_groups(out, number)
+}
+
+/// Appends the one spelling of the number. A refused growth appends nothing.
+fn push_groups(out: &mut Vec<u8>, number: u64) -> Result<(), Fault>
+    ensures ok { OnOk result (out.new.items ≡ out.old.items ++ varint number) }
+    ensures err { OnErr result (out.new.items ≡ out.old.items) }
+    ensures memory { IsOkUnless result (fault Memory) }
+{
     let mut buffer = [0u8; MAX_LEN];
     let mut last = 0;
     let mut rest = number;

@@ -2,11 +2,11 @@
 use Rattle.std.proofs.Common.{◌≡◌, ℕ, zero, suc, ◌+◌, ◌-◌, ◌^◌, ◌<◌, ◌≤◌, Bool, true, false, cond, leb, List, ◌++◌, length, take, drop, Result, Ok, Err, refl, sym, ap, subst, ◌∙◌, append_assoc, arith, inl, inr}
 use Rattle.std.proofs.lemmas.List.{take_at, drop_at, take-append-drop, length-append, length-take-le, length-drop}
 use Rattle.std.proofs.lemmas.Bool.{cases_lt, le-leb, lt-leb}
-use Rattle.coding.specs.Answers.{fault}
+use Rattle.coding.specs.Answers.{fault, ◌>>=◌}
 use Rattle.coding.specs.declared.fault.Fault.{Fault}
 use Rattle.coding.specs.declared.fault.FaultName.TheVariants.{LogShape}
 use Rattle.logrec.specs.Log.{fragment_type, fragment, fragments}
-use Rattle.logrec.specs.Reading.{◌>>=◌, Piece, piece_at, ends_record, left_at}
+use Rattle.logrec.specs.Reading.{Piece, piece_at, ends_record, left_at}
 use Rattle.logrec.proofs.Bytes.{bind_ok, ok_is, IsBytes}
 use Rattle.logrec.proofs.Pieces.{length-fragment, TakesPiece, piece_takes, piece_shorter, piece_again, HasMore, Ends, ends_ok, ends_last, ends_not}
 

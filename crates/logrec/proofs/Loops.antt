@@ -2,12 +2,12 @@
 use Rattle.std.proofs.Common.{◌≡◌, ℕ, zero, suc, ◌+◌, ◌-◌, ◌<◌, ◌≤◌, Bool, true, false, ltb, List, [], ◌∷◌, ◌++◌, length, take, drop, Result, Ok, Err, refl, sym, ap, ◌∙◌, append_assoc, arith}
 use Rattle.std.proofs.lemmas.List.{append-nil, length-drop}
 use Rattle.std.proofs.lemmas.Bool.{lt-ltb}
-use Rattle.coding.specs.Answers.{fault, UnlessMemory, Fails}
+use Rattle.coding.specs.Answers.{fault, UnlessMemory, Fails, ◌>>=◌}
 use Rattle.coding.specs.declared.fault.Fault.{Fault}
 use Rattle.coding.specs.declared.fault.FaultName.{FaultName}
 use Rattle.coding.specs.declared.fault.FaultName.TheVariants.{LogShape, Memory}
 use Rattle.logrec.specs.Log.{fragment_type, fragment, fragments}
-use Rattle.logrec.specs.Reading.{◌>>=◌, Piece, piece_at, ends_record, left_at, record_at, records_in, records_of}
+use Rattle.logrec.specs.Reading.{Piece, piece_at, ends_record, left_at, record_at, records_in, records_of}
 use Rattle.logrec.proofs.Pieces.{piece_shorter}
 use Rattle.logrec.proofs.Lefts.{fragments_last, fragments_more, going, ending, left_at-suc}
 use Rattle.logrec.proofs.Logs.{others_in, records_in-suc, records_in-nil, record_shorter}

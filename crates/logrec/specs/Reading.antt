@@ -3,17 +3,11 @@ use Rattle.std.specs.Prelude.{ℕ, zero, suc, ◌+◌, ◌-◌, nat_eq, nat_lt, 
 use Rattle.std.specs.Global.{Vec}
 use Rattle.std.specs.List.{starts_with}
 use Rattle.byteorder.specs.Endian.{little_number}
-use Rattle.coding.specs.Answers.{fault}
+use Rattle.coding.specs.Answers.{fault, ◌>>=◌}
 use Rattle.coding.specs.declared.fault.Fault.{Fault}
 use Rattle.coding.specs.declared.fault.FaultName.TheVariants.{LogChecksum, LogShape}
 use Rattle.logrec.specs.Log.{zeros_due, room_at, fragment_type, checksum}
 use Rattle.logrec.specs.declared.reading.Fragment as code
-
-infixl 10 ◌>>=◌
--- the ? of the logic
-abbrev pub ◌>>=◌ : {A B : Type 0} → Result A Fault → (A → Result B Fault) → Result B Fault
-(Ok x) >>= f = f x
-(Err e) >>= f = Err e
 
 -- a fragment that is read, and the bytes behind it
 pub record Piece : Type 0 where

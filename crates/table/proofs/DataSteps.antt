@@ -3,12 +3,13 @@ use Rattle.std.proofs.Common.{◌≡◌, ℕ, Bool, true, false, ◌&&◌, not, 
 use Rattle.std.specs.Result.{result_map_both}
 use Rattle.std.specs.Ordering.{is_gt}
 use Rattle.std.specs.declared.cmp.Ordering.{Ordering}
+use Rattle.coding.specs.Answers.{◌>>=◌}
 use Rattle.coding.specs.declared.fault.Fault.{Fault}
 use Rattle.coding.specs.declared.fault.FaultName.TheVariants.{Index}
 use Rattle.block.specs.Piece.{Entry}
 use Rattle.block.specs.Building.{last_key}
 use Rattle.ikey.specs.Order.{internal_cmp}
-use Rattle.table.specs.ReadingSteps.{◌>>=◌, pass}
+use Rattle.table.specs.ReadingSteps.{pass}
 use Rattle.table.specs.ReadingEntries.{Ends, first_key, key_behind, is_above, data_test, ends_reading}
 use Rattle.table.specs.ReadingIndex.{IndexEntry, block_in}
 use Rattle.table.specs.Reading.{DataBlock, blocks_reading, is_between, index_fits, data_reading, entries_of, ends_of}

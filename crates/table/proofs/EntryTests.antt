@@ -6,7 +6,7 @@ use Rattle.std.specs.Cmp.{IsTotalOrder}
 use Rattle.std.specs.declared.cmp.Ordering.{Ordering}
 use Rattle.std.specs.declared.cmp.Ordering.TheVariants.{Less, Equal, Greater}
 use Rattle.std.proofs.lemmas.Bool.{leb-true}
-use Rattle.coding.specs.Answers.{fault}
+use Rattle.coding.specs.Answers.{fault, ◌>>=◌}
 use Rattle.coding.specs.declared.fault.Fault.{Fault}
 use Rattle.coding.specs.declared.fault.FaultName.{FaultName}
 use Rattle.coding.specs.declared.fault.FaultName.TheVariants.{Key, TooLarge, Order, Empty}
@@ -14,7 +14,7 @@ use Rattle.block.specs.Piece.{Entry}
 use Rattle.ikey.specs.Key.{tag_of, internal_key_reading}
 use Rattle.ikey.specs.Order.{internal_cmp}
 use Rattle.ikey.proofs.Ordered.{internal_cmp-total}
-use Rattle.table.specs.ReadingSteps.{◌>>=◌, pass}
+use Rattle.table.specs.ReadingSteps.{pass}
 use Rattle.table.specs.ReadingEntries.{is_above, key_behind, entry_test, entries_test, is_some_list, data_test}
 use Rattle.table.specs.ReadingIndex.{IndexEntry}
 use Rattle.table.specs.Reading.{DataBlock, blocks_reading, entries_of}

@@ -6,7 +6,7 @@ use Rattle.std.specs.declared.cmp.Ordering.{Ordering}
 use Rattle.std.specs.declared.cmp.Ordering.TheVariants.{Less, Equal, Greater}
 use Rattle.std.proofs.lemmas.Bool.{le-leb}
 use Rattle.std.proofs.lemmas.List.{append-nil}
-use Rattle.coding.specs.Answers.{fault}
+use Rattle.coding.specs.Answers.{fault, ◌>>=◌}
 use Rattle.coding.specs.declared.fault.Fault.{Fault}
 use Rattle.coding.specs.declared.fault.FaultName.TheVariants.{Handle, TooLarge, Order, Empty}
 use Rattle.block.specs.Piece.{Entry}
@@ -16,7 +16,7 @@ use Rattle.ikey.specs.Order.{internal_cmp}
 use Rattle.frame.specs.declared.handle.BlockHandle.{BlockHandle}
 use Rattle.frame.specs.Handle.{handle_bytes, handle_reading, HandleBehind}
 use Rattle.frame.proofs.Handles.{handle_reading-spelled, reads_handle}
-use Rattle.table.specs.ReadingSteps.{◌>>=◌, pass}
+use Rattle.table.specs.ReadingSteps.{pass}
 use Rattle.table.specs.ReadingEntries.{first_key, is_above, key_behind, entry_test, entries_test, is_some_list, data_test}
 use Rattle.table.specs.ReadingIndex.{IndexEntry, handle_alone, one_handle, stored_at, block_in, index_entry, index_reading}
 use Rattle.table.specs.Reading.{DataBlock, blocks_reading, is_between, index_fits, entries_of}

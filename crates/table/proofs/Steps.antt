@@ -5,14 +5,13 @@ use Rattle.std.specs.Option.{option_map}
 use Rattle.std.specs.declared.cmp.Ordering.{Ordering}
 use Rattle.std.proofs.lemmas.List.{append-nil, drop_more, nil_from_length, length-drop}
 use Rattle.std.proofs.lemmas.Option.{same_Some, none-some}
-use Rattle.coding.specs.Answers.{Gives, Fails, UnlessMemory, fault}
+use Rattle.coding.specs.Answers.{Gives, Fails, UnlessMemory, fault, ◌>>=◌}
 use Rattle.coding.specs.declared.fault.Fault.{Fault}
 use Rattle.coding.specs.declared.fault.FaultName.{FaultName}
 use Rattle.coding.specs.declared.fault.FaultName.TheVariants.{Block, Memory}
 use Rattle.coding.proofs.Refusals.{Fails-from}
 use Rattle.block.specs.Piece.{Entry, IsBlock}
 use Rattle.block.specs.Building.{last_key}
-use Rattle.table.specs.ReadingSteps.{◌>>=◌}
 use Rattle.table.specs.ReadingBlocks.{block_reading}
 use Rattle.table.specs.ReadingEntries.{first_key, entry_test, entries_test, ends_reading}
 use Rattle.table.specs.ReadingIndex.{IndexEntry, index_entry, index_reading}

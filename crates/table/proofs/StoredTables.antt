@@ -5,7 +5,7 @@ use Rattle.std.proofs.lemmas.Bool.{leb-true, le-leb}
 use Rattle.std.proofs.lemmas.List.{append-nil, length-append, length-drop, length-take-le, take_at, drop_at, take-append-drop, nil_from_length}
 use Rattle.std.proofs.lemmas.Option.{same_Some}
 use Rattle.std.proofs.lemmas.Slice.Eq.{bytes_eq-Decides}
-use Rattle.coding.specs.Answers.{fault}
+use Rattle.coding.specs.Answers.{fault, ◌>>=◌}
 use Rattle.coding.specs.declared.fault.Fault.{Fault}
 use Rattle.coding.specs.declared.fault.FaultName.TheVariants.{Magic, Handle, Range}
 use Rattle.block.specs.Piece.{Entry, IsBlock}
@@ -17,7 +17,6 @@ use Rattle.frame.specs.Trailer.{stored, stored_reading}
 use Rattle.frame.specs.Footer.{handles_bytes, magic, handles_reading, ok_or_fault, footer_reading}
 use Rattle.frame.proofs.Handles.{handle_reading-spelled, reads_handle, found_first}
 use Rattle.frame.proofs.Stored.{length-stored, stored_again, only_stored}
-use Rattle.table.specs.ReadingSteps.{◌>>=◌}
 use Rattle.table.specs.ReadingBlocks.{block_reading}
 use Rattle.table.specs.ReadingIndex.{stored_at, block_in}
 use Rattle.table.specs.ReadingTables.{StandsAt, EndsWith, AreBytes}

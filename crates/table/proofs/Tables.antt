@@ -4,14 +4,14 @@ use Rattle.std.specs.List.{AllByRecursion}
 use Rattle.std.specs.Cmp.{IsTotalOrder}
 use Rattle.std.specs.declared.cmp.Ordering.{Ordering}
 use Rattle.std.proofs.lemmas.Bool.{leb-true, le-leb}
-use Rattle.coding.specs.Answers.{fault}
+use Rattle.coding.specs.Answers.{fault, ◌>>=◌}
 use Rattle.coding.specs.declared.fault.Fault.{Fault}
 use Rattle.coding.specs.declared.fault.FaultName.{FaultName}
 use Rattle.coding.specs.declared.fault.FaultName.TheVariants.{Size, Short, Empty, Index}
 use Rattle.block.specs.Piece.{Entry}
 use Rattle.frame.specs.declared.footer.Footer.{Footer}
 use Rattle.frame.specs.Footer.{footer_reading}
-use Rattle.table.specs.ReadingSteps.{◌>>=◌, pass}
+use Rattle.table.specs.ReadingSteps.{pass}
 use Rattle.table.specs.ReadingEntries.{is_some_list, entries_test}
 use Rattle.table.specs.ReadingCursors.{IsRising}
 use Rattle.table.specs.Checked.{HaveKeys}

@@ -3,6 +3,7 @@ use Rattle.std.specs.Prelude.{ℕ, ◌-◌, ◌^◌, nat_le, Bool, true, ◌&&�
 use Rattle.std.specs.List.{flat_map}
 use Rattle.std.specs.Ordering.{is_gt}
 use Rattle.std.specs.declared.cmp.Ordering.{Ordering}
+use Rattle.coding.specs.Answers.{◌>>=◌}
 use Rattle.coding.specs.declared.fault.Fault.{Fault}
 use Rattle.coding.specs.declared.fault.FaultName.TheVariants.{Size, Short, Empty, Index}
 use Rattle.block.specs.Piece.{Entry}
@@ -10,7 +11,7 @@ use Rattle.block.specs.Building.{last_key}
 use Rattle.ikey.specs.Key.{user_of}
 use Rattle.ikey.specs.Order.{internal_cmp}
 use Rattle.frame.specs.Footer.{footer_reading}
-use Rattle.table.specs.ReadingSteps.{◌>>=◌, pass}
+use Rattle.table.specs.ReadingSteps.{pass}
 use Rattle.table.specs.ReadingEntries.{Ends, first_key, key_behind, is_above, is_some_list, data_test}
 use Rattle.table.specs.ReadingIndex.{IndexEntry, stored_at, block_in, index_reading}
 

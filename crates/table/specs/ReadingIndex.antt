@@ -1,6 +1,6 @@
 -- The index of a table: for each data block a key, and where the block stands.
 use Rattle.std.specs.Prelude.{ℕ, ◌+◌, nat_le, if◌then◌else◌, List, [], ◌∷◌, length, take, drop, Option, Some, None, Result, Ok, Err}
-use Rattle.coding.specs.Answers.{fault}
+use Rattle.coding.specs.Answers.{fault, ◌>>=◌}
 use Rattle.coding.specs.declared.fault.Fault.{Fault}
 use Rattle.coding.specs.declared.fault.FaultName.TheVariants.{Handle, Range}
 use Rattle.block.specs.Piece.{Entry}
@@ -8,7 +8,6 @@ use Rattle.ikey.specs.Key.{internal_key_reading}
 use Rattle.frame.specs.declared.handle.BlockHandle.{BlockHandle}
 use Rattle.frame.specs.Handle.{HandleBehind, handle_reading}
 use Rattle.frame.specs.Trailer.{stored_reading}
-use Rattle.table.specs.ReadingSteps.{◌>>=◌}
 use Rattle.table.specs.ReadingBlocks.{block_reading}
 
 -- a key of the index, and the bytes of its data block as they are stored

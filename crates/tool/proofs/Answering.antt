@@ -2,26 +2,22 @@
 use Rattle.std.proofs.Common.{◌≡◌, ℕ, ◌++◌, List, [], ◌∷◌, length, Result, Ok, Err, None, refl, sym, ap, subst, ◌∙◌, inl}
 use Rattle.std.specs.Global.{Global}
 use Rattle.std.specs.declared.collections.VecDeque.{VecDeque}
-use Rattle.coding.specs.Answers.{UnlessMemory, Gives, fault}
+use Rattle.coding.specs.Answers.{UnlessMemory, Gives, fault, ◌>>=◌, Answers}
 use Rattle.coding.specs.declared.fault.Fault.{Fault}
-use Rattle.coding.specs.declared.fault.FaultName.{FaultName}
-use Rattle.coding.specs.declared.fault.FaultName.TheVariants.{Memory, Duplicate}
+use Rattle.coding.specs.declared.fault.FaultName.TheVariants.{Duplicate}
+use Rattle.coding.proofs.Refusals.{unless_from}
 use Rattle.block.specs.Piece.{Entry, IsBlock}
 use Rattle.block.specs.Writing.{block}
 use Rattle.ikey.specs.Bytewise.{bytewise_cmp}
 use Rattle.tool.specs.Merging.{entries_of}
-use Rattle.tool.specs.Testing.{◌>>=◌, tested_after}
+use Rattle.tool.specs.Testing.{tested_after}
 use Rattle.ikey.specs.Order.{internal_cmp}
 use Rattle.tool.specs.Union.{IsRising, IsUnion}
 use Rattle.tool.specs.Repeats.{HasRepeat, IsOrdered}
-use Rattle.tool.specs.Blocks.{Answers, IsFileAnswer, IsUnionAnswer, IsBlocksAnswer, block_within}
+use Rattle.tool.specs.Blocks.{IsFileAnswer, IsUnionAnswer, IsBlocksAnswer, block_within}
 use Rattle.tool.specs.declared.tested.TestedEntry.{TestedEntry}
 use Rattle.tool.specs.declared.range.Range.{Range}
 use Rattle.tool.proofs.Repeats.{no_union, repeat_in_parts, repeat_in_rests, rising_ordered, ordered_parts}
-
-pub unless_from : (n : FaultName) (P Q : Type 0) → (P → Q) → UnlessMemory n P → UnlessMemory n Q
-unless_from Memory P Q f h = tt
-unless_from _ P Q f h = f h
 
 -- the tests of a block's entries answer for the file
 pub file_answer : (bytes : List ℕ) (q : List Entry) (r : Result (VecDeque TestedEntry Global) Fault) → IsBlock bytes q → Gives (λ v. entries_of v.items) r (tested_after None q) → Answers (λ v. entries_of v.items) r (IsFileAnswer bytes)

@@ -1,5 +1,5 @@
 -- Facts on the texts of a command line.
-use Rattle.std.proofs.Common.{◌≡◌, Bool, true, false, List, [], Option, Some, None, Result, Ok, Err, option_map, if◌then◌else◌, unwrap_or, codes, inl, inr, refl, subst, sym, ap, ap₂, ◌∙◌}
+use Rattle.std.proofs.Common.{◌≡◌, Bool, true, false, List, [], Option, Some, None, Result, Ok, Err, option_map, if◌then◌else◌, unwrap_or, inl, inr, refl, subst, sym, ap, ap₂, ◌∙◌}
 use Rattle.std.specs.Prelude.{IsErr, IsErrAnd, MatchOption, Box}
 use Rattle.std.specs.Borrow.{Bor}
 use Rattle.std.specs.Str.{bytes_eq}

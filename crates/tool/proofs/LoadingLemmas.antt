@@ -1,12 +1,12 @@
 -- What the levels of a version have, and the tables of its files, one after the other.
-use Rattle.std.proofs.Common.{◌≡◌, ℕ, ◌+◌, ◌-◌, ◌<◌, suc, List, [], ◌∷◌, ◌++◌, length, map, take, drop, get_or, Option, Some, None, Result, Ok, Err, refl, sym, ap, subst, ◌∙◌, inl, inr, arith, append_assoc, drop-cons}
+use Rattle.std.proofs.Common.{◌≡◌, ℕ, ◌+◌, ◌-◌, ◌<◌, suc, List, [], ◌∷◌, ◌++◌, length, map, take, drop, get_or, Option, Some, None, Result, Ok, Err, refl, sym, ap, ◌∙◌, inl, inr, arith, append_assoc, drop-cons}
 use Rattle.std.proofs.lemmas.List.{take_more, take-append-drop, map-append}
 use Rattle.std.specs.Global.{Vec}
 use Rattle.std.specs.List.{AllZip}
 use Rattle.coding.specs.declared.fault.Fault.{Fault}
 use Rattle.tool.specs.Folder.{TellsSame}
 use Rattle.tool.specs.Levels.{by_level}
-use Rattle.tool.specs.Loading.{IsFirstMissing, IsLoaded, IsTable, IsTableOf}
+use Rattle.tool.specs.Loading.{IsLoaded, IsTable, IsTableOf}
 use Rattle.tool.proofs.ManifestLemmas.{zip_push}
 
 -- one level more

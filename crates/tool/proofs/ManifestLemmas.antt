@@ -1,18 +1,17 @@
 -- What the bytes of a manifest answer, step by step.
-use Rattle.std.proofs.Common.{◌≡◌, ℕ, ◌+◌, ◌<◌, suc, List, [], ◌∷◌, ◌++◌, length, map, take, drop, get_or, Result, Ok, Err, IsErrAnd, refl, sym, ap, subst, ◌∙◌, add-one, arith, drop-cons}
+use Rattle.std.proofs.Common.{◌≡◌, ℕ, ◌+◌, ◌<◌, suc, List, [], ◌∷◌, ◌++◌, length, map, take, drop, get_or, Result, Ok, Err, IsErrAnd, refl, sym, ap, subst, ◌∙◌, drop-cons}
 use Rattle.std.proofs.lemmas.List.{take_more, take-append-drop, map-append}
 use Rattle.std.specs.Global.{Vec}
 use Rattle.std.specs.List.{AllZip}
-use Rattle.coding.specs.Answers.{Fails, Gives, UnlessMemory}
+use Rattle.coding.proofs.Refusals.{unless_from}
+use Rattle.coding.specs.Answers.{Fails, Gives, UnlessMemory, Answers}
 use Rattle.coding.specs.declared.fault.Fault.{Fault}
 use Rattle.logrec.specs.Reading.{lists, records_of}
 use Rattle.edit.specs.Edit.{Edit, IsEdit, IsRefused, edit_in}
 use Rattle.edit.specs.Version.{State}
 use Rattle.edit.specs.declared.version_edit.VersionEdit.{VersionEdit}
-use Rattle.tool.specs.Blocks.{Answers}
-use Rattle.tool.specs.Manifest.{AreEdits, IsEditsAnswer, IsFirstRefused, IsManifestAnswer, version_from}
+use Rattle.tool.specs.Manifest.{AreEdits, IsEditsAnswer, IsManifestAnswer, version_from}
 use Rattle.tool.specs.declared.order.Order.{Order}
-use Rattle.tool.proofs.Answering.{unless_from}
 
 -- a refusal that `?` hands on
 pub handed_on : {X Y : Type 0} (view : X → Y) (r : Result X Fault) (e : Fault) (IsAnswer : Result Y Fault → Type 0) → IsErrAnd r (λ f. f ≡ e) → UnlessMemory e.name (IsAnswer (Err e)) → Answers view r IsAnswer

@@ -1,15 +1,14 @@
 -- What opening a folder answers, step by step.
-use Rattle.std.proofs.Common.{◌≡◌, ◌↔◌, ◌⊎◌, ℕ, ◌<◌, ◌≤◌, ◌^◌, ◌-◌, List, Option, Some, None, Result, Ok, Err, IfErr, IsErrAnd, IsErrOf, refl, sym, ap, subst, ◌∙◌, arith, inl, inr, codes}
-use Rattle.coding.specs.Answers.{UnlessMemory, fault}
+use Rattle.std.proofs.Common.{◌≡◌, ◌⊎◌, ℕ, ◌≤◌, List, Option, Some, None, Result, Ok, Err, IsErrAnd, refl, sym, subst, arith, inl, inr, codes}
+use Rattle.coding.proofs.Refusals.{unless_from}
+use Rattle.coding.specs.Answers.{UnlessMemory, Answers}
 use Rattle.coding.specs.declared.fault.Fault.{Fault}
 use Rattle.edit.specs.Version.{State}
-use Rattle.tool.specs.Blocks.{Answers, IsThen}
 use Rattle.tool.specs.Folder.{DeviceFailed, TellsSame}
 use Rattle.tool.specs.Manifest.{IsManifestAnswer}
 use Rattle.tool.specs.Names.{IsNumberAnswer, manifest_name}
 use Rattle.tool.specs.Opening.{FolderAnswers, IsHeld, IsOpened, IsStopped}
 use Rattle.tool.specs.declared.order.Order.{Order}
-use Rattle.tool.proofs.Answering.{unless_from}
 
 -- a failure after a time is one after an earlier time
 pub failed_since : (before middle now : ℕ) → before ≤ middle → middle ≤ now → DeviceFailed middle now → DeviceFailed before now

@@ -1,6 +1,7 @@
 -- The lines of a version, step by step.
-use Rattle.std.proofs.Common.{◌≡◌, ◌⊎◌, ℕ, List, [], ◌∷◌, ◌++◌, map, Option, Result, Ok, Err, IfErr, IsErrAnd, refl, sym, ap, subst, ◌∙◌, inr, append_assoc}
+use Rattle.std.proofs.Common.{◌≡◌, ◌⊎◌, ℕ, List, [], ◌∷◌, ◌++◌, map, Option, Result, Ok, Err, IfErr, IsErrAnd, refl, sym, ap, subst, ◌∙◌, append_assoc}
 use Rattle.std.specs.List.{flat_map}
+use Rattle.coding.proofs.Refusals.{unless_from}
 use Rattle.coding.specs.Answers.{Fails, Gives, UnlessMemory}
 use Rattle.coding.specs.declared.fault.Fault.{Fault}
 use Rattle.coding.specs.declared.fault.FaultName.{FaultName}
@@ -9,7 +10,6 @@ use Rattle.edit.specs.Version.{State}
 use Rattle.tool.specs.Lines.{IsShown, version_lines}
 use Rattle.tool.specs.Opening.{FolderAnswers, IsOpened, IsStopped}
 use Rattle.tool.specs.declared.order.Order.{Order}
-use Rattle.tool.proofs.Answering.{unless_from}
 
 -- the lines of what references point to
 pub flat_map_fused : {A B C : Type 0} (f : A → B) (h : B → List C) (xs : List A) → flat_map (λ x. h (f x)) xs ≡ flat_map h (map f xs)

@@ -4,7 +4,7 @@ use Rattle.std.proofs.lemmas.List.{append-nil}
 use Rattle.std.specs.List.{slice_get}
 use Rattle.std.specs.Option.{option_map}
 use Rattle.std.proofs.lemmas.Option.{same_Some, none-some}
-use Rattle.coding.specs.Answers.{Gives, fault}
+use Rattle.coding.specs.Answers.{Gives, fault, ◌>>=◌}
 use Rattle.coding.specs.declared.fault.Fault.{Fault}
 use Rattle.coding.specs.declared.fault.FaultName.TheVariants.{Key, TooLarge, Order}
 use Rattle.ikey.specs.Key.{tag_of, internal_key_reading}
@@ -14,7 +14,7 @@ use Rattle.std.specs.declared.collections.VecDeque.{VecDeque}
 use Rattle.block.specs.Piece.{Entry, IsBlock}
 use Rattle.tool.specs.Merging.{entries_of}
 use Rattle.tool.specs.declared.tested.TestedEntry.{TestedEntry}
-use Rattle.tool.specs.Testing.{◌>>=◌, entry_test, is_above, tested_after, last_key}
+use Rattle.tool.specs.Testing.{entry_test, is_above, tested_after, last_key}
 
 -- the value of a step that did not fail
 pub bind_ok : {A B : Type 0} (r : Result A Fault) (f : A → Result B Fault) (y : B) → (r >>= f) ≡ Ok y → (x : A) × (r ≡ Ok x) × (f x ≡ Ok y)

@@ -21,7 +21,7 @@ use Rattle.block.proofs.Sizes.{length-block-append, fits_with_entry}
 use Rattle.tool.specs.Blocks.{block_within}
 use Rattle.ikey.specs.Bytewise.{bytewise_cmp}
 use Rattle.ikey.specs.Key.{user_of, sequence_of, kind_of, kind_number, internal_key_reading}
-use Rattle.coding.specs.Answers.{Gives, fault}
+use Rattle.coding.specs.Answers.{Gives, fault, ◌>>=◌}
 use Rattle.coding.specs.declared.fault.Fault.{Fault}
 use Rattle.coding.specs.declared.fault.FaultName.TheVariants.{TooLarge, Order}
 use Rattle.ikey.specs.Order.{internal_cmp}
@@ -30,7 +30,7 @@ use Rattle.tool.specs.Union.{version_cmp, IsRising, IsBehind, IsUnion}
 use Rattle.tool.specs.Ranges.{IsBefore, IsFrom}
 use Rattle.tool.specs.Merging.{entry_of, entries_of}
 use Rattle.tool.specs.declared.tested.TestedEntry.{TestedEntry}
-use Rattle.tool.specs.Testing.{◌>>=◌, entry_test, is_above, tested_after}
+use Rattle.tool.specs.Testing.{entry_test, is_above, tested_after}
 use Rattle.tool.proofs.TestedLists.{bind_ok, tested_same, get_or-cons}
 
 -- versions are totally ordered

@@ -1,31 +1,17 @@
 -- What the merge of two blocks answers.
 use Rattle.std.specs.Prelude.{◌≡◌, ◌⊎◌, ℕ, ◌^◌, nat_le, if◌then◌else◌, List, [], ◌∷◌, length, None, Result, Ok, Err}
-use Rattle.coding.specs.Answers.{UnlessMemory, fault}
+use Rattle.coding.specs.Answers.{IsThen, fault, ◌>>=◌}
 use Rattle.coding.specs.declared.fault.Fault.{Fault}
 use Rattle.coding.specs.declared.fault.FaultName.TheVariants.{Block, Duplicate, TooLarge}
 use Rattle.block.specs.Piece.{Entry, IsBlock}
 use Rattle.block.specs.Writing.{block}
 use Rattle.ikey.specs.Bytewise.{bytewise_cmp}
-use Rattle.tool.specs.Testing.{◌>>=◌, tested_after}
+use Rattle.tool.specs.Testing.{tested_after}
 use Rattle.tool.specs.Union.{IsUnion}
 
 -- the block of a list at interval 16, or TooLarge where that has more than 2 ^ 30 bytes
 abbrev pub block_within : List Entry → Result (List ℕ) Fault
 block_within entries = if nat_le (length (block 16 entries)) (2 ^ 30) then Ok (block 16 entries) else Err (fault TooLarge)
-
--- What a call answers, seen by view, is such an answer, want of memory aside.
-abbrev pub Answers : {X Y : Type 0} → (X → Y) → Result X Fault → (Result Y Fault → Type 0) → Type 0
-Answers view (Ok x) IsAnswer = IsAnswer (Ok (view x))
-Answers view (Err e) IsAnswer = UnlessMemory e.name (IsAnswer (Err e))
-
--- what follows a first answer: a next one from its value, or else its refusal
-abbrev pub Follows : {A B : Type 0} → (A → Result B Fault → Type 0) → Result A Fault → Result B Fault → Type 0
-Follows IsNext (Ok x) answer = IsNext x answer
-Follows IsNext (Err e) answer = answer ≡ Err e
-
--- the answer of two steps, one after the other
-abbrev pub IsThen : {A B : Type 0} → (Result A Fault → Type 0) → (A → Result B Fault → Type 0) → Result B Fault → Type 0
-IsThen {A} IsFirst IsNext answer = (first : Result A Fault) × (IsFirst first × Follows IsNext first answer)
 
 -- a file of a block: its entries where each passes its tests, or the first test that fails
 abbrev pub IsTestedBlock : List ℕ → Result (List Entry) Fault → Type 0

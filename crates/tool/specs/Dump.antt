@@ -2,6 +2,7 @@
 use Rattle.std.specs.Prelude.{ℕ, List, ◌++◌, codes, Result, Ok}
 use Rattle.std.specs.List.{flat_map}
 use Rattle.std.specs.Fmt.{decimal}
+use Rattle.coding.specs.Answers.{◌>>=◌}
 use Rattle.coding.specs.declared.fault.Fault.{Fault}
 use Rattle.block.specs.Piece.{Entry}
 use Rattle.ikey.specs.Bytewise.{bytewise_cmp}
@@ -9,7 +10,6 @@ use Rattle.ikey.specs.Key.{user_of, sequence_of, kind_of}
 use Rattle.ikey.specs.declared.kind.Kind.{Kind}
 use Rattle.ikey.specs.declared.kind.Kind.TheVariants.{Delete, Put}
 use Rattle.table.specs.Reading.{table_reading}
-use Rattle.tool.specs.Testing.{◌>>=◌}
 use Rattle.tool.specs.Text.{text_of_bytes}
 
 -- what stands behind the sequence: `put VALUE` or `del`, and a newline

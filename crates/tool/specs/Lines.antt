@@ -3,6 +3,7 @@ use Rattle.std.specs.Prelude.{◌≡◌, ℕ, List, [], ◌++◌, codes, decimal
 use Rattle.std.specs.List.{flat_map}
 use Rattle.std.specs.Option.{option_map_or}
 use Rattle.std.specs.declared.cmp.Ordering.{Ordering}
+use Rattle.coding.specs.Answers.{IsThen}
 use Rattle.coding.specs.declared.fault.Fault.{Fault}
 use Rattle.ikey.specs.Bytewise.{bytewise_cmp}
 use Rattle.ikey.specs.Key.{kind_number, kind_of, sequence_of, user_of}
@@ -10,7 +11,6 @@ use Rattle.ikey.specs.Shortlex.{shortlex_cmp}
 use Rattle.edit.specs.Version.{State, pointer_of}
 use Rattle.edit.specs.VersionOrder.{level_files}
 use Rattle.edit.specs.declared.meta.FileMeta.{FileMeta}
-use Rattle.tool.specs.Blocks.{IsThen}
 use Rattle.tool.specs.Levels.{all_levels}
 use Rattle.tool.specs.Manifest.{order_name}
 use Rattle.tool.specs.Opening.{IsOpened}

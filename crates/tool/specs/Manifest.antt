@@ -1,9 +1,9 @@
 -- What the bytes of a manifest say: they are the log of version edits, which give a version.
-use Rattle.std.specs.Prelude.{◌≡◌, ℕ, nat_lt, Bool, ◌&&◌, true, false, if◌then◌else◌, List, [], ◌∷◌, ◌++◌, Option, Some, None, is_some, Result, Ok, Err}
+use Rattle.std.specs.Prelude.{◌≡◌, ℕ, nat_lt, Bool, ◌&&◌, false, if◌then◌else◌, List, [], ◌∷◌, ◌++◌, Option, None, is_some, Result, Ok, Err}
 use Rattle.std.specs.List.{AllZip}
 use Rattle.std.specs.Option.{option_map_or, option_or}
 use Rattle.std.specs.Str.{bytes_eq}
-use Rattle.coding.specs.Answers.{fault}
+use Rattle.coding.specs.Answers.{fault, IsThen, ◌>>=◌}
 use Rattle.coding.specs.declared.fault.Fault.{Fault}
 use Rattle.coding.specs.declared.fault.FaultName.TheVariants as name
 use Rattle.logrec.specs.Reading.{records_of}
@@ -11,8 +11,6 @@ use Rattle.ikey.specs.Bytewise.{bytewise_name}
 use Rattle.ikey.specs.Shortlex.{shortlex_name}
 use Rattle.edit.specs.Edit.{Edit, IsEdit, IsRefused}
 use Rattle.edit.specs.Version.{State, applied_by, empty_state}
-use Rattle.tool.specs.Blocks.{IsThen}
-use Rattle.tool.specs.Testing.{◌>>=◌}
 use Rattle.tool.specs.declared.order.Order.{Order}
 use Rattle.tool.specs.declared.order.Order.TheVariants.{Bytewise, Shortlex}
 

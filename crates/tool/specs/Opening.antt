@@ -1,10 +1,9 @@
 -- Opening a folder: what it tells of CURRENT, of the manifest and of the tables, and what comes of that.
 use Rattle.std.specs.Prelude.{◌≡◌, ◌⊎◌, ℕ, List, codes, Option, Some, None, Result, Ok, Err}
-use Rattle.coding.specs.Answers.{UnlessMemory, fault}
+use Rattle.coding.specs.Answers.{UnlessMemory, fault, IsThen}
 use Rattle.coding.specs.declared.fault.Fault.{Fault}
 use Rattle.coding.specs.declared.fault.FaultName.TheVariants.{Device, Missing}
 use Rattle.edit.specs.Version.{State}
-use Rattle.tool.specs.Blocks.{IsThen}
 use Rattle.tool.specs.Folder.{DeviceFailed}
 use Rattle.tool.specs.Manifest.{IsManifestAnswer}
 use Rattle.tool.specs.Names.{IsNumberAnswer, manifest_name}

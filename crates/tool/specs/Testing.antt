@@ -1,19 +1,13 @@
 -- The tests of the entries of a file of block contents, in order, and the first that fails.
 use Rattle.std.specs.Prelude.{ℕ, nat_lt, Bool, true, if◌then◌else◌, List, [], ◌∷◌, length, Option, Some, None, Result, Ok, Err}
 use Rattle.std.specs.Ordering.{is_lt}
-use Rattle.coding.specs.Answers.{fault}
+use Rattle.coding.specs.Answers.{fault, ◌>>=◌}
 use Rattle.coding.specs.declared.fault.Fault.{Fault}
 use Rattle.coding.specs.declared.fault.FaultName.TheVariants.{TooLarge, Order}
 use Rattle.block.specs.Piece.{Entry}
 use Rattle.ikey.specs.Bytewise.{bytewise_cmp}
 use Rattle.ikey.specs.Key.{internal_key_reading}
 use Rattle.ikey.specs.Order.{internal_cmp}
-
--- the ? of the logic
-infixl 10 ◌>>=◌
-abbrev pub ◌>>=◌ : {A B : Type 0} → Result A Fault → (A → Result B Fault) → Result B Fault
-(Ok x) >>= f = f x
-(Err e) >>= f = Err e
 
 -- whether a key is above the key before it, where there is one
 abbrev pub is_above : Option (List ℕ) → List ℕ → Bool

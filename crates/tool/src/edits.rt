@@ -1,12 +1,11 @@
 //! What the bytes of a manifest say.
 
 ghost use Rattle.std.specs.Prelude.{◌≡◌, All, IfOk, map, if◌then◌else◌, Ok, Err};
-ghost use Rattle.coding.specs.Answers.{Gives, fault};
+ghost use Rattle.coding.specs.Answers.{Gives, fault, Answers, IsThen};
 ghost use Rattle.coding.specs.declared.fault.FaultName.TheVariants.{Apply};
 ghost use Rattle.logrec.specs.Reading.{lists, records_of};
 ghost use Rattle.edit.specs.Edit.{HasLevels, edit_in};
 ghost use Rattle.edit.specs.Version.{empty_state};
-ghost use Rattle.tool.specs.Blocks.{Answers, IsThen};
 ghost use Rattle.tool.specs.Manifest.{IsEditsAnswer, IsManifestAnswer, is_complete, order_name, order_of, version_after, version_from};
 
 use crate::order::Order;

@@ -1,8 +1,7 @@
 //! The names of a folder's files, and what CURRENT holds.
 
 ghost use Rattle.std.specs.Prelude.{◌≡◌, ◌<◌, ◌^◌, ℕ, Some, Ok, string_bytes};
-ghost use Rattle.coding.specs.Answers.{Gives};
-ghost use Rattle.tool.specs.Blocks.{Answers};
+ghost use Rattle.coding.specs.Answers.{Gives, Answers};
 ghost use Rattle.tool.specs.Names.{IsNumberAnswer, current_text, manifest_name, old_table_name, table_name};
 
 use coding::{Fault, FaultName};

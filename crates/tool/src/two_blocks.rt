@@ -1,8 +1,8 @@
 //! Two blocks into one.
 
 ghost use Rattle.std.specs.Prelude.{IfOk};
-ghost use Rattle.coding.specs.Answers.{Gives};
-ghost use Rattle.tool.specs.Blocks.{Answers, IsBlocksAnswer, IsMerged, IsUnionAnswer, block_within};
+ghost use Rattle.coding.specs.Answers.{Gives, Answers};
+ghost use Rattle.tool.specs.Blocks.{IsBlocksAnswer, IsMerged, IsUnionAnswer, block_within};
 ghost use Rattle.ikey.specs.Bytewise.{bytewise_cmp};
 ghost use Rattle.ikey.specs.Order.{internal_cmp};
 ghost use Rattle.tool.specs.Merging.{entries_of};

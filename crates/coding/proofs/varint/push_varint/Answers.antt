@@ -1,15 +1,8 @@
-use Rattle.std.proofs.Common.{◌++◌, refl, ap, ◌∙◌, arith}
-use Rattle.std.proofs.Common.{List, ℕ}
-use Rattle.coding.proofs.Steps.{written_none, written_more, written_all}
+use Rattle.std.proofs.Common.{List, ℕ, ◌++◌, sym, ap, ◌∙◌}
+use Rattle.coding.proofs.Varints.{varint_small}
 use Rattle.coding.proofs.varint.push_varint.Goals as goal
 
-pub loop-rest-init : goal.loop-rest-init
-loop-rest-init c = written_none c.args.number _ refl (omega arith)
-
-pub loop-rest-preserved : goal.loop-rest-preserved
-loop-rest-preserved c = written_more c.args.number c.loop-rest.last c.loop-rest.rest c.loop-rest.buffer c.loop-rest.invariant c.loop-rest-test.true
-
-pub returns-clause-ok : goal.returns-clause-ok
-returns-clause-ok c =
-    c.in_ok-extend_from_slice.ensures.items
-    ∙ ap (λ (text : List ℕ). c.args.out.now.items ++ text) (written_all c.args.number c.loop-rest.last c.loop-rest.rest c.loop-rest.buffer c.loop-rest.invariant c.loop-rest-test.false)
+pub returns-then-number-lt128-clause-ok : goal.returns-then-number-lt128-clause-ok
+returns-then-number-lt128-clause-ok c =
+    c.in_ok-push.ensures.items
+    ∙ ap (λ (text : List ℕ). c.args.out.now.items ++ text) (sym (varint_small c.args.number c.if-number-lt128.true))

@@ -1,8 +1,8 @@
-use Rattle.std.proofs.Common.{rules, ap, codes, ◌≡◌, ◌∙◌}
+use Rattle.std.proofs.Common.{ap, codes, ◌≡◌, ◌∙◌}
 use Rattle.std.proofs.lemmas.Result.{IfOk-weaker}
-use Rattle.clap.specs.Words.{App, app_of, new_app, with_subcommand}
+use Rattle.clap.specs.Words.{app_of, new_app}
 use Rattle.clap.specs.Simple.{app_of_fields}
-use Rattle.tool.specs.Line.{blocks_app, path_app, with_command_required}
+use Rattle.tool.specs.Line.{with_command_required}
 use Rattle.tool.proofs.LineLemmas.{with_one_more}
 use Rattle.tool.proofs.command_line.program_command.Goals as goal
 

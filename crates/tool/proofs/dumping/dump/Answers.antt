@@ -1,19 +1,17 @@
 use Rattle.std.proofs.Common.{◌≡◌, ℕ, ◌<◌, Bool, true, false, ◌++◌, List, [], ◌∷◌, length, Result, Ok, Err, string_bytes, sym, ap, ◌∙◌, arith}
-use Rattle.std.specs.declared.vec.Vec.{Vec}
 use Rattle.std.proofs.lemmas.Bool.{false≢true}
 use Rattle.std.proofs.lemmas.List.{append-nil}
+use Rattle.coding.specs.Answers.{◌>>=◌}
 use Rattle.coding.specs.declared.fault.Fault.{Fault}
 use Rattle.block.specs.Piece.{Entry}
 use Rattle.ikey.specs.Bytewise.{bytewise_cmp}
-use Rattle.table.specs.Reading.{Contents, DataBlock, blocks_of, contents_of, contents_reading, entries_of, table_reading}
-use Rattle.table.specs.ReadingSteps.{◌>>=◌ as ◌>=>◌}
-use Rattle.tool.specs.Dump.{dump_lines, dumped}
-use Rattle.tool.specs.Testing.{◌>>=◌}
+use Rattle.table.specs.Reading.{Contents, DataBlock, blocks_of, contents_of, entries_of, table_reading}
+use Rattle.tool.specs.Dump.{dump_lines}
 use Rattle.tool.proofs.TestedLists.{ok_is}
 use Rattle.tool.proofs.dumping.dump.Goals as goal
 
 -- the entries of what the bytes hold
-from_contents : (b : Result (List DataBlock) Fault) (bytes : List ℕ) (t : Contents) → (b >=> λ blocks. Ok (contents_of bytes blocks)) ≡ Ok t → (b >=> λ blocks. Ok (entries_of blocks)) ≡ Ok t.entries
+from_contents : (b : Result (List DataBlock) Fault) (bytes : List ℕ) (t : Contents) → (b >>= λ blocks. Ok (contents_of bytes blocks)) ≡ Ok t → (b >>= λ blocks. Ok (entries_of blocks)) ≡ Ok t.entries
 from_contents (Ok blocks) bytes t h = cc
 from_contents (Err e) bytes t h = absurd cc
 

@@ -1,4 +1,4 @@
-use Rattle.std.proofs.Common.{ℕ, List, Result, Ok, Err, map, All, subst, sym}
+use Rattle.std.proofs.Common.{ℕ, List, Ok, Err, map, All, subst, sym}
 use Rattle.std.specs.Global.{Vec}
 use Rattle.coding.specs.Answers.{Gives, UnlessMemory}
 use Rattle.logrec.specs.Reading.{lists}

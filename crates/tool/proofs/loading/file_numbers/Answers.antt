@@ -1,6 +1,5 @@
-use Rattle.std.proofs.Common.{◌≡◌, ℕ, List, map, ap, sym, ◌∙◌}
+use Rattle.std.proofs.Common.{◌≡◌, ℕ, map, ap, sym, ◌∙◌}
 use Rattle.std.proofs.Common.{Bor}
-use Rattle.edit.specs.VersionOrder.{level_files}
 use Rattle.edit.specs.declared.meta.FileMeta.{FileMeta}
 use Rattle.tool.specs.Levels.{file_numbers, numbers_at}
 use Rattle.tool.proofs.LoadingLemmas.{level_more, map_fused}

@@ -1,6 +1,5 @@
-use Rattle.std.proofs.Common.{◌≡◌, ℕ, List, Result, Ok, Err, codes, string_bytes, sym, subst, ◌∙◌, arith}
-use Rattle.coding.specs.Answers.{UnlessMemory}
-use Rattle.tool.specs.Blocks.{Answers}
+use Rattle.std.proofs.Common.{◌≡◌, ℕ, List, Ok, Err, codes, string_bytes, sym, subst, ◌∙◌, arith}
+use Rattle.coding.specs.Answers.{UnlessMemory, Answers}
 use Rattle.tool.specs.Manifest.{IsManifestAnswer}
 use Rattle.tool.specs.Names.{IsNumberAnswer, manifest_name}
 use Rattle.tool.specs.Opening.{IsHeld, IsOpened}

@@ -1,4 +1,4 @@
-use Rattle.std.proofs.Common.{◌≡◌, ℕ, List, Bor, ap, string_bytes, sym, ◌∙◌}
+use Rattle.std.proofs.Common.{◌≡◌, Bor, ap, string_bytes, sym, ◌∙◌}
 use Rattle.std.specs.List.{flat_map}
 use Rattle.edit.specs.declared.meta.FileMeta.{FileMeta}
 use Rattle.tool.specs.Lines.{file_line, file_lines}

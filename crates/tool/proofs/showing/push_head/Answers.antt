@@ -1,4 +1,4 @@
-use Rattle.std.proofs.Common.{List, Option, ℕ, codes, string_bytes, ap, ◌∙◌, ◌++◌}
+use Rattle.std.proofs.Common.{Option, ℕ, codes, string_bytes, ap, ◌∙◌, ◌++◌}
 use Rattle.tool.specs.Lines.{comparator_line, number_line}
 use Rattle.tool.proofs.ShowingLemmas.{joined}
 use Rattle.tool.proofs.showing.push_head.Goals as goal

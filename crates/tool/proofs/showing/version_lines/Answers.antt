@@ -1,4 +1,4 @@
-use Rattle.std.proofs.Common.{List, ℕ, [], Result, Ok, string_bytes, sym, ap, ◌∙◌, ◌++◌}
+use Rattle.std.proofs.Common.{List, ℕ, [], Ok, string_bytes, sym, ap, ◌∙◌, ◌++◌}
 use Rattle.std.specs.Global.{Vec}
 use Rattle.tool.specs.Levels.{all_levels}
 use Rattle.tool.specs.Lines.{file_lines, head_lines, order_cmp, pointer_lines}

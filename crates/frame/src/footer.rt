@@ -1,7 +1,7 @@
 //! The footer of a table.
 
 ghost use Rattle.std.specs.Prelude.{◌≡◌, ◌≤◌, ◌++◌, length, take, OnOk, OnErr, IsOkUnless};
-ghost use Rattle.coding.specs.Answers.{Gives, fault};
+ghost use Rattle.coding.specs.Answers.{fault};
 ghost use Rattle.coding.specs.declared.fault.FaultName.TheVariants.{Memory};
 
 use crate::handle::BlockHandle;
@@ -39,7 +39,7 @@ impl Footer {
     #[tactic(auto, unfolding(crate::specs::Footer::footer_reading))]
     pub fn read(bytes: &[u8]) -> Result<Footer, Fault>
         requires { length bytes.now ≡ 48 }
-        ensures { Gives (λ footer. footer) result (footer_reading bytes.now) }
+        ensures { result ≡ footer_reading bytes.now }
     {
         let (handles, magic) = bytes.split_at(HANDLES_LEN);
         if !magic.starts_with(&MAGIC) {

@@ -1,9 +1,10 @@
 //! Stored blocks: contents, and a trailer behind them.
 
 ghost use Rattle.std.specs.Prelude.{◌≡◌, ◌≤◌, ◌<◌, ◌^◌, ◌++◌, ◌∷◌, ◌-◌, take, drop, slice_index, length, OnOk, OnErr, IsOkUnless};
+ghost use Rattle.std.specs.Result.{result_map_both};
 ghost use Rattle.byteorder.specs.Endian.{little_bytes, little_number};
 ghost use Rattle.frame.specs.Trailer.{stored, stored_reading};
-ghost use Rattle.coding.specs.Answers.{Gives, fault};
+ghost use Rattle.coding.specs.Answers.{fault};
 ghost use Rattle.coding.specs.declared.fault.FaultName.TheVariants.{Memory};
 
 use byteorder::{ByteOrder, LittleEndian};
@@ -92,7 +93,7 @@ pub fn push_stored(out: &mut Vec<u8>, contents: &[u8]) -> Result<(), Fault>
 #[tactic(auto, unfolding(crate::specs::Trailer::stored_reading))]
 pub fn contents(bytes: &[u8]) -> Result<&[u8], Fault>
     requires { 5 ≤ length bytes.now }
-    ensures { Gives (λ found. found.now) result (stored_reading bytes.now) }
+    ensures { result_map_both (λ found. found.now) (λ e. e) result ≡ stored_reading bytes.now }
 {
     let (summed, checksum) = bytes.split_at(bytes.len() - 4);
     if LittleEndian::read_u32(checksum) != mask(crc32c(summed)) {

@@ -2,8 +2,9 @@
 use Rattle.std.proofs.Common.{◌≡◌, ℕ, ◌+◌, ◌-◌, ◌*◌, ◌<◌, List, [], ◌++◌, length, take, drop, refl, sym, ap, ◌∙◌, append_assoc, arith}
 use Rattle.std.proofs.lemmas.List.{append-nil, length-append, drop_at, take_at, append_cancel_right, nil_from_length, length-drop}
 use Rattle.byteorder.specs.Endian.{little_bytes, little_number}
+use Rattle.coding.proofs.Bytes.{IsBytes, word_parts, word_fits}
 use Rattle.block.specs.Parts.{IsSplit}
-use Rattle.block.proofs.Restarts.{IsBytes, word_parts, front_word, word_fits}
+use Rattle.block.proofs.Restarts.{front_word}
 
 -- four bytes are those of their number
 whole_word : (tail : List ℕ) → IsBytes tail → length tail ≡ 4 → tail ≡ little_bytes 4 (little_number 4 tail)

@@ -7,3 +7,5 @@ pub mod CrcKernel
 pub mod CrcMask
 pub mod CrcRegisterLemmas
 pub mod CrcTables
+pub mod Bytes
+pub mod Binds

@@ -5,9 +5,10 @@ use Rattle.std.proofs.lemmas.Bool.{cases_lt, le-leb, lt-leb}
 use Rattle.coding.specs.Answers.{fault, ◌>>=◌}
 use Rattle.coding.specs.declared.fault.Fault.{Fault}
 use Rattle.coding.specs.declared.fault.FaultName.TheVariants.{LogShape}
+use Rattle.coding.proofs.Binds.{bind_ok, ok_is}
+use Rattle.coding.proofs.Bytes.{IsBytes}
 use Rattle.logrec.specs.Log.{fragment_type, fragment, fragments}
 use Rattle.logrec.specs.Reading.{Piece, piece_at, ends_record, left_at}
-use Rattle.logrec.proofs.Bytes.{bind_ok, ok_is, IsBytes}
 use Rattle.logrec.proofs.Pieces.{length-fragment, TakesPiece, piece_takes, piece_shorter, piece_again, HasMore, Ends, ends_ok, ends_last, ends_not}
 
 -- a record that ends in this fragment

@@ -11,9 +11,11 @@ use Rattle.std.specs.Global.{Vec}
 use Rattle.coding.specs.Answers.{fault, Gives, ◌>>=◌}
 use Rattle.coding.specs.declared.fault.Fault.{Fault}
 use Rattle.coding.specs.declared.fault.FaultName.TheVariants.{LogShape}
+use Rattle.coding.proofs.Binds.{bind_ok, ok_is}
+use Rattle.coding.proofs.Bytes.{IsBytes, IsBytes-drop}
 use Rattle.logrec.specs.Log.{block_left, zeros_due, room_at, fragments, written, written_from, log, AppendLaw, OneListLaw}
 use Rattle.logrec.specs.Reading.{left_at, behind_zeros, record_at, records_in, records_of, lists}
-use Rattle.logrec.proofs.Bytes.{bind_ok, guard_ended, ok_is, IsBytes, IsBytes-drop}
+use Rattle.logrec.proofs.Bytes.{guard_ended}
 use Rattle.logrec.proofs.Lefts.{left_takes, left_shorter, left_again, fragments_long}
 
 starts_parts : (bytes text : List ℕ) → starts_with eqb bytes text ≡ true → bytes ≡ text ++ drop (length text) bytes

@@ -8,9 +8,11 @@ use Rattle.byteorder.specs.Numbers.{little_number-reads_back}
 use Rattle.coding.specs.Answers.{fault}
 use Rattle.coding.specs.declared.fault.Fault.{Fault}
 use Rattle.coding.specs.declared.fault.FaultName.TheVariants.{LogChecksum, LogShape}
+use Rattle.coding.proofs.Binds.{guard_ok, ok_is}
+use Rattle.coding.proofs.Bytes.{IsBytes, IsBytes-drop}
 use Rattle.logrec.specs.Log.{fragment_type, checksum, fragment}
 use Rattle.logrec.specs.Reading.{Piece, content_len, piece_at, ends_record}
-use Rattle.logrec.proofs.Bytes.{guard_ok, guard_ended, ok_is, IsBytes, IsBytes-drop, header_parts}
+use Rattle.logrec.proofs.Bytes.{guard_ended, header_parts}
 
 abbrev piece_is : ℕ → List ℕ → List ℕ → Piece
 piece_is kind content rest = record { kind = kind; content = content; rest = rest }

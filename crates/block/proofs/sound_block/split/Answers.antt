@@ -1,7 +1,7 @@
 use Rattle.std.proofs.Common.{◌≡◌, ◌-◌, ◌*◌, length, sym, ap, ◌∙◌, arith}
 use Rattle.std.proofs.lemmas.List.{take-append-drop}
 use Rattle.byteorder.specs.Endian.{little_number}
-use Rattle.block.proofs.Restarts.{IsBytes-drop}
+use Rattle.coding.proofs.Bytes.{IsBytes-drop}
 use Rattle.block.proofs.Splits.{split_found, split_count}
 use Rattle.block.proofs.sound_block.split.Goals as goal
 use Rattle.block.proofs.sound_block.split.Goals.{then-count-eq0-via-then-count-eq0, then-count-eq0-via-else-count-eq0+then-front-count}

@@ -5,8 +5,4 @@ mod Answering
 mod DigitLemmas
 mod LineLemmas
 mod TextLemmas
-pub mod NameLemmas
-mod ManifestLemmas
-mod OpeningLemmas
-mod LoadingLemmas
 mod ShowingLemmas

@@ -8,8 +8,8 @@ use Rattle.coding.specs.declared.fault.FaultName.{FaultName}
 use Rattle.coding.specs.declared.fault.FaultName.TheVariants.{Memory}
 use Rattle.edit.specs.Version.{State}
 use Rattle.tool.specs.Lines.{IsShown, version_lines}
-use Rattle.tool.specs.Opening.{FolderAnswers, IsOpened, IsStopped}
-use Rattle.tool.specs.declared.order.Order.{Order}
+use Rattle.folder.specs.Opening.{FolderAnswers, IsOpened, IsStopped}
+use Rattle.folder.specs.declared.order.Order.{Order}
 
 -- the lines of what references point to
 pub flat_map_fused : {A B C : Type 0} (f : A → B) (h : B → List C) (xs : List A) → flat_map (λ x. h (f x)) xs ≡ flat_map h (map f xs)

@@ -9,10 +9,4 @@ pub mod Dump
 pub mod Status
 pub mod Text
 pub mod Usage
-pub mod Names
-pub mod Folder
-pub mod Manifest
-pub mod Opening
-pub mod Levels
-pub mod Loading
 pub mod Lines

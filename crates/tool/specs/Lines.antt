@@ -11,12 +11,12 @@ use Rattle.ikey.specs.Shortlex.{shortlex_cmp}
 use Rattle.edit.specs.Version.{State, pointer_of}
 use Rattle.edit.specs.VersionOrder.{level_files}
 use Rattle.edit.specs.declared.meta.FileMeta.{FileMeta}
-use Rattle.tool.specs.Levels.{all_levels}
-use Rattle.tool.specs.Manifest.{order_name}
-use Rattle.tool.specs.Opening.{IsOpened}
+use Rattle.folder.specs.Levels.{all_levels}
+use Rattle.folder.specs.Manifest.{order_name}
+use Rattle.folder.specs.Opening.{IsOpened}
 use Rattle.tool.specs.Text.{text_of_bytes}
-use Rattle.tool.specs.declared.order.Order.{Order}
-use Rattle.tool.specs.declared.order.Order.TheVariants.{Bytewise, Shortlex}
+use Rattle.folder.specs.declared.order.Order.{Order}
+use Rattle.folder.specs.declared.order.Order.TheVariants.{Bytewise, Shortlex}
 
 -- how an order compares user keys
 abbrev pub order_cmp : Order → List ℕ → List ℕ → Ordering

@@ -2,13 +2,13 @@
 
 use crate::asked::{Line, Usage};
 use crate::command_line::line;
-use crate::disk::Disk;
 use crate::dumping::dump;
 use crate::files;
 use crate::showing::manifest;
 use crate::state::status;
 use crate::two_blocks::blocks;
 use coding::{Fault, FaultName};
+use folder::Disk;
 use std::env::Env;
 use std::io::{ErrorKind, Write};
 use std::rt::Files;

@@ -4,17 +4,15 @@ ghost use Rattle.std.specs.Prelude.{◌≡◌, ◌++◌, ◌≤◌, Ok, IfErr, O
 ghost use Rattle.std.specs.List.{flat_map};
 ghost use Rattle.coding.specs.Answers.{Gives};
 ghost use Rattle.coding.specs.declared.fault.FaultName.TheVariants.{Memory};
-ghost use Rattle.tool.specs.Folder.{TellsSame};
-ghost use Rattle.tool.specs.Levels.{all_levels};
+ghost use Rattle.folder.specs.Folder.{TellsSame};
+ghost use Rattle.folder.specs.Levels.{all_levels};
 ghost use Rattle.tool.specs.Lines.{IsShown, comparator_line, file_line, file_lines, head_lines, number_line, order_cmp, pointer_line, pointer_lines, version_lines};
-ghost use Rattle.tool.specs.Opening.{FolderAnswers};
+ghost use Rattle.folder.specs.Opening.{FolderAnswers};
 
-use crate::folder::Folder;
-use crate::opening::open;
-use crate::order::Order;
 use crate::text::text_of;
 use coding::Fault;
 use edit::{FileMeta, Version};
+use folder::{Folder, Order, open};
 use ikey::{Bytewise, Comparator, KeyBuf, Shortlex};
 use std::alloc::Global;
 

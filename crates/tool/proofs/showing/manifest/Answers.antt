@@ -1,7 +1,7 @@
 use Rattle.std.proofs.Common.{arith}
 use Rattle.tool.specs.Lines.{IsShown}
-use Rattle.tool.specs.Opening.{IsOpened}
-use Rattle.tool.proofs.OpeningLemmas.{hands_on}
+use Rattle.folder.specs.Opening.{IsOpened}
+use Rattle.folder.proofs.OpeningLemmas.{hands_on}
 use Rattle.tool.proofs.ShowingLemmas.{not_opened}
 use Rattle.tool.proofs.showing.manifest.Goals as goal
 

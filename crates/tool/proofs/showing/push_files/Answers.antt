@@ -2,7 +2,7 @@ use Rattle.std.proofs.Common.{◌≡◌, Bor, ap, string_bytes, sym, ◌∙◌}
 use Rattle.std.specs.List.{flat_map}
 use Rattle.edit.specs.declared.meta.FileMeta.{FileMeta}
 use Rattle.tool.specs.Lines.{file_line, file_lines}
-use Rattle.tool.proofs.LoadingLemmas.{level_more}
+use Rattle.folder.proofs.LoadingLemmas.{level_more}
 use Rattle.tool.proofs.ShowingLemmas.{flat_map_fused}
 use Rattle.tool.proofs.TestedLists.{ok_is}
 use Rattle.tool.proofs.showing.push_files.Goals as goal

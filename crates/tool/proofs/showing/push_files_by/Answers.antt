@@ -1,7 +1,7 @@
 use Rattle.std.proofs.Common.{◌≡◌, ◌++◌, OnOk, string_bytes, subst, sym}
-use Rattle.tool.specs.Levels.{all_levels}
+use Rattle.folder.specs.Levels.{all_levels}
 use Rattle.tool.specs.Lines.{file_lines, order_cmp}
-use Rattle.tool.specs.declared.order.Order.{Order}
+use Rattle.folder.specs.declared.order.Order.{Order}
 use Rattle.tool.proofs.showing.push_files_by.Goals as goal
 
 pub returns-in-Bytewise-clause-ok : goal.returns-in-Bytewise-clause-ok

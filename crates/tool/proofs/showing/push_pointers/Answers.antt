@@ -1,6 +1,6 @@
 use Rattle.std.proofs.Common.{string_bytes, refl}
 use Rattle.tool.specs.Lines.{pointer_lines}
-use Rattle.tool.proofs.LoadingLemmas.{level_more}
+use Rattle.folder.proofs.LoadingLemmas.{level_more}
 use Rattle.tool.proofs.showing.push_pointers.Goals as goal
 
 pub loop-level-preserved : goal.loop-level-preserved

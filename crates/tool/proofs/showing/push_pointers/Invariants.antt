@@ -1,5 +1,5 @@
 use Rattle.std.proofs.Common.{◌≡◌, ◌++◌, ◌-◌, string_bytes}
-use Rattle.tool.specs.Levels.{all_levels, by_level}
+use Rattle.folder.specs.Levels.{all_levels, by_level}
 use Rattle.tool.specs.Lines.{pointer_lines}
 use Rattle.tool.proofs.showing.push_pointers.Given as goal
 

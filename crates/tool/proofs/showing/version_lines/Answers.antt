@@ -1,6 +1,6 @@
 use Rattle.std.proofs.Common.{List, ℕ, [], Ok, string_bytes, sym, ap, ◌∙◌, ◌++◌}
 use Rattle.std.specs.Global.{Vec}
-use Rattle.tool.specs.Levels.{all_levels}
+use Rattle.folder.specs.Levels.{all_levels}
 use Rattle.tool.specs.Lines.{file_lines, head_lines, order_cmp, pointer_lines}
 use Rattle.tool.proofs.ShowingLemmas.{joined}
 use Rattle.tool.proofs.showing.version_lines.Goals as goal

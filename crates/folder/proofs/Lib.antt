@@ -1,0 +1,4 @@
+mod NameLemmas
+mod ManifestLemmas
+pub mod OpeningLemmas
+pub mod LoadingLemmas

@@ -1,0 +1,28 @@
+use Rattle.std.proofs.Common.{ℕ, List, Ok, Err, map, All, subst, sym}
+use Rattle.std.specs.Global.{Vec}
+use Rattle.coding.specs.Answers.{Gives, UnlessMemory}
+use Rattle.logrec.specs.Reading.{lists}
+use Rattle.edit.specs.Edit.{HasLevels, edit_in}
+use Rattle.edit.specs.declared.version_edit.VersionEdit.{VersionEdit}
+use Rattle.folder.specs.Manifest.{IsEditsAnswer, IsManifestAnswer, version_from}
+use Rattle.folder.proofs.ManifestLemmas.{edits_answer, given_answer, handed_on, no_edits}
+use Rattle.folder.proofs.edits.version_in.Goals as goal
+
+pub returns-in_err-edits : goal.returns-in_err-edits
+returns-in_err-edits c =
+    let e = c.in_err-edits.field-0.0 in
+    let refused = subst (λ (rs : List (Vec ℕ)). UnlessMemory e.name (IsEditsAnswer (lists rs) (Err e))) c.deref.ensures.value c.in_err-edits.ensures.answer in
+    handed_on (λ r. (r.0, r.1)) c.from_residual-in_err-edits.result e (IsManifestAnswer c.args.number c.args.bytes.now) c.from_residual-in_err-edits.ensures.1
+    (no_edits c.args.number c.args.bytes.now (lists c.in_ok-records.records.items) e c.in_ok-records.ensures.exact refused)
+
+pub version_from-requires : goal.version_from-requires
+version_from-requires c =
+    subst (λ (es : List VersionEdit). All (λ e. HasLevels (edit_in e)) es) (sym c.deref-2.ensures.value) c.in_ok-edits.ensures.levels
+
+pub returns : goal.returns
+returns c =
+    let edits = c.in_ok-edits.edits.items in
+    let read = subst (λ (rs : List (Vec ℕ)). IsEditsAnswer (lists rs) (Ok (map edit_in edits))) c.deref.ensures.value c.in_ok-edits.ensures.answer in
+    given_answer (λ r. (r.0, r.1)) c.version_from.result (version_from c.args.number (map edit_in edits)) (IsManifestAnswer c.args.number c.args.bytes.now)
+    (edits_answer c.args.number c.args.bytes.now (lists c.in_ok-records.records.items) (map edit_in edits) c.in_ok-records.ensures.exact read)
+    (subst (λ (es : List VersionEdit). Gives (λ r. (r.0, r.1)) c.version_from.result (version_from c.args.number (map edit_in es))) c.deref-2.ensures.value c.version_from.ensures)

@@ -1,0 +1,55 @@
+use Rattle.std.proofs.Common.{◌≡◌, ℕ, List, Ok, Err, codes, string_bytes, sym, subst, ◌∙◌, arith}
+use Rattle.coding.specs.Answers.{UnlessMemory, Answers}
+use Rattle.folder.specs.Manifest.{IsManifestAnswer}
+use Rattle.folder.specs.Names.{IsNumberAnswer, manifest_name}
+use Rattle.folder.specs.Opening.{IsHeld, IsOpened}
+use Rattle.folder.proofs.OpeningLemmas.{answers_alone, hands_on, held_before, manifest_answers, no_current, no_manifest, no_number, refuses}
+use Rattle.coding.proofs.Binds.{ok_is}
+use Rattle.folder.proofs.opening.open.Goals as goal
+
+pub returns-in_err-current-clause-answer : goal.returns-in_err-current-clause-answer
+returns-in_err-current-clause-answer g c =
+    let tells = g.F.Folder.tells c.args.folder.now in
+    let failed = g.F.Folder.failed in
+    let e = c.in_err-current.field-0.0 in
+    hands_on (λ r. (r.0, r.1)) (failed c.args.folder.now) (failed c.args.folder.now) (failed c.held.new.folder) c.from_residual.result e (IsHeld tells (codes "CURRENT")) (IsOpened tells)
+    c.from_residual.ensures.1 (omega arith) c.held.ensures.later c.in_err-current.ensures.answer (no_current tells e)
+
+pub returns-in_err-number-clause-answer : goal.returns-in_err-number-clause-answer
+returns-in_err-number-clause-answer g c =
+    let tells = g.F.Folder.tells c.args.folder.now in
+    let failed = g.F.Folder.failed in
+    let e = c.in_err-number.field-0.0 in
+    let current = c.in_ok-current.current.items in
+    let given = subst (λ (bytes : List ℕ). UnlessMemory e.name (IsNumberAnswer bytes (Err e))) c.deref.ensures.value c.in_err-number.ensures in
+    refuses (λ r. (r.0, r.1)) (failed c.args.folder.now) (failed c.held.new.folder) c.from_residual-in_err-number.result e (IsNumberAnswer current) (IsOpened tells)
+    c.from_residual-in_err-number.ensures.1 given (no_number tells current e c.in_ok-current.ensures.answer)
+
+pub returns-in_err-manifest-clause-answer : goal.returns-in_err-manifest-clause-answer
+returns-in_err-manifest-clause-answer g c =
+    let tells = g.F.Folder.tells c.args.folder.now in
+    let then = g.F.Folder.tells c.held.new.folder in
+    let failed = g.F.Folder.failed in
+    let e = c.in_err-manifest.field-0.0 in
+    let current = c.in_ok-current.current.items in
+    let number = c.in_ok-number.number in
+    let two = subst (λ (bytes : List ℕ). IsNumberAnswer bytes (Ok number)) c.deref.ensures.value c.in_ok-number.ensures in
+    let named : c.as_str.result.now ≡ manifest_name number = c.as_str.ensures.value ∙ sym (ok_is (manifest_name number) (string_bytes c.in_ok-name.name) c.in_ok-name.ensures) in
+    hands_on (λ r. (r.0, r.1)) (failed c.args.folder.now) (failed c.held.new.folder) (failed c.held-2.new.folder) c.from_residual-in_err-manifest.result e (IsHeld then c.as_str.result.now) (IsOpened tells)
+    c.from_residual-in_err-manifest.ensures.1 c.held.ensures.later c.held-2.ensures.later c.in_err-manifest.ensures.answer
+    (λ h. no_manifest tells current number e c.in_ok-current.ensures.answer two (held_before tells then (manifest_name number) c.as_str.result.now (Err e) c.held.ensures.same named h))
+
+pub returns-clause-answer : goal.returns-clause-answer
+returns-clause-answer g c =
+    let tells = g.F.Folder.tells c.args.folder.now in
+    let then = g.F.Folder.tells c.held.new.folder in
+    let failed = g.F.Folder.failed in
+    let current = c.in_ok-current.current.items in
+    let number = c.in_ok-number.number in
+    let bytes = c.in_ok-manifest.manifest.items in
+    let two = subst (λ (bytes : List ℕ). IsNumberAnswer bytes (Ok number)) c.deref.ensures.value c.in_ok-number.ensures in
+    let named : c.as_str.result.now ≡ manifest_name number = c.as_str.ensures.value ∙ sym (ok_is (manifest_name number) (string_bytes c.in_ok-name.name) c.in_ok-name.ensures) in
+    let three = held_before tells then (manifest_name number) c.as_str.result.now (Ok bytes) c.held.ensures.same named c.in_ok-manifest.ensures.answer in
+    let given = subst (λ (bytes : List ℕ). Answers (λ r. (r.0, r.1)) c.version_in.result (IsManifestAnswer number bytes)) c.deref-2.ensures.value c.version_in.ensures in
+    answers_alone (λ r. (r.0, r.1)) (failed c.args.folder.now) (failed c.held-2.new.folder) c.version_in.result (IsManifestAnswer number bytes) (IsOpened tells)
+    (manifest_answers tells current number bytes c.in_ok-current.ensures.answer two three) given

@@ -1,0 +1,88 @@
+//! A folder as the calls on a database see it: files by name, each read and made whole.
+
+ghost use Rattle.std.specs.Prelude.{◌≡◌};
+ghost use Rattle.coding.specs.Answers.{fault};
+ghost use Rattle.folder.specs.Folder.{fault_name};
+ghost use Rattle.folder.specs.declared.folder.FolderFault.TheVariants.{Memory};
+
+use coding::{Fault, FaultName};
+use std::alloc::{AllocError, AllocFailed};
+use thiserror::Error;
+
+/// Why a call of a folder failed.
+#[derive(Clone, Copy, Debug, PartialEq, Eq, Error)]
+pub enum FolderFault {
+    /// The device failed.
+    #[error("Device")]
+    Device,
+    /// A growth of memory was refused.
+    #[error("Memory")]
+    Memory,
+}
+
+impl From<FolderFault> for Fault {
+    ghost from_gives = { λ folder_fault e. e ≡ fault (fault_name folder_fault) };
+
+    fn from(folder_fault: FolderFault) -> Fault {
+        match folder_fault {
+            FolderFault::Device => Fault::of(FaultName::Device),
+            FolderFault::Memory => Fault::of(FaultName::Memory),
+        }
+    }
+}
+
+impl From<AllocError> for FolderFault {
+    ghost from_gives = { λ _ e. e ≡ Memory };
+
+    fn from(_e: AllocError) -> FolderFault {
+        FolderFault::Memory
+    }
+}
+
+impl<T: Drop> From<AllocFailed<T>> for FolderFault {
+    ghost from_gives = { λ _ e. e ≡ Memory };
+
+    fn from(_e: AllocFailed<T>) -> FolderFault {
+        FolderFault::Memory
+    }
+}
+
+/// A folder of files, by their names.
+pub trait Folder {
+    ghost use Rattle.std.specs.Prelude.{ℕ, List, Option, IfOk};
+    ghost use Rattle.std.specs.Option.{option_map};
+    ghost use Rattle.folder.specs.Folder.{HasCause, TellsSame};
+
+    /// What it tells of what it holds: which bytes, or that there is no file, may be read under a name. A folder that
+    /// tells nothing lets each of these be read.
+    ghost tells: { Self → List ℕ → Option (List ℕ) → Type 0 };
+
+    /// How often the device has failed, up to 2^64 - 1.
+    ghost failed: { Self → ℕ };
+
+    /// The bytes of a file, and None where there is no file of that name.
+    fn read(&mut self, name: &str) -> Result<Option<Vec<u8>>, FolderFault>
+        ensures held { IfOk result (λ held. tells self.old name.now (option_map (λ bytes. bytes.items) held)) }
+        ensures same { TellsSame (tells self.old) (tells self.new) }
+        ensures cause { HasCause (failed self.old) (failed self.new) result };
+
+    /// Makes a file of these bytes, in place of what a file of that name held.
+    fn create(&mut self, name: &str, bytes: &[u8]) -> Result<(), FolderFault>
+        ensures { HasCause (failed self.old) (failed self.new) result };
+
+    /// Writes a file's bytes through to the device.
+    fn sync(&mut self, name: &str) -> Result<(), FolderFault>
+        ensures { HasCause (failed self.old) (failed self.new) result };
+
+    /// Gives a file another name, in place of the file that had it.
+    fn rename(&mut self, from: &str, to: &str) -> Result<(), FolderFault>
+        ensures { HasCause (failed self.old) (failed self.new) result };
+
+    /// Writes the folder's names through to the device.
+    fn sync_folder(&mut self) -> Result<(), FolderFault>
+        ensures { HasCause (failed self.old) (failed self.new) result };
+
+    /// How often the device has failed, up to 2^64 - 1, where the count stays.
+    fn failures(&self) -> u64
+        ensures { result ≡ failed self.now };
+}

@@ -1,0 +1,20 @@
+//! The folder of a database: its files by name, its order of user keys, the version that its manifest gives and that
+//! version's tables.
+#![tactic(auto)]
+
+mod disk;
+mod edits;
+mod folder;
+mod loading;
+mod names;
+mod opening;
+mod order;
+
+pub use disk::Disk;
+pub use folder::{Folder, FolderFault};
+pub use loading::load;
+pub use opening::open;
+pub use order::Order;
+
+#[cfg(test)]
+mod tests;

@@ -1,0 +1,68 @@
+//! The names of a folder's files, and what CURRENT holds.
+
+ghost use Rattle.std.specs.Prelude.{◌≡◌, ◌<◌, ◌^◌, ℕ, Some, Ok, string_bytes};
+ghost use Rattle.coding.specs.Answers.{Gives, Answers};
+ghost use Rattle.folder.specs.Names.{IsNumberAnswer, current_text, manifest_name, old_table_name, table_name};
+
+use coding::{Fault, FaultName};
+use std::alloc::Global;
+use std::str;
+
+/// The file that names the manifest in use.
+pub(crate) const CURRENT: &str = "CURRENT";
+
+/// What the name of each manifest begins with.
+const MANIFEST: &[u8] = b"MANIFEST-";
+
+/// The name of the manifest of this number: its decimal digits, at least six, behind `MANIFEST-`.
+pub(crate) fn manifest_name(alloc: Global, number: u64) -> Result<String, Fault>
+    ensures { Gives string_bytes result (Ok (manifest_name number)) }
+{
+    Ok(format!(in alloc; "MANIFEST-{number:06}")?)
+}
+
+/// The name of the table of this number.
+pub(crate) fn table_name(alloc: Global, number: u64) -> Result<String, Fault>
+    ensures { Gives string_bytes result (Ok (table_name number)) }
+{
+    Ok(format!(in alloc; "{number:06}.ldb")?)
+}
+
+/// The older name of the table of this number.
+pub(crate) fn old_table_name(alloc: Global, number: u64) -> Result<String, Fault>
+    ensures { Gives string_bytes result (Ok (old_table_name number)) }
+{
+    Ok(format!(in alloc; "{number:06}.sst")?)
+}
+
+/// What CURRENT holds where it names the manifest of this number.
+fn current_text(alloc: Global, number: u64) -> Result<String, Fault>
+    ensures { Gives string_bytes result (Ok (current_text number)) }
+{
+    Ok(format!(in alloc; "MANIFEST-{number:06}\n")?)
+}
+
+/// The number of the manifest that CURRENT names by these bytes.
+///
+/// Refused as Apply where they aren't a manifest's name, exactly as it is written, and one newline.
+pub(crate) fn number_in_current(alloc: Global, bytes: &[u8]) -> Result<u64, Fault>
+    ensures { Answers (λ n. n) result (IsNumberAnswer bytes.now) }
+{
+    let Some(number) = number_between(bytes) else {
+        return Err(Fault::of(FaultName::Apply));
+    };
+    let text = current_text(alloc, number)?;
+    if bytes == text.as_bytes() {
+        Ok(number)
+    } else {
+        Err(Fault::of(FaultName::Apply))
+    }
+}
+
+/// The number between what a manifest's name begins with and a newline.
+fn number_between(bytes: &[u8]) -> Option<u64>
+    ensures { (n : ℕ) → n < 2 ^ 64 → bytes.now ≡ current_text n → result ≡ Some n }
+{
+    let digits = bytes.strip_prefix(MANIFEST)?.strip_suffix(b"\n")?;
+    str::from_utf8(digits).ok()?.parse().ok()
+}

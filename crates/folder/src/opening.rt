@@ -1,0 +1,46 @@
+//! Opening a folder.
+
+ghost use Rattle.std.specs.Prelude.{◌≤◌};
+ghost use Rattle.folder.specs.Folder.{TellsSame};
+ghost use Rattle.folder.specs.Opening.{FolderAnswers, IsHeld, IsOpened};
+
+use crate::edits::version_in;
+use crate::folder::Folder;
+use crate::names::{CURRENT, manifest_name, number_in_current};
+use crate::order::Order;
+use coding::{Fault, FaultName};
+use edit::Version;
+use std::alloc::Global;
+
+/// The order and the version of a folder: CURRENT names a manifest, whose edits give them.
+///
+/// Refused by the first that applies: Missing where there is no CURRENT; Apply where it holds anything but a manifest's
+/// name and one newline; Missing where that manifest isn't there; LogShape or LogChecksum where its bytes are no log;
+/// EditTag or EditField of the first record that reads as no edit; Comparator where no record names one, or the first
+/// name is neither order's; Comparator or Apply of the first edit that doesn't fit what the earlier ones made; Apply
+/// where log number, next file or last sequence was never set, or the manifest's number isn't below next file. A previous
+/// log number that was never set stays so. Each call that the device fails is Device at once, and want of memory
+/// Memory. Only reads.
+pub fn open<F: Folder>(alloc: Global, folder: &mut F) -> Result<(Order, Version), Fault>
+    ensures answer { FolderAnswers (λ r. (r.0, r.1)) (F.failed folder.old) (F.failed folder.new) result (IsOpened (F.tells folder.old)) }
+    ensures same { TellsSame (F.tells folder.old) (F.tells folder.new) }
+    ensures later { F.failed folder.old ≤ F.failed folder.new }
+{
+    let current = held(folder, CURRENT)?;
+    let number = number_in_current(alloc, &current)?;
+    let name = manifest_name(alloc, number)?;
+    let manifest = held(folder, name.as_str())?;
+    version_in(alloc, number, &manifest)
+}
+
+/// The bytes of a file. Missing where there is no file of that name.
+pub(crate) fn held<F: Folder>(folder: &mut F, name: &str) -> Result<Vec<u8>, Fault>
+    ensures answer { FolderAnswers (λ v. v.items) (F.failed folder.old) (F.failed folder.new) result (IsHeld (F.tells folder.old) name.now) }
+    ensures same { TellsSame (F.tells folder.old) (F.tells folder.new) }
+    ensures later { F.failed folder.old ≤ F.failed folder.new }
+{
+    match folder.read(name)? {
+        Some(bytes) => Ok(bytes),
+        None => Err(Fault::of(FaultName::Missing)),
+    }
+}

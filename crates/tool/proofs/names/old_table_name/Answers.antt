@@ -1,5 +1,0 @@
-use Rattle.tool.proofs.names.old_table_name.Goals as goal
-use Rattle.tool.proofs.NameLemmas.{padded_six_digits}
-
-pub returns : goal.returns
-returns c = rw (c.in_ok-format.ensures.ok, c.laid_out.ensures, padded_six_digits c.args.number)

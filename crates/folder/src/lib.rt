@@ -17,4 +17,10 @@ pub use opening::open;
 pub use order::Order;
 
 #[cfg(test)]
+mod lent_folder;
+#[cfg(test)]
+mod loading_tests;
+#[cfg(test)]
+mod opening_tests;
+#[cfg(test)]
 mod tests;

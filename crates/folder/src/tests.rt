@@ -5,6 +5,25 @@ use std::alloc::Global;
 use std::test::Fail;
 use std::{env, fs, process};
 
+/// What is no manifest's name and one newline.
+pub(crate) const NO_NAMES: [&str; 15] = [
+    "",
+    "\n",
+    "MANIFEST-\n",
+    "MANIFEST-000009",
+    "MANIFEST-000009\n\n",
+    "MANIFEST-000009\r\n",
+    "MANIFEST-9\n",
+    "MANIFEST-0000009\n",
+    "MANIFEST-+00009\n",
+    "MANIFEST-00000a\n",
+    "MANIFEST-18446744073709551616\n",
+    "manifest-000009\n",
+    "../MANIFEST-000009\n",
+    "MANIFEST-../000009\n",
+    "MANIFEST-000009/\n",
+];
+
 /// The number of the manifest that CURRENT names by this text, or the refusal.
 fn named(alloc: Global, text: &str) -> Result<u64, FaultName> {
     number_in_current(alloc, text.as_bytes()).map_err(|fault| fault.name)
@@ -22,24 +41,7 @@ fn names_of_manifests(rt: HostRuntime) {
     for (text, number) in taken {
         assert_eq!(rt; named(alloc, text), Ok(number), "{text}");
     }
-    let refused = [
-        "",
-        "\n",
-        "MANIFEST-\n",
-        "MANIFEST-000009",
-        "MANIFEST-000009\n\n",
-        "MANIFEST-000009\r\n",
-        "MANIFEST-9\n",
-        "MANIFEST-0000009\n",
-        "MANIFEST-+00009\n",
-        "MANIFEST-00000a\n",
-        "MANIFEST-18446744073709551616\n",
-        "manifest-000009\n",
-        "../MANIFEST-000009\n",
-        "MANIFEST-../000009\n",
-        "MANIFEST-000009/\n",
-    ];
-    for text in refused {
+    for text in NO_NAMES {
         assert_eq!(rt; named(alloc, text), Err(FaultName::Apply), "{text}");
     }
 }

@@ -1,0 +1,121 @@
+//! A folder in memory, for tests, and what its manifests hold.
+
+ghost use Rattle.folder.specs.Folder.{HasCause};
+
+use crate::folder::{Folder, FolderFault};
+use coding::Fault;
+use std::alloc::Global;
+
+/// The field of the bytewise comparator's name.
+pub(crate) const BYTEWISE: &[u8] = b"\x01\x1aleveldb.BytewiseComparator";
+
+/// The field of the shortlex comparator's name.
+pub(crate) const SHORTLEX: &[u8] = b"\x01\x20subcompaction.ShortlexComparator";
+
+/// Log number 3, previous log number 0, next file 9, last sequence 4.
+pub(crate) const NUMBERS: &[u8] = b"\x02\x03\x09\0\x03\x09\x04\x04";
+
+/// A new file at level 1, of number 7 and 125 bytes, from a deletion of `u` at sequence 4 to a value of it at 2.
+pub(crate) const SEVEN: &[u8] = b"\x07\x01\x07\x7d\x09u\0\x04\0\0\0\0\0\0\x09u\x01\x02\0\0\0\0\0\0";
+
+/// What CURRENT holds in the tests, and the name that stands there.
+pub(crate) const FIVE_CURRENT: &[u8] = b"MANIFEST-000005\n";
+
+pub(crate) const FIVE: &str = "MANIFEST-000005";
+
+/// The log of these records.
+pub(crate) fn log_of(alloc: Global, records: &[&[u8]]) -> Result<Vec<u8>, Fault> {
+    let mut log = Vec::new(alloc);
+    for record in records {
+        log = logrec::append(alloc, &log, record)?;
+    }
+    Ok(log)
+}
+
+/// A folder of lent files, of whose calls one may fail. It tells contracts nothing of what it holds.
+#[derive(Drop)]
+pub(crate) struct LentFolder<'a> {
+    alloc: Global,
+    files: &'a [(&'a str, &'a [u8])],
+    /// Which call fails, from 1, and how.
+    failing: Option<(u64, FolderFault)>,
+    calls: u64,
+    failures: u64,
+}
+
+impl<'a> LentFolder<'a> {
+    /// The folder of these files, none of whose calls fails.
+    pub(crate) fn new(alloc: Global, files: &'a [(&'a str, &'a [u8])]) -> LentFolder<'a> {
+        LentFolder {
+            alloc,
+            files,
+            failing: None,
+            calls: 0,
+            failures: 0,
+        }
+    }
+
+    /// The same, but that the call of this number, from 1, fails in this way.
+    pub(crate) fn failing(self, call: u64, fault: FolderFault) -> LentFolder<'a> {
+        LentFolder {
+            failing: Some((call, fault)),
+            ..self
+        }
+    }
+
+    /// How many calls were made.
+    pub(crate) fn calls(&self) -> u64 {
+        self.calls
+    }
+
+    /// Counts a call, which may be the one that fails.
+    fn called(&mut self) -> Result<(), FolderFault>
+        ensures { HasCause self.old.failures self.new.failures result }
+    {
+        self.calls = self.calls.saturating_add(1);
+        match self.failing {
+            Some((call, FolderFault::Device)) if call == self.calls => {
+                self.failures = self.failures.saturating_add(1);
+                Err(FolderFault::Device)
+            }
+            Some((call, FolderFault::Memory)) if call == self.calls => Err(FolderFault::Memory),
+            _ => Ok(()),
+        }
+    }
+}
+
+impl<'a> Folder for LentFolder<'a> {
+    ghost tells = { λ _ _ _. Unit {0} };
+
+    ghost failed = { λ folder. folder.failures };
+
+    fn read(&mut self, name: &str) -> Result<Option<Vec<u8>>, FolderFault> {
+        self.called()?;
+        for (file, bytes) in self.files {
+            if *file == name {
+                return Ok(Some(Vec::from_slice(self.alloc, bytes)?));
+            }
+        }
+        Ok(None)
+    }
+
+    fn create(&mut self, _name: &str, _bytes: &[u8]) -> Result<(), FolderFault> {
+        self.called()
+    }
+
+    fn sync(&mut self, _name: &str) -> Result<(), FolderFault> {
+        self.called()
+    }
+
+    fn rename(&mut self, _from: &str, _to: &str) -> Result<(), FolderFault> {
+        self.called()
+    }
+
+    fn sync_folder(&mut self) -> Result<(), FolderFault> {
+        self.called()
+    }
+
+    fn failures(&self) -> u64 {
+        self.failures
+    }
+}

@@ -2,7 +2,8 @@
 use Rattle.std.specs.Prelude.{◌≡◌, ◌⊎◌, ℕ, List, codes, Option, Some, None, Result, Ok, Err}
 use Rattle.coding.specs.Answers.{UnlessMemory, fault, IsThen}
 use Rattle.coding.specs.declared.fault.Fault.{Fault}
-use Rattle.coding.specs.declared.fault.FaultName.TheVariants.{Device, Missing}
+use Rattle.coding.specs.declared.fault.FaultName.{FaultName}
+use Rattle.coding.specs.declared.fault.FaultName.TheVariants.{LogChecksum, LogShape, EditTag, EditField, Comparator, Apply, Device, Missing}
 use Rattle.edit.specs.Version.{State}
 use Rattle.folder.specs.Folder.{DeviceFailed}
 use Rattle.folder.specs.Manifest.{IsManifestAnswer}
@@ -12,6 +13,10 @@ use Rattle.folder.specs.declared.order.Order.{Order}
 -- the device failed in between, and that is told
 abbrev pub IsStopped : ℕ → ℕ → Fault → Type 0
 IsStopped before now e = (e ≡ fault Device) × DeviceFailed before now
+
+-- Device is answered only where the device failed in between.
+abbrev pub HasDeviceFailed : ℕ → ℕ → Fault → Type 0
+HasDeviceFailed before now e = e.name ≡ Device → DeviceFailed before now
 
 -- What a call on a folder answers, seen by view, is such an answer, or the device failed; want of memory aside. The
 -- count of failures was the one before, and is the other now.
@@ -30,3 +35,14 @@ IsOpened tells =
     IsThen (IsHeld tells (codes "CURRENT")) (λ current.
     IsThen (IsNumberAnswer current) (λ number.
     IsThen (IsHeld tells (manifest_name number)) (IsManifestAnswer number)))
+
+-- the refusals that come of what a folder holds: neither Device nor Memory is one
+abbrev pub IsOfContents : FaultName → Type 0
+IsOfContents Missing = Unit {0}
+IsOfContents LogShape = Unit {0}
+IsOfContents LogChecksum = Unit {0}
+IsOfContents EditTag = Unit {0}
+IsOfContents EditField = Unit {0}
+IsOfContents Comparator = Unit {0}
+IsOfContents Apply = Unit {0}
+IsOfContents _ = ⊥

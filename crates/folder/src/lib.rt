@@ -5,6 +5,7 @@
 mod disk;
 mod edits;
 mod folder;
+mod laws;
 mod loading;
 mod names;
 mod opening;
@@ -12,6 +13,7 @@ mod order;
 
 pub use disk::Disk;
 pub use folder::{Folder, FolderFault};
+pub use laws::folder_laws;
 pub use loading::load;
 pub use opening::open;
 pub use order::Order;

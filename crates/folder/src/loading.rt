@@ -1,12 +1,12 @@
 //! Reading a version's tables.
 
-ghost use Rattle.std.specs.Prelude.{◌≡◌, ◌++◌, ◌≤◌, map, Ok, OnOk, IsOkUnless};
+ghost use Rattle.std.specs.Prelude.{◌≡◌, ◌++◌, ◌≤◌, map, Ok, IfErr, OnOk, IsOkUnless};
 ghost use Rattle.coding.specs.Answers.{Gives, fault};
 ghost use Rattle.coding.specs.declared.fault.FaultName.TheVariants.{Memory};
 ghost use Rattle.folder.specs.Folder.{TellsSame};
 ghost use Rattle.folder.specs.Levels.{file_numbers};
 ghost use Rattle.folder.specs.Loading.{IsLoaded, IsTable};
-ghost use Rattle.folder.specs.Opening.{FolderAnswers};
+ghost use Rattle.folder.specs.Opening.{FolderAnswers, HasDeviceFailed};
 
 use crate::folder::Folder;
 use crate::names::{old_table_name, table_name};
@@ -26,6 +26,7 @@ pub fn load<C: Comparator, F: Folder>(
     version: &Version,
 ) -> Result<Vec<(u64, Vec<u8>)>, Fault>
     ensures answer { FolderAnswers (λ v. map (λ t. (t.0, t.1.items)) v.items) (F.failed folder.old) (F.failed folder.new) result (IsLoaded (F.tells folder.old) (file_numbers C.cmp version.now)) }
+    ensures device { IfErr result (HasDeviceFailed (F.failed folder.old) (F.failed folder.new)) }
     ensures same { TellsSame (F.tells folder.old) (F.tells folder.new) }
     ensures later { F.failed folder.old ≤ F.failed folder.new }
 {

@@ -1,8 +1,8 @@
 //! Opening a folder.
 
-ghost use Rattle.std.specs.Prelude.{◌≤◌};
+ghost use Rattle.std.specs.Prelude.{◌≤◌, IfErr};
 ghost use Rattle.folder.specs.Folder.{TellsSame};
-ghost use Rattle.folder.specs.Opening.{FolderAnswers, IsHeld, IsOpened};
+ghost use Rattle.folder.specs.Opening.{FolderAnswers, HasDeviceFailed, IsHeld, IsOpened};
 
 use crate::edits::version_in;
 use crate::folder::Folder;
@@ -23,6 +23,7 @@ use std::alloc::Global;
 /// Memory. Only reads.
 pub fn open<F: Folder>(alloc: Global, folder: &mut F) -> Result<(Order, Version), Fault>
     ensures answer { FolderAnswers (λ r. (r.0, r.1)) (F.failed folder.old) (F.failed folder.new) result (IsOpened (F.tells folder.old)) }
+    ensures device { IfErr result (HasDeviceFailed (F.failed folder.old) (F.failed folder.new)) }
     ensures same { TellsSame (F.tells folder.old) (F.tells folder.new) }
     ensures later { F.failed folder.old ≤ F.failed folder.new }
 {

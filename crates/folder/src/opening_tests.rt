@@ -180,6 +180,11 @@ fn calls_that_fail(rt: HostRuntime) -> Result<(), Fail> {
     Ok(())
 }
 
+#[test]
+fn the_laws_are_called(rt: HostRuntime) {
+    folder_laws(&LentFolder::new(rt.alloc(), &[]));
+}
+
 /// Opens the folder of one table.
 fn round(alloc: Global) -> Result<(Order, Version), Fault> {
     let manifest = log_of(alloc, &[BYTEWISE, NUMBERS, SEVEN])?;

@@ -7,7 +7,7 @@ ghost use Rattle.coding.specs.declared.fault.FaultName.TheVariants.{Memory};
 ghost use Rattle.folder.specs.Folder.{TellsSame};
 ghost use Rattle.folder.specs.Levels.{all_levels};
 ghost use Rattle.tool.specs.Lines.{IsShown, comparator_line, file_line, file_lines, head_lines, number_line, order_cmp, pointer_line, pointer_lines, version_lines};
-ghost use Rattle.folder.specs.Opening.{FolderAnswers};
+ghost use Rattle.folder.specs.Opening.{FolderAnswers, HasDeviceFailed};
 
 use crate::text::text_of;
 use coding::Fault;
@@ -26,6 +26,7 @@ const MAX_FILE_LINE: usize = 49;
 /// opening the folder is.
 pub fn manifest<F: Folder>(alloc: Global, folder: &mut F) -> Result<Vec<u8>, Fault>
     ensures answer { FolderAnswers (λ v. v.items) (F.failed folder.old) (F.failed folder.new) result (IsShown (F.tells folder.old)) }
+    ensures device { IfErr result (HasDeviceFailed (F.failed folder.old) (F.failed folder.new)) }
     ensures same { TellsSame (F.tells folder.old) (F.tells folder.new) }
     ensures later { F.failed folder.old ≤ F.failed folder.new }
 {

@@ -4,6 +4,7 @@ use Rattle.folder.specs.Manifest.{IsManifestAnswer}
 use Rattle.folder.specs.Names.{IsNumberAnswer, manifest_name}
 use Rattle.folder.specs.Opening.{IsHeld, IsOpened}
 use Rattle.folder.proofs.OpeningLemmas.{answers_alone, hands_on, held_before, manifest_answers, no_current, no_manifest, no_number, refuses}
+use Rattle.folder.proofs.RefusalLemmas.{device_failed, open_refused}
 use Rattle.coding.proofs.Binds.{ok_is}
 use Rattle.folder.proofs.opening.open.Goals as goal
 
@@ -53,3 +54,9 @@ returns-clause-answer g c =
     let given = subst (λ (bytes : List ℕ). Answers (λ r. (r.0, r.1)) c.version_in.result (IsManifestAnswer number bytes)) c.deref-2.ensures.value c.version_in.ensures in
     answers_alone (λ r. (r.0, r.1)) (failed c.args.folder.now) (failed c.held-2.new.folder) c.version_in.result (IsManifestAnswer number bytes) (IsOpened tells)
     (manifest_answers tells current number bytes c.in_ok-current.ensures.answer two three) given
+
+pub returns-clause-device : goal.returns-clause-device
+returns-clause-device g c =
+    let tells = g.F.Folder.tells c.args.folder.now in
+    let failed = g.F.Folder.failed in
+    device_failed (λ r. (r.0, r.1)) (failed c.args.folder.now) (failed c.held-2.new.folder) c.version_in.result (IsOpened tells) (open_refused tells) (returns-clause-answer g c)

@@ -1,6 +1,7 @@
 -- Which refusals come of what a folder holds.
 use Rattle.std.proofs.Common.{◌≡◌, ◌⊎◌, ℕ, suc, zero, ◌^◌, nat_lt, ◌==◌, length, take, drop, slice_index, is_none, Bool, true, false, List, [], ◌∷◌, Option, Some, None, Result, Ok, Err, IfErr, refl, sym, subst, if◌then◌else◌, inl, inr}
 use Rattle.std.specs.Option.{option_map_or, ok_or}
+use Rattle.coding.proofs.Binds.{failed}
 use Rattle.coding.specs.Answers.{◌>>=◌, Follows, IsThen, UnlessMemory, fault}
 use Rattle.coding.specs.declared.fault.Fault.{Fault}
 use Rattle.coding.specs.declared.fault.FaultName.{FaultName}
@@ -45,11 +46,8 @@ tested : {A : Type 0} (b : Bool) (r s : Result A Fault) → AllOfContents r → 
 tested true r s one two = one
 tested false r s one two = two
 
-abbrev refusal : {A : Type 0} → Fault → Result A Fault
-refusal e = Err e
-
 -- of an answer that is this refusal
-refused_by : {A : Type 0} (r : Result A Fault) (e : Fault) → refusal e ≡ r → AllOfContents r → OfContents e
+refused_by : {A : Type 0} (r : Result A Fault) (e : Fault) → failed e ≡ r → AllOfContents r → OfContents e
 unfolding AllOfContents
 refused_by {A = A} r e same h = subst (λ (x : Result A Fault). IfErr x OfContents) (sym same) h
 
@@ -129,7 +127,7 @@ edits_by number edits =
     bound (version_after (order_name order) empty_state edits) _ (version_refused (order_name order) empty_state edits) (λ v. tested _ _ _ (value (order, v)) (named _ Apply tt)))
 
 -- two steps, one after the other
-same_err : {A : Type 0} (d e : Fault) → refusal {A = A} e ≡ refusal d → d ≡ e
+same_err : {A : Type 0} (d e : Fault) → failed {A = A} e ≡ failed d → d ≡ e
 same_err d e h = cc
 
 then_refused : {A B : Type 0} (IsFirst : Result A Fault → Type 0) (IsNext : A → Result B Fault → Type 0) (e : Fault) → ((d : Fault) → IsFirst (Err d) → OfContents d) → ((x : A) → IsNext x (Err e) → OfContents e)

@@ -31,7 +31,8 @@ use Rattle.tool.specs.Ranges.{IsBefore, IsFrom}
 use Rattle.tool.specs.Merging.{entry_of, entries_of}
 use Rattle.tool.specs.declared.tested.TestedEntry.{TestedEntry}
 use Rattle.tool.specs.Testing.{entry_test, is_above, tested_after}
-use Rattle.tool.proofs.TestedLists.{bind_ok, tested_same, get_or-cons}
+use Rattle.coding.proofs.Binds.{bind_ok}
+use Rattle.tool.proofs.TestedLists.{tested_same, get_or-cons}
 
 -- versions are totally ordered
 pub version_total : IsTotalOrder (version_cmp bytewise_cmp)

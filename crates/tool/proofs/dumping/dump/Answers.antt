@@ -7,7 +7,7 @@ use Rattle.block.specs.Piece.{Entry}
 use Rattle.ikey.specs.Bytewise.{bytewise_cmp}
 use Rattle.table.specs.Reading.{Contents, DataBlock, blocks_of, contents_of, entries_of, table_reading}
 use Rattle.tool.specs.Dump.{dump_lines}
-use Rattle.tool.proofs.TestedLists.{ok_is}
+use Rattle.coding.proofs.Binds.{ok_is}
 use Rattle.tool.proofs.dumping.dump.Goals as goal
 
 -- the entries of what the bytes hold

@@ -4,7 +4,7 @@ use Rattle.edit.specs.declared.meta.FileMeta.{FileMeta}
 use Rattle.tool.specs.Lines.{file_line, file_lines}
 use Rattle.folder.proofs.LoadingLemmas.{level_more}
 use Rattle.tool.proofs.ShowingLemmas.{flat_map_fused}
-use Rattle.tool.proofs.TestedLists.{ok_is}
+use Rattle.coding.proofs.Binds.{ok_is}
 use Rattle.tool.proofs.showing.push_files.Goals as goal
 
 pub loop-level-preserved : goal.loop-level-preserved

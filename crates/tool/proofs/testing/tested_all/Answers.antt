@@ -6,7 +6,8 @@ use Rattle.coding.proofs.Refusals.{Fails-from}
 use Rattle.block.specs.Piece.{Entry}
 use Rattle.tool.specs.Merging.{entry_of, entries_of}
 use Rattle.tool.specs.Testing.{entry_test, tested_after, last_key}
-use Rattle.tool.proofs.TestedLists.{first_entry, goes_on, ends, with_front, entry_test_same, ok_is}
+use Rattle.coding.proofs.Binds.{ok_is}
+use Rattle.tool.proofs.TestedLists.{first_entry, goes_on, ends, with_front, entry_test_same}
 use Rattle.tool.proofs.testing.tested_all.Goals as goal
 
 pub returns-in_err-tested : goal.returns-in_err-tested

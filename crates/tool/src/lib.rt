@@ -27,4 +27,6 @@ pub use text::{key_of, text_of};
 pub use two_blocks::blocks;
 
 #[cfg(test)]
+mod showing_tests;
+#[cfg(test)]
 mod tests;

@@ -1,8 +1,9 @@
 -- The pieces that are written of entries: they give the entries back, they are lawful, and one more entry adds one piece.
-use Rattle.std.proofs.Common.{◌≡◌, ℕ, suc, ◌+◌, ◌*◌, ◌%◌, ◌^◌, ◌<◌, ◌≤◌, Bool, true, false, cond, eqb, List, [], ◌∷◌, ◌++◌, length, min, take, drop, refl, sym, ap, subst, ◌∙◌, append_assoc, add-zero, lit<, arith}
+use Rattle.std.proofs.Common.{◌≡◌, ℕ, zero, suc, ◌+◌, ◌*◌, ◌%◌, ◌^◌, ◌<◌, ◌≤◌, Bool, true, false, cond, eqb, nat_eq, List, [], ◌∷◌, ◌++◌, length, min, take, drop, refl, sym, ap, subst, ◌∙◌, append_assoc, add-zero, lit<, arith}
 use Rattle.std.specs.List.{flat_map, common_prefix_len, AllByRecursion}
-use Rattle.std.proofs.lemmas.Bool.{eqb-true}
-use Rattle.std.proofs.lemmas.List.{take-append-drop, length-append, length-drop, append-nil}
+use Rattle.std.specs.Cmp.Lexicographic.{pointwise, same_text}
+use Rattle.std.proofs.lemmas.Bool.{eqb-true, eq-eqb}
+use Rattle.std.proofs.lemmas.List.{take-append-drop, length-append, length-drop, drop-drop, append-nil}
 use Rattle.std.proofs.lemmas.List.Sums.{common_prefix_len-le}
 use Rattle.std.proofs.Math.Nat.{zero-mod}
 use Rattle.byteorder.specs.Endian.{little_bytes}
@@ -201,6 +202,24 @@ unfolding block
 block_reads_back r q fits = (pieces_from r 0 [] q, AreOfBlock-pieces_from r q fits, refl, entries_after-pieces_from r 0 [] q)
 
 -- ---- a walk along two keys
+
+-- beginnings that are the same are shared
+common_same : (n : ℕ) (xs ys : List ℕ) → n ≤ length xs → n ≤ length ys → take n xs ≡ take n ys → common xs ys ≡ n + common (drop n xs) (drop n ys)
+common_same zero xs ys le_xs le_ys same = omega arith
+common_same (suc n) [] ys le_xs le_ys same = absurd (omega arith)
+common_same (suc n) (x ∷ xs) [] le_xs le_ys same = absurd (omega arith)
+common_same (suc n) (x ∷ xs) (y ∷ ys) le_xs le_ys same =
+    let heads : x ≡ y = cc in
+    let rest : take n xs ≡ take n ys = cc in
+    rw (eq-eqb x y heads) (omega (arith, common_same n xs ys (omega arith) (omega arith) rest))
+
+-- the walk goes on behind bytes that are the same
+pub common_goes_on : (xs ys : List ℕ) (at n to : ℕ) → to ≡ at + n → to ≤ length xs → to ≤ length ys → true ≡ pointwise nat_eq (take n (drop at xs)) (take n (drop at ys)) → common xs ys ≡ at + common (drop at xs) (drop at ys)
+    → common xs ys ≡ to + common (drop to xs) (drop to ys)
+common_goes_on xs ys at n to to_is le_xs le_ys told so_far =
+    let same : take n (drop at xs) ≡ take n (drop at ys) = same_text _ _ told in
+    let rest = common_same n (drop at xs) (drop at ys) (omega (arith, length-drop at xs)) (omega (arith, length-drop at ys)) same in
+    rw (to_is, ← drop-drop n at xs, ← drop-drop n at ys) (omega (arith, so_far, rest))
 
 -- the walk has come to the end of one of them
 pub common_all : (xs ys : List ℕ) (i : ℕ) → min (length xs) (length ys) ≤ i → common xs ys ≡ i + common (drop i xs) (drop i ys) → common xs ys ≡ i

@@ -1,16 +1,20 @@
 //! Writing a block, entry by entry.
 
-ghost use Rattle.std.specs.Prelude.{◌≡◌, ◌^◌, ◌<◌, ◌≤◌, ◌↔◌, ◌==◌, if◌then◌else◌, [], ◌++◌, nat_eq, length, take, false, IsTrue, IfOk, IfErr, OnOk, OnErr, IsOkUnless};
+ghost use Rattle.std.specs.Prelude.{◌≡◌, ◌+◌, ◌^◌, ◌<◌, ◌≤◌, ◌↔◌, ◌==◌, if◌then◌else◌, [], ◌++◌, nat_eq, length, take, drop, false, IsTrue, IfOk, IfErr, OnOk, OnErr, IsOkUnless};
 ghost use Rattle.std.specs.List.{common_prefix_len};
 ghost use Rattle.coding.specs.Answers.{fault};
 ghost use Rattle.coding.specs.declared.fault.FaultName.TheVariants.{Memory};
+ghost use Rattle.coding.specs.Varint.{varint};
 ghost use Rattle.block.specs.Piece.{piece_bytes, restart_bytes};
 ghost use Rattle.block.specs.Writing.{block};
-ghost use Rattle.block.specs.Building.{with_entry};
+ghost use Rattle.block.specs.Building.{with_entry, last_key};
 
 use coding::{Fault, push_varint};
 use std::alloc::Global;
 use std::marker::Model;
+
+/// How many bytes of two keys are held against each other at once.
+const WORD_LEN: usize = 8;
 
 /// A block that is being written, seen as its restart interval and its entries so far.
 ///
@@ -103,6 +107,23 @@ impl BlockBuilder {
         self.bytes.is_empty()
     }
 
+    /// The key of the last entry; empty where there is none.
+    pub fn last_key(&self) -> &[u8]
+        ensures { result.now ≡ last_key [] self.now.entries }
+    {
+        &self.last
+    }
+
+    /// Takes all entries out, and keeps their memory for others.
+    pub fn clear(&mut self)
+        ensures { self.new ≡ record { interval = self.old.interval; entries = [] } }
+    {
+        self.bytes.clear();
+        self.restarts.clear();
+        self.last.clear();
+        self.since = 0;
+    }
+
     /// Appends the block that `finish` would give now.
     ///
     /// Refused only for want of memory, and then nothing is appended.
@@ -168,6 +189,29 @@ fn shared_len(since: u32, before: &[u8], key: &[u8]) -> usize
 fn common_len(before: &[u8], key: &[u8]) -> usize
     ensures { result ≡ common_prefix_len nat_eq before.now key.now }
 {
+    let whole = common_words(before, key);
+    whole + common_bytes(&before[whole..], &key[whole..])
+}
+
+/// How many bytes two keys share at their beginnings, up to the first eight that they don't share whole.
+fn common_words(before: &[u8], key: &[u8]) -> usize
+    ensures shared { common_prefix_len nat_eq before.now key.now ≡ result + common_prefix_len nat_eq (drop result before.now) (drop result key.now) }
+    ensures within { (result ≤ length before.now) × (result ≤ length key.now) }
+{
+    let words = before.len().min(key.len()) / WORD_LEN;
+    for i in 0..words {
+        let at = WORD_LEN * i;
+        if before[at..at + WORD_LEN] != key[at..at + WORD_LEN] {
+            return at;
+        }
+    }
+    WORD_LEN * words
+}
+
+/// How many bytes two keys share at their beginnings, found byte by byte.
+fn common_bytes(before: &[u8], key: &[u8]) -> usize
+    ensures { result ≡ common_prefix_len nat_eq before.now key.now }
+{
     let end = before.len().min(key.len());
     for i in 0..end {
         if before[i] != key[i] {
@@ -197,12 +241,26 @@ fn push_fields(out: &mut Vec<u8>, shared: usize, unshared: &[u8], value: &[u8]) 
     ensures err { OnErr result (take (length out.old.items) out.new.items ≡ out.old.items) }
     ensures memory { IsOkUnless result (fault Memory) }
 {
-    push_varint(out, shared as u64)?;
-    push_varint(out, unshared.len() as u64)?;
-    push_varint(out, value.len() as u64)?;
+    push_lengths(out, shared, unshared.len(), value.len())?;
     out.extend_from_slice(unshared)?;
     out.extend_from_slice(value)?;
     Ok(())
+}
+
+/// Appends the three lengths of a piece, or on a refused growth some of them.
+fn push_lengths(out: &mut Vec<u8>, shared: usize, unshared: usize, value: usize) -> Result<(), Fault>
+    ensures ok { OnOk result (out.new.items ≡ out.old.items ++ (varint shared ++ (varint unshared ++ varint value))) }
+    ensures err { OnErr result (take (length out.old.items) out.new.items ≡ out.old.items) }
+    ensures memory { IsOkUnless result (fault Memory) }
+{
+    if shared < 128 && unshared < 128 && value < 128 {
+        // Each takes one byte.
+        out.extend_from_slice(&[shared as u8, unshared as u8, value as u8])?;
+        return Ok(());
+    }
+    push_varint(out, shared as u64)?;
+    push_varint(out, unshared as u64)?;
+    push_varint(out, value as u64)
 }
 
 /// Appends the restarts and their number, four bytes each, or on a refused growth some of those bytes.

@@ -24,7 +24,7 @@ use Rattle.table.proofs.BlockEntries.{blocks_in-stored, sizes-index_before}
 use Rattle.table.proofs.Flushes.{stored_blocks-push, joined-push, index_before-push}
 
 -- what is kept gives the entries back
-pub entries_so_far-built : {keys : IndexKeys} {o : Options} {parts : List (List Entry)} {bytes : List ℕ} {index : List IndexEntry} {interval : ℕ} {entries : List Entry} {last : List ℕ} → IsBuilt keys o parts bytes index interval entries last → entries_so_far bytes index entries ≡ joined parts ++ entries
+pub entries_so_far-built : {keys : IndexKeys} {o : Options} {parts : List (List Entry)} {bytes : List ℕ} {index : List IndexEntry} {interval : ℕ} {entries : List Entry} → IsBuilt keys o parts bytes index interval entries → entries_so_far bytes index entries ≡ joined parts ++ entries
 unfolding entries_so_far
 entries_so_far-built {keys = keys} {o = o} {parts = parts} {bytes = bytes} {index = index} {entries = entries} h =
     let sizes = ap (map (λ (i : IndexEntry). i.handle.size)) h.index_is ∙ sizes-index_before keys o.restart_interval 0 parts (first_key entries) in
@@ -32,7 +32,7 @@ entries_so_far-built {keys = keys} {o = o} {parts = parts} {bytes = bytes} {inde
     ap (blocks_in bytes) sizes ∙ ap (λ (x : List ℕ). blocks_in x (map (λ p. length (block o.restart_interval p)) parts)) h.bytes_are ∙ blocks_in-stored o.restart_interval parts h.parts_fit in
     ap (λ (x : List (List Entry)). joined x ++ entries) blocks
 
-pub IsBuilt-nil : (keys : IndexKeys) (o : Options) (interval : ℕ) → AreInLimits o → interval ≡ o.restart_interval → IsBuilt keys o [] [] [] interval [] []
+pub IsBuilt-nil : (keys : IndexKeys) (o : Options) (interval : ℕ) → AreInLimits o → interval ≡ o.restart_interval → IsBuilt keys o [] [] [] interval []
 unfolding data_blocks
 IsBuilt-nil keys o interval limits interval_is = record {
   limits = limits;
@@ -44,7 +44,6 @@ IsBuilt-nil keys o interval limits interval_is = record {
   flushed_is = refl;
   parts_fit = tt;
   entries_fit = omega (arith, length-block-nil o.restart_interval);
-  last_is = refl;
   last_lawful = λ some. absurd (omega arith);
 }
 
@@ -63,8 +62,8 @@ blocks_behind-grown o entries e more part = rw part refl
 blocks_behind-flushed : (o : Options) (entries : List Entry) (e : Entry) (more : List Entry) → is_full o entries ≡ true → blocks_behind o entries (e ∷ more) ≡ entries ∷ blocks_behind o (e ∷ []) more
 blocks_behind-flushed o entries e more full = rw full refl
 
-pub IsBuilt-grown : {keys : IndexKeys} {o : Options} {parts : List (List Entry)} {bytes : List ℕ} {index : List IndexEntry} {interval : ℕ} {entries : List Entry} {last : List ℕ} (e : Entry) → IsBuilt keys o parts bytes index interval entries last
-    → is_full o entries ≡ false → IsInternalKey e.key → length (block o.restart_interval (entries ++ e ∷ [])) ≤ 2 ^ 31 → IsBuilt keys o parts bytes index interval (entries ++ e ∷ []) e.key
+pub IsBuilt-grown : {keys : IndexKeys} {o : Options} {parts : List (List Entry)} {bytes : List ℕ} {index : List IndexEntry} {interval : ℕ} {entries : List Entry} (e : Entry) → IsBuilt keys o parts bytes index interval entries
+    → is_full o entries ≡ false → IsInternalKey e.key → length (block o.restart_interval (entries ++ e ∷ [])) ≤ 2 ^ 31 → IsBuilt keys o parts bytes index interval (entries ++ e ∷ [])
 IsBuilt-grown {keys = keys} {o = o} {parts = parts} {entries = entries} e h part lawful fits = record {
   limits = h.limits;
   interval_is = h.interval_is;
@@ -78,8 +77,7 @@ IsBuilt-grown {keys = keys} {o = o} {parts = parts} {entries = entries} e h part
   flushed_is = h.flushed_is;
   parts_fit = h.parts_fit;
   entries_fit = fits;
-  last_is = sym (last_key-push [] entries e);
-  last_lawful = λ _. lawful;
+  last_lawful = λ _. subst IsInternalKey (sym (last_key-push [] entries e)) lawful;
 }
 
 -- ---- the open block is flushed, and the next entry begins another
@@ -95,10 +93,10 @@ full_some : (o : Options) (entries : List Entry) → is_full o entries ≡ true 
 full_some o [] full = absurd (cc)
 full_some o (e ∷ es) full = omega arith
 
-pub IsBuilt-flushed : {keys : IndexKeys} {o : Options} {parts : List (List Entry)} {bytes : List ℕ} {index : List IndexEntry} {interval : ℕ} {entries : List Entry} {last : List ℕ} (e : Entry) (interval' : ℕ) → IsBuilt keys o parts bytes index interval entries last → interval' ≡ o.restart_interval
+pub IsBuilt-flushed : {keys : IndexKeys} {o : Options} {parts : List (List Entry)} {bytes : List ℕ} {index : List IndexEntry} {interval : ℕ} {entries : List Entry} (e : Entry) (interval' : ℕ) → IsBuilt keys o parts bytes index interval entries → interval' ≡ o.restart_interval
     → is_full o entries ≡ true → IsInternalKey e.key → length (block o.restart_interval (e ∷ [])) ≤ 2 ^ 31
-    → IsBuilt keys o (parts ++ entries ∷ []) (bytes ++ stored (block interval entries)) (index ++ entry_at (keys.between last e.key) (length bytes) (length (block interval entries)) ∷ []) interval' (e ∷ []) e.key
-IsBuilt-flushed {keys = keys} {o = o} {parts = parts} {bytes = bytes} {index = index} {interval = interval} {entries = entries} {last = last} e interval' h interval_same full lawful fits =
+    → IsBuilt keys o (parts ++ entries ∷ []) (bytes ++ stored (block interval entries)) (index ++ entry_at (keys.between (last_key [] entries) e.key) (length bytes) (length (block interval entries)) ∷ []) interval' (e ∷ [])
+IsBuilt-flushed {keys = keys} {o = o} {parts = parts} {bytes = bytes} {index = index} {interval = interval} {entries = entries} e interval' h interval_same full lawful fits =
     let r : ℕ = o.restart_interval in
     let b : List ℕ = block interval entries in
     let same : b ≡ block r entries = ap (λ (n : ℕ). block n entries) h.interval_is in
@@ -109,8 +107,7 @@ IsBuilt-flushed {keys = keys} {o = o} {parts = parts} {bytes = bytes} {index = i
       interval_is = interval_same;
       bytes_are = ap (λ (x : List ℕ). x ++ stored b) h.bytes_are ∙ ap (λ (x : List ℕ). stored_blocks r parts ++ stored x) same ∙ sym (stored_blocks-push r parts entries);
       index_is =
-          ap (λ (x : List IndexEntry). x ++ entry_at (keys.between last e.key) (length bytes) (length b) ∷ []) h.index_is
-          ∙ ap (λ (k : List ℕ). index_before keys r 0 parts (first_key entries) ++ entry_at (keys.between k e.key) (length bytes) (length b) ∷ []) h.last_is
+          ap (λ (x : List IndexEntry). x ++ entry_at (keys.between (last_key [] entries) e.key) (length bytes) (length b) ∷ []) h.index_is
           ∙ ap (λ (n : ℕ). index_before keys r 0 parts (first_key entries) ++ entry_at (keys.between (last_key [] entries) e.key) n (length b) ∷ []) (sym place)
           ∙ ap (λ (n : ℕ). index_before keys r 0 parts (first_key entries) ++ entry_at (keys.between (last_key [] entries) e.key) (0 + length (stored_blocks r parts)) n ∷ []) len
           ∙ sym (index_before-push keys r 0 parts entries e.key);
@@ -125,15 +122,14 @@ IsBuilt-flushed {keys = keys} {o = o} {parts = parts} {bytes = bytes} {index = i
       flushed_is = sum_by-append (flushed_len o) parts (entries ∷ []) ∙ omega (arith, h.flushed_is, flushed_len-full o entries full, length-append bytes (stored b), length-stored b, len);
       parts_fit = AllByRecursion-push (λ p. length (block r p) ≤ 2 ^ 31) parts entries h.parts_fit h.entries_fit;
       entries_fit = fits;
-      last_is = refl;
-      last_lawful = λ _. lawful;
+          last_lawful = λ _. lawful;
     }
 
 -- ---- with one more entry, however it was added
 
 -- What is kept, and that it is of the entries before and one more.
-pub record Adds (keys : IndexKeys) (o : Options) (before : List Entry) (key value : List ℕ) (o' : Options) (bytes : List ℕ) (index : List IndexEntry) (latest : Building) (last : List ℕ) : Type 0 where
-  pub kept : IsKept keys o' bytes index latest last
+pub record Adds (keys : IndexKeys) (o : Options) (before : List Entry) (key value : List ℕ) (o' : Options) (bytes : List ℕ) (index : List IndexEntry) (latest : Building) : Type 0 where
+  pub kept : IsKept keys o' bytes index latest
   pub options : o' ≡ o
   pub entries : entries_so_far bytes index latest.entries ≡ with_entry before key value
 
@@ -151,40 +147,40 @@ pub first_fits : (b : Building) (key value : List ℕ) → b.entries ≡ [] → 
 first_fits b key value none lawful value_fits =
     next_fits b key value (rw none (omega (arith, length-block-nil b.interval))) lawful.fits value_fits
 
-pub open_fits : (keys : IndexKeys) (o : Options) (bytes : List ℕ) (index : List IndexEntry) (latest : Building) (last key value : List ℕ) → IsKept keys o bytes index latest last → is_full o latest.entries ≡ false → IsInternalKey key → length value < 2 ^ 24
+pub open_fits : (keys : IndexKeys) (o : Options) (bytes : List ℕ) (index : List IndexEntry) (latest : Building) (key value : List ℕ) → IsKept keys o bytes index latest → is_full o latest.entries ≡ false → IsInternalKey key → length value < 2 ^ 24
     → length (block latest.interval (with_entry latest.entries key value)) ≤ 2 ^ 31
-open_fits keys o bytes index latest last key value kept part lawful value_fits =
+open_fits keys o bytes index latest key value kept part lawful value_fits =
     let h = kept.1 in
     next_fits latest key value (subst (λ (n : ℕ). length (block n latest.entries) ≤ 4194304) (sym h.interval_is) (open_len o latest.entries h.limits part)) lawful.fits value_fits
 
 -- the next entry goes into the open block
-pub grows : (keys : IndexKeys) (o : Options) (bytes : List ℕ) (index : List IndexEntry) (latest : Building) (last key value : List ℕ) (o' : Options) (bytes' : List ℕ) (index' : List IndexEntry) (latest' : Building) (last' : List ℕ)
-    → IsKept keys o bytes index latest last → is_full o latest.entries ≡ false → IsInternalKey key → length value < 2 ^ 24
-    → o' ≡ o → bytes' ≡ bytes → index' ≡ index → latest' ≡ record { interval = latest.interval; entries = with_entry latest.entries key value } → last' ≡ key
-    → Adds keys o (entries_so_far bytes index latest.entries) key value o' bytes' index' latest' last'
-grows keys o bytes index latest last key value o' bytes' index' latest' last' kept part lawful value_fits o_is bytes_are index_is latest_is last_is =
+pub grows : (keys : IndexKeys) (o : Options) (bytes : List ℕ) (index : List IndexEntry) (latest : Building) (key value : List ℕ) (o' : Options) (bytes' : List ℕ) (index' : List IndexEntry) (latest' : Building)
+    → IsKept keys o bytes index latest → is_full o latest.entries ≡ false → IsInternalKey key → length value < 2 ^ 24
+    → o' ≡ o → bytes' ≡ bytes → index' ≡ index → latest' ≡ record { interval = latest.interval; entries = with_entry latest.entries key value }
+    → Adds keys o (entries_so_far bytes index latest.entries) key value o' bytes' index' latest'
+grows keys o bytes index latest key value o' bytes' index' latest' kept part lawful value_fits o_is bytes_are index_is latest_is =
     let h = kept.1 in
     let e : Entry = record { key = key; value = value } in
-    let fits = open_fits keys o bytes index latest last key value kept part lawful value_fits in
+    let fits = open_fits keys o bytes index latest key value kept part lawful value_fits in
     let next = IsBuilt-grown e h part lawful (subst (λ (n : ℕ). length (block n (with_entry latest.entries key value)) ≤ 2 ^ 31) h.interval_is fits) in
-    rw (o_is, bytes_are, index_is, latest_is, last_is) (record {
+    rw (o_is, bytes_are, index_is, latest_is) (record {
       kept = (kept.0, next);
       options = refl;
       entries = entries_so_far-built next ∙ sym (append_assoc (joined kept.0) latest.entries (e ∷ [])) ∙ ap (λ (x : List Entry). x ++ e ∷ []) (sym (entries_so_far-built h));
     })
 
 -- the open block is flushed, and the next entry begins another
-pub flushes : (keys : IndexKeys) (o : Options) (bytes : List ℕ) (index : List IndexEntry) (latest : Building) (last key value : List ℕ) (o' : Options) (bytes' : List ℕ) (index' : List IndexEntry) (latest' : Building) (last' : List ℕ)
-    → IsKept keys o bytes index latest last → is_full o latest.entries ≡ true → IsInternalKey key → length value < 2 ^ 24
-    → o' ≡ o → bytes' ≡ bytes ++ stored (block latest.interval latest.entries) → index' ≡ index ++ entry_at (keys.between last key) (length bytes) (length (block latest.interval latest.entries)) ∷ []
-    → latest' ≡ record { interval = o.restart_interval; entries = with_entry [] key value } → last' ≡ key
-    → Adds keys o (entries_so_far bytes index latest.entries) key value o' bytes' index' latest' last'
-flushes keys o bytes index latest last key value o' bytes' index' latest' last' kept full lawful value_fits o_is bytes_are index_is latest_is last_is =
+pub flushes : (keys : IndexKeys) (o : Options) (bytes : List ℕ) (index : List IndexEntry) (latest : Building) (key value : List ℕ) (o' : Options) (bytes' : List ℕ) (index' : List IndexEntry) (latest' : Building)
+    → IsKept keys o bytes index latest → is_full o latest.entries ≡ true → IsInternalKey key → length value < 2 ^ 24
+    → o' ≡ o → bytes' ≡ bytes ++ stored (block latest.interval latest.entries) → index' ≡ index ++ entry_at (keys.between (last_key [] latest.entries) key) (length bytes) (length (block latest.interval latest.entries)) ∷ []
+    → latest' ≡ record { interval = o.restart_interval; entries = with_entry [] key value }
+    → Adds keys o (entries_so_far bytes index latest.entries) key value o' bytes' index' latest'
+flushes keys o bytes index latest key value o' bytes' index' latest' kept full lawful value_fits o_is bytes_are index_is latest_is =
     let h = kept.1 in
     let e : Entry = record { key = key; value = value } in
     let fits = first_fits (record { interval = o.restart_interval; entries = [] }) key value refl lawful value_fits in
     let next = IsBuilt-flushed e o.restart_interval h refl full lawful fits in
-    rw (o_is, bytes_are, index_is, latest_is, last_is) (record {
+    rw (o_is, bytes_are, index_is, latest_is) (record {
       kept = (kept.0 ++ latest.entries ∷ [], next);
       options = refl;
       entries = entries_so_far-built next ∙ ap (λ (x : List Entry). x ++ e ∷ []) (joined-push kept.0 latest.entries ∙ sym (entries_so_far-built h));

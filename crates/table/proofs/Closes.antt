@@ -24,7 +24,7 @@ use Rattle.table.proofs.Flushes.{stored_blocks-push, index_from-push}
 use Rattle.table.proofs.Builds.{entries_so_far-built}
 
 -- the data blocks of what is kept
-data_blocks-built : {keys : IndexKeys} {o : Options} {parts : List (List Entry)} {bytes : List ℕ} {index : List IndexEntry} {interval : ℕ} {entries : List Entry} {last : List ℕ} → IsBuilt keys o parts bytes index interval entries last → data_blocks o (entries_so_far bytes index entries) ≡ parts ++ open_block entries
+data_blocks-built : {keys : IndexKeys} {o : Options} {parts : List (List Entry)} {bytes : List ℕ} {index : List IndexEntry} {interval : ℕ} {entries : List Entry} → IsBuilt keys o parts bytes index interval entries → data_blocks o (entries_so_far bytes index entries) ≡ parts ++ open_block entries
 data_blocks-built {o = o} h = ap (data_blocks o) (entries_so_far-built h ∙ sym (append-nil _)) ∙ h.cut []
 
 -- ---- the flushed size
@@ -35,10 +35,10 @@ flushed_len-open o [] false e = refl
 flushed_len-open o (x ∷ xs) true e = rw e (zero-add _)
 flushed_len-open o (x ∷ xs) false e = rw e refl
 
-pub flushed-kept : (keys : IndexKeys) (o : Options) (bytes : List ℕ) (index : List IndexEntry) (interval : ℕ) (entries : List Entry) (last : List ℕ) (parts : List (List Entry)) (full : Bool) → IsBuilt keys o parts bytes index interval entries last → is_full o entries ≡ full
+pub flushed-kept : (keys : IndexKeys) (o : Options) (bytes : List ℕ) (index : List IndexEntry) (interval : ℕ) (entries : List Entry) (parts : List (List Entry)) (full : Bool) → IsBuilt keys o parts bytes index interval entries → is_full o entries ≡ full
     → flushed o (entries_so_far bytes index entries) ≡ length bytes + cond full (length (block interval entries) + 5) 0
 unfolding flushed
-flushed-kept keys o bytes index interval entries last parts full h e =
+flushed-kept keys o bytes index interval entries parts full h e =
     ap (sum_by (flushed_len o)) (data_blocks-built h)
     ∙ sum_by-append (flushed_len o) parts (open_block entries)
     ∙ ap (λ (n : ℕ). n + sum_by (flushed_len o) (open_block entries)) h.flushed_is
@@ -69,21 +69,20 @@ open_block-some : (entries : List Entry) → 0 < length entries → open_block e
 open_block-some [] some = absurd (omega arith)
 open_block-some (e ∷ es) some = refl
 
-pub closes_last : (keys : IndexKeys) (o : Options) (bytes : List ℕ) (index : List IndexEntry) (interval : ℕ) (entries : List Entry) (last : List ℕ) (parts : List (List Entry)) → IsBuilt keys o parts bytes index interval entries last → 0 < length entries
-    → closed (bytes ++ stored (block interval entries)) (index ++ entry_at (keys.above last) (length bytes) (length (block interval entries)) ∷ []) ≡ table_of keys o.restart_interval (data_blocks o (entries_so_far bytes index entries))
-closes_last keys o bytes index interval entries last parts h some =
+pub closes_last : (keys : IndexKeys) (o : Options) (bytes : List ℕ) (index : List IndexEntry) (interval : ℕ) (entries : List Entry) (parts : List (List Entry)) → IsBuilt keys o parts bytes index interval entries → 0 < length entries
+    → closed (bytes ++ stored (block interval entries)) (index ++ entry_at (keys.above (last_key [] entries)) (length bytes) (length (block interval entries)) ∷ []) ≡ table_of keys o.restart_interval (data_blocks o (entries_so_far bytes index entries))
+closes_last keys o bytes index interval entries parts h some =
     let r : ℕ = o.restart_interval in
     let b : List ℕ = block interval entries in
     let same : b ≡ block r entries = ap (λ (n : ℕ). block n entries) h.interval_is in
     let place : length bytes ≡ 0 + length (stored_blocks r parts) = ap length h.bytes_are ∙ sym (zero-add _) in
     let written : bytes ++ stored b ≡ stored_blocks r parts ++ stored (block r entries) = ap (λ (x : List ℕ). x ++ stored b) h.bytes_are ∙ ap (λ (x : List ℕ). stored_blocks r parts ++ stored x) same in
-    let listed : index_entries (index ++ entry_at (keys.above last) (length bytes) (length b) ∷ []) ≡ index_entries (index_before keys r 0 parts (first_key entries)) ++ index_entry (keys.above (last_key [] entries)) (0 + length (stored_blocks r parts)) (length (block r entries)) ∷ [] =
-    map-append (λ (i : IndexEntry). index_entry i.key i.handle.offset i.handle.size) index (entry_at (keys.above last) (length bytes) (length b) ∷ [])
-    ∙ ap (λ (x : List IndexEntry). index_entries x ++ index_entry (keys.above last) (length bytes) (length b) ∷ []) h.index_is
-    ∙ ap (λ (k : List ℕ). index_entries (index_before keys r 0 parts (first_key entries)) ++ index_entry (keys.above k) (length bytes) (length b) ∷ []) h.last_is
+    let listed : index_entries (index ++ entry_at (keys.above (last_key [] entries)) (length bytes) (length b) ∷ []) ≡ index_entries (index_before keys r 0 parts (first_key entries)) ++ index_entry (keys.above (last_key [] entries)) (0 + length (stored_blocks r parts)) (length (block r entries)) ∷ [] =
+    map-append (λ (i : IndexEntry). index_entry i.key i.handle.offset i.handle.size) index (entry_at (keys.above (last_key [] entries)) (length bytes) (length b) ∷ [])
+    ∙ ap (λ (x : List IndexEntry). index_entries x ++ index_entry (keys.above (last_key [] entries)) (length bytes) (length b) ∷ []) h.index_is
     ∙ ap (λ (n : ℕ). index_entries (index_before keys r 0 parts (first_key entries)) ++ index_entry (keys.above (last_key [] entries)) n (length b) ∷ []) place
     ∙ ap (λ (x : List ℕ). index_entries (index_before keys r 0 parts (first_key entries)) ++ index_entry (keys.above (last_key [] entries)) (0 + length (stored_blocks r parts)) (length x) ∷ []) same in
-    table-last keys o parts entries (bytes ++ stored b) (index_entries (index ++ entry_at (keys.above last) (length bytes) (length b) ∷ [])) written listed
+    table-last keys o parts entries (bytes ++ stored b) (index_entries (index ++ entry_at (keys.above (last_key [] entries)) (length bytes) (length b) ∷ [])) written listed
     ∙ ap (λ (x : List (List Entry)). table_of keys r (parts ++ x)) (sym (open_block-some entries some))
     ∙ ap (table_of keys r) (sym (data_blocks-built h))
 
@@ -92,9 +91,9 @@ open_block-none [] none = refl
 open_block-none (e ∷ es) none = absurd (omega arith)
 
 -- without entries there is no block
-pub closes_none : (keys : IndexKeys) (o : Options) (bytes : List ℕ) (index : List IndexEntry) (interval : ℕ) (entries : List Entry) (last : List ℕ) (parts : List (List Entry)) → IsBuilt keys o parts bytes index interval entries last → length entries ≡ 0
+pub closes_none : (keys : IndexKeys) (o : Options) (bytes : List ℕ) (index : List IndexEntry) (interval : ℕ) (entries : List Entry) (parts : List (List Entry)) → IsBuilt keys o parts bytes index interval entries → length entries ≡ 0
     → closed bytes index ≡ table_of keys o.restart_interval (data_blocks o (entries_so_far bytes index entries))
-closes_none keys o bytes index interval entries last parts h none =
+closes_none keys o bytes index interval entries parts h none =
     let r : ℕ = o.restart_interval in
     let nothing : parts ≡ [] = h.begun none in
     let blocks : data_blocks o (entries_so_far bytes index entries) ≡ [] = data_blocks-built h ∙ ap (λ (x : List (List Entry)). x ++ open_block entries) nothing ∙ open_block-none entries none in
@@ -132,17 +131,17 @@ above_some cmp q [] key some = absurd (omega arith)
 above_some cmp q (e ∷ es) key some = above_by cmp q e es key
 
 -- a key is above the last of what is kept where it is above the last key of the open block
-pub above_kept : (cmp : List ℕ → List ℕ → Ordering) (keys : IndexKeys) (o : Options) (bytes : List ℕ) (index : List IndexEntry) (interval : ℕ) (entries : List Entry) (last key : List ℕ) (parts : List (List Entry)) → IsBuilt keys o parts bytes index interval entries last → 0 < length entries
-    → IsAboveLast cmp (entries_so_far bytes index entries) key ↔ (internal_cmp cmp last key ≡ Less)
-above_kept cmp keys o bytes index interval entries last key parts h some =
-    rw (entries_so_far-built h, h.last_is) (above_some cmp (joined parts) entries key some)
+pub above_kept : (cmp : List ℕ → List ℕ → Ordering) (keys : IndexKeys) (o : Options) (bytes : List ℕ) (index : List IndexEntry) (interval : ℕ) (entries : List Entry) (key : List ℕ) (parts : List (List Entry)) → IsBuilt keys o parts bytes index interval entries → 0 < length entries
+    → IsAboveLast cmp (entries_so_far bytes index entries) key ↔ (internal_cmp cmp (last_key [] entries) key ≡ Less)
+above_kept cmp keys o bytes index interval entries key parts h some =
+    rw (entries_so_far-built h) (above_some cmp (joined parts) entries key some)
 
 none_joined : (parts : List (List Entry)) (entries : List Entry) → parts ≡ [] → length entries ≡ 0 → joined parts ++ entries ≡ []
 none_joined parts [] nothing none = ap (λ (x : List (List Entry)). joined x ++ []) nothing
 none_joined parts (e ∷ es) nothing none = absurd (omega arith)
 
 -- and each key is above none
-pub above_none : (cmp : List ℕ → List ℕ → Ordering) (keys : IndexKeys) (o : Options) (bytes : List ℕ) (index : List IndexEntry) (interval : ℕ) (entries : List Entry) (last key : List ℕ) (parts : List (List Entry)) → IsBuilt keys o parts bytes index interval entries last → length entries ≡ 0
+pub above_none : (cmp : List ℕ → List ℕ → Ordering) (keys : IndexKeys) (o : Options) (bytes : List ℕ) (index : List IndexEntry) (interval : ℕ) (entries : List Entry) (key : List ℕ) (parts : List (List Entry)) → IsBuilt keys o parts bytes index interval entries → length entries ≡ 0
     → IsAboveLast cmp (entries_so_far bytes index entries) key
-above_none cmp keys o bytes index interval entries last key parts h none =
+above_none cmp keys o bytes index interval entries key parts h none =
     rw (entries_so_far-built h ∙ none_joined parts entries (h.begun none) none) tt

@@ -47,8 +47,8 @@ unfoldable pub entries_so_far : List ℕ → List IndexEntry → List Entry → 
 entries_so_far bytes index entries = joined (blocks_in bytes (map (λ (i : IndexEntry). i.handle.size) index)) ++ entries
 
 -- What is kept of a list: the bytes of its flushed data blocks and their entries of the index, and the entries of the
--- open block behind them, which is the one that is not flushed though it may be full, with its last key.
-pub record IsBuilt (keys : IndexKeys) (o : Options) (parts : List (List Entry)) (bytes : List ℕ) (index : List IndexEntry) (interval : ℕ) (entries : List Entry) (last : List ℕ) : Type 0 where
+-- open block behind them, which is the one that is not flushed though it may be full.
+pub record IsBuilt (keys : IndexKeys) (o : Options) (parts : List (List Entry)) (bytes : List ℕ) (index : List IndexEntry) (interval : ℕ) (entries : List Entry) : Type 0 where
   pub limits : AreInLimits o
   pub interval_is : interval ≡ o.restart_interval
   pub bytes_are : bytes ≡ stored_blocks o.restart_interval parts
@@ -58,9 +58,12 @@ pub record IsBuilt (keys : IndexKeys) (o : Options) (parts : List (List Entry)) 
   pub flushed_is : sum_by (flushed_len o) parts ≡ length bytes
   pub parts_fit : AllByRecursion (λ p. length (block o.restart_interval p) ≤ 2 ^ 31) parts
   pub entries_fit : length (block o.restart_interval entries) ≤ 2 ^ 31
-  pub last_is : last ≡ last_key [] entries
-  pub last_lawful : 0 < length entries → IsInternalKey last
+  pub last_lawful : 0 < length entries → IsInternalKey (last_key [] entries)
 
 -- what is kept, of some flushed data blocks
-abbrev pub IsKept : IndexKeys → Options → List ℕ → List IndexEntry → Building → List ℕ → Type 0
-IsKept keys o bytes index latest last = (parts : List (List Entry)) × IsBuilt keys o parts bytes index latest.interval latest.entries last
+abbrev pub IsKept : IndexKeys → Options → List ℕ → List IndexEntry → Building → Type 0
+IsKept keys o bytes index latest = (parts : List (List Entry)) × IsBuilt keys o parts bytes index latest.interval latest.entries
+
+-- a block without entries, at the restart interval
+abbrev pub IsSpare : Options → Building → Type 0
+IsSpare o b = b ≡ record { interval = o.restart_interval; entries = [] }

@@ -16,6 +16,7 @@ use frame::TRAILER_LEN;
 use ikey::{Comparator, InternalKey, internal_separator, internal_successor};
 use std::alloc::Global;
 use std::marker::{Model, PhantomData};
+use std::mem;
 
 /// A table that is being written, seen as its options and its entries so far.
 ///
@@ -28,20 +29,20 @@ pub struct TableBuilder<C: Comparator> {
     flushed: Flushed,
     /// The block that takes the next entry, unless it is full.
     block: BlockBuilder,
-    /// The last key of that block; empty where there is none.
-    last: Vec<u8>,
+    /// A block without entries, which takes the next one where that is full.
+    next: BlockBuilder,
     order: PhantomData<C>,
 }
 
 impl<C: Comparator> Model for TableBuilder<C> {
     ghost use Rattle.table.specs.Table.{index_keys};
-    ghost use Rattle.table.specs.Building.{TableBuilding, entries_so_far, IsKept};
+    ghost use Rattle.table.specs.Building.{TableBuilding, entries_so_far, IsKept, IsSpare};
 
     ghost Value = { TableBuilding };
 
     ghost view = { λ b. record { options = b.options; entries = entries_so_far b.flushed.bytes.items b.flushed.index.items b.block.entries } };
 
-    ghost invariant = { λ b. IsKept (index_keys C.cmp C.separator_of C.successor_of) b.options b.flushed.bytes.items b.flushed.index.items b.block b.last.items };
+    ghost invariant = { λ b. IsKept (index_keys C.cmp C.separator_of C.successor_of) b.options b.flushed.bytes.items b.flushed.index.items b.block × IsSpare b.options b.next };
 }
 
 /// Whether a block has an entry and reaches the block size.
@@ -68,7 +69,7 @@ impl<C: Comparator> TableBuilder<C> {
                 index: Vec::new(alloc),
             },
             block: BlockBuilder::new(alloc, options.restart_interval as u32),
-            last: Vec::new(alloc),
+            next: BlockBuilder::new(alloc, options.restart_interval as u32),
             order: PhantomData,
         }
     }
@@ -80,7 +81,9 @@ impl<C: Comparator> TableBuilder<C> {
         if self.block.is_empty() {
             return true;
         }
-        let last = InternalKey { bytes: &self.last };
+        let last = InternalKey {
+            bytes: self.block.last_key(),
+        };
         last.compare::<C>(key).is_lt()
     }
 
@@ -94,20 +97,22 @@ impl<C: Comparator> TableBuilder<C> {
         ensures err { OnErr result (self.new ≡ self.old) }
         ensures memory { IfErr result (λ e. e.name ≡ Memory) }
     {
-        // Each growth comes before the first change, so that a refused one changes nothing.
-        self.last.reserve(key.bytes.len())?;
-        if is_full(&self.block, &self.options) {
-            let mut next = BlockBuilder::new(self.alloc, self.options.restart_interval as u32);
-            next.add(key.bytes, value)?;
-            let last = InternalKey { bytes: &self.last };
-            let between = internal_separator::<C>(self.alloc, last, key)?;
-            self.flushed.push(between, &self.block)?;
-            self.block = next;
-        } else {
+        if !is_full(&self.block, &self.options) {
             self.block.add(key.bytes, value)?;
+            return Ok(());
         }
-        self.last.clear();
-        self.last.extend_from_slice(key.bytes)?;
+        let last = InternalKey {
+            bytes: self.block.last_key(),
+        };
+        let between = internal_separator::<C>(self.alloc, last, key)?;
+        self.next.add(key.bytes, value)?;
+        if let Err(refused) = self.flushed.push(between, &self.block) {
+            // The next block has no entry again.
+            self.next.clear();
+            return Err(refused);
+        }
+        mem::swap(&mut self.block, &mut self.next);
+        self.next.clear();
         Ok(())
     }
 
@@ -132,11 +137,12 @@ impl<C: Comparator> TableBuilder<C> {
             alloc,
             mut flushed,
             block,
-            last,
             ..
         } = self;
         if !block.is_empty() {
-            let last = InternalKey { bytes: &last };
+            let last = InternalKey {
+                bytes: block.last_key(),
+            };
             let above = internal_successor::<C>(alloc, last)?;
             flushed.push(above, &block)?;
         }

@@ -1,67 +1,77 @@
 use Rattle.std.proofs.Common.{◌≡◌, ℕ, List, [], ◌++◌, ◌∷◌, length, sym, ap, refl, ◌∙◌}
-use Rattle.std.proofs.lemmas.Result.{err_from_is_err_and}
 use Rattle.block.specs.Piece.{Entry}
 use Rattle.block.specs.Writing.{block}
-use Rattle.block.specs.Building.{Building, with_entry}
+use Rattle.block.specs.Building.{Building, last_key, with_entry}
 use Rattle.ikey.specs.Short.{internal_separator_of}
 use Rattle.table.specs.declared.options.Options.{Options}
 use Rattle.table.specs.Table.{index_keys}
 use Rattle.table.specs.Flushed.{entry_at}
 use Rattle.table.specs.Building.{TableBuilding, entries_so_far}
 use Rattle.table.proofs.Builds.{Adds, first_fits, open_fits, grows, flushes}
-use Rattle.table.proofs.Refused.{memory_alone, ok_is}
+use Rattle.table.proofs.Refused.{ok_is}
 use Rattle.table.proofs.builder.TableBuilder.add.Given.{Over}
 use Rattle.table.proofs.builder.TableBuilder.add.Goals as goal
-use Rattle.table.proofs.builder.TableBuilder.add.Goals.{then-is_full+in_ok-add+in_ok-between+in_ok-push, else-is_full+in_ok-add-2}
+use Rattle.table.proofs.builder.TableBuilder.add.Goals.{In_ok-add, After-clear-2}
+
+-- what a table is seen as
+abbrev seen : Options → List Entry → TableBuilding
+seen o q = record { options = o; entries = q }
 
 pub add-requires : goal.add-requires
 add-requires g c =
-    first_fits c.new-next.result c.args.key.bytes.now c.args.value.now (ap (λ (b : Building). b.entries) c.new-next.ensures) c.args.key.lawful c.requires.value_fits
-
-pub returns-in_err-between-clause-memory : goal.returns-in_err-between-clause-memory
-returns-in_err-between-clause-memory g c =
-    let p = err_from_is_err_and c.from_residual-in_err-between.result c.from_residual-in_err-between.ensures.1 in
-    rw (p.1, p.2) (memory_alone c.in_err-between.field-0.0 _ _ refl c.in_err-between.ensures.separator)
-
-pub add-requires-else-is_full : goal.add-requires-else-is_full
-add-requires-else-is_full g c =
     let was = c.self.inside in
-    open_fits (index_keys g.C.Comparator.cmp g.C.Comparator.separator_of g.C.Comparator.successor_of) was.options was.flushed.bytes.items was.flushed.index.items was.block was.last.items c.args.key.bytes.now c.args.value.now c.self.invariant (sym c.is_full.ensures ∙ c.if-is_full.false) c.args.key.lawful c.requires.value_fits
+    open_fits (index_keys g.C.Comparator.cmp g.C.Comparator.separator_of g.C.Comparator.successor_of) was.options was.flushed.bytes.items was.flushed.index.items was.block c.args.key.bytes.now c.args.value.now c.self.invariant.0 (sym c.is_full.ensures ∙ c.if-not-is_full.true) c.args.key.lawful c.requires.value_fits
 
--- what the fields are after either way
-added : (g : Over) (c : goal.In_ok-extend_from_slice g) → Adds (index_keys g.C.Comparator.cmp g.C.Comparator.separator_of g.C.Comparator.successor_of) c.self.inside.options (entries_so_far c.self.inside.flushed.bytes.items c.self.inside.flushed.index.items c.self.inside.block.entries) c.args.key.bytes.now c.args.value.now
-    c.if-is_full.self-inside.options c.if-is_full.self-inside.flushed.bytes.items c.if-is_full.self-inside.flushed.index.items c.if-is_full.self-inside.block c.extend_from_slice.new.self.items
+pub add-requires-2 : goal.add-requires-2
+add-requires-2 g c =
+    first_fits c.self.inside.next c.args.key.bytes.now c.args.value.now (ap (λ (b : Building). b.entries) c.self.invariant.1) c.args.key.lawful c.requires.value_fits
+
+-- ---- the entry goes into the open block
+
+grown : (g : Over) (c : In_ok-add g) → Adds (index_keys g.C.Comparator.cmp g.C.Comparator.separator_of g.C.Comparator.successor_of) c.self.inside.options (entries_so_far c.self.inside.flushed.bytes.items c.self.inside.flushed.index.items c.self.inside.block.entries) c.args.key.bytes.now c.args.value.now
+    c.self.inside.options c.self.inside.flushed.bytes.items c.self.inside.flushed.index.items c.add.new.self
+grown g c =
+    let was = c.self.inside in
+    let keys = index_keys g.C.Comparator.cmp g.C.Comparator.separator_of g.C.Comparator.successor_of in
+    grows keys was.options was.flushed.bytes.items was.flushed.index.items was.block c.args.key.bytes.now c.args.value.now _ _ _ _ c.self.invariant.0 (sym c.is_full.ensures ∙ c.if-not-is_full.true) c.args.key.lawful c.requires.value_fits refl refl refl c.in_ok-add.ensures.ok
+
+pub invariant_of-self : goal.invariant_of-self
+invariant_of-self g c = rw (c.in_err-add.ensures.err) c.self.invariant
+
+pub invariant_of-self-then-not-is_full : goal.invariant_of-self-then-not-is_full
+invariant_of-self-then-not-is_full g c = ((grown g c).kept, c.self.invariant.1)
+
+pub returns-then-not-is_full-clause-ok : goal.returns-then-not-is_full-clause-ok
+returns-then-not-is_full-clause-ok g c =
+    ap (seen c.self.inside.options) (grown g c).entries ∙ ap (λ (b : TableBuilding). seen b.options (with_entry b.entries c.args.key.bytes.now c.args.value.now)) c.self.view_is
+
+-- ---- the open block is flushed, and the entry begins another
+
+begun : (g : Over) (c : After-clear-2 g) → Adds (index_keys g.C.Comparator.cmp g.C.Comparator.separator_of g.C.Comparator.successor_of) c.self.inside.options (entries_so_far c.self.inside.flushed.bytes.items c.self.inside.flushed.index.items c.self.inside.block.entries) c.args.key.bytes.now c.args.value.now
+    c.self.inside.options c.push.new.self.bytes.items c.push.new.self.index.items c.add-2.new.self
 unfolding index_keys
-added g c =
+begun g c =
     let was = c.self.inside in
     let keys = index_keys g.C.Comparator.cmp g.C.Comparator.separator_of g.C.Comparator.successor_of in
     let key : List ℕ = c.args.key.bytes.now in
-    let last = c.in_ok-extend_from_slice.ensures.items ∙ ap (λ (x : List ℕ). x ++ key) c.clear.ensures.items in
-    elim c.if-is_full.branch [
-      | then-is_full+in_ok-add+in_ok-between+in_ok-push w ↦
-          let last_same : w.deref.result.now ≡ was.last.items = w.deref.ensures.value ∙ c.reserve.ensures.items in
-          let between : w.in_ok-between.between ≡ internal_separator_of g.C.Comparator.cmp g.C.Comparator.separator_of was.last.items key =
-          sym (ok_is w.in_ok-between.ensures.separator) ∙ ap (λ (x : List ℕ). internal_separator_of g.C.Comparator.cmp g.C.Comparator.separator_of x key) last_same in
-          let size : ℕ = length (block was.block.interval was.block.entries) in
-          flushes keys was.options was.flushed.bytes.items was.flushed.index.items was.block was.last.items key c.args.value.now _ _ _ _ _ c.self.invariant (sym c.is_full.ensures ∙ w.if-is_full.true) c.args.key.lawful c.requires.value_fits
-          (ap (λ b. b.options) w.self-inside-is)
-          (ap (λ b. b.flushed.bytes.items) w.self-inside-is ∙ w.in_ok-push.ensures.bytes)
-          (ap (λ b. b.flushed.index.items) w.self-inside-is ∙ w.in_ok-push.ensures.index ∙ ap (λ (k : List ℕ). was.flushed.index.items ++ entry_at k (length was.flushed.bytes.items) size ∷ []) between)
-          (ap (λ b. b.block) w.self-inside-is ∙ w.in_ok-add.ensures.ok ∙ ap (λ (b : Building). record { interval = b.interval; entries = with_entry b.entries key c.args.value.now }) w.new-next.ensures)
-          last
-      | else-is_full+in_ok-add-2 w ↦
-          grows keys was.options was.flushed.bytes.items was.flushed.index.items was.block was.last.items key c.args.value.now _ _ _ _ _ c.self.invariant (sym c.is_full.ensures ∙ w.if-is_full.false) c.args.key.lawful c.requires.value_fits
-          (ap (λ b. b.options) w.self-inside-is) (ap (λ b. b.flushed.bytes.items) w.self-inside-is) (ap (λ b. b.flushed.index.items) w.self-inside-is) (ap (λ b. b.block) w.self-inside-is ∙ w.in_ok-add-2.ensures.ok) last
-    ]
+    let between : c.in_ok-between.between ≡ internal_separator_of g.C.Comparator.cmp g.C.Comparator.separator_of (last_key [] was.block.entries) key =
+    sym (ok_is c.in_ok-between.ensures.separator) ∙ ap (λ (x : List ℕ). internal_separator_of g.C.Comparator.cmp g.C.Comparator.separator_of x key) c.last_key.ensures in
+    let size : ℕ = length (block was.block.interval was.block.entries) in
+    flushes keys was.options was.flushed.bytes.items was.flushed.index.items was.block key c.args.value.now _ _ _ _ c.self.invariant.0 (sym c.is_full.ensures ∙ c.if-not-is_full.false) c.args.key.lawful c.requires.value_fits
+    refl
+    c.in_default.ensures.bytes
+    (c.in_default.ensures.index ∙ ap (λ (k : List ℕ). was.flushed.index.items ++ entry_at k (length was.flushed.bytes.items) size ∷ []) between)
+    (c.in_ok-add-2.ensures.ok ∙ ap (λ (b : Building). record { interval = b.interval; entries = with_entry b.entries key c.args.value.now }) c.self.invariant.1)
 
 pub invariant_of-self-2 : goal.invariant_of-self-2
-invariant_of-self-2 g c = (added g c).kept
+invariant_of-self-2 g c =
+    let spare = c.clear-2.ensures ∙ ap (λ (b : Building). record { interval = b.interval; entries = [] }) c.swap.ensures.y_after ∙ ap (λ (n : ℕ). record { interval = n; entries = [] }) c.self.invariant.0.1.interval_is in
+    rw (c.swap.ensures.x_after) ((begun g c).kept, spare)
 
 pub returns-clause-ok : goal.returns-clause-ok
 returns-clause-ok g c =
-    let a = added g c in
-    let was = c.self.inside in
-    let building : Options → List Entry → TableBuilding = λ o q. record { options = o; entries = q } in
-    ap (building c.if-is_full.self-inside.options) a.entries
-    ∙ ap (λ o. building o (with_entry (entries_so_far was.flushed.bytes.items was.flushed.index.items was.block.entries) c.args.key.bytes.now c.args.value.now)) a.options
-    ∙ ap (λ (b : TableBuilding). building b.options (with_entry b.entries c.args.key.bytes.now c.args.value.now)) c.self.view_is
+    let bytes = c.push.new.self.bytes.items in
+    let index = c.push.new.self.index.items in
+    ap (λ (b : Building). seen c.self.inside.options (entries_so_far bytes index b.entries)) c.swap.ensures.x_after
+    ∙ ap (seen c.self.inside.options) (begun g c).entries
+    ∙ ap (λ (b : TableBuilding). seen b.options (with_entry b.entries c.args.key.bytes.now c.args.value.now)) c.self.view_is

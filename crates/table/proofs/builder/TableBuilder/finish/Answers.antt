@@ -1,6 +1,7 @@
 use Rattle.std.proofs.Common.{◌≡◌, ◌++◌, ◌∷◌, [], ℕ, List, length, refl, sym, ap, subst, ◌∙◌}
 use Rattle.coding.specs.Answers.{Gives}
 use Rattle.block.specs.Writing.{block}
+use Rattle.block.specs.Building.{last_key}
 use Rattle.ikey.specs.Short.{internal_successor_of}
 use Rattle.table.specs.Table.{index_keys, table, within_limit}
 use Rattle.table.specs.Flushed.{entry_at}
@@ -18,16 +19,16 @@ returns g c =
     let whole : closed c.if-not-is_empty.flushed.bytes.items c.if-not-is_empty.flushed.index.items ≡ table g.C.Comparator.cmp g.C.Comparator.separator_of g.C.Comparator.successor_of was.options (entries_so_far was.flushed.bytes.items was.flushed.index.items was.block.entries) =
     elim c.if-not-is_empty.branch [
       | then-not-is_empty+in_ok-above+in_ok-push w ↦
-          let above : w.in_ok-above.above ≡ internal_successor_of g.C.Comparator.cmp g.C.Comparator.successor_of was.last.items =
-          sym (ok_is w.in_ok-above.ensures.successor) ∙ ap (internal_successor_of g.C.Comparator.cmp g.C.Comparator.successor_of) w.deref.ensures.value in
+          let above : w.in_ok-above.above ≡ internal_successor_of g.C.Comparator.cmp g.C.Comparator.successor_of (last_key [] was.block.entries) =
+          sym (ok_is w.in_ok-above.ensures.successor) ∙ ap (internal_successor_of g.C.Comparator.cmp g.C.Comparator.successor_of) w.last_key.ensures in
           let size : ℕ = length (block was.block.interval was.block.entries) in
           closed_is _ _ _ _
           (ap (λ f. f.bytes.items) w.flushed-is ∙ w.in_ok-push.ensures.bytes)
           (ap (λ f. f.index.items) w.flushed-is ∙ w.in_ok-push.ensures.index ∙ ap (λ (k : List ℕ). was.flushed.index.items ++ entry_at k (length was.flushed.bytes.items) size ∷ []) above)
-          ∙ closes_last keys was.options was.flushed.bytes.items was.flushed.index.items was.block.interval was.block.entries was.last.items c.self.invariant.0 c.self.invariant.1 (some_length was.block.entries w.if-not-is_empty.ensures.1)
+          ∙ closes_last keys was.options was.flushed.bytes.items was.flushed.index.items was.block.interval was.block.entries c.self.invariant.0.0 c.self.invariant.0.1 (some_length was.block.entries w.if-not-is_empty.ensures.1)
       | else-not-is_empty w ↦
           closed_is _ _ _ _ (ap (λ f. f.bytes.items) w.flushed-is) (ap (λ f. f.index.items) w.flushed-is)
-          ∙ closes_none keys was.options was.flushed.bytes.items was.flushed.index.items was.block.interval was.block.entries was.last.items c.self.invariant.0 c.self.invariant.1 (ap length (w.if-not-is_empty.ensures.0 refl))
+          ∙ closes_none keys was.options was.flushed.bytes.items was.flushed.index.items was.block.interval was.block.entries c.self.invariant.0.0 c.self.invariant.0.1 (ap length (w.if-not-is_empty.ensures.0 refl))
     ] in
     let seen = ap (λ (b : TableBuilding). within_limit (table g.C.Comparator.cmp g.C.Comparator.separator_of g.C.Comparator.successor_of b.options b.entries)) c.self.view_is in
     subst (Gives (λ v. v.items) c.finish.result) (ap within_limit whole ∙ seen) c.finish.ensures

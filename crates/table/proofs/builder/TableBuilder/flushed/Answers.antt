@@ -11,7 +11,7 @@ pub returns : goal.returns
 returns g c =
     let was = c.self.inside in
     let keys = index_keys g.C.Comparator.cmp g.C.Comparator.separator_of g.C.Comparator.successor_of in
-    let whole = flushed-kept keys was.options was.flushed.bytes.items was.flushed.index.items was.block.interval was.block.entries was.last.items c.self.invariant.0 c.is_full.result c.self.invariant.1 (sym c.is_full.ensures) in
+    let whole = flushed-kept keys was.options was.flushed.bytes.items was.flushed.index.items was.block.interval was.block.entries c.self.invariant.0.0 c.is_full.result c.self.invariant.0.1 (sym c.is_full.ensures) in
     let counted : c.if-is_full.open ≡ cond c.is_full.result (length (block was.block.interval was.block.entries) + 5) 0 =
     elim c.if-is_full.branch [
       | then-is_full w ↦ w.open-is ∙ ap (λ (n : ℕ). n + 5) w.estimate.ensures ∙ rw w.if-is_full.true refl

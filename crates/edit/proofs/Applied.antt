@@ -1,93 +1,112 @@
 -- A version after an edit.
-use Rattle.std.proofs.Common.{◌≡◌, ◌≢◌, ℕ, ◌-◌, ◌≤◌, Bool, true, false, not, cond, ◌&&◌, List, [], ◌∷◌, ◌++◌, length, Option, Some, None, Result, Ok, Err, refl, sym, ap, subst, ◌∙◌, append_assoc, arith}
-use Rattle.std.specs.List.{All, fold, list_any, list_all, AllByRecursion}
+use Rattle.std.proofs.Common.{◌≡◌, ℕ, ◌≤◌, Bool, true, false, not, cond, ◌&&◌, List, [], ◌∷◌, ◌++◌, Option, Some, None, Result, Ok, Err, refl, sym, ap, subst, ◌∙◌, append_assoc}
+use Rattle.std.specs.List.{All, fold, list_all, AllByRecursion}
 use Rattle.std.specs.List.Sorted.{IsStrictlySortedBy}
 use Rattle.std.specs.Map.{keys_of}
-use Rattle.std.specs.Option.{ok_or, option_or}
+use Rattle.std.specs.Option.{ok_or, option_map, option_or}
 use Rattle.std.specs.Ordering.{nat_cmp, ordering_reverse}
 use Rattle.std.specs.BTreeMap.{insert_entry}
 use Rattle.std.specs.declared.cmp.Ordering.TheVariants.{Less, Greater}
 use Rattle.std.proofs.lemmas.Cmp.{nat_cmp_total}
-use Rattle.std.proofs.lemmas.List.Elements.{All-head, All-tail, All-filter, All-append}
-use Rattle.std.proofs.lemmas.Map.Views.{All-keys-insert_entry}
+use Rattle.std.proofs.lemmas.List.Elements.{All-head, All-tail, All-filter}
+use Rattle.std.proofs.lemmas.Map.Views.{All-keys-insert_entry, All-insert_key}
+use Rattle.coding.specs.Answers.{fault, UnlessMemory, Fails}
 use Rattle.coding.specs.declared.fault.Fault.{Fault}
-use Rattle.edit.specs.Edit.{Edit, HasLevels, deleted_cmp}
-use Rattle.edit.specs.Version.{State, IsState, is_deleted, has_place, has_number, kept_files, are_apart, files_after, with_pointer, names_another, applied_by}
+use Rattle.coding.specs.declared.fault.FaultName.{FaultName}
+use Rattle.coding.specs.declared.fault.FaultName.TheVariants.{Apply, Memory}
+use Rattle.edit.specs.Edit.{Edit, HasLevels}
+use Rattle.edit.specs.Version.{State, AreLevelled, is_deleted, has_place, kept_files, are_new, number_cmp, with_file, files_after, with_pointer, names_another, applied, applied_by}
 use Rattle.edit.specs.declared.meta.NewFile.{NewFile}
 use Rattle.edit.specs.declared.meta.CompactPointer.{CompactPointer}
 use Rattle.edit.specs.declared.meta.DeletedFile.{DeletedFile}
-use Rattle.edit.proofs.Tested.{by_test, count_all, all_counted}
-use Rattle.edit.proofs.Kept.{apart_append, apart_filter, deletions_counted, kept_len}
 
--- ---- pointers
+-- ---- copies of maps
 
-entry_below : (x k : ℕ) (v : List ℕ) (done rest : List (ℕ × List ℕ)) → AllByRecursion (λ y. nat_cmp x y ≡ Less) (keys_of (done ++ (k, v) ∷ rest)) → nat_cmp x k ≡ Less
+entry_below : {X : Type 0} (x k : ℕ) (v : X) (done rest : List (ℕ × X)) → AllByRecursion (λ y. nat_cmp x y ≡ Less) (keys_of (done ++ (k, v) ∷ rest)) → nat_cmp x k ≡ Less
 entry_below x k v [] rest h = h.0
 entry_below x k v (e ∷ done) rest h = entry_below x k v done rest h.1
 
-last_entry : (done rest : List (ℕ × List ℕ)) (k : ℕ) (v : List ℕ) → IsStrictlySortedBy nat_cmp (keys_of (done ++ (k, v) ∷ rest)) → insert_entry nat_cmp done k v ≡ done ++ (k, v) ∷ []
+last_entry : {X : Type 0} (done rest : List (ℕ × X)) (k : ℕ) (v : X) → IsStrictlySortedBy nat_cmp (keys_of (done ++ (k, v) ∷ rest)) → insert_entry nat_cmp done k v ≡ done ++ (k, v) ∷ []
 unfolding IsStrictlySortedBy
 last_entry [] rest k v h = refl
 last_entry (e ∷ done) rest k v h =
     let above : nat_cmp k e.0 ≡ Greater = nat_cmp_total.antisymm k e.0 ∙ ap ordering_reverse (entry_below e.0 k v done rest h.0) in
-    rw above (ap (λ (t : List (ℕ × List ℕ)). e ∷ t) (last_entry done rest k v h.1))
+    rw above (ap (λ t. e ∷ t) (last_entry done rest k v h.1))
 
 -- a copy of entries that are in order goes on at its end
-pub copied_on : (all done rest iterator : List (ℕ × List ℕ)) (k : ℕ) (v w : List ℕ) → IsStrictlySortedBy nat_cmp (keys_of all) → done ++ iterator ≡ all → iterator ≡ (k, v) ∷ rest → w ≡ v
+pub copied_on : {X : Type 0} (all done rest iterator : List (ℕ × X)) (k : ℕ) (v w : X) → IsStrictlySortedBy nat_cmp (keys_of all) → done ++ iterator ≡ all → iterator ≡ (k, v) ∷ rest → w ≡ v
     → insert_entry nat_cmp done k w ++ rest ≡ all
-copied_on all done rest iterator k v w sorted whole is same =
-    let all-is : done ++ (k, v) ∷ rest ≡ all = ap (λ (t : List (ℕ × List ℕ)). done ++ t) (sym is) ∙ whole in
-    ap (λ (t : List ℕ). insert_entry nat_cmp done k t ++ rest) same
-    ∙ ap (λ (t : List (ℕ × List ℕ)). t ++ rest) (last_entry done rest k v (subst (λ (t : List (ℕ × List ℕ)). IsStrictlySortedBy nat_cmp (keys_of t)) (sym all-is) sorted))
+copied_on {X} all done rest iterator k v w sorted whole is same =
+    let all-is : done ++ (k, v) ∷ rest ≡ all = ap (λ (t : List (ℕ × X)). done ++ t) (sym is) ∙ whole in
+    ap (λ (t : X). insert_entry nat_cmp done k t ++ rest) same
+    ∙ ap (λ (t : List (ℕ × X)). t ++ rest) (last_entry done rest k v (subst (λ (t : List (ℕ × X)). IsStrictlySortedBy nat_cmp (keys_of t)) (sym all-is) sorted))
     ∙ append_assoc done ((k, v) ∷ []) rest
     ∙ all-is
 
-abbrev value : List ℕ → Result (List ℕ) Fault
+abbrev value : {X : Type 0} → X → Result X Fault
 value v = Ok v
 
-pub value_is : (a b : List ℕ) → value a ≡ value b → b ≡ a
+pub value_is : {X : Type 0} (a b : X) → value a ≡ value b → b ≡ a
 value_is a b e = cc
 
--- ---- files
-
-abbrev pub files_value : List NewFile → Result (List NewFile) Fault
-files_value v = Ok v
-
-pub kept_is : (b : Bool) (d : Fault) (x y : List NewFile) → cond b (Err d) (Ok x) ≡ files_value y → (b ≡ false) × (x ≡ y)
-kept_is true d x y e = absurd cc
-kept_is false d x y e = (refl, cc)
-
--- each deletion names a file just where as many files are gone
-pub all_hit : (files kept : List NewFile) (ds : List DeletedFile) → IsStrictlySortedBy deleted_cmp ds → are_apart files ≡ true → kept_files ds files ≡ kept → length files - length kept ≡ length ds
-    → list_all (has_place files) ds ≡ true
-all_hit files kept ds sorted apart is e =
-    all_counted (has_place files) ds (omega (arith, deletions_counted ds files sorted apart, kept_len ds files, ap length is))
-
-pub not_all_hit : (files kept : List NewFile) (ds : List DeletedFile) → IsStrictlySortedBy deleted_cmp ds → are_apart files ≡ true → kept_files ds files ≡ kept → length files - length kept ≢ length ds
-    → list_all (has_place files) ds ≡ false
-not_all_hit files kept ds sorted apart is ne =
-    by_test (list_all (has_place files) ds) (λ (b : Bool). list_all (has_place files) ds ≡ b → b ≡ false)
-    (λ _ all. absurd (ne (omega (arith, count_all (has_place files) ds all, deletions_counted ds files sorted apart, kept_len ds files, ap length is))))
-    (λ _ _. refl)
-    refl
-
-pub kept_le : (files kept : List NewFile) (ds : List DeletedFile) → kept_files ds files ≡ kept → length kept ≤ length files
-kept_le files kept ds is = omega (arith, kept_len ds files, ap length is)
-
--- ---- what is known of the files after an edit
+-- ---- the files after an edit
 
 abbrev some_files : List NewFile → Option (List NewFile)
 some_files files = Some files
 
-tests_passed : (a b c : Bool) (x y : List NewFile) → cond (a && b && not c) (Some x) None ≡ some_files y → (b ≡ true) × (c ≡ false) × (x ≡ y)
-tests_passed true true true x y e = absurd cc
-tests_passed true true false x y e = (refl, refl, cc)
-tests_passed true false c x y e = absurd cc
-tests_passed false b c x y e = absurd cc
+abbrev pub answer : Option (List NewFile) → Result (List NewFile) Fault
+answer files = ok_or files (fault Apply)
+
+pub after_is : (files : List NewFile) (ds : List DeletedFile) (added : List NewFile) → list_all (has_place files) ds ≡ true → are_new (kept_files ds files) added ≡ true
+    → files_after files ds added ≡ Some (fold with_file (kept_files ds files) added)
+after_is files ds added p q = rw (p, q) refl
+
+pub after_no_place : (files : List NewFile) (ds : List DeletedFile) (added : List NewFile) → list_all (has_place files) ds ≡ false → answer (files_after files ds added) ≡ Err (fault Apply)
+after_no_place files ds added e = rw e refl
+
+pub after_clash : (files : List NewFile) (ds : List DeletedFile) (added : List NewFile) → list_all (has_place files) ds ≡ true → are_new (kept_files ds files) added ≡ false → answer (files_after files ds added) ≡ Err (fault Apply)
+after_clash files ds added p q = rw (p, q) refl
+
+tests_passed : (a b : Bool) (x y : List NewFile) → cond (a && b) (Some x) None ≡ some_files y → x ≡ y
+tests_passed true true x y e = cc
+tests_passed true false x y e = absurd cc
+tests_passed false b x y e = absurd cc
+
+abbrev pub files_value : List NewFile → Result (List NewFile) Fault
+files_value v = Ok v
 
 pub from_ok_or : (o : Option (List NewFile)) (d : Fault) (y : List NewFile) → ok_or o d ≡ files_value y → o ≡ Some y
 from_ok_or None d y e = absurd cc
 from_ok_or (Some x) d y e = cc
+
+unless_on : (n : FaultName) (P Q : Type 0) → (P → Q) → UnlessMemory n P → UnlessMemory n Q
+unless_on Memory P Q f h = tt
+unless_on _ P Q f h = f h
+
+abbrev no_files : Fault → Result (List NewFile) Fault
+no_files e = Err e
+
+abbrev no_version : Fault → Result State Fault
+no_version e = Err e
+
+same_fault : (a b : Fault) → no_files a ≡ no_files b → a ≡ b
+same_fault a b e = cc
+
+none_after : (o : Option (List NewFile)) (make : List NewFile → State) (e : Fault) → answer o ≡ Err e → ok_or (option_map make o) (fault Apply) ≡ Err e
+none_after None make e h = ap no_version (same_fault (fault Apply) e h)
+none_after (Some x) make e h = absurd cc
+
+-- where there are no files after an edit, there is no version
+pub refused_after : (name : List ℕ) (v : State) (e : Edit) (d : Fault) → names_another name e ≡ false → Fails d (answer (files_after v.files e.deleted e.added)) → Fails d (applied_by name v e)
+refused_after name v e d own h =
+    rw own (unless_on d.name (answer (files_after v.files e.deleted e.added) ≡ Err d) (ok_or (applied v e) (fault Apply) ≡ Err d) (λ none. none_after (files_after v.files e.deleted e.added) _ d none) h)
+
+abbrev low : NewFile → Type 0
+low f = f.level ≤ 6
+
+low_added : (files added : List NewFile) → All low files → All low added → All low (fold with_file files added)
+low_added files [] h k = h
+low_added files (f ∷ added) h k = low_added (with_file files f) added (All-insert_key number_cmp f low files h (All-head low f added k)) (All-tail low f added k)
 
 pointer_levels : (m : List (ℕ × List ℕ)) (ps : List CompactPointer) → All (λ (level : ℕ). level ≤ 6) (keys_of m) → All (λ (p : CompactPointer). p.level ≤ 6) ps → All (λ (level : ℕ). level ≤ 6) (keys_of (fold with_pointer m ps))
 pointer_levels m [] h k = h
@@ -95,15 +114,12 @@ pointer_levels m (p ∷ ps) h k =
     pointer_levels (with_pointer m p) ps (All-keys-insert_entry nat_cmp p.level p.key (λ (level : ℕ). level ≤ 6) m h (All-head (λ (q : CompactPointer). q.level ≤ 6) p ps k)) (All-tail (λ (q : CompactPointer). q.level ≤ 6) p ps k)
 
 -- what holds of a version holds of it after an edit
-pub state_after : (pointers after_pointers : List (ℕ × List ℕ)) (files after : List NewFile) (e : Edit) → IsState pointers files → HasLevels e → files_after files e.deleted e.added ≡ Some after
-    → after_pointers ≡ fold with_pointer pointers e.pointers → IsState after_pointers after
-state_after pointers after_pointers files after e state levels is pointers-are =
-    let t = tests_passed (list_all (has_place files) e.deleted) (are_apart e.added) (list_any (λ (f : NewFile). has_number e.added f.meta.number) (kept_files e.deleted files)) (kept_files e.deleted files ++ e.added) after is in
-    let apart = apart_append (kept_files e.deleted files) e.added (apart_filter (λ (f : NewFile). not (is_deleted e.deleted f)) files state.apart) t.0 t.1 in
-    let low = All-append (λ (f : NewFile). f.level ≤ 6) (kept_files e.deleted files) e.added (All-filter (λ (f : NewFile). not (is_deleted e.deleted f)) (λ (f : NewFile). f.level ≤ 6) files state.levels) levels.added in
+pub levels_after : (pointers after_pointers : List (ℕ × List ℕ)) (files after : List NewFile) (e : Edit) → AreLevelled pointers files → HasLevels e → files_after files e.deleted e.added ≡ Some after
+    → after_pointers ≡ fold with_pointer pointers e.pointers → AreLevelled after_pointers after
+levels_after pointers after_pointers files after e state levels is pointers-are =
+    let t = tests_passed (list_all (has_place files) e.deleted) (are_new (kept_files e.deleted files) e.added) (fold with_file (kept_files e.deleted files) e.added) after is in
     record {
-      apart = ap are_apart (sym t.2) ∙ apart;
-      levels = subst (All (λ (f : NewFile). f.level ≤ 6)) t.2 low;
+      file_levels = subst (All low) t (low_added (kept_files e.deleted files) e.added (All-filter (λ (f : NewFile). not (is_deleted e.deleted f)) low files state.file_levels) levels.added);
       pointer_levels = subst (λ (m : List (ℕ × List ℕ)). All (λ (level : ℕ). level ≤ 6) (keys_of m)) (sym pointers-are) (pointer_levels pointers e.pointers state.pointer_levels levels.pointers);
     }
 

@@ -1,64 +1,23 @@
--- Which files an edit keeps, and which numbers the new ones have.
-use Rattle.std.proofs.Common.{◌≡◌, ℕ, suc, ◌+◌, ◌<◌, ◌≤◌, Bool, true, false, not, cond, eqb, ◌&&◌, ◌||◌, List, [], ◌∷◌, ◌++◌, length, take, drop, get_or, Option, Some, None, Result, refl, sym, ap, ◌∙◌, append_assoc, arith, add-one}
-use Rattle.std.specs.List.{filter, list_any, list_all, count_by, AllByRecursion}
+-- Files under their numbers, and which of them an edit keeps.
+use Rattle.std.proofs.Common.{◌≡◌, ℕ, Bool, true, false, not, cond, eqb, ◌&&◌, ◌||◌, List, [], ◌∷◌, map, Option, Some, None, refl, sym, ap, ◌∙◌, arith}
+use Rattle.std.specs.List.{filter, fold, list_any, list_all, AllByRecursion}
 use Rattle.std.specs.List.Sorted.{IsStrictlySortedBy}
-use Rattle.std.specs.Option.{ok_or}
-use Rattle.std.specs.Ordering.{nat_cmp, is_eq}
-use Rattle.std.specs.BTreeMap.{is_at}
-use Rattle.std.specs.declared.cmp.Ordering.TheVariants.{Less}
-use Rattle.std.proofs.Math.Seq.{drop-cons}
+use Rattle.std.specs.Map.{keys_of, values_of, lookup, remove_entry}
+use Rattle.std.specs.Option.{is_none, is_some, option_map_or}
+use Rattle.std.specs.Ordering.{nat_cmp, is_eq, match_ordering}
+use Rattle.std.specs.BTreeMap.{is_at, insert_entry}
+use Rattle.std.specs.BTreeSet.{insert_key}
+use Rattle.std.specs.declared.cmp.Ordering.{Ordering}
+use Rattle.std.specs.declared.cmp.Ordering.TheVariants.{Less, Equal, Greater}
 use Rattle.std.proofs.lemmas.Bool.{eqb-true}
-use Rattle.std.proofs.lemmas.List.{append-nil, take-append-drop, take_more, drop_all}
-use Rattle.std.proofs.lemmas.List.Filters.{length-filter_both}
-use Rattle.std.proofs.lemmas.List.Folds.{list_any-append}
-use Rattle.std.proofs.lemmas.List.Sums.{length-filter}
-use Rattle.coding.specs.Answers.{fault}
-use Rattle.coding.specs.declared.fault.Fault.{Fault}
-use Rattle.coding.specs.declared.fault.FaultName.TheVariants.{Apply}
+use Rattle.edit.specs.ByNumber.{IsByNumber}
 use Rattle.edit.specs.Edit.{deleted_cmp}
-use Rattle.edit.specs.Version.{place_of, is_same_place, is_deleted, has_place, kept_files, has_number, are_apart, files_after}
+use Rattle.edit.specs.Version.{place_of, is_same_place, is_deleted, has_place, kept_files, has_number, are_apart, are_new, number_cmp, with_file}
 use Rattle.edit.specs.declared.meta.NewFile.{NewFile}
 use Rattle.edit.specs.declared.meta.DeletedFile.{DeletedFile}
-use Rattle.edit.proofs.Tested.{both_true, both_false, and_false, not_is_true, eqb-sym, is_eq-nat_cmp, is_eq-then, list_any-same, list_any-filter, by_test, count_by-cons, count_none}
+use Rattle.edit.proofs.Tested.{both_true, both_false, and_false, not_is_true, eqb-sym, is_eq-nat_cmp, is_eq-then, list_any-filter, by_test}
 
 -- ---- files of different numbers
-
-pub apart_append : (xs ys : List NewFile) → are_apart xs ≡ true → are_apart ys ≡ true → list_any (λ (f : NewFile). has_number ys f.meta.number) xs ≡ false → are_apart (xs ++ ys) ≡ true
-apart_append [] ys hx hy e = hy
-apart_append (x ∷ xs) ys hx hy e =
-    let a = both_true (not (has_number xs x.meta.number)) (are_apart xs) hx in
-    let b = both_false (has_number ys x.meta.number) (list_any (λ (f : NewFile). has_number ys f.meta.number) xs) e in
-    let own : has_number xs x.meta.number ≡ false = not_is_true (has_number xs x.meta.number) a.0 in
-    let rest = apart_append xs ys a.1 hy b.1 in
-    rw (list_any-append (λ (f : NewFile). eqb x.meta.number f.meta.number) xs ys, own, b.0) rest
-
-or_nothing : (b : Bool) → (b || false) ≡ b
-or_nothing true = refl
-or_nothing false = refl
-
-or_true : (b : Bool) → (b || true) ≡ true
-or_true true = refl
-or_true false = refl
-
--- the number of one file, looked for from the other side
-other_side : (f : NewFile) (xs : List NewFile) → list_any (λ (x : NewFile). has_number (f ∷ []) x.meta.number) xs ≡ has_number xs f.meta.number
-other_side f xs =
-    list_any-same (λ (x : NewFile). eqb x.meta.number f.meta.number || false) (λ (x : NewFile). eqb f.meta.number x.meta.number)
-    (λ x. or_nothing (eqb x.meta.number f.meta.number) ∙ eqb-sym x.meta.number f.meta.number) xs
-
-pub apart_push : (xs : List NewFile) (f : NewFile) → are_apart xs ≡ true → has_number xs f.meta.number ≡ false → are_apart (xs ++ f ∷ []) ≡ true
-apart_push xs f h e = apart_append xs (f ∷ []) h refl (other_side f xs ∙ e)
-
-pub apart_not : (xs ys : List NewFile) (f : NewFile) → has_number xs f.meta.number ≡ true → are_apart (xs ++ f ∷ ys) ≡ false
-apart_not [] ys f e = absurd cc
-apart_not (x ∷ xs) ys f e =
-    by_test (eqb f.meta.number x.meta.number) (λ (b : Bool). eqb f.meta.number x.meta.number ≡ b → (b || has_number xs f.meta.number) ≡ true → (not (has_number (xs ++ f ∷ ys) x.meta.number) && are_apart (xs ++ f ∷ ys)) ≡ false)
-    (λ _ is h.
-    let there : eqb x.meta.number f.meta.number ≡ true = eqb-sym x.meta.number f.meta.number ∙ is in
-    let has : has_number (xs ++ f ∷ ys) x.meta.number ≡ true = list_any-append (λ (g : NewFile). eqb x.meta.number g.meta.number) xs (f ∷ ys) ∙ rw there (or_true (has_number xs x.meta.number)) in
-    rw has refl)
-    (λ _ is h. and_false (not (has_number (xs ++ f ∷ ys) x.meta.number)) (are_apart (xs ++ f ∷ ys)) (apart_not xs ys f h))
-    refl e
 
 pub apart_filter : (keep : NewFile → Bool) (xs : List NewFile) → are_apart xs ≡ true → are_apart (filter keep xs) ≡ true
 apart_filter keep [] h = refl
@@ -68,202 +27,288 @@ apart_filter keep (x ∷ xs) h =
     let none = list_any-filter (λ (g : NewFile). eqb x.meta.number g.meta.number) keep xs (not_is_true (has_number xs x.meta.number) a.0) in
     by_test (keep x) (λ (b : Bool). are_apart (cond b (x ∷ filter keep xs) (filter keep xs)) ≡ true) (λ _. rw none rest) (λ _. rest)
 
--- ---- the numbers of new files
+-- ---- files under their numbers
 
--- a set has the numbers of files, which are apart
-pub record Numbers (has : ℕ → Bool) (files : List NewFile) : Type 0 where
-  pub members : (n : ℕ) → has n ≡ has_number files n
-  pub apart : are_apart files ≡ true
+abbrev Numbered : List (ℕ × NewFile) → Type 0
+Numbered es = AllByRecursion (λ e. e.0 ≡ e.1.meta.number) es
 
--- ---- places
+abbrev Above : ℕ → List (ℕ × NewFile) → Type 0
+Above n es = AllByRecursion (λ k. nat_cmp n k ≡ Less) (keys_of es)
 
-place_is : (a b : DeletedFile) → is_same_place a b ≡ true → (a.level ≡ b.level) × (a.number ≡ b.number)
-place_is a b e = let h = both_true (eqb a.level b.level) (eqb a.number b.number) e in (eqb-true _ _ h.0, eqb-true _ _ h.1)
+-- a key is looked at as its file's number
+test_is : (n : ℕ) (e : ℕ × NewFile) → e.0 ≡ e.1.meta.number → is_at (nat_cmp n) e.0 ≡ eqb n e.1.meta.number
+test_is n e is = is_eq-nat_cmp n e.0 ∙ ap (eqb n) is
 
-pub is_at-place : (a b : DeletedFile) → is_at (deleted_cmp a) b ≡ is_same_place a b
+above_none : (n : ℕ) (es : List (ℕ × NewFile)) → Numbered es → Above n es → has_number (values_of es) n ≡ false
+above_none n [] h above = refl
+above_none n (e ∷ es) h above =
+    let here : eqb n e.1.meta.number ≡ false = sym (test_is n e h.0) ∙ ap is_eq above.0 in
+    rw here (above_none n es h.1 above.1)
+
+apart_entries : (es : List (ℕ × NewFile)) → Numbered es → IsStrictlySortedBy nat_cmp (keys_of es) → are_apart (values_of es) ≡ true
+unfolding IsStrictlySortedBy
+apart_entries [] h rises = refl
+apart_entries (e ∷ es) h rises =
+    let none : has_number (values_of es) e.1.meta.number ≡ false = ap (has_number (values_of es)) (sym h.0) ∙ above_none e.0 es h.1 rises.0 in
+    rw none (apart_entries es h.1 rises.1)
+
+pub by_number_apart : (es : List (ℕ × NewFile)) → IsByNumber es → are_apart (values_of es) ≡ true
+by_number_apart es h = apart_entries es h.numbers h.rises
+
+-- ---- a file put in
+
+none_cond : (b : Bool) (f : NewFile) (rest : Option NewFile) (t : Bool) → is_none rest ≡ not t → is_none (cond b (Some f) rest) ≡ not (b || t)
+none_cond true f rest t e = refl
+none_cond false f rest t e = e
+
+pub free_is : (es : List (ℕ × NewFile)) (n : ℕ) → Numbered es → is_none (lookup (is_at (nat_cmp n)) es) ≡ not (has_number (values_of es) n)
+free_is [] n h = refl
+free_is (e ∷ es) n h = rw (test_is n e h.0) (none_cond (eqb n e.1.meta.number) e.1 (lookup (is_at (nat_cmp n)) es) (has_number (values_of es) n) (free_is es n h.1))
+
+abbrev no_file : Option NewFile
+no_file = None
+
+pub none_turned : (b : Bool) (o : Option NewFile) → not b ≡ is_some o → b ≡ is_none o
+none_turned true None e = refl
+none_turned true (Some f) e = absurd cc
+none_turned false None e = absurd cc
+none_turned false (Some f) e = refl
+
+pub none_is : (o : Option NewFile) → is_none o ≡ true → o ≡ no_file
+none_is None e = refl
+none_is (Some f) e = absurd cc
+
+-- what a comparison with the first makes of entries and of files
+put_by : (o : Ordering) (f : NewFile) (e : ℕ × NewFile) (es : List (ℕ × NewFile)) → cond (is_eq o) (Some e.1) (lookup (is_at (nat_cmp f.meta.number)) es) ≡ no_file
+    → (lookup (is_at (nat_cmp f.meta.number)) es ≡ no_file → values_of (insert_entry nat_cmp es f.meta.number f) ≡ with_file (values_of es) f)
+    → values_of (match_ordering o ((f.meta.number, f) ∷ e ∷ es) ((e.0, f) ∷ es) (e ∷ insert_entry nat_cmp es f.meta.number f)) ≡ match_ordering o (f ∷ e.1 ∷ values_of es) (e.1 ∷ values_of es) (e.1 ∷ with_file (values_of es) f)
+put_by Less f e es none rest = refl
+put_by Equal f e es none rest = absurd cc
+put_by Greater f e es none rest = ap (λ (t : List NewFile). e.1 ∷ t) (rest none)
+
+pub put_is : (es : List (ℕ × NewFile)) (f : NewFile) → Numbered es → lookup (is_at (nat_cmp f.meta.number)) es ≡ no_file → values_of (insert_entry nat_cmp es f.meta.number f) ≡ with_file (values_of es) f
+put_is [] f h none = refl
+put_is (e ∷ es) f h none =
+    put_by (nat_cmp f.meta.number e.0) f e es none (put_is es f h.1)
+    ∙ ap (λ (n : ℕ). match_ordering (nat_cmp f.meta.number n) (f ∷ e.1 ∷ values_of es) (e.1 ∷ values_of es) (e.1 ∷ with_file (values_of es) f)) h.0
+
+numbered_by : (o : Ordering) (f : NewFile) (e : ℕ × NewFile) (es : List (ℕ × NewFile)) → Numbered (e ∷ es) → nat_cmp f.meta.number e.0 ≡ o → Numbered (insert_entry nat_cmp es f.meta.number f)
+    → Numbered (match_ordering o ((f.meta.number, f) ∷ e ∷ es) ((e.0, f) ∷ es) (e ∷ insert_entry nat_cmp es f.meta.number f))
+numbered_by Less f e es h is rest = (refl, h)
+numbered_by Equal f e es h is rest = (sym (eqb-true f.meta.number e.0 (sym (is_eq-nat_cmp f.meta.number e.0) ∙ ap is_eq is)), h.1)
+numbered_by Greater f e es h is rest = (h.0, rest)
+
+pub numbered_put : (es : List (ℕ × NewFile)) (f : NewFile) → Numbered es → Numbered (insert_entry nat_cmp es f.meta.number f)
+numbered_put [] f h = (refl, tt)
+numbered_put (e ∷ es) f h = numbered_by (nat_cmp f.meta.number e.0) f e es h refl (numbered_put es f h.1)
+
+-- ---- a file taken out
+
+-- no file has the number of a place
+no_place : (files : List NewFile) (d : DeletedFile) → has_number files d.number ≡ false → has_place files d ≡ false
+no_place [] d e = refl
+no_place (f ∷ files) d e =
+    let h = both_false (eqb d.number f.meta.number) (has_number files d.number) e in
+    let other : eqb f.meta.number d.number ≡ false = eqb-sym f.meta.number d.number ∙ h.0 in
+    let here : is_same_place (place_of f) d ≡ false = and_false (eqb f.level d.level) (eqb f.meta.number d.number) other in
+    rw here (no_place files d h.1)
+
+kept_others : (files : List NewFile) (d : DeletedFile) → has_place files d ≡ false → kept_files (d ∷ []) files ≡ files
+kept_others [] d e = refl
+kept_others (f ∷ files) d e =
+    let h = both_false (is_same_place (place_of f) d) (has_place files d) e in
+    rw h.0 (ap (λ (t : List NewFile). f ∷ t) (kept_others files d h.1))
+
+place_of_head : (level number behind : Bool) → number ≡ true → behind ≡ false → level ≡ ((level && number) || behind)
+place_of_head true true false e h = refl
+place_of_head false true false e h = refl
+place_of_head level false behind e h = absurd cc
+place_of_head level number true e h = absurd cc
+
+-- the file under the number of a place stands there or none does
+there_by : (t : Bool) (e : ℕ × NewFile) (es : List (ℕ × NewFile)) (d : DeletedFile) → eqb d.number e.1.meta.number ≡ t → (t ≡ true → has_place (values_of es) d ≡ false)
+    → option_map_or (λ f. eqb f.level d.level) (lookup (is_at (nat_cmp d.number)) es) false ≡ has_place (values_of es) d
+    → option_map_or (λ f. eqb f.level d.level) (cond t (Some e.1) (lookup (is_at (nat_cmp d.number)) es)) false ≡ (is_same_place (place_of e.1) d || has_place (values_of es) d)
+there_by true e es d is none rest = place_of_head (eqb e.1.level d.level) (eqb e.1.meta.number d.number) (has_place (values_of es) d) (eqb-sym e.1.meta.number d.number ∙ is) (none refl)
+there_by false e es d is none rest = rw (and_false (eqb e.1.level d.level) (eqb e.1.meta.number d.number) (eqb-sym e.1.meta.number d.number ∙ is)) rest
+
+none_behind : (e : ℕ × NewFile) (es : List (ℕ × NewFile)) (d : DeletedFile) → Numbered (e ∷ es) → Above e.0 es → eqb d.number e.1.meta.number ≡ true → has_place (values_of es) d ≡ false
+none_behind e es d h above is =
+    no_place (values_of es) d (ap (has_number (values_of es)) (eqb-true d.number e.1.meta.number is ∙ sym h.0) ∙ above_none e.0 es h.1 above)
+
+pub there_is : (es : List (ℕ × NewFile)) (d : DeletedFile) → Numbered es → IsStrictlySortedBy nat_cmp (keys_of es)
+    → option_map_or (λ f. eqb f.level d.level) (lookup (is_at (nat_cmp d.number)) es) false ≡ has_place (values_of es) d
+unfolding IsStrictlySortedBy
+there_is [] d h rises = refl
+there_is (e ∷ es) d h rises =
+    rw (test_is d.number e h.0) (there_by (eqb d.number e.1.meta.number) e es d refl (none_behind e es d h rises.0) (there_is es d h.1 rises.1))
+
+others_by : (t : Bool) (e : ℕ × NewFile) (es : List (ℕ × NewFile)) (d : DeletedFile) → eqb d.number e.1.meta.number ≡ t → (t ≡ true → has_place (values_of es) d ≡ false)
+    → (has_place (values_of es) d ≡ true → values_of (remove_entry (is_at (nat_cmp d.number)) es) ≡ kept_files (d ∷ []) (values_of es))
+    → (is_same_place (place_of e.1) d || has_place (values_of es) d) ≡ true
+    → values_of (cond t es (e ∷ remove_entry (is_at (nat_cmp d.number)) es)) ≡ kept_files (d ∷ []) (e.1 ∷ values_of es)
+others_by true e es d is none rest there =
+    by_test (is_same_place (place_of e.1) d) (λ (b : Bool). (b || has_place (values_of es) d) ≡ true → values_of es ≡ cond (not (b || false)) (e.1 ∷ kept_files (d ∷ []) (values_of es)) (kept_files (d ∷ []) (values_of es)))
+    (λ _ _. sym (kept_others (values_of es) d (none refl)))
+    (λ _ h. let both : true ≡ false = sym h ∙ none refl in absurd cc)
+    there
+others_by false e es d is none rest there =
+    let other : is_same_place (place_of e.1) d ≡ false = and_false (eqb e.1.level d.level) (eqb e.1.meta.number d.number) (eqb-sym e.1.meta.number d.number ∙ is) in
+    let behind : has_place (values_of es) d ≡ true = ap (λ (b : Bool). b || has_place (values_of es) d) (sym other) ∙ there in
+    rw other (ap (λ (t : List NewFile). e.1 ∷ t) (rest behind))
+
+pub others_are : (es : List (ℕ × NewFile)) (d : DeletedFile) → Numbered es → IsStrictlySortedBy nat_cmp (keys_of es) → has_place (values_of es) d ≡ true
+    → values_of (remove_entry (is_at (nat_cmp d.number)) es) ≡ kept_files (d ∷ []) (values_of es)
+unfolding IsStrictlySortedBy
+others_are [] d h rises there = refl
+others_are (e ∷ es) d h rises there =
+    rw (test_is d.number e h.0) (others_by (eqb d.number e.1.meta.number) e es d refl (none_behind e es d h rises.0) (others_are es d h.1 rises.1) there)
+
+pub numbered_removed : (test : ℕ → Bool) (es : List (ℕ × NewFile)) → Numbered es → Numbered (remove_entry test es)
+numbered_removed test [] h = tt
+numbered_removed test (e ∷ es) h = by_test (test e.0) (λ (b : Bool). Numbered (cond b es (e ∷ remove_entry test es))) (λ _. h.1) (λ _. (h.0, numbered_removed test es h.1))
+
+-- ---- the files that deletions name, taken out one by one
+
+is_at-place : (a b : DeletedFile) → is_at (deleted_cmp a) b ≡ is_same_place a b
 is_at-place a b =
     is_eq-then (nat_cmp a.level b.level) (nat_cmp a.number b.number)
     ∙ ap (λ (t : Bool). t && is_eq (nat_cmp a.number b.number)) (is_eq-nat_cmp a.level b.level)
     ∙ ap (λ (t : Bool). eqb a.level b.level && t) (is_eq-nat_cmp a.number b.number)
 
--- ---- how many files the deletions name
-
--- no file has the number of a place
-no_place : (files : List NewFile) (d : DeletedFile) (n : ℕ) → has_number files n ≡ false → n ≡ d.number → has_place files d ≡ false
-no_place [] d n e is = refl
-no_place (f ∷ files) d n e is =
-    let h = both_false (eqb n f.meta.number) (has_number files n) e in
-    let other : eqb f.meta.number d.number ≡ false = eqb-sym f.meta.number d.number ∙ ap (λ (k : ℕ). eqb k f.meta.number) (sym is) ∙ h.0 in
-    let here : is_same_place (place_of f) d ≡ false = and_false (eqb f.level d.level) (eqb f.meta.number d.number) other in
-    rw here (no_place files d n h.1 is)
-
--- a place has one file at most
-one_each : (files : List NewFile) (d : DeletedFile) → are_apart files ≡ true → count_by (λ (f : NewFile). is_same_place (place_of f) d) files ≡ cond (has_place files d) 1 0
-one_each [] d h = refl
-one_each (f ∷ files) d h =
-    let a = both_true (not (has_number files f.meta.number)) (are_apart files) h in
-    let rest = one_each files d a.1 in
-    count_by-cons (λ (g : NewFile). is_same_place (place_of g) d) f files
-    ∙ by_test (is_same_place (place_of f) d) (λ (b : Bool). cond b 1 0 + count_by (λ (g : NewFile). is_same_place (place_of g) d) files ≡ cond (b || has_place files d) 1 0)
-    (λ is. let none = no_place files d f.meta.number (not_is_true (has_number files f.meta.number) a.0) (place_is (place_of f) d is).1 in
-    let zero : count_by (λ (g : NewFile). is_same_place (place_of g) d) files ≡ 0 = rest ∙ ap (λ (b : Bool). cond b 1 0) none in
-    omega arith)
-    (λ _. omega (arith, rest))
-
-abbrev sorted_below : DeletedFile → List DeletedFile → Type 0
-sorted_below d ds = AllByRecursion (λ y. deleted_cmp d y ≡ Less) ds
-
 less_not_same : (d y : DeletedFile) → deleted_cmp d y ≡ Less → is_same_place d y ≡ false
 less_not_same d y e = sym (is_at-place d y) ∙ ap is_eq e
 
-none_same : (d : DeletedFile) (ds : List DeletedFile) → sorted_below d ds → list_any (is_same_place d) ds ≡ false
-none_same d [] h = refl
-none_same d (y ∷ ds) h = rw (less_not_same d y h.0) (none_same d ds h.1)
+place_is : (a b : DeletedFile) → is_same_place a b ≡ true → (a.level ≡ b.level) × (a.number ≡ b.number)
+place_is a b e = let h = both_true (eqb a.level b.level) (eqb a.number b.number) e in (eqb-true _ _ h.0, eqb-true _ _ h.1)
 
--- a file that one deletion names is named by no other
-same_then : (f : NewFile) (d : DeletedFile) (ds : List DeletedFile) → is_same_place (place_of f) d ≡ true → list_any (is_same_place d) ds ≡ false → is_deleted ds f ≡ false
-same_then f d ds is none =
+-- a file that stands at one place stands at no other
+one_place : (f : NewFile) (d y : DeletedFile) → is_same_place (place_of f) d ≡ true → is_same_place d y ≡ false → is_same_place (place_of f) y ≡ false
+one_place f d y is apart =
     let p = place_is (place_of f) d is in
-    ap (λ (k : ℕ). list_any (is_same_place (record { level = k; number = f.meta.number })) ds) p.0
-    ∙ ap (λ (k : ℕ). list_any (is_same_place (record { level = d.level; number = k })) ds) p.1
-    ∙ none
+    ap (λ (k : ℕ). eqb k y.level && eqb f.meta.number y.number) p.0 ∙ ap (λ (k : ℕ). eqb d.level y.level && eqb k y.number) p.1 ∙ apart
 
-count_more : (d : DeletedFile) (ds : List DeletedFile) (files : List NewFile) → list_any (is_same_place d) ds ≡ false
-    → count_by (is_deleted (d ∷ ds)) files ≡ count_by (λ (f : NewFile). is_same_place (place_of f) d) files + count_by (is_deleted ds) files
-count_more d ds [] none = refl
-count_more d ds (f ∷ files) none =
-    let rest = count_more d ds files none in
-    let one : cond (is_deleted (d ∷ ds) f) 1 0 ≡ cond (is_same_place (place_of f) d) 1 0 + cond (is_deleted ds f) 1 0 =
-    by_test (is_same_place (place_of f) d) (λ (b : Bool). is_same_place (place_of f) d ≡ b → cond (b || is_deleted ds f) 1 0 ≡ cond b 1 0 + cond (is_deleted ds f) 1 0)
-    (λ _ is. ap (λ (b : Bool). 1 + cond b 1 0) (sym (same_then f d ds is none)))
-    (λ _ is. omega arith)
-    refl in
-    omega (arith, count_by-cons (is_deleted (d ∷ ds)) f files, count_by-cons (λ (g : NewFile). is_same_place (place_of g) d) f files, count_by-cons (is_deleted ds) f files, rest, one)
+still_there : (files : List NewFile) (d y : DeletedFile) → is_same_place d y ≡ false → has_place files y ≡ has_place (kept_files (d ∷ []) files) y
+still_there [] d y apart = refl
+still_there (f ∷ files) d y apart =
+    let rest = still_there files d y apart in
+    by_test (is_same_place (place_of f) d) (λ (b : Bool). is_same_place (place_of f) d ≡ b → (is_same_place (place_of f) y || has_place files y) ≡ has_place (cond (not (b || false)) (f ∷ kept_files (d ∷ []) files) (kept_files (d ∷ []) files)) y)
+    (λ _ is. ap (λ (b : Bool). b || has_place files y) (one_place f d y is apart) ∙ rest)
+    (λ _ _. ap (λ (b : Bool). is_same_place (place_of f) y || b) rest)
+    refl
 
-never : (files : List NewFile) → list_any (is_deleted []) files ≡ false
-never [] = refl
-never (f ∷ files) = never files
+all_still_there : (files : List NewFile) (d : DeletedFile) (ds : List DeletedFile) → AllByRecursion (λ y. deleted_cmp d y ≡ Less) ds → list_all (has_place files) ds ≡ list_all (has_place (kept_files (d ∷ []) files)) ds
+all_still_there files d [] h = refl
+all_still_there files d (y ∷ ds) h =
+    ap (λ (b : Bool). b && list_all (has_place files) ds) (still_there files d y (less_not_same d y h.0))
+    ∙ ap (λ (b : Bool). has_place (kept_files (d ∷ []) files) y && b) (all_still_there files d ds h.1)
 
-twice_not : (b : Bool) → b ≡ not (not b)
-twice_not true = refl
-twice_not false = refl
+kept_both : (files : List NewFile) (d : DeletedFile) (ds : List DeletedFile) → kept_files (d ∷ ds) files ≡ kept_files ds (kept_files (d ∷ []) files)
+kept_both [] d ds = refl
+kept_both (f ∷ files) d ds =
+    let rest = kept_both files d ds in
+    by_test (is_same_place (place_of f) d) (λ (b : Bool). cond (not (b || is_deleted ds f)) (f ∷ kept_files (d ∷ ds) files) (kept_files (d ∷ ds) files) ≡ kept_files ds (cond (not (b || false)) (f ∷ kept_files (d ∷ []) files) (kept_files (d ∷ []) files)))
+    (λ _. rest)
+    (λ _. ap (λ (t : List NewFile). cond (not (is_deleted ds f)) (f ∷ t) t) rest)
 
--- as many files are deleted as there are deletions that name one
-pub deletions_counted : (ds : List DeletedFile) (files : List NewFile) → IsStrictlySortedBy deleted_cmp ds → are_apart files ≡ true → count_by (is_deleted ds) files ≡ count_by (has_place files) ds
+pub kept_all : (files : List NewFile) → kept_files [] files ≡ files
+kept_all [] = refl
+kept_all (f ∷ files) = ap (λ (t : List NewFile). f ∷ t) (kept_all files)
+
+-- what the deletions so far have left
+pub record TakesOut (before : List NewFile) (all : List DeletedFile) (files : List NewFile) (rest : List DeletedFile) : Type 0 where
+  pub kept : kept_files all before ≡ kept_files rest files
+  pub there : list_all (has_place before) all ≡ list_all (has_place files) rest
+  pub rises : IsStrictlySortedBy deleted_cmp rest
+
+pub takes_begin : (files : List NewFile) (all : List DeletedFile) → IsStrictlySortedBy deleted_cmp all → TakesOut files all files all
+takes_begin files all rises = record { kept = refl; there = refl; rises = rises }
+
+pub takes_on : (before : List NewFile) (all : List DeletedFile) (files after : List NewFile) (d : DeletedFile) (rest : List DeletedFile) → TakesOut before all files (d ∷ rest) → has_place files d ≡ true
+    → after ≡ kept_files (d ∷ []) files → TakesOut before all after rest
 unfolding IsStrictlySortedBy
-deletions_counted [] files sorted apart = count_none (is_deleted []) files (never files)
-deletions_counted (d ∷ ds) files sorted apart =
-    omega (arith, count_more d ds files (none_same d ds sorted.0), one_each files d apart, deletions_counted ds files sorted.1 apart, count_by-cons (has_place files) d ds)
-
-pub kept_len : (ds : List DeletedFile) (files : List NewFile) → length (kept_files ds files) + count_by (is_deleted ds) files ≡ length files
-kept_len ds files =
-    omega (arith, length-filter_both (λ (f : NewFile). not (is_deleted ds f)) (is_deleted ds) (λ f. twice_not (is_deleted ds f)) files, length-filter (is_deleted ds) files)
-
--- ---- the files after an edit
-
-abbrev tests : Bool → Bool → Bool → List NewFile → Option (List NewFile)
-tests hit apart clash after = cond (hit && apart && not clash) (Some after) None
-
-abbrev answer : Option (List NewFile) → Result (List NewFile) Fault
-answer files = ok_or files (fault Apply)
-
-all_tests : (hit apart clash : Bool) (after : List NewFile) → hit ≡ true → apart ≡ true → clash ≡ false → tests hit apart clash after ≡ Some after
-all_tests hit apart clash after p q r = rw (p, q, r) refl
-
-pub after_is : (files : List NewFile) (ds : List DeletedFile) (added : List NewFile) → list_all (has_place files) ds ≡ true → are_apart added ≡ true
-    → list_any (λ (f : NewFile). has_number added f.meta.number) (kept_files ds files) ≡ false → files_after files ds added ≡ Some (kept_files ds files ++ added)
-after_is files ds added p q r =
-    all_tests (list_all (has_place files) ds) (are_apart added) (list_any (λ (f : NewFile). has_number added f.meta.number) (kept_files ds files)) (kept_files ds files ++ added) p q r
-
-abbrev no_files : Option (List NewFile)
-no_files = None
-
-unless_both : (a c : Bool) (after : List NewFile) → cond (a && false && c) (Some after) None ≡ no_files
-unless_both true c after = refl
-unless_both false c after = refl
-
-unless_last : (a : Bool) (after : List NewFile) → cond (a && false) (Some after) None ≡ no_files
-unless_last true after = refl
-unless_last false after = refl
-
-pub after_no_place : (files : List NewFile) (ds : List DeletedFile) (added : List NewFile) → list_all (has_place files) ds ≡ false → files_after files ds added ≡ no_files
-after_no_place files ds added e = rw e refl
-
-pub after_twice : (files : List NewFile) (ds : List DeletedFile) (added : List NewFile) → are_apart added ≡ false → files_after files ds added ≡ no_files
-after_twice files ds added e = rw e (unless_both (list_all (has_place files) ds) (not (list_any (λ (f : NewFile). has_number added f.meta.number) (kept_files ds files))) (kept_files ds files ++ added))
-
-pub after_clash : (files : List NewFile) (ds : List DeletedFile) (added : List NewFile) → list_any (λ (f : NewFile). has_number added f.meta.number) (kept_files ds files) ≡ true → files_after files ds added ≡ no_files
-after_clash files ds added e = rw e (unless_last (list_all (has_place files) ds && are_apart added) (kept_files ds files ++ added))
-
--- ---- the loop over files
-
--- the kept files so far, none of which clashes, and those of the rest
-pub record Keeps (clashes : NewFile → Bool) (ds : List DeletedFile) (files kept rest : List NewFile) : Type 0 where
-  pub whole : kept_files ds files ≡ kept ++ kept_files ds rest
-  pub none : list_any clashes kept ≡ false
-
--- the file at an index, and the files round it
-pub stands_at : (files : List NewFile) (i : ℕ) (f : NewFile) → i < length files → f ≡ get_or files i f → drop i files ≡ f ∷ drop (i + 1) files
-stands_at files i f lt is = drop-cons files i f lt ∙ ap (λ (g : NewFile). g ∷ drop (suc i) files) (sym is) ∙ ap (λ (k : ℕ). f ∷ drop k files) (sym (add-one i))
-
-pub keeps_begin : (clashes : NewFile → Bool) (ds : List DeletedFile) (files : List NewFile) → Keeps clashes ds files [] files
-keeps_begin clashes ds files = record { whole = refl; none = refl }
-
-kept_skip : (ds : List DeletedFile) (f : NewFile) (rest : List NewFile) → is_deleted ds f ≡ true → kept_files ds (f ∷ rest) ≡ kept_files ds rest
-kept_skip ds f rest e = rw e refl
-
-kept_more : (ds : List DeletedFile) (f : NewFile) (rest : List NewFile) → is_deleted ds f ≡ false → kept_files ds (f ∷ rest) ≡ f ∷ kept_files ds rest
-kept_more ds f rest e = rw e refl
-
-pub keeps_skip : (clashes : NewFile → Bool) (ds : List DeletedFile) (files kept : List NewFile) (i : ℕ) (f : NewFile) → Keeps clashes ds files kept (drop i files) → i < length files → f ≡ get_or files i f
-    → is_deleted ds f ≡ true → Keeps clashes ds files kept (drop (i + 1) files)
-keeps_skip clashes ds files kept i f k lt is e = record {
-  whole = k.whole ∙ ap (λ (r : List NewFile). kept ++ kept_files ds r) (stands_at files i f lt is) ∙ ap (λ (r : List NewFile). kept ++ r) (kept_skip ds f (drop (i + 1) files) e);
-  none = k.none;
+takes_on before all files after d rest t there is = record {
+  kept = t.kept ∙ kept_both files d rest ∙ ap (kept_files rest) (sym is);
+  there = t.there
+      ∙ ap (λ (b : Bool). b && list_all (has_place files) rest) there
+      ∙ all_still_there files d rest t.rises.0
+      ∙ ap (λ (fs : List NewFile). list_all (has_place fs) rest) (sym is);
+  rises = t.rises.1;
 }
 
-pub keeps_on : (clashes : NewFile → Bool) (ds : List DeletedFile) (files kept : List NewFile) (i : ℕ) (f : NewFile) → Keeps clashes ds files kept (drop i files) → i < length files → f ≡ get_or files i f
-    → is_deleted ds f ≡ false → clashes f ≡ false → Keeps clashes ds files (kept ++ f ∷ []) (drop (i + 1) files)
-keeps_on clashes ds files kept i f k lt is e c = record {
-  whole = k.whole
-      ∙ ap (λ (r : List NewFile). kept ++ kept_files ds r) (stands_at files i f lt is)
-      ∙ ap (λ (r : List NewFile). kept ++ r) (kept_more ds f (drop (i + 1) files) e)
-      ∙ sym (append_assoc kept (f ∷ []) (kept_files ds (drop (i + 1) files)));
-  none = list_any-append clashes kept (f ∷ []) ∙ rw (k.none, c) refl;
+pub takes_none : (before : List NewFile) (all : List DeletedFile) (files : List NewFile) (d : DeletedFile) (rest : List DeletedFile) → TakesOut before all files (d ∷ rest) → has_place files d ≡ false
+    → list_all (has_place before) all ≡ false
+takes_none before all files d rest t none = t.there ∙ ap (λ (b : Bool). b && list_all (has_place files) rest) none
+
+-- ---- new files put in one by one
+
+or_turn : (a b c : Bool) → (a || (b || c)) ≡ (b || (a || c))
+or_turn true true c = refl
+or_turn true false c = refl
+or_turn false b c = refl
+
+-- what passes in files with one more, whose number was free
+any_by : (p : NewFile → Bool) (o : Ordering) (x f : NewFile) (xs : List NewFile) → is_eq o ≡ false → list_any p (with_file xs f) ≡ (p f || list_any p xs)
+    → list_any p (match_ordering o (f ∷ x ∷ xs) (x ∷ xs) (x ∷ with_file xs f)) ≡ (p f || (p x || list_any p xs))
+any_by p Less x f xs apart rest = refl
+any_by p Equal x f xs apart rest = absurd cc
+any_by p Greater x f xs apart rest = ap (λ (b : Bool). p x || b) rest ∙ or_turn (p x) (p f) (list_any p xs)
+
+pub any_with : (p : NewFile → Bool) (files : List NewFile) (f : NewFile) → has_number files f.meta.number ≡ false → list_any p (with_file files f) ≡ (p f || list_any p files)
+any_with p [] f free = refl
+any_with p (x ∷ xs) f free =
+    let h = both_false (eqb f.meta.number x.meta.number) (has_number xs f.meta.number) free in
+    any_by p (number_cmp f x) x f xs (is_eq-nat_cmp f.meta.number x.meta.number ∙ h.0) (any_with p xs f h.1)
+
+or_sorted : (a b c d : Bool) → ((a || b) || (c || d)) ≡ ((a || c) || (b || d))
+or_sorted true b c d = refl
+or_sorted false true true d = refl
+or_sorted false true false d = refl
+or_sorted false false c d = refl
+
+-- whether a new file has the number of one that is there, by the first new file and the others
+clash_is : (f : NewFile) (rest files : List NewFile) → list_any (λ (g : NewFile). has_number (f ∷ rest) g.meta.number) files ≡ (has_number files f.meta.number || list_any (λ (g : NewFile). has_number rest g.meta.number) files)
+clash_is f rest [] = refl
+clash_is f rest (g ∷ files) =
+    ap (λ (b : Bool). (eqb g.meta.number f.meta.number || has_number rest g.meta.number) || b) (clash_is f rest files)
+    ∙ ap (λ (b : Bool). (b || has_number rest g.meta.number) || (has_number files f.meta.number || list_any (λ (x : NewFile). has_number rest x.meta.number) files)) (eqb-sym g.meta.number f.meta.number)
+    ∙ or_sorted (eqb f.meta.number g.meta.number) (has_number rest g.meta.number) (has_number files f.meta.number) (list_any (λ (x : NewFile). has_number rest x.meta.number) files)
+
+new_by : (a b c free : Bool) → free ≡ false → ((not a && b) && not (free || c)) ≡ (b && not (a || c))
+new_by a b c true e = absurd cc
+new_by true true c false e = refl
+new_by true false c false e = refl
+new_by false b c false e = refl
+
+new_on : (files : List NewFile) (f : NewFile) (rest : List NewFile) → has_number files f.meta.number ≡ false → are_new files (f ∷ rest) ≡ are_new (with_file files f) rest
+new_on files f rest free =
+    ap (λ (b : Bool). (not (has_number rest f.meta.number) && are_apart rest) && not b) (clash_is f rest files)
+    ∙ new_by (has_number rest f.meta.number) (are_apart rest) (list_any (λ (g : NewFile). has_number rest g.meta.number) files) (has_number files f.meta.number) free
+    ∙ ap (λ (b : Bool). are_apart rest && not b) (sym (any_with (λ (g : NewFile). has_number rest g.meta.number) files f free))
+
+none_new : (files : List NewFile) → list_any (λ (g : NewFile). has_number [] g.meta.number) files ≡ false
+none_new [] = refl
+none_new (f ∷ files) = none_new files
+
+-- what the new files so far have made of the files
+pub record PutsIn (before all files rest : List NewFile) : Type 0 where
+  pub whole : fold with_file before all ≡ fold with_file files rest
+  pub new : are_new before all ≡ are_new files rest
+
+pub puts_begin : (files all : List NewFile) → PutsIn files all files all
+puts_begin files all = record { whole = refl; new = refl }
+
+pub puts_on : (before all files after : List NewFile) (f : NewFile) (rest : List NewFile) → PutsIn before all files (f ∷ rest) → has_number files f.meta.number ≡ false → after ≡ with_file files f → PutsIn before all after rest
+puts_on before all files after f rest p free is = record {
+  whole = p.whole ∙ ap (λ (fs : List NewFile). fold with_file fs rest) (sym is);
+  new = p.new ∙ new_on files f rest free ∙ ap (λ (fs : List NewFile). are_new fs rest) (sym is);
 }
 
--- a kept file that clashes
-pub keeps_clash : (clashes : NewFile → Bool) (ds : List DeletedFile) (files kept : List NewFile) (i : ℕ) (f : NewFile) → Keeps clashes ds files kept (drop i files) → i < length files → f ≡ get_or files i f
-    → is_deleted ds f ≡ false → clashes f ≡ true → list_any clashes (kept_files ds files) ≡ true
-keeps_clash clashes ds files kept i f k lt is e c =
-    let whole : kept_files ds files ≡ kept ++ f ∷ kept_files ds (drop (i + 1) files) =
-    k.whole ∙ ap (λ (r : List NewFile). kept ++ kept_files ds r) (stands_at files i f lt is) ∙ ap (λ (r : List NewFile). kept ++ r) (kept_more ds f (drop (i + 1) files) e) in
-    ap (list_any clashes) whole ∙ list_any-append clashes kept (f ∷ kept_files ds (drop (i + 1) files)) ∙ rw c (or_true (list_any clashes kept))
+pub puts_twice : (before all files : List NewFile) (f : NewFile) (rest : List NewFile) → PutsIn before all files (f ∷ rest) → has_number files f.meta.number ≡ true → are_new before all ≡ false
+puts_twice before all files f rest p there =
+    p.new
+    ∙ ap (λ (b : Bool). (not (has_number rest f.meta.number) && are_apart rest) && not b) (clash_is f rest files ∙ ap (λ (b : Bool). b || list_any (λ (g : NewFile). has_number rest g.meta.number) files) there)
+    ∙ and_false (not (has_number rest f.meta.number) && are_apart rest) false refl
 
-pub keeps_end : (clashes : NewFile → Bool) (ds : List DeletedFile) (files kept : List NewFile) (i : ℕ) → Keeps clashes ds files kept (drop i files) → length files ≤ i
-    → (kept_files ds files ≡ kept) × (list_any clashes (kept_files ds files) ≡ false)
-keeps_end clashes ds files kept i k le =
-    let whole : kept_files ds files ≡ kept = k.whole ∙ ap (λ (r : List NewFile). kept ++ kept_files ds r) (drop_all i files le) ∙ append-nil kept in
-    (whole, ap (list_any clashes) whole ∙ k.none)
-
--- ---- the loop over numbers
-
-pub numbers_on : (has after : ℕ → Bool) (files : List NewFile) (i : ℕ) (f : NewFile) → Numbers has (take i files) → i < length files → f ≡ get_or files i f → has f.meta.number ≡ false
-    → ((n : ℕ) → after n ≡ (has n || eqb n f.meta.number)) → Numbers after (take (i + 1) files)
-numbers_on has after files i f k lt is new more =
-    let front : take (i + 1) files ≡ take i files ++ f ∷ [] = take_more files i f lt ∙ ap (λ (g : NewFile). take i files ++ g ∷ []) (sym is) in
-    record {
-      members = λ n.
-          more n
-          ∙ ap (λ (b : Bool). b || eqb n f.meta.number) (k.members n)
-          ∙ ap (λ (b : Bool). has_number (take i files) n || b) (sym (or_nothing (eqb n f.meta.number)))
-          ∙ sym (list_any-append (λ (g : NewFile). eqb n g.meta.number) (take i files) (f ∷ []))
-          ∙ ap (λ (fs : List NewFile). has_number fs n) (sym front);
-      apart = ap are_apart front ∙ apart_push (take i files) f k.apart (sym (k.members f.meta.number) ∙ new);
-    }
-
--- a number that comes twice
-pub numbers_twice : (has : ℕ → Bool) (files : List NewFile) (i : ℕ) (f : NewFile) → Numbers has (take i files) → i < length files → f ≡ get_or files i f → has f.meta.number ≡ true → are_apart files ≡ false
-numbers_twice has files i f k lt is old =
-    ap are_apart (sym (take-append-drop i files) ∙ ap (λ (r : List NewFile). take i files ++ r) (stands_at files i f lt is))
-    ∙ apart_not (take i files) (drop (i + 1) files) f (sym (k.members f.meta.number) ∙ old)
+pub puts_end : (before all files : List NewFile) → PutsIn before all files [] → (files ≡ fold with_file before all) × (are_new before all ≡ true)
+puts_end before all files p = (sym p.whole, p.new ∙ ap not (none_new files))

@@ -1,11 +1,10 @@
 -- Tests, and tests over lists.
-use Rattle.std.proofs.Common.{◌≡◌, ℕ, ◌+◌, Bool, true, false, not, cond, eqb, ◌&&◌, ◌||◌, List, [], ◌∷◌, length, refl, ap, ◌∙◌, arith}
-use Rattle.std.specs.List.{filter, list_any, list_all, count_by}
+use Rattle.std.proofs.Common.{◌≡◌, ℕ, Bool, true, false, not, cond, eqb, ◌&&◌, ◌||◌, List, [], ◌∷◌, refl, ap, ◌∙◌, arith}
+use Rattle.std.specs.List.{filter, list_any}
 use Rattle.std.specs.Ordering.{nat_cmp, is_eq, ordering_then}
 use Rattle.std.specs.declared.cmp.Ordering.{Ordering}
 use Rattle.std.specs.declared.cmp.Ordering.TheVariants.{Less, Equal, Greater}
 use Rattle.std.proofs.lemmas.Bool.Decides.{nat_tests}
-use Rattle.std.proofs.lemmas.List.Sums.{count_by-le-length, sum_by-cons}
 
 pub both_true : (a b : Bool) → (a && b) ≡ true → (a ≡ true) × (b ≡ true)
 both_true true b e = (refl, e)
@@ -22,6 +21,15 @@ and_false false b e = refl
 pub not_is_true : (a : Bool) → not a ≡ true → a ≡ false
 not_is_true true e = absurd cc
 not_is_true false e = refl
+
+-- what is the negation of a test
+pub not_false_is : (a b : Bool) → a ≡ not b → a ≡ false → b ≡ true
+not_false_is a true e f = refl
+not_false_is a false e f = absurd cc
+
+pub not_true_is : (a b : Bool) → a ≡ not b → a ≡ true → b ≡ false
+not_true_is a true e f = absurd cc
+not_true_is a false e f = refl
 
 pub eqb-sym : (x y : ℕ) → eqb x y ≡ eqb y x
 eqb-sym x y = grind (arith, nat_tests)
@@ -49,32 +57,3 @@ list_any-filter p keep (x ∷ xs) e =
     let h = both_false (p x) (list_any p xs) e in
     let rest = list_any-filter p keep xs h.1 in
     by_test (keep x) (λ (b : Bool). list_any p (cond b (x ∷ filter keep xs) (filter keep xs)) ≡ false) (λ _. rw h.0 rest) (λ _. rest)
-
-abbrev bit : Bool → ℕ
-bit b = cond b 1 0
-
-pub count_by-cons : {X : Type 0} (p : X → Bool) (x : X) (xs : List X) → count_by p (x ∷ xs) ≡ cond (p x) 1 0 + count_by p xs
-count_by-cons p x xs = sum_by-cons (λ y. cond (p y) 1 0) x xs
-
--- as many as there are pass just where each passes
-pub count_all : {X : Type 0} (p : X → Bool) (xs : List X) → list_all p xs ≡ true → count_by p xs ≡ length xs
-count_all p [] e = refl
-count_all p (x ∷ xs) e =
-    let h = both_true (p x) (list_all p xs) e in
-    let one : bit (p x) ≡ bit true = ap bit h.0 in
-    omega (arith, count_by-cons p x xs, one, count_all p xs h.1)
-
-pub all_counted : {X : Type 0} (p : X → Bool) (xs : List X) → count_by p xs ≡ length xs → list_all p xs ≡ true
-all_counted p [] e = refl
-all_counted p (x ∷ xs) e =
-    by_test (p x) (λ (b : Bool). cond b 1 0 + count_by p xs ≡ 1 + length xs → (b && list_all p xs) ≡ true)
-    (λ _ h. all_counted p xs (omega arith))
-    (λ _ h. absurd (omega (arith, count_by-le-length p xs)))
-    (omega (arith, count_by-cons p x xs))
-
-pub count_none : {X : Type 0} (p : X → Bool) (xs : List X) → list_any p xs ≡ false → count_by p xs ≡ 0
-count_none p [] e = refl
-count_none p (x ∷ xs) e =
-    let h = both_false (p x) (list_any p xs) e in
-    let zero : bit (p x) ≡ bit false = ap bit h.0 in
-    omega (arith, count_by-cons p x xs, zero, count_none p xs h.1)

@@ -6,6 +6,8 @@ use Rattle.std.specs.Ordering.{nat_cmp}
 use Rattle.std.specs.Str.{bytes_eq}
 use Rattle.std.specs.Map.{lookup, keys_of}
 use Rattle.std.specs.BTreeMap.{insert_entry, is_at}
+use Rattle.std.specs.BTreeSet.{insert_key}
+use Rattle.std.specs.declared.cmp.Ordering.{Ordering}
 use Rattle.coding.specs.Answers.{fault}
 use Rattle.coding.specs.declared.fault.Fault.{Fault}
 use Rattle.coding.specs.declared.fault.FaultName.TheVariants.{Comparator, Apply}
@@ -22,7 +24,7 @@ pub record State : Type 0 where
   pub last_sequence : Option ℕ
   -- a level and its key, by level, each level once
   pub pointers : List (ℕ × List ℕ)
-  -- in the order in which edits put them in
+  -- by number, each number once
   pub files : List NewFile
 
 -- no file, no number, no pointer
@@ -68,13 +70,23 @@ abbrev pub are_apart : List NewFile → Bool
 are_apart [] = true
 are_apart (f ∷ files) = not (has_number files f.meta.number) && are_apart files
 
+-- whether no two of the new files have one number, and none has that of a file that is there
+abbrev pub are_new : List NewFile → List NewFile → Bool
+are_new files added = are_apart added && not (list_any (λ f. has_number added f.meta.number) files)
+
+-- files by number
+abbrev pub number_cmp : NewFile → NewFile → Ordering
+number_cmp a b = nat_cmp a.meta.number b.meta.number
+
+-- files by number, and one more at its place
+abbrev pub with_file : List NewFile → NewFile → List NewFile
+with_file files f = insert_key number_cmp files f
+
 -- The files after an edit: those that are kept, and the new ones. There are none where a deletion names no file of its
 -- level, where two new files have one number, or where a kept file has the number of a new one.
 abbrev pub files_after : List NewFile → List DeletedFile → List NewFile → Option (List NewFile)
 files_after files deleted added =
-    if list_all (has_place files) deleted && are_apart added && not (list_any (λ f. has_number added f.meta.number) (kept_files deleted files))
-    then Some (kept_files deleted files ++ added)
-    else None
+    if list_all (has_place files) deleted && are_new (kept_files deleted files) added then Some (fold with_file (kept_files deleted files) added) else None
 
 -- the pointers with one more, which replaces that of its level
 abbrev pub with_pointer : List (ℕ × List ℕ) → CompactPointer → List (ℕ × List ℕ)
@@ -100,8 +112,12 @@ names_another name e = option_map_or (λ other. not (bytes_eq other name)) e.com
 abbrev pub applied_by : List ℕ → State → Edit → Result State Fault
 applied_by name v e = if names_another name e then Err (fault Comparator) else ok_or (applied v e) (fault Apply)
 
+-- the levels of files and of pointers are from 0 to 6
+pub record AreLevelled (pointers : List (ℕ × List ℕ)) (files : List NewFile) : Type 0 where
+  pub file_levels : All (λ (f : NewFile). f.level ≤ 6) files
+  pub pointer_levels : All (λ (level : ℕ). level ≤ 6) (keys_of pointers)
+
 -- what holds of each version: no two files have one number, and the levels are from 0 to 6
 pub record IsState (pointers : List (ℕ × List ℕ)) (files : List NewFile) : Type 0 where
   pub apart : are_apart files ≡ true
-  pub levels : All (λ (f : NewFile). f.level ≤ 6) files
-  pub pointer_levels : All (λ (level : ℕ). level ≤ 6) (keys_of pointers)
+  pub levels : AreLevelled pointers files

@@ -5,7 +5,9 @@
 #![tactic(auto)]
 
 mod applying;
+mod copying;
 mod field;
+mod files;
 mod laws;
 mod meta;
 mod order;

@@ -1,11 +1,12 @@
 //! The order of files in a version.
 
-ghost use Rattle.std.specs.Prelude.{◌≡◌, map, true, Ok};
+ghost use Rattle.std.specs.Prelude.{◌≡◌, map, true, Ok, IfOk};
 ghost use Rattle.coding.specs.Answers.{Gives};
 ghost use Rattle.edit.specs.Version.{are_apart};
 ghost use Rattle.edit.specs.VersionOrder.{version_cmp, in_version_order, files_at};
 
-use crate::meta::{FileMeta, NewFile};
+use crate::files::Files;
+use crate::meta::FileMeta;
 use coding::Fault;
 use ikey::Comparator;
 use std::alloc::Global;
@@ -19,29 +20,16 @@ fn version_order<C: Comparator>(a: &FileMeta, b: &FileMeta) -> Ordering
     keys.then(a.number.cmp(&b.number))
 }
 
-/// The files that stand at a level.
-fn files_at(alloc: Global, files: &[NewFile], level: u64) -> Result<Vec<&FileMeta>, Fault>
-    ensures { Gives (λ v. map (λ f. f.now) v.items) result (Ok (files_at files.now level)) }
-{
-    let mut found = Vec::new(alloc);
-    for file in files {
-        if file.level == level {
-            found.push(&file.meta)?;
-        }
-    }
-    Ok(found)
-}
-
 /// The files that stand at a level, in version order.
 pub(crate) fn ordered_at<C: Comparator>(
     alloc: Global,
-    files: &[NewFile],
+    files: &Files,
     level: u64,
 ) -> Result<Vec<&FileMeta>, Fault>
-    requires { are_apart files.now ≡ true }
-    ensures { Gives (λ v. map (λ f. f.now) v.items) result (Ok (in_version_order C.cmp (files_at files.now level))) }
+    ensures ordered { Gives (λ v. map (λ f. f.now) v.items) result (Ok (in_version_order C.cmp (files_at files.now level))) }
+    ensures apart { are_apart files.now ≡ true }
 {
-    let mut found = files_at(alloc, files, level)?;
+    let mut found = files.at_level(alloc, level)?;
     found.sort_unstable_by(|a, b| version_order::<C>(a, b));
     Ok(found)
 }

@@ -5,6 +5,7 @@ ghost use Rattle.coding.specs.declared.fault.FaultName.TheVariants.{Memory};
 ghost use Rattle.edit.specs.Version.{are_apart};
 ghost use Rattle.edit.specs.VersionOrder.{in_version_order, files_at, pointer_entry, at_level, added_from};
 
+use crate::files::Files;
 use crate::meta::{CompactPointer, FileMeta, LEVELS, NewFile};
 use crate::order::ordered_at;
 use coding::Fault;
@@ -13,11 +14,7 @@ use std::alloc::Global;
 use std::collections::BTreeMap;
 
 /// All files as new files, by level and in version order.
-pub(crate) fn all_added<C: Comparator>(
-    alloc: Global,
-    files: &[NewFile],
-) -> Result<Vec<NewFile>, Fault>
-    requires { are_apart files.now ≡ true }
+pub(crate) fn all_added<C: Comparator>(alloc: Global, files: &Files) -> Result<Vec<NewFile>, Fault>
     ensures ok { IfOk result (λ v. v.items ≡ added_from C.cmp files.now 0 7) }
     ensures memory { IfErr result (λ e. e.name ≡ Memory) }
 {
@@ -32,10 +29,9 @@ pub(crate) fn all_added<C: Comparator>(
 fn push_level<C: Comparator>(
     alloc: Global,
     added: &mut Vec<NewFile>,
-    files: &[NewFile],
+    files: &Files,
     level: u64,
 ) -> Result<(), Fault>
-    requires { are_apart files.now ≡ true }
     ensures ok { OnOk result (added.new.items ≡ added.old.items ++ map (at_level level) (in_version_order C.cmp (files_at files.now level))) }
     ensures memory { IfErr result (λ e. e.name ≡ Memory) }
 {

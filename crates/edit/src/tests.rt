@@ -176,7 +176,7 @@ fn a_version_of_edits(rt: HostRuntime) -> Result<(), Fail> {
     let mut version = Version::empty(rt.alloc());
     for bytes in [MIXED, MIXED_NEXT] {
         let edit = VersionEdit::decode(rt.alloc(), bytes)?;
-        version = version.apply::<Bytewise>(rt.alloc(), &edit)?;
+        version = version.applied::<Bytewise>(edit)?;
     }
     assert_eq!(rt; version.log_number(), Some(26));
     assert_eq!(rt; version.previous_log(), Some(0));

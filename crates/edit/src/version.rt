@@ -9,7 +9,9 @@ ghost use Rattle.edit.specs.Version.{IsState, empty_state, pointer_of, applied_b
 ghost use Rattle.edit.specs.VersionOrder.{level_files, snapshot_of};
 
 use crate::applying::{files_after, pointers_after};
-use crate::meta::{FileMeta, NewFile};
+use crate::copying::copied_by_level;
+use crate::files::Files;
+use crate::meta::FileMeta;
 use crate::order::ordered_at;
 use crate::snapshot::{all_added, all_pointers};
 use crate::version_edit::VersionEdit;
@@ -21,7 +23,7 @@ use std::marker::Model;
 
 /// The files of a database, each at a level from 0 to 6, with the counters of the database and the compact pointers.
 ///
-/// No two files have one number. Contracts see the files in the order in which edits put them in.
+/// No two files have one number. Contracts see the files in the order of their numbers.
 #[derive(Drop)]
 pub struct Version {
     log_number: Option<u64>,
@@ -29,11 +31,11 @@ pub struct Version {
     next_file: Option<u64>,
     last_sequence: Option<u64>,
     pointers: BTreeMap<u64, KeyBuf>,
-    files: Vec<NewFile>,
+    files: Files,
 }
 
 impl Model for Version {
-    ghost use Rattle.edit.specs.Version.{State, IsState};
+    ghost use Rattle.edit.specs.Version.{State, AreLevelled};
 
     ghost Value = { State };
 
@@ -43,10 +45,10 @@ impl Model for Version {
       next_file = v.next_file;
       last_sequence = v.last_sequence;
       pointers = v.pointers.entries;
-      files = v.files.items;
+      files = v.files;
     } };
 
-    ghost invariant = { λ v. IsState v.pointers.entries v.files.items };
+    ghost invariant = { λ v. AreLevelled v.pointers.entries v.files };
 }
 
 impl Version {
@@ -62,7 +64,7 @@ impl Version {
             next_file: None,
             last_sequence: None,
             pointers: BTreeMap::new(alloc),
-            files: Vec::new(alloc),
+            files: Files::new(alloc),
         }
     }
 
@@ -112,11 +114,22 @@ impl Version {
         requires { HasLevels (edit_in edit.now) }
         ensures after { Gives (λ v. v) result (applied_by C.name_bytes self.now (edit_in edit.now)) }
     {
+        self.copy(alloc)?.applied::<C>(edit.copy(alloc)?)
+    }
+
+    /// The version after an edit, made of this one and of what the edit holds.
+    ///
+    /// As `apply`, which leaves both as they are; this copies nothing. The time that it takes is that of the edit: each of
+    /// its fields takes one that grows with the logarithm of the number of files.
+    pub fn applied<C: Comparator>(self, edit: VersionEdit) -> Result<Version, Fault>
+        requires { HasLevels (edit_in edit) }
+        ensures after { Gives (λ v. v) result (applied_by C.name_bytes self (edit_in edit)) }
+    {
         if edit.names_another::<C>() {
             return Err(Fault::of(FaultName::Comparator));
         }
-        let files = files_after(alloc, &self.files, &edit.deleted, &edit.added)?;
-        let pointers = pointers_after(alloc, &self.pointers, &edit.pointers)?;
+        let files = files_after(self.files, edit.deleted, edit.added)?;
+        let pointers = pointers_after(self.pointers, edit.pointers)?;
         Ok(Version {
             log_number: edit.log_number.or(self.log_number),
             previous_log: edit.previous_log.or(self.previous_log),
@@ -124,6 +137,21 @@ impl Version {
             last_sequence: edit.last_sequence.or(self.last_sequence),
             pointers,
             files,
+        })
+    }
+
+    /// A copy of the version. Fails for want of memory alone.
+    fn copy(&self, alloc: Global) -> Result<Version, Fault>
+        ensures same { IfOk result (λ v. v ≡ self.now) }
+        ensures memory { IfErr result (λ e. e.name ≡ Memory) }
+    {
+        Ok(Version {
+            log_number: self.log_number,
+            previous_log: self.previous_log,
+            next_file: self.next_file,
+            last_sequence: self.last_sequence,
+            pointers: copied_by_level(alloc, &self.pointers)?,
+            files: self.files.copy(alloc)?,
         })
     }
 

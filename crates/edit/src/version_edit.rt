@@ -7,6 +7,7 @@ ghost use Rattle.coding.specs.declared.fault.FaultName.TheVariants.{Memory};
 ghost use Rattle.edit.specs.Field.{IsField, spelling};
 ghost use Rattle.edit.specs.Lent.{field_in};
 
+use crate::copying::{copied_files, copied_name, copied_pointers};
 use crate::field::Field;
 use crate::meta::{CompactPointer, DeletedFile, FileMeta, NewFile};
 use crate::reading::field_at;
@@ -112,6 +113,23 @@ impl VersionEdit {
         push_optional(out, Tag::NextFile, self.next_file)?;
         push_optional(out, Tag::LastSequence, self.last_sequence)?;
         Ok(())
+    }
+
+    /// A copy of the edit. Fails for want of memory alone.
+    pub(crate) fn copy(&self, alloc: Global) -> Result<VersionEdit, Fault>
+        ensures same { IfOk result (λ e. edit_in e ≡ edit_in self.now) }
+        ensures memory { IfErr result (λ e. e.name ≡ Memory) }
+    {
+        Ok(VersionEdit {
+            comparator: copied_name(alloc, &self.comparator)?,
+            log_number: self.log_number,
+            previous_log: self.previous_log,
+            next_file: self.next_file,
+            last_sequence: self.last_sequence,
+            pointers: copied_pointers(alloc, &self.pointers)?,
+            deleted: self.deleted.clone()?,
+            added: copied_files(alloc, &self.added)?,
+        })
     }
 
     /// Whether the edit names another comparator than `C`.

@@ -7,7 +7,7 @@ use Rattle.edit.proofs.snapshot.push_level.Goals as goal
 
 pub returns-clause-ok : goal.returns-clause-ok
 returns-clause-ok g c =
-    let ordered = metas_are (in_version_order g.C.Comparator.cmp (files_at c.args.files.now c.args.level)) (lent c.in_ok-ordered.ordered.items) c.in_ok-ordered.ensures in
+    let ordered = metas_are (in_version_order g.C.Comparator.cmp (files_at c.args.files.now c.args.level)) (lent c.in_ok-ordered.ordered.items) c.in_ok-ordered.ensures.ordered in
     c.in_ok-push_at_level.ensures.ok
     ∙ ap (λ (t : List (Bor FileMeta)). c.args.added.now.items ++ map (λ (f : Bor FileMeta). at_level c.args.level f.now) t) c.deref.ensures.value
     ∙ ap (λ t. c.args.added.now.items ++ t) (lent_at_level c.args.level c.in_ok-ordered.ordered.items)

@@ -12,5 +12,5 @@ pub returns-clause-levels : goal.returns-clause-levels
 returns-clause-levels g c = record {
   pointers = subst (All (λ (p : CompactPointer). p.level ≤ 6)) (sym c.in_ok-edit.ensures.ok) (pointers_low c.self.inside.pointers.entries c.self.invariant.pointer_levels);
   deleted = subst (All (λ (f : DeletedFile). f.level ≤ 6)) (sym (ap (λ (e : Edit). e.deleted) c.empty-edit.ensures)) (All-nil (λ (f : DeletedFile). f.level ≤ 6));
-  added = subst (All (λ (f : NewFile). f.level ≤ 6)) (sym c.in_ok-edit-2.ensures.ok) (added_low g.C.Comparator.cmp c.deref.result.now);
+  added = subst (All (λ (f : NewFile). f.level ≤ 6)) (sym c.in_ok-edit-2.ensures.ok) (added_low g.C.Comparator.cmp c.self.inside.files);
 }

@@ -1,6 +1,6 @@
 use Rattle.std.proofs.Common.{◌∙◌}
 use Rattle.edit.proofs.Applied.{copied_on, value_is}
-use Rattle.edit.proofs.applying.copied.Goals as goal
+use Rattle.edit.proofs.copying.copied_by_level.Goals as goal
 
 pub loop-level-preserved-in_ok-insert : goal.loop-level-preserved-in_ok-insert
 loop-level-preserved-in_ok-insert c =

@@ -1,5 +1,5 @@
 use Rattle.std.proofs.Common.{◌≡◌, ◌++◌}
-use Rattle.edit.proofs.applying.copied.Given as goal
+use Rattle.edit.proofs.copying.copied_by_level.Given as goal
 
 -- what is copied and what is left to copy make the whole
 abbrev pub invariant-loop-level : goal.invariant-loop-level

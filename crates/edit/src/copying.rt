@@ -1,0 +1,83 @@
+//! Copies of what edits and versions hold.
+
+ghost use Rattle.std.specs.Prelude.{◌≡◌, IfOk, IfErr};
+ghost use Rattle.std.specs.Option.{option_map};
+ghost use Rattle.std.specs.String.{string_bytes};
+ghost use Rattle.coding.specs.declared.fault.FaultName.TheVariants.{Memory};
+
+use crate::meta::{CompactPointer, NewFile};
+use coding::Fault;
+use ikey::KeyBuf;
+use std::alloc::Global;
+use std::collections::BTreeMap;
+
+/// Copies of the files.
+pub(crate) fn copied_files(alloc: Global, files: &[NewFile]) -> Result<Vec<NewFile>, Fault>
+    ensures ok { IfOk result (λ v. v.items ≡ files.now) }
+    ensures memory { IfErr result (λ e. e.name ≡ Memory) }
+{
+    let mut copies = Vec::with_capacity(alloc, files.len())?;
+    for file in files {
+        copies.push(file.copy(alloc)?)?;
+    }
+    Ok(copies)
+}
+
+/// Copies of the pointers of an edit.
+pub(crate) fn copied_pointers(
+    alloc: Global,
+    pointers: &[CompactPointer],
+) -> Result<Vec<CompactPointer>, Fault>
+    ensures ok { IfOk result (λ v. v.items ≡ pointers.now) }
+    ensures memory { IfErr result (λ e. e.name ≡ Memory) }
+{
+    let mut copies = Vec::with_capacity(alloc, pointers.len())?;
+    for pointer in pointers {
+        copies.push(CompactPointer {
+            level: pointer.level,
+            key: KeyBuf::of(alloc, pointer.key.as_key())?,
+        })?;
+    }
+    Ok(copies)
+}
+
+/// A copy of files under their numbers.
+pub(crate) fn copied_by_number(
+    alloc: Global,
+    files: &BTreeMap<u64, NewFile>,
+) -> Result<BTreeMap<u64, NewFile>, Fault>
+    ensures ok { IfOk result (λ m. m.entries ≡ files.now.entries) }
+    ensures memory { IfErr result (λ e. e.name ≡ Memory) }
+{
+    let mut copy = BTreeMap::new(alloc);
+    for (number, file) in files.iter() {
+        copy.insert(*number, file.copy(alloc)?)?;
+    }
+    Ok(copy)
+}
+
+/// A copy of the pointers of a version.
+pub(crate) fn copied_by_level(
+    alloc: Global,
+    pointers: &BTreeMap<u64, KeyBuf>,
+) -> Result<BTreeMap<u64, KeyBuf>, Fault>
+    ensures ok { IfOk result (λ m. m.entries ≡ pointers.now.entries) }
+    ensures memory { IfErr result (λ e. e.name ≡ Memory) }
+{
+    let mut copy = BTreeMap::new(alloc);
+    for (level, key) in pointers.iter() {
+        copy.insert(*level, KeyBuf::of(alloc, key.as_key())?)?;
+    }
+    Ok(copy)
+}
+
+/// A copy of a name, where there is one.
+pub(crate) fn copied_name(alloc: Global, name: &Option<String>) -> Result<Option<String>, Fault>
+    ensures ok { IfOk result (λ n. option_map string_bytes n ≡ option_map string_bytes name.now) }
+    ensures memory { IfErr result (λ e. e.name ≡ Memory) }
+{
+    match name {
+        Some(name) => Ok(Some(String::from_str(alloc, name.as_str())?)),
+        None => Ok(None),
+    }
+}

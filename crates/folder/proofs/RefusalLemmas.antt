@@ -1,8 +1,8 @@
 -- Which refusals come of what a folder holds.
-use Rattle.std.proofs.Common.{◌≡◌, ◌⊎◌, ℕ, suc, zero, ◌^◌, nat_lt, ◌==◌, length, take, drop, slice_index, is_none, Bool, true, false, List, [], ◌∷◌, Option, Some, None, Result, Ok, Err, IfErr, refl, sym, subst, if◌then◌else◌, inl, inr}
+use Rattle.std.proofs.Common.{◌≡◌, ◌⊎◌, ℕ, suc, zero, ◌^◌, nat_lt, length, drop, is_none, Bool, true, false, List, [], ◌∷◌, Option, Some, None, Result, Ok, Err, IfErr, sym, subst, if◌then◌else◌, inl, inr}
 use Rattle.std.specs.Option.{option_map_or, ok_or}
 use Rattle.coding.proofs.Binds.{failed}
-use Rattle.coding.specs.Answers.{◌>>=◌, Follows, IsThen, UnlessMemory, fault}
+use Rattle.coding.specs.Answers.{◌>>=◌, IsThen, UnlessMemory, fault}
 use Rattle.coding.specs.declared.fault.Fault.{Fault}
 use Rattle.coding.specs.declared.fault.FaultName.{FaultName}
 use Rattle.coding.specs.Varint.{varint_reading}
@@ -11,12 +11,10 @@ use Rattle.logrec.specs.Reading.{behind_zeros, content_len, ends_record, left_at
 use Rattle.edit.specs.Edit.{Edit, field_fault}
 use Rattle.edit.specs.Tag.{listed_tag}
 use Rattle.edit.specs.Version.{State, applied_by, empty_state}
-use Rattle.folder.specs.Folder.{DeviceFailed}
 use Rattle.folder.specs.Loading.{IsLoaded}
-use Rattle.folder.specs.Manifest.{IsEditsAnswer, IsManifestAnswer, first_name, is_complete, order_name, order_named, order_of, version_after, version_from}
+use Rattle.folder.specs.Manifest.{IsEditsAnswer, IsManifestAnswer, first_name, order_name, order_named, order_of, version_after, version_from}
 use Rattle.folder.specs.Names.{IsNumberAnswer}
 use Rattle.folder.specs.Opening.{FolderAnswers, HasDeviceFailed, IsHeld, IsOfContents, IsOpened, IsStopped}
-use Rattle.folder.specs.declared.order.Order.{Order}
 use Rattle.folder.specs.declared.order.Order.TheVariants.{Bytewise, Shortlex}
 
 -- the refusal comes of what a folder holds

@@ -29,7 +29,7 @@ pub(crate) fn version_in(
 {
     let records = logrec::records(alloc, bytes)?;
     let edits = edits_in(alloc, &records)?;
-    version_from(alloc, number, &edits)
+    version_from(alloc, number, edits)
 }
 
 /// The edits that the records read as.
@@ -60,12 +60,12 @@ fn order_in(edits: &[VersionEdit]) -> Result<Order, Fault>
 fn version_from(
     alloc: Global,
     number: u64,
-    edits: &[VersionEdit],
+    edits: Vec<VersionEdit>,
 ) -> Result<(Order, Version), Fault>
-    requires { All (λ e. HasLevels (edit_in e)) edits.now }
-    ensures { Gives (λ r. (r.0, r.1)) result (version_from number (map edit_in edits.now)) }
+    requires { All (λ e. HasLevels (edit_in e)) edits.items }
+    ensures { Gives (λ r. (r.0, r.1)) result (version_from number (map edit_in edits.items)) }
 {
-    let order = order_in(edits)?;
+    let order = order_in(&edits)?;
     let version = version_by(alloc, order, edits)?;
     if is_complete(number, &version) {
         Ok((order, version))
@@ -75,9 +75,9 @@ fn version_from(
 }
 
 /// The version after the edits by the comparator of this order.
-fn version_by(alloc: Global, order: Order, edits: &[VersionEdit]) -> Result<Version, Fault>
-    requires { All (λ e. HasLevels (edit_in e)) edits.now }
-    ensures { Gives (λ v. v) result (version_after (order_name order) empty_state (map edit_in edits.now)) }
+fn version_by(alloc: Global, order: Order, edits: Vec<VersionEdit>) -> Result<Version, Fault>
+    requires { All (λ e. HasLevels (edit_in e)) edits.items }
+    ensures { Gives (λ v. v) result (version_after (order_name order) empty_state (map edit_in edits.items)) }
 {
     match order {
         Order::Bytewise => version_after::<Bytewise>(alloc, edits),
@@ -86,13 +86,13 @@ fn version_by(alloc: Global, order: Order, edits: &[VersionEdit]) -> Result<Vers
 }
 
 /// The version after the edits, one after the other.
-fn version_after<C: Comparator>(alloc: Global, edits: &[VersionEdit]) -> Result<Version, Fault>
-    requires { All (λ e. HasLevels (edit_in e)) edits.now }
-    ensures { Gives (λ v. v) result (version_after C.name_bytes empty_state (map edit_in edits.now)) }
+fn version_after<C: Comparator>(alloc: Global, edits: Vec<VersionEdit>) -> Result<Version, Fault>
+    requires { All (λ e. HasLevels (edit_in e)) edits.items }
+    ensures { Gives (λ v. v) result (version_after C.name_bytes empty_state (map edit_in edits.items)) }
 {
     let mut version = Version::empty(alloc);
     for edit in edits {
-        version = version.apply::<C>(alloc, edit)?;
+        version = version.applied::<C>(edit)?;
     }
     Ok(version)
 }

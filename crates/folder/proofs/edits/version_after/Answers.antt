@@ -1,6 +1,30 @@
-use Rattle.std.proofs.Common.{subst, sym}
+use Rattle.std.proofs.Common.{List, Result, All, map, refl, ap, subst, sym, ◌∙◌}
+use Rattle.std.proofs.lemmas.List.Elements.{All-head, All-tail}
+use Rattle.coding.specs.Answers.{◌>>=◌}
+use Rattle.coding.specs.declared.fault.Fault.{Fault}
 use Rattle.edit.specs.Edit.{HasLevels, edit_in}
+use Rattle.edit.specs.Version.{State}
+use Rattle.edit.specs.declared.version_edit.VersionEdit.{VersionEdit}
+use Rattle.folder.specs.Manifest.{version_after}
 use Rattle.folder.proofs.edits.version_after.Goals as goal
 
-pub apply-requires : goal.apply-requires
-apply-requires g c = subst (λ e. HasLevels (edit_in e)) (sym c.edit-item.is) (c.requires c.loop-edit.edit-index c.edit-item.result c.loop-edit-test.true)
+pub loop-edit-init : goal.loop-edit-init
+loop-edit-init g c = rw (c.into_iter-edit-iterator.ensures.into_iter_gives.0, c.empty-version.ensures) (record { same = refl; levels = c.requires; })
+
+pub applied-requires : goal.applied-requires
+applied-requires g c =
+    All-head (λ (e : VersionEdit). HasLevels (edit_in e)) c.in-Some.edit c.next.new.self.rest.items
+    (subst (λ (es : List VersionEdit). All (λ e. HasLevels (edit_in e)) es) c.in-Some.ensures.steps.0 c.loop-edit.invariant.levels)
+
+pub loop-edit-preserved : goal.loop-edit-preserved
+loop-edit-preserved g c =
+    let name = g.C.Comparator.name_bytes in
+    let rest = c.next.new.self.rest.items in
+    let ahead = subst (λ (es : List VersionEdit). All (λ e. HasLevels (edit_in e)) es) c.in-Some.ensures.steps.0 c.loop-edit.invariant.levels in
+    record {
+      same =
+        sym (ap (λ (r : Result State Fault). r >>= λ w. version_after name w (map edit_in rest)) c.in_ok-version.ensures.after)
+        ∙ sym (ap (λ (es : List VersionEdit). version_after name c.loop-edit.version (map edit_in es)) c.in-Some.ensures.steps.0)
+        ∙ c.loop-edit.invariant.same;
+      levels = All-tail (λ (e : VersionEdit). HasLevels (edit_in e)) c.in-Some.edit rest ahead;
+    }

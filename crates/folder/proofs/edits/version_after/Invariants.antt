@@ -1,5 +1,5 @@
-use Rattle.std.proofs.Common.{◌≡◌, map, drop}
-use Rattle.edit.specs.Edit.{edit_in}
+use Rattle.std.proofs.Common.{◌≡◌, All, map}
+use Rattle.edit.specs.Edit.{HasLevels, edit_in}
 use Rattle.edit.specs.Version.{empty_state}
 use Rattle.folder.specs.Manifest.{version_after}
 use Rattle.folder.proofs.edits.version_after.Given as goal
@@ -8,4 +8,7 @@ use Rattle.folder.proofs.edits.version_after.Given as goal
 abbrev pub invariant-loop-edit : goal.invariant-loop-edit
 invariant-loop-edit g l =
     let name = g.C.Comparator.name_bytes in
-    version_after name l.version (map edit_in (drop l.edit-index l.edits)) ≡ version_after name empty_state (map edit_in l.edits)
+    record {
+      same : version_after name l.version (map edit_in l.edit-iterator.rest.items) ≡ version_after name empty_state (map edit_in l.fn.edits.items);
+      levels : All (λ e. HasLevels (edit_in e)) l.edit-iterator.rest.items;
+    }

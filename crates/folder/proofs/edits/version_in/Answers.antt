@@ -1,9 +1,8 @@
-use Rattle.std.proofs.Common.{ℕ, List, Ok, Err, map, All, subst, sym}
+use Rattle.std.proofs.Common.{ℕ, List, Ok, Err, map, subst}
 use Rattle.std.specs.Global.{Vec}
-use Rattle.coding.specs.Answers.{Gives, UnlessMemory}
+use Rattle.coding.specs.Answers.{UnlessMemory}
 use Rattle.logrec.specs.Reading.{lists}
-use Rattle.edit.specs.Edit.{HasLevels, edit_in}
-use Rattle.edit.specs.declared.version_edit.VersionEdit.{VersionEdit}
+use Rattle.edit.specs.Edit.{edit_in}
 use Rattle.folder.specs.Manifest.{IsEditsAnswer, IsManifestAnswer, version_from}
 use Rattle.folder.proofs.ManifestLemmas.{edits_answer, given_answer, handed_on, no_edits}
 use Rattle.folder.proofs.edits.version_in.Goals as goal
@@ -16,8 +15,7 @@ returns-in_err-edits c =
     (no_edits c.args.number c.args.bytes.now (lists c.in_ok-records.records.items) e c.in_ok-records.ensures.exact refused)
 
 pub version_from-requires : goal.version_from-requires
-version_from-requires c =
-    subst (λ (es : List VersionEdit). All (λ e. HasLevels (edit_in e)) es) (sym c.deref-2.ensures.value) c.in_ok-edits.ensures.levels
+version_from-requires c = c.in_ok-edits.ensures.levels
 
 pub returns : goal.returns
 returns c =
@@ -25,4 +23,4 @@ returns c =
     let read = subst (λ (rs : List (Vec ℕ)). IsEditsAnswer (lists rs) (Ok (map edit_in edits))) c.deref.ensures.value c.in_ok-edits.ensures.answer in
     given_answer (λ r. (r.0, r.1)) c.version_from.result (version_from c.args.number (map edit_in edits)) (IsManifestAnswer c.args.number c.args.bytes.now)
     (edits_answer c.args.number c.args.bytes.now (lists c.in_ok-records.records.items) (map edit_in edits) c.in_ok-records.ensures.exact read)
-    (subst (λ (es : List VersionEdit). Gives (λ r. (r.0, r.1)) c.version_from.result (version_from c.args.number (map edit_in es))) c.deref-2.ensures.value c.version_from.ensures)
+    c.version_from.ensures

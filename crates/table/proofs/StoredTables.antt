@@ -9,7 +9,7 @@ use Rattle.coding.specs.Answers.{fault, ◌>>=◌}
 use Rattle.coding.specs.declared.fault.Fault.{Fault}
 use Rattle.coding.specs.declared.fault.FaultName.TheVariants.{Magic, Handle, Range}
 use Rattle.block.specs.Piece.{Entry, IsBlock}
-use Rattle.block.proofs.Restarts.{IsBytes-take, IsBytes-drop}
+use Rattle.coding.proofs.Bytes.{IsBytes-take, IsBytes-drop}
 use Rattle.frame.specs.declared.handle.BlockHandle.{BlockHandle}
 use Rattle.frame.specs.declared.footer.Footer.{Footer}
 use Rattle.frame.specs.Handle.{handle_bytes, handle_reading, HandleBehind, and_then}

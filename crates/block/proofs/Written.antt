@@ -1,6 +1,7 @@
 -- The pieces that are written of entries: they give the entries back, they are lawful, and one more entry adds one piece.
-use Rattle.std.proofs.Common.{◌≡◌, ℕ, zero, suc, ◌+◌, ◌*◌, ◌%◌, ◌^◌, ◌<◌, ◌≤◌, Bool, true, false, cond, eqb, nat_eq, List, [], ◌∷◌, ◌++◌, length, min, take, drop, refl, sym, ap, subst, ◌∙◌, append_assoc, add-zero, lit<, arith}
+use Rattle.std.proofs.Common.{◌≡◌, ℕ, zero, suc, ◌+◌, ◌*◌, ◌%◌, ◌^◌, ◌<◌, ◌≤◌, Bool, true, false, cond, eqb, nat_eq, List, [], ◌∷◌, ◌++◌, length, get_or, min, take, drop, refl, sym, ap, subst, ◌∙◌, append_assoc, add-zero, lit<, arith}
 use Rattle.std.specs.List.{flat_map, common_prefix_len, AllByRecursion}
+use Rattle.std.specs.Simd.{first_chunks}
 use Rattle.std.specs.Cmp.Lexicographic.{pointwise, same_text}
 use Rattle.std.proofs.lemmas.Bool.{eqb-true, eq-eqb}
 use Rattle.std.proofs.lemmas.List.{take-append-drop, length-append, length-drop, drop-drop, append-nil}
@@ -212,6 +213,14 @@ common_same (suc n) (x ∷ xs) (y ∷ ys) le_xs le_ys same =
     let heads : x ≡ y = cc in
     let rest : take n xs ≡ take n ys = cc in
     rw (eq-eqb x y heads) (omega (arith, common_same n xs ys (omega arith) (omega arith) rest))
+
+-- one of the words of eight bytes
+pub word_at : (count i : ℕ) (xs : List ℕ) → i < count → get_or (first_chunks 8 count xs) i [] ≡ take 8 (drop (8 * i) xs)
+word_at zero i xs lt = absurd (omega arith)
+word_at (suc count) zero xs lt = refl
+word_at (suc count) (suc i) xs lt =
+    let place : 8 * suc i ≡ 8 + 8 * i = omega arith in
+    rw place (word_at count i (drop 8 xs) (omega arith) ∙ ap (take 8) (drop-drop (8 * i) 8 xs))
 
 -- the walk goes on behind bytes that are the same
 pub common_goes_on : (xs ys : List ℕ) (at n to : ℕ) → to ≡ at + n → to ≤ length xs → to ≤ length ys → true ≡ pointwise nat_eq (take n (drop at xs)) (take n (drop at ys)) → common xs ys ≡ at + common (drop at xs) (drop at ys)

@@ -198,11 +198,12 @@ fn common_words(before: &[u8], key: &[u8]) -> usize
     ensures shared { common_prefix_len nat_eq before.now key.now ≡ result + common_prefix_len nat_eq (drop result before.now) (drop result key.now) }
     ensures within { (result ≤ length before.now) × (result ≤ length key.now) }
 {
-    let words = before.len().min(key.len()) / WORD_LEN;
+    let (before, _) = before.as_chunks::<WORD_LEN>();
+    let (key, _) = key.as_chunks::<WORD_LEN>();
+    let words = before.len().min(key.len());
     for i in 0..words {
-        let at = WORD_LEN * i;
-        if before[at..at + WORD_LEN] != key[at..at + WORD_LEN] {
-            return at;
+        if before[i] != key[i] {
+            return WORD_LEN * i;
         }
     }
     WORD_LEN * words
@@ -248,7 +249,12 @@ fn push_fields(out: &mut Vec<u8>, shared: usize, unshared: &[u8], value: &[u8]) 
 }
 
 /// Appends the three lengths of a piece, or on a refused growth some of them.
-fn push_lengths(out: &mut Vec<u8>, shared: usize, unshared: usize, value: usize) -> Result<(), Fault>
+fn push_lengths(
+    out: &mut Vec<u8>,
+    shared: usize,
+    unshared: usize,
+    value: usize,
+) -> Result<(), Fault>
     ensures ok { OnOk result (out.new.items ≡ out.old.items ++ (varint shared ++ (varint unshared ++ varint value))) }
     ensures err { OnErr result (take (length out.old.items) out.new.items ≡ out.old.items) }
     ensures memory { IsOkUnless result (fault Memory) }

@@ -122,7 +122,7 @@ IsBuilt-flushed {keys = keys} {o = o} {parts = parts} {bytes = bytes} {index = i
       flushed_is = sum_by-append (flushed_len o) parts (entries ∷ []) ∙ omega (arith, h.flushed_is, flushed_len-full o entries full, length-append bytes (stored b), length-stored b, len);
       parts_fit = AllByRecursion-push (λ p. length (block r p) ≤ 2 ^ 31) parts entries h.parts_fit h.entries_fit;
       entries_fit = fits;
-          last_lawful = λ _. lawful;
+      last_lawful = λ _. lawful;
     }
 
 -- ---- with one more entry, however it was added

@@ -1,5 +1,9 @@
+ghost use Rattle.std.specs.Prelude.{◌<◌, ◌^◌, length};
+
 use super::*;
+use coding::FaultName;
 use ikey::{Bytewise, KeyBuf, Kind};
+use std::process::Abort;
 use std::test::Fail;
 
 /// The table of a value `x` of `a` at sequence 1.
@@ -82,6 +86,72 @@ fn a_block_for_each_entry(rt: HostRuntime) -> Result<(), Fail> {
     }
     assert_eq!(rt; table.flushed(), 58);
     assert_eq!(rt; table.finish()?.as_slice(), TWO_BLOCKS.as_slice());
+    Ok(())
+}
+
+/// Adds an entry above the last one, at a second try where a growth was refused at the first.
+fn add_again(
+    rt: &impl Abort,
+    table: &mut TableBuilder<Bytewise>,
+    key: &KeyBuf,
+    value: &[u8],
+) -> Result<(), Fail>
+    requires { length value.now < 2 ^ 24 }
+{
+    let flushed = table.flushed();
+    assert!(rt; table.is_above_last(&key.as_key()));
+    if let Err(refused) = table.add(key.as_key(), value) {
+        assert_eq!(rt; refused.name, FaultName::Memory);
+        assert_eq!(rt; table.flushed(), flushed);
+        table.add(key.as_key(), value)?;
+    }
+    Ok(())
+}
+
+#[test]
+fn a_refused_growth_changes_nothing(rt: HostRuntime) -> Result<(), Fail> {
+    let options = Options {
+        block_size: 1,
+        ..Options::default()
+    };
+    assert!(rt; options.are_in_limits());
+    let first = KeyBuf::new(rt.alloc(), b"abcz", 9, Kind::Put)?;
+    let second = KeyBuf::new(rt.alloc(), b"abfa", 8, Kind::Put)?;
+    let mut table = TableBuilder::<Bytewise>::new(rt.alloc(), options);
+    add_again(&rt, &mut table, &first, b"x")?;
+    add_again(&rt, &mut table, &second, b"y")?;
+    assert_eq!(rt; table.flushed(), 58);
+    match table.finish() {
+        Ok(table) => assert_eq!(rt; table.as_slice(), TWO_BLOCKS.as_slice()),
+        Err(refused) => assert_eq!(rt; refused.name, FaultName::Memory),
+    }
+    Ok(())
+}
+
+/// The third block of the entries of `TWO_BLOCKS` and a value `z` of `abga` at 7, without its checksum.
+const THIRD_BLOCK: [u8; 25] = [
+    0x00, 0x0c, 0x01, 0x61, 0x62, 0x67, 0x61, 0x01, 0x07, 0x00, 0x00, 0x00, 0x00, 0x00, 0x00, 0x7a,
+    0x00, 0x00, 0x00, 0x00, 0x01, 0x00, 0x00, 0x00, 0x00,
+];
+
+#[test]
+fn a_third_block(rt: HostRuntime) -> Result<(), Fail> {
+    let options = Options {
+        block_size: 1,
+        ..Options::default()
+    };
+    assert!(rt; options.are_in_limits());
+    let first = KeyBuf::new(rt.alloc(), b"abcz", 9, Kind::Put)?;
+    let second = KeyBuf::new(rt.alloc(), b"abfa", 8, Kind::Put)?;
+    let third = KeyBuf::new(rt.alloc(), b"abga", 7, Kind::Put)?;
+    let mut table = TableBuilder::<Bytewise>::new(rt.alloc(), options);
+    add_again(&rt, &mut table, &first, b"x")?;
+    add_again(&rt, &mut table, &second, b"y")?;
+    add_again(&rt, &mut table, &third, b"z")?;
+    assert_eq!(rt; table.flushed(), 87);
+    let table = table.finish()?;
+    assert!(rt; table.starts_with(&TWO_BLOCKS[..58]));
+    assert_eq!(rt; table.get(58..83), Some(THIRD_BLOCK.as_slice()));
     Ok(())
 }
 

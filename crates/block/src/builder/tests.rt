@@ -56,6 +56,25 @@ fn no_entries(rt: HostRuntime) -> Result<(), Fail> {
     Ok(())
 }
 
+#[test]
+#[tactic(auto, using(crate::proofs::Sizes::fits_with_entry))]
+fn an_emptied_builder_writes_again(rt: HostRuntime) -> Result<(), Fail> {
+    let mut builder = BlockBuilder::new(rt.alloc(), 16);
+    assert_eq!(rt; builder.estimate(), 8);
+    assert_eq!(rt; builder.last_key(), b"".as_slice());
+    builder.add(&SECOND_KEY, b"y")?;
+    assert_eq!(rt; builder.last_key(), SECOND_KEY.as_slice());
+    builder.clear();
+    assert!(rt; builder.is_empty());
+    assert_eq!(rt; builder.last_key(), b"".as_slice());
+    assert_eq!(rt; builder.estimate(), 8);
+    builder.add(&FIRST_KEY, b"x")?;
+    assert_eq!(rt; builder.estimate(), 21);
+    builder.add(&SECOND_KEY, b"y")?;
+    assert_eq!(rt; builder.finish()?.as_slice(), SHARED.as_slice());
+    Ok(())
+}
+
 /// Adds the entry, at a second try where a growth was refused at the first.
 fn add_again(
     rt: &impl Abort,

@@ -1,4 +1,4 @@
-use Rattle.std.proofs.Common.{◌≡◌, ◌+◌, drop, eqb, refl, ◌∙◌, arith}
+use Rattle.std.proofs.Common.{◌≡◌, drop, eqb, refl, ◌∙◌, arith}
 use Rattle.std.proofs.lemmas.List.{take_rest}
 use Rattle.std.proofs.lemmas.List.Sums.{common_prefix_len-le}
 use Rattle.block.proofs.Written.{common}

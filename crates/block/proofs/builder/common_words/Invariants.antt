@@ -3,4 +3,4 @@ use Rattle.block.proofs.Written.{common}
 use Rattle.block.proofs.builder.common_words.Given as goal
 
 abbrev pub invariant-loop-i : goal.invariant-loop-i
-invariant-loop-i l = common l.before l.key ≡ 8 * l.i + common (drop (8 * l.i) l.before) (drop (8 * l.i) l.key)
+invariant-loop-i l = common l.fn.before l.fn.key ≡ 8 * l.i + common (drop (8 * l.i) l.fn.before) (drop (8 * l.i) l.fn.key)

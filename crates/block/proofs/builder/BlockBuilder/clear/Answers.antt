@@ -1,4 +1,3 @@
-use Rattle.std.proofs.Common.{refl}
 use Rattle.block.proofs.Built.{IsBuilt-nil}
 use Rattle.block.proofs.builder.BlockBuilder.clear.Goals as goal
 

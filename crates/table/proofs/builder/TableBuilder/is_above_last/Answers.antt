@@ -1,4 +1,4 @@
-use Rattle.std.proofs.Common.{◌≡◌, [], List, ℕ, length, refl, sym, ap, subst, ◌∙◌}
+use Rattle.std.proofs.Common.{[], List, ℕ, length, refl, sym, ap, subst, ◌∙◌}
 use Rattle.ikey.specs.Order.{internal_cmp}
 use Rattle.block.specs.Building.{last_key}
 use Rattle.table.specs.Table.{index_keys}

@@ -25,6 +25,14 @@ pub enum Call {
     OneWorker,
     TwoWorkers,
     FourWorkers,
+    Records,
+    Decode,
+    Applied,
+    Apply,
+    LevelFiles,
+    ManyRecords,
+    ManyDecode,
+    ManyApplied,
 }
 
 impl Call {
@@ -45,6 +53,14 @@ impl Call {
             Call::OneWorker => "jobs, 1 worker",
             Call::TwoWorkers => "jobs, 2 workers",
             Call::FourWorkers => "jobs, 4 workers",
+            Call::Records => "records, one",
+            Call::Decode => "decode, one",
+            Call::Applied => "applied, one",
+            Call::Apply => "apply, one",
+            Call::LevelFiles => "files of a level",
+            Call::ManyRecords => "records, many",
+            Call::ManyDecode => "decode, many",
+            Call::ManyApplied => "applied, many",
         }
     }
 }
@@ -88,7 +104,13 @@ impl fmt::Display for Figure {
         }
         if self.work.entries > 0 {
             let tenths = self.nanos().saturating_mul(10) / self.work.entries as u128;
-            write!(f, " {:>5}.{} ns each", tenths / 10, tenths % 10)?;
+            write!(
+                f,
+                " {:>5}.{} ns each of {}",
+                tenths / 10,
+                tenths % 10,
+                self.work.entries
+            )?;
         }
         Ok(())
     }
@@ -133,6 +155,34 @@ impl Figures {
             let start = Instant::now(clock)?;
             let given = run()?;
             time = time.min(start.elapsed(clock)?);
+            self.folded = self.folded.rotate_left(1) ^ given;
+        }
+        self.taken.push(Figure { work, time })?;
+        Ok(())
+    }
+
+    /// Does some work as `take` does, each time of something that is made before the clock starts. A run also gives what
+    /// it made, whose memory is given back when the time is taken.
+    pub fn take_of<T: Drop, G: Drop, M: FnMut() -> Result<T>, F: FnMut(T) -> Result<(u32, G)>>(
+        &mut self,
+        clock: &impl Clock,
+        work: Work,
+        mut make: M,
+        mut run: F,
+    ) -> Result<()>
+    where
+        M: Drop,
+        F: Drop,
+        requires made { M.IsAlwaysCallable make }
+        requires run { F.IsAlwaysCallable run }
+    {
+        let mut time = Duration::MAX;
+        for _round in 0..self.rounds {
+            let source = make()?;
+            let start = Instant::now(clock)?;
+            let (given, made) = run(source)?;
+            time = time.min(start.elapsed(clock)?);
+            drop(made);
             self.folded = self.folded.rotate_left(1) ^ given;
         }
         self.taken.push(Figure { work, time })?;

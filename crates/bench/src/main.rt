@@ -8,6 +8,7 @@ mod blocks;
 mod checksums;
 mod figures;
 mod jobs;
+mod manifests;
 mod random;
 mod tables;
 
@@ -23,15 +24,19 @@ const TINY_LEN: usize = 64 << 10;
 const FULL_JOBS: u32 = 1_000_000;
 /// How many jobs the run without `full` has.
 const TINY_JOBS: u32 = 1_000;
+/// How many files the full run's manifests have.
+const FULL_FILES: u64 = 100_000;
+/// How many files the manifests of the run without `full` have.
+const TINY_FILES: u64 = 500;
 /// The rounds of the full run, of which the fastest counts.
 const FULL_ROUNDS: u32 = 7;
 
 fn main(rt: HostRuntime) -> Result<()> {
     let full = env::args(&rt)?.any(|word| word.as_str() == "full");
-    let (len, jobs, rounds) = if full {
-        (FULL_LEN, FULL_JOBS, FULL_ROUNDS)
+    let (len, jobs, files, rounds) = if full {
+        (FULL_LEN, FULL_JOBS, FULL_FILES, FULL_ROUNDS)
     } else {
-        (TINY_LEN, TINY_JOBS, 1)
+        (TINY_LEN, TINY_JOBS, TINY_FILES, 1)
     };
     let alloc = rt.alloc();
     let bytes = random::bytes(alloc, len)?;
@@ -39,6 +44,7 @@ fn main(rt: HostRuntime) -> Result<()> {
     checksums::measure(&rt, alloc, &bytes, &mut figures)?;
     blocks::measure(&rt, alloc, &bytes, &mut figures)?;
     tables::measure(&rt, alloc, &bytes, &mut figures)?;
+    manifests::measure(&rt, alloc, files, &mut figures)?;
     jobs::measure(&rt, alloc, jobs, &mut figures)?;
     if full {
         figures.print(&rt)?;

@@ -260,7 +260,26 @@ fn edits_that_do_not_fit(rt: HostRuntime) -> Result<(), Fail> {
     for (bytes, want) in rows {
         let edit = VersionEdit::decode(rt.alloc(), bytes)?;
         assert_eq!(rt; refusal(version.apply::<Shortlex>(rt.alloc(), &edit)), want);
+        let same = Version::empty(rt.alloc()).apply::<Shortlex>(rt.alloc(), &first)?;
+        assert_eq!(rt; refusal(same.applied::<Shortlex>(edit)), want);
     }
+    Ok(())
+}
+
+#[test]
+fn a_file_goes_to_another_level(rt: HostRuntime) -> Result<(), Fail> {
+    let mut version = Version::empty(rt.alloc());
+    for bytes in [TWO_FILES, SEVEN_MOVED] {
+        version = version.applied::<Bytewise>(VersionEdit::decode(rt.alloc(), bytes)?)?;
+    }
+    let mut places = Vec::new(rt.alloc());
+    for level in 0..7 {
+        for file in &version.files::<Bytewise>(rt.alloc(), level)? {
+            places.push((level, file.number, file.smallest.as_key().user()))?;
+        }
+    }
+    let want = [(1, 5, b"a".as_slice()), (2, 7, b"v".as_slice())];
+    assert_eq!(rt; places.as_slice(), want.as_slice());
     Ok(())
 }
 
@@ -290,9 +309,20 @@ fn a_refused_growth_is_the_only_other_refusal(rt: HostRuntime) {
     }
 }
 
-/// Reads an edit, applies it, and writes the version's snapshot.
+/// Reads an edit, applies it, then applies it again with the deletion of its file before, and writes the version's snapshot.
 fn round(alloc: Global) -> Result<Vec<u8>, Fault> {
     let edit = VersionEdit::decode(alloc, COMPACTED)?;
-    let version = Version::empty(alloc).apply::<Bytewise>(alloc, &edit)?;
+    let version = Version::empty(alloc).applied::<Bytewise>(edit)?;
+    let mut bytes = Vec::from_slice(alloc, COMPACTED)?;
+    bytes.extend_from_slice(b"\x06\x01\x0f")?;
+    let again = VersionEdit::decode(alloc, &bytes)?;
+    let version = version.apply::<Bytewise>(alloc, &again)?;
+    let mut files = 0;
+    for level in 0..7 {
+        files += version.files::<Bytewise>(alloc, level)?.len();
+    }
+    if files != 1 {
+        return Err(Fault::of(FaultName::Apply));
+    }
     version.snapshot_edit::<Bytewise>(alloc)?.encode(alloc)
 }

@@ -1,7 +1,7 @@
 -- One step over the pieces of a block.
 use Rattle.std.proofs.Common.{◌≡◌, ℕ, ◌+◌, ◌≤◌, ◌<◌, Bool, true, false, cond, List, [], ◌∷◌, length, take, drop, Some, None, refl, sym, ap, subst, ◌∙◌, arith}
 use Rattle.std.specs.List.{flat_map}
-use Rattle.std.proofs.lemmas.List.{length-append, length-take-le}
+use Rattle.std.proofs.lemmas.List.{length-append, length-take-le, nil_from_length}
 use Rattle.std.proofs.lemmas.Option.{same_Some, none-some}
 use Rattle.block.specs.Piece.{Entry, Piece, piece_bytes, key_after, entries_after, ArePieces, IsArea}
 use Rattle.block.specs.Reading.{Field, piece_at, entries_behind, ArePiecesBehind}
@@ -42,6 +42,16 @@ ends before rest b f = ends_of b.0 b.1 b.2
     ends_of [] h e = behind_of before rest [] h e
     ends_of (p ∷ ps) h e = absurd (none-some _ (sym f ∙ front_read before rest p ps h e))
 
+-- no bytes are left where no entry stands behind
+pub none_behind : (before rest : List ℕ) → ArePiecesBehind before rest → entries_behind before rest ≡ [] → rest ≡ []
+none_behind before rest b h = of_pieces b.0 b.1 b.2
+  where
+    of_pieces : (ps : List Piece) → ArePieces (length before) ps → rest ≡ flat_map piece_bytes ps → rest ≡ []
+    of_pieces [] pieces e = e
+    of_pieces (p ∷ ps) pieces e =
+        let no : entries_after before (p ∷ ps) ≡ [] = sym (behind_of before rest (p ∷ ps) pieces e) ∙ h in
+        absurd cc
+
 -- the pieces of a block's area
 pub behind_area : (area restarts : List ℕ) → IsArea area restarts → ArePiecesBehind [] area
 behind_area area restarts h = (h.0, h.1.pieces, h.2)
@@ -53,3 +63,11 @@ entries_of_area area restarts h = behind_of [] area h.0 h.1.pieces h.2
 pub advanced : (valid : Bool) (e first : Entry) (behind more now : List Entry) → cond valid (e ∷ behind) [] ≡ now → 0 < length now → behind ≡ first ∷ more → cond valid (first ∷ more) [] ≡ drop 1 now
 advanced true e first behind more now view some same = sym same ∙ ap (drop 1) view
 advanced false e first behind more now view some same = absurd (omega (arith, ap length view))
+
+-- an entry is the last where none stands behind it
+pub last_by : (valid : Bool) (e : Entry) (behind now : List Entry) → cond valid (e ∷ behind) [] ≡ now → 0 < length now → (behind ≡ [] → length now ≡ 1) × (length now ≡ 1 → behind ≡ [])
+last_by true e behind now view some = (
+  λ none. sym (ap length view) ∙ ap (λ (es : List Entry). length (e ∷ es)) none,
+  λ one. nil_from_length behind (omega (arith, ap length view)),
+)
+last_by false e behind now view some = absurd (omega (arith, ap length view))

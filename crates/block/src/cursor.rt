@@ -94,6 +94,22 @@ impl<'a> BlockCursor<'a> {
         })
     }
 
+    /// Another cursor at the same place.
+    ///
+    /// Refused only for want of memory: it takes the bytes of one key.
+    pub fn copy(&self, alloc: Global) -> Result<BlockCursor<'a>, Fault>
+        ensures same { IfOk result (λ cursor. cursor ≡ self.now) }
+        ensures memory { IfErr result (λ e. e ≡ fault Memory) }
+    {
+        let key = Vec::from_slice(alloc, &self.key)?;
+        Ok(BlockCursor {
+            valid: self.valid,
+            key,
+            value: self.value,
+            rest: self.rest,
+        })
+    }
+
     /// Whether an entry is still to come.
     pub fn valid(&self) -> bool
         ensures { IsTrue result ↔ (0 < length self.now) }
@@ -115,6 +131,14 @@ impl<'a> BlockCursor<'a> {
         ensures { option_map (λ e. e.value) (slice_get self.now 0) ≡ Some result.now }
     {
         self.value
+    }
+
+    /// Whether the first entry that is still to come is the last of them.
+    pub fn is_last(&self) -> bool
+        requires { 0 < length self.now }
+        ensures { IsTrue result ↔ (length self.now ≡ 1) }
+    {
+        self.rest.is_empty()
     }
 
     /// Takes the first entry off. Refused only for want of memory, and then nothing is taken off.

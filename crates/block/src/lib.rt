@@ -13,7 +13,7 @@ mod sound_block;
 
 pub use builder::BlockBuilder;
 pub use cursor::BlockCursor;
-pub use sound_block::{SoundBlock, check};
+pub use sound_block::{SoundBlock, check, known};
 
 /// The block of a list at any interval reads as that list.
 pub fn reads_back()

@@ -166,3 +166,22 @@ pub fn check(bytes: &[u8]) -> Result<SoundBlock<'_>, Fault>
         restarts: parts.restarts,
     })
 }
+
+/// Reads bytes again that are known to be a block, as those of which [`check`] answered Ok. None of its tests is made
+/// again.
+///
+/// It reads the number of restarts and no more, whatever the block holds, and takes no memory.
+pub fn known(bytes: &[u8]) -> SoundBlock<'_>
+    requires { (entries : List Entry) × IsBlock bytes.now entries }
+    ensures found { IsBlock bytes.now result.entries }
+    ensures places { PointsAt bytes.now result.restarts }
+    ensures only { (entries : List Entry) → IsBlock bytes.now entries → result.entries ≡ entries }
+{
+    let Some(parts) = split(bytes) else {
+        unreachable!();
+    };
+    SoundBlock {
+        area: parts.area,
+        restarts: parts.restarts,
+    }
+}

@@ -6,6 +6,7 @@ use Rattle.std.proofs.lemmas.List.{take_at, drop_at, take-append-drop, length-dr
 use Rattle.std.proofs.lemmas.Nat.{le_bytes_4}
 use Rattle.byteorder.specs.Endian.{little_bytes, little_number}
 use Rattle.byteorder.specs.Numbers.{little_number-reads_back, length-bytes_low_first}
+use Rattle.std.specs.Result.{IsOk}
 use Rattle.coding.specs.Answers.{fault}
 use Rattle.coding.specs.Crc.{crc32c, masked}
 use Rattle.coding.specs.declared.fault.Fault.{Fault}
@@ -123,3 +124,16 @@ only_stored bytes contents enough fits e =
     let sum_is : little_number 4 (drop (n + 1) bytes) ≡ masked (crc32c (take (n + 1) bytes)) = ap (λ (i : ℕ). little_number 4 (drop i bytes)) (sym at) ∙ p.sum_is ∙ ap (λ (i : ℕ). masked (crc32c (take i bytes))) at in
     let behind : drop (n + 1) bytes ≡ little_bytes 4 (little_number 4 (drop (n + 1) bytes)) = four_bytes (drop (n + 1) bytes) (omega (arith, length-drop (n + 1) bytes)) (λ i. rw get_or-drop (fits (n + 1 + i))) in
     put_together bytes contents n len p.front_is p.kind_is (behind ∙ ap (little_bytes 4) sum_is)
+
+-- the contents that are read stand before the trailer
+front_read : (bytes contents : List ℕ) → stored_reading bytes ≡ Ok contents → take (length bytes - 5) bytes ≡ contents
+front_read bytes contents e =
+    (read_by-Ok (little_number 4 (drop (length bytes - 4) bytes)) (masked (crc32c (take (length bytes - 4) bytes))) (get_or bytes (length bytes - 5) 0) (take (length bytes - 5) bytes) contents (sym (stored_reading-by bytes) ∙ e)).front_is
+
+-- bytes that pass the tests are read as what stands before their trailer
+pub known_front : (bytes : List ℕ) → IsOk (stored_reading bytes) → stored_reading bytes ≡ Ok (take (length bytes - 5) bytes)
+known_front bytes h = of_reading (stored_reading bytes) refl h
+  where
+    of_reading : (r : Result (List ℕ) Fault) → stored_reading bytes ≡ r → IsOk r → r ≡ Ok (take (length bytes - 5) bytes)
+    of_reading (Ok contents) e h = ap (λ (x : List ℕ). done x) (sym (front_read bytes contents e))
+    of_reading (Err d) e h = absurd cc

@@ -17,6 +17,7 @@ fn empty_block_as_stored(rt: HostRuntime) -> Result<(), Fail> {
     assert_eq!(rt; &out[..8], EMPTY_BLOCK.as_slice());
     assert_eq!(rt; &out[8..], EMPTY_TRAILER.as_slice());
     assert_eq!(rt; contents(&out)?, EMPTY_BLOCK.as_slice());
+    assert_eq!(rt; known_contents(&out), EMPTY_BLOCK.as_slice());
     let trailer = Trailer::read(&EMPTY_TRAILER);
     assert_eq!(rt; trailer, Trailer::of(&EMPTY_BLOCK));
     Ok(())

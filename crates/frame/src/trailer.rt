@@ -1,6 +1,6 @@
 //! Stored blocks: contents, and a trailer behind them.
 
-ghost use Rattle.std.specs.Prelude.{◌≡◌, ◌≤◌, ◌<◌, ◌^◌, ◌++◌, ◌∷◌, ◌-◌, take, drop, slice_index, length, OnOk, OnErr, IsOkUnless};
+ghost use Rattle.std.specs.Prelude.{◌≡◌, ◌≤◌, ◌<◌, ◌^◌, ◌++◌, ◌∷◌, ◌-◌, take, drop, slice_index, length, Ok, IsOk, OnOk, OnErr, IsOkUnless};
 ghost use Rattle.std.specs.Result.{result_map_both};
 ghost use Rattle.byteorder.specs.Endian.{little_bytes, little_number};
 ghost use Rattle.frame.specs.Trailer.{stored, stored_reading};
@@ -105,4 +105,15 @@ pub fn contents(bytes: &[u8]) -> Result<&[u8], Fault>
         SNAPPY => Err(Fault::of(FaultName::Compressed)),
         _ => Err(Fault::of(FaultName::BlockType)),
     }
+}
+
+/// The contents of a stored block that is known to pass the tests of [`contents`], which aren't made again. Takes no
+/// memory.
+pub fn known_contents(bytes: &[u8]) -> &[u8]
+    requires long { 5 ≤ length bytes.now }
+    requires known { IsOk (stored_reading bytes.now) }
+    ensures { stored_reading bytes.now ≡ Ok result.now }
+{
+    let (found, _) = bytes.split_at(bytes.len() - TRAILER_LEN);
+    found
 }

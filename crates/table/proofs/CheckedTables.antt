@@ -15,15 +15,15 @@ use Rattle.table.specs.ReadingEntries.{Ends, first_key, key_behind, is_some_list
 use Rattle.table.specs.ReadingIndex.{IndexEntry, block_in, index_reading}
 use Rattle.table.specs.Reading.{DataBlock, blocks_reading, index_fits, data_reading, index_in, blocks_of, ends_of, entries_of, Contents, contents_of, contents_reading, contents_in, table_reading}
 use Rattle.table.specs.ReadingTables.{IsTable}
-use Rattle.table.specs.Checked.{IsChecked, Names}
+use Rattle.table.specs.Checked.{IsChecked}
 use Rattle.table.proofs.Steps.{done, bind_ok, ok_is, fails_map}
 use Rattle.table.proofs.DataSteps.{all_ends}
 
 -- ---- what it holds
 
-pub blocks_are : (cmp : List ℕ → List ℕ → Ordering) (bytes : List ℕ) (index : List IndexEntry) (smallest largest : List ℕ) (k : IsChecked cmp bytes index smallest largest) → blocks_of cmp bytes ≡ Ok k.blocks
+pub blocks_are : (cmp : List ℕ → List ℕ → Ordering) (bytes : List ℕ) (named : List Entry) (index : List IndexEntry) (smallest largest : List ℕ) (k : IsChecked cmp bytes named index smallest largest) → blocks_of cmp bytes ≡ Ok k.blocks
 unfolding blocks_of
-blocks_are cmp bytes index smallest largest k =
+blocks_are cmp bytes named index smallest largest k =
     ap (λ (r : Result (List Entry) Fault). r >>= λ entries. index_reading bytes entries >>= λ is. data_reading cmp is) k.index_block
     ∙ ap (λ (r : Result (List IndexEntry) Fault). r >>= λ is. data_reading cmp is) k.index_entries
     ∙ k.data_blocks
@@ -154,30 +154,23 @@ ends_refused cmp bytes named index d e f h =
     ∙ ap (λ (r : Result (List IndexEntry) Fault). r >>= λ is. data_reading cmp is) f ∙ map_err ends_of (data_reading cmp index) d h)
 
 pub checked : (cmp : List ℕ → List ℕ → Ordering) (bytes : List ℕ) (named : List Entry) (index : List IndexEntry) (x : Ends) → index_in bytes ≡ Ok named → index_reading bytes named ≡ Ok index → all_ends cmp index ≡ Ok x
-    → IsChecked cmp bytes index x.smallest x.largest
+    → IsChecked cmp bytes named index x.smallest x.largest
 checked cmp bytes named index x e f h =
     let a = map_ok ends_of (data_reading cmp index) x h in
-    record { named = named; blocks = a.0; index_block = e; index_entries = f; data_blocks = a.1; first = sym (ap (λ (y : Ends). y.smallest) a.2); last = sym (ap (λ (y : Ends). y.largest) a.2) }
+    record { blocks = a.0; index_block = e; index_entries = f; data_blocks = a.1; first = sym (ap (λ (y : Ends). y.smallest) a.2); last = sym (ap (λ (y : Ends). y.largest) a.2) }
 
 -- ---- the user keys of the index
 
 abbrev pub users_of : List IndexEntry → List (List ℕ)
 users_of index = map (λ i. user_of i.key) index
 
-pub users_are : (cmp : List ℕ → List ℕ → Ordering) (bytes : List ℕ) (index : List IndexEntry) (smallest largest : List ℕ) → IsChecked cmp bytes index smallest largest → (contents_in cmp bytes).index_users ≡ users_of index
-users_are cmp bytes index smallest largest k =
-    ap (λ (x : Contents). x.index_users) (contents_are cmp bytes k.blocks (blocks_are cmp bytes index smallest largest k))
+pub users_are : (cmp : List ℕ → List ℕ → Ordering) (bytes : List ℕ) (named : List Entry) (index : List IndexEntry) (smallest largest : List ℕ) → IsChecked cmp bytes named index smallest largest → (contents_in cmp bytes).index_users ≡ users_of index
+users_are cmp bytes named index smallest largest k =
+    ap (λ (x : Contents). x.index_users) (contents_are cmp bytes k.blocks (blocks_are cmp bytes named index smallest largest k))
     ∙ keys_kept cmp None index k.blocks (read_data cmp index k.blocks k.data_blocks).read
 
 pub users_go_on : (front : List (List ℕ)) (i : IndexEntry) (is : List IndexEntry) (u : List ℕ) (total : List (List ℕ)) → u ≡ user_of i.key → front ++ users_of (i ∷ is) ≡ total → (front ++ u ∷ []) ++ users_of is ≡ total
 users_go_on front i is u total e h = append_assoc front (u ∷ []) (users_of is) ∙ ap (λ (v : List ℕ). front ++ v ∷ users_of is) e ∙ h
-
-pub names : (cmp : List ℕ → List ℕ → Ordering) (bytes : List ℕ) (index : List IndexEntry) (smallest largest : List ℕ) → IsChecked cmp bytes index smallest largest → Names cmp index (contents_in cmp bytes).entries
-names cmp bytes index smallest largest k = record {
-  blocks = k.blocks;
-  read = (read_data cmp index k.blocks k.data_blocks).read;
-  whole = sym (ap (λ (x : Contents). x.entries) (contents_are cmp bytes k.blocks (blocks_are cmp bytes index smallest largest k)));
-}
 
 -- ---- the entries and the whole of what is read
 

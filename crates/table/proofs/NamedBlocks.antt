@@ -1,14 +1,14 @@
 -- The blocks that an index names, as a relation and as a reading; their entries and index keys in order.
-use Rattle.std.proofs.Common.{◌≡◌, ◌≢◌, ℕ, ◌+◌, ◌^◌, ◌<◌, ◌≤◌, Bool, true, false, not, cond, ◌&&◌, nat_le, List, [], ◌∷◌, ◌++◌, length, Option, Some, None, Result, Ok, Err, refl, sym, ap, subst, ◌∙◌, arith}
+use Rattle.std.proofs.Common.{◌≡◌, ◌≢◌, ℕ, ◌^◌, ◌<◌, ◌≤◌, Bool, true, not, nat_le, List, [], ◌∷◌, ◌++◌, length, Option, Some, None, Result, Ok, refl, sym, ap, subst, ◌∙◌, arith}
 use Rattle.std.specs.List.{AllByRecursion}
 use Rattle.std.specs.Ordering.{is_lt, is_gt}
 use Rattle.std.specs.declared.cmp.Ordering.{Ordering}
 use Rattle.std.specs.declared.cmp.Ordering.TheVariants.{Less, Equal, Greater}
 use Rattle.std.proofs.lemmas.Bool.{le-leb}
 use Rattle.std.proofs.lemmas.List.{append-nil}
-use Rattle.coding.specs.Answers.{fault, ◌>>=◌}
+use Rattle.coding.specs.Answers.{◌>>=◌}
 use Rattle.coding.specs.declared.fault.Fault.{Fault}
-use Rattle.coding.specs.declared.fault.FaultName.TheVariants.{Handle, TooLarge, Order, Empty}
+use Rattle.coding.specs.declared.fault.FaultName.TheVariants.{TooLarge, Order, Empty}
 use Rattle.block.specs.Piece.{Entry}
 use Rattle.block.specs.Building.{last_key}
 use Rattle.ikey.specs.Key.{internal_key_reading}
@@ -21,7 +21,7 @@ use Rattle.table.specs.ReadingEntries.{first_key, is_above, key_behind, entry_te
 use Rattle.table.specs.ReadingIndex.{IndexEntry, handle_alone, one_handle, stored_at, block_in, index_entry, index_reading}
 use Rattle.table.specs.Reading.{DataBlock, blocks_reading, is_between, index_fits, entries_of}
 use Rattle.table.specs.ReadingCursors.{IsRising}
-use Rattle.table.specs.ReadingTables.{StandsAt, IsNamed, AreNamed, IsBelowNext, AreBetween, AreBytes}
+use Rattle.table.specs.ReadingTables.{AreNamed, IsBelowNext, AreBetween, AreBytes}
 use Rattle.table.specs.Checked.{HaveKeys}
 use Rattle.table.proofs.BlockReadings.{both, join}
 use Rattle.table.proofs.Steps.{done, bind_ok, ok_is}

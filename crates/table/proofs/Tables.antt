@@ -1,12 +1,10 @@
 -- Bytes are read as a table exactly where they are one.
-use Rattle.std.proofs.Common.{◌≡◌, ℕ, ◌-◌, ◌^◌, ◌<◌, ◌≤◌, Bool, true, false, cond, nat_le, List, [], ◌∷◌, length, drop, None, Result, Ok, Err, refl, sym, ap, subst, ◌∙◌, arith}
+use Rattle.std.proofs.Common.{◌≡◌, ℕ, ◌-◌, ◌^◌, ◌<◌, ◌≤◌, Bool, true, nat_le, List, [], ◌∷◌, length, drop, None, Ok, refl, sym, ap, subst, ◌∙◌, arith}
 use Rattle.std.specs.List.{AllByRecursion}
 use Rattle.std.specs.Cmp.{IsTotalOrder}
 use Rattle.std.specs.declared.cmp.Ordering.{Ordering}
 use Rattle.std.proofs.lemmas.Bool.{leb-true, le-leb}
-use Rattle.coding.specs.Answers.{fault, ◌>>=◌}
-use Rattle.coding.specs.declared.fault.Fault.{Fault}
-use Rattle.coding.specs.declared.fault.FaultName.{FaultName}
+use Rattle.coding.specs.Answers.{◌>>=◌}
 use Rattle.coding.specs.declared.fault.FaultName.TheVariants.{Size, Short, Empty, Index}
 use Rattle.block.specs.Piece.{Entry}
 use Rattle.frame.specs.declared.footer.Footer.{Footer}
@@ -21,7 +19,7 @@ use Rattle.table.specs.ReadingTables.{StandsAt, EndsWith, IsTable, AreBytes, Rea
 use Rattle.table.proofs.Steps.{done, bind_ok, ok_is}
 use Rattle.table.proofs.CheckedTables.{blocks_by, read_block, read_data}
 use Rattle.table.proofs.EntryTests.{passed, have_keys, all_tests, rising}
-use Rattle.table.proofs.StoredTables.{bind_is, ReadAt, stands_read, stands_fit, read_stands, ends_read, read_ends, long_footer}
+use Rattle.table.proofs.StoredTables.{bind_is, stands_read, stands_fit, read_stands, ends_read, read_ends, long_footer}
 use Rattle.table.proofs.NamedBlocks.{Holds, named_read, blocks_read, read_named, tests_of, values_of, fits_between, between_fits}
 
 -- ---- the index

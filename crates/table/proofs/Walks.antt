@@ -1,58 +1,338 @@
--- The data blocks of a table, read again one after the other.
-use Rattle.std.proofs.Common.{◌≡◌, ℕ, List, [], ◌∷◌, ◌++◌, Option, None, Result, Ok, sym, ap, ◌∙◌, append_assoc}
-use Rattle.std.proofs.lemmas.List.{append-nil}
+-- The walk over a table's data blocks by its index.
+use Rattle.std.proofs.Common.{◌≡◌, ℕ, ◌<◌, Bool, true, false, not, cond, List, [], ◌∷◌, ◌++◌, length, drop, Option, Some, None, Result, Ok, Err, refl, sym, ap, subst, ◌∙◌, arith}
+use Rattle.std.specs.List.{AllByRecursion}
+use Rattle.std.specs.Cmp.{IsTotalOrder}
+use Rattle.std.specs.Prelude.{IsOk, slice_get}
+use Rattle.std.specs.Option.{option_map}
+use Rattle.std.specs.Ordering.{is_lt, is_gt, is_le, ordering_reverse}
+use Rattle.std.specs.BTreeMap.Comparable.{le_lt_trans}
 use Rattle.std.specs.declared.cmp.Ordering.{Ordering}
-use Rattle.coding.specs.Answers.{Fails}
+use Rattle.std.specs.declared.cmp.Ordering.TheVariants.{Less, Equal, Greater}
+use Rattle.std.proofs.lemmas.List.{nil_from_length}
+use Rattle.std.proofs.lemmas.Option.{same_Some, none-some}
+use Rattle.coding.specs.Answers.{◌>>=◌}
 use Rattle.coding.specs.declared.fault.Fault.{Fault}
-use Rattle.block.specs.Piece.{Entry}
-use Rattle.table.specs.ReadingEntries.{key_behind}
-use Rattle.table.specs.ReadingIndex.{IndexEntry, block_in}
-use Rattle.table.specs.Reading.{DataBlock, blocks_reading, entries_of}
-use Rattle.table.specs.Checked.{Names, HaveKeys}
-use Rattle.table.proofs.Steps.{failed, ok_is, fails_map}
-use Rattle.table.proofs.CheckedTables.{read_block}
-use Rattle.table.proofs.EntryTests.{have_keys, data_tests}
+use Rattle.block.specs.Piece.{Entry, IsBlock}
+use Rattle.block.specs.Building.{last_key}
+use Rattle.ikey.specs.Key.{internal_key_reading}
+use Rattle.ikey.specs.Order.{internal_cmp}
+use Rattle.ikey.proofs.Ordered.{internal_cmp-total}
+use Rattle.frame.specs.declared.handle.BlockHandle.{BlockHandle}
+use Rattle.frame.specs.Handle.{HandleBehind, handle_reading}
+use Rattle.frame.specs.Trailer.{stored_reading}
+use Rattle.table.specs.ReadingBlocks.{block_reading}
+use Rattle.table.specs.ReadingEntries.{first_key, is_above, key_behind, is_some_list, data_test}
+use Rattle.table.specs.ReadingIndex.{IndexEntry, handle_alone, one_handle, stored_at, block_in, index_entry, index_reading}
+use Rattle.table.specs.Reading.{DataBlock, blocks_reading, is_between, index_fits, entries_of, ok_or, Contents, contents_in}
+use Rattle.table.specs.ReadingCursors.{IsRising, entries_from, first_is_below}
+use Rattle.table.specs.Checked.{HaveKeys, IsChecked}
+use Rattle.table.specs.Walking.{block_named, entries_named, all_named, NamesBlock, Indexes, IsLeft}
+use Rattle.table.proofs.BlockReadings.{both, reads_blocks}
+use Rattle.table.proofs.Steps.{done, bind_ok, ok_is}
+use Rattle.table.proofs.CheckedTables.{read_block, read_data, blocks_are, contents_are}
+use Rattle.table.proofs.EntryTests.{key_same, less_is, have_keys, data_tests, all_tests, rising}
 
--- Entries so far, and those of the blocks that are left, where all are these.
-pub record Walks (cmp : List ℕ → List ℕ → Ordering) (index : List IndexEntry) (front total : List Entry) : Type 0 where
-  pub before : Option (List ℕ)
-  pub left : List DataBlock
-  pub read : blocks_reading cmp before index ≡ Ok left
-  pub whole : front ++ entries_of left ≡ total
+-- ---- the data block that an entry of the index names
 
-pub walk_begins : (cmp : List ℕ → List ℕ → Ordering) (index : List IndexEntry) (total : List Entry) → Names cmp index total → Walks cmp index [] total
-walk_begins cmp index total n = record { before = None; left = n.blocks; read = n.read; whole = n.whole }
+pub block_named-by : (bytes value : List ℕ) → block_named bytes value ≡ (one_handle (handle_reading value) >>= λ handle. stored_at bytes handle >>= λ there. block_in there)
+unfolding block_named
+block_named-by bytes value = refl
 
--- the next of the blocks
-pub record Step (cmp : List ℕ → List ℕ → Ordering) (i : IndexEntry) (is : List IndexEntry) (front total : List Entry) : Type 0 where
-  pub entries : List Entry
-  pub block : block_in i.stored ≡ Ok entries
-  pub keys : HaveKeys entries
-  pub behind : Walks cmp is (front ++ entries) total
+pub named_entries : (bytes : List ℕ) (i : Entry) (q : List Entry) → block_named bytes i.value ≡ Ok q → entries_named bytes i ≡ q
+unfolding entries_named
+named_entries bytes i q h = ap (ok_or []) h
 
-pub step : (cmp : List ℕ → List ℕ → Ordering) (i : IndexEntry) (is : List IndexEntry) (front total : List Entry) → Walks cmp (i ∷ is) front total → Step cmp i is front total
-step cmp i is front total w =
-    let r = read_block cmp w.before i is w.left w.read in
+-- an entry that is read, and the block that it names
+record Reads (bytes : List ℕ) (i : Entry) (x : IndexEntry) : Type 0 where
+  key : internal_key_reading i.key ≡ Ok i.key
+  same : i.key ≡ x.key
+  block : block_named bytes i.value ≡ block_in x.stored
+
+reads : (bytes : List ℕ) (i : Entry) (x : IndexEntry) → index_entry bytes i ≡ Ok x → Reads bytes i x
+reads bytes i x h =
+    let key = bind_ok (internal_key_reading i.key) (λ key. one_handle (handle_reading i.value) >>= λ handle. stored_at bytes handle >>= λ s. Ok (record { key = key; stored = s })) x h in
+    let handle = bind_ok (one_handle (handle_reading i.value)) (λ handle. stored_at bytes handle >>= λ s. Ok (record { key = key.0; stored = s })) x key.2 in
+    let there = bind_ok (stored_at bytes handle.0) (λ s. Ok (record { key = key.0; stored = s })) x handle.2 in
+    let same : record { key = key.0; stored = there.0 } ≡ x = ok_is (record { key = key.0; stored = there.0 }) x there.2 in
+    let own : i.key ≡ key.0 = key_same i.key key.0 key.1 in
     record {
-      entries = r.entries;
-      block = r.block;
-      keys = have_keys cmp w.before r.entries (data_tests cmp w.before r.entries r.tests);
-      behind = record {
-        before = key_behind w.before r.entries;
-        left = r.others;
-        read = r.behind;
-        whole = append_assoc front r.entries (entries_of r.others) ∙ ap (λ (bs : List DataBlock). front ++ entries_of bs) r.same ∙ w.whole;
-      };
+      key = key.1 ∙ ap (λ (k : List ℕ). done k) (sym own);
+      same = own ∙ ap (λ (y : IndexEntry). y.key) same;
+      block =
+          block_named-by bytes i.value
+          ∙ ap (λ (r : Result _ Fault). r >>= λ h. stored_at bytes h >>= λ s. block_in s) handle.1
+          ∙ ap (λ (r : Result (List ℕ) Fault). r >>= λ s. block_in s) there.1
+          ∙ ap (λ (y : IndexEntry). block_in y.stored) same;
     }
 
--- the block that is read there is the one that was read before
-pub same_block : (cmp : List ℕ → List ℕ → Ordering) (i : IndexEntry) (is : List IndexEntry) (front total q : List Entry) (s : Step cmp i is front total) → block_in i.stored ≡ Ok q → s.entries ≡ q
-same_block cmp i is front total q s h = ok_is s.entries q (sym s.block ∙ h)
+-- ---- its keys are not above its index key
 
--- only want of memory refuses it
-pub step_refused : (cmp : List ℕ → List ℕ → Ordering) (i : IndexEntry) (is : List IndexEntry) (front total : List Entry) (d : Fault) (answer : Result (List Entry) Fault) → Step cmp i is front total → Fails d (block_in i.stored) → Fails d answer
-step_refused cmp i is front total d answer s h = fails_map d (block_in i.stored) answer (λ e. let no : Ok s.entries ≡ failed d = sym s.block ∙ e in absurd cc) h
+not_gt_le : (o : Ordering) → not (is_gt o) ≡ true → is_le o ≡ true
+not_gt_le Less h = refl
+not_gt_le Equal h = refl
+not_gt_le Greater h = absurd cc
 
-pub walk_ends : (cmp : List ℕ → List ℕ → Ordering) (front total : List Entry) → Walks cmp [] front total → front ≡ total
-walk_ends cmp front total w =
-    sym (append-nil front) ∙ ap (λ (bs : List DataBlock). front ++ entries_of bs) (ok_is [] w.left w.read) ∙ w.whole
+-- below a key that is not above another
+before_within : (cmp : List ℕ → List ℕ → Ordering) (a b k : List ℕ) → IsTotalOrder cmp → internal_cmp cmp a b ≡ Less → is_le (internal_cmp cmp b k) ≡ true → is_le (internal_cmp cmp a k) ≡ true
+before_within cmp a b k total lt le = of_order (internal_cmp cmp b k) refl le
+  where
+    laws : IsTotalOrder (internal_cmp cmp)
+    laws = internal_cmp-total total
+
+    of_order : (o : Ordering) → internal_cmp cmp b k ≡ o → is_le o ≡ true → is_le (internal_cmp cmp a k) ≡ true
+    of_order Less e le = ap is_le (laws.trans a b k lt e)
+    of_order Equal e le = ap is_le (laws.antisymm a k ∙ ap ordering_reverse (sym (laws.congr b k a e) ∙ laws.antisymm b a ∙ ap ordering_reverse lt))
+    of_order Greater e le = absurd cc
+
+-- keys that rise to one that is not above another
+all_within : (cmp : List ℕ → List ℕ → Ordering) (k : List ℕ) (es : List Entry) → IsTotalOrder cmp → IsRising cmp es → is_le (internal_cmp cmp (last_key [] es) k) ≡ true → AllByRecursion (λ e. is_le (internal_cmp cmp e.key k) ≡ true) es
+all_within cmp k [] total rises le = tt
+all_within cmp k (e ∷ []) total rises le = (le, tt)
+all_within cmp k (e ∷ f ∷ es) total rises le =
+    let more = all_within cmp k (f ∷ es) total rises.1 le in
+    (before_within cmp e.key f.key k total rises.0.0 more.0, more)
+
+-- ---- all of them
+
+some_entries : (cmp : List ℕ → List ℕ → Ordering) (before : Option (List ℕ)) (q : List Entry) → data_test cmp before q ≡ Ok tt → 0 < length q
+some_entries cmp before [] h = absurd cc
+some_entries cmp before (e ∷ q) h = omega arith
+
+names_block : (cmp : List ℕ → List ℕ → Ordering) (bytes : List ℕ) (before : Option (List ℕ)) (i : Entry) (x : IndexEntry) (q : List Entry) → IsTotalOrder cmp → Reads bytes i x → block_in x.stored ≡ Ok q → data_test cmp before q ≡ Ok tt
+    → not (is_gt (internal_cmp cmp (last_key [] q) x.key)) ≡ true → NamesBlock cmp bytes i
+names_block cmp bytes before i x q total r block tests last =
+    let named : entries_named bytes i ≡ q = named_entries bytes i q (r.block ∙ block) in
+    let passed = data_tests cmp before q tests in
+    let le : is_le (internal_cmp cmp (last_key [] q) i.key) ≡ true = ap (λ (k : List ℕ). is_le (internal_cmp cmp (last_key [] q) k)) r.same ∙ not_gt_le (internal_cmp cmp (last_key [] q) x.key) last in
+    record {
+      key = r.key;
+      block = r.block ∙ block ∙ ap (λ (es : List Entry). done es) (sym named);
+      some = subst (λ (es : List Entry). 0 < length es) (sym named) (some_entries cmp before q tests);
+      keys = subst HaveKeys (sym named) (have_keys cmp before q passed);
+      within = subst (AllByRecursion (λ e. is_le (internal_cmp cmp e.key i.key) ≡ true)) (sym named) (all_within cmp i.key q total (rising cmp before q total passed) le);
+    }
+
+-- entries of the index name these blocks
+record NameAll (cmp : List ℕ → List ℕ → Ordering) (bytes : List ℕ) (es : List Entry) (blocks : List DataBlock) : Type 0 where
+  each : AllByRecursion (NamesBlock cmp bytes) es
+  whole : all_named bytes es ≡ entries_of blocks
+
+name_all : (cmp : List ℕ → List ℕ → Ordering) (bytes : List ℕ) (before below : Option (List ℕ)) (es : List Entry) (index : List IndexEntry) (blocks : List DataBlock) → IsTotalOrder cmp → index_reading bytes es ≡ Ok index → blocks_reading cmp before index ≡ Ok blocks → index_fits cmp below blocks ≡ true
+    → NameAll cmp bytes es blocks
+name_all cmp bytes before below [] index blocks total h k fits =
+    let none : [] ≡ index = ok_is [] index h in
+    record { each = tt; whole = ap entries_of (ok_is [] blocks (ap (blocks_reading cmp before) none ∙ k)) }
+name_all cmp bytes before below (e ∷ es) index blocks total h k fits =
+    let a = bind_ok (index_entry bytes e) (λ x. index_reading bytes es >>= λ xs. Ok (x ∷ xs)) index h in
+    let c = bind_ok (index_reading bytes es) (λ xs. Ok (a.0 ∷ xs)) index a.2 in
+    let r = read_block cmp before a.0 c.0 blocks (ap (blocks_reading cmp before) (ok_is (a.0 ∷ c.0) index c.2) ∙ k) in
+    let b : DataBlock = record { index_key = a.0.key; entries = r.entries } in
+    let f = both (is_between cmp below b) (index_fits cmp (Some a.0.key) r.others) (subst (λ (bs : List DataBlock). index_fits cmp below bs ≡ true) (sym r.same) fits) in
+    let g = both (is_above cmp below (first_key r.entries)) (not (is_gt (internal_cmp cmp (last_key [] r.entries) a.0.key))) f.0 in
+    let read = reads bytes e a.0 a.1 in
+    let more = name_all cmp bytes (key_behind before r.entries) (Some a.0.key) es c.0 r.others total c.1 r.behind f.1 in
+    record {
+      each = (names_block cmp bytes before e a.0 r.entries total read r.block r.tests g.1, more.each);
+      whole =
+          ap (λ (q : List Entry). q ++ all_named bytes es) (named_entries bytes e r.entries (read.block ∙ r.block))
+          ∙ ap (λ (q : List Entry). r.entries ++ q) more.whole
+          ∙ ap entries_of r.same;
+    }
+
+-- the index of a table that was checked
+pub indexes : (cmp : List ℕ → List ℕ → Ordering) (bytes : List ℕ) (named : List Entry) (index : List IndexEntry) (smallest largest : List ℕ) (x : Contents) → IsTotalOrder cmp → IsChecked cmp bytes named index smallest largest → contents_in cmp bytes ≡ x
+    → Indexes cmp x.bytes named x.entries
+indexes cmp bytes named index smallest largest x total k e =
+    let d = read_data cmp index k.blocks k.data_blocks in
+    let all = name_all cmp bytes None None named index k.blocks total k.index_entries d.read d.fits in
+    subst (λ (y : Contents). Indexes cmp y.bytes named y.entries) (sym (contents_are cmp bytes k.blocks (blocks_are cmp bytes named index smallest largest k)) ∙ e)
+    (record {
+      some = some_named named k.index_entries d.some;
+      named = all.each;
+      whole = all.whole;
+      rising = rising cmp None (entries_of k.blocks) total (all_tests cmp None index k.blocks d.read);
+    })
+  where
+    some_named : (es : List Entry) → index_reading bytes es ≡ Ok index → is_some_list index ≡ true → 0 < length es
+    some_named [] h some = let none : [] ≡ index = ok_is [] index h in absurd cc
+    some_named (e ∷ es) h some = omega arith
+
+-- ---- how the block is found again
+
+-- what is found on the way to a block that an index names
+record Found (bytes value : List ℕ) : Type 0 where
+  handle : BlockHandle
+  stored : List ℕ
+  contents : List ℕ
+  entries : List Entry
+  spelled : one_handle (handle_reading value) ≡ Ok handle
+  place : stored_at bytes handle ≡ Ok stored
+  tests : stored_reading stored ≡ Ok contents
+  block : block_reading contents ≡ Ok entries
+  whole : block_named bytes value ≡ Ok entries
+
+found : (bytes value : List ℕ) → IsOk (block_named bytes value) → Found bytes value
+found bytes value h = of_reading (block_named bytes value) refl h
+  where
+    of_reading : (r : Result (List Entry) Fault) → block_named bytes value ≡ r → IsOk r → Found bytes value
+    of_reading (Ok q) e ok =
+        let a = bind_ok (one_handle (handle_reading value)) (λ handle. stored_at bytes handle >>= λ there. block_in there) q (sym (block_named-by bytes value) ∙ e) in
+        let b = bind_ok (stored_at bytes a.0) (λ there. block_in there) q a.2 in
+        let d = bind_ok (stored_reading b.0) block_reading q b.2 in
+        record { handle = a.0; stored = b.0; contents = d.0; entries = q; spelled = a.1; place = b.1; tests = d.1; block = d.2; whole = e }
+    of_reading (Err d) e ok = absurd cc
+
+-- the handle that is read there
+same_handle : (bytes value : List ℕ) (f : Found bytes value) (o : HandleBehind) → handle_reading value ≡ Some o → o.handle ≡ f.handle
+same_handle bytes value f o h = alone o.rest (sym (ap one_handle h) ∙ f.spelled)
+  where
+    alone : (rest : List ℕ) → handle_alone o.handle rest ≡ Ok f.handle → o.handle ≡ f.handle
+    alone [] e = ok_is o.handle f.handle e
+    alone (b ∷ rest) e = absurd cc
+
+pub some_handle : (bytes value : List ℕ) → IsOk (block_named bytes value) → handle_reading value ≡ None → ⊥
+some_handle bytes value h none =
+    let f = found bytes value h in
+    let no : one_handle None ≡ Ok f.handle = sym (ap one_handle none) ∙ f.spelled in
+    absurd cc
+
+pub some_stored : (bytes value : List ℕ) (o : HandleBehind) (d : Fault) → IsOk (block_named bytes value) → handle_reading value ≡ Some o → stored_at bytes o.handle ≡ Err d → ⊥
+some_stored bytes value o d h e refused =
+    let f = found bytes value h in
+    let no : Err d ≡ done f.stored = sym refused ∙ ap (stored_at bytes) (same_handle bytes value f o e) ∙ f.place in
+    absurd cc
+
+-- the stored block that is found there
+pub record Stands (bytes value stored : List ℕ) : Type 0 where
+  pub contents : List ℕ
+  pub entries : List Entry
+  pub tests : stored_reading stored ≡ Ok contents
+  pub block : IsBlock contents entries
+  pub whole : block_named bytes value ≡ Ok entries
+
+pub stands : (bytes value stored : List ℕ) (o : HandleBehind) → IsOk (block_named bytes value) → handle_reading value ≡ Some o → stored_at bytes o.handle ≡ Ok stored → Stands bytes value stored
+stands bytes value stored o h e place =
+    let f = found bytes value h in
+    let same : f.stored ≡ stored = ok_is f.stored stored (sym f.place ∙ ap (stored_at bytes) (sym (same_handle bytes value f o e)) ∙ place) in
+    subst (Stands bytes value) same (record { contents = f.contents; entries = f.entries; tests = f.tests; block = reads_blocks.found f.contents f.entries f.block; whole = f.whole })
+
+-- ---- what is left of it all
+
+-- the entries from an internal key on, where these are what is left of a block from there on
+abbrev pub from_left : (List ℕ → List ℕ → Ordering) → List ℕ → List Entry → List Entry → List Entry
+from_left cmp target [] ahead = entries_from cmp target ahead
+from_left cmp target (e ∷ es) ahead = e ∷ (es ++ ahead)
+
+pub from_append : (cmp : List ℕ → List ℕ → Ordering) (target : List ℕ) (es ahead : List Entry) → entries_from cmp target (es ++ ahead) ≡ from_left cmp target (entries_from cmp target es) ahead
+from_append cmp target [] ahead = refl
+from_append cmp target (e ∷ es) ahead = by_test (is_lt (internal_cmp cmp e.key target)) (from_append cmp target es ahead)
+  where
+    by_test : (b : Bool) → entries_from cmp target (es ++ ahead) ≡ from_left cmp target (entries_from cmp target es) ahead
+        → cond b (entries_from cmp target (es ++ ahead)) (e ∷ (es ++ ahead)) ≡ from_left cmp target (cond b (entries_from cmp target es) (e ∷ es)) ahead
+    by_test true more = more
+    by_test false more = refl
+
+-- a block whose index key is below the internal key is below it whole
+pub passed_over : (cmp : List ℕ → List ℕ → Ordering) (bytes target : List ℕ) (i : Entry) (ahead : List Entry) → IsTotalOrder cmp → NamesBlock cmp bytes i → internal_cmp cmp i.key target ≡ Less → entries_from cmp target (entries_named bytes i ++ ahead) ≡ entries_from cmp target ahead
+passed_over cmp bytes target i ahead total n lt = of_entries (entries_named bytes i) n.within
+  where
+    of_entries : (es : List Entry) → AllByRecursion (λ e. is_le (internal_cmp cmp e.key i.key) ≡ true) es → entries_from cmp target (es ++ ahead) ≡ entries_from cmp target ahead
+    of_entries [] h = refl
+    of_entries (e ∷ es) h =
+        let below : internal_cmp cmp e.key target ≡ Less = le_lt_trans (internal_cmp-total total) e.key i.key target h.0 lt in
+        ap (λ (o : Ordering). cond (is_lt o) (entries_from cmp target (es ++ ahead)) (e ∷ (es ++ ahead))) below ∙ of_entries es h.1
+
+pub keys_from : (cmp : List ℕ → List ℕ → Ordering) (target : List ℕ) (q : List Entry) → HaveKeys q → HaveKeys (entries_from cmp target q)
+keys_from cmp target [] h = tt
+keys_from cmp target (e ∷ es) h = by_test (is_lt (internal_cmp cmp e.key target)) (keys_from cmp target es h.1)
+  where
+    by_test : (b : Bool) → HaveKeys (entries_from cmp target es) → HaveKeys (cond b (entries_from cmp target es) (e ∷ es))
+    by_test true more = more
+    by_test false more = h
+
+pub rising_from : (cmp : List ℕ → List ℕ → Ordering) (target : List ℕ) (q : List Entry) → IsRising cmp q → IsRising cmp (entries_from cmp target q)
+rising_from cmp target [] h = tt
+rising_from cmp target (e ∷ es) h = by_test (is_lt (internal_cmp cmp e.key target)) (rising_from cmp target es h.1)
+  where
+    by_test : (b : Bool) → IsRising cmp (entries_from cmp target es) → IsRising cmp (cond b (entries_from cmp target es) (e ∷ es))
+    by_test true more = more
+    by_test false more = h
+
+-- ---- a walk within a table
+
+-- What is left of a block from an internal key on, and the index behind it, where the entries from there on are these.
+pub record Seeks (cmp : List ℕ → List ℕ → Ordering) (bytes target : List ℕ) (block index total : List Entry) : Type 0 where
+  pub keys : HaveKeys block
+  pub named : AllByRecursion (NamesBlock cmp bytes) index
+  pub reached : from_left cmp target block (all_named bytes index) ≡ total
+
+pub seek_begins : (cmp : List ℕ → List ℕ → Ordering) (bytes target : List ℕ) (block index total : List Entry) → IsLeft cmp bytes block index → block ++ all_named bytes index ≡ total
+    → Seeks cmp bytes target (entries_from cmp target block) index (entries_from cmp target total)
+seek_begins cmp bytes target block index total k same = record {
+  keys = keys_from cmp target block k.keys;
+  named = k.named;
+  reached = sym (from_append cmp target block (all_named bytes index)) ∙ ap (entries_from cmp target) same;
+}
+
+-- the first of the index, where nothing is left of the block
+record Next (cmp : List ℕ → List ℕ → Ordering) (bytes target : List ℕ) (i : Entry) (is total : List Entry) : Type 0 where
+  first : NamesBlock cmp bytes i
+  behind : AllByRecursion (NamesBlock cmp bytes) is
+  reached : entries_from cmp target (entries_named bytes i ++ all_named bytes is) ≡ total
+
+next : (cmp : List ℕ → List ℕ → Ordering) (bytes target : List ℕ) (block : List Entry) (i : Entry) (is total : List Entry) → Seeks cmp bytes target block (i ∷ is) total → length block ≡ 0 → Next cmp bytes target i is total
+next cmp bytes target block i is total k none = record {
+  first = k.named.0;
+  behind = k.named.1;
+  reached = sym (ap (λ (b : List Entry). from_left cmp target b (all_named bytes (i ∷ is))) (nil_from_length block none)) ∙ k.reached;
+}
+
+-- its block is passed over
+pub seek_skips : (cmp : List ℕ → List ℕ → Ordering) (bytes target : List ℕ) (block index total : List Entry) → IsTotalOrder cmp → Seeks cmp bytes target block index total → length block ≡ 0 → first_is_below cmp target index ≡ true → Seeks cmp bytes target block (drop 1 index) total
+seek_skips cmp bytes target block [] total laws k none below = absurd cc
+seek_skips cmp bytes target block (i ∷ is) total laws k none below =
+    let n = next cmp bytes target block i is total k none in
+    subst (λ (b : List Entry). Seeks cmp bytes target b is total) (sym (nil_from_length block none))
+    (record { keys = tt; named = n.behind; reached = sym (passed_over cmp bytes target i (all_named bytes is) laws n.first (less_is (internal_cmp cmp i.key target) below)) ∙ n.reached })
+
+-- its block is walked
+pub seek_enters : (cmp : List ℕ → List ℕ → Ordering) (bytes target : List ℕ) (block index total : List Entry) (value : List ℕ) (q : List Entry) → Seeks cmp bytes target block index total → length block ≡ 0
+    → option_map (λ e. e.value) (slice_get index 0) ≡ Some value → block_named bytes value ≡ Ok q → Seeks cmp bytes target (entries_from cmp target q) (drop 1 index) total
+seek_enters cmp bytes target block [] total value q k none first h = absurd (none-some value first)
+seek_enters cmp bytes target block (i ∷ is) total value q k none first h =
+    let n = next cmp bytes target block i is total k none in
+    let here : entries_named bytes i ≡ q = named_entries bytes i q (ap (block_named bytes) (same_Some i.value value first) ∙ h) in
+    subst (λ (es : List Entry). Seeks cmp bytes target (entries_from cmp target es) is total) here (record {
+      keys = keys_from cmp target (entries_named bytes i) n.first.keys;
+      named = n.behind;
+      reached = sym (from_append cmp target (entries_named bytes i) (all_named bytes is)) ∙ n.reached;
+    })
+
+-- the entries from there on are reached
+pub record Reached (cmp : List ℕ → List ℕ → Ordering) (bytes : List ℕ) (block index total : List Entry) : Type 0 where
+  pub left : IsLeft cmp bytes block index
+  pub whole : block ++ all_named bytes index ≡ total
+
+pub seek_ends : (cmp : List ℕ → List ℕ → Ordering) (bytes target : List ℕ) (block index total : List Entry) → Seeks cmp bytes target block index total → IsRising cmp total → (block ≡ [] → index ≡ []) → Reached cmp bytes block index total
+seek_ends cmp bytes target block index total k rises ended =
+    let whole : block ++ all_named bytes index ≡ total = of_block block ended k.reached in
+    record { left = record { keys = k.keys; named = k.named; rising = subst (IsRising cmp) (sym whole) rises; ended = ended }; whole = whole }
+  where
+    of_block : (block : List Entry) → (block ≡ [] → index ≡ []) → from_left cmp target block (all_named bytes index) ≡ total → block ++ all_named bytes index ≡ total
+    of_block [] ended h =
+        let none : index ≡ [] = ended refl in
+        ap (all_named bytes) none ∙ sym (ap (λ (q : List Entry). entries_from cmp target (all_named bytes q)) none) ∙ h
+    of_block (e ∷ es) ended h = h
+
+-- ---- the walk's other facts
+
+pub named_keys : (cmp : List ℕ → List ℕ → Ordering) (bytes : List ℕ) (index : List Entry) → AllByRecursion (NamesBlock cmp bytes) index → HaveKeys index
+named_keys cmp bytes [] h = tt
+named_keys cmp bytes (i ∷ is) h = (h.0.key, named_keys cmp bytes is h.1)
+
+pub none_valid : (b : Bool) (q : List Entry) → (0 < length q → b ≡ true) → b ≡ false → length q ≡ 0
+none_valid b [] some h = refl
+none_valid b (e ∷ q) some h = let yes : b ≡ true = some (omega arith) in absurd cc
+
+pub some_valid : (b : Bool) (q : List Entry) → (b ≡ true → 0 < length q) → b ≡ true → q ≡ [] → ⊥
+some_valid b q some h none = omega (arith, some h, ap length none)

@@ -1,5 +1,5 @@
 -- What is kept of a table that was checked.
-use Rattle.std.specs.Prelude.{◌≡◌, ℕ, List, [], None, Ok}
+use Rattle.std.specs.Prelude.{◌≡◌, ℕ, List, [], Ok}
 use Rattle.std.specs.List.{AllByRecursion}
 use Rattle.std.specs.declared.cmp.Ordering.{Ordering}
 use Rattle.block.specs.Piece.{Entry}
@@ -7,23 +7,17 @@ use Rattle.block.specs.Building.{last_key}
 use Rattle.ikey.specs.Key.{internal_key_reading}
 use Rattle.table.specs.ReadingEntries.{first_key}
 use Rattle.table.specs.ReadingIndex.{IndexEntry, index_reading}
-use Rattle.table.specs.Reading.{DataBlock, index_in, blocks_reading, data_reading, entries_of}
+use Rattle.table.specs.Reading.{DataBlock, index_in, data_reading, entries_of}
 
--- the bytes have an index of these entries, and data blocks from the first of these keys to the last
-pub record IsChecked (cmp : List ℕ → List ℕ → Ordering) (bytes : List ℕ) (index : List IndexEntry) (smallest largest : List ℕ) : Type 0 where
-  pub named : List Entry
+-- the bytes have an index block of these entries, which stand for this index, and data blocks from the first of these
+-- keys to the last
+pub record IsChecked (cmp : List ℕ → List ℕ → Ordering) (bytes : List ℕ) (named : List Entry) (index : List IndexEntry) (smallest largest : List ℕ) : Type 0 where
   pub blocks : List DataBlock
   pub index_block : index_in bytes ≡ Ok named
   pub index_entries : index_reading bytes named ≡ Ok index
   pub data_blocks : data_reading cmp index ≡ Ok blocks
   pub first : smallest ≡ first_key (entries_of blocks)
   pub last : largest ≡ last_key [] (entries_of blocks)
-
--- what the data blocks that an index names hold
-pub record Names (cmp : List ℕ → List ℕ → Ordering) (index : List IndexEntry) (entries : List Entry) : Type 0 where
-  pub blocks : List DataBlock
-  pub read : blocks_reading cmp None index ≡ Ok blocks
-  pub whole : entries_of blocks ≡ entries
 
 -- the key of each entry is an internal key
 abbrev pub HaveKeys : List Entry → Type 0

@@ -11,6 +11,6 @@ pub mod Reading
 pub mod Placed
 pub mod Checked
 pub mod ReadingCursors
-pub mod TableEntries
+pub mod Walking
 pub mod ReadingBack
 pub mod ReadingTables

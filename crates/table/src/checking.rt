@@ -41,7 +41,7 @@ pub fn reads_tables<C: Comparator>()
 {}
 
 /// The stored block that a handle points at, where it lies before the footer.
-fn stored_at(bytes: &[u8], handle: BlockHandle) -> Result<&[u8], Fault>
+pub(crate) fn stored_at(bytes: &[u8], handle: BlockHandle) -> Result<&[u8], Fault>
     ensures reading { result_map_both (λ stored. stored.now) (λ e. e) result ≡ stored_at bytes.now handle }
     ensures long { IfOk result (λ stored. 5 ≤ length stored.now) }
 {
@@ -58,7 +58,7 @@ fn stored_at(bytes: &[u8], handle: BlockHandle) -> Result<&[u8], Fault>
 }
 
 /// The block that is stored in bytes.
-pub(crate) fn block_in(stored: &[u8]) -> Result<SoundBlock<'_>, Fault>
+fn block_in(stored: &[u8]) -> Result<SoundBlock<'_>, Fault>
     requires { 5 ≤ length stored.now }
     ensures { Gives (λ block. block.entries) result (block_in stored.now) }
 {
@@ -205,7 +205,7 @@ fn read<C: Comparator>(alloc: Global, bytes: &[u8]) -> Result<SoundTable<'_, C>,
     let block = index_in(bytes)?;
     let index = placed_all(alloc, bytes, &block)?;
     let bounds = bounds_of_all::<C>(alloc, &index)?;
-    Ok(SoundTable::of(bytes, index, bounds))
+    Ok(SoundTable::of(bytes, block, index, bounds))
 }
 
 /// Reads bytes as a table: one list of entries, whose internal keys rise strictly.

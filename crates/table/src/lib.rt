@@ -8,11 +8,12 @@ mod flushed;
 mod index_entry;
 mod kept_key;
 mod laws;
+mod naming;
 mod options;
 mod placed;
 mod sound_table;
 mod table_cursor;
-mod table_entry;
+mod walking;
 
 pub use builder::TableBuilder;
 pub use checking::{check, reads_blocks, reads_tables};
@@ -26,3 +27,5 @@ pub use table_cursor::TableCursor;
 mod reading_tests;
 #[cfg(test)]
 mod tests;
+#[cfg(test)]
+mod walking_tests;

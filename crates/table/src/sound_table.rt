@@ -7,6 +7,7 @@ ghost use Rattle.table.specs.Reading.{contents_reading};
 
 use crate::kept_key::KeptKey;
 use crate::placed::Placed;
+use block::SoundBlock;
 use coding::Fault;
 use ikey::{Comparator, InternalKey, KeyBuf};
 use std::alloc::Global;
@@ -24,6 +25,7 @@ pub(crate) struct Bounds {
 #[derive(Drop)]
 pub struct SoundTable<'a, C: Comparator> {
     bytes: &'a [u8],
+    block: SoundBlock<'a>,
     index: Vec<Placed<'a>>,
     bounds: Bounds,
     order: PhantomData<C>,
@@ -38,20 +40,27 @@ impl<'a, C: Comparator> Model for SoundTable<'a, C> {
 
     ghost view = { λ t. contents_in C.cmp t.bytes.now };
 
-    ghost invariant = { λ t. IsChecked C.cmp t.bytes.now (index_of t.index.items) t.bounds.smallest t.bounds.largest };
+    ghost invariant = { λ t. IsChecked C.cmp t.bytes.now t.block.entries (index_of t.index.items) t.bounds.smallest t.bounds.largest };
 }
 
 impl<'a, C: Comparator> SoundTable<'a, C> {
-    ghost use Rattle.table.specs.Checked.{IsChecked, Names};
+    ghost use Rattle.table.specs.Checked.{IsChecked};
+    ghost use Rattle.table.specs.Walking.{Indexes};
     ghost use Rattle.table.specs.Placed.{index_of};
 
-    /// A table of these bytes, whose index and bounds these are.
-    pub(crate) fn of(bytes: &'a [u8], index: Vec<Placed<'a>>, bounds: Bounds) -> SoundTable<'a, C>
-        requires { IsChecked C.cmp bytes.now (index_of index.items) bounds.smallest bounds.largest }
+    /// A table of these bytes, whose index block, index and bounds these are.
+    pub(crate) fn of(
+        bytes: &'a [u8],
+        block: SoundBlock<'a>,
+        index: Vec<Placed<'a>>,
+        bounds: Bounds,
+    ) -> SoundTable<'a, C>
+        requires { IsChecked C.cmp bytes.now block.entries (index_of index.items) bounds.smallest bounds.largest }
         ensures { contents_reading C.cmp bytes.now ≡ Ok result }
     {
         SoundTable {
             bytes,
+            block,
             index,
             bounds,
             order: PhantomData,
@@ -65,11 +74,11 @@ impl<'a, C: Comparator> SoundTable<'a, C> {
         self.bytes
     }
 
-    /// The index: where the data blocks lie.
-    pub(crate) fn index(&self) -> &[Placed<'a>]
-        ensures { Names C.cmp (index_of result.now) self.now.entries }
+    /// The index block: its entries name the data blocks.
+    pub(crate) fn index_block(&self) -> &SoundBlock<'a>
+        ensures { Indexes C.cmp self.now.bytes result.now.entries self.now.entries }
     {
-        &self.index
+        &self.block
     }
 
     /// The key of the first entry.

@@ -1,91 +1,91 @@
 //! The cursor over a table's entries.
 
-ghost use Rattle.std.specs.Prelude.{◌≡◌, ◌<◌, ◌++◌, ◌↔◌, List, length, drop, slice_get, IsTrue, OnOk, OnErr, IsOkUnless, Some, Ok};
+ghost use Rattle.std.specs.Prelude.{◌≡◌, ◌<◌, ◌↔◌, List, length, drop, slice_get, IsTrue, IfOk, IfErr, OnOk, OnErr, IsOkUnless, Some, Ok};
 ghost use Rattle.std.specs.Option.{option_map};
 ghost use Rattle.coding.specs.Answers.{Gives, fault};
 ghost use Rattle.coding.specs.declared.fault.FaultName.TheVariants.{Memory};
-ghost use Rattle.table.specs.ReadingCursors.{first_is_below};
-ghost use Rattle.table.specs.Checked.{HaveKeys};
-ghost use Rattle.table.specs.TableEntries.{entries_of};
+ghost use Rattle.table.specs.ReadingCursors.{entries_from, LeavesFrom};
 
-use crate::checking::block_in;
 use crate::cursor::Cursor;
+use crate::naming::block_named;
 use crate::sound_table::SoundTable;
-use crate::table_entry::TableEntry;
-use block::{BlockCursor, SoundBlock};
+use crate::walking::{first_key, is_below, walk_to};
+use block::BlockCursor;
 use coding::Fault;
-use ikey::{Comparator, InternalKey, KeyBuf};
+use ikey::{Comparator, InternalKey};
 use std::alloc::Global;
-use std::cmp::Ordering;
-use std::collections::VecDeque;
 use std::marker::{Model, PhantomData};
 
 /// A place in a table, seen as the entries that are still to come.
+///
+/// It lends the table's bytes, and owns those of two keys: one of a data block, and one of the index.
 #[derive(Drop)]
 pub struct TableCursor<'a, C: Comparator> {
-    entries: VecDeque<TableEntry<'a>>,
+    alloc: Global,
+    bytes: &'a [u8],
+    /// What is left of the data block that is being walked.
+    block: BlockCursor<'a>,
+    /// The entries of the index for the data blocks behind it.
+    index: BlockCursor<'a>,
     order: PhantomData<C>,
 }
 
 impl<'a, C: Comparator> Model for TableCursor<'a, C> {
-    ghost use Rattle.std.specs.Prelude.{List};
+    ghost use Rattle.std.specs.Prelude.{List, ◌++◌};
     ghost use Rattle.block.specs.Piece.{Entry};
-    ghost use Rattle.table.specs.ReadingCursors.{IsRising};
-    ghost use Rattle.table.specs.TableEntries.{entries_of};
+    ghost use Rattle.table.specs.Walking.{all_named, IsLeft};
 
     ghost Value = { List Entry };
 
-    ghost view = { λ t. entries_of t.entries.items };
+    ghost view = { λ t. t.block ++ all_named t.bytes.now t.index };
 
-    ghost invariant = { λ t. IsRising C.cmp (entries_of t.entries.items) };
-}
-
-/// Appends the entries of a block, whose keys are internal keys.
-fn push_block<'a>(
-    alloc: Global,
-    block: &SoundBlock<'a>,
-    out: &mut VecDeque<TableEntry<'a>>,
-) -> Result<(), Fault>
-    requires { HaveKeys block.now.entries }
-    ensures ok { OnOk result (entries_of out.new.items ≡ entries_of out.old.items ++ block.now.entries) }
-    ensures memory { Gives (λ none. none) result (Ok tt) }
-{
-    let mut cursor = BlockCursor::new(alloc, block)?;
-    while cursor.valid() {
-        let value = cursor.value();
-        let key = KeyBuf::of(alloc, InternalKey::parse(cursor.key())?)?;
-        out.push_back(TableEntry { key, value })?;
-        cursor.advance()?;
-    }
-    Ok(())
+    ghost invariant = { λ t. IsLeft C.cmp t.bytes.now t.block t.index };
 }
 
 impl<'a, C: Comparator> TableCursor<'a, C> {
     /// All entries of a table.
     ///
-    /// Refused only for want of memory: it takes that of the keys.
+    /// Refused only for want of memory: it takes that of two keys.
     pub fn new(alloc: Global, table: &SoundTable<'a, C>) -> Result<TableCursor<'a, C>, Fault>
         ensures { Gives (λ cursor. cursor) result (Ok table.now.entries) }
     {
-        let mut entries = VecDeque::new(alloc);
-        for placed in table.index() {
-            let block = block_in(placed.stored)?;
-            push_block(alloc, &block, &mut entries)?;
-        }
+        let bytes = table.bytes();
+        let mut index = BlockCursor::new(alloc, table.index_block())?;
+        let block = BlockCursor::new(alloc, &block_named(bytes, index.value()))?;
+        index.advance()?;
         Ok(TableCursor {
-            entries,
+            alloc,
+            bytes,
+            block,
+            index,
             order: PhantomData,
         })
     }
 
-    /// Whether the first entry that is still to come is below an internal key.
-    fn is_below(&self, target: InternalKey<'_>) -> bool
-        ensures { result ≡ first_is_below C.cmp target.entry.bytes.now self.now }
+    /// The first entry at or above an internal key, and those behind it.
+    ///
+    /// A data block whose index key is below the internal key is passed over whole. Refused only for want of memory.
+    fn sought(&self, target: InternalKey<'_>) -> Result<TableCursor<'a, C>, Fault>
+        ensures from { IfOk result (λ cursor. cursor ≡ entries_from C.cmp target.entry.bytes.now self.now) }
+        ensures memory { IfErr result (λ e. e ≡ fault Memory) }
     {
-        match self.entries.front() {
-            Some(first) => first.key.as_key().compare::<C>(&target) == Ordering::Less,
-            None => false,
+        let mut block = self.block.copy(self.alloc)?;
+        let mut index = self.index.copy(self.alloc)?;
+        walk_to::<C>(&mut block, target)?;
+        while !block.valid() && index.valid() {
+            if !is_below::<C>(&index, target) {
+                block = BlockCursor::new(self.alloc, &block_named(self.bytes, index.value()))?;
+                walk_to::<C>(&mut block, target)?;
+            }
+            index.advance()?;
         }
+        Ok(TableCursor {
+            alloc: self.alloc,
+            bytes: self.bytes,
+            block,
+            index,
+            order: PhantomData,
+        })
     }
 }
 
@@ -93,33 +93,40 @@ impl<'a, C: Comparator> Cursor<'a, C> for TableCursor<'a, C> {
     ghost to_come = { λ c. c };
 
     fn valid(&self) -> bool {
-        !self.entries.is_empty()
+        self.block.valid()
     }
 
     fn key(&self) -> InternalKey<'_> {
-        match self.entries.front() {
-            Some(first) => first.key.as_key(),
-            None => unreachable!(),
-        }
+        first_key(&self.block)
     }
 
     fn value(&self) -> &'a [u8] {
-        match self.entries.front() {
-            Some(first) => first.value,
-            None => unreachable!(),
-        }
+        self.block.value()
     }
 
-    /// Takes the first entry off. It takes no memory today.
+    /// Takes the first entry off. Refused for want of memory alone, and then nothing is taken off.
     fn advance(&mut self) -> Result<(), Fault> {
-        self.entries.pop_front();
+        if !self.block.is_last() || !self.index.valid() {
+            return self.block.advance();
+        }
+        let next = BlockCursor::new(self.alloc, &block_named(self.bytes, self.index.value()))?;
+        self.index.advance()?;
+        self.block = next;
         Ok(())
     }
 
-    /// Takes off the entries below an internal key. It takes no memory today.
-    fn seek(&mut self, target: InternalKey<'_>) -> Result<(), Fault> {
-        while self.is_below(target) {
-            self.entries.pop_front();
+    /// Takes off the entries below an internal key. It never goes back.
+    ///
+    /// Refused for want of memory alone, and then nothing is taken off. It takes no memory where the first entry isn't
+    /// below the internal key, and else that of two keys, and of one for each data block that it looks into.
+    fn seek(&mut self, target: InternalKey<'_>) -> Result<(), Fault>
+        ensures ok { OnOk result (self.new ≡ entries_from C.cmp target.entry.bytes.now self.old) }
+        ensures unchanged { OnErr result (self.new ≡ self.old) }
+        ensures err { OnErr result (LeavesFrom C.cmp target.entry.bytes.now self.old self.new) }
+        ensures memory { IsOkUnless result (fault Memory) }
+    {
+        if is_below::<C>(&self.block, target) {
+            *self = self.sought(target)?;
         }
         Ok(())
     }

@@ -15,5 +15,5 @@ returns g c =
     let none : front ++ users_of (index_of (drop c.loop-entry.entry-index items)) ≡ front =
     ap (λ (ps : List Placed). front ++ users_of (index_of ps)) (past_end items c.loop-entry.entry-index c.loop-entry-test.false) ∙ append-nil front in
     ap (λ (us : List (List ℕ)). done us)
-    (ap (λ (x : Contents). x.index_users) (sym c.self.view_is) ∙ users_are g.C.Comparator.cmp t.bytes.now (index_of t.index.items) t.bounds.smallest t.bounds.largest c.self.invariant
+    (ap (λ (x : Contents). x.index_users) (sym c.self.view_is) ∙ users_are g.C.Comparator.cmp t.bytes.now t.block.entries (index_of t.index.items) t.bounds.smallest t.bounds.largest c.self.invariant
     ∙ ap (λ (ps : List Placed). users_of (index_of ps)) (sym c.deref-entry-items.ensures.value) ∙ sym c.loop-entry.invariant ∙ none)

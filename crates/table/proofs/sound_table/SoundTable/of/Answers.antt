@@ -6,4 +6,4 @@ pub returns : goal.returns
 returns g c =
     let cmp = g.C.Comparator.cmp in
     let k = c.requires in
-    contents_read cmp c.args.bytes.now k.blocks (blocks_are cmp c.args.bytes.now (index_of c.args.index.items) c.args.bounds.smallest c.args.bounds.largest k)
+    contents_read cmp c.args.bytes.now k.blocks (blocks_are cmp c.args.bytes.now c.args.block.entries (index_of c.args.index.items) c.args.bounds.smallest c.args.bounds.largest k)

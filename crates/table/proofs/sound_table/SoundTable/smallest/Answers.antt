@@ -12,7 +12,7 @@ returns g c =
     let cmp = g.C.Comparator.cmp in
     let k = c.self.invariant in
     let t = c.self.inside in
-    let blocks = blocks_are cmp t.bytes.now (index_of t.index.items) t.bounds.smallest t.bounds.largest k in
+    let blocks = blocks_are cmp t.bytes.now t.block.entries (index_of t.index.items) t.bounds.smallest t.bounds.largest k in
     let same : c.args.self.now.entries ≡ entries_of k.blocks = ap (λ (x : Contents). x.entries) (sym c.self.view_is ∙ contents_are cmp t.bytes.now k.blocks blocks) in
     let some = some_entry cmp (index_of t.index.items) k.blocks k.data_blocks in
     ap (λ (x : List ℕ). Some x) (c.as_key.ensures ∙ k.first) ∙ sym (first_is (entries_of k.blocks) some)

@@ -1,0 +1,53 @@
+-- What is left of a table that is being walked: entries of a data block, and behind them the index's other entries.
+use Rattle.std.specs.Prelude.{◌≡◌, ℕ, ◌<◌, true, List, [], ◌++◌, length, Result, Ok}
+use Rattle.std.specs.List.{flat_map, AllByRecursion}
+use Rattle.std.specs.Ordering.{is_le}
+use Rattle.std.specs.declared.cmp.Ordering.{Ordering}
+use Rattle.coding.specs.Answers.{◌>>=◌}
+use Rattle.coding.specs.declared.fault.Fault.{Fault}
+use Rattle.block.specs.Piece.{Entry}
+use Rattle.ikey.specs.Key.{internal_key_reading}
+use Rattle.ikey.specs.Order.{internal_cmp}
+use Rattle.frame.specs.Handle.{handle_reading}
+use Rattle.table.specs.ReadingIndex.{one_handle, stored_at, block_in}
+use Rattle.table.specs.Reading.{ok_or}
+use Rattle.table.specs.ReadingCursors.{IsRising}
+use Rattle.table.specs.Checked.{HaveKeys}
+
+-- the entries of the data block whose handle these bytes are, or the first test that it fails
+unfoldable pub block_named : List ℕ → List ℕ → Result (List Entry) Fault
+block_named bytes value = do
+  handle ← one_handle (handle_reading value)
+  stored ← stored_at bytes handle
+  block_in stored
+
+-- the entries of the data block that an entry of the index names, where it names one
+unfoldable pub entries_named : List ℕ → Entry → List Entry
+entries_named bytes i = ok_or [] (block_named bytes i.value)
+
+-- the entries of the data blocks that entries of the index name, one behind the other
+abbrev pub all_named : List ℕ → List Entry → List Entry
+all_named bytes index = flat_map (entries_named bytes) index
+
+-- An entry of the index names a data block. The block has an entry, its keys are internal keys, and none of them is
+-- above the index key.
+pub record NamesBlock (cmp : List ℕ → List ℕ → Ordering) (bytes : List ℕ) (i : Entry) : Type 0 where
+  pub key : internal_key_reading i.key ≡ Ok i.key
+  pub block : block_named bytes i.value ≡ Ok (entries_named bytes i)
+  pub some : 0 < length (entries_named bytes i)
+  pub keys : HaveKeys (entries_named bytes i)
+  pub within : AllByRecursion (λ e. is_le (internal_cmp cmp e.key i.key) ≡ true) (entries_named bytes i)
+
+-- these entries of the index name the data blocks of the table that has these entries
+pub record Indexes (cmp : List ℕ → List ℕ → Ordering) (bytes : List ℕ) (index entries : List Entry) : Type 0 where
+  pub some : 0 < length index
+  pub named : AllByRecursion (NamesBlock cmp bytes) index
+  pub whole : all_named bytes index ≡ entries
+  pub rising : IsRising cmp entries
+
+-- What is left rises strictly, and nothing is left of a data block only where no other block is.
+pub record IsLeft (cmp : List ℕ → List ℕ → Ordering) (bytes : List ℕ) (block index : List Entry) : Type 0 where
+  pub keys : HaveKeys block
+  pub named : AllByRecursion (NamesBlock cmp bytes) index
+  pub rising : IsRising cmp (block ++ all_named bytes index)
+  pub ended : block ≡ [] → index ≡ []

@@ -1,0 +1,23 @@
+//! The data blocks that an index names.
+
+ghost use Rattle.std.specs.Prelude.{◌≡◌, Ok, IsOk};
+ghost use Rattle.table.specs.Walking.{block_named};
+
+use crate::checking::stored_at;
+use block::{SoundBlock, known};
+use frame::{BlockHandle, known_contents};
+
+/// The data block whose handle this value of the index is, in a table that was checked. Nothing is tested again, and no
+/// memory is taken.
+pub(crate) fn block_named<'a>(bytes: &'a [u8], value: &[u8]) -> SoundBlock<'a>
+    requires { IsOk (block_named bytes.now value.now) }
+    ensures { block_named bytes.now value.now ≡ Ok result.entries }
+{
+    let Some(found) = BlockHandle::read(value) else {
+        unreachable!();
+    };
+    let Ok(stored) = stored_at(bytes, found.handle) else {
+        unreachable!();
+    };
+    known(known_contents(stored))
+}

@@ -79,13 +79,16 @@ pub struct Work {
 #[derive(Clone, Copy)]
 struct Figure {
     work: Work,
+    /// How often a round did the work.
+    times: u32,
     time: Duration,
 }
 
 impl Figure {
     /// The speed in MiB a second.
     fn speed(&self) -> u128 {
-        (self.work.bytes as u128 * 1_000_000_000 >> 20) / self.nanos()
+        (self.work.bytes as u128 * 1_000_000_000 >> 20).saturating_mul(u128::from(self.times))
+            / self.nanos()
     }
 
     /// The time in nanoseconds, at least 1.
@@ -103,7 +106,8 @@ impl fmt::Display for Figure {
             write!(f, " {:>7} MiB/s", self.speed())?;
         }
         if self.work.entries > 0 {
-            let tenths = self.nanos().saturating_mul(10) / self.work.entries as u128;
+            let tenths = self.nanos().saturating_mul(10)
+                / (self.work.entries as u128 * u128::from(self.times.max(1)));
             write!(
                 f,
                 " {:>5}.{} ns each of {}",
@@ -157,16 +161,18 @@ impl Figures {
             time = time.min(start.elapsed(clock)?);
             self.folded = self.folded.rotate_left(1) ^ given;
         }
-        self.taken.push(Figure { work, time })?;
+        let times = 1;
+        self.taken.push(Figure { work, times, time })?;
         Ok(())
     }
 
-    /// Does some work as `take` does, each time of something that is made before the clock starts. A run also gives what
-    /// it made, whose memory is given back when the time is taken.
+    /// Does some work as `take` does, in each round so many times, and of something that is made before the clock starts. A
+    /// run also gives what it made, whose memory is given back when the time is taken.
     pub fn take_of<T: Drop, G: Drop, M: FnMut() -> Result<T>, F: FnMut(T) -> Result<(u32, G)>>(
         &mut self,
         clock: &impl Clock,
         work: Work,
+        times: u32,
         mut make: M,
         mut run: F,
     ) -> Result<()>
@@ -185,7 +191,7 @@ impl Figures {
             drop(made);
             self.folded = self.folded.rotate_left(1) ^ given;
         }
-        self.taken.push(Figure { work, time })?;
+        self.taken.push(Figure { work, times, time })?;
         Ok(())
     }
 

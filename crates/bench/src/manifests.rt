@@ -33,18 +33,11 @@ struct Manifest {
     records: Vec<Vec<u8>>,
     /// How many files its edits put in.
     files: u64,
+    /// How often a round goes over it.
+    times: u32,
 }
 
 impl Manifest {
-    /// The manifest of these records, which put so many files in.
-    fn of(alloc: Global, records: Vec<Vec<u8>>, files: u64) -> Result<Manifest> {
-        Ok(Manifest {
-            log: log_of(alloc, &records)?,
-            records,
-            files,
-        })
-    }
-
     /// Work over all of it.
     fn over(&self, call: Call) -> Work {
         Work {
@@ -62,29 +55,46 @@ struct Decoded {
     ghost levels: { HasLevels (edit_in edit) },
 }
 
-/// Takes the figures of manifests of so many new files, and of a tenth of them: all in one record, and a record for each.
+/// Takes the figures of manifests of so many new files, and of manifests of a tenth of them, ten times over, so that a round
+/// is as much work: all files in one record, and a record for each.
 pub fn measure(clock: &impl Clock, alloc: Global, files: u64, figures: &mut Figures) -> Result<()> {
-    for count in [files / 10, files] {
-        let fields = fields(alloc, count)?;
-        let mut joined = Vec::new(alloc);
-        for field in &fields {
-            joined.extend_from_slice(field)?;
-        }
-        let one = Manifest::of(alloc, vec![in alloc; joined]?, count)?;
-        measure_read(clock, alloc, &one, [Call::Records, Call::Decode], figures)?;
-        measure_applied(clock, alloc, &one, Call::Applied, figures)?;
-        measure_version(clock, alloc, &one, figures)?;
-        let many = Manifest::of(alloc, fields, count)?;
-        measure_read(
-            clock,
-            alloc,
-            &many,
-            [Call::ManyRecords, Call::ManyDecode],
-            figures,
-        )?;
-        measure_applied(clock, alloc, &many, Call::ManyApplied, figures)?;
-    }
-    Ok(())
+    measure_both(clock, alloc, files / 10, 10, figures)?;
+    measure_both(clock, alloc, files, 1, figures)
+}
+
+/// Takes the figures of manifests of so many new files: all in one record, and a record for each.
+fn measure_both(
+    clock: &impl Clock,
+    alloc: Global,
+    files: u64,
+    times: u32,
+    figures: &mut Figures,
+) -> Result<()> {
+    let fields = fields(alloc, files)?;
+    let joined = vec![in alloc; joined(alloc, &fields)?]?;
+    let one = Manifest {
+        log: log_of(alloc, &joined)?,
+        records: joined,
+        files,
+        times,
+    };
+    measure_read(clock, alloc, &one, [Call::Records, Call::Decode], figures)?;
+    measure_applied(clock, alloc, &one, Call::Applied, figures)?;
+    measure_version(clock, alloc, &one, figures)?;
+    let many = Manifest {
+        log: log_of(alloc, &fields)?,
+        records: fields,
+        files,
+        times,
+    };
+    measure_read(
+        clock,
+        alloc,
+        &many,
+        [Call::ManyRecords, Call::ManyDecode],
+        figures,
+    )?;
+    measure_applied(clock, alloc, &many, Call::ManyApplied, figures)
 }
 
 /// Takes the figures of a manifest's records read, and of its edits read.
@@ -99,16 +109,16 @@ fn measure_read(
     figures.take_of(
         clock,
         manifest.over(reading),
+        manifest.times,
         || Ok(()),
-        |_| {
-            let records = records(alloc, &manifest.log)?;
-            Ok((number_of(&records), records))
-        },
+        |_| read_all(alloc, manifest),
     )?;
-    figures.take(
+    figures.take_of(
         clock,
         manifest.over(decoding),
-        || decode_all(alloc, &manifest.records),
+        manifest.times,
+        || Ok(()),
+        |_| decode_all(alloc, manifest),
     )
 }
 
@@ -124,11 +134,9 @@ fn measure_applied(
     figures.take_of(
         clock,
         manifest.over(call),
-        || edits_of(alloc, &manifest.records),
-        |edits| {
-            let version = applied(alloc, edits)?;
-            Ok((folded(&version), version))
-        },
+        manifest.times,
+        || sources_of(alloc, manifest),
+        |sources| applied_all(alloc, sources),
     )
 }
 
@@ -140,36 +148,61 @@ fn measure_version(
     manifest: &Manifest,
     figures: &mut Figures,
 ) -> Result<()> {
-    let empty = Version::empty(alloc);
-    for record in &manifest.records {
-        let edit = VersionEdit::decode(alloc, record)?;
+    for decoded in &edits_of(alloc, &manifest.records)? {
         figures.take_of(
             clock,
             manifest.over(Call::Apply),
+            manifest.times,
             || Ok(()),
-            |_| {
-                let version = empty.apply::<Bytewise>(alloc, &edit)?;
-                Ok((folded(&version), version))
-            },
+            |_| apply_all(alloc, decoded, manifest.times),
         )?;
-        let version = empty.apply::<Bytewise>(alloc, &edit)?;
-        figures.take(
+        let version = Version::empty(alloc).apply::<Bytewise>(alloc, &decoded.edit)?;
+        figures.take_of(
             clock,
             manifest.over(Call::LevelFiles),
-            || Ok(number_of(&version.files::<Bytewise>(alloc, LEVEL)?)),
+            manifest.times,
+            || Ok(()),
+            |_| order_all(alloc, &version, manifest.times),
         )?;
     }
     Ok(())
 }
 
+/// Reads the records of a manifest, as often as a round does.
+fn read_all(alloc: Global, manifest: &Manifest) -> Result<(u32, Vec<Vec<Vec<u8>>>)> {
+    let mut all = Vec::new(alloc);
+    for _time in 0..manifest.times {
+        all.push(records(alloc, &manifest.log)?)?;
+    }
+    Ok((number_of(&all), all))
+}
+
+/// Reads each edit of a manifest, as often as a round does, and gives how many files they put in, modulo 2^32.
+fn decode_all(alloc: Global, manifest: &Manifest) -> Result<(u32, ())> {
+    let mut added = 0u32;
+    for _time in 0..manifest.times {
+        added = added.wrapping_add(decode_each(alloc, &manifest.records)?);
+    }
+    Ok((added, ()))
+}
+
 /// Reads each edit, and gives how many files they put in, modulo 2^32.
-fn decode_all(alloc: Global, records: &[Vec<u8>]) -> Result<u32> {
+fn decode_each(alloc: Global, records: &[Vec<u8>]) -> Result<u32> {
     let mut added = 0u32;
     for record in records {
         let edit = VersionEdit::decode(alloc, record)?;
         added = added.wrapping_add(number_of(&edit.added));
     }
     Ok(added)
+}
+
+/// The edits of a manifest, for each time that a round goes over it.
+fn sources_of(alloc: Global, manifest: &Manifest) -> Result<Vec<Vec<Decoded>>> {
+    let mut sources = Vec::new(alloc);
+    for _time in 0..manifest.times {
+        sources.push(edits_of(alloc, &manifest.records)?)?;
+    }
+    Ok(sources)
 }
 
 /// The edits that the records read as.
@@ -182,6 +215,15 @@ fn edits_of(alloc: Global, records: &[Vec<u8>]) -> Result<Vec<Decoded>> {
     Ok(edits)
 }
 
+/// The versions that edits make of empty ones.
+fn applied_all(alloc: Global, sources: Vec<Vec<Decoded>>) -> Result<(u32, Vec<Version>)> {
+    let mut versions = Vec::new(alloc);
+    for edits in sources {
+        versions.push(applied(alloc, edits)?)?;
+    }
+    Ok((number_of(&versions), versions))
+}
+
 /// The version that the edits make of an empty one.
 fn applied(alloc: Global, edits: Vec<Decoded>) -> Result<Version> {
     let mut version = Version::empty(alloc);
@@ -191,9 +233,23 @@ fn applied(alloc: Global, edits: Vec<Decoded>) -> Result<Version> {
     Ok(version)
 }
 
-/// A number that depends on a version.
-fn folded(version: &Version) -> u32 {
-    u32::from(version.next_file().is_some())
+/// The versions that an edit makes of an empty one that stays.
+fn apply_all(alloc: Global, decoded: &Decoded, times: u32) -> Result<(u32, Vec<Version>)> {
+    let empty = Version::empty(alloc);
+    let mut versions = Vec::new(alloc);
+    for _time in 0..times {
+        versions.push(empty.apply::<Bytewise>(alloc, &decoded.edit)?)?;
+    }
+    Ok((number_of(&versions), versions))
+}
+
+/// Puts the files of a version's level in order, so often, and gives how many they were in all, modulo 2^32.
+fn order_all(alloc: Global, version: &Version, times: u32) -> Result<(u32, ())> {
+    let mut found = 0u32;
+    for _time in 0..times {
+        found = found.wrapping_add(number_of(&version.files::<Bytewise>(alloc, LEVEL)?));
+    }
+    Ok((found, ()))
 }
 
 /// How many there are, modulo 2^32.
@@ -216,6 +272,15 @@ fn log_of(alloc: Global, records: &[Vec<u8>]) -> Result<Vec<u8>> {
     }
     log.extend_from_slice(&behind)?;
     Ok(log)
+}
+
+/// The fields, one behind the other.
+fn joined(alloc: Global, fields: &[Vec<u8>]) -> Result<Vec<u8>> {
+    let mut joined = Vec::new(alloc);
+    for field in fields {
+        joined.extend_from_slice(field)?;
+    }
+    Ok(joined)
 }
 
 /// New-file fields with the numbers from 0 on.

@@ -1,6 +1,6 @@
 //! The files of a version, found by their numbers.
 
-ghost use Rattle.std.specs.Prelude.{◌≡◌, not, true, map, [], ◌∷◌, Ok, IfOk, IfErr, OnOk};
+ghost use Rattle.std.specs.Prelude.{◌≡◌, not, true, length, map, [], ◌∷◌, Ok, IfOk, IfErr};
 ghost use Rattle.coding.specs.Answers.{Gives};
 ghost use Rattle.coding.specs.declared.fault.FaultName.TheVariants.{Memory};
 ghost use Rattle.edit.specs.Version.{has_place, has_number, kept_files, with_file, are_apart};
@@ -89,7 +89,9 @@ impl Files {
     }
 
     /// How many files there are.
-    pub fn len(&self) -> usize {
+    pub fn len(&self) -> usize
+        ensures { result ≡ length self.now }
+    {
         self.by_number.len()
     }
 }

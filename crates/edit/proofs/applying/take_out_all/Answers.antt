@@ -1,7 +1,7 @@
 use Rattle.std.proofs.Common.{◌≡◌, ◌∷◌, List, sym, ap, subst, ◌∙◌}
 use Rattle.edit.specs.Version.{kept_files}
 use Rattle.edit.specs.declared.meta.DeletedFile.{DeletedFile}
-use Rattle.edit.proofs.Kept.{TakesOut, takes_on, takes_none, kept_all}
+use Rattle.edit.proofs.Kept.{TakesOut, takes_on, kept_all}
 use Rattle.edit.proofs.applying.take_out_all.Goals as goal
 
 pub loop-place-preserved : goal.loop-place-preserved

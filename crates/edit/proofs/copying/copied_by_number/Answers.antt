@@ -1,4 +1,3 @@
-use Rattle.std.proofs.Common.{◌∙◌}
 use Rattle.edit.proofs.Applied.{copied_on, value_is}
 use Rattle.edit.proofs.copying.copied_by_number.Goals as goal
 

@@ -1,4 +1,4 @@
-use Rattle.std.proofs.Common.{◌≡◌, List, not, sym, ap, ◌∙◌}
+use Rattle.std.proofs.Common.{List, not, sym, ap, ◌∙◌}
 use Rattle.std.specs.Map.{values_of}
 use Rattle.std.specs.Option.{is_none}
 use Rattle.edit.specs.Version.{has_number, with_file}

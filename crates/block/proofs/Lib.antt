@@ -8,3 +8,4 @@ pub mod Checks
 pub mod Written
 pub mod Built
 pub mod Sizes
+pub mod BlockReadings

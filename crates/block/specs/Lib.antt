@@ -6,3 +6,4 @@ pub mod Sound
 pub mod Lent
 pub mod Parts
 pub mod Walking
+pub mod ReadingBlocks

@@ -3,6 +3,7 @@
 
 ghost use Rattle.std.specs.Prelude.{◌^◌, ◌≤◌, length, List, ℕ};
 ghost use Rattle.block.specs.Piece.{Entry, IsBlock};
+ghost use Rattle.block.specs.ReadingBlocks.{ReadsBlocks};
 ghost use Rattle.block.specs.Writing.{block};
 
 mod builder;
@@ -18,6 +19,11 @@ pub use sound_block::{SoundBlock, check, known};
 /// The block of a list at any interval reads as that list.
 pub fn reads_back()
     ensures { (r : ℕ) (q : List Entry) → length (block r q) ≤ 2 ^ 31 → IsBlock (block r q) q }
+{}
+
+/// The law that what is read of bytes as a block is the list that they are a block of. A call does nothing.
+pub fn reads_blocks()
+    ensures { ReadsBlocks }
 {}
 
 #[cfg(test)]

@@ -5,7 +5,6 @@ pub mod Closes
 pub mod Refused
 pub mod Indexes
 pub mod Cuts
-pub mod BlockReadings
 pub mod Steps
 pub mod DataSteps
 pub mod CheckedTables

@@ -23,7 +23,7 @@ use Rattle.table.specs.Reading.{DataBlock, blocks_reading, is_between, index_fit
 use Rattle.table.specs.ReadingCursors.{IsRising}
 use Rattle.table.specs.ReadingTables.{AreNamed, IsBelowNext, AreBetween, AreBytes}
 use Rattle.table.specs.Checked.{HaveKeys}
-use Rattle.table.proofs.BlockReadings.{both, join}
+use Rattle.block.proofs.BlockReadings.{both, join}
 use Rattle.table.proofs.Steps.{done, bind_ok, ok_is}
 use Rattle.table.proofs.CheckedTables.{read_block}
 use Rattle.table.proofs.EntryTests.{AllAbove, less_is, key_same, passes, behind_again}

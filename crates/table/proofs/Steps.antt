@@ -12,10 +12,10 @@ use Rattle.coding.specs.declared.fault.FaultName.TheVariants.{Block, Memory}
 use Rattle.coding.proofs.Refusals.{Fails-from}
 use Rattle.block.specs.Piece.{Entry, IsBlock}
 use Rattle.block.specs.Building.{last_key}
-use Rattle.table.specs.ReadingBlocks.{block_reading}
+use Rattle.block.specs.ReadingBlocks.{block_reading}
 use Rattle.table.specs.ReadingEntries.{first_key, entry_test, entries_test, ends_reading}
 use Rattle.table.specs.ReadingIndex.{IndexEntry, index_entry, index_reading}
-use Rattle.table.proofs.BlockReadings.{reads_blocks, refused}
+use Rattle.block.proofs.BlockReadings.{reads_blocks, refused}
 
 abbrev pub done : {A : Type 0} → A → Result A Fault
 done x = Ok x

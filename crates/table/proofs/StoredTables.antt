@@ -17,10 +17,10 @@ use Rattle.frame.specs.Trailer.{stored, stored_reading}
 use Rattle.frame.specs.Footer.{handles_bytes, magic, handles_reading, ok_or_fault, footer_reading}
 use Rattle.frame.proofs.Handles.{handle_reading-spelled, reads_handle, found_first}
 use Rattle.frame.proofs.Stored.{length-stored, stored_again, only_stored}
-use Rattle.table.specs.ReadingBlocks.{block_reading}
+use Rattle.block.specs.ReadingBlocks.{block_reading}
 use Rattle.table.specs.ReadingIndex.{stored_at, block_in}
 use Rattle.table.specs.ReadingTables.{StandsAt, EndsWith, AreBytes}
-use Rattle.table.proofs.BlockReadings.{reads_blocks}
+use Rattle.block.proofs.BlockReadings.{reads_blocks}
 use Rattle.table.proofs.Steps.{done, bind_ok, ok_is}
 
 -- a step that did not fail

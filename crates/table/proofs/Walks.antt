@@ -20,14 +20,14 @@ use Rattle.ikey.proofs.Ordered.{internal_cmp-total}
 use Rattle.frame.specs.declared.handle.BlockHandle.{BlockHandle}
 use Rattle.frame.specs.Handle.{HandleBehind, handle_reading}
 use Rattle.frame.specs.Trailer.{stored_reading}
-use Rattle.table.specs.ReadingBlocks.{block_reading}
+use Rattle.block.specs.ReadingBlocks.{block_reading}
 use Rattle.table.specs.ReadingEntries.{first_key, is_above, key_behind, is_some_list, data_test}
 use Rattle.table.specs.ReadingIndex.{IndexEntry, handle_alone, one_handle, stored_at, block_in, index_entry, index_reading}
 use Rattle.table.specs.Reading.{DataBlock, blocks_reading, is_between, index_fits, entries_of, ok_or, Contents, contents_in}
 use Rattle.table.specs.ReadingCursors.{IsRising, entries_from, first_is_below}
 use Rattle.table.specs.Checked.{HaveKeys, IsChecked}
 use Rattle.table.specs.Walking.{block_named, entries_named, all_named, NamesBlock, Indexes, IsLeft}
-use Rattle.table.proofs.BlockReadings.{both, reads_blocks}
+use Rattle.block.proofs.BlockReadings.{both, reads_blocks}
 use Rattle.table.proofs.Steps.{done, bind_ok, ok_is}
 use Rattle.table.proofs.CheckedTables.{read_block, read_data, blocks_are, contents_are}
 use Rattle.table.proofs.EntryTests.{key_same, less_is, have_keys, data_tests, all_tests, rising}

@@ -4,7 +4,6 @@ pub mod Table
 pub mod Flushed
 pub mod Building
 pub mod ReadingSteps
-pub mod ReadingBlocks
 pub mod ReadingEntries
 pub mod ReadingIndex
 pub mod Reading

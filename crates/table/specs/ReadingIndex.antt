@@ -8,7 +8,7 @@ use Rattle.ikey.specs.Key.{internal_key_reading}
 use Rattle.frame.specs.declared.handle.BlockHandle.{BlockHandle}
 use Rattle.frame.specs.Handle.{HandleBehind, handle_reading}
 use Rattle.frame.specs.Trailer.{stored_reading}
-use Rattle.table.specs.ReadingBlocks.{block_reading}
+use Rattle.block.specs.ReadingBlocks.{block_reading}
 
 -- a key of the index, and the bytes of its data block as they are stored
 pub record IndexEntry : Type 0 where

@@ -7,7 +7,6 @@ ghost use Rattle.std.specs.Result.{result_map_both};
 ghost use Rattle.coding.specs.Answers.{Gives};
 ghost use Rattle.block.specs.Piece.{Entry};
 ghost use Rattle.ikey.specs.Order.{internal_cmp};
-ghost use Rattle.table.specs.ReadingBlocks.{ReadsBlocks};
 ghost use Rattle.table.specs.ReadingTables.{IsTable, ReadsTables};
 ghost use Rattle.table.specs.ReadingEntries.{is_above, entry_test, ends_reading};
 ghost use Rattle.table.specs.ReadingIndex.{stored_at, block_in, index_entry, index_reading};
@@ -29,11 +28,6 @@ pub const MAX_TABLE: usize = 1_073_741_824;
 
 /// The most bytes of a value, 2^24 - 1.
 pub const MAX_VALUE: usize = 16_777_215;
-
-/// The law that what is read of bytes as a block is the list that they are a block of. A call does nothing.
-pub fn reads_blocks()
-    ensures { ReadsBlocks }
-{}
 
 /// The law that bytes are read as a table exactly where they are one. A call does nothing.
 pub fn reads_tables<C: Comparator>()

@@ -16,7 +16,7 @@ mod table_cursor;
 mod walking;
 
 pub use builder::TableBuilder;
-pub use checking::{check, reads_blocks, reads_tables};
+pub use checking::{check, reads_tables};
 pub use cursor::Cursor;
 pub use laws::{data_blocks_law, table_reads_back};
 pub use options::Options;

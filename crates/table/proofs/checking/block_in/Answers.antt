@@ -2,7 +2,7 @@ use Rattle.std.proofs.Common.{List, ℕ, Result, ap, subst}
 use Rattle.coding.specs.Answers.{Gives, ◌>>=◌}
 use Rattle.coding.specs.declared.fault.Fault.{Fault}
 use Rattle.block.specs.Piece.{Entry}
-use Rattle.table.specs.ReadingBlocks.{block_reading}
+use Rattle.block.specs.ReadingBlocks.{block_reading}
 use Rattle.table.proofs.Steps.{check_gives}
 use Rattle.table.proofs.checking.block_in.Goals as goal
 

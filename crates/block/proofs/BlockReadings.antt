@@ -16,7 +16,7 @@ use Rattle.block.proofs.Pieces.{Widths-of, piece_at_front, piece_at-nil, length-
 use Rattle.block.proofs.Restarts.{words, length-words, front_word}
 use Rattle.block.proofs.Areas.{AllByRecursion-append, AllByRecursion-weaker, marks}
 use Rattle.block.proofs.Splits.{split_count}
-use Rattle.table.specs.ReadingBlocks.{restart_count, area_len, restarts_in, is_next, restarts_behind, pieces_in, pieces_of, is_piece_after, are_pieces, begins_with_restart, are_of_block, block_reading, ReadsBlocks}
+use Rattle.block.specs.ReadingBlocks.{restart_count, area_len, restarts_in, is_next, restarts_behind, pieces_in, pieces_of, is_piece_after, are_pieces, begins_with_restart, are_of_block, block_reading, ReadsBlocks}
 
 -- ---- the tests are those of a block
 

@@ -13,6 +13,7 @@ use Rattle.coding.specs.declared.fault.FaultName.{FaultName}
 use Rattle.coding.specs.declared.fault.FaultName.TheVariants.{Memory}
 use Rattle.coding.specs.Varint.{varint}
 use Rattle.coding.proofs.Varints.{length-varint_pos}
+use Rattle.coding.proofs.Bytes.{IsBytes}
 use Rattle.edit.specs.Tag.{tag_number}
 use Rattle.edit.specs.Field.{Field, SetComparator, SetLogNumber, SetPreviousLog, SetNextFile, SetLastSequence, SetPointer, DeleteFile, AddFile, tag_of, content, spelling, IsField}
 use Rattle.edit.specs.Reading.{field_at}
@@ -20,7 +21,6 @@ use Rattle.edit.specs.Edit.{Edit, IsEdit, IsRefused, HasLevels, HasShortName, em
 use Rattle.edit.specs.declared.meta.NewFile.{NewFile}
 use Rattle.edit.specs.declared.meta.CompactPointer.{CompactPointer}
 use Rattle.edit.specs.declared.meta.DeletedFile.{DeletedFile}
-use Rattle.edit.proofs.Bytes.{IsBytes}
 use Rattle.edit.proofs.Fields.{field_takes, field_refused, no_field, fields_apart}
 
 pub AllByRecursion-push : {X : Type 0} (P : X → Type 0) (xs : List X) (x : X) → AllByRecursion P xs → P x → AllByRecursion P (xs ++ x ∷ [])

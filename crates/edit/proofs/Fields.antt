@@ -7,6 +7,7 @@ use Rattle.coding.specs.Answers.{fault}
 use Rattle.coding.specs.Varint.{varint, varint_reading, length_prefixed}
 use Rattle.coding.specs.declared.fault.Fault.{Fault}
 use Rattle.coding.specs.declared.fault.FaultName.TheVariants.{EditTag, EditField}
+use Rattle.coding.proofs.Bytes.{IsBytes}
 use Rattle.ikey.specs.Key.{IsInternalKey}
 use Rattle.edit.specs.Tag.{tag_number, tags, listed_tag}
 use Rattle.edit.specs.Field.{Field, SetComparator, SetLogNumber, SetPreviousLog, SetNextFile, SetLastSequence, SetPointer, DeleteFile, AddFile, tag_of, content, spelling, IsField}
@@ -17,7 +18,7 @@ use Rattle.edit.specs.declared.meta.CompactPointer.{CompactPointer}
 use Rattle.edit.specs.declared.meta.DeletedFile.{DeletedFile}
 use Rattle.edit.specs.declared.tag.Tag.{Tag}
 use Rattle.edit.specs.declared.tag.Tag.TheVariants.{Comparator, LogNumber, NextFile, LastSequence, Pointer, Deleted, Added, PreviousLog}
-use Rattle.edit.proofs.Bytes.{bind_some, map_some, IsBytes}
+use Rattle.edit.proofs.Steps.{bind_some, map_some}
 use Rattle.edit.proofs.Contents.{varint_takes, varint_again, level_takes, level_again, text_takes, text_again, key_takes, key_again}
 
 -- what the content of a field of this tag says of the bytes

@@ -1,6 +1,6 @@
 pub mod Memory
 pub mod Texts
-pub mod Bytes
+pub mod Steps
 pub mod Contents
 pub mod Fields
 pub mod Edits

@@ -7,6 +7,7 @@ use Rattle.std.specs.declared.cmp.Ordering.{Ordering}
 use Rattle.coding.specs.Answers.{Gives, ◌>>=◌}
 use Rattle.coding.specs.declared.fault.Fault.{Fault}
 use Rattle.coding.specs.declared.fault.FaultName.TheVariants.{Empty, Index}
+use Rattle.coding.proofs.Binds.{done, bind_ok, ok_is}
 use Rattle.block.specs.Piece.{Entry}
 use Rattle.block.specs.Building.{last_key}
 use Rattle.ikey.specs.Key.{user_of}
@@ -16,7 +17,7 @@ use Rattle.table.specs.ReadingIndex.{IndexEntry, block_in, index_reading}
 use Rattle.table.specs.Reading.{DataBlock, blocks_reading, index_fits, data_reading, index_in, blocks_of, ends_of, entries_of, Contents, contents_of, contents_reading, contents_in, table_reading}
 use Rattle.table.specs.ReadingTables.{IsTable}
 use Rattle.table.specs.Checked.{IsChecked}
-use Rattle.table.proofs.Steps.{done, bind_ok, ok_is, fails_map}
+use Rattle.table.proofs.Steps.{fails_map}
 use Rattle.table.proofs.DataSteps.{all_ends}
 
 -- ---- what it holds

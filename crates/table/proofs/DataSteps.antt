@@ -6,6 +6,7 @@ use Rattle.std.specs.declared.cmp.Ordering.{Ordering}
 use Rattle.coding.specs.Answers.{◌>>=◌}
 use Rattle.coding.specs.declared.fault.Fault.{Fault}
 use Rattle.coding.specs.declared.fault.FaultName.TheVariants.{Index}
+use Rattle.coding.proofs.Binds.{done, bind_ok, ok_is}
 use Rattle.block.specs.Piece.{Entry}
 use Rattle.block.specs.Building.{last_key}
 use Rattle.ikey.specs.Order.{internal_cmp}
@@ -13,7 +14,6 @@ use Rattle.table.specs.ReadingSteps.{pass}
 use Rattle.table.specs.ReadingEntries.{Ends, first_key, key_behind, is_above, data_test, ends_reading}
 use Rattle.table.specs.ReadingIndex.{IndexEntry, block_in}
 use Rattle.table.specs.Reading.{DataBlock, blocks_reading, is_between, index_fits, data_reading, entries_of, ends_of}
-use Rattle.table.proofs.Steps.{done, bind_ok, ok_is}
 
 pub last_key-append : (before : List ℕ) (es fs : List Entry) → last_key before (es ++ fs) ≡ last_key (last_key before es) fs
 last_key-append before [] fs = refl

@@ -10,6 +10,7 @@ use Rattle.coding.specs.Answers.{fault, ◌>>=◌}
 use Rattle.coding.specs.declared.fault.Fault.{Fault}
 use Rattle.coding.specs.declared.fault.FaultName.{FaultName}
 use Rattle.coding.specs.declared.fault.FaultName.TheVariants.{Key, TooLarge, Order, Empty}
+use Rattle.coding.proofs.Binds.{done, bind_ok, ok_is}
 use Rattle.block.specs.Piece.{Entry}
 use Rattle.ikey.specs.Key.{tag_of, internal_key_reading}
 use Rattle.ikey.specs.Order.{internal_cmp}
@@ -20,7 +21,6 @@ use Rattle.table.specs.ReadingIndex.{IndexEntry}
 use Rattle.table.specs.Reading.{DataBlock, blocks_reading, entries_of}
 use Rattle.table.specs.ReadingCursors.{IsRising, entries_from, first_is_below}
 use Rattle.table.specs.Checked.{HaveKeys}
-use Rattle.table.proofs.Steps.{done, bind_ok, ok_is}
 use Rattle.table.proofs.CheckedTables.{read_block}
 
 -- ---- one entry

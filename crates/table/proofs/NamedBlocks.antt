@@ -9,6 +9,7 @@ use Rattle.std.proofs.lemmas.List.{append-nil}
 use Rattle.coding.specs.Answers.{◌>>=◌}
 use Rattle.coding.specs.declared.fault.Fault.{Fault}
 use Rattle.coding.specs.declared.fault.FaultName.TheVariants.{TooLarge, Order, Empty}
+use Rattle.coding.proofs.Binds.{done, bind_ok, ok_is}
 use Rattle.block.specs.Piece.{Entry}
 use Rattle.block.specs.Building.{last_key}
 use Rattle.ikey.specs.Key.{internal_key_reading}
@@ -24,7 +25,6 @@ use Rattle.table.specs.ReadingCursors.{IsRising}
 use Rattle.table.specs.ReadingTables.{AreNamed, IsBelowNext, AreBetween, AreBytes}
 use Rattle.table.specs.Checked.{HaveKeys}
 use Rattle.block.proofs.BlockReadings.{both, join}
-use Rattle.table.proofs.Steps.{done, bind_ok, ok_is}
 use Rattle.table.proofs.CheckedTables.{read_block}
 use Rattle.table.proofs.EntryTests.{AllAbove, less_is, key_same, passes, behind_again}
 use Rattle.table.proofs.StoredTables.{bind_is, stands_read, stands_fit, read_stands}

@@ -1,10 +1,10 @@
 -- The table that is written of a list is a table of that list.
-use Rattle.std.proofs.Common.{◌≡◌, ◌≢◌, ℕ, ◌+◌, ◌-◌, ◌^◌, ◌<◌, ◌≤◌, List, [], ◌∷◌, ◌++◌, length, replicate, Ok, refl, sym, ap, subst, ◌∙◌, append_assoc, arith}
-use Rattle.std.specs.List.{flat_map, AllByRecursion}
+use Rattle.std.proofs.Common.{◌≡◌, ◌≢◌, ℕ, ◌+◌, ◌-◌, ◌^◌, ◌<◌, ◌≤◌, List, [], ◌∷◌, ◌++◌, length, replicate, refl, sym, ap, subst, ◌∙◌, append_assoc, arith}
+use Rattle.std.specs.List.{AllByRecursion}
 use Rattle.std.specs.declared.cmp.Ordering.{Ordering}
 use Rattle.std.specs.declared.cmp.Ordering.TheVariants.{Less, Greater}
 use Rattle.std.proofs.lemmas.List.{length-append, length-replicate}
-use Rattle.ikey.specs.Key.{IsInternalKey, internal_key_reading}
+use Rattle.ikey.specs.Key.{IsInternalKey}
 use Rattle.ikey.specs.Comparator.{IsBetween}
 use Rattle.ikey.specs.Order.{internal_cmp}
 use Rattle.ikey.proofs.Keys.{internal_key_reading-Ok}
@@ -15,7 +15,6 @@ use Rattle.block.proofs.Written.{block_reads_back}
 use Rattle.block.proofs.Sizes.{length-block-nil}
 use Rattle.frame.specs.Trailer.{stored}
 use Rattle.frame.specs.Footer.{handles_bytes, footer_bytes, magic}
-use Rattle.frame.specs.declared.handle.BlockHandle.{BlockHandle}
 use Rattle.frame.specs.declared.footer.Footer.{Footer}
 use Rattle.frame.proofs.Stored.{length-stored}
 use Rattle.frame.proofs.Footers.{length-handles_bytes, length-footer_bytes}
@@ -27,7 +26,7 @@ use Rattle.table.specs.ReadingEntries.{first_key}
 use Rattle.table.specs.ReadingCursors.{IsRising}
 use Rattle.table.specs.Reading.{DataBlock, entries_of}
 use Rattle.table.specs.Checked.{HaveKeys}
-use Rattle.table.specs.ReadingTables.{StandsAt, EndsWith, IsNamed, AreNamed, AreBetween, IsTable}
+use Rattle.table.specs.ReadingTables.{StandsAt, EndsWith, AreNamed, AreBetween, IsTable}
 use Rattle.table.specs.ReadingBack.{IsWritable}
 use Rattle.table.proofs.Indexes.{length-closing}
 use Rattle.table.proofs.Cuts.{are_data_blocks}

@@ -10,26 +10,13 @@ use Rattle.coding.specs.declared.fault.Fault.{Fault}
 use Rattle.coding.specs.declared.fault.FaultName.{FaultName}
 use Rattle.coding.specs.declared.fault.FaultName.TheVariants.{Block, Memory}
 use Rattle.coding.proofs.Refusals.{Fails-from}
+use Rattle.coding.proofs.Binds.{done, failed}
 use Rattle.block.specs.Piece.{Entry, IsBlock}
 use Rattle.block.specs.Building.{last_key}
 use Rattle.block.specs.ReadingBlocks.{block_reading}
 use Rattle.table.specs.ReadingEntries.{first_key, entry_test, entries_test, ends_reading}
 use Rattle.table.specs.ReadingIndex.{IndexEntry, index_entry, index_reading}
 use Rattle.block.proofs.BlockReadings.{reads_blocks, refused}
-
-abbrev pub done : {A : Type 0} → A → Result A Fault
-done x = Ok x
-
-abbrev pub failed : {A : Type 0} → Fault → Result A Fault
-failed e = Err e
-
--- the value of a step that did not fail
-pub bind_ok : {A B : Type 0} (r : Result A Fault) (f : A → Result B Fault) (y : B) → (r >>= f) ≡ Ok y → (x : A) × (r ≡ Ok x) × (f x ≡ Ok y)
-bind_ok (Ok x) f y e = (x, refl, e)
-bind_ok (Err d) f y e = absurd cc
-
-pub ok_is : {A : Type 0} (x y : A) → done x ≡ done y → x ≡ y
-ok_is x y e = cc
 
 -- ---- a block
 

@@ -8,6 +8,7 @@ use Rattle.std.proofs.lemmas.Slice.Eq.{bytes_eq-Decides}
 use Rattle.coding.specs.Answers.{fault, ◌>>=◌}
 use Rattle.coding.specs.declared.fault.Fault.{Fault}
 use Rattle.coding.specs.declared.fault.FaultName.TheVariants.{Magic, Handle, Range}
+use Rattle.coding.proofs.Binds.{done, bind_ok, ok_is}
 use Rattle.block.specs.Piece.{Entry}
 use Rattle.coding.proofs.Bytes.{IsBytes-take, IsBytes-drop}
 use Rattle.frame.specs.declared.handle.BlockHandle.{BlockHandle}
@@ -21,7 +22,6 @@ use Rattle.block.specs.ReadingBlocks.{block_reading}
 use Rattle.table.specs.ReadingIndex.{stored_at, block_in}
 use Rattle.table.specs.ReadingTables.{StandsAt, EndsWith, AreBytes}
 use Rattle.block.proofs.BlockReadings.{reads_blocks}
-use Rattle.table.proofs.Steps.{done, bind_ok, ok_is}
 
 -- a step that did not fail
 pub bind_is : {A B : Type 0} (r : Result A Fault) (x : A) (f : A → Result B Fault) (y : Result B Fault) → r ≡ Ok x → f x ≡ y → (r >>= f) ≡ y

@@ -6,6 +6,7 @@ use Rattle.std.specs.declared.cmp.Ordering.{Ordering}
 use Rattle.std.proofs.lemmas.Bool.{leb-true, le-leb}
 use Rattle.coding.specs.Answers.{◌>>=◌}
 use Rattle.coding.specs.declared.fault.FaultName.TheVariants.{Size, Short, Empty, Index}
+use Rattle.coding.proofs.Binds.{done, bind_ok, ok_is}
 use Rattle.block.specs.Piece.{Entry}
 use Rattle.frame.specs.declared.footer.Footer.{Footer}
 use Rattle.frame.specs.Footer.{footer_reading}
@@ -16,7 +17,6 @@ use Rattle.table.specs.Checked.{HaveKeys}
 use Rattle.table.specs.ReadingIndex.{IndexEntry, stored_at, block_in, index_reading}
 use Rattle.table.specs.Reading.{DataBlock, blocks_reading, index_fits, data_reading, index_in, blocks_of, entries_of, table_reading}
 use Rattle.table.specs.ReadingTables.{StandsAt, EndsWith, IsTable, AreBytes, ReadsTables}
-use Rattle.table.proofs.Steps.{done, bind_ok, ok_is}
 use Rattle.table.proofs.CheckedTables.{blocks_by, read_block, read_data}
 use Rattle.table.proofs.EntryTests.{passed, have_keys, all_tests, rising}
 use Rattle.table.proofs.StoredTables.{bind_is, stands_read, stands_fit, read_stands, ends_read, read_ends, long_footer}

@@ -12,6 +12,7 @@ use Rattle.std.proofs.lemmas.List.{nil_from_length}
 use Rattle.std.proofs.lemmas.Option.{same_Some, none-some}
 use Rattle.coding.specs.Answers.{◌>>=◌}
 use Rattle.coding.specs.declared.fault.Fault.{Fault}
+use Rattle.coding.proofs.Binds.{done, bind_ok, ok_is}
 use Rattle.block.specs.Piece.{Entry, IsBlock}
 use Rattle.block.specs.Building.{last_key}
 use Rattle.ikey.specs.Key.{internal_key_reading}
@@ -28,7 +29,6 @@ use Rattle.table.specs.ReadingCursors.{IsRising, entries_from, first_is_below}
 use Rattle.table.specs.Checked.{HaveKeys, IsChecked}
 use Rattle.table.specs.Walking.{block_named, entries_named, all_named, NamesBlock, Indexes, IsLeft}
 use Rattle.block.proofs.BlockReadings.{both, reads_blocks}
-use Rattle.table.proofs.Steps.{done, bind_ok, ok_is}
 use Rattle.table.proofs.CheckedTables.{read_block, read_data, blocks_are, contents_are}
 use Rattle.table.proofs.EntryTests.{key_same, less_is, have_keys, data_tests, all_tests, rising}
 

@@ -1,8 +1,8 @@
 use Rattle.std.proofs.Common.{List, ℕ, sym, ap, subst, ◌∙◌}
 use Rattle.std.specs.Result.{is_ok}
+use Rattle.coding.proofs.Binds.{done, ok_is}
 use Rattle.block.specs.Piece.{Entry, IsBlock}
 use Rattle.frame.specs.Handle.{HandleBehind}
-use Rattle.table.proofs.Steps.{done, ok_is}
 use Rattle.table.proofs.Walks.{some_handle, some_stored, stands}
 use Rattle.table.proofs.naming.block_named.Goals as goal
 

@@ -1,9 +1,10 @@
 use Rattle.std.proofs.Common.{◌≡◌, ◌++◌, ℕ, List, map, sym, ap, ◌∙◌, drop}
 use Rattle.std.proofs.lemmas.List.{append-nil}
+use Rattle.coding.proofs.Binds.{done}
 use Rattle.table.specs.Reading.{Contents}
 use Rattle.table.specs.Placed.{index_of}
 use Rattle.table.specs.declared.placed.Placed.{Placed}
-use Rattle.table.proofs.Steps.{done, past_end}
+use Rattle.table.proofs.Steps.{past_end}
 use Rattle.table.proofs.CheckedTables.{users_of, users_are}
 use Rattle.table.proofs.sound_table.SoundTable.index_users.Goals as goal
 

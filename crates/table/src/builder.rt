@@ -106,7 +106,8 @@ impl<C: Comparator> TableBuilder<C> {
         };
         let between = internal_separator::<C>(self.alloc, last, key)?;
         self.next.add(key.bytes, value)?;
-        if let Err(refused) = self.flushed.push(between, &self.block) {
+        let file_size = self.options.file_size;
+        if let Err(refused) = self.flushed.push(between, &self.block, file_size) {
             // The next block has no entry again.
             self.next.clear();
             return Err(refused);
@@ -144,7 +145,7 @@ impl<C: Comparator> TableBuilder<C> {
                 bytes: block.last_key(),
             };
             let above = internal_successor::<C>(alloc, last)?;
-            flushed.push(above, &block)?;
+            flushed.push(above, &block, 0)?;
         }
         flushed.finish(alloc)
     }

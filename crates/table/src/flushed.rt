@@ -29,10 +29,11 @@ pub(crate) struct Flushed {
 }
 
 impl Flushed {
-    /// Appends a block with its trailer, which has this key in the index.
+    /// Appends a block with its trailer, which has this key in the index. With the first, room is asked for where a file is to
+    /// have this size.
     ///
     /// Refused only for want of memory, and then nothing is appended.
-    pub fn push(&mut self, key: KeyBuf, builder: &BlockBuilder) -> Result<(), Fault>
+    pub fn push(&mut self, key: KeyBuf, builder: &BlockBuilder, file_size: u64) -> Result<(), Fault>
         ensures bytes { OnOk result (self.new.bytes.items ≡ self.old.bytes.items ++ stored (block builder.now.interval builder.now.entries)) }
         ensures index { OnOk result (self.new.index.items ≡ self.old.index.items ++ entry_at key (length self.old.bytes.items) (length (block builder.now.interval builder.now.entries)) ∷ []) }
         ensures bytes_stay { OnErr result (self.new.bytes.items ≡ self.old.bytes.items) }
@@ -40,6 +41,11 @@ impl Flushed {
         ensures memory { IsOkUnless result (fault Memory) }
     {
         self.index.reserve(1)?;
+        if self.bytes.is_empty() {
+            // A sixteenth is for the index. Where so much is refused, the file grows block by block.
+            let room = file_size.saturating_add(file_size / 16);
+            let _asked = self.bytes.reserve(room as usize);
+        }
         let handle = push_block(&mut self.bytes, builder)?;
         self.index.push(IndexEntry { key, handle })?;
         Ok(())

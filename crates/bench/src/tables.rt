@@ -4,6 +4,7 @@ use crate::figures::{Call, Figures, Work};
 use anyhow::{Result, ensure};
 use ikey::{Bytewise, InternalKey};
 use std::alloc::Global;
+use std::mem;
 use std::rt::Clock;
 use table::{Cursor, Options, SoundTable, TableBuilder, TableCursor, check};
 
@@ -40,24 +41,59 @@ pub fn measure(
         clock,
         over(Call::TableBuilder),
         || Ok(last_of(&written(alloc, values)?)),
+    )?;
+    figures.take(
+        clock,
+        over(Call::FileBuilder),
+        || write_files(alloc, values),
     )
 }
 
 /// The table of entries whose keys rise and whose values are these bytes, in turn.
 fn written(alloc: Global, values: &[u8]) -> Result<Vec<u8>> {
-    let options = Options::default();
-    ensure!(options.are_in_limits(), "options over their limits");
-    let mut builder = TableBuilder::<Bytewise>::new(alloc, options);
     let (values, _) = values.as_chunks::<VALUE_LEN>();
+    let mut builder = begun(alloc, (values.len() * ENTRY_LEN) as u64)?;
     for (i, value) in values.iter().enumerate() {
-        let mut bytes = [0; 24];
-        bytes[..16].copy_from_slice(&(FIRST_KEY + i as u128).to_be_bytes());
-        bytes[16..].copy_from_slice(&TAG);
-        let key = InternalKey::parse(&bytes)?;
-        ensure!(builder.is_above_last(&key), "keys that don't rise");
-        builder.add(key, value)?;
+        add(&mut builder, i, value)?;
     }
     Ok(builder.finish()?)
+}
+
+/// Writes the same entries as tables that end where files do, and gives the sum of the tables' last bytes, modulo 2^32.
+fn write_files(alloc: Global, values: &[u8]) -> Result<u32> {
+    let file_size = Options::default().file_size;
+    let mut folded = 0u32;
+    let mut builder = begun(alloc, file_size)?;
+    let (values, _) = values.as_chunks::<VALUE_LEN>();
+    for (i, value) in values.iter().enumerate() {
+        if builder.flushed() >= file_size {
+            let table = mem::replace(&mut builder, begun(alloc, file_size)?).finish()?;
+            folded = folded.wrapping_add(last_of(&table));
+        }
+        add(&mut builder, i, value)?;
+    }
+    Ok(folded.wrapping_add(last_of(&builder.finish()?)))
+}
+
+/// A table without entries, which may become as long as the file size.
+fn begun(alloc: Global, file_size: u64) -> Result<TableBuilder<Bytewise>> {
+    let options = Options {
+        file_size,
+        ..Options::default()
+    };
+    ensure!(options.are_in_limits(), "options over their limits");
+    Ok(TableBuilder::new(alloc, options))
+}
+
+/// Appends the entry of this number.
+fn add(builder: &mut TableBuilder<Bytewise>, number: usize, value: &[u8; VALUE_LEN]) -> Result<()> {
+    let mut bytes = [0; 24];
+    bytes[..16].copy_from_slice(&(FIRST_KEY + number as u128).to_be_bytes());
+    bytes[16..].copy_from_slice(&TAG);
+    let key = InternalKey::parse(&bytes)?;
+    ensure!(builder.is_above_last(&key), "keys that don't rise");
+    builder.add(key, value)?;
+    Ok(())
 }
 
 /// The sum of the last bytes of all keys and values of a table, modulo 2^32.

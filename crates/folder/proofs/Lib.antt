@@ -2,4 +2,4 @@ mod NameLemmas
 mod ManifestLemmas
 pub mod OpeningLemmas
 pub mod LoadingLemmas
-pub mod RefusalLemmas
+mod RefusalLemmas

@@ -8,6 +8,9 @@ use std::fmt;
 use std::rt::Clock;
 use std::time::{Duration, Instant};
 
+/// How many rounds of short work there are for each round.
+const SHORT_ROUNDS: u32 = 4;
+
 /// A call that is timed.
 #[derive(Clone, Copy)]
 pub enum Call {
@@ -168,8 +171,8 @@ impl Figures {
         Ok(())
     }
 
-    /// Does some work as `take` does, in each round so many times, and of something that is made before the clock starts. A
-    /// run also gives what it made, whose memory is given back when the time is taken.
+    /// Does short work as `take` does, in four times as many rounds, so many times in each, and of something that is made
+    /// before the clock starts. A run also gives what it made, whose memory is given back when the time is taken.
     pub fn take_of<T: Drop, G: Drop, M: FnMut() -> Result<T>, F: FnMut(T) -> Result<(u32, G)>>(
         &mut self,
         clock: &impl Clock,
@@ -185,7 +188,7 @@ impl Figures {
         requires run { F.IsAlwaysCallable run }
     {
         let mut time = Duration::MAX;
-        for _round in 0..self.rounds {
+        for _round in 0..self.rounds.saturating_mul(SHORT_ROUNDS) {
             let source = make()?;
             let start = Instant::now(clock)?;
             let (given, made) = run(source)?;

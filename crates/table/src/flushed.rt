@@ -18,6 +18,9 @@ use std::alloc::Global;
 /// The most bytes of a table.
 const MAX_TABLE_LEN: usize = 1 << 30;
 
+/// The most bytes that are asked for before they are written, 64 MiB.
+const MAX_ROOM: u64 = 1 << 26;
+
 /// The block without entries, as it is for the metaindex.
 const EMPTY_BLOCK_LEN: usize = 8;
 
@@ -43,8 +46,8 @@ impl Flushed {
         self.index.reserve(1)?;
         if self.bytes.is_empty() {
             // A sixteenth is for the index. Where so much is refused, the file grows block by block.
-            let room = file_size.saturating_add(file_size / 16);
-            let _asked = self.bytes.reserve(room as usize);
+            let size = file_size.min(MAX_ROOM);
+            let _asked = self.bytes.reserve((size + size / 16) as usize);
         }
         let handle = push_block(&mut self.bytes, builder)?;
         self.index.push(IndexEntry { key, handle })?;

@@ -9,7 +9,7 @@ use Rattle.folder.specs.Manifest.{version_after}
 use Rattle.folder.proofs.edits.version_after.Goals as goal
 
 pub loop-edit-init : goal.loop-edit-init
-loop-edit-init g c = rw (c.into_iter-edit-iterator.ensures.into_iter_gives.0, c.empty-version.ensures) (record { same = refl; levels = c.requires; })
+loop-edit-init g c = rw (c.into_iter-edit-iterator.ensures.into_iter_gives.0, c.empty-version.ensures) (record { same = refl; levels = c.requires })
 
 pub applied-requires : goal.applied-requires
 applied-requires g c =
@@ -23,8 +23,8 @@ loop-edit-preserved g c =
     let ahead = subst (λ (es : List VersionEdit). All (λ e. HasLevels (edit_in e)) es) c.in-Some.ensures.steps.0 c.loop-edit.invariant.levels in
     record {
       same =
-        sym (ap (λ (r : Result State Fault). r >>= λ w. version_after name w (map edit_in rest)) c.in_ok-version.ensures.after)
-        ∙ sym (ap (λ (es : List VersionEdit). version_after name c.loop-edit.version (map edit_in es)) c.in-Some.ensures.steps.0)
-        ∙ c.loop-edit.invariant.same;
+          sym (ap (λ (r : Result State Fault). r >>= λ w. version_after name w (map edit_in rest)) c.in_ok-version.ensures.after)
+          ∙ sym (ap (λ (es : List VersionEdit). version_after name c.loop-edit.version (map edit_in es)) c.in-Some.ensures.steps.0)
+          ∙ c.loop-edit.invariant.same;
       levels = All-tail (λ (e : VersionEdit). HasLevels (edit_in e)) c.in-Some.edit rest ahead;
     }

@@ -37,10 +37,15 @@ pub fn measure(
     })?;
     let sound = check::<Bytewise>(alloc, &table)?;
     figures.take(clock, over(Call::TableCursor), || walk(alloc, &sound))?;
-    figures.take(
+    figures.take_of(
         clock,
         over(Call::TableBuilder),
-        || Ok(last_of(&written(alloc, values)?)),
+        1,
+        || Ok(()),
+        |_| {
+            let table = written(alloc, values)?;
+            Ok((last_of(&table), table))
+        },
     )?;
     figures.take(
         clock,

@@ -1,6 +1,6 @@
 //! Reading the records of a log.
 
-ghost use Rattle.std.specs.Prelude.{◌≡◌, true, List, ℕ, length, IfOk, Ok};
+ghost use Rattle.std.specs.Prelude.{◌≡◌, ◌≤◌, true, List, ℕ, length, IfOk, Ok};
 ghost use Rattle.coding.specs.Answers.{Gives};
 ghost use Rattle.logrec.specs.Log.{log};
 ghost use Rattle.logrec.specs.Reading.{piece, piece_at, ends_record, left_at, behind_zeros, record_at, records_of, lists};
@@ -75,7 +75,7 @@ fn behind_zeros(offset: usize, bytes: &[u8]) -> Result<&[u8], Fault>
 fn left_at(alloc: Global, room: usize, bytes: &[u8]) -> Result<(Vec<u8>, &[u8]), Fault>
     ensures { Gives (λ x. (x.0.items, x.1.now)) result (left_at (length bytes.now) true room bytes.now) }
 {
-    let mut record = Vec::new(alloc);
+    let mut record = Vec::with_capacity(alloc, content_len(bytes))?;
     let mut begins = true;
     let mut room = room;
     let mut rest = bytes;
@@ -90,6 +90,26 @@ fn left_at(alloc: Global, room: usize, bytes: &[u8]) -> Result<(Vec<u8>, &[u8]),
         begins = false;
         room = MAX_CONTENT_LEN;
     }
+}
+
+/// How many bytes of content stand in the fragments at the front, up to one that ends a record.
+///
+/// Nothing is tested, so in other bytes than a log's it says nothing; it is never more than the bytes there are.
+fn content_len(bytes: &[u8]) -> usize
+    ensures { result ≤ length bytes.now }
+{
+    let mut len = 0;
+    let mut rest = bytes;
+    while rest.len() >= HEADER_LEN {
+        let kind = rest[6];
+        let here = (LittleEndian::read_u16(&rest[4..]) as usize).min(rest.len() - HEADER_LEN);
+        len += here;
+        rest = &rest[HEADER_LEN + here..];
+        if kind == type_of(true, true) || kind == type_of(false, true) {
+            break;
+        }
+    }
+    len
 }
 
 /// The fragment at the front, with its checksum tested.

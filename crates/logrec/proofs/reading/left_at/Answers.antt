@@ -11,7 +11,7 @@ answered b = Ok b
 
 pub returns-in_err-fragment : goal.returns-in_err-fragment
 returns-in_err-fragment c =
-    let p = err_from_is_err_and c.from_residual.result c.from_residual.ensures.1 in
+    let p = err_from_is_err_and c.from_residual-in_err-fragment.result c.from_residual-in_err-fragment.ensures.1 in
     rw (p.1, p.2) (reads_refused (left_at (length c.args.bytes.now) true c.args.room c.args.bytes.now) c.loop-record.record.items c.loop-record.begins c.loop-record.room c.loop-record.rest.now c.in_err-fragment.field-0.0 c.loop-record.invariant c.in_err-fragment.ensures)
 
 pub returns-in_err-ends : goal.returns-in_err-ends

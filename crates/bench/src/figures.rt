@@ -80,6 +80,26 @@ pub struct Work {
     pub entries: usize,
 }
 
+/// Work on something, which a round does so many times over.
+#[derive(Clone, Copy)]
+pub struct Turn<S> {
+    pub on: S,
+    pub work: Work,
+    pub times: u32,
+}
+
+impl<S> Turn<S> {
+    /// The time of its fastest round.
+    fn figure(&self, time: Duration) -> Figure {
+        Figure {
+            work: self.work,
+            times: self.times,
+            time,
+            growth: None,
+        }
+    }
+}
+
 /// The time that some work took, in its fastest round.
 #[derive(Clone, Copy)]
 struct Figure {
@@ -87,6 +107,8 @@ struct Figure {
     /// How often a round did the work.
     times: u32,
     time: Duration,
+    /// Ten times the factor by which it took longer than the work that it was done in turn with.
+    growth: Option<u128>,
 }
 
 impl Figure {
@@ -101,6 +123,14 @@ impl Figure {
         ensures { 0 < result }
     {
         self.time.as_nanos().max(1)
+    }
+
+    /// Ten times the factor by which doing the work once took longer than doing another once.
+    fn growth_from(&self, other: &Figure) -> u128 {
+        self.nanos()
+            .saturating_mul(u128::from(other.times))
+            .saturating_mul(10)
+            / other.nanos().saturating_mul(u128::from(self.times.max(1)))
     }
 }
 
@@ -120,6 +150,9 @@ impl fmt::Display for Figure {
                 tenths % 10,
                 self.work.entries
             )?;
+        }
+        if let Some(growth) = self.growth {
+            write!(f, ", {}.{} times as long", growth / 10, growth % 10)?;
         }
         Ok(())
     }
@@ -164,39 +197,93 @@ impl Figures {
             let start = Instant::now(clock)?;
             let given = run()?;
             time = time.min(start.elapsed(clock)?);
-            self.folded = self.folded.rotate_left(1) ^ given;
+            self.fold(given);
         }
-        let times = 1;
-        self.taken.push(Figure { work, times, time })?;
-        Ok(())
+        self.keep(work, time)
     }
 
-    /// Does short work as `take` does, in four times as many rounds, so many times in each, and of something that is made
-    /// before the clock starts. A run also gives what it made, whose memory is given back when the time is taken.
-    pub fn take_of<T: Drop, G: Drop, M: FnMut() -> Result<T>, F: FnMut(T) -> Result<(u32, G)>>(
+    /// Does short work as `take` does, in four times as many rounds. A run also gives what it made, whose memory is given
+    /// back when the time is taken.
+    pub fn take_made<G: Drop, F: FnMut() -> Result<(u32, G)>>(
         &mut self,
         clock: &impl Clock,
         work: Work,
-        times: u32,
-        mut make: M,
         mut run: F,
     ) -> Result<()>
+    where
+        F: Drop,
+        requires { F.IsAlwaysCallable run }
+    {
+        let mut time = Duration::MAX;
+        for _round in 0..self.rounds.saturating_mul(SHORT_ROUNDS) {
+            let start = Instant::now(clock)?;
+            let (given, made) = run()?;
+            time = time.min(start.elapsed(clock)?);
+            drop(made);
+            self.fold(given);
+        }
+        self.keep(work, time)
+    }
+
+    /// Does short work as `take_made` does, on two things in turn, so that a machine which changes its speed changes it for
+    /// both. What a run takes is made before the clock starts. The second figure says how many times as long as the first it
+    /// took.
+    pub fn take_in_turn<
+        S: Copy,
+        T: Drop,
+        G: Drop,
+        M: FnMut(Turn<S>) -> Result<T>,
+        F: FnMut(Turn<S>, T) -> Result<(u32, G)>,
+    >(&mut self, clock: &impl Clock, turns: [Turn<S>; 2], mut make: M, mut run: F) -> Result<()>
     where
         M: Drop,
         F: Drop,
         requires made { M.IsAlwaysCallable make }
         requires run { F.IsAlwaysCallable run }
     {
-        let mut time = Duration::MAX;
-        for _round in 0..self.rounds.saturating_mul(SHORT_ROUNDS) {
-            let source = make()?;
+        let [first, second] = turns;
+        let mut first_time = Duration::MAX;
+        let mut second_time = Duration::MAX;
+        for round in 0..self.rounds.saturating_mul(2 * SHORT_ROUNDS) {
+            let is_first = round % 2 == 0;
+            let turn = if is_first { first } else { second };
+            let source = make(turn)?;
             let start = Instant::now(clock)?;
-            let (given, made) = run(source)?;
-            time = time.min(start.elapsed(clock)?);
+            let (given, made) = run(turn, source)?;
+            let time = start.elapsed(clock)?;
             drop(made);
-            self.folded = self.folded.rotate_left(1) ^ given;
+            self.fold(given);
+            if is_first {
+                first_time = first_time.min(time);
+            } else {
+                second_time = second_time.min(time);
+            }
         }
-        self.taken.push(Figure { work, times, time })?;
+        self.keep_grown(first.figure(first_time), second.figure(second_time))
+    }
+
+    /// Folds in what a run gave.
+    fn fold(&mut self, given: u32) {
+        self.folded = self.folded.rotate_left(1) ^ given;
+    }
+
+    /// Keeps the time of the fastest round.
+    fn keep(&mut self, work: Work, time: Duration) -> Result<()> {
+        let times = 1;
+        self.taken.push(Figure {
+            work,
+            times,
+            time,
+            growth: None,
+        })?;
+        Ok(())
+    }
+
+    /// Keeps the times of two things that were done in turn.
+    fn keep_grown(&mut self, first: Figure, second: Figure) -> Result<()> {
+        let growth = Some(second.growth_from(&first));
+        self.taken.push(first)?;
+        self.taken.push(Figure { growth, ..second })?;
         Ok(())
     }
 

@@ -2,10 +2,10 @@
 
 ghost use Rattle.edit.specs.Edit.{HasLevels, edit_in};
 
-use crate::figures::{Call, Figures, Work};
+use crate::figures::{Call, Figures, Turn, Work};
 use anyhow::Result;
 use coding::{push_slice, push_varint};
-use edit::{Version, VersionEdit};
+use edit::{FileMeta, Version, VersionEdit};
 use ikey::Bytewise;
 use logrec::{append, records};
 use std::alloc::Global;
@@ -31,20 +31,26 @@ const BLOCK_LEN: usize = 32_768;
 struct Manifest {
     log: Vec<u8>,
     records: Vec<Vec<u8>>,
-    /// How many files its edits put in.
-    files: u64,
-    /// How often a round goes over it.
-    times: u32,
 }
 
-impl Manifest {
-    /// Work over all of it.
-    fn over(&self, call: Call) -> Work {
-        Work {
+/// Manifests that a round goes over, equally large, each once.
+#[derive(Drop)]
+struct Manifests {
+    all: Vec<Manifest>,
+    /// How many files each puts in.
+    files: u64,
+}
+
+impl Manifests {
+    /// A turn of work that is as much as all of them.
+    fn turn<S>(&self, call: Call, on: S) -> Turn<S> {
+        let work = Work {
             call,
-            bytes: self.log.len(),
+            bytes: self.all.first().map_or(0, |manifest| manifest.log.len()),
             entries: self.files as usize,
-        }
+        };
+        let times = number_of(&self.all);
+        Turn { on, work, times }
     }
 }
 
@@ -55,154 +61,163 @@ struct Decoded {
     ghost levels: { HasLevels (edit_in edit) },
 }
 
-/// Takes the figures of manifests of so many new files, and of manifests of a tenth of them, ten times over, so that a round
-/// is as much work: all files in one record, and a record for each.
+/// Takes the figures of a manifest of so many new files, in turn with ten manifests that have a tenth of these files each, so
+/// that a round is as much work over as much memory: all files of a manifest in one record, and a record for each.
 pub fn measure(clock: &impl Clock, alloc: Global, files: u64, figures: &mut Figures) -> Result<()> {
-    measure_both(clock, alloc, files / 10, 10, figures)?;
-    measure_both(clock, alloc, files, 1, figures)
+    measure_one(clock, alloc, files, figures)?;
+    measure_many(clock, alloc, files, figures)
 }
 
-/// Takes the figures of manifests of so many new files: all in one record, and a record for each.
-fn measure_both(
+/// Takes the figures of manifests that have all their files in one record.
+fn measure_one(clock: &impl Clock, alloc: Global, files: u64, figures: &mut Figures) -> Result<()> {
+    let tenths = one_record_each(alloc, 10, files / 10)?;
+    let whole = one_record_each(alloc, 1, files)?;
+    let both = [&tenths, &whole];
+    measure_read(clock, alloc, both, [Call::Records, Call::Decode], figures)?;
+    measure_applied(clock, alloc, both, Call::Applied, figures)?;
+    measure_versions(clock, alloc, both, figures)
+}
+
+/// Takes the figures of manifests that have a record for each file.
+fn measure_many(
     clock: &impl Clock,
     alloc: Global,
     files: u64,
-    times: u32,
     figures: &mut Figures,
 ) -> Result<()> {
-    let fields = fields(alloc, files)?;
-    let joined = vec![in alloc; joined(alloc, &fields)?]?;
-    let one = Manifest {
-        log: log_of(alloc, &joined)?,
-        records: joined,
-        files,
-        times,
-    };
-    measure_read(clock, alloc, &one, [Call::Records, Call::Decode], figures)?;
-    measure_applied(clock, alloc, &one, Call::Applied, figures)?;
-    measure_version(clock, alloc, &one, figures)?;
-    let many = Manifest {
-        log: log_of(alloc, &fields)?,
-        records: fields,
-        files,
-        times,
-    };
+    let tenths = many_records_each(alloc, 10, files / 10)?;
+    let whole = many_records_each(alloc, 1, files)?;
+    let both = [&tenths, &whole];
     measure_read(
         clock,
         alloc,
-        &many,
+        both,
         [Call::ManyRecords, Call::ManyDecode],
         figures,
     )?;
-    measure_applied(clock, alloc, &many, Call::ManyApplied, figures)
+    measure_applied(clock, alloc, both, Call::ManyApplied, figures)
 }
 
-/// Takes the figures of a manifest's records read, and of its edits read.
+/// So many manifests of so many new files each, in one record, their numbers rising from manifest to manifest.
+fn one_record_each(alloc: Global, count: u64, files: u64) -> Result<Manifests> {
+    let mut all = Vec::new(alloc);
+    for place in 0..count {
+        let fields = fields(alloc, place.saturating_mul(files), files)?;
+        all.push(manifest_of(alloc, vec![in alloc; joined(alloc, &fields)?]?)?)?;
+    }
+    Ok(Manifests { all, files })
+}
+
+/// So many manifests of so many new files each, a record for each file, their numbers rising from manifest to manifest.
+fn many_records_each(alloc: Global, count: u64, files: u64) -> Result<Manifests> {
+    let mut all = Vec::new(alloc);
+    for place in 0..count {
+        all.push(manifest_of(alloc, fields(alloc, place.saturating_mul(files), files)?)?)?;
+    }
+    Ok(Manifests { all, files })
+}
+
+/// The manifest of the records.
+fn manifest_of(alloc: Global, records: Vec<Vec<u8>>) -> Result<Manifest> {
+    let log = log_of(alloc, &records)?;
+    Ok(Manifest { log, records })
+}
+
+/// Takes the figures of the manifests' records read, and of their edits read.
 fn measure_read(
     clock: &impl Clock,
     alloc: Global,
-    manifest: &Manifest,
+    both: [&Manifests; 2],
     calls: [Call; 2],
     figures: &mut Figures,
 ) -> Result<()> {
     let [reading, decoding] = calls;
-    figures.take_of(
+    figures.take_in_turn(
         clock,
-        manifest.over(reading),
-        manifest.times,
-        || Ok(()),
-        |_| read_all(alloc, manifest),
+        both.map(|manifests| manifests.turn(reading, manifests)),
+        |_| Ok(()),
+        |turn, _| read_all(alloc, &turn.on.all),
     )?;
-    figures.take_of(
+    figures.take_in_turn(
         clock,
-        manifest.over(decoding),
-        manifest.times,
-        || Ok(()),
-        |_| decode_all(alloc, manifest),
+        both.map(|manifests| manifests.turn(decoding, manifests)),
+        |_| Ok(()),
+        |turn, _| decode_all(alloc, &turn.on.all),
     )
 }
 
-/// Takes the figure of a manifest's edits applied one after the other, each to the version that the last one made. In each
+/// Takes the figure of the manifests' edits applied one after the other, each to the version that the last one made. In each
 /// round the edits are read before the clock starts.
 fn measure_applied(
     clock: &impl Clock,
     alloc: Global,
-    manifest: &Manifest,
+    both: [&Manifests; 2],
     call: Call,
     figures: &mut Figures,
 ) -> Result<()> {
-    figures.take_of(
+    figures.take_in_turn(
         clock,
-        manifest.over(call),
-        manifest.times,
-        || sources_of(alloc, manifest),
-        |sources| applied_all(alloc, sources),
+        both.map(|manifests| manifests.turn(call, manifests)),
+        |turn| edits_of_each(alloc, &turn.on.all),
+        |_, edits| applied_all(alloc, edits),
     )
 }
 
-/// Takes the figures of the edits of a manifest each applied to an empty version, which stays as it is, and of the files of
-/// a level of what they make.
-fn measure_version(
+/// Takes the figures of the manifests' edits each applied to an empty version, which stays as it is, and of the files of a
+/// level of what they make.
+fn measure_versions(
     clock: &impl Clock,
     alloc: Global,
-    manifest: &Manifest,
+    both: [&Manifests; 2],
     figures: &mut Figures,
 ) -> Result<()> {
-    for decoded in &edits_of(alloc, &manifest.records)? {
-        figures.take_of(
-            clock,
-            manifest.over(Call::Apply),
-            manifest.times,
-            || Ok(()),
-            |_| apply_all(alloc, decoded, manifest.times),
-        )?;
-        let version = Version::empty(alloc).apply::<Bytewise>(alloc, &decoded.edit)?;
-        figures.take_of(
-            clock,
-            manifest.over(Call::LevelFiles),
-            manifest.times,
-            || Ok(()),
-            |_| order_all(alloc, &version, manifest.times),
-        )?;
-    }
-    Ok(())
+    let [tenths, whole] = both;
+    let tenths_edits = edits_of_each(alloc, &tenths.all)?;
+    let whole_edits = edits_of_each(alloc, &whole.all)?;
+    figures.take_in_turn(
+        clock,
+        [
+            tenths.turn(Call::Apply, &tenths_edits),
+            whole.turn(Call::Apply, &whole_edits),
+        ],
+        |_| Ok(()),
+        |turn, _| apply_all(alloc, turn.on),
+    )?;
+    let (_, tenths_versions) = applied_all(alloc, tenths_edits)?;
+    let (_, whole_versions) = applied_all(alloc, whole_edits)?;
+    figures.take_in_turn(
+        clock,
+        [
+            tenths.turn(Call::LevelFiles, &tenths_versions),
+            whole.turn(Call::LevelFiles, &whole_versions),
+        ],
+        |_| Ok(()),
+        |turn, _| order_all(alloc, turn.on),
+    )
 }
 
-/// Reads the records of a manifest, as often as a round does.
-fn read_all(alloc: Global, manifest: &Manifest) -> Result<(u32, Vec<Vec<Vec<u8>>>)> {
+/// Reads the records of each manifest.
+fn read_all(alloc: Global, manifests: &[Manifest]) -> Result<(u32, Vec<Vec<Vec<u8>>>)> {
     let mut all = Vec::new(alloc);
-    for _time in 0..manifest.times {
+    for manifest in manifests {
         all.push(records(alloc, &manifest.log)?)?;
     }
     Ok((number_of(&all), all))
 }
 
-/// Reads each edit of a manifest, as often as a round does, and gives how many files they put in, modulo 2^32.
-fn decode_all(alloc: Global, manifest: &Manifest) -> Result<(u32, ())> {
-    let mut added = 0u32;
-    for _time in 0..manifest.times {
-        added = added.wrapping_add(decode_each(alloc, &manifest.records)?);
-    }
-    Ok((added, ()))
+/// Reads the edits of each manifest.
+fn decode_all(alloc: Global, manifests: &[Manifest]) -> Result<(u32, Vec<Vec<Decoded>>)> {
+    let all = edits_of_each(alloc, manifests)?;
+    Ok((number_of(&all), all))
 }
 
-/// Reads each edit, and gives how many files they put in, modulo 2^32.
-fn decode_each(alloc: Global, records: &[Vec<u8>]) -> Result<u32> {
-    let mut added = 0u32;
-    for record in records {
-        let edit = VersionEdit::decode(alloc, record)?;
-        added = added.wrapping_add(number_of(&edit.added));
+/// The edits of each manifest.
+fn edits_of_each(alloc: Global, manifests: &[Manifest]) -> Result<Vec<Vec<Decoded>>> {
+    let mut all = Vec::new(alloc);
+    for manifest in manifests {
+        all.push(edits_of(alloc, &manifest.records)?)?;
     }
-    Ok(added)
-}
-
-/// The edits of a manifest, for each time that a round goes over it.
-fn sources_of(alloc: Global, manifest: &Manifest) -> Result<Vec<Vec<Decoded>>> {
-    let mut sources = Vec::new(alloc);
-    for _time in 0..manifest.times {
-        sources.push(edits_of(alloc, &manifest.records)?)?;
-    }
-    Ok(sources)
+    Ok(all)
 }
 
 /// The edits that the records read as.
@@ -233,23 +248,23 @@ fn applied(alloc: Global, edits: Vec<Decoded>) -> Result<Version> {
     Ok(version)
 }
 
-/// The versions that an edit makes of an empty one that stays.
-fn apply_all(alloc: Global, decoded: &Decoded, times: u32) -> Result<(u32, Vec<Version>)> {
+/// The versions that the edits make, each of an empty one that stays.
+fn apply_all(alloc: Global, sources: &[Vec<Decoded>]) -> Result<(u32, Vec<Version>)> {
     let empty = Version::empty(alloc);
     let mut versions = Vec::new(alloc);
-    for _time in 0..times {
+    for decoded in sources.iter().flatten() {
         versions.push(empty.apply::<Bytewise>(alloc, &decoded.edit)?)?;
     }
     Ok((number_of(&versions), versions))
 }
 
-/// Puts the files of a version's level in order, so often, and gives how many they were in all, modulo 2^32.
-fn order_all(alloc: Global, version: &Version, times: u32) -> Result<(u32, ())> {
-    let mut found = 0u32;
-    for _time in 0..times {
-        found = found.wrapping_add(number_of(&version.files::<Bytewise>(alloc, LEVEL)?));
+/// The files of each version's level in order.
+fn order_all<'a>(alloc: Global, versions: &'a [Version]) -> Result<(u32, Vec<Vec<&'a FileMeta>>)> {
+    let mut all = Vec::new(alloc);
+    for version in versions {
+        all.push(version.files::<Bytewise>(alloc, LEVEL)?)?;
     }
-    Ok((found, ()))
+    Ok((number_of(&all), all))
 }
 
 /// How many there are, modulo 2^32.
@@ -283,10 +298,10 @@ fn joined(alloc: Global, fields: &[Vec<u8>]) -> Result<Vec<u8>> {
     Ok(joined)
 }
 
-/// New-file fields with the numbers from 0 on.
-fn fields(alloc: Global, count: u64) -> Result<Vec<Vec<u8>>> {
+/// So many new-file fields with the numbers from one on.
+fn fields(alloc: Global, from: u64, count: u64) -> Result<Vec<Vec<u8>>> {
     let mut fields = Vec::new(alloc);
-    for number in 0..count {
+    for number in from..from.saturating_add(count) {
         fields.push(field(alloc, number)?)?;
     }
     Ok(fields)

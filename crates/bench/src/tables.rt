@@ -37,16 +37,10 @@ pub fn measure(
     })?;
     let sound = check::<Bytewise>(alloc, &table)?;
     figures.take(clock, over(Call::TableCursor), || walk(alloc, &sound))?;
-    figures.take_of(
-        clock,
-        over(Call::TableBuilder),
-        1,
-        || Ok(()),
-        |_| {
-            let table = written(alloc, values)?;
-            Ok((last_of(&table), table))
-        },
-    )?;
+    figures.take_made(clock, over(Call::TableBuilder), || {
+        let table = written(alloc, values)?;
+        Ok((last_of(&table), table))
+    })?;
     figures.take(
         clock,
         over(Call::FileBuilder),

@@ -9,6 +9,7 @@ pub mod Steps
 pub mod DataSteps
 pub mod CheckedTables
 pub mod EntryTests
+pub mod Orders
 pub mod Walks
 pub mod ReadBack
 pub mod StoredTables

@@ -1,7 +1,7 @@
 -- Lists of entries that are still to come.
-use Rattle.std.specs.Prelude.{◌≡◌, ℕ, Bool, false, if◌then◌else◌, List, [], ◌∷◌, take, drop}
+use Rattle.std.specs.Prelude.{◌≡◌, ◌⊎◌, ℕ, Bool, true, false, if◌then◌else◌, List, [], ◌∷◌}
 use Rattle.std.specs.List.{AllByRecursion}
-use Rattle.std.specs.Ordering.{is_lt}
+use Rattle.std.specs.Ordering.{is_le, is_lt}
 use Rattle.std.specs.declared.cmp.Ordering.{Ordering}
 use Rattle.std.specs.declared.cmp.Ordering.TheVariants.{Less}
 use Rattle.block.specs.Piece.{Entry}
@@ -12,16 +12,22 @@ abbrev pub IsRising : (List ℕ → List ℕ → Ordering) → List Entry → Ty
 IsRising cmp [] = Unit {0}
 IsRising cmp (e ∷ es) = AllByRecursion (λ f. internal_cmp cmp e.key f.key ≡ Less) es × IsRising cmp es
 
+-- each entry's internal key isn't above those of all later ones
+abbrev pub NeverFalls : (List ℕ → List ℕ → Ordering) → List Entry → Type 0
+NeverFalls cmp [] = Unit {0}
+NeverFalls cmp (e ∷ es) = AllByRecursion (λ f. is_le (internal_cmp cmp e.key f.key) ≡ true) es × NeverFalls cmp es
+
 -- the entries from the first on that isn't below this internal key
 abbrev pub entries_from : (List ℕ → List ℕ → Ordering) → List ℕ → List Entry → List Entry
 entries_from cmp target [] = []
 entries_from cmp target (e ∷ es) = if is_lt (internal_cmp cmp e.key target) then entries_from cmp target es else e ∷ es
 
--- what a refused walk to an internal key leaves: nothing is gone but first entries that are below it
-pub record LeavesFrom (cmp : List ℕ → List ℕ → Ordering) (target : List ℕ) (old new : List Entry) : Type 0 where
-  pub gone : ℕ
-  pub left : new ≡ drop gone old
-  pub below : AllByRecursion (λ e. internal_cmp cmp e.key target ≡ Less) (take gone old)
+-- What a refused walk to an internal key leaves of entries: each one, in their order, but some that are below it.
+abbrev pub LeavesFrom : (List ℕ → List ℕ → Ordering) → List ℕ → List Entry → List Entry → Type 0
+LeavesFrom cmp target [] new = new ≡ []
+LeavesFrom cmp target (e ∷ es) new =
+    ((internal_cmp cmp e.key target ≡ Less) × LeavesFrom cmp target es new)
+    ⊎ ((left : List Entry) × ((new ≡ e ∷ left) × LeavesFrom cmp target es left))
 
 -- whether the first entry, where there is one, is below this internal key
 abbrev pub first_is_below : (List ℕ → List ℕ → Ordering) → List ℕ → List Entry → Bool

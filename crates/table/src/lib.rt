@@ -17,7 +17,7 @@ mod walking;
 
 pub use builder::TableBuilder;
 pub use checking::{check, reads_tables};
-pub use cursor::Cursor;
+pub use cursor::{Cursor, Entries};
 pub use laws::{data_blocks_law, table_reads_back};
 pub use options::Options;
 pub use sound_table::SoundTable;

@@ -4,9 +4,9 @@ ghost use Rattle.std.specs.Prelude.{◌≡◌, ◌<◌, ◌↔◌, List, length,
 ghost use Rattle.std.specs.Option.{option_map};
 ghost use Rattle.coding.specs.Answers.{Gives, fault};
 ghost use Rattle.coding.specs.declared.fault.FaultName.TheVariants.{Memory};
-ghost use Rattle.table.specs.ReadingCursors.{entries_from, LeavesFrom};
+ghost use Rattle.table.specs.ReadingCursors.{IsRising, NeverFalls, entries_from, LeavesFrom};
 
-use crate::cursor::Cursor;
+use crate::cursor::{Cursor, Entries};
 use crate::naming::block_named;
 use crate::sound_table::SoundTable;
 use crate::walking::{first_key, is_below, walk_to};
@@ -89,10 +89,17 @@ impl<'a, C: Comparator> TableCursor<'a, C> {
     }
 }
 
-impl<'a, C: Comparator> Cursor<'a, C> for TableCursor<'a, C> {
+impl<'a, C: Comparator> Entries for TableCursor<'a, C> {
     ghost to_come = { λ c. c };
+}
 
-    fn valid(&self) -> bool {
+impl<'a, C: Comparator> Cursor<'a, C> for TableCursor<'a, C> {
+    /// Whether an entry is still to come. Takes no memory. No two entries have one internal key.
+    fn valid(&self) -> bool
+        ensures some { IsTrue result ↔ (0 < length self.now) }
+        ensures ordered { NeverFalls C.cmp self.now }
+        ensures rising { IsRising C.cmp self.now }
+    {
         self.block.valid()
     }
 

@@ -15,7 +15,7 @@ use Rattle.coding.specs.declared.fault.Fault.{Fault}
 use Rattle.coding.specs.declared.fault.FaultName.{FaultName}
 use Rattle.coding.specs.declared.fault.FaultName.TheVariants.{Apply, Memory}
 use Rattle.edit.specs.Edit.{Edit, HasLevels}
-use Rattle.edit.specs.Version.{State, AreLevelled, is_deleted, has_place, kept_files, are_new, number_cmp, with_file, files_after, with_pointer, names_another, applied, applied_by}
+use Rattle.edit.specs.Version.{State, AreLevelled, is_deleted, has_place, kept_files, are_new, number_cmp, with_file, files_after, with_pointer, applied}
 use Rattle.edit.specs.declared.meta.NewFile.{NewFile}
 use Rattle.edit.specs.declared.meta.CompactPointer.{CompactPointer}
 use Rattle.edit.specs.declared.meta.DeletedFile.{DeletedFile}
@@ -97,9 +97,9 @@ none_after None make e h = ap no_version (same_fault (fault Apply) e h)
 none_after (Some x) make e h = absurd cc
 
 -- where there are no files after an edit, there is no version
-pub refused_after : (name : List ℕ) (v : State) (e : Edit) (d : Fault) → names_another name e ≡ false → Fails d (answer (files_after v.files e.deleted e.added)) → Fails d (applied_by name v e)
-refused_after name v e d own h =
-    rw own (unless_on d.name (answer (files_after v.files e.deleted e.added) ≡ Err d) (ok_or (applied v e) (fault Apply) ≡ Err d) (λ none. none_after (files_after v.files e.deleted e.added) _ d none) h)
+pub refused_after : (v : State) (e : Edit) (d : Fault) → Fails d (answer (files_after v.files e.deleted e.added)) → Fails d (ok_or (applied v e) (fault Apply))
+refused_after v e d h =
+    unless_on d.name (answer (files_after v.files e.deleted e.added) ≡ Err d) (ok_or (applied v e) (fault Apply) ≡ Err d) (λ none. none_after (files_after v.files e.deleted e.added) _ d none) h
 
 abbrev low : NewFile → Type 0
 low f = f.level ≤ 6
@@ -124,7 +124,7 @@ levels_after pointers after_pointers files after e state levels is pointers-are 
     }
 
 -- the version after an edit, by its parts
-pub applied_is : (name : List ℕ) (v after : State) (e : Edit) → names_another name e ≡ false → files_after v.files e.deleted e.added ≡ Some after.files → after.pointers ≡ fold with_pointer v.pointers e.pointers
+pub applied_is : (v after : State) (e : Edit) → files_after v.files e.deleted e.added ≡ Some after.files → after.pointers ≡ fold with_pointer v.pointers e.pointers
     → after.log_number ≡ option_or e.log_number v.log_number → after.previous_log ≡ option_or e.previous_log v.previous_log → after.next_file ≡ option_or e.next_file v.next_file → after.last_sequence ≡ option_or e.last_sequence v.last_sequence
-    → applied_by name v e ≡ Ok after
-applied_is name v after e own files pointers log previous next last = rw (own, files, ← pointers, ← log, ← previous, ← next, ← last) refl
+    → ok_or (applied v e) (fault Apply) ≡ Ok after
+applied_is v after e files pointers log previous next last = rw (files, ← pointers, ← log, ← previous, ← next, ← last) refl

@@ -1,11 +1,11 @@
 //! Versions, and how edits change them.
 
 ghost use Rattle.std.specs.Prelude.{◌≡◌, ◌<◌, ◌≤◌, ◌^◌, length, map, Ok, IfOk, IfErr};
-ghost use Rattle.coding.specs.declared.fault.FaultName.TheVariants.{Memory};
-ghost use Rattle.std.specs.Option.{option_copied};
-ghost use Rattle.coding.specs.Answers.{Gives};
+ghost use Rattle.coding.specs.declared.fault.FaultName.TheVariants.{Apply, Memory};
+ghost use Rattle.std.specs.Option.{option_copied, ok_or};
+ghost use Rattle.coding.specs.Answers.{Gives, fault};
 ghost use Rattle.edit.specs.Edit.{HasLevels, HasShortName};
-ghost use Rattle.edit.specs.Version.{IsState, empty_state, pointer_of, applied_by};
+ghost use Rattle.edit.specs.Version.{IsState, empty_state, pointer_of, applied, applied_by};
 ghost use Rattle.edit.specs.VersionOrder.{level_files, snapshot_of};
 
 use crate::applying::{files_after, pointers_after};
@@ -114,7 +114,10 @@ impl Version {
         requires { HasLevels (edit_in edit.now) }
         ensures after { Gives (λ v. v) result (applied_by C.name_bytes self.now (edit_in edit.now)) }
     {
-        self.copy(alloc)?.applied::<C>(edit.copy(alloc)?)
+        if edit.names_another::<C>() {
+            return Err(Fault::of(FaultName::Comparator));
+        }
+        self.copy(alloc)?.changed(edit.copy(alloc)?)
     }
 
     /// The version after an edit, made of this one and of what the edit holds.
@@ -128,6 +131,14 @@ impl Version {
         if edit.names_another::<C>() {
             return Err(Fault::of(FaultName::Comparator));
         }
+        self.changed(edit)
+    }
+
+    /// The version after an edit, whose comparator is this version's. `Apply` where the edit doesn't fit.
+    fn changed(self, edit: VersionEdit) -> Result<Version, Fault>
+        requires { HasLevels (edit_in edit) }
+        ensures after { Gives (λ v. v) result (ok_or (applied self (edit_in edit)) (fault Apply)) }
+    {
         let files = files_after(self.files, edit.deleted, edit.added)?;
         let pointers = pointers_after(self.pointers, edit.pointers)?;
         Ok(Version {

@@ -5,3 +5,4 @@ pub mod Leasts
 pub mod Seeks
 pub mod Refused
 pub mod OneMerge
+pub mod Unions

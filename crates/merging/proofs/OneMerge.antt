@@ -16,7 +16,7 @@ use Rattle.merging.proofs.Sorting.{with_first, sorted_never_falls, filter-sorted
 
 -- ---- entries of one key
 
-equal_is : (o : Ordering) → is_eq o ≡ true → o ≡ Equal
+pub equal_is : (o : Ordering) → is_eq o ≡ true → o ≡ Equal
 equal_is Less h = absurd cc
 equal_is Equal h = refl
 equal_is Greater h = absurd cc
@@ -64,7 +64,7 @@ own_key cmp total key = by_order (internal_cmp cmp key key) ((internal_cmp-total
     by_order Greater h = absurd cc
 
 -- no entry above a key has it
-none_above : (cmp : List ℕ → List ℕ → Ordering) → IsTotalOrder cmp → (key : List ℕ) (es : List Entry) → AllByRecursion (Above cmp key) es → filter (has_key cmp key) es ≡ []
+pub none_above : (cmp : List ℕ → List ℕ → Ordering) → IsTotalOrder cmp → (key : List ℕ) (es : List Entry) → AllByRecursion (Above cmp key) es → filter (has_key cmp key) es ≡ []
 none_above cmp total key [] h = refl
 none_above cmp total key (e ∷ es) h =
     ap (λ (o : Ordering). cond (is_eq o) (e ∷ filter (has_key cmp key) es) (filter (has_key cmp key) es)) ((internal_cmp-total total).antisymm e.key key ∙ ap ordering_reverse h.0)

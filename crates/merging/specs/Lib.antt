@@ -1,3 +1,4 @@
 pub mod Merged
+pub mod Union
 pub mod Least
 pub mod Seeking

@@ -1,6 +1,7 @@
 //! Laws of merges.
 
 ghost use Rattle.merging.specs.Merged.{MergeLaw};
+ghost use Rattle.merging.specs.Union.{UnionLaw};
 
 use ikey::Comparator;
 
@@ -8,4 +9,9 @@ use ikey::Comparator;
 /// that they have, in their order. A call does nothing.
 pub fn merge_law<C: Comparator>()
     ensures { MergeLaw C.cmp }
+{}
+
+/// The law that the union of inputs is their sorted merge, where no user key has one sequence twice. A call does nothing.
+pub fn union_law<C: Comparator>()
+    ensures { UnionLaw C.cmp }
 {}

@@ -8,5 +8,5 @@ mod laws;
 mod least;
 mod merging;
 
-pub use laws::merge_law;
+pub use laws::{merge_law, union_law};
 pub use merging::Merging;

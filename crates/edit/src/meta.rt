@@ -25,7 +25,7 @@ pub struct FileMeta {
 
 impl FileMeta {
     /// A copy of what is known of the file. Fails for want of memory alone.
-    pub(crate) fn copy(&self, alloc: Global) -> Result<FileMeta, Fault>
+    pub fn copy(&self, alloc: Global) -> Result<FileMeta, Fault>
         ensures { Gives (λ file. file) result (Ok self.now) }
     {
         Ok(FileMeta {

@@ -322,3 +322,16 @@ fn round(alloc: Global) -> Result<Vec<u8>, Fault> {
     }
     version.snapshot_edit::<Bytewise>(alloc)?.encode(alloc)
 }
+
+#[test]
+fn a_copy_of_a_file(rt: HostRuntime) -> Result<(), Fail> {
+    let edit = VersionEdit::decode(rt.alloc(), REPLACING)?;
+    for file in &edit.added {
+        let copy = file.meta.copy(rt.alloc())?;
+        assert_eq!(rt; copy.number, 9);
+        assert_eq!(rt; copy.size, 113);
+        assert_eq!(rt; copy.smallest.as_key().user(), b"u".as_slice());
+        assert_eq!(rt; copy.largest.as_key().sequence(), 4);
+    }
+    Ok(())
+}

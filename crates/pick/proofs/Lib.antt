@@ -1,0 +1,10 @@
+pub mod Lists
+pub mod Orders
+pub mod Grown
+pub mod VersionFiles
+pub mod Chains
+pub mod Spanning
+pub mod Choosing
+pub mod Assembling
+pub mod LaterLevels
+pub mod OneChoice

@@ -1,0 +1,55 @@
+use Rattle.std.proofs.Common.{Bor, List, Some, Err, ◌≡◌, ◌+◌, ◌-◌, ◌++◌, nat_lt, cond, map, [], sym, ap, subst, ◌∙◌}
+use Rattle.std.specs.List.{filter, slice_get}
+use Rattle.ikey.specs.Key.{user_of}
+use Rattle.std.specs.Option.{option_copied}
+use Rattle.coding.specs.Answers.{UnlessMemory}
+use Rattle.coding.specs.declared.fault.Fault.{Fault}
+use Rattle.coding.proofs.Binds.{ok_is}
+use Rattle.edit.specs.VersionOrder.{level_files}
+use Rattle.edit.specs.declared.meta.FileMeta.{FileMeta}
+use Rattle.pick.specs.Boundaries.{largest_key}
+use Rattle.pick.specs.Choices.{is_in}
+use Rattle.pick.specs.Spans.{least_user, greatest_user, is_overlapping}
+use Rattle.pick.specs.Picked.{IsInputsAnswer, files_from, input_at}
+use Rattle.pick.proofs.Lists.{lent}
+use Rattle.pick.proofs.Assembling.{is_no_input, are_inputs, no_largest, no_head_lent, head_lent, both_pushed}
+use Rattle.pick.proofs.picking.inputs.Goals as goal
+use Rattle.pick.proofs.picking.inputs.Goals.{in_default-via-in-Some+in_default, in_default-via-in_default}
+
+pub returns-in_default : goal.returns-in_default
+returns-in_default g c =
+    let cmp = g.C.Comparator.cmp in
+    let upper = c.in_ok-upper.upper.items in
+    let refusal = λ (short : _). is_no_input cmp c.args.version.now c.args.level (lent upper) c.if-level-gt-LAST_INPUT_LEVEL.false c.in_ok-upper.ensures short in
+    subst (λ (e : Fault). UnlessMemory e.name (IsInputsAnswer cmp c.args.version.now c.args.level (Err e))) (sym c.of-in_default.ensures)
+    (elim c.in_default.branch [
+      | in_default-via-in-Some+in_default w ↦ refusal (no_largest cmp (lent upper) (ap (λ (fs : List (Bor FileMeta)). largest_key cmp (lent fs)) (sym c.deref-2.ensures.value) ∙ sym c.largest_of.ensures ∙ ap option_copied w.in_default.is-1))
+      | in_default-via-in_default w ↦ refusal (no_head_lent upper (ap (λ (fs : List (Bor FileMeta)). slice_get fs 0) (sym c.deref.ensures.value) ∙ sym c.first.ensures.value ∙ ap option_copied w.in_default.is-0))
+    ])
+
+pub returns : goal.returns
+returns g c =
+    let cmp = g.C.Comparator.cmp in
+    let v = c.args.version.now in
+    let level = c.args.level in
+    let upper = c.in_ok-upper.upper.items in
+    let lower = c.in_ok-lower.lower.items in
+    let first = c.in-Some-Some.first.now.now in
+    let range = c.over-range.result in
+    let wide = c.over.result in
+    let head = head_lent upper c.in-Some-Some.first.now (ap (λ (fs : List (Bor FileMeta)). slice_get fs 0) (sym c.deref.ensures.value) ∙ sym c.in-Some-Some.ensures.value) in
+    let smallest : range.smallest.now ≡ least_user cmp (user_of first.smallest) (lent upper) = rw (← c.deref-3.ensures.value, ← c.of-2.ensures.smallest) c.over-range.ensures.smallest in
+    let largest : range.largest.now ≡ greatest_user cmp (user_of first.largest) (lent upper) = rw (← c.deref-3.ensures.value, ← c.of-2.ensures.largest) c.over-range.ensures.largest in
+    let wide_smallest : wide.smallest.now ≡ least_user cmp range.smallest.now (lent lower) = c.over.ensures.smallest ∙ ap (λ (fs : List (Bor FileMeta)). least_user cmp range.smallest.now (lent fs)) c.deref-6.ensures.value in
+    let wide_largest : wide.largest.now ≡ greatest_user cmp range.largest.now (lent lower) = c.over.ensures.largest ∙ ap (λ (fs : List (Bor FileMeta)). greatest_user cmp range.largest.now (lent fs)) c.deref-6.ensures.value in
+    let key : largest_key cmp (lent upper) ≡ Some c.in_ok-of.field-0 =
+    ap (λ (fs : List (Bor FileMeta)). largest_key cmp (lent fs)) (sym c.deref-2.ensures.value) ∙ sym c.in-Some-Some.ensures' ∙ ap Some (sym c.as_key.ensures ∙ ok_is c.as_key.result.bytes.now c.in_ok-of.field-0 c.in_ok-of.ensures) in
+    let files : c.push_inputs-2.new.inputs.items ≡ map (input_at level) (lent upper) ++ map (input_at (level + 1)) (lent lower) =
+    both_pushed level upper lower c.deref-4.result.now c.deref-5.result.now c.in_ok-files.files.items c.push_inputs.new.inputs.items c.push_inputs-2.new.inputs.items c.in_ok-files.ensures.items c.deref-4.ensures.value c.deref-5.ensures.value c.in_ok-push_inputs.ensures.ok c.in_ok-push_inputs-2.ensures.ok in
+    let grandparents : c.in_ok-grandparents.field-0.items ≡ cond (nat_lt 6 (level + 2)) [] (filter (is_overlapping cmp (least_user cmp range.smallest.now (lent lower)) (greatest_user cmp range.largest.now (lent lower))) (level_files cmp v (level + 2))) =
+    sym (ok_is (cond (nat_lt 6 (level + 2)) [] (filter (is_in cmp wide) (level_files cmp v (level + 2)))) c.in_ok-grandparents.field-0.items c.in_ok-grandparents.ensures)
+    ∙ ap (λ s. cond (nat_lt 6 (level + 2)) [] (filter (is_overlapping cmp s wide.largest.now) (level_files cmp v (level + 2)))) wide_smallest
+    ∙ ap (λ l. cond (nat_lt 6 (level + 2)) [] (filter (is_overlapping cmp (least_user cmp range.smallest.now (lent lower)) l) (level_files cmp v (level + 2)))) wide_largest in
+    let deeper : c.in_ok-deeper_files.field-0.items ≡ files_from cmp v (level + 2) (7 - (level + 2)) = sym (ok_is (files_from cmp v (level + 2) (7 - (level + 2))) c.in_ok-deeper_files.field-0.items c.in_ok-deeper_files.ensures) in
+    are_inputs cmp v level g.met.C.Comparator.total (lent upper) (lent lower) first range.smallest.now range.largest.now c.in_ok-of.field-0 c.push_inputs-2.new.inputs.items c.in_ok-grandparents.field-0.items c.in_ok-deeper_files.field-0.items
+    c.if-level-gt-LAST_INPUT_LEVEL.false c.in_ok-upper.ensures head smallest largest c.in_ok-lower.ensures files grandparents deeper key

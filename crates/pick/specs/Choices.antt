@@ -1,0 +1,49 @@
+-- Which files of a level are chosen before boundary files are, as the code tells them.
+use Rattle.std.specs.Prelude.{◌≡◌, ℕ, nat_eq, Bool, true, ◌||◌, ◌&&◌, not, if◌then◌else◌, List, [], ◌∷◌, filter, Option}
+use Rattle.std.specs.List.{AllByRecursion}
+use Rattle.std.specs.declared.cmp.Ordering.{Ordering}
+use Rattle.ikey.specs.Key.{user_of}
+use Rattle.edit.specs.declared.meta.FileMeta.{FileMeta}
+use Rattle.pick.specs.Ranges.{begins_by, ends_from}
+use Rattle.pick.specs.Chosen.{IsClosed}
+use Rattle.pick.specs.Spans.{is_overlapping, is_covering}
+use Rattle.pick.specs.Boundaries.{with_largest, goes_on}
+use Rattle.pick.specs.declared.choice.Choice.{Choice}
+use Rattle.pick.specs.declared.choice.Choice.TheVariants.{First, Around, Overlapping}
+use Rattle.pick.specs.declared.range.UserRange.{UserRange}
+
+-- whether the range of a file overlaps that of user keys
+abbrev pub is_in : (List ℕ → List ℕ → Ordering) → UserRange → FileMeta → Bool
+is_in cmp range f = is_overlapping cmp range.smallest.now range.largest.now f
+
+-- whether the range of user keys would grow by a file that overlaps it
+abbrev pub is_widening : (List ℕ → List ℕ → Ordering) → UserRange → FileMeta → Bool
+is_widening cmp range f = is_in cmp range f && not (is_covering cmp range.smallest.now range.largest.now f)
+
+-- the range of the files begins at the one user key or before it, and ends at the other or behind it
+pub record Reaches (cmp : List ℕ → List ℕ → Ordering) (files : List FileMeta) (smallest largest : List ℕ) : Type 0 where
+  pub begins : begins_by cmp files smallest ≡ true
+  pub ends : ends_from cmp files largest ≡ true
+
+-- whether a file is chosen
+abbrev pub is_chosen : (List ℕ → List ℕ → Ordering) → Choice → FileMeta → Bool
+is_chosen cmp (First number) f = nat_eq f.number number
+is_chosen cmp (Around number range) f = nat_eq f.number number || is_in cmp range f
+is_chosen cmp (Overlapping range) f = is_in cmp range f
+
+-- The user keys of a first file, grown over the files as little as can be: they hold those of the first file, no file is
+-- left by which they would grow, and the range of each closed set reaches as far that has the first file's.
+pub record IsGrown (cmp : List ℕ → List ℕ → Ordering) (files : List FileMeta) (first : FileMeta) (smallest largest : List ℕ) : Type 0 where
+  pub with_first : is_covering cmp smallest largest first ≡ true
+  pub rests : AllByRecursion (λ (f : FileMeta). is_overlapping cmp smallest largest f ≡ true → is_covering cmp smallest largest f ≡ true) files
+  pub least : (other : FileMeta → Bool) → IsClosed cmp files other → Reaches cmp (filter other files) (user_of first.smallest) (user_of first.largest) → Reaches cmp (filter other files) smallest largest
+
+-- the files that pass the test and those that go on within the largest key so far, in one pass
+abbrev pub joined : (List ℕ → List ℕ → Ordering) → (FileMeta → Bool) → Option (List ℕ) → List FileMeta → List FileMeta
+joined cmp test key [] = []
+joined cmp test key (f ∷ files) =
+    if test f
+    then f ∷ joined cmp test key files
+    else if goes_on cmp key f
+    then f ∷ joined cmp test (with_largest cmp key f) files
+    else joined cmp test key files

@@ -1,0 +1,89 @@
+-- The inputs of a compaction.
+use Rattle.std.specs.Prelude.{◌≡◌, ℕ, zero, suc, ◌+◌, ◌-◌, ◌<◌, nat_lt, if◌then◌else◌, List, [], ◌++◌, length, map, filter, Some, Result, Ok, Err, MatchBool, IsOkAnd}
+use Rattle.std.specs.declared.cmp.Ordering.{Ordering}
+use Rattle.coding.specs.Answers.{fault}
+use Rattle.coding.specs.declared.fault.Fault.{Fault}
+use Rattle.coding.specs.declared.fault.FaultName.TheVariants.{NoInput, Level}
+use Rattle.edit.specs.Version.{State, pointer_of}
+use Rattle.edit.specs.VersionOrder.{level_files}
+use Rattle.edit.specs.declared.meta.FileMeta.{FileMeta}
+use Rattle.edit.specs.declared.meta.CompactPointer.{CompactPointer}
+use Rattle.pick.specs.Ranges.{overlaps}
+use Rattle.pick.specs.Chosen.{first_file, AreChosen}
+use Rattle.pick.specs.Boundaries.{largest_key, AreWithBoundaries}
+use Rattle.pick.specs.declared.picked.InputFile.{InputFile}
+use Rattle.pick.specs.declared.picked.Inputs.{Inputs}
+
+-- the inputs, without where they lie in memory
+pub record Picked : Type 0 where
+  pub level : ℕ
+  pub files : List InputFile
+  pub grandparents : List FileMeta
+  pub deeper : List FileMeta
+  pub pointer : CompactPointer
+
+-- inputs of the code
+abbrev pub picked_in : Inputs → Picked
+picked_in i = record {
+  level = i.level;
+  files = i.files.items;
+  grandparents = i.grandparents.items;
+  deeper = i.deeper.items;
+  pointer = i.pointer;
+}
+
+-- a file as an input of a level
+abbrev pub input_at : ℕ → FileMeta → InputFile
+input_at level f = record { level = level; meta = f }
+
+-- the files of n levels from this one on, by level and in version order
+unfoldable pub files_from : (List ℕ → List ℕ → Ordering) → State → ℕ → ℕ → List FileMeta
+files_from cmp v level zero = []
+files_from cmp v level (suc n) = level_files cmp v level ++ files_from cmp v (level + 1) n
+
+-- the files of the level two below whose user-key range overlaps that of all inputs, and none where that level exceeds 6
+abbrev pub grandparents_of : (List ℕ → List ℕ → Ordering) → State → ℕ → List FileMeta → List FileMeta
+grandparents_of cmp v level all = if nat_lt 6 (level + 2) then [] else filter (overlaps cmp all) (level_files cmp v (level + 2))
+
+-- The inputs of the level itself: the first file by the compact pointer, what is chosen with it, and the boundary files.
+pub record AreUpper (cmp : List ℕ → List ℕ → Ordering) (v : State) (level : ℕ) (upper : List FileMeta) : Type 0 where
+  pub first : FileMeta
+  pub is_first : first_file cmp (pointer_of v level) (level_files cmp v level) ≡ Some first
+  pub chosen : List FileMeta
+  pub are_chosen : AreChosen cmp level (level_files cmp v level) first chosen
+  pub with_boundaries : AreWithBoundaries cmp (level_files cmp v level) chosen upper
+
+-- The inputs of the level below: the files whose user-key range overlaps that of the upper inputs, and their boundary
+-- files.
+abbrev pub AreLower : (List ℕ → List ℕ → Ordering) → State → ℕ → List FileMeta → List FileMeta → Type 0
+AreLower cmp v level upper lower =
+    AreWithBoundaries cmp (level_files cmp v level) (filter (overlaps cmp upper) (level_files cmp v level)) lower
+
+-- the inputs of the level itself, and none where the level has no file
+abbrev pub IsUpperAnswer : (List ℕ → List ℕ → Ordering) → State → ℕ → Result (List FileMeta) Fault → Type 0
+IsUpperAnswer cmp v level answer =
+    MatchBool (nat_lt 0 (length (level_files cmp v level))) (IsOkAnd answer (λ upper. AreUpper cmp v level upper × (0 < length upper))) (answer ≡ Ok [])
+
+-- The inputs of a compaction of a level: its own inputs, then those of the level below; the files of the level below that
+-- which overlap them, the files of all levels from there on, and the largest key of its own inputs as its new compact
+-- pointer.
+pub record IsPicked (cmp : List ℕ → List ℕ → Ordering) (v : State) (level : ℕ) (p : Picked) : Type 0 where
+  pub upper : List FileMeta
+  pub are_upper : AreUpper cmp v level upper
+  pub lower : List FileMeta
+  pub are_lower : AreLower cmp v (level + 1) upper lower
+  pub level_is : p.level ≡ level
+  pub files_are : p.files ≡ map (input_at level) upper ++ map (input_at (level + 1)) lower
+  pub grandparents_are : p.grandparents ≡ grandparents_of cmp v level (upper ++ lower)
+  pub deeper_are : p.deeper ≡ files_from cmp v (level + 2) (5 - level)
+  pub pointer_level : p.pointer.level ≡ level
+  pub pointer_key : largest_key cmp upper ≡ Some p.pointer.key
+
+-- The answer on a level of a version: Level where the level is above 5, else NoInput where it has no file, else its inputs.
+abbrev pub IsInputsAnswer : (List ℕ → List ℕ → Ordering) → State → ℕ → Result Picked Fault → Type 0
+IsInputsAnswer cmp v level answer =
+    MatchBool (nat_lt 5 level) (answer ≡ Err (fault Level)) (MatchBool (nat_lt 0 (length (level_files cmp v level))) (IsOkAnd answer (IsPicked cmp v level)) (answer ≡ Err (fault NoInput)))
+
+-- a level of a version has no two choices of inputs
+abbrev pub HasOneChoice : (List ℕ → List ℕ → Ordering) → Type 0
+HasOneChoice cmp = (v : State) (level : ℕ) (p q : Picked) → IsPicked cmp v level p → IsPicked cmp v level q → p ≡ q

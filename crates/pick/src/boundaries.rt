@@ -1,0 +1,97 @@
+//! Boundary files.
+
+ghost use Rattle.std.specs.Prelude.{◌≡◌, Ok, Some, map, filter, fold};
+ghost use Rattle.std.specs.Option.{option_copied};
+ghost use Rattle.coding.specs.Answers.{Gives};
+ghost use Rattle.pick.specs.Boundaries.{greater_key, with_largest, largest_key, goes_on as is_going_on};
+ghost use Rattle.pick.specs.Choices.{is_chosen, joined};
+
+use crate::choice::Choice;
+use coding::Fault;
+use edit::FileMeta;
+use ikey::{Comparator, KeyBuf};
+use std::alloc::Global;
+
+/// The greater of two keys.
+fn greater_of<'a, C: Comparator>(a: &'a KeyBuf, b: &'a KeyBuf) -> &'a KeyBuf
+    ensures { result.now ≡ greater_key C.cmp a.now b.now }
+{
+    if a.as_key().compare::<C>(&b.as_key()).is_lt() {
+        b
+    } else {
+        a
+    }
+}
+
+/// The greatest key so far, with the largest key of one file more.
+fn largest_with<'a, C: Comparator>(
+    key: Option<&'a KeyBuf>,
+    file: &'a FileMeta,
+) -> Option<&'a KeyBuf>
+    ensures { option_copied result ≡ with_largest C.cmp (option_copied key.entry) file.now }
+{
+    match key {
+        Some(key) => Some(greater_of::<C>(key, &file.largest)),
+        None => Some(&file.largest),
+    }
+}
+
+/// The greatest of the files' largest keys, where there is a file.
+pub(crate) fn largest_of<'a, C: Comparator>(files: &[&'a FileMeta]) -> Option<&'a KeyBuf>
+    ensures { option_copied result ≡ largest_key C.cmp (map (λ f. f.now) files.now) }
+{
+    let mut largest = None;
+    for file in files {
+        largest = largest_with::<C>(largest, *file);
+    }
+    largest
+}
+
+/// The greatest of the largest keys of those files that are chosen, where there is one.
+fn largest_chosen<'a, C: Comparator>(
+    files: &[&'a FileMeta],
+    choice: Choice<'_>,
+) -> Option<&'a KeyBuf>
+    ensures { option_copied result ≡ largest_key C.cmp (filter (is_chosen C.cmp choice.entry) (map (λ f. f.now) files.now)) }
+{
+    let mut largest = None;
+    for file in files {
+        if choice.holds::<C>(*file) {
+            largest = largest_with::<C>(largest, *file);
+        }
+    }
+    largest
+}
+
+/// Whether a file goes on within the user key of a largest key: its smallest key is greater and has that user key.
+fn goes_on<C: Comparator>(key: Option<&KeyBuf>, file: &FileMeta) -> bool
+    ensures { result ≡ is_going_on C.cmp (option_copied key.entry) file.now }
+{
+    let Some(key) = key else {
+        return false;
+    };
+    let smallest = file.smallest.as_key();
+    key.as_key().compare::<C>(&smallest).is_lt()
+        && C::compare(key.as_key().user(), smallest.user()).is_eq()
+}
+
+/// The files that are chosen, and their boundary files, in the order of the files. Refused only for want of memory.
+pub(crate) fn with_boundaries<'a, C: Comparator>(
+    alloc: Global,
+    files: &[&'a FileMeta],
+    choice: Choice<'_>,
+) -> Result<Vec<&'a FileMeta>, Fault>
+    ensures { Gives (λ v. map (λ f. f.now) v.items) result (Ok (joined C.cmp (is_chosen C.cmp choice.entry) (largest_key C.cmp (filter (is_chosen C.cmp choice.entry) (map (λ f. f.now) files.now))) (map (λ f. f.now) files.now))) }
+{
+    let mut largest = largest_chosen::<C>(files, choice);
+    let mut all = Vec::new(alloc);
+    for file in files {
+        if choice.holds::<C>(*file) {
+            all.push(*file)?;
+        } else if goes_on::<C>(largest, *file) {
+            largest = largest_with::<C>(largest, *file);
+            all.push(*file)?;
+        }
+    }
+    Ok(all)
+}

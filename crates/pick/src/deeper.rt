@@ -1,0 +1,98 @@
+//! Copies of files for the inputs.
+
+ghost use Rattle.std.specs.Prelude.{◌≡◌, ◌≤◌, ◌+◌, ◌-◌, ◌++◌, Ok, [], nat_lt, if◌then◌else◌, map, filter, OnOk, IfErr};
+ghost use Rattle.coding.specs.Answers.{Gives};
+ghost use Rattle.coding.specs.declared.fault.FaultName.TheVariants.{Memory};
+ghost use Rattle.edit.specs.VersionOrder.{level_files};
+ghost use Rattle.pick.specs.Choices.{is_in};
+ghost use Rattle.pick.specs.Picked.{files_from, input_at};
+
+use crate::picked::InputFile;
+use crate::range::UserRange;
+use coding::Fault;
+use edit::{FileMeta, Version};
+use ikey::Comparator;
+use std::alloc::Global;
+
+/// The greatest level.
+const LAST_LEVEL: u64 = 6;
+
+/// Appends copies of the files, as inputs of a level.
+pub(crate) fn push_inputs(
+    alloc: Global,
+    inputs: &mut Vec<InputFile>,
+    level: u64,
+    files: &[&FileMeta],
+) -> Result<(), Fault>
+    ensures ok { OnOk result (inputs.new.items ≡ inputs.old.items ++ map (λ f. input_at level f.now) files.now) }
+    ensures memory { IfErr result (λ e. e.name ≡ Memory) }
+{
+    for file in files {
+        let meta = file.copy(alloc)?;
+        inputs.push(InputFile { level, meta })?;
+    }
+    Ok(())
+}
+
+/// Appends copies of the files.
+fn push_copies(alloc: Global, copies: &mut Vec<FileMeta>, files: &[&FileMeta]) -> Result<(), Fault>
+    ensures ok { OnOk result (copies.new.items ≡ copies.old.items ++ map (λ f. f.now) files.now) }
+    ensures memory { IfErr result (λ e. e.name ≡ Memory) }
+{
+    for file in files {
+        copies.push(file.copy(alloc)?)?;
+    }
+    Ok(())
+}
+
+/// Copies of the files of a level whose user keys overlap the range, in version order. Refused only for want of memory.
+fn overlapping<C: Comparator>(
+    alloc: Global,
+    version: &Version,
+    level: u64,
+    range: UserRange<'_>,
+) -> Result<Vec<FileMeta>, Fault>
+    requires { level ≤ 6 }
+    ensures { Gives (λ v. v.items) result (Ok (filter (is_in C.cmp range.entry) (level_files C.cmp version.now level))) }
+{
+    let mut found = Vec::new(alloc);
+    let files = version.files::<C>(alloc, level)?;
+    for file in &files {
+        if range.overlaps::<C>(*file) {
+            found.push(file.copy(alloc)?)?;
+        }
+    }
+    Ok(found)
+}
+
+/// Copies of the files of the levels from this one on, by level and in version order. Refused only for want of memory.
+pub(crate) fn deeper_files<C: Comparator>(
+    alloc: Global,
+    version: &Version,
+    from: u64,
+) -> Result<Vec<FileMeta>, Fault>
+    ensures { Gives (λ v. v.items) result (Ok (files_from C.cmp version.now from (7 - from))) }
+{
+    let mut deeper = Vec::new(alloc);
+    for level in from..LAST_LEVEL + 1 {
+        let files = version.files::<C>(alloc, level)?;
+        push_copies(alloc, &mut deeper, &files)?;
+    }
+    Ok(deeper)
+}
+
+/// Copies of the grandparents of a compaction, where its inputs are of these user keys: the files of the level whose user
+/// keys overlap the range, and none where the level exceeds 6. Refused only for want of memory.
+pub(crate) fn grandparents<C: Comparator>(
+    alloc: Global,
+    version: &Version,
+    level: u64,
+    range: UserRange<'_>,
+) -> Result<Vec<FileMeta>, Fault>
+    ensures { Gives (λ v. v.items) result (Ok (if nat_lt 6 level then [] else filter (is_in C.cmp range.entry) (level_files C.cmp version.now level))) }
+{
+    if level > LAST_LEVEL {
+        return Ok(Vec::new(alloc));
+    }
+    overlapping::<C>(alloc, version, level, range)
+}

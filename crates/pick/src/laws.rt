@@ -1,0 +1,10 @@
+//! Laws of the choice of inputs.
+
+ghost use Rattle.pick.specs.Picked.{HasOneChoice};
+
+use ikey::Comparator;
+
+/// The law that a level of a version has one choice of inputs at most. A call does nothing.
+pub fn one_choice<C: Comparator>()
+    ensures { HasOneChoice C.cmp }
+{}

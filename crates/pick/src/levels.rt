@@ -1,0 +1,51 @@
+//! The files of a level that a compaction takes.
+
+ghost use Rattle.std.specs.Prelude.{◌≤◌, map, filter, IsOkAnd};
+ghost use Rattle.coding.specs.Answers.{Answers};
+ghost use Rattle.edit.specs.VersionOrder.{level_files};
+ghost use Rattle.pick.specs.Boundaries.{AreWithBoundaries};
+ghost use Rattle.pick.specs.Choices.{is_in};
+ghost use Rattle.pick.specs.Picked.{IsUpperAnswer};
+
+use crate::boundaries::with_boundaries;
+use crate::choice::{Choice, first_file, grown_range};
+use crate::range::UserRange;
+use coding::Fault;
+use edit::{FileMeta, Version};
+use ikey::Comparator;
+use std::alloc::Global;
+
+/// The inputs of the level of a compaction itself: none exactly where the level has no file. Refused only for want of
+/// memory.
+pub(crate) fn upper_files<C: Comparator>(
+    alloc: Global,
+    version: &Version,
+    level: u64,
+) -> Result<Vec<&FileMeta>, Fault>
+    requires { level ≤ 6 }
+    ensures { Answers (λ v. map (λ f. f.now) v.items) result (IsUpperAnswer C.cmp version.now level) }
+{
+    let files = version.files::<C>(alloc, level)?;
+    let Some(first) = first_file::<C>(&files, version.pointer(level)) else {
+        return Ok(files);
+    };
+    let choice = match level {
+        0 => Choice::Around(first.number, grown_range::<C>(&files, first)),
+        _ => Choice::First(first.number),
+    };
+    with_boundaries::<C>(alloc, &files, choice)
+}
+
+/// The inputs of the level below, where those of the level itself are of these user keys. Refused only for want of memory.
+pub(crate) fn lower_files<'a, C: Comparator>(
+    alloc: Global,
+    version: &'a Version,
+    level: u64,
+    range: UserRange<'_>,
+) -> Result<Vec<&'a FileMeta>, Fault>
+    requires { level ≤ 6 }
+    ensures { Answers (λ v. map (λ f. f.now) v.items) result (λ answer. IsOkAnd answer (AreWithBoundaries C.cmp (level_files C.cmp version.now level) (filter (is_in C.cmp range.entry) (level_files C.cmp version.now level)))) }
+{
+    let files = version.files::<C>(alloc, level)?;
+    with_boundaries::<C>(alloc, &files, Choice::Overlapping(range))
+}

@@ -24,7 +24,7 @@ use Rattle.pick.specs.Boundaries.{with_largest, largest_key, goes_on, AreWithBou
 use Rattle.pick.specs.Choices.{IsGrown, joined}
 use Rattle.pick.specs.Picked.{AreUpper, IsUpperAnswer}
 use Rattle.pick.proofs.Lists.{IsIn, all_in, all_from, any_gives, filter_in, in_filter, filter_nothing, find_some, or_left, or_right, or_either, and_both, and_first, and_second, cond_true, cond_false, one_alone}
-use Rattle.pick.proofs.Orders.{le_trans}
+use Rattle.pick.proofs.UserOrders.{le_trans}
 use Rattle.pick.proofs.Grown.{overlaps_reaching, reaches_own}
 use Rattle.pick.proofs.Spanning.{head_in}
 use Rattle.pick.proofs.VersionFiles.{AreLevelFiles, are_level_files}

@@ -11,7 +11,7 @@ use Rattle.pick.specs.Chosen.{IsClosed}
 use Rattle.pick.specs.Spans.{lesser_user, greater_user, is_overlapping, is_covering}
 use Rattle.pick.specs.Choices.{Reaches, IsGrown}
 use Rattle.pick.proofs.Lists.{IsIn, all_in, all_from, any_from, any_gives, in_filter, or_left, or_right, and_both, and_first, and_second, find_none, false_true}
-use Rattle.pick.proofs.Orders.{le_refl, le_trans, at_most_lesser, at_most_greater}
+use Rattle.pick.proofs.UserOrders.{le_refl, le_trans, at_most_lesser, at_most_greater}
 
 -- what holds of the range whenever it has grown
 pub record IsGrowing (cmp : List ℕ → List ℕ → Ordering) (files : List FileMeta) (first : FileMeta) (smallest largest : List ℕ) : Type 0 where

@@ -1,5 +1,5 @@
 pub mod Lists
-pub mod Orders
+pub mod UserOrders
 pub mod Grown
 pub mod VersionFiles
 pub mod Chains
@@ -8,3 +8,11 @@ pub mod Choosing
 pub mod Assembling
 pub mod LaterLevels
 pub mod OneChoice
+pub mod Members
+pub mod Orders
+pub mod Sought
+pub mod Tests
+pub mod Answers
+pub mod Levels
+pub mod Versions
+pub mod Got

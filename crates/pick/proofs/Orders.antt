@@ -1,66 +1,115 @@
--- Total orders of user keys, as tests.
-use Rattle.std.proofs.Common.{◌≡◌, ℕ, Bool, true, false, cond, ◌||◌, List, refl, ap, ◌∙◌}
-use Rattle.std.specs.Cmp.{IsTotalOrder}
-use Rattle.std.specs.Ordering.{is_lt, is_le, is_gt, ordering_reverse}
+-- What the order of two internal keys says of their user keys and their sequences.
+use Rattle.std.proofs.Common.{◌≡◌, ℕ, ◌<◌, ◌≤◌, false, List, refl, sym, ap, subst, ◌∙◌, inl, inr, arith}
+use Rattle.std.specs.Prelude.{◌≢◌, ◌⊎◌}
+use Rattle.std.specs.Cmp.{IsTotalOrder, nat_cmp_is, ranked}
+use Rattle.std.specs.Ordering.{nat_cmp, ordering_then, ordering_reverse, MatchOrdering, is_lt}
 use Rattle.std.specs.declared.cmp.Ordering.{Ordering}
 use Rattle.std.specs.declared.cmp.Ordering.TheVariants.{Less, Equal, Greater}
-use Rattle.std.proofs.lemmas.Cmp.{upto, tied_itself}
-use Rattle.pick.specs.Ranges.{is_at_most}
-use Rattle.pick.specs.Spans.{lesser_user, greater_user}
+use Rattle.std.proofs.lemmas.Cmp.{tied_itself}
+use Rattle.ikey.specs.Comparator.{IsExact}
+use Rattle.ikey.specs.Key.{kind_number, user_of, sequence_of, kind_of}
+use Rattle.ikey.specs.declared.kind.Kind.{Kind}
+use Rattle.ikey.specs.declared.kind.Kind.TheVariants.{Put, Delete}
+use Rattle.ikey.specs.Order.{internal_cmp}
+use Rattle.ikey.proofs.Shortened.{internal_cmp-Less}
 
-le_not_gt : (o : Ordering) → is_le o ≡ true → is_gt o ≡ false
-le_not_gt Less e = refl
-le_not_gt Equal e = refl
-le_not_gt Greater e = absurd cc
+pub less_is : (x y : ℕ) → nat_cmp x y ≡ Less → x < y
+less_is x y e = subst (λ (o : Ordering). MatchOrdering o (x < y) (x ≡ y) (y < x)) e (ranked x y (nat_cmp x y) refl)
 
-not_gt_le : (o : Ordering) → is_gt o ≡ false → is_le o ≡ true
-not_gt_le Less e = refl
-not_gt_le Equal e = refl
-not_gt_le Greater e = absurd cc
+pub equal_is : (x y : ℕ) → nat_cmp x y ≡ Equal → x ≡ y
+equal_is x y e = subst (λ (o : Ordering). MatchOrdering o (x < y) (x ≡ y) (y < x)) e (ranked x y (nat_cmp x y) refl)
 
-lt_less : (o : Ordering) → is_lt o ≡ true → o ≡ Less
-lt_less Less e = refl
-lt_less Equal e = absurd cc
-lt_less Greater e = absurd cc
+then_less : (a b : Ordering) → ordering_then a b ≡ Less → (a ≡ Less) ⊎ ((a ≡ Equal) × (b ≡ Less))
+then_less Less b e = inl refl
+then_less Equal b e = inr (refl, e)
+then_less Greater b e = absurd cc
 
-not_lt_back : (o : Ordering) → is_lt o ≡ false → is_le (ordering_reverse o) ≡ true
-not_lt_back Less e = absurd cc
-not_lt_back Equal e = refl
-not_lt_back Greater e = refl
+not_less : (o : Ordering) → is_lt o ≡ false → o ≡ Less → ⊥
+not_less Less e f = absurd cc
+not_less Equal e f = absurd cc
+not_less Greater e f = absurd cc
+
+few_kinds : (k : Kind) → kind_number k ≤ 1
+few_kinds Put = omega arith
+few_kinds Delete = omega arith
 
 module _ (cmp : List ℕ → List ℕ → Ordering) (total : IsTotalOrder cmp) where
-  abbrev le : List ℕ → List ℕ → Bool
-  le a b = is_at_most cmp a b
+  tied : (k m : List ℕ) → user_of k ≡ user_of m → cmp (user_of k) (user_of m) ≡ Equal
+  tied k m same = subst (λ (u : List ℕ). cmp (user_of k) u ≡ Equal) same (tied_itself total (user_of k))
 
-  pub le_refl : (a : List ℕ) → is_at_most cmp a a ≡ true
-  le_refl a = ap is_le (tied_itself total a)
+  -- of one user key, sequence and type decide
+  of_one_user : (k m : List ℕ) → user_of k ≡ user_of m → internal_cmp cmp k m ≡ ordering_then (nat_cmp (sequence_of m) (sequence_of k)) (nat_cmp (kind_number (kind_of m)) (kind_number (kind_of k)))
+  unfolding internal_cmp
+  of_one_user k m same = ap (λ (o : Ordering). ordering_then o (ordering_then (nat_cmp (sequence_of m) (sequence_of k)) (nat_cmp (kind_number (kind_of m)) (kind_number (kind_of k))))) (tied k m same)
 
-  pub le_trans : (a b c : List ℕ) → is_at_most cmp a b ≡ true → is_at_most cmp b c ≡ true → is_at_most cmp a c ≡ true
-  le_trans a b c h k = not_gt_le (cmp a c) (upto total a b c (le_not_gt (cmp a b) h) (le_not_gt (cmp b c) k))
+  parts : (k m : List ℕ) → user_of k ≡ user_of m → internal_cmp cmp k m ≡ Less → (sequence_of m < sequence_of k) ⊎ ((sequence_of m ≡ sequence_of k) × (kind_number (kind_of m) < kind_number (kind_of k)))
+  parts k m same below =
+      elim (then_less (nat_cmp (sequence_of m) (sequence_of k)) (nat_cmp (kind_number (kind_of m)) (kind_number (kind_of k))) (sym (of_one_user k m same) ∙ below)) [
+        | inl e ↦ inl (less_is (sequence_of m) (sequence_of k) e)
+        | inr e ↦ inr (equal_is (sequence_of m) (sequence_of k) e.0, less_is (kind_number (kind_of m)) (kind_number (kind_of k)) e.1)
+      ]
 
-  lt_le : (a b : List ℕ) → is_lt (cmp a b) ≡ true → is_at_most cmp a b ≡ true
-  lt_le a b h = ap is_le (lt_less (cmp a b) h)
+  -- of one user key, a later key has no greater sequence
+  pub later_older : (k m : List ℕ) → internal_cmp cmp k m ≡ Less → user_of k ≡ user_of m → sequence_of m ≤ sequence_of k
+  later_older k m below same = elim (parts k m same below) [ inl lt ↦ omega arith | inr e ↦ omega arith ]
 
-  not_lt_le : (a b : List ℕ) → is_lt (cmp b a) ≡ false → is_at_most cmp a b ≡ true
-  not_lt_le a b h = ap is_le (total.antisymm a b) ∙ not_lt_back (cmp b a) h
+  -- a key that is before a value of its user key has a greater sequence
+  pub before_put : (k t : List ℕ) → kind_of t ≡ Put → internal_cmp cmp k t ≡ Less → user_of k ≡ user_of t → sequence_of k ≤ sequence_of t → ⊥
+  before_put k t put below same le =
+      elim (parts k t same below) [
+        | inl lt ↦ absurd (omega arith)
+        | inr e ↦ let one : kind_number (kind_of t) ≡ 1 = ap kind_number put in absurd (omega (arith, few_kinds (kind_of k)))
+      ]
 
-  -- the test of the lesser is either test
-  either_lesser : (a b k : List ℕ) (t : Bool) → is_lt (cmp b a) ≡ t → (p q : Bool) → is_at_most cmp a k ≡ p → is_at_most cmp b k ≡ q → is_at_most cmp (cond t b a) k ≡ (p || q)
-  either_lesser a b k true h true q e f = le_trans b a k (lt_le b a h) e
-  either_lesser a b k true h false q e f = f
-  either_lesser a b k false h true q e f = e
-  either_lesser a b k false h false true e f = le_trans a b k (not_lt_le a b h) f
-  either_lesser a b k false h false false e f = e
+  -- a key of a greater sequence is before one of its user key
+  pub newer_before : (k t : List ℕ) → user_of k ≡ user_of t → sequence_of t < sequence_of k → internal_cmp cmp k t ≡ Less
+  newer_before k t same lt =
+      of_one_user k t same
+      ∙ ap (λ (o : Ordering). ordering_then o (nat_cmp (kind_number (kind_of t)) (kind_number (kind_of k)))) (sym (nat_cmp_is (sequence_of t) (sequence_of k) Less lt))
 
-  pub at_most_lesser : (a b k : List ℕ) → is_at_most cmp (lesser_user cmp a b) k ≡ (is_at_most cmp a k || is_at_most cmp b k)
-  at_most_lesser a b k = either_lesser a b k (is_lt (cmp b a)) refl (is_at_most cmp a k) (is_at_most cmp b k) refl refl
+  -- a key that isn't before one of its user key has no greater sequence
+  pub not_before : (k t : List ℕ) → is_lt (internal_cmp cmp k t) ≡ false → user_of k ≡ user_of t → sequence_of k ≤ sequence_of t
+  not_before k t not_below same = by_order (nat_cmp (sequence_of t) (sequence_of k)) (ranked (sequence_of t) (sequence_of k) (nat_cmp (sequence_of t) (sequence_of k)) refl)
+    where
+      by_order : (o : Ordering) → MatchOrdering o (sequence_of t < sequence_of k) (sequence_of t ≡ sequence_of k) (sequence_of k < sequence_of t) → sequence_of k ≤ sequence_of t
+      by_order Less lt = absurd (not_less (internal_cmp cmp k t) not_below (newer_before k t same lt))
+      by_order Equal e = omega arith
+      by_order Greater lt = omega arith
 
-  either_greater : (a b k : List ℕ) (t : Bool) → is_lt (cmp a b) ≡ t → (p q : Bool) → is_at_most cmp k a ≡ p → is_at_most cmp k b ≡ q → is_at_most cmp k (cond t b a) ≡ (p || q)
-  either_greater a b k true h true q e f = le_trans k a b e (lt_le a b h)
-  either_greater a b k true h false q e f = f
-  either_greater a b k false h true q e f = e
-  either_greater a b k false h false true e f = le_trans k b a f (not_lt_le b a h)
-  either_greater a b k false h false false e f = e
+  -- a user key isn't before itself
+  pub not_before_itself : (u : List ℕ) → cmp u u ≡ Less → ⊥
+  not_before_itself u e = let both : Less ≡ Equal = sym e ∙ tied_itself total u in absurd cc
 
-  pub at_most_greater : (a b k : List ℕ) → is_at_most cmp k (greater_user cmp a b) ≡ (is_at_most cmp k a || is_at_most cmp k b)
-  at_most_greater a b k = either_greater a b k (is_lt (cmp a b)) refl (is_at_most cmp k a) (is_at_most cmp k b) refl refl
+  -- the user keys of rising internal keys don't fall
+  users_rise : (k m : List ℕ) → internal_cmp cmp k m ≡ Less → (cmp (user_of k) (user_of m) ≡ Less) ⊎ (cmp (user_of k) (user_of m) ≡ Equal)
+  unfolding internal_cmp
+  users_rise k m below =
+      elim (then_less (cmp (user_of k) (user_of m)) (ordering_then (nat_cmp (sequence_of m) (sequence_of k)) (nat_cmp (kind_number (kind_of m)) (kind_number (kind_of k)))) below) [
+        | inl e ↦ inl e
+        | inr e ↦ inr e.0
+      ]
+
+  -- a user key that is before one is before that of a later internal key
+  pub before_later : (u k m : List ℕ) → cmp u (user_of k) ≡ Less → internal_cmp cmp k m ≡ Less → cmp u (user_of m) ≡ Less
+  before_later u k m before below =
+      elim (users_rise k m below) [
+        | inl e ↦ total.trans u (user_of k) (user_of m) before e
+        | inr e ↦ by_tie e
+      ]
+    where
+      by_tie : cmp (user_of k) (user_of m) ≡ Equal → cmp u (user_of m) ≡ Less
+      by_tie e =
+          let back : cmp (user_of m) u ≡ cmp (user_of k) u = sym (total.congr (user_of k) (user_of m) u e) in
+          total.antisymm u (user_of m) ∙ ap ordering_reverse back ∙ sym (total.antisymm u (user_of k)) ∙ before
+
+  module _ (exact : IsExact cmp) where
+    -- behind a key that isn't before a target and of another user key, each key is of another user key
+    pub other_user : (k m t : List ℕ) → is_lt (internal_cmp cmp k t) ≡ false → user_of k ≢ user_of t → internal_cmp cmp k m ≡ Less → user_of m ≢ user_of t
+    other_user k m t not_below other below same = by_order (cmp (user_of k) (user_of t)) refl
+      where
+        by_order : (o : Ordering) → cmp (user_of k) (user_of t) ≡ o → ⊥
+        by_order Less e = not_less (internal_cmp cmp k t) not_below (internal_cmp-Less cmp k t e)
+        by_order Equal e = other (exact (user_of k) (user_of t) e)
+        by_order Greater e =
+            let before : cmp (user_of t) (user_of k) ≡ Less = total.antisymm (user_of t) (user_of k) ∙ ap ordering_reverse e in
+            not_before_itself (user_of t) (subst (λ (u : List ℕ). cmp (user_of t) u ≡ Less) same (before_later (user_of t) k m before below))

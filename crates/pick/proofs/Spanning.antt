@@ -9,7 +9,7 @@ use Rattle.edit.specs.declared.meta.FileMeta.{FileMeta}
 use Rattle.pick.specs.Ranges.{is_at_most, begins_by, ends_from, overlaps}
 use Rattle.pick.specs.Spans.{lesser_user, greater_user, least_user, greatest_user, is_overlapping}
 use Rattle.pick.proofs.Lists.{IsIn, any_from, filter_same}
-use Rattle.pick.proofs.Orders.{at_most_lesser, at_most_greater}
+use Rattle.pick.proofs.UserOrders.{at_most_lesser, at_most_greater}
 
 or_assoc : (a b c : Bool) → ((a || b) || c) ≡ (a || (b || c))
 or_assoc true b c = refl

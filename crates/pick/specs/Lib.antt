@@ -4,3 +4,7 @@ pub mod Boundaries
 pub mod Picked
 pub mod Spans
 pub mod Choices
+pub mod Tables
+pub mod Gets
+pub mod Lawful
+pub mod Seen

@@ -14,11 +14,11 @@ mod finding;
 mod found;
 mod getting;
 mod laws;
-mod levels;
 mod numbered_table;
 mod picked;
 mod picking;
 mod range;
+mod taken;
 
 pub use getting::get;
 pub use laws::one_choice;

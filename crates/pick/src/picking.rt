@@ -5,9 +5,9 @@ ghost use Rattle.pick.specs.Picked.{picked_in, IsInputsAnswer};
 
 use crate::boundaries::largest_of;
 use crate::deeper::{deeper_files, grandparents, push_inputs};
-use crate::levels::{lower_files, upper_files};
 use crate::picked::Inputs;
 use crate::range::UserRange;
+use crate::taken::{lower_files, upper_files};
 use coding::{Fault, FaultName};
 use edit::{CompactPointer, Version};
 use ikey::{Comparator, KeyBuf};

@@ -12,8 +12,8 @@ use Rattle.pick.specs.Choices.{is_chosen, joined, IsGrown}
 use Rattle.pick.specs.declared.choice.Choice.{Choice}
 use Rattle.pick.proofs.Lists.{lent}
 use Rattle.pick.proofs.Choosing.{upper_one, upper_around, upper_none}
-use Rattle.pick.proofs.levels.upper_files.Goals as goal
-use Rattle.pick.proofs.levels.upper_files.Goals.{in-0, in_default-level}
+use Rattle.pick.proofs.taken.upper_files.Goals as goal
+use Rattle.pick.proofs.taken.upper_files.Goals.{in-0, in_default-level}
 
 pub returns-in_default : goal.returns-in_default
 returns-in_default g c =

@@ -5,7 +5,7 @@ use Rattle.edit.specs.declared.meta.FileMeta.{FileMeta}
 use Rattle.pick.specs.Choices.{is_in}
 use Rattle.pick.proofs.Lists.{lent}
 use Rattle.pick.proofs.Choosing.{lower_is}
-use Rattle.pick.proofs.levels.lower_files.Goals as goal
+use Rattle.pick.proofs.taken.lower_files.Goals as goal
 
 pub returns : goal.returns
 returns g c =

@@ -1,6 +1,7 @@
 -- One step over the pieces of a block.
-use Rattle.std.proofs.Common.{◌≡◌, ℕ, ◌+◌, ◌≤◌, ◌<◌, Bool, true, false, cond, List, [], ◌∷◌, length, take, drop, Some, None, refl, sym, ap, subst, ◌∙◌, arith}
-use Rattle.std.specs.List.{flat_map}
+use Rattle.std.proofs.Common.{◌≡◌, ℕ, zero, suc, ◌+◌, ◌≤◌, ◌<◌, Bool, true, false, cond, List, [], ◌∷◌, ◌++◌, length, take, drop, Some, None, refl, sym, ap, subst, ◌∙◌, arith}
+use Rattle.std.specs.List.{flat_map, slice_get}
+use Rattle.std.specs.Option.{option_map}
 use Rattle.std.proofs.lemmas.List.{length-append, length-take-le, nil_from_length}
 use Rattle.std.proofs.lemmas.Option.{same_Some, none-some}
 use Rattle.block.specs.Piece.{Entry, Piece, piece_bytes, key_after, entries_after, ArePieces, IsArea}
@@ -71,3 +72,25 @@ last_by true e behind now view some = (
   λ one. nil_from_length behind (omega (arith, ap length view)),
 )
 last_by false e behind now view some = absurd (omega (arith, ap length view))
+
+-- ---- the key at a place that begins with its whole key
+
+slice_get-drop : (es : List Entry) (place : ℕ) → slice_get (drop place es) 0 ≡ slice_get es place
+slice_get-drop es zero = refl
+slice_get-drop [] (suc place) = refl
+slice_get-drop (e ∷ es) (suc place) = slice_get-drop es place
+
+none_shared : (n : ℕ) (own : List ℕ) → take n [] ++ own ≡ own
+none_shared zero own = refl
+none_shared (suc n) own = refl
+
+-- the key of the entry at a place where a piece stands
+pub first_key : (es : List Entry) (place : ℕ) (rest : List ℕ) (x : Field Piece) → ArePiecesBehind [] rest → piece_at rest ≡ Some x → drop place es ≡ entries_behind [] rest
+    → option_map (λ e. e.key) (slice_get es place) ≡ Some x.field.unshared
+first_key es place rest x b f same =
+    ap (option_map (λ e. e.key)) (sym (slice_get-drop es place) ∙ ap (λ (t : List Entry). slice_get t 0) (same ∙ (steps [] rest x b f).entries))
+    ∙ ap (λ (k : List ℕ). Some k) (none_shared x.field.shared x.field.unshared)
+
+-- there is none where no entry stands
+pub no_key : (es : List Entry) (place : ℕ) → drop place es ≡ [] → option_map (λ e. e.key) (slice_get es place) ≡ None
+no_key es place none = ap (option_map (λ e. e.key)) (sym (slice_get-drop es place) ∙ ap (λ (t : List Entry). slice_get t 0) none)

@@ -70,21 +70,28 @@ impl<'a> BlockCursor<'a> {
         BlockCursor::over(alloc, block.area_from(restart))
     }
 
+    /// No entries. It takes no memory.
+    pub fn none(alloc: Global) -> BlockCursor<'a>
+        ensures { result ≡ [] }
+    {
+        BlockCursor {
+            valid: false,
+            key: Vec::new(alloc),
+            value: &[],
+            rest: &[],
+        }
+    }
+
     /// The entries of pieces, the first of which has its whole key.
     fn over(alloc: Global, pieces: &'a [u8]) -> Result<BlockCursor<'a>, Fault>
         requires { ArePiecesBehind [] pieces.now }
         ensures all { IfOk result (λ cursor. cursor ≡ entries_behind [] pieces.now) }
         ensures memory { IfErr result (λ e. e ≡ fault Memory) }
     {
-        let mut key = Vec::new(alloc);
         let Some(piece) = piece_at(pieces) else {
-            return Ok(BlockCursor {
-                valid: false,
-                key,
-                value: &[],
-                rest: &[],
-            });
+            return Ok(BlockCursor::none(alloc));
         };
+        let mut key = Vec::new(alloc);
         replace_end(&mut key, piece.shared, piece.unshared)?;
         Ok(BlockCursor {
             valid: true,

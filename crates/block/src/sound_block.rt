@@ -2,6 +2,7 @@
 
 ghost use Rattle.std.specs.Prelude.{◌≡◌, ◌<◌, ◌^◌, ◌↔◌, [], length, drop, slice_get, slice_index, Some, IsTrue, IfSome, IfNone, IfOk, IsOkAnd, IfErr, List, ℕ};
 ghost use Rattle.std.specs.List.{All};
+ghost use Rattle.std.specs.Option.{option_map};
 ghost use Rattle.std.specs.List.Sorted.{IsStrictlyIncreasing};
 ghost use Rattle.block.specs.Piece.{Entry, IsArea, IsBlock};
 ghost use Rattle.block.specs.Reading.{entries_behind, ArePiecesBehind};
@@ -114,6 +115,28 @@ impl<'a> SoundBlock<'a> {
         ensures within { 0 < length self.now.entries → All (λ place. place < length self.now.entries) self.now.restarts }
     {
         (self.restarts.len() / RESTART_LEN) as u64
+    }
+
+    /// The key of the entry at a restart, a part of the block's bytes; `None` where the block has no entries. Restarts
+    /// are counted from 0.
+    ///
+    /// It reads that entry alone, and takes no memory.
+    pub fn key_at(&self, restart: u64) -> Option<&'a [u8]>
+        requires { restart < length self.now.restarts }
+        ensures { option_map (λ key. key.now) result ≡ option_map (λ e. e.key) (slice_get self.now.entries (slice_index self.now.restarts restart)) }
+    {
+        let piece = piece_at(self.area_from(restart))?;
+        Some(piece.unshared)
+    }
+
+    /// The same block again, over the same bytes. It takes no memory.
+    pub fn copy(&self) -> SoundBlock<'a>
+        ensures { result ≡ self.now }
+    {
+        SoundBlock {
+            area: self.area,
+            restarts: self.restarts,
+        }
     }
 
     /// The bytes before the restarts.

@@ -123,9 +123,20 @@ fn a_walk_begins_at_a_restart(rt: HostRuntime) -> Result<(), Fail> {
 }
 
 #[test]
+fn keys_at_restarts(rt: HostRuntime) -> Result<(), Fail> {
+    let block = check(WORKED[1])?.copy();
+    assert_eq!(rt; block.restarts(), 2);
+    assert_eq!(rt; block.key_at(0), Some(FIRST_KEY.as_slice()));
+    assert_eq!(rt; block.key_at(1), Some(SECOND_KEY.as_slice()));
+    has(&rt, BlockCursor::new(rt.alloc(), &block)?, &ENTRIES)
+}
+
+#[test]
 fn a_block_without_entries(rt: HostRuntime) -> Result<(), Fail> {
     let block = check(WORKED[2])?;
     assert_eq!(rt; block.restarts(), 1);
+    assert_eq!(rt; block.key_at(0), None);
+    has(&rt, BlockCursor::none(rt.alloc()), &[])?;
     has(&rt, BlockCursor::new(rt.alloc(), &block)?, &[])?;
     has(&rt, BlockCursor::at(rt.alloc(), &block, 0)?, &[])
 }

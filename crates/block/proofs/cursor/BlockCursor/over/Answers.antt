@@ -5,8 +5,8 @@ use Rattle.block.specs.Reading.{entries_behind, ArePiecesBehind}
 use Rattle.block.proofs.Walks.{steps}
 use Rattle.block.proofs.cursor.BlockCursor.over.Goals as goal
 
-pub invariant_of-result-2 : goal.invariant_of-result-2
-invariant_of-result-2 c =
+pub invariant_of-result : goal.invariant_of-result
+invariant_of-result c =
     let s = steps [] c.args.pieces.now (lent_field c.in-Some.piece) c.requires (sym c.in-Some.ensures) in
     let key : c.replace_end.new.key.items ≡ key_after [] (lent_field c.in-Some.piece).field = c.in_ok-replace_end.ensures.ok ∙ ap (λ (t : List ℕ). take c.in-Some.piece.shared t ++ c.in-Some.piece.unshared.now) c.new-key.ensures.items in
     subst (λ (key : List ℕ). ArePiecesBehind key c.in-Some.piece.rest.now) (sym key) s.behind

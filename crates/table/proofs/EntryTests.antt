@@ -105,11 +105,11 @@ abbrev pub AllAbove : (List ℕ → List ℕ → Ordering) → Option (List ℕ)
 AllAbove cmp None es = Unit {0}
 AllAbove cmp (Some before) es = AllByRecursion (λ f. internal_cmp cmp before f.key ≡ Less) es
 
-weaker : (P Q : Entry → Type 0) → ((e : Entry) → P e → Q e) → (es : List Entry) → AllByRecursion P es → AllByRecursion Q es
+pub weaker : (P Q : Entry → Type 0) → ((e : Entry) → P e → Q e) → (es : List Entry) → AllByRecursion P es → AllByRecursion Q es
 weaker P Q f [] h = tt
 weaker P Q f (e ∷ es) h = (f e h.0, weaker P Q f es h.1)
 
-all_above : (cmp : List ℕ → List ℕ → Ordering) (before : Option (List ℕ)) (e : Entry) (es : List Entry) → IsTotalOrder cmp → is_above cmp before e.key ≡ true → AllByRecursion (λ f. internal_cmp cmp e.key f.key ≡ Less) es → AllAbove cmp before (e ∷ es)
+pub all_above : (cmp : List ℕ → List ℕ → Ordering) (before : Option (List ℕ)) (e : Entry) (es : List Entry) → IsTotalOrder cmp → is_above cmp before e.key ≡ true → AllByRecursion (λ f. internal_cmp cmp e.key f.key ≡ Less) es → AllAbove cmp before (e ∷ es)
 all_above cmp None e es total h q = tt
 all_above cmp (Some before) e es total h q =
     let first : internal_cmp cmp before e.key ≡ Less = less_is (internal_cmp cmp before e.key) h in

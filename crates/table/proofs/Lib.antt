@@ -10,6 +10,7 @@ pub mod DataSteps
 pub mod CheckedTables
 pub mod EntryTests
 pub mod Orders
+pub mod Searches
 pub mod Walks
 pub mod ReadBack
 pub mod StoredTables

@@ -1,14 +1,14 @@
 -- The walk over a table's data blocks by its index.
-use Rattle.std.proofs.Common.{◌≡◌, ℕ, ◌<◌, Bool, true, false, not, cond, List, [], ◌∷◌, ◌++◌, length, drop, Option, Some, None, Result, Ok, Err, refl, sym, ap, subst, ◌∙◌, arith}
+use Rattle.std.proofs.Common.{◌≡◌, ℕ, zero, suc, ◌+◌, ◌<◌, Bool, true, false, not, cond, List, [], ◌∷◌, ◌++◌, length, drop, Option, Some, None, Result, Ok, Err, refl, sym, ap, subst, ◌∙◌, true≢false, arith}
 use Rattle.std.specs.List.{AllByRecursion}
 use Rattle.std.specs.Cmp.{IsTotalOrder}
-use Rattle.std.specs.Prelude.{IsOk, slice_get}
+use Rattle.std.specs.Prelude.{IsOk, OnOk, OnErr, slice_get}
 use Rattle.std.specs.Option.{option_map}
 use Rattle.std.specs.Ordering.{is_lt, is_gt, is_le, ordering_reverse}
 use Rattle.std.specs.BTreeMap.Comparable.{le_lt_trans}
 use Rattle.std.specs.declared.cmp.Ordering.{Ordering}
 use Rattle.std.specs.declared.cmp.Ordering.TheVariants.{Less, Equal, Greater}
-use Rattle.std.proofs.lemmas.List.{nil_from_length}
+use Rattle.std.proofs.lemmas.List.{nil_from_length, drop-drop}
 use Rattle.std.proofs.lemmas.Option.{same_Some, none-some}
 use Rattle.coding.specs.Answers.{◌>>=◌}
 use Rattle.coding.specs.declared.fault.Fault.{Fault}
@@ -29,8 +29,9 @@ use Rattle.table.specs.ReadingCursors.{IsRising, entries_from, first_is_below}
 use Rattle.table.specs.Checked.{HaveKeys, IsChecked}
 use Rattle.table.specs.Walking.{block_named, entries_named, all_named, NamesBlock, Indexes, IsLeft}
 use Rattle.block.proofs.BlockReadings.{both, reads_blocks}
+use Rattle.table.proofs.Searches.{from_place}
 use Rattle.table.proofs.CheckedTables.{read_block, read_data, blocks_are, contents_are}
-use Rattle.table.proofs.EntryTests.{key_same, less_is, have_keys, data_tests, all_tests, rising}
+use Rattle.table.proofs.EntryTests.{key_same, less_is, have_keys, data_tests, all_tests, AllAbove, all_above, rising}
 
 -- ---- the data block that an entry of the index names
 
@@ -73,15 +74,15 @@ not_gt_le Equal h = refl
 not_gt_le Greater h = absurd cc
 
 -- below a key that is not above another
-before_within : (cmp : List ℕ → List ℕ → Ordering) (a b k : List ℕ) → IsTotalOrder cmp → internal_cmp cmp a b ≡ Less → is_le (internal_cmp cmp b k) ≡ true → is_le (internal_cmp cmp a k) ≡ true
+before_within : (cmp : List ℕ → List ℕ → Ordering) (a b k : List ℕ) → IsTotalOrder cmp → internal_cmp cmp a b ≡ Less → is_le (internal_cmp cmp b k) ≡ true → internal_cmp cmp a k ≡ Less
 before_within cmp a b k total lt le = of_order (internal_cmp cmp b k) refl le
   where
     laws : IsTotalOrder (internal_cmp cmp)
     laws = internal_cmp-total total
 
-    of_order : (o : Ordering) → internal_cmp cmp b k ≡ o → is_le o ≡ true → is_le (internal_cmp cmp a k) ≡ true
-    of_order Less e le = ap is_le (laws.trans a b k lt e)
-    of_order Equal e le = ap is_le (laws.antisymm a k ∙ ap ordering_reverse (sym (laws.congr b k a e) ∙ laws.antisymm b a ∙ ap ordering_reverse lt))
+    of_order : (o : Ordering) → internal_cmp cmp b k ≡ o → is_le o ≡ true → internal_cmp cmp a k ≡ Less
+    of_order Less e le = laws.trans a b k lt e
+    of_order Equal e le = laws.antisymm a k ∙ ap ordering_reverse (sym (laws.congr b k a e) ∙ laws.antisymm b a ∙ ap ordering_reverse lt)
     of_order Greater e le = absurd cc
 
 -- keys that rise to one that is not above another
@@ -90,7 +91,7 @@ all_within cmp k [] total rises le = tt
 all_within cmp k (e ∷ []) total rises le = (le, tt)
 all_within cmp k (e ∷ f ∷ es) total rises le =
     let more = all_within cmp k (f ∷ es) total rises.1 le in
-    (before_within cmp e.key f.key k total rises.0.0 more.0, more)
+    (ap is_le (before_within cmp e.key f.key k total rises.0.0 more.0), more)
 
 -- ---- all of them
 
@@ -109,19 +110,32 @@ names_block cmp bytes before i x q total r block tests last =
       block = r.block ∙ block ∙ ap (λ (es : List Entry). done es) (sym named);
       some = subst (λ (es : List Entry). 0 < length es) (sym named) (some_entries cmp before q tests);
       keys = subst HaveKeys (sym named) (have_keys cmp before q passed);
+      rising = subst (IsRising cmp) (sym named) (rising cmp before q total passed);
       within = subst (AllByRecursion (λ e. is_le (internal_cmp cmp e.key i.key) ≡ true)) (sym named) (all_within cmp i.key q total (rising cmp before q total passed) le);
     }
 
--- entries of the index name these blocks
-record NameAll (cmp : List ℕ → List ℕ → Ordering) (bytes : List ℕ) (es : List Entry) (blocks : List DataBlock) : Type 0 where
+-- an index key is above those that its block's first key is above
+above_first : (cmp : List ℕ → List ℕ → Ordering) (below : Option (List ℕ)) (q : List Entry) (k : List ℕ) → IsTotalOrder cmp → 0 < length q → AllByRecursion (λ e. is_le (internal_cmp cmp e.key k) ≡ true) q → is_above cmp below (first_key q) ≡ true → is_above cmp below k ≡ true
+above_first cmp below [] k total some within above = absurd (omega arith)
+above_first cmp None (e ∷ q) k total some within above = refl
+above_first cmp (Some b) (e ∷ q) k total some within above = ap is_lt (before_within cmp b e.key k total (less_is (internal_cmp cmp b e.key) above) within.0)
+
+none_above : (cmp : List ℕ → List ℕ → Ordering) (below : Option (List ℕ)) → AllAbove cmp below []
+none_above cmp None = tt
+none_above cmp (Some b) = tt
+
+-- Entries of the index name these blocks. Their keys rise, the first of them from this one.
+record NameAll (cmp : List ℕ → List ℕ → Ordering) (bytes : List ℕ) (below : Option (List ℕ)) (es : List Entry) (blocks : List DataBlock) : Type 0 where
   each : AllByRecursion (NamesBlock cmp bytes) es
+  above : AllAbove cmp below es
+  keys_rise : IsRising cmp es
   whole : all_named bytes es ≡ entries_of blocks
 
 name_all : (cmp : List ℕ → List ℕ → Ordering) (bytes : List ℕ) (before below : Option (List ℕ)) (es : List Entry) (index : List IndexEntry) (blocks : List DataBlock) → IsTotalOrder cmp → index_reading bytes es ≡ Ok index → blocks_reading cmp before index ≡ Ok blocks → index_fits cmp below blocks ≡ true
-    → NameAll cmp bytes es blocks
+    → NameAll cmp bytes below es blocks
 name_all cmp bytes before below [] index blocks total h k fits =
     let none : [] ≡ index = ok_is [] index h in
-    record { each = tt; whole = ap entries_of (ok_is [] blocks (ap (blocks_reading cmp before) none ∙ k)) }
+    record { each = tt; above = none_above cmp below; keys_rise = tt; whole = ap entries_of (ok_is [] blocks (ap (blocks_reading cmp before) none ∙ k)) }
 name_all cmp bytes before below (e ∷ es) index blocks total h k fits =
     let a = bind_ok (index_entry bytes e) (λ x. index_reading bytes es >>= λ xs. Ok (x ∷ xs)) index h in
     let c = bind_ok (index_reading bytes es) (λ xs. Ok (a.0 ∷ xs)) index a.2 in
@@ -130,11 +144,16 @@ name_all cmp bytes before below (e ∷ es) index blocks total h k fits =
     let f = both (is_between cmp below b) (index_fits cmp (Some a.0.key) r.others) (subst (λ (bs : List DataBlock). index_fits cmp below bs ≡ true) (sym r.same) fits) in
     let g = both (is_above cmp below (first_key r.entries)) (not (is_gt (internal_cmp cmp (last_key [] r.entries) a.0.key))) f.0 in
     let read = reads bytes e a.0 a.1 in
+    let here : entries_named bytes e ≡ r.entries = named_entries bytes e r.entries (read.block ∙ r.block) in
+    let names = names_block cmp bytes before e a.0 r.entries total read r.block r.tests g.1 in
     let more = name_all cmp bytes (key_behind before r.entries) (Some a.0.key) es c.0 r.others total c.1 r.behind f.1 in
+    let behind : AllAbove cmp (Some e.key) es = subst (λ (k : List ℕ). AllAbove cmp (Some k) es) (sym read.same) more.above in
     record {
-      each = (names_block cmp bytes before e a.0 r.entries total read r.block r.tests g.1, more.each);
+      each = (names, more.each);
+      above = all_above cmp below e es total (above_first cmp below (entries_named bytes e) e.key total names.some names.within (ap (λ (q : List Entry). is_above cmp below (first_key q)) here ∙ g.0)) behind;
+      keys_rise = (behind, more.keys_rise);
       whole =
-          ap (λ (q : List Entry). q ++ all_named bytes es) (named_entries bytes e r.entries (read.block ∙ r.block))
+          ap (λ (q : List Entry). q ++ all_named bytes es) here
           ∙ ap (λ (q : List Entry). r.entries ++ q) more.whole
           ∙ ap entries_of r.same;
     }
@@ -149,6 +168,7 @@ indexes cmp bytes named index smallest largest x total k e =
     (record {
       some = some_named named k.index_entries d.some;
       named = all.each;
+      keys_rise = all.keys_rise;
       whole = all.whole;
       rising = rising cmp None (entries_of k.blocks) total (all_tests cmp None index k.blocks d.read);
     })
@@ -250,13 +270,14 @@ keys_from cmp target (e ∷ es) h = by_test (is_lt (internal_cmp cmp e.key targe
     by_test true more = more
     by_test false more = h
 
-pub rising_from : (cmp : List ℕ → List ℕ → Ordering) (target : List ℕ) (q : List Entry) → IsRising cmp q → IsRising cmp (entries_from cmp target q)
-rising_from cmp target [] h = tt
-rising_from cmp target (e ∷ es) h = by_test (is_lt (internal_cmp cmp e.key target)) (rising_from cmp target es h.1)
+-- the entries from an internal key on are all but the first so many
+from_drops : (cmp : List ℕ → List ℕ → Ordering) (target : List ℕ) (q : List Entry) → (n : ℕ) × (entries_from cmp target q ≡ drop n q)
+from_drops cmp target [] = (0, refl)
+from_drops cmp target (e ∷ es) = by_test (is_lt (internal_cmp cmp e.key target)) (from_drops cmp target es)
   where
-    by_test : (b : Bool) → IsRising cmp (entries_from cmp target es) → IsRising cmp (cond b (entries_from cmp target es) (e ∷ es))
-    by_test true more = more
-    by_test false more = h
+    by_test : (b : Bool) → (n : ℕ) × (entries_from cmp target es ≡ drop n es) → (n : ℕ) × (cond b (entries_from cmp target es) (e ∷ es) ≡ drop n (e ∷ es))
+    by_test true more = (suc more.0, more.1)
+    by_test false more = (0, refl)
 
 -- ---- a walk within a table
 
@@ -266,13 +287,32 @@ pub record Seeks (cmp : List ℕ → List ℕ → Ordering) (bytes target : List
   pub named : AllByRecursion (NamesBlock cmp bytes) index
   pub reached : from_left cmp target block (all_named bytes index) ≡ total
 
-pub seek_begins : (cmp : List ℕ → List ℕ → Ordering) (bytes target : List ℕ) (block index total : List Entry) → IsLeft cmp bytes block index → block ++ all_named bytes index ≡ total
-    → Seeks cmp bytes target (entries_from cmp target block) index (entries_from cmp target total)
-seek_begins cmp bytes target block index total k same = record {
-  keys = keys_from cmp target block k.keys;
-  named = k.named;
-  reached = sym (from_append cmp target block (all_named bytes index)) ∙ ap (entries_from cmp target) same;
-}
+-- blocks whose index keys are below the internal key are passed over
+pub names_from : (cmp : List ℕ → List ℕ → Ordering) (bytes target : List ℕ) (names : List Entry) → IsTotalOrder cmp → AllByRecursion (NamesBlock cmp bytes) names
+    → AllByRecursion (NamesBlock cmp bytes) (entries_from cmp target names) × (entries_from cmp target (all_named bytes (entries_from cmp target names)) ≡ entries_from cmp target (all_named bytes names))
+names_from cmp bytes target [] total h = (tt, refl)
+names_from cmp bytes target (i ∷ is) total h = by_order (internal_cmp cmp i.key target) refl (names_from cmp bytes target is total h.1)
+  where
+    by_order : (o : Ordering) → internal_cmp cmp i.key target ≡ o
+        → AllByRecursion (NamesBlock cmp bytes) (entries_from cmp target is) × (entries_from cmp target (all_named bytes (entries_from cmp target is)) ≡ entries_from cmp target (all_named bytes is))
+        → AllByRecursion (NamesBlock cmp bytes) (cond (is_lt o) (entries_from cmp target is) (i ∷ is)) × (entries_from cmp target (all_named bytes (cond (is_lt o) (entries_from cmp target is) (i ∷ is))) ≡ entries_from cmp target (all_named bytes (i ∷ is)))
+    by_order Less e more = (more.0, more.1 ∙ sym (passed_over cmp bytes target i (all_named bytes is) total h.0 e))
+    by_order Equal e more = (h, refl)
+    by_order Greater e more = (h, refl)
+
+pub seek_begins : (cmp : List ℕ → List ℕ → Ordering) (bytes target : List ℕ) (names block index total : List Entry) → IsTotalOrder cmp → IsLeft cmp bytes names block index → block ++ all_named bytes index ≡ total → first_is_below cmp target total ≡ true
+    → Seeks cmp bytes target [] (entries_from cmp target names) (entries_from cmp target total)
+seek_begins cmp bytes target names block index total laws k same below =
+    let left : total ≡ drop k.passed (all_named bytes names) = sym same ∙ k.behind in
+    let ahead = names_from cmp bytes target names laws k.all.named in
+    record {
+      keys = tt;
+      named = ahead.0;
+      reached =
+          ahead.1
+          ∙ sym (from_place cmp target (all_named bytes names) k.passed laws k.all.rising (sym (ap (first_is_below cmp target) left) ∙ below))
+          ∙ sym (ap (entries_from cmp target) left);
+    }
 
 -- the first of the index, where nothing is left of the block
 record Next (cmp : List ℕ → List ℕ → Ordering) (bytes target : List ℕ) (i : Entry) (is total : List Entry) : Type 0 where
@@ -286,14 +326,6 @@ next cmp bytes target block i is total k none = record {
   behind = k.named.1;
   reached = sym (ap (λ (b : List Entry). from_left cmp target b (all_named bytes (i ∷ is))) (nil_from_length block none)) ∙ k.reached;
 }
-
--- its block is passed over
-pub seek_skips : (cmp : List ℕ → List ℕ → Ordering) (bytes target : List ℕ) (block index total : List Entry) → IsTotalOrder cmp → Seeks cmp bytes target block index total → length block ≡ 0 → first_is_below cmp target index ≡ true → Seeks cmp bytes target block (drop 1 index) total
-seek_skips cmp bytes target block [] total laws k none below = absurd cc
-seek_skips cmp bytes target block (i ∷ is) total laws k none below =
-    let n = next cmp bytes target block i is total k none in
-    subst (λ (b : List Entry). Seeks cmp bytes target b is total) (sym (nil_from_length block none))
-    (record { keys = tt; named = n.behind; reached = sym (passed_over cmp bytes target i (all_named bytes is) laws n.first (less_is (internal_cmp cmp i.key target) below)) ∙ n.reached })
 
 -- its block is walked
 pub seek_enters : (cmp : List ℕ → List ℕ → Ordering) (bytes target : List ℕ) (block index total : List Entry) (value : List ℕ) (q : List Entry) → Seeks cmp bytes target block index total → length block ≡ 0
@@ -309,14 +341,8 @@ seek_enters cmp bytes target block (i ∷ is) total value q k none first h =
     })
 
 -- the entries from there on are reached
-pub record Reached (cmp : List ℕ → List ℕ → Ordering) (bytes : List ℕ) (block index total : List Entry) : Type 0 where
-  pub left : IsLeft cmp bytes block index
-  pub whole : block ++ all_named bytes index ≡ total
-
-pub seek_ends : (cmp : List ℕ → List ℕ → Ordering) (bytes target : List ℕ) (block index total : List Entry) → Seeks cmp bytes target block index total → IsRising cmp total → (block ≡ [] → index ≡ []) → Reached cmp bytes block index total
-seek_ends cmp bytes target block index total k rises ended =
-    let whole : block ++ all_named bytes index ≡ total = of_block block ended k.reached in
-    record { left = record { keys = k.keys; named = k.named; rising = subst (IsRising cmp) (sym whole) rises; ended = ended }; whole = whole }
+pub seek_ends : (cmp : List ℕ → List ℕ → Ordering) (bytes target : List ℕ) (block index total : List Entry) → Seeks cmp bytes target block index total → (block ≡ [] → index ≡ []) → block ++ all_named bytes index ≡ total
+seek_ends cmp bytes target block index total k ended = of_block block ended k.reached
   where
     of_block : (block : List Entry) → (block ≡ [] → index ≡ []) → from_left cmp target block (all_named bytes index) ≡ total → block ++ all_named bytes index ≡ total
     of_block [] ended h =
@@ -324,7 +350,101 @@ seek_ends cmp bytes target block index total k rises ended =
         ap (all_named bytes) none ∙ sym (ap (λ (q : List Entry). entries_from cmp target (all_named bytes q)) none) ∙ h
     of_block (e ∷ es) ended h = h
 
+pub seek_leaves : (cmp : List ℕ → List ℕ → Ordering) (bytes target : List ℕ) (names old_block old_index block index total : List Entry) → IsLeft cmp bytes names old_block old_index → old_block ++ all_named bytes old_index ≡ total
+    → Seeks cmp bytes target block index (entries_from cmp target total) → (block ≡ [] → index ≡ []) → IsLeft cmp bytes names block index
+seek_leaves cmp bytes target names old_block old_index block index total old same k ended =
+    let more = from_drops cmp target total in
+    record {
+      all = old.all;
+      keys = k.keys;
+      named = k.named;
+      passed = old.passed + more.0;
+      behind = seek_ends cmp bytes target block index (entries_from cmp target total) k ended ∙ more.1 ∙ ap (drop more.0) (sym same ∙ old.behind) ∙ drop-drop more.0 old.passed (all_named bytes names);
+      ended = ended;
+    }
+
 -- ---- the walk's other facts
+
+drop_rises : (cmp : List ℕ → List ℕ → Ordering) (n : ℕ) (q : List Entry) → IsRising cmp q → IsRising cmp (drop n q)
+drop_rises cmp zero q h = h
+drop_rises cmp (suc n) [] h = tt
+drop_rises cmp (suc n) (e ∷ q) h = drop_rises cmp n q h.1
+
+-- what is left rises
+pub left_rises : (cmp : List ℕ → List ℕ → Ordering) (bytes : List ℕ) (names block index total : List Entry) → IsLeft cmp bytes names block index → block ++ all_named bytes index ≡ total → IsRising cmp total
+left_rises cmp bytes names block index total k same = subst (IsRising cmp) (sym k.behind ∙ same) (drop_rises cmp k.passed (all_named bytes names) k.all.rising)
+
+-- the first of these entries of the index names a data block
+pub first_named : (cmp : List ℕ → List ℕ → Ordering) (bytes : List ℕ) (index : List Entry) (value : List ℕ) → AllByRecursion (NamesBlock cmp bytes) index → option_map (λ e. e.value) (slice_get index 0) ≡ Some value → IsOk (block_named bytes value)
+first_named cmp bytes [] value h first = absurd (none-some value first)
+first_named cmp bytes (i ∷ is) value h first =
+    subst (λ (v : List ℕ). IsOk (block_named bytes v)) (same_Some i.value value first) (subst (λ (r : Result (List Entry) Fault). IsOk r) (sym h.0.block) refl)
+
+pub first_data : (cmp : List ℕ → List ℕ → Ordering) (bytes : List ℕ) (index : List Entry) (value : List ℕ) (q : List Entry) → AllByRecursion (NamesBlock cmp bytes) index → option_map (λ e. e.value) (slice_get index 0) ≡ Some value → block_named bytes value ≡ Ok q → HaveKeys q × IsRising cmp q
+first_data cmp bytes [] value q h first named = absurd (none-some value first)
+first_data cmp bytes (i ∷ is) value q h first named =
+    let here : entries_named bytes i ≡ q = named_entries bytes i q (ap (block_named bytes) (same_Some i.value value first) ∙ named) in
+    (subst HaveKeys here h.0.keys, subst (IsRising cmp) here h.0.rising)
+
+-- an entry is taken off
+left_behind : (cmp : List ℕ → List ℕ → Ordering) (bytes : List ℕ) (names block index : List Entry) → IsLeft cmp bytes names block index → 0 < length block → (drop 1 block ≡ [] → index ≡ []) → IsLeft cmp bytes names (drop 1 block) index
+left_behind cmp bytes names [] index k some ended = absurd (omega arith)
+left_behind cmp bytes names (e ∷ es) index k some ended = record {
+  all = k.all;
+  keys = k.keys.1;
+  named = k.named;
+  passed = k.passed + 1;
+  behind = ap (drop 1) k.behind ∙ drop-drop 1 k.passed (all_named bytes names);
+  ended = ended;
+}
+
+-- and none where that is refused
+pub left_advanced : {T E : Type 0} (cmp : List ℕ → List ℕ → Ordering) (bytes : List ℕ) (names block index new : List Entry) (r : Result T E) → IsLeft cmp bytes names block index → 0 < length block → (drop 1 block ≡ [] → index ≡ [])
+    → OnOk r (new ≡ drop 1 block) → OnErr r (new ≡ block) → IsLeft cmp bytes names new index
+left_advanced cmp bytes names block index new (Ok x) k some ended ok err = subst (λ (b : List Entry). IsLeft cmp bytes names b index) (sym ok) (left_behind cmp bytes names block index k some ended)
+left_advanced cmp bytes names block index new (Err e) k some ended ok err = subst (λ (b : List Entry). IsLeft cmp bytes names b index) (sym err) k
+
+-- something is left of a block where something is left at all
+pub some_left : (cmp : List ℕ → List ℕ → Ordering) (bytes : List ℕ) (names block index total : List Entry) → IsLeft cmp bytes names block index → block ++ all_named bytes index ≡ total → 0 < length total → 0 < length block
+some_left cmp bytes names [] index total k same some =
+    let none : all_named bytes index ≡ [] = ap (all_named bytes) (k.ended refl) in
+    absurd (omega (arith, ap length none, ap length same))
+some_left cmp bytes names (e ∷ es) index total k same some = omega arith
+
+-- behind an entry that is not the last another is left
+pub not_last : (b : Bool) (block : List Entry) → (length block ≡ 1 → b ≡ true) → b ≡ false → 0 < length block → drop 1 block ≡ [] → ⊥
+not_last b [] last h some none = omega arith
+not_last b (e ∷ es) last h some none = true≢false (sym (last (ap (λ (q : List Entry). suc (length q)) none)) ∙ h)
+
+-- the last entry of a block is taken off, and the next block is entered
+pub left_enters : (cmp : List ℕ → List ℕ → Ordering) (bytes : List ℕ) (names block index : List Entry) (value : List ℕ) (q : List Entry) → IsLeft cmp bytes names block index → length block ≡ 1 → option_map (λ e. e.value) (slice_get index 0) ≡ Some value → block_named bytes value ≡ Ok q → IsLeft cmp bytes names q (drop 1 index)
+left_enters cmp bytes names block [] value q k one first named = absurd (none-some value first)
+left_enters cmp bytes names [] (i ∷ is) value q k one first named = absurd (omega (arith, one))
+left_enters cmp bytes names (e ∷ f ∷ es) (i ∷ is) value q k one first named = absurd (omega (arith, one))
+left_enters cmp bytes names (e ∷ []) (i ∷ is) value q k one first named =
+    let here : entries_named bytes i ≡ q = named_entries bytes i q (ap (block_named bytes) (same_Some i.value value first) ∙ named) in
+    record {
+      all = k.all;
+      keys = subst HaveKeys here k.named.0.keys;
+      named = k.named.1;
+      passed = k.passed + 1;
+      behind = ap (λ (b : List Entry). b ++ all_named bytes is) (sym here) ∙ ap (drop 1) k.behind ∙ drop-drop 1 k.passed (all_named bytes names);
+      ended = λ none. absurd (omega (arith, k.named.0.some, ap length here, ap length none));
+    }
+
+-- all of a table is left
+pub left_all : (cmp : List ℕ → List ℕ → Ordering) (bytes : List ℕ) (names entries : List Entry) (value : List ℕ) (q : List Entry) → Indexes cmp bytes names entries → option_map (λ e. e.value) (slice_get names 0) ≡ Some value → block_named bytes value ≡ Ok q → IsLeft cmp bytes names q (drop 1 names)
+left_all cmp bytes [] entries value q x first h = absurd (none-some value first)
+left_all cmp bytes (i ∷ is) entries value q x first h =
+    let here : entries_named bytes i ≡ q = named_entries bytes i q (ap (block_named bytes) (same_Some i.value value first) ∙ h) in
+    record {
+      all = record { some = x.some; named = x.named; keys_rise = x.keys_rise; whole = refl; rising = subst (IsRising cmp) (sym x.whole) x.rising };
+      keys = subst HaveKeys here x.named.0.keys;
+      named = x.named.1;
+      passed = 0;
+      behind = ap (λ (b : List Entry). b ++ all_named bytes is) (sym here);
+      ended = λ none. absurd (omega (arith, x.named.0.some, ap length here, ap length none));
+    }
 
 pub named_keys : (cmp : List ℕ → List ℕ → Ordering) (bytes : List ℕ) (index : List Entry) → AllByRecursion (NamesBlock cmp bytes) index → HaveKeys index
 named_keys cmp bytes [] h = tt

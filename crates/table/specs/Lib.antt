@@ -11,5 +11,6 @@ pub mod Placed
 pub mod Checked
 pub mod ReadingCursors
 pub mod Walking
+pub mod Seeking
 pub mod ReadingBack
 pub mod ReadingTables

@@ -1,5 +1,5 @@
 -- What is left of a table that is being walked: entries of a data block, and behind them the index's other entries.
-use Rattle.std.specs.Prelude.{◌≡◌, ℕ, ◌<◌, true, List, [], ◌++◌, length, Result, Ok}
+use Rattle.std.specs.Prelude.{◌≡◌, ℕ, ◌<◌, true, List, [], ◌++◌, length, drop, Result, Ok}
 use Rattle.std.specs.List.{flat_map, AllByRecursion}
 use Rattle.std.specs.Ordering.{is_le}
 use Rattle.std.specs.declared.cmp.Ordering.{Ordering}
@@ -29,25 +29,31 @@ entries_named bytes i = ok_or [] (block_named bytes i.value)
 abbrev pub all_named : List ℕ → List Entry → List Entry
 all_named bytes index = flat_map (entries_named bytes) index
 
--- An entry of the index names a data block. The block has an entry, its keys are internal keys, and none of them is
--- above the index key.
+-- An entry of the index names a data block. The block has an entry, its keys are internal keys and rise strictly, and
+-- none of them is above the index key.
 pub record NamesBlock (cmp : List ℕ → List ℕ → Ordering) (bytes : List ℕ) (i : Entry) : Type 0 where
   pub key : internal_key_reading i.key ≡ Ok i.key
   pub block : block_named bytes i.value ≡ Ok (entries_named bytes i)
   pub some : 0 < length (entries_named bytes i)
   pub keys : HaveKeys (entries_named bytes i)
+  pub rising : IsRising cmp (entries_named bytes i)
   pub within : AllByRecursion (λ e. is_le (internal_cmp cmp e.key i.key) ≡ true) (entries_named bytes i)
 
--- these entries of the index name the data blocks of the table that has these entries
+-- These entries of the index name the data blocks of the table that has these entries. The index keys rise strictly, and
+-- so do the entries'.
 pub record Indexes (cmp : List ℕ → List ℕ → Ordering) (bytes : List ℕ) (index entries : List Entry) : Type 0 where
   pub some : 0 < length index
   pub named : AllByRecursion (NamesBlock cmp bytes) index
+  pub keys_rise : IsRising cmp index
   pub whole : all_named bytes index ≡ entries
   pub rising : IsRising cmp entries
 
--- What is left rises strictly, and nothing is left of a data block only where no other block is.
-pub record IsLeft (cmp : List ℕ → List ℕ → Ordering) (bytes : List ℕ) (block index : List Entry) : Type 0 where
+-- What is left of a table whose index is known: of its entries all but the first so many. Nothing is left of a data block
+-- only where no other block is.
+pub record IsLeft (cmp : List ℕ → List ℕ → Ordering) (bytes : List ℕ) (names block index : List Entry) : Type 0 where
+  pub all : Indexes cmp bytes names (all_named bytes names)
   pub keys : HaveKeys block
   pub named : AllByRecursion (NamesBlock cmp bytes) index
-  pub rising : IsRising cmp (block ++ all_named bytes index)
+  pub passed : ℕ
+  pub behind : block ++ all_named bytes index ≡ drop passed (all_named bytes names)
   pub ended : block ≡ [] → index ≡ []

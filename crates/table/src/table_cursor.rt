@@ -1,16 +1,16 @@
 //! The cursor over a table's entries.
 
-ghost use Rattle.std.specs.Prelude.{◌≡◌, ◌<◌, ◌↔◌, List, length, drop, slice_get, IsTrue, IfOk, IfErr, OnOk, OnErr, IsOkUnless, Some, Ok};
+ghost use Rattle.std.specs.Prelude.{◌≡◌, ◌<◌, ◌↔◌, List, true, length, drop, slice_get, IsTrue, IfOk, IfErr, OnOk, OnErr, IsOkUnless, Some, Ok};
 ghost use Rattle.std.specs.Option.{option_map};
 ghost use Rattle.coding.specs.Answers.{Gives, fault};
 ghost use Rattle.coding.specs.declared.fault.FaultName.TheVariants.{Memory};
-ghost use Rattle.table.specs.ReadingCursors.{IsRising, NeverFalls, entries_from, LeavesFrom};
+ghost use Rattle.table.specs.ReadingCursors.{IsRising, NeverFalls, first_is_below, entries_from, LeavesFrom};
 
 use crate::cursor::{Cursor, Entries};
 use crate::naming::block_named;
 use crate::sound_table::SoundTable;
-use crate::walking::{first_key, is_below, walk_to};
-use block::BlockCursor;
+use crate::walking::{entries_from, first_key, is_below};
+use block::{BlockCursor, SoundBlock};
 use coding::Fault;
 use ikey::{Comparator, InternalKey};
 use std::alloc::Global;
@@ -23,6 +23,8 @@ use std::marker::{Model, PhantomData};
 pub struct TableCursor<'a, C: Comparator> {
     alloc: Global,
     bytes: &'a [u8],
+    /// The whole index, whose entries name the data blocks.
+    index_block: SoundBlock<'a>,
     /// What is left of the data block that is being walked.
     block: BlockCursor<'a>,
     /// The entries of the index for the data blocks behind it.
@@ -39,7 +41,7 @@ impl<'a, C: Comparator> Model for TableCursor<'a, C> {
 
     ghost view = { λ t. t.block ++ all_named t.bytes.now t.index };
 
-    ghost invariant = { λ t. IsLeft C.cmp t.bytes.now t.block t.index };
+    ghost invariant = { λ t. IsLeft C.cmp t.bytes.now t.index_block.entries t.block t.index };
 }
 
 impl<'a, C: Comparator> TableCursor<'a, C> {
@@ -50,38 +52,40 @@ impl<'a, C: Comparator> TableCursor<'a, C> {
         ensures { Gives (λ cursor. cursor) result (Ok table.now.entries) }
     {
         let bytes = table.bytes();
-        let mut index = BlockCursor::new(alloc, table.index_block())?;
+        let index_block = table.index_block();
+        let mut index = BlockCursor::new(alloc, index_block)?;
         let block = BlockCursor::new(alloc, &block_named(bytes, index.value()))?;
         index.advance()?;
         Ok(TableCursor {
             alloc,
             bytes,
+            index_block: index_block.copy(),
             block,
             index,
             order: PhantomData,
         })
     }
 
-    /// The first entry at or above an internal key, and those behind it.
+    /// The first entry at or above an internal key that the entry here is below, and those behind it.
     ///
-    /// A data block whose index key is below the internal key is passed over whole. Refused only for want of memory.
+    /// The first data block that may have it is the one whose index key is the first that isn't below the internal key. It
+    /// is in the next where all of that block's entries are below. Refused only for want of memory.
     fn sought(&self, target: InternalKey<'_>) -> Result<TableCursor<'a, C>, Fault>
+        requires { first_is_below C.cmp target.bytes.now self.now ≡ true }
         ensures from { IfOk result (λ cursor. cursor ≡ entries_from C.cmp target.entry.bytes.now self.now) }
         ensures memory { IfErr result (λ e. e ≡ fault Memory) }
     {
-        let mut block = self.block.copy(self.alloc)?;
-        let mut index = self.index.copy(self.alloc)?;
-        walk_to::<C>(&mut block, target)?;
+        let mut index = entries_from::<C>(self.alloc, &self.index_block, target)?;
+        let mut block = BlockCursor::none(self.alloc);
         while !block.valid() && index.valid() {
-            if !is_below::<C>(&index, target) {
-                block = BlockCursor::new(self.alloc, &block_named(self.bytes, index.value()))?;
-                walk_to::<C>(&mut block, target)?;
-            }
+            let named = block_named(self.bytes, index.value());
+            block = entries_from::<C>(self.alloc, &named, target)?;
             index.advance()?;
         }
         Ok(TableCursor {
             alloc: self.alloc,
             bytes: self.bytes,
+            index_block: self.index_block.copy(),
             block,
             index,
             order: PhantomData,
@@ -124,8 +128,10 @@ impl<'a, C: Comparator> Cursor<'a, C> for TableCursor<'a, C> {
 
     /// Takes off the entries below an internal key. It never goes back.
     ///
-    /// Refused for want of memory alone, and then nothing is taken off. It takes no memory where the first entry isn't
-    /// below the internal key, and else that of two keys, and of one for each data block that it looks into.
+    /// It picks the data block by the index keys, and in it the last restart whose key is below the internal key, and reads
+    /// on from there. Refused for want of memory alone, and then nothing is taken off. It takes no memory where the first
+    /// entry isn't below the internal key, and else that of a key of the index, and of one for each data block that it
+    /// looks into.
     fn seek(&mut self, target: InternalKey<'_>) -> Result<(), Fault>
         ensures ok { OnOk result (self.new ≡ entries_from C.cmp target.entry.bytes.now self.old) }
         ensures unchanged { OnErr result (self.new ≡ self.old) }

@@ -1,15 +1,17 @@
 //! Steps over entries of a block whose keys are internal keys.
 
-ghost use Rattle.std.specs.Prelude.{◌≡◌, ◌<◌, length, slice_get, OnOk, IsOkUnless, Some};
+ghost use Rattle.std.specs.Prelude.{◌≡◌, ◌<◌, length, drop, slice_get, slice_index, IfOk, IfErr, OnOk, IsOkUnless, Some};
 ghost use Rattle.std.specs.Option.{option_map};
 ghost use Rattle.coding.specs.Answers.{fault};
 ghost use Rattle.coding.specs.declared.fault.FaultName.TheVariants.{Memory};
-ghost use Rattle.table.specs.ReadingCursors.{first_is_below, entries_from};
+ghost use Rattle.table.specs.ReadingCursors.{IsRising, first_is_below, entries_from};
 ghost use Rattle.table.specs.Checked.{HaveKeys};
+ghost use Rattle.table.specs.Seeking.{restart_is_below, IsLastBelow};
 
-use block::BlockCursor;
+use block::{BlockCursor, SoundBlock};
 use coding::Fault;
 use ikey::{Comparator, InternalKey};
+use std::alloc::Global;
 use std::cmp::Ordering;
 
 /// The key of the first entry.
@@ -45,4 +47,62 @@ pub(crate) fn walk_to<C: Comparator>(
         entries.advance()?;
     }
     Ok(())
+}
+
+/// Whether the entry at a restart, where there is one, is below an internal key.
+fn restart_is_below<C: Comparator>(
+    block: &SoundBlock<'_>,
+    restart: u64,
+    target: InternalKey<'_>,
+) -> bool
+    requires restart { restart < length block.now.restarts }
+    requires keys { HaveKeys block.now.entries }
+    ensures { result ≡ restart_is_below C.cmp target.entry.bytes.now block.now restart }
+{
+    let Some(key) = block.key_at(restart) else {
+        return false;
+    };
+    match InternalKey::parse(key) {
+        Ok(key) => key.compare::<C>(&target) == Ordering::Less,
+        Err(_) => unreachable!(),
+    }
+}
+
+/// The last restart whose key is below an internal key, or the first restart where there is none, found by halving. The
+/// entries before it are all below the internal key. Takes no memory.
+fn last_below<C: Comparator>(block: &SoundBlock<'_>, target: InternalKey<'_>) -> u64
+    requires keys { HaveKeys block.now.entries }
+    requires rising { IsRising C.cmp block.now.entries }
+    ensures last { IsLastBelow C.cmp target.entry.bytes.now block.now result }
+    ensures from { entries_from C.cmp target.entry.bytes.now (drop (slice_index block.now.restarts result) block.now.entries) ≡ entries_from C.cmp target.entry.bytes.now block.now.entries }
+{
+    let mut restart = 0;
+    let mut end = block.restarts();
+    while end - restart > 1 {
+        let middle = restart + (end - restart) / 2;
+        if restart_is_below::<C>(block, middle, target) {
+            restart = middle;
+        } else {
+            end = middle;
+        }
+    }
+    restart
+}
+
+/// The entries of a block from the first on that isn't below an internal key.
+///
+/// It reads on from the last restart whose key is below. Refused for want of memory alone: it takes the bytes of one key.
+pub(crate) fn entries_from<'a, C: Comparator>(
+    alloc: Global,
+    block: &SoundBlock<'a>,
+    target: InternalKey<'_>,
+) -> Result<BlockCursor<'a>, Fault>
+    requires keys { HaveKeys block.now.entries }
+    requires rising { IsRising C.cmp block.now.entries }
+    ensures from { IfOk result (λ cursor. cursor ≡ entries_from C.cmp target.entry.bytes.now block.now.entries) }
+    ensures memory { IfErr result (λ e. e ≡ fault Memory) }
+{
+    let mut cursor = BlockCursor::at(alloc, block, last_below::<C>(block, target))?;
+    walk_to::<C>(&mut cursor, target)?;
+    Ok(cursor)
 }

@@ -1,5 +1,6 @@
 use super::*;
 use coding::{Fault, FaultName};
+use frame::{BlockHandle, Footer, push_stored};
 use ikey::{Bytewise, InternalKey, KeyBuf, Kind};
 use std::alloc::Global;
 use std::process::Abort;
@@ -83,6 +84,76 @@ fn a_seek_within_a_block(rt: HostRuntime) -> Result<(), Fail> {
         let users = left(rt.alloc(), &table, &[(FORTY[at], 1)])?;
         assert_eq!(rt; users.len(), count);
         assert_eq!(rt; users.first(), Some(&FORTY[at]));
+    }
+    Ok(())
+}
+
+/// Stores a block of these entries and restarts, and answers where.
+fn store(out: &mut Vec<u8>, block: &mut Vec<u8>, restarts: &[u32]) -> Result<BlockHandle, Fail> {
+    for restart in restarts {
+        block.extend_from_slice(&restart.to_le_bytes())?;
+    }
+    block.extend_from_slice(&(restarts.len().min(40) as u32).to_le_bytes())?;
+    let handle = BlockHandle {
+        offset: out.len() as u64,
+        size: block.len() as u64,
+    };
+    push_stored(out, block)?;
+    Ok(handle)
+}
+
+/// The table of the forty user keys, put at sequence 1 with the value `v`, in one data block with these restarts. An entry
+/// of it has 13 bytes, since no key shares bytes with the one before it.
+fn with_restarts(alloc: Global, restarts: &[u32]) -> Result<Vec<u8>, Fail> {
+    let mut block = Vec::new(alloc);
+    for user in FORTY {
+        block.extend_from_slice(&[0, 9, 1, *user, 1, 1, 0, 0, 0, 0, 0, 0, b'v'])?;
+    }
+    let mut out = Vec::new(alloc);
+    let data = store(&mut out, &mut block, restarts)?;
+    let mut handle = Vec::new(alloc);
+    data.push(&mut handle)?;
+    let mut index = Vec::new(alloc);
+    index.extend_from_slice(&[
+        0,
+        9,
+        handle.len().min(20) as u8,
+        b'd',
+        1,
+        1,
+        0,
+        0,
+        0,
+        0,
+        0,
+        0,
+    ])?;
+    index.extend_from_slice(&handle)?;
+    let metaindex = store(&mut out, &mut Vec::new(alloc), &[0])?;
+    let index = store(&mut out, &mut index, &[0])?;
+    Footer { metaindex, index }.push(&mut out)?;
+    Ok(out)
+}
+
+// The writer's restarts stand at each sixteenth entry; any others are as lawful.
+#[test]
+fn a_seek_from_any_restarts(rt: HostRuntime) -> Result<(), Fail> {
+    let rows = [
+        [0].as_slice(),
+        [0, 13].as_slice(),
+        [0, 507].as_slice(),
+        [0, 13, 26, 247, 260, 494].as_slice(),
+    ];
+    for restarts in rows {
+        let bytes = with_restarts(rt.alloc(), restarts)?;
+        let table = check::<Bytewise>(rt.alloc(), &bytes)?;
+        for at in 0..FORTY.len() {
+            let from = left(rt.alloc(), &table, &[(FORTY[at], 1)])?;
+            assert_eq!(rt; from.len(), FORTY.len() - at);
+            assert_eq!(rt; from.first(), Some(&FORTY[at]));
+            let behind = left(rt.alloc(), &table, &[(FORTY[at], 0)])?;
+            assert_eq!(rt; behind.len(), FORTY.len() - at - 1);
+        }
     }
     Ok(())
 }

@@ -1,9 +1,12 @@
-use Rattle.std.proofs.Common.{subst}
-use Rattle.table.specs.ReadingCursors.{IsRising}
 use Rattle.table.proofs.Orders.{rising_never_falls}
+use Rattle.table.proofs.Walks.{left_rises}
 use Rattle.table.proofs.table_cursor.TableCursorCursor.valid.Goals as goal
 
 pub returns-clause-ordered : goal.returns-clause-ordered
 returns-clause-ordered g c =
     let cmp = g.C.Comparator.cmp in
-    rising_never_falls cmp c.args.self.now (subst (IsRising cmp) c.self.view_is c.self.invariant.rising)
+    rising_never_falls cmp c.args.self.now (left_rises cmp c.self.inside.bytes.now c.self.inside.index_block.entries c.self.inside.block c.self.inside.index c.args.self.now c.self.invariant c.self.view_is)
+
+pub returns-clause-rising : goal.returns-clause-rising
+returns-clause-rising g c =
+    left_rises g.C.Comparator.cmp c.self.inside.bytes.now c.self.inside.index_block.entries c.self.inside.block c.self.inside.index c.args.self.now c.self.invariant c.self.view_is

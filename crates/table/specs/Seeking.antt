@@ -1,0 +1,15 @@
+-- Where a walk to an internal key begins in a block: at a restart, since the key there stands whole.
+use Rattle.std.specs.Prelude.{◌≡◌, ℕ, ◌<◌, Bool, true, false, List, length, drop, slice_index}
+use Rattle.std.specs.declared.cmp.Ordering.{Ordering}
+use Rattle.block.specs.Sound.{Sound}
+use Rattle.table.specs.ReadingCursors.{first_is_below}
+
+-- whether the entry at a restart, where there is one, is below this internal key
+abbrev pub restart_is_below : (List ℕ → List ℕ → Ordering) → List ℕ → Sound → ℕ → Bool
+restart_is_below cmp target block restart = first_is_below cmp target (drop (slice_index block.restarts restart) block.entries)
+
+-- the last restart whose key is below this internal key, or the first restart where there is none
+pub record IsLastBelow (cmp : List ℕ → List ℕ → Ordering) (target : List ℕ) (block : Sound) (restart : ℕ) : Type 0 where
+  pub within : restart < length block.restarts
+  pub below : 0 < restart → restart_is_below cmp target block restart ≡ true
+  pub last : (later : ℕ) → restart < later → later < length block.restarts → restart_is_below cmp target block later ≡ false

@@ -10,3 +10,6 @@ mod merging;
 
 pub use laws::{merge_law, union_law};
 pub use merging::Merging;
+
+#[cfg(test)]
+mod tests;

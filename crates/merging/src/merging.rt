@@ -1,7 +1,7 @@
 //! The cursor over the entries of cursors.
 
-ghost use Rattle.std.specs.Prelude.{◌≡◌, ◌<◌, ◌↔◌, IsTrue, map, length, slice_get, OnOk, OnErr, IsOkUnless};
-ghost use Rattle.coding.specs.Answers.{fault};
+ghost use Rattle.std.specs.Prelude.{◌≡◌, ◌<◌, ◌↔◌, IsTrue, map, length, slice_get, OnOk, OnErr, IsOkUnless, Ok};
+ghost use Rattle.coding.specs.Answers.{Gives, fault};
 ghost use Rattle.coding.specs.declared.fault.FaultName.TheVariants.{Memory};
 ghost use Rattle.merging.specs.Merged.{merged};
 ghost use Rattle.merging.specs.Seeking.{each_from, EachLeavesFrom};
@@ -9,6 +9,7 @@ ghost use Rattle.merging.specs.Seeking.{each_from, EachLeavesFrom};
 use crate::least::{least_place, next_cursor};
 use coding::Fault;
 use ikey::{Comparator, InternalKey};
+use std::alloc::Global;
 use std::marker::{Model, PhantomData};
 use table::{Cursor, Entries};
 
@@ -51,16 +52,18 @@ fn seek_all<'c, C: Comparator, S: Cursor<'c, C>>(
 }
 
 impl<'c, C: Comparator, S: Cursor<'c, C> + Drop> Merging<'c, C, S> {
-    /// All entries that are still to come of these cursors. Takes no memory.
-    pub fn new(cursors: Vec<S>) -> Merging<'c, C, S>
-        ensures { result ≡ merged C.cmp (map S.to_come cursors.items) }
+    /// All entries that are still to come of these cursors.
+    ///
+    /// Refused for want of memory alone. So far it keeps nothing beside the cursors, and so asks for none.
+    pub fn new(_alloc: Global, cursors: Vec<S>) -> Result<Merging<'c, C, S>, Fault>
+        ensures { Gives (λ merging. merging) result (Ok (merged C.cmp (map S.to_come cursors.items))) }
     {
         let least = least_place::<C, S>(&cursors);
-        Merging {
+        Ok(Merging {
             cursors,
             least,
             order: PhantomData,
-        }
+        })
     }
 }
 

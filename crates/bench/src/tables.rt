@@ -14,6 +14,8 @@ const VALUE_LEN: usize = 100;
 const ENTRY_LEN: usize = VALUE_LEN + 12;
 /// The first user key: eight bytes that are the same in all, and a number, the highest byte first.
 const FIRST_KEY: u128 = 0x6265_6e63_682d_6b65 << 64;
+/// The most keys that are sought.
+const SEEKS: usize = 10_000;
 /// A value at sequence 1, as the last eight bytes of an internal key.
 const TAG: [u8; 8] = [1, 1, 0, 0, 0, 0, 0, 0];
 
@@ -37,6 +39,13 @@ pub fn measure(
     })?;
     let sound = check::<Bytewise>(alloc, &table)?;
     figures.take(clock, over(Call::TableCursor), || walk(alloc, &sound))?;
+    let keys = spread(alloc, values.len() / VALUE_LEN)?;
+    let seeks = Work {
+        call: Call::TableSeek,
+        bytes: 0,
+        entries: keys.len(),
+    };
+    figures.take(clock, seeks, || seek(alloc, &sound, &keys))?;
     figures.take_made(clock, over(Call::TableBuilder), || {
         let table = written(alloc, values)?;
         Ok((last_of(&table), table))
@@ -84,11 +93,17 @@ fn begun(alloc: Global, file_size: u64) -> Result<TableBuilder<Bytewise>> {
     Ok(TableBuilder::new(alloc, options))
 }
 
-/// Appends the entry of this number.
-fn add(builder: &mut TableBuilder<Bytewise>, number: usize, value: &[u8; VALUE_LEN]) -> Result<()> {
+/// The internal key of the entry of this number.
+fn key_of(number: usize) -> [u8; 24] {
     let mut bytes = [0; 24];
     bytes[..16].copy_from_slice(&(FIRST_KEY + number as u128).to_be_bytes());
     bytes[16..].copy_from_slice(&TAG);
+    bytes
+}
+
+/// Appends the entry of this number.
+fn add(builder: &mut TableBuilder<Bytewise>, number: usize, value: &[u8; VALUE_LEN]) -> Result<()> {
+    let bytes = key_of(number);
     let key = InternalKey::parse(&bytes)?;
     ensure!(builder.is_above_last(&key), "keys that don't rise");
     builder.add(key, value)?;
@@ -103,6 +118,32 @@ fn walk(alloc: Global, table: &SoundTable<'_, Bytewise>) -> Result<u32> {
         folded = folded.wrapping_add(last_of(cursor.key().bytes()));
         folded = folded.wrapping_add(last_of(cursor.value()));
         cursor.advance()?;
+    }
+    Ok(folded)
+}
+
+/// The internal keys of some of so many entries, in equal steps.
+fn spread(alloc: Global, entries: usize) -> Result<Vec<[u8; 24]>> {
+    let step = entries / SEEKS + 1;
+    let mut keys = Vec::new(alloc);
+    for number in 0..entries {
+        if number % step == 0 {
+            keys.push(key_of(number))?;
+        }
+    }
+    Ok(keys)
+}
+
+/// Seeks these internal keys by one cursor, in turn, and gives the sum of the last bytes of the user keys that it comes to,
+/// modulo 2^32.
+fn seek(alloc: Global, table: &SoundTable<'_, Bytewise>, keys: &[[u8; 24]]) -> Result<u32> {
+    let mut cursor = TableCursor::new(alloc, table)?;
+    let mut folded = 0u32;
+    for key in keys {
+        cursor.seek(InternalKey::parse(key)?)?;
+        if cursor.valid() {
+            folded = folded.wrapping_add(last_of(cursor.key().user()));
+        }
     }
     Ok(folded)
 }

@@ -7,7 +7,7 @@ use Rattle.edit.specs.declared.meta.FileMeta.{FileMeta}
 use Rattle.pick.specs.Ranges.{begins_by, ends_from}
 use Rattle.pick.specs.Chosen.{IsClosed}
 use Rattle.pick.specs.Spans.{is_overlapping, is_covering}
-use Rattle.pick.specs.Boundaries.{with_largest, goes_on}
+use Rattle.pick.specs.Boundaries.{with_largest, largest_key, goes_on}
 use Rattle.pick.specs.declared.choice.Choice.{Choice}
 use Rattle.pick.specs.declared.choice.Choice.TheVariants.{First, Around, Overlapping}
 use Rattle.pick.specs.declared.range.UserRange.{UserRange}
@@ -47,3 +47,7 @@ joined cmp test key (f ∷ files) =
     else if goes_on cmp key f
     then f ∷ joined cmp test (with_largest cmp key f) files
     else joined cmp test key files
+
+-- the files that pass the test and their boundary files
+abbrev pub with_boundary_files : (List ℕ → List ℕ → Ordering) → (FileMeta → Bool) → List FileMeta → List FileMeta
+with_boundary_files cmp test files = joined cmp test (largest_key cmp (filter test files)) files

@@ -4,7 +4,7 @@ ghost use Rattle.std.specs.Prelude.{◌≡◌, Ok, Some, map, filter, fold};
 ghost use Rattle.std.specs.Option.{option_copied};
 ghost use Rattle.coding.specs.Answers.{Gives};
 ghost use Rattle.pick.specs.Boundaries.{greater_key, with_largest, largest_key, goes_on as is_going_on};
-ghost use Rattle.pick.specs.Choices.{is_chosen, joined};
+ghost use Rattle.pick.specs.Choices.{is_chosen, with_boundary_files};
 
 use crate::choice::Choice;
 use coding::Fault;
@@ -52,7 +52,8 @@ fn largest_chosen<'a, C: Comparator>(
     files: &[&'a FileMeta],
     choice: Choice<'_>,
 ) -> Option<&'a KeyBuf>
-    ensures { option_copied result ≡ largest_key C.cmp (filter (is_chosen C.cmp choice.entry) (map (λ f. f.now) files.now)) }
+    ensures { option_copied result
+        ≡ largest_key C.cmp (filter (is_chosen C.cmp choice.entry) (map (λ f. f.now) files.now)) }
 {
     let mut largest = None;
     for file in files {
@@ -81,7 +82,8 @@ pub(crate) fn with_boundaries<'a, C: Comparator>(
     files: &[&'a FileMeta],
     choice: Choice<'_>,
 ) -> Result<Vec<&'a FileMeta>, Fault>
-    ensures { Gives (λ v. map (λ f. f.now) v.items) result (Ok (joined C.cmp (is_chosen C.cmp choice.entry) (largest_key C.cmp (filter (is_chosen C.cmp choice.entry) (map (λ f. f.now) files.now))) (map (λ f. f.now) files.now))) }
+    ensures { Gives (λ v. map (λ f. f.now) v.items) result
+        (Ok (with_boundary_files C.cmp (is_chosen C.cmp choice.entry) (map (λ f. f.now) files.now))) }
 {
     let mut largest = largest_chosen::<C>(files, choice);
     let mut all = Vec::new(alloc);

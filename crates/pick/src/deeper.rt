@@ -53,7 +53,8 @@ fn overlapping<C: Comparator>(
     range: UserRange<'_>,
 ) -> Result<Vec<FileMeta>, Fault>
     requires { level ≤ 6 }
-    ensures { Gives (λ v. v.items) result (Ok (filter (is_in C.cmp range.entry) (level_files C.cmp version.now level))) }
+    ensures { Gives (λ v. v.items) result
+        (Ok (filter (is_in C.cmp range.entry) (level_files C.cmp version.now level))) }
 {
     let mut found = Vec::new(alloc);
     let files = version.files::<C>(alloc, level)?;
@@ -89,7 +90,8 @@ pub(crate) fn grandparents<C: Comparator>(
     level: u64,
     range: UserRange<'_>,
 ) -> Result<Vec<FileMeta>, Fault>
-    ensures { Gives (λ v. v.items) result (Ok (if nat_lt 6 level then [] else filter (is_in C.cmp range.entry) (level_files C.cmp version.now level))) }
+    ensures { Gives (λ v. v.items) result
+        (Ok (if nat_lt 6 level then [] else filter (is_in C.cmp range.entry) (level_files C.cmp version.now level))) }
 {
     if level > LAST_LEVEL {
         return Ok(Vec::new(alloc));

@@ -44,7 +44,9 @@ pub(crate) fn lower_files<'a, C: Comparator>(
     range: UserRange<'_>,
 ) -> Result<Vec<&'a FileMeta>, Fault>
     requires { level ≤ 6 }
-    ensures { Answers (λ v. map (λ f. f.now) v.items) result (λ answer. IsOkAnd answer (AreWithBoundaries C.cmp (level_files C.cmp version.now level) (filter (is_in C.cmp range.entry) (level_files C.cmp version.now level)))) }
+    ensures { Answers (λ v. map (λ f. f.now) v.items) result
+        (λ answer. IsOkAnd answer (AreWithBoundaries C.cmp (level_files C.cmp version.now level)
+        (filter (is_in C.cmp range.entry) (level_files C.cmp version.now level)))) }
 {
     let files = version.files::<C>(alloc, level)?;
     with_boundaries::<C>(alloc, &files, Choice::Overlapping(range))

@@ -11,7 +11,7 @@ pub mod OneChoice
 pub mod Members
 pub mod Orders
 pub mod Sought
-pub mod Tests
+pub mod ByteTests
 pub mod Answers
 pub mod Levels
 pub mod Versions

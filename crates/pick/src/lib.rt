@@ -25,3 +25,6 @@ pub use laws::one_choice;
 pub use numbered_table::NumberedTable;
 pub use picked::{InputFile, Inputs, is_base};
 pub use picking::inputs;
+
+#[cfg(test)]
+mod get_tests;

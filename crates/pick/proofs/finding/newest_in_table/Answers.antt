@@ -4,7 +4,7 @@ use Rattle.table.specs.ReadingCursors.{entries_from}
 use Rattle.table.proofs.Walks.{none_valid}
 use Rattle.coding.proofs.Binds.{ok_is}
 use Rattle.pick.proofs.Sought.{sought_end, sought_other, sought_own}
-use Rattle.pick.proofs.Tests.{bytes_differ, bytes_same}
+use Rattle.pick.proofs.ByteTests.{bytes_differ, bytes_same}
 use Rattle.pick.proofs.finding.newest_in_table.Goals as goal
 
 pub returns-then-not-valid-clause-found : goal.returns-then-not-valid-clause-found

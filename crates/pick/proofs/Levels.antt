@@ -162,7 +162,7 @@ one_missing cmp total tables files level items is some_fails =
     all_fails (λ (f : NewFile). is_some (table_of tables f.meta.number)) files (record { element = at.file; there = at.there; fails = fails }) in
     ap tested all
 
-done_is : (b : Bool) → tested b ≡ done tt → b ≡ true
+pub done_is : (b : Bool) → tested b ≡ done tt → b ≡ true
 done_is true e = refl
 done_is false e = absurd cc
 

@@ -16,3 +16,10 @@ pub mod Answers
 pub mod Levels
 pub mod Versions
 pub mod Got
+pub mod Newer
+pub mod Gathering
+pub mod Pairs
+pub mod SoundFiles
+pub mod OrderedFiles
+pub mod LawfulVersions
+pub mod Listed

@@ -81,7 +81,7 @@ module _ (cmp : List ℕ → List ℕ → Ordering) (total : IsTotalOrder cmp) w
   not_before_itself u e = let both : Less ≡ Equal = sym e ∙ tied_itself total u in absurd cc
 
   -- the user keys of rising internal keys don't fall
-  users_rise : (k m : List ℕ) → internal_cmp cmp k m ≡ Less → (cmp (user_of k) (user_of m) ≡ Less) ⊎ (cmp (user_of k) (user_of m) ≡ Equal)
+  pub users_rise : (k m : List ℕ) → internal_cmp cmp k m ≡ Less → (cmp (user_of k) (user_of m) ≡ Less) ⊎ (cmp (user_of k) (user_of m) ≡ Equal)
   unfolding internal_cmp
   users_rise k m below =
       elim (then_less (cmp (user_of k) (user_of m)) (ordering_then (nat_cmp (sequence_of m) (sequence_of k)) (nat_cmp (kind_number (kind_of m)) (kind_number (kind_of k)))) below) [

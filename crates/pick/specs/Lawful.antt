@@ -1,9 +1,12 @@
 -- Lawful versions.
-use Rattle.std.specs.Prelude.{◌≡◌, ◌≢◌, ◌⊎◌, ℕ, ◌-◌, ◌<◌, true, List, length, slice_get, Option, Some, None, Contains, AllPairs}
+use Rattle.std.specs.Prelude.{◌≡◌, ◌≢◌, ◌⊎◌, ℕ, ◌-◌, ◌<◌, true, List, length, slice_get, Option, Some, None, Ok, Err, Contains, AllPairs}
 use Rattle.std.specs.List.{All}
 use Rattle.std.specs.Option.{option_map}
 use Rattle.std.specs.declared.cmp.Ordering.{Ordering}
 use Rattle.std.specs.declared.cmp.Ordering.TheVariants.{Less}
+use Rattle.coding.specs.Answers.{fault}
+use Rattle.coding.specs.declared.fault.Fault.{Fault}
+use Rattle.coding.specs.declared.fault.FaultName.TheVariants.{Lawless}
 use Rattle.ikey.specs.Key.{IsInternalKey, user_of, sequence_of}
 use Rattle.ikey.specs.Order.{internal_cmp}
 use Rattle.block.specs.Piece.{Entry}
@@ -12,7 +15,7 @@ use Rattle.table.specs.ReadingCursors.{IsRising}
 use Rattle.edit.specs.Version.{State, are_apart}
 use Rattle.edit.specs.declared.meta.FileMeta.{FileMeta}
 use Rattle.edit.specs.declared.meta.NewFile.{NewFile}
-use Rattle.pick.specs.Tables.{Numbered, table_of, entries_of, all_entries}
+use Rattle.pick.specs.Tables.{Numbered, table_of, entries_of, all_entries, tables_test}
 
 -- A file's table is there and accepted, so that its entries have internal keys that rise strictly; and its length, its
 -- first and its last key are those that the version states.
@@ -61,3 +64,8 @@ pub record IsLawful (cmp : List ℕ → List ℕ → Ordering) (v : State) (tabl
   pub sequences_once : AllPairs AreDistinct (all_entries tables v.files)
   pub newer_above : (f g : NewFile) → Contains v.files f → Contains v.files g → StandsAbove f g
       → AreNewer (entries_of tables f.meta.number) (entries_of tables g.meta.number)
+
+-- why a version isn't found lawful: a file has no table, or else the version isn't lawful
+abbrev pub IsUnlawful : (List ℕ → List ℕ → Ordering) → State → List Numbered → Fault → Type 0
+IsUnlawful cmp v tables e =
+    (tables_test tables v.files ≡ Err e) ⊎ ((tables_test tables v.files ≡ Ok tt) × (e ≡ fault Lawless) × (IsLawful cmp v tables → ⊥))

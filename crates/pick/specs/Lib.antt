@@ -8,3 +8,4 @@ pub mod Tables
 pub mod Gets
 pub mod Lawful
 pub mod Seen
+pub mod Checking

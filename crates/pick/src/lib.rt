@@ -33,3 +33,5 @@ pub use picking::inputs;
 
 #[cfg(test)]
 mod get_tests;
+#[cfg(test)]
+mod input_tests;

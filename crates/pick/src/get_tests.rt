@@ -206,3 +206,111 @@ fn the_first_table_of_a_number_counts(rt: HostRuntime) -> Result<(), Fail> {
     }
     Ok(())
 }
+
+/// What `lawful` answers: none where the version of these files is lawful.
+fn verdict(alloc: Global, files: &[Stated<'_>]) -> Result<Option<FaultName>, Fail> {
+    let version = version(alloc, files)?;
+    let tables = tables(alloc, files)?;
+    Ok(refusal(lawful(alloc, &version, &tables)))
+}
+
+#[test]
+fn lawful_versions(rt: HostRuntime) -> Result<(), Fail> {
+    let a = written(&rt, &[(b'u', 10, Some(b'a'))])?;
+    let b = written(&rt, &[(b'u', 5, Some(b'b'))])?;
+    let c = written(
+        &rt,
+        &[(b'a', 3, None), (b'u', 4, None), (b'u', 2, Some(b'x'))],
+    )?;
+    assert!(rt; verdict(rt.alloc(), &[])?.is_none());
+    let rows = [
+        // The files of a level may share a user key, the newer sequence in the file that comes first.
+        [
+            (1, 8, a.as_slice()),
+            (1, 7, b.as_slice()),
+            (2, 9, c.as_slice()),
+        ],
+        // At level 0 the higher number is newer, and ranges overlap.
+        [
+            (0, 9, a.as_slice()),
+            (0, 8, b.as_slice()),
+            (0, 7, c.as_slice()),
+        ],
+        [
+            (0, 1, a.as_slice()),
+            (3, 2, b.as_slice()),
+            (6, 3, c.as_slice()),
+        ],
+    ];
+    for files in &rows {
+        assert!(rt; verdict(rt.alloc(), files)?.is_none());
+    }
+    Ok(())
+}
+
+#[test]
+fn entries_out_of_order(rt: HostRuntime) -> Result<(), Fail> {
+    let new = written(&rt, &[(b'u', 10, Some(b'a'))])?;
+    let old = written(&rt, &[(b'u', 5, Some(b'b'))])?;
+    let twice = written(&rt, &[(b'u', 5, Some(b'b')), (b'u', 5, None)])?;
+    let deleted = written(&rt, &[(b'u', 5, None)])?;
+    let wide = written(&rt, &[(b'a', 3, None), (b'z', 4, None)])?;
+    let rows = [
+        // An older entry in a file of higher number at level 0, and at a shallower level.
+        [(0, 7, new.as_slice()), (0, 8, old.as_slice())],
+        [(2, 7, new.as_slice()), (1, 8, old.as_slice())],
+        // One sequence of a user key twice: in one table, in two of one level, and in two levels.
+        [(1, 7, twice.as_slice()), (5, 8, wide.as_slice())],
+        [(1, 7, old.as_slice()), (1, 8, deleted.as_slice())],
+        [(1, 7, old.as_slice()), (2, 8, old.as_slice())],
+        // Ranges of one level that overlap.
+        [(3, 7, new.as_slice()), (3, 8, wide.as_slice())],
+    ];
+    for files in &rows {
+        assert_eq!(rt; verdict(rt.alloc(), files)?, Some(FaultName::Lawless));
+    }
+    Ok(())
+}
+
+/// The version of one file with its size, its number, and its next file's number stated so.
+fn stated(alloc: Global, bytes: &[u8], more: u64, next: Option<u8>) -> Result<Version, Fail> {
+    let mut edit = Vec::new(alloc);
+    if let Some(next) = next {
+        edit.extend_from_slice(&[3, next])?;
+    }
+    push_file(alloc, &mut edit, &(1, 7, bytes), more)?;
+    let edit = VersionEdit::decode(alloc, &edit)?;
+    Ok(Version::empty(alloc).applied::<Bytewise>(edit)?)
+}
+
+#[test]
+fn what_is_stated_of_a_file(rt: HostRuntime) -> Result<(), Fail> {
+    let bytes = written(&rt, &[(b'u', 10, Some(b'a')), (b'v', 1, None)])?;
+    let tables = tables(rt.alloc(), &[(1, 7, &bytes)])?;
+    let rows = [
+        (0, Some(8), None),
+        // A size that is one too large, a number that isn't below next file, and no next file.
+        (1, Some(8), Some(FaultName::Lawless)),
+        (0, Some(7), Some(FaultName::Lawless)),
+        (0, None, Some(FaultName::Lawless)),
+    ];
+    for (more, next, want) in rows {
+        let version = stated(rt.alloc(), &bytes, more, next)?;
+        assert_eq!(rt; refusal(lawful(rt.alloc(), &version, &tables)), want);
+    }
+    Ok(())
+}
+
+#[test]
+fn bounds_of_another_table(rt: HostRuntime) -> Result<(), Fail> {
+    let stated = written(&rt, &[(b'u', 10, Some(b'a')), (b'v', 1, None)])?;
+    let smaller = written(&rt, &[(b't', 10, Some(b'a')), (b'v', 1, None)])?;
+    let larger = written(&rt, &[(b'u', 10, Some(b'a')), (b'v', 2, None)])?;
+    let version = version(rt.alloc(), &[(1, 7, &stated)])?;
+    for other in [&smaller, &larger] {
+        let tables = tables(rt.alloc(), &[(1, 7, other)])?;
+        let answer = lawful(rt.alloc(), &version, &tables);
+        assert_eq!(rt; refusal(answer), Some(FaultName::Lawless));
+    }
+    Ok(())
+}

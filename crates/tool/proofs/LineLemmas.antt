@@ -1,12 +1,13 @@
 -- Facts on the texts of a command line.
-use Rattle.std.proofs.Common.{◌≡◌, Bool, true, false, List, [], Option, Some, None, Result, Ok, Err, option_map, if◌then◌else◌, unwrap_or, inl, inr, refl, subst, sym, ap, ap₂, ◌∙◌}
-use Rattle.std.specs.Prelude.{IsErr, IsErrAnd, MatchOption, Box}
+use Rattle.std.proofs.Common.{◌≡◌, ℕ, Bool, true, false, List, [], Option, Some, None, Result, Ok, Err, option_map, if◌then◌else◌, unwrap_or, inl, inr, refl, subst, sym, ap, ap₂, ◌∙◌}
+use Rattle.std.specs.Prelude.{IsErr, IsErrAnd, MatchOption, MatchResult, Box}
+use Rattle.std.specs.Str.Parse.{ParsesUnsigned}
 use Rattle.std.specs.Borrow.{Bor}
 use Rattle.std.specs.Str.{bytes_eq}
 use Rattle.clap.specs.declared.builder.command.Command.{Command}
 use Rattle.clap.specs.declared.builder.command.Command.TheViews.{out-Command}
 use Rattle.clap.specs.Words.{AddsSubcommand, App, app_of, IsAmong, Row, Text, fault_of, first_of, is_simple, is_simple_and_free, kind_of, subcommand_of, subcommand_rows, subcommand_rows_of, with_subcommand}
-use Rattle.clap.specs.Matches.{subcommand_name_of}
+use Rattle.clap.specs.Matches.{TriesOne, subcommand_name_of}
 use Rattle.clap.specs.Kinds.{HasKind}
 use Rattle.clap.specs.declared.error.Error.{Error}
 use Rattle.clap.specs.declared.parser.matches.ArgMatches.{ArgMatches}
@@ -15,8 +16,9 @@ use Rattle.clap.specs.declared.parser.matches.SubCommand.{SubCommand}
 use Rattle.clap.proofs.OnLiterals.{clap_on_literals}
 use Rattle.std.proofs.lemmas.Slice.Eq.{bytes_eq-Decides}
 use Rattle.std.specs.Box.{box_value}
-use Rattle.tool.specs.Line.{BlocksLine, GivesBlocks, LineGives, GivesCommand, GivesTexts, Has, HasPath, HasTexts, Lacks, LacksAll, LacksPath, LacksText, TextsGiven, program_app, rows_under}
+use Rattle.tool.specs.Line.{BlocksLine, GetLine, GivesBlocks, GivesGet, LineGives, GivesCommand, GivesTexts, Has, HasGet, HasGetTexts, HasPath, HasTexts, IsNoNumber, IsNumberOf, Lacks, LacksAll, LacksGet, LacksGetText, LacksPath, LacksText, TextsGiven, program_app, rows_under}
 use Rattle.tool.specs.declared.command_line.BlocksTexts.{BlocksTexts}
+use Rattle.tool.specs.declared.command_line.GetTexts.{GetTexts}
 use Rattle.tool.specs.declared.command_line.Given.{Given}
 use Rattle.tool.specs.declared.asked.Line.{Line}
 use Rattle.tool.specs.declared.asked.Line.TheVariants as line
@@ -144,6 +146,46 @@ LineGives-blocks words a b at out (Ok (line.Blocks a' b' key out')) given h = (
 )
 LineGives-blocks words a b at out (Ok (line.Dump table)) given h = absurd h
 LineGives-blocks words a b at out (Ok (line.Manifest folder)) given h = absurd h
-LineGives-blocks words a b at out (Err Key) given h = (a, b, at, out, (given, h))
+LineGives-blocks words a b at out (Ok (line.Verify folder)) given h = absurd h
+LineGives-blocks words a b at out (Ok (line.Get folder key sequence)) given h = absurd h
+LineGives-blocks words a b at out (Err Key) given h = (at, (inl (a, b, out, given), h))
 LineGives-blocks words a b at out (Err Memory) given h = tt
 LineGives-blocks words a b at out (Err (Clap e)) given h = absurd h
+
+-- the line of the texts of `get`
+pub LineGives-get : (words : List Text) (folder key : Text) (at : Option ℕ) (r : Result Line Usage) → GivesGet words folder key at → GetLine folder key at r → LineGives words r
+LineGives-get words folder key at (Ok (line.Get folder' key' at')) given h = (
+  key,
+  (
+    subst (λ (x : Text). GivesGet words x key at') (sym h.0) (subst (GivesGet words folder key) (sym h.1.1) given),
+    h.1.0,
+  ),
+)
+LineGives-get words folder key at (Ok (line.Blocks a b k out)) given h = absurd h
+LineGives-get words folder key at (Ok (line.Dump table)) given h = absurd h
+LineGives-get words folder key at (Ok (line.Manifest f)) given h = absurd h
+LineGives-get words folder key at (Ok (line.Verify f)) given h = absurd h
+LineGives-get words folder key at (Err Key) given h = (key, (inr (folder, at, given), h))
+LineGives-get words folder key at (Err Memory) given h = tt
+LineGives-get words folder key at (Err (Clap e)) given h = absurd h
+
+-- what `get` is given, to a parse that gave the rows
+pub MatchOption-get : (given : Option (List Row)) (rows : List Row) (r : Option GetTexts) → given ≡ Some rows
+    → MatchOption r (LacksGet rows) (λ texts. HasGet rows texts.folder.now texts.key.now texts.at)
+    → MatchOption r (LacksGetText given) (λ texts. HasGetTexts given texts.folder.now texts.key.now texts.at)
+MatchOption-get given rows None e h = inr (rows, (e, h))
+MatchOption-get given rows (Some texts) e h = (rows, (e, h))
+
+-- the number that a typed getter reads
+pub MatchResult-number : {E : Type 0} (gives : Text → Result ℕ E → Type 0) (text : Option Text) (r : Result (Option ℕ) E)
+    → ((t : Text) (x : Result ℕ E) → gives t x → ParsesUnsigned 64 10 t x) → (text ≡ None → r ≡ Ok None)
+    → ((t : Text) → text ≡ Some t → TriesOne gives t r) → MatchResult r (IsNumberOf text) (λ _. IsNoNumber text)
+MatchResult-number gives None r parses none some = subst (λ x. MatchResult x (IsNumberOf None) (λ _. IsNoNumber None)) (sym (none refl)) refl
+MatchResult-number gives (Some t) (Ok None) parses none some = absurd (some t refl)
+MatchResult-number gives (Some t) (Ok (Some n)) parses none some = let h = parses t (Ok n) (some t refl) in (h.0, ap Some h.1)
+MatchResult-number gives (Some t) (Err e) parses none some = parses t (Err e) (some t refl)
+
+-- none of the commands has its texts
+pub MatchOption-lacking : (parsed : Option (Text × List Row)) (r : Option Given) → r ≡ None → LacksAll parsed → MatchOption r (LacksAll parsed) (GivesCommand parsed)
+MatchOption-lacking parsed None e lacks = lacks
+MatchOption-lacking parsed (Some given) e lacks = cc e

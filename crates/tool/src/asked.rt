@@ -31,6 +31,20 @@ pub enum Line<'a> {
         /// The path of the folder.
         folder: &'a str,
     },
+    /// Tests whether the version that a database folder holds is lawful.
+    Verify {
+        /// The path of the folder.
+        folder: &'a str,
+    },
+    /// Prints the value of a user key at a sequence.
+    Get {
+        /// The path of the folder.
+        folder: &'a str,
+        /// The user key.
+        key: Vec<u8>,
+        /// The sequence, of any size. The version's last sequence where it isn't given.
+        at: Option<u64>,
+    },
 }
 
 /// Why a command line asks for nothing that can be done.

@@ -67,6 +67,7 @@ fn done<R: Files + Print + AllocGlobal>(rt: &R, line: Line<'_>) -> Result<(), Fa
             let lines = manifest(rt.alloc(), &mut Disk::new(rt, folder))?;
             written_out(rt, lines.as_slice())
         }
+        Line::Verify { .. } | Line::Get { .. } => Err(Fault::of(FaultName::Lawless)),
     }
 }
 

@@ -62,6 +62,60 @@ fn command_lines(rt: HostRuntime) -> Result<(), Fail> {
     assert_eq!(rt; given.as_str(), r#"Dump { table: "one" }"#);
     let given = outcome(alloc, ["sedvokt", "manifest", "one"].as_slice())?;
     assert_eq!(rt; given.as_str(), r#"Manifest { folder: "one" }"#);
+    let given = outcome(alloc, ["sedvokt", "verify", "one"].as_slice())?;
+    assert_eq!(rt; given.as_str(), r#"Verify { folder: "one" }"#);
+    Ok(())
+}
+
+#[test]
+fn lines_of_get(rt: HostRuntime) -> Result<(), Fail> {
+    let alloc = rt.alloc();
+    let given = outcome(alloc, ["sedvokt", "get", "one", "75"].as_slice())?;
+    let wanted = r#"Get { folder: "one", key: [117], at: None }"#;
+    assert_eq!(rt; given.as_str(), wanted);
+    let given = outcome(alloc, ["sedvokt", "get", "one", "-"].as_slice())?;
+    assert_eq!(rt;
+        given.as_str(),
+        r#"Get { folder: "one", key: [], at: None }"#
+    );
+    let numbers = [
+        ("3", "Some(3)"),
+        ("007", "Some(7)"),
+        ("0", "Some(0)"),
+        ("18446744073709551615", "Some(18446744073709551615)"),
+    ];
+    for (text, at) in numbers {
+        let given = outcome(
+            alloc,
+            ["sedvokt", "get", "one", "-", "--at", text].as_slice(),
+        )?;
+        let wanted = format!(in alloc; r#"Get {{ folder: "one", key: [], at: {at} }}"#)?;
+        assert_eq!(rt; given.as_str(), wanted.as_str());
+    }
+    Ok(())
+}
+
+#[test]
+fn faults_of_get(rt: HostRuntime) -> Result<(), Fail> {
+    let alloc = rt.alloc();
+    assert_eq!(rt;
+        outcome(alloc, ["sedvokt", "get", "one", "7"].as_slice())?.as_str(),
+        "key"
+    );
+    assert_eq!(rt;
+        outcome(alloc, ["sedvokt", "get", "one"].as_slice())?.as_str(),
+        "mistake"
+    );
+    assert_eq!(rt;
+        outcome(alloc, ["sedvokt", "verify"].as_slice())?.as_str(),
+        "mistake"
+    );
+    // A number that is none comes before a key that is none.
+    for number in ["", "x", " 3", "3 ", "0x3", "18446744073709551616"] {
+        let words = ["sedvokt", "get", "one", "7", "--at", number];
+        let given = outcome(alloc, words.as_slice())?;
+        assert_eq!(rt; given.as_str(), "mistake", "{number}");
+    }
     Ok(())
 }
 

@@ -1,7 +1,7 @@
 use Rattle.std.proofs.Common.{map, subst}
 use Rattle.clap.specs.Words.{subcommand_of}
 use Rattle.tool.specs.Line.{GivesCommand, program_app}
-use Rattle.tool.proofs.LineLemmas.{LineGives-blocks}
+use Rattle.tool.proofs.LineLemmas.{LineGives-blocks, LineGives-get}
 use Rattle.tool.proofs.command_line.line.Goals as goal
 
 pub returns-in-Blocks : goal.returns-in-Blocks
@@ -9,3 +9,9 @@ returns-in-Blocks g c =
     let texts = c.in-Blocks.texts in
     let command = subst (GivesCommand (subcommand_of program_app (map g.S.AsStr.text c.args.words.now))) c.in-Blocks.is c.in_ok-texts.ensures.1 in
     LineGives-blocks (map g.S.AsStr.text c.args.words.now) texts.a.now texts.b.now texts.at.now texts.out.now c.blocks_line.result (c.in_ok-texts.ensures.0, command) c.blocks_line.ensures
+
+pub returns-in-Get : goal.returns-in-Get
+returns-in-Get g c =
+    let texts = c.in-Get.texts in
+    let command = subst (GivesCommand (subcommand_of program_app (map g.S.AsStr.text c.args.words.now))) c.in-Get.is c.in_ok-texts.ensures.1 in
+    LineGives-get (map g.S.AsStr.text c.args.words.now) texts.folder.now texts.key.now texts.at c.get_line.result (c.in_ok-texts.ensures.0, command) c.get_line.ensures

@@ -13,4 +13,6 @@ returns c =
     ∙ ap with_command_required (ap app_of_fields c.after_help.ensures ∙ ap app_of_fields c.about.ensures ∙ c.new.ensures.app) in
     let one = with_one_more _ _ c.in_ok-command.command _ _ start c.in_ok-blocks.ensures.app c.in_ok-blocks.ensures.local c.in_ok-command.ensures in
     let two = with_one_more _ _ c.in_ok-command-2.command _ _ one c.in_ok-dump.ensures.app c.in_ok-dump.ensures.local c.in_ok-command-2.ensures in
-    IfOk-weaker c.subcommand-3.result _ _ (λ command h. with_one_more _ _ command _ _ two c.in_ok-manifest.ensures.app c.in_ok-manifest.ensures.local h) c.subcommand-3.ensures
+    let three = with_one_more _ _ c.in_ok-command-3.command _ _ two c.in_ok-manifest.ensures.app c.in_ok-manifest.ensures.local c.in_ok-command-3.ensures in
+    let four = with_one_more _ _ c.in_ok-command-4.command _ _ three c.in_ok-verify.ensures.app c.in_ok-verify.ensures.local c.in_ok-command-4.ensures in
+    IfOk-weaker c.subcommand-5.result _ _ (λ command h. with_one_more _ _ command _ _ four c.in_ok-get.ensures.app c.in_ok-get.ensures.local h) c.subcommand-5.ensures

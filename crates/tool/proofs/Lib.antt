@@ -6,3 +6,7 @@ mod DigitLemmas
 mod LineLemmas
 mod TextLemmas
 mod ShowingLemmas
+mod CheckedTables
+mod TableSizes
+mod TableRefusals
+mod VerifyingLemmas

@@ -10,3 +10,5 @@ pub mod Status
 pub mod Text
 pub mod Usage
 pub mod Lines
+pub mod Checked
+pub mod Verifying

@@ -2,10 +2,12 @@
 #![tactic(auto)]
 
 mod asked;
+mod checking;
 mod command_line;
 mod cut;
 mod dumping;
 mod files;
+mod getting;
 mod merge;
 mod program;
 mod range;
@@ -15,16 +17,19 @@ mod tested;
 mod testing;
 mod text;
 mod two_blocks;
+mod verifying;
 
 pub use asked::{Line, Usage};
 pub use command_line::line;
 pub use dumping::dump;
 pub use folder::{Disk, Folder, FolderFault, Order, load, open};
 pub use program::run;
+pub use getting::get_dir;
 pub use showing::manifest;
 pub use state::status;
 pub use text::{key_of, text_of};
 pub use two_blocks::blocks;
+pub use verifying::verify;
 
 #[cfg(test)]
 mod showing_tests;

@@ -4,9 +4,11 @@ use crate::asked::{Line, Usage};
 use crate::command_line::line;
 use crate::dumping::dump;
 use crate::files;
+use crate::getting::get_dir;
 use crate::showing::manifest;
 use crate::state::status;
 use crate::two_blocks::blocks;
+use crate::verifying::verify;
 use coding::{Fault, FaultName};
 use folder::Disk;
 use std::env::Env;
@@ -67,7 +69,14 @@ fn done<R: Files + Print + AllocGlobal>(rt: &R, line: Line<'_>) -> Result<(), Fa
             let lines = manifest(rt.alloc(), &mut Disk::new(rt, folder))?;
             written_out(rt, lines.as_slice())
         }
-        Line::Verify { .. } | Line::Get { .. } => Err(Fault::of(FaultName::Lawless)),
+        Line::Verify { folder } => {
+            let lines = verify(rt.alloc(), &mut Disk::new(rt, folder))?;
+            written_out(rt, lines.as_slice())
+        }
+        Line::Get { folder, key, at } => {
+            let lines = get_dir(rt.alloc(), &mut Disk::new(rt, folder), key.as_slice(), at)?;
+            written_out(rt, lines.as_slice())
+        }
     }
 }
 

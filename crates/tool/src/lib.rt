@@ -23,14 +23,16 @@ pub use asked::{Line, Usage};
 pub use command_line::line;
 pub use dumping::dump;
 pub use folder::{Disk, Folder, FolderFault, Order, load, open};
-pub use program::run;
 pub use getting::get_dir;
+pub use program::run;
 pub use showing::manifest;
 pub use state::status;
 pub use text::{key_of, text_of};
 pub use two_blocks::blocks;
 pub use verifying::verify;
 
+#[cfg(test)]
+mod folder_tests;
 #[cfg(test)]
 mod showing_tests;
 #[cfg(test)]

@@ -1,9 +1,9 @@
 -- Files under their numbers, and which of them an edit keeps.
 use Rattle.std.proofs.Common.{◌≡◌, ℕ, Bool, true, false, not, cond, eqb, ◌&&◌, ◌||◌, List, [], ◌∷◌, Option, Some, None, refl, sym, ap, ◌∙◌}
-use Rattle.std.specs.List.{filter, fold, list_any, list_all, AllByRecursion}
+use Rattle.std.specs.List.{filter, list_any, list_all, AllByRecursion}
 use Rattle.std.specs.List.Sorted.{IsStrictlySortedBy}
 use Rattle.std.specs.Map.{keys_of, values_of, lookup, remove_entry}
-use Rattle.std.specs.Option.{is_none, is_some, option_map_or}
+use Rattle.std.specs.Option.{is_none, option_map_or}
 use Rattle.std.specs.Ordering.{nat_cmp, is_eq, match_ordering}
 use Rattle.std.specs.BTreeMap.{is_at, insert_entry}
 use Rattle.std.specs.declared.cmp.Ordering.{Ordering}
@@ -28,7 +28,7 @@ apart_filter keep (x ∷ xs) h =
 
 -- ---- files under their numbers
 
-abbrev Numbered : List (ℕ × NewFile) → Type 0
+abbrev pub Numbered : List (ℕ × NewFile) → Type 0
 Numbered es = AllByRecursion (λ e. e.0 ≡ e.1.meta.number) es
 
 abbrev Above : ℕ → List (ℕ × NewFile) → Type 0
@@ -64,14 +64,8 @@ pub free_is : (es : List (ℕ × NewFile)) (n : ℕ) → Numbered es → is_none
 free_is [] n h = refl
 free_is (e ∷ es) n h = rw (test_is n e h.0) (none_cond (eqb n e.1.meta.number) e.1 (lookup (is_at (nat_cmp n)) es) (has_number (values_of es) n) (free_is es n h.1))
 
-abbrev no_file : Option NewFile
+abbrev pub no_file : Option NewFile
 no_file = None
-
-pub none_turned : (b : Bool) (o : Option NewFile) → not b ≡ is_some o → b ≡ is_none o
-none_turned true None e = refl
-none_turned true (Some f) e = absurd cc
-none_turned false None e = absurd cc
-none_turned false (Some f) e = refl
 
 pub none_is : (o : Option NewFile) → is_none o ≡ true → o ≡ no_file
 none_is None e = refl
@@ -239,7 +233,7 @@ pub takes_none : (before : List NewFile) (all : List DeletedFile) (files : List 
     → list_all (has_place before) all ≡ false
 takes_none before all files d rest t none = t.there ∙ ap (λ (b : Bool). b && list_all (has_place files) rest) none
 
--- ---- new files put in one by one
+-- ---- new files
 
 or_turn : (a b c : Bool) → (a || (b || c)) ≡ (b || (a || c))
 or_turn true true c = refl
@@ -279,35 +273,18 @@ new_by true true c false e = refl
 new_by true false c false e = refl
 new_by false b c false e = refl
 
-new_on : (files : List NewFile) (f : NewFile) (rest : List NewFile) → has_number files f.meta.number ≡ false → are_new files (f ∷ rest) ≡ are_new (with_file files f) rest
+pub new_on : (files : List NewFile) (f : NewFile) (rest : List NewFile) → has_number files f.meta.number ≡ false → are_new files (f ∷ rest) ≡ are_new (with_file files f) rest
 new_on files f rest free =
     ap (λ (b : Bool). (not (has_number rest f.meta.number) && are_apart rest) && not b) (clash_is f rest files)
     ∙ new_by (has_number rest f.meta.number) (are_apart rest) (list_any (λ (g : NewFile). has_number rest g.meta.number) files) (has_number files f.meta.number) free
     ∙ ap (λ (b : Bool). are_apart rest && not b) (sym (any_with (λ (g : NewFile). has_number rest g.meta.number) files f free))
 
-none_new : (files : List NewFile) → list_any (λ (g : NewFile). has_number [] g.meta.number) files ≡ false
-none_new [] = refl
-none_new (f ∷ files) = none_new files
-
--- what the new files so far have made of the files
-pub record PutsIn (before all files rest : List NewFile) : Type 0 where
-  pub whole : fold with_file before all ≡ fold with_file files rest
-  pub new : are_new before all ≡ are_new files rest
-
-pub puts_begin : (files all : List NewFile) → PutsIn files all files all
-puts_begin files all = record { whole = refl; new = refl }
-
-pub puts_on : (before all files after : List NewFile) (f : NewFile) (rest : List NewFile) → PutsIn before all files (f ∷ rest) → has_number files f.meta.number ≡ false → after ≡ with_file files f → PutsIn before all after rest
-puts_on before all files after f rest p free is = record {
-  whole = p.whole ∙ ap (λ (fs : List NewFile). fold with_file fs rest) (sym is);
-  new = p.new ∙ new_on files f rest free ∙ ap (λ (fs : List NewFile). are_new fs rest) (sym is);
-}
-
-pub puts_twice : (before all files : List NewFile) (f : NewFile) (rest : List NewFile) → PutsIn before all files (f ∷ rest) → has_number files f.meta.number ≡ true → are_new before all ≡ false
-puts_twice before all files f rest p there =
-    p.new
-    ∙ ap (λ (b : Bool). (not (has_number rest f.meta.number) && are_apart rest) && not b) (clash_is f rest files ∙ ap (λ (b : Bool). b || list_any (λ (g : NewFile). has_number rest g.meta.number) files) there)
+-- no files with the first one are new where its number is taken
+pub taken_is : (files : List NewFile) (f : NewFile) (rest : List NewFile) → has_number files f.meta.number ≡ true → are_new files (f ∷ rest) ≡ false
+taken_is files f rest there =
+    ap (λ (b : Bool). (not (has_number rest f.meta.number) && are_apart rest) && not b) (clash_is f rest files ∙ ap (λ (b : Bool). b || list_any (λ (g : NewFile). has_number rest g.meta.number) files) there)
     ∙ and_false (not (has_number rest f.meta.number) && are_apart rest) false refl
 
-pub puts_end : (before all files : List NewFile) → PutsIn before all files [] → (files ≡ fold with_file before all) × (are_new before all ≡ true)
-puts_end before all files p = (sym p.whole, p.new ∙ ap not (none_new files))
+pub none_new : (files : List NewFile) → list_any (λ (g : NewFile). has_number [] g.meta.number) files ≡ false
+none_new [] = refl
+none_new (f ∷ files) = none_new files

@@ -7,6 +7,8 @@ pub mod Edits
 pub mod Written
 pub mod Tested
 pub mod Kept
+pub mod Together
+pub mod Added
 pub mod Applied
 pub mod Sorting
 pub mod Snapshots

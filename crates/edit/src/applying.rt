@@ -3,9 +3,9 @@
 ghost use Rattle.std.specs.Prelude.{◌≡◌, true, false, fold, IfOk, IfErr, OnOk};
 ghost use Rattle.std.specs.List.{list_all};
 ghost use Rattle.std.specs.Option.{ok_or};
-ghost use Rattle.coding.specs.Answers.{Gives, UnlessMemory, fault};
+ghost use Rattle.coding.specs.Answers.{Gives, fault};
 ghost use Rattle.coding.specs.declared.fault.FaultName.TheVariants.{Apply, Memory};
-ghost use Rattle.edit.specs.Version.{files_after, kept_files, has_place, are_new, with_file, with_pointer};
+ghost use Rattle.edit.specs.Version.{files_after, kept_files, has_place, with_pointer};
 
 use crate::files::Files;
 use crate::meta::{CompactPointer, DeletedFile, NewFile};
@@ -24,8 +24,7 @@ pub(crate) fn files_after(
 {
     let mut files = files;
     take_out_all(&mut files, &deleted)?;
-    put_all(&mut files, added)?;
-    Ok(files)
+    files.with_all(added)?.ok_or(Fault::of(FaultName::Apply))
 }
 
 /// Takes out each file that a deletion names. `Apply` where one names no file.
@@ -36,20 +35,6 @@ fn take_out_all(files: &mut Files, deleted: &BTreeSet<DeletedFile>) -> Result<()
 {
     for place in deleted.iter() {
         if !files.take_out(*place) {
-            return Err(Fault::of(FaultName::Apply));
-        }
-    }
-    Ok(())
-}
-
-/// Puts each file in. `Apply` where another has its number.
-fn put_all(files: &mut Files, added: Vec<NewFile>) -> Result<(), Fault>
-    ensures put { OnOk result (files.new ≡ fold with_file files.old added.items) }
-    ensures new { OnOk result (are_new files.old added.items ≡ true) }
-    ensures refused { IfErr result (λ e. UnlessMemory e.name ((e ≡ fault Apply) × (are_new files.old added.items ≡ false))) }
-{
-    for file in added {
-        if !files.put(file)? {
             return Err(Fault::of(FaultName::Apply));
         }
     }

@@ -49,11 +49,11 @@ pub(crate) fn copied_by_number(
     ensures ok { IfOk result (λ m. m.entries ≡ files.now.entries) }
     ensures memory { IfErr result (λ e. e.name ≡ Memory) }
 {
-    let mut copy = BTreeMap::new(alloc);
+    let mut entries = Vec::with_capacity(alloc, files.len())?;
     for (number, file) in files.iter() {
-        copy.insert(*number, file.copy(alloc)?)?;
+        entries.push((*number, file.copy(alloc)?))?;
     }
-    Ok(copy)
+    Ok(entries.into_iter().collect(alloc)?)
 }
 
 /// A copy of the pointers of a version.

@@ -1,12 +1,13 @@
 //! The files of a version, found by their numbers.
 
-ghost use Rattle.std.specs.Prelude.{◌≡◌, not, true, length, map, [], ◌∷◌, Ok, IfOk, IfErr};
+ghost use Rattle.std.specs.Prelude.{◌≡◌, true, length, map, fold, if◌then◌else◌, [], ◌∷◌, Some, None, Ok, IfOk, IfErr};
 ghost use Rattle.coding.specs.Answers.{Gives};
 ghost use Rattle.coding.specs.declared.fault.FaultName.TheVariants.{Memory};
-ghost use Rattle.edit.specs.Version.{has_place, has_number, kept_files, with_file, are_apart};
+ghost use Rattle.edit.specs.Version.{has_place, kept_files, with_file, are_new, are_apart};
 ghost use Rattle.edit.specs.VersionOrder.{files_at};
 
 use crate::copying::copied_by_number;
+use crate::inserting::inserted;
 use crate::meta::{DeletedFile, FileMeta, NewFile};
 use coding::Fault;
 use std::alloc::Global;
@@ -15,7 +16,7 @@ use std::marker::Model;
 
 /// Files, no two of one number. Contracts see them in the order of their numbers.
 ///
-/// A file is put in, taken out or found in a time that grows with the logarithm of their number.
+/// A file is taken out or found in a time that grows with the logarithm of their number.
 #[derive(Drop)]
 pub(crate) struct Files {
     by_number: BTreeMap<u64, NewFile>,
@@ -44,14 +45,18 @@ impl Files {
         }
     }
 
-    /// Puts a file in, and gives whether no other had its number. Fails for want of memory alone.
-    pub fn put(&mut self, file: NewFile) -> Result<bool, Fault>
-        ensures free { IfOk result (λ free. free ≡ not (has_number self.old file.meta.number)) }
-        ensures put { IfOk result (λ free. free ≡ true → self.new ≡ with_file self.old file) }
-        ensures memory { IfErr result (λ e. e.name ≡ Memory) }
+    /// The files and new ones, or `None` where a new one has the number of another, be it a new one too. Fails for want of
+    /// memory alone.
+    pub fn with_all(self, added: Vec<NewFile>) -> Result<Option<Files>, Fault>
+        ensures { Gives (λ files. files) result (Ok (if are_new self added.items then Some (fold with_file self added.items) else None)) }
     {
-        let other = self.by_number.insert(file.meta.number, file)?;
-        Ok(other.is_none())
+        let wanted = self.by_number.len() + added.len();
+        let by_number = inserted(self.by_number, added)?;
+        if by_number.len() == wanted {
+            Ok(Some(Files { by_number }))
+        } else {
+            Ok(None)
+        }
     }
 
     /// Takes out the file of a number, and gives whether there was one and it stood at the level.

@@ -8,6 +8,7 @@ mod applying;
 mod copying;
 mod field;
 mod files;
+mod inserting;
 mod laws;
 mod meta;
 mod order;

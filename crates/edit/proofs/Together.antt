@@ -174,8 +174,8 @@ pub together_is : (old made new : BTreeMap ℕ NewFile) (added : List NewFile) �
 together_is old made new added rises m n =
     same_entries new.entries (fold with_entry old.entries added) n.1 (rises_all old.entries added rises)
     (λ q.
-      n.0 q
-      ∙ update_all_distinct (eq_by_cmp_equiv nat_cmp_total) same (λ x y. refl) (found old.entries) made.entries q (IsDistinct-from_sorted nat_cmp (keys_of made.entries) m.1)
-      ∙ ap (λ (o : Option NewFile). option_or o (found old.entries q)) (m.0 q)
-      ∙ sym (updated_over (found old.entries) (found old.entries) (λ _. None) (map numbered added) (λ _. refl) q)
-      ∙ sym (found_all old.entries added q))
+    n.0 q
+    ∙ update_all_distinct (eq_by_cmp_equiv nat_cmp_total) same (λ x y. refl) (found old.entries) made.entries q (IsDistinct-from_sorted nat_cmp (keys_of made.entries) m.1)
+    ∙ ap (λ (o : Option NewFile). option_or o (found old.entries q)) (m.0 q)
+    ∙ sym (updated_over (found old.entries) (found old.entries) (λ _. None) (map numbered added) (λ _. refl) q)
+    ∙ sym (found_all old.entries added q))

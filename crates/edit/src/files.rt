@@ -7,7 +7,7 @@ ghost use Rattle.edit.specs.Version.{has_place, kept_files, with_file, are_new, 
 ghost use Rattle.edit.specs.VersionOrder.{files_at};
 
 use crate::copying::copied_by_number;
-use crate::inserting::inserted;
+use crate::inserting::insert_all;
 use crate::meta::{DeletedFile, FileMeta, NewFile};
 use coding::Fault;
 use std::alloc::Global;
@@ -50,8 +50,9 @@ impl Files {
     pub fn with_all(self, added: Vec<NewFile>) -> Result<Option<Files>, Fault>
         ensures { Gives (λ files. files) result (Ok (if are_new self added.items then Some (fold with_file self added.items) else None)) }
     {
-        let wanted = self.by_number.len() + added.len();
-        let by_number = inserted(self.by_number, added)?;
+        let mut by_number = self.by_number;
+        let wanted = by_number.len() + added.len();
+        insert_all(&mut by_number, added)?;
         if by_number.len() == wanted {
             Ok(Some(Files { by_number }))
         } else {

@@ -67,10 +67,6 @@ free_is (e ∷ es) n h = rw (test_is n e h.0) (none_cond (eqb n e.1.meta.number)
 abbrev pub no_file : Option NewFile
 no_file = None
 
-pub none_is : (o : Option NewFile) → is_none o ≡ true → o ≡ no_file
-none_is None e = refl
-none_is (Some f) e = absurd cc
-
 -- what a comparison with the first makes of entries and of files
 put_by : (o : Ordering) (f : NewFile) (e : ℕ × NewFile) (es : List (ℕ × NewFile)) → cond (is_eq o) (Some e.1) (lookup (is_at (nat_cmp f.meta.number)) es) ≡ no_file
     → (lookup (is_at (nat_cmp f.meta.number)) es ≡ no_file → values_of (insert_entry nat_cmp es f.meta.number f) ≡ with_file (values_of es) f)

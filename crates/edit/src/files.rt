@@ -47,6 +47,8 @@ impl Files {
 
     /// The files and new ones, or `None` where a new one has the number of another, be it a new one too. Fails for want of
     /// memory alone.
+    ///
+    /// Each new file takes a time that grows with the logarithm of the number of files, and less where many come together.
     pub fn with_all(self, added: Vec<NewFile>) -> Result<Option<Files>, Fault>
         ensures { Gives (λ files. files) result (Ok (if are_new self added.items then Some (fold with_file self added.items) else None)) }
     {

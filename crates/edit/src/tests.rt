@@ -1,3 +1,6 @@
+ghost use Rattle.std.specs.Prelude.{IfOk};
+ghost use Rattle.edit.specs.Edit.{HasLevels, edit_in};
+
 use super::*;
 use coding::{Fault, FaultName};
 use ikey::{Bytewise, Kind, Shortlex};
@@ -280,6 +283,46 @@ fn a_file_goes_to_another_level(rt: HostRuntime) -> Result<(), Fail> {
     }
     let want = [(1, 5, b"a".as_slice()), (2, 7, b"v".as_slice())];
     assert_eq!(rt; places.as_slice(), want.as_slice());
+    Ok(())
+}
+
+/// The odd numbers below 35, and the even ones, falling. They are so many that they go into a version together.
+const ODD: &[u8] = b"\x21\x1f\x1d\x1b\x19\x17\x15\x13\x11\x0f\x0d\x0b\x09\x07\x05\x03\x01";
+
+const EVEN: &[u8] = b"\x22\x20\x1e\x1c\x1a\x18\x16\x14\x12\x10\x0e\x0c\x0a\x08\x06\x04\x02";
+
+/// The edit that puts in a file of level 1 for each of the numbers, which are below 128.
+fn new_files(alloc: Global, numbers: &[u8]) -> Result<VersionEdit, Fail>
+    ensures { IfOk result (λ e. HasLevels (edit_in e)) }
+{
+    let mut bytes = Vec::new(alloc);
+    for number in numbers {
+        bytes.extend_from_slice(b"\x07\x01")?;
+        bytes.push(*number)?;
+        bytes.extend_from_slice(b"d\x09u\x01\x01\0\0\0\0\0\0\x09u\x01\x01\0\0\0\0\0\0")?;
+    }
+    Ok(VersionEdit::decode(alloc, &bytes)?)
+}
+
+#[test]
+fn many_files_go_in_together(rt: HostRuntime) -> Result<(), Fail> {
+    let alloc = rt.alloc();
+    let odd = Version::empty(alloc).applied::<Bytewise>(new_files(alloc, ODD)?)?;
+    let all = odd.apply::<Bytewise>(alloc, &new_files(alloc, EVEN)?)?;
+    let mut numbers = Vec::new(alloc);
+    for file in &all.files::<Bytewise>(alloc, 1)? {
+        numbers.push(file.number)?;
+    }
+    let want: Vec<u64> = (1..35).collect(alloc)?;
+    assert_eq!(rt; numbers, want);
+
+    // A number that is there, and one that comes twice.
+    let again = all.apply::<Bytewise>(alloc, &new_files(alloc, ODD)?);
+    assert_eq!(rt; refusal(again), Some(FaultName::Apply));
+    let mut twice = Vec::from_slice(alloc, EVEN)?;
+    twice.push(2)?;
+    let answer = odd.applied::<Bytewise>(new_files(alloc, &twice)?);
+    assert_eq!(rt; refusal(answer), Some(FaultName::Apply));
     Ok(())
 }
 

@@ -10,12 +10,12 @@ use Rattle.std.specs.declared.cmp.Ordering.TheVariants.{Less, Equal, Greater}
 use Rattle.std.proofs.lemmas.Bool.Decides.{nat_tests}
 use Rattle.std.proofs.lemmas.Map.Entries.{lookup_head, lookup_tail}
 use Rattle.coding.specs.declared.fault.Fault.{Fault}
-use Rattle.edit.specs.ByNumber.{IsByNumber, with_entry}
+use Rattle.edit.proofs.ByNumber.{IsByNumber, with_entry}
 use Rattle.edit.specs.Version.{has_number, are_new, with_file}
 use Rattle.edit.specs.declared.meta.NewFile.{NewFile}
 use Rattle.edit.proofs.Kept.{Numbered, no_file, free_is, put_is, numbered_put, new_on, taken_is, none_new}
 use Rattle.edit.proofs.Tested.{not_is_true}
-use Rattle.edit.proofs.Together.{Rises, found, below_head, rises_put, rises_all}
+use Rattle.edit.proofs.Together.{Rises, found, below_head, rises_put}
 
 -- ---- how many entries there are with one more
 
@@ -100,13 +100,6 @@ files_by (Some g) es f added n there new rest = let taken : false ≡ true = sym
 files_are : (es : List (ℕ × NewFile)) (added : List NewFile) → Numbered es → are_new (values_of es) added ≡ true → values_of (fold with_entry es added) ≡ fold with_file (values_of es) added
 files_are es [] n new = refl
 files_are es (f ∷ added) n new = files_by (found es f.meta.number) es f added n refl new (files_are (with_entry es f) added (numbered_put es f n))
-
-numbered_all : (es : List (ℕ × NewFile)) (added : List NewFile) → Numbered es → Numbered (fold with_entry es added)
-numbered_all es [] n = n
-numbered_all es (f ∷ added) n = numbered_all (with_entry es f) added (numbered_put es f n)
-
-pub by_number_all : (es : List (ℕ × NewFile)) (added : List NewFile) → IsByNumber es → IsByNumber (fold with_entry es added)
-by_number_all es added h = record { numbers = numbered_all es added h.numbers; rises = rises_all es added h.rises }
 
 -- ---- what the count tells
 

@@ -9,7 +9,7 @@ use Rattle.std.specs.BTreeMap.{is_at, insert_entry}
 use Rattle.std.specs.declared.cmp.Ordering.{Ordering}
 use Rattle.std.specs.declared.cmp.Ordering.TheVariants.{Less, Equal, Greater}
 use Rattle.std.proofs.lemmas.Bool.{eqb-true}
-use Rattle.edit.specs.ByNumber.{IsByNumber}
+use Rattle.edit.proofs.ByNumber.{IsByNumber}
 use Rattle.edit.specs.Edit.{deleted_cmp}
 use Rattle.edit.specs.Version.{place_of, is_same_place, is_deleted, has_place, kept_files, has_number, are_apart, are_new, number_cmp, with_file}
 use Rattle.edit.specs.declared.meta.NewFile.{NewFile}
@@ -152,10 +152,6 @@ unfolding IsStrictlySortedBy
 others_are [] d h rises there = refl
 others_are (e ∷ es) d h rises there =
     rw (test_is d.number e h.0) (others_by (eqb d.number e.1.meta.number) e es d refl (none_behind e es d h rises.0) (others_are es d h.1 rises.1) there)
-
-pub numbered_removed : (test : ℕ → Bool) (es : List (ℕ × NewFile)) → Numbered es → Numbered (remove_entry test es)
-numbered_removed test [] h = tt
-numbered_removed test (e ∷ es) h = by_test (test e.0) (λ (b : Bool). Numbered (cond b es (e ∷ remove_entry test es))) (λ _. h.1) (λ _. (h.0, numbered_removed test es h.1))
 
 -- ---- the files that deletions name, taken out one by one
 

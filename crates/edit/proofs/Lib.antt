@@ -6,9 +6,12 @@ pub mod Fields
 pub mod Edits
 pub mod Written
 pub mod Tested
+pub mod ByNumber
 pub mod Kept
 pub mod Together
 pub mod Added
+pub mod Places
+pub mod Moved
 pub mod Applied
 pub mod Sorting
 pub mod Snapshots

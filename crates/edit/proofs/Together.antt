@@ -1,5 +1,5 @@
--- Files put into a map together, and one by one.
-use Rattle.std.proofs.Common.{◌≡◌, ℕ, Bool, true, false, cond, List, [], ◌∷◌, map, Option, Some, None, refl, sym, ap, ◌∙◌}
+-- Entries put into a map together, and one by one.
+use Rattle.std.proofs.Common.{◌≡◌, ℕ, Bool, true, false, cond, List, [], ◌∷◌, Option, Some, None, refl, sym, ap, ◌∙◌}
 use Rattle.std.specs.List.{fold, AllByRecursion}
 use Rattle.std.specs.List.Sorted.{IsStrictlySortedBy}
 use Rattle.std.specs.Map.{keys_of, lookup, update, update_all}
@@ -14,26 +14,24 @@ use Rattle.std.proofs.lemmas.Map.Keys.{IsDistinct-from_sorted}
 use Rattle.std.proofs.lemmas.Map.{lookup-none}
 use Rattle.std.proofs.lemmas.Map.Entries.{lookup_head, lookup_tail, none_past_head, none_below_head}
 use Rattle.std.proofs.lemmas.Map.Lookups.{exact_unsigned}
-use Rattle.std.proofs.lemmas.Map.Made.{update_all_distinct, update_all_none}
-use Rattle.edit.specs.ByNumber.{with_entry}
-use Rattle.edit.specs.declared.meta.NewFile.{NewFile}
+use Rattle.std.proofs.lemmas.Map.Made.{update_all_distinct}
 use Rattle.edit.proofs.Tested.{is_eq-nat_cmp}
 
 -- ---- an entry put in, as a look-up sees it
 
-abbrev same : ℕ → ℕ → Bool
+abbrev pub same : ℕ → ℕ → Bool
 same = eq_by_cmp nat_cmp
 
 abbrev pub found : {X : Type 0} → List (ℕ × X) → ℕ → Option X
 found es q = lookup (is_at (nat_cmp q)) es
 
-abbrev some : {X : Type 0} → X → Option X
+abbrev pub some : {X : Type 0} → X → Option X
 some x = Some x
 
 same_turned : (a b : ℕ) → same a b ≡ same b a
 same_turned = (eq_by_cmp_equiv nat_cmp_total).symm
 
-same_is : (a b : ℕ) → same a b ≡ true → a ≡ b
+pub same_is : (a b : ℕ) → same a b ≡ true → a ≡ b
 same_is a b e = eqb-true a b (sym (is_eq-nat_cmp a b) ∙ e)
 
 swapped : {X : Type 0} (a b : Bool) (x y : X) (o : Option X) → (a ≡ true → b ≡ true → ⊥) → cond a (some x) (cond b (some y) o) ≡ cond b (some y) (cond a (some x) o)
@@ -56,14 +54,14 @@ found_by Less e es k v q is rest = ap (λ (b : Bool). cond b (Some v) (found (e 
 found_by Equal e es k v q is rest = replaced (same q e.0) (same k q) v e.1 (found es q) (same_turned q e.0 ∙ ap (λ (n : ℕ). same n q) (sym (exact_unsigned k e.0 is)))
 found_by {X} Greater e es k v q is rest = ap (λ (o : Option X). cond (same q e.0) (Some e.1) o) rest ∙ swapped (same q e.0) (same k q) e.1 v (found es q) (not_both_same k q e.0 is)
 
-found_put : {X : Type 0} (es : List (ℕ × X)) (k : ℕ) (v : X) (q : ℕ) → found (insert_entry nat_cmp es k v) q ≡ cond (same k q) (Some v) (found es q)
+pub found_put : {X : Type 0} (es : List (ℕ × X)) (k : ℕ) (v : X) (q : ℕ) → found (insert_entry nat_cmp es k v) q ≡ cond (same k q) (Some v) (found es q)
 found_put [] k v q = ap (λ (b : Bool). cond b (Some v) None) (same_turned q k)
 found_put (e ∷ es) k v q = found_by (nat_cmp k e.0) e es k v q refl (found_put es k v q)
 
--- ---- files put in one by one, as a look-up sees them
+-- ---- entries put in one by one, as a look-up sees them
 
-abbrev pub numbered : NewFile → ℕ × NewFile
-numbered f = (f.meta.number, f)
+abbrev pub put : {X : Type 0} → List (ℕ × X) → ℕ × X → List (ℕ × X)
+put es p = insert_entry nat_cmp es p.0 p.1
 
 updated_alike : {X : Type 0} (f g : ℕ → Option X) (xs : List (ℕ × X)) → ((q : ℕ) → f q ≡ g q) → (q : ℕ) → update_all same f xs q ≡ update_all same g xs q
 updated_alike f g [] h q = h q
@@ -79,15 +77,18 @@ updated_over f g h [] e q = e q
 updated_over f g h (x ∷ xs) e q =
     updated_over f (update same g x.0 (Some x.1)) (update same h x.0 (Some x.1)) xs (λ p. updated_first (same x.0 p) x.1 (g p) (h p) (f p) (e p)) q
 
-found_all : (es : List (ℕ × NewFile)) (added : List NewFile) (q : ℕ) → found (fold with_entry es added) q ≡ update_all same (found es) (map numbered added) q
+found_all : {X : Type 0} (es added : List (ℕ × X)) (q : ℕ) → found (fold put es added) q ≡ update_all same (found es) added q
 found_all es [] q = refl
-found_all es (f ∷ added) q =
-    found_all (with_entry es f) added q
-    ∙ updated_alike (found (with_entry es f)) (update same (found es) f.meta.number (Some f)) (map numbered added) (λ p. found_put es f.meta.number f p) q
+found_all {X} es (p ∷ added) q =
+    found_all (put es p) added q
+    ∙ updated_alike (found (put es p)) (update same (found es) p.0 (Some p.1)) added (λ k. found_put es p.0 p.1 k) q
 
 -- ---- the numbers rise
 
-abbrev Above : {X : Type 0} → ℕ → List (ℕ × X) → Type 0
+abbrev pub Rises : {X : Type 0} → List (ℕ × X) → Type 0
+Rises es = IsStrictlySortedBy nat_cmp (keys_of es)
+
+abbrev pub Above : {X : Type 0} → ℕ → List (ℕ × X) → Type 0
 Above n es = AllByRecursion (λ k. nat_cmp n k ≡ Less) (keys_of es)
 
 above_by : {X : Type 0} (o : Ordering) (n : ℕ) (e : ℕ × X) (es : List (ℕ × X)) (k : ℕ) (v : X) → nat_cmp n k ≡ Less → Above n (e ∷ es) → Above n (insert_entry nat_cmp es k v)
@@ -116,25 +117,22 @@ unfolding IsStrictlySortedBy
 rises_put [] k v h = (tt, tt)
 rises_put (e ∷ es) k v h = rises_by (nat_cmp k e.0) e es k v refl h (rises_put es k v h.1)
 
-pub rises_all : (es : List (ℕ × NewFile)) (added : List NewFile) → IsStrictlySortedBy nat_cmp (keys_of es) → IsStrictlySortedBy nat_cmp (keys_of (fold with_entry es added))
-rises_all es [] h = h
-rises_all es (f ∷ added) h = rises_all (with_entry es f) added (rises_put es f.meta.number f h)
+pub rises_each : {X : Type 0} (es added : List (ℕ × X)) → Rises es → Rises (fold put es added)
+rises_each es [] h = h
+rises_each es (p ∷ added) h = rises_each (put es p) added (rises_put es p.0 p.1 h)
 
 -- ---- two lists of entries whose numbers rise, and in which a look-up finds the same, are the same
-
-abbrev pub Rises : {X : Type 0} → List (ℕ × X) → Type 0
-Rises es = IsStrictlySortedBy nat_cmp (keys_of es)
 
 is_there : {X : Type 0} (x : X) → some x ≡ None → ⊥
 is_there x e = absurd cc
 
-at_head : {X : Type 0} (e : ℕ × X) (es : List (ℕ × X)) → found (e ∷ es) e.0 ≡ Some e.1
+pub at_head : {X : Type 0} (e : ℕ × X) (es : List (ℕ × X)) → found (e ∷ es) e.0 ≡ Some e.1
 at_head e es = lookup_head (is_at (nat_cmp e.0)) e es (ap is_eq (tied_itself nat_cmp_total e.0))
 
 pub below_head : {X : Type 0} (q : ℕ) (e : ℕ × X) (es : List (ℕ × X)) → Rises (e ∷ es) → nat_cmp q e.0 ≡ Less → found (e ∷ es) q ≡ None
 below_head q e es h below = lookup-none (is_at (nat_cmp q)) (e ∷ es) (none_below_head nat_cmp_total q e es h below)
 
-past_head : {X : Type 0} (q : ℕ) (e : ℕ × X) (es : List (ℕ × X)) → Rises (e ∷ es) → same q e.0 ≡ true → found es q ≡ None
+pub past_head : {X : Type 0} (q : ℕ) (e : ℕ × X) (es : List (ℕ × X)) → Rises (e ∷ es) → same q e.0 ≡ true → found es q ≡ None
 past_head q e es h is = lookup-none (is_at (nat_cmp q)) es (none_past_head (eq_by_cmp_equiv nat_cmp_total) q e es (IsDistinct-from_sorted nat_cmp (keys_of (e ∷ es)) h) is)
 
 one_head : {X : Type 0} (o : Ordering) (d e : ℕ × X) (ds es : List (ℕ × X)) → Rises (d ∷ ds) → Rises (e ∷ es) → ((q : ℕ) → found (d ∷ ds) q ≡ found (e ∷ es) q) → nat_cmp d.0 e.0 ≡ o → d.0 ≡ e.0
@@ -161,21 +159,16 @@ same_entries {X} (d ∷ ds) (e ∷ es) g h alike =
     let behind : ds ≡ es = same_entries ds es g.1 h.1 (λ q. alike_behind (same q d.0) d e ds es q g h (alike q) heads refl) in
     ap (λ (n : ℕ). (n, d.1) ∷ ds) heads ∙ ap (λ (x : X). (e.0, x) ∷ ds) values ∙ ap (λ (t : List (ℕ × X)). e ∷ t) behind
 
--- a map that is made of entries whose numbers rise holds them
-pub made_is : {X : Type 0} (es : List (ℕ × X)) (made : BTreeMap ℕ X) → Rises es → IsFromIterResult nat_cmp es made → made.entries ≡ es
-made_is es made rises m =
-    same_entries made.entries es m.1 rises (λ q. m.0 q ∙ update_all_none (eq_by_cmp_equiv nat_cmp_total) same (λ x y. refl) es q (IsDistinct-from_sorted nat_cmp (keys_of es) rises))
+-- ---- entries put in together
 
--- ---- files put in together
-
--- a map that takes all of a map of files holds what those files leave one by one
-pub together_is : (old made new : BTreeMap ℕ NewFile) (added : List NewFile) → IsOrdered nat_cmp old → IsFromIterResult nat_cmp (map numbered added) made → InsertsAll nat_cmp old made.entries new
-    → new.entries ≡ fold with_entry old.entries added
-together_is old made new added rises m n =
-    same_entries new.entries (fold with_entry old.entries added) n.1 (rises_all old.entries added rises)
+-- a map that takes all of a map of entries holds what those entries leave one by one
+pub together_is : {X : Type 0} (old made new : BTreeMap ℕ X) (added : List (ℕ × X)) → IsOrdered nat_cmp old → IsFromIterResult nat_cmp added made → InsertsAll nat_cmp old made.entries new
+    → new.entries ≡ fold put old.entries added
+together_is {X} old made new added rises m n =
+    same_entries new.entries (fold put old.entries added) n.1 (rises_each old.entries added rises)
     (λ q.
     n.0 q
     ∙ update_all_distinct (eq_by_cmp_equiv nat_cmp_total) same (λ x y. refl) (found old.entries) made.entries q (IsDistinct-from_sorted nat_cmp (keys_of made.entries) m.1)
-    ∙ ap (λ (o : Option NewFile). option_or o (found old.entries q)) (m.0 q)
-    ∙ sym (updated_over (found old.entries) (found old.entries) (λ _. None) (map numbered added) (λ _. refl) q)
+    ∙ ap (λ (o : Option X). option_or o (found old.entries q)) (m.0 q)
+    ∙ sym (updated_over (found old.entries) (found old.entries) (λ _. None) added (λ _. refl) q)
     ∙ sym (found_all old.entries added q))

@@ -5,4 +5,4 @@ pub mod Reading
 pub mod Lent
 pub mod Version
 pub mod VersionOrder
-pub mod ByNumber
+pub mod Placed

@@ -41,19 +41,12 @@ pub(crate) fn copied_pointers(
     Ok(copies)
 }
 
-/// A copy of files under their numbers.
-pub(crate) fn copied_by_number(
-    alloc: Global,
-    files: &BTreeMap<u64, NewFile>,
-) -> Result<BTreeMap<u64, NewFile>, Fault>
-    ensures ok { IfOk result (λ m. m.entries ≡ files.now.entries) }
+/// A copy of the places of files. Fails for want of memory alone.
+pub(crate) fn copied_places(places: &BTreeMap<u64, usize>) -> Result<BTreeMap<u64, usize>, Fault>
+    ensures ok { IfOk result (λ m. m.entries ≡ places.now.entries) }
     ensures memory { IfErr result (λ e. e.name ≡ Memory) }
 {
-    let mut entries = Vec::with_capacity(alloc, files.len())?;
-    for (number, file) in files.iter() {
-        entries.push((*number, file.copy(alloc)?))?;
-    }
-    Ok(entries.into_iter().collect(alloc)?)
+    Ok(places.clone()?)
 }
 
 /// A copy of the pointers of a version.

@@ -1,12 +1,13 @@
 //! The files of a version, found by their numbers.
 
-ghost use Rattle.std.specs.Prelude.{◌≡◌, true, length, map, fold, if◌then◌else◌, [], ◌∷◌, Some, None, Ok, IfOk, IfErr};
+ghost use Rattle.std.specs.Prelude.{◌≡◌, ◌++◌, true, length, map, fold, if◌then◌else◌, [], ◌∷◌, Some, None, Ok, slice_get, IfOk, IfErr};
 ghost use Rattle.coding.specs.Answers.{Gives};
 ghost use Rattle.coding.specs.declared.fault.FaultName.TheVariants.{Memory};
+ghost use Rattle.edit.specs.Placed.{told_at};
 ghost use Rattle.edit.specs.Version.{has_place, kept_files, with_file, are_new, are_apart};
 ghost use Rattle.edit.specs.VersionOrder.{files_at};
 
-use crate::copying::copied_by_number;
+use crate::copying::{copied_files, copied_places};
 use crate::inserting::insert_all;
 use crate::meta::{DeletedFile, FileMeta, NewFile};
 use coding::Fault;
@@ -19,20 +20,23 @@ use std::marker::Model;
 /// A file is taken out or found in a time that grows with the logarithm of their number.
 #[derive(Drop)]
 pub(crate) struct Files {
-    by_number: BTreeMap<u64, NewFile>,
+    /// In any order: a file that is taken out leaves its place to the last one.
+    files: Vec<NewFile>,
+    /// The place of each file under its number.
+    places: BTreeMap<u64, usize>,
 }
 
 impl Model for Files {
     ghost use Rattle.std.specs.Prelude.{List};
     ghost use Rattle.std.specs.Map.{values_of};
-    ghost use Rattle.edit.specs.ByNumber.{IsByNumber};
+    ghost use Rattle.edit.specs.Placed.{placed, IsPlaced};
     ghost use Rattle.edit.specs.declared.meta.NewFile.{NewFile as File};
 
     ghost Value = { List File };
 
-    ghost view = { λ f. values_of f.by_number.entries };
+    ghost view = { λ f. values_of (placed f.files.items f.places.entries) };
 
-    ghost invariant = { λ f. IsByNumber f.by_number.entries };
+    ghost invariant = { λ f. IsPlaced f.files.items f.places.entries };
 }
 
 impl Files {
@@ -41,7 +45,8 @@ impl Files {
         ensures { result ≡ [] }
     {
         Files {
-            by_number: BTreeMap::new(alloc),
+            files: Vec::new(alloc),
+            places: BTreeMap::new(alloc),
         }
     }
 
@@ -52,11 +57,12 @@ impl Files {
     pub fn with_all(self, added: Vec<NewFile>) -> Result<Option<Files>, Fault>
         ensures { Gives (λ files. files) result (Ok (if are_new self added.items then Some (fold with_file self added.items) else None)) }
     {
-        let mut by_number = self.by_number;
-        let wanted = by_number.len() + added.len();
-        insert_all(&mut by_number, added)?;
-        if by_number.len() == wanted {
-            Ok(Some(Files { by_number }))
+        let mut places = self.places;
+        let wanted = places.len() + added.len();
+        insert_all(*added.allocator(), &mut places, self.files.len(), &added)?;
+        let files = joined(self.files, added)?;
+        if places.len() == wanted {
+            Ok(Some(Files { files, places }))
         } else {
             Ok(None)
         }
@@ -67,8 +73,12 @@ impl Files {
         ensures there { result ≡ has_place self.old place }
         ensures others { result ≡ true → self.new ≡ kept_files (place ∷ []) self.old }
     {
-        match self.by_number.remove(&place.number) {
-            Some(file) => file.level == place.level,
+        match self.places.remove(&place.number) {
+            Some(spot) => {
+                let file = self.files.swap_remove(spot);
+                tell_place(&mut self.places, &self.files, spot);
+                file.level == place.level
+            }
             None => false,
         }
     }
@@ -79,7 +89,11 @@ impl Files {
         ensures apart { are_apart self.now ≡ true }
     {
         let mut found = Vec::new(alloc);
-        for (_, file) in self.by_number.iter() {
+        let files = self.files.as_slice();
+        for (_, place) in self.places.iter() {
+            let Some(file) = files.get(*place) else {
+                continue;
+            };
             if file.level == level {
                 found.push(&file.meta)?;
             }
@@ -92,14 +106,40 @@ impl Files {
         ensures same { IfOk result (λ f. f ≡ self.now) }
         ensures memory { IfErr result (λ e. e.name ≡ Memory) }
     {
-        let by_number = copied_by_number(alloc, &self.by_number)?;
-        Ok(Files { by_number })
+        let files = copied_files(alloc, &self.files)?;
+        let places = copied_places(&self.places)?;
+        Ok(Files { files, places })
     }
 
     /// How many files there are.
     pub fn len(&self) -> usize
         ensures { result ≡ length self.now }
     {
-        self.by_number.len()
+        self.places.len()
+    }
+}
+
+/// The files, and then the added ones. Fails for want of memory alone.
+fn joined(files: Vec<NewFile>, added: Vec<NewFile>) -> Result<Vec<NewFile>, Fault>
+    ensures ok { IfOk result (λ v. v.items ≡ files.items ++ added.items) }
+    ensures memory { IfErr result (λ e. e.name ≡ Memory) }
+{
+    if files.is_empty() {
+        return Ok(added);
+    }
+    let mut files = files;
+    let mut added = added;
+    files.append(&mut added)?;
+    Ok(files)
+}
+
+/// Sets the place of the file that lies there, where one does and its number is in the map.
+fn tell_place(places: &mut BTreeMap<u64, usize>, files: &[NewFile], place: usize)
+    ensures { places.new.entries ≡ told_at (slice_get files.now place) place places.old.entries }
+{
+    if let Some(file) = files.get(place) {
+        if let Some(told) = places.get_mut(&file.meta.number) {
+            *told = place;
+        }
     }
 }

@@ -1,13 +1,14 @@
-//! New files put into a map under their numbers.
+//! The places of new files put into a map under their numbers.
 
-ghost use Rattle.std.specs.Prelude.{◌≡◌, fold, IfErr, OnOk};
+ghost use Rattle.std.specs.Prelude.{◌≡◌, ◌+◌, ◌<◌, ◌^◌, length, fold, IfOk, IfErr, OnOk};
 ghost use Rattle.std.specs.BTreeMap.{IsOrdered};
 ghost use Rattle.std.specs.Ordering.{nat_cmp};
 ghost use Rattle.coding.specs.declared.fault.FaultName.TheVariants.{Memory};
-ghost use Rattle.edit.specs.ByNumber.{with_entry};
+ghost use Rattle.edit.specs.Placed.{places_from, with_place};
 
 use crate::meta::NewFile;
 use coding::Fault;
+use std::alloc::Global;
 use std::collections::BTreeMap;
 
 /// So many files are few beside any others.
@@ -16,43 +17,74 @@ const FEW: usize = 16;
 /// Files are few beside so many times as many others.
 const SHARE: usize = 4;
 
-/// Puts the files under their numbers, each in place of one that stands there. Fails for want of memory alone.
+/// Puts places, which count from the first one, under the numbers of the files, each in place of one that stands there.
+/// Fails for want of memory alone.
 ///
 /// Few files take a time each that grows with the logarithm of the map's length; more are merged with it in one pass.
 pub(crate) fn insert_all(
-    by_number: &mut BTreeMap<u64, NewFile>,
-    files: Vec<NewFile>,
+    alloc: Global,
+    places: &mut BTreeMap<u64, usize>,
+    first: usize,
+    files: &[NewFile],
 ) -> Result<(), Fault>
-    ensures ok { OnOk result (by_number.new.entries ≡ fold with_entry by_number.old.entries files.items) }
+    requires { first + length files.now < 2 ^ 64 }
+    ensures ok { OnOk result (places.new.entries ≡ fold with_place places.old.entries (places_from first files.now)) }
     ensures memory { IfErr result (λ e. e.name ≡ Memory) }
 {
-    if files.len() <= FEW.max(by_number.len() / SHARE) {
-        insert_each(by_number, files)
+    if files.len() <= FEW.max(places.len() / SHARE) {
+        insert_each(places, first, files)
     } else {
-        insert_together(by_number, files)
+        insert_together(alloc, places, first, files)
     }
 }
 
 /// As `insert_all`, one file after the other.
-fn insert_each(by_number: &mut BTreeMap<u64, NewFile>, files: Vec<NewFile>) -> Result<(), Fault>
-    ensures ok { OnOk result (by_number.new.entries ≡ fold with_entry by_number.old.entries files.items) }
+fn insert_each(
+    places: &mut BTreeMap<u64, usize>,
+    first: usize,
+    files: &[NewFile],
+) -> Result<(), Fault>
+    requires { first + length files.now < 2 ^ 64 }
+    ensures ok { OnOk result (places.new.entries ≡ fold with_place places.old.entries (places_from first files.now)) }
     ensures memory { IfErr result (λ e. e.name ≡ Memory) }
 {
+    let mut place = first;
     for file in files {
-        by_number.insert(file.meta.number, file)?;
+        places.insert(file.meta.number, place)?;
+        place += 1;
     }
     Ok(())
 }
 
-/// As `insert_all`, by a map of the files that is merged with the other.
-fn insert_together(by_number: &mut BTreeMap<u64, NewFile>, files: Vec<NewFile>) -> Result<(), Fault>
-    requires { IsOrdered nat_cmp by_number.old }
-    ensures ok { OnOk result (by_number.new.entries ≡ fold with_entry by_number.old.entries files.items) }
+/// As `insert_all`, by a map of the files' places that is merged with the other.
+fn insert_together(
+    alloc: Global,
+    places: &mut BTreeMap<u64, usize>,
+    first: usize,
+    files: &[NewFile],
+) -> Result<(), Fault>
+    requires room { first + length files.now < 2 ^ 64 }
+    requires ordered { IsOrdered nat_cmp places.old }
+    ensures ok { OnOk result (places.new.entries ≡ fold with_place places.old.entries (places_from first files.now)) }
     ensures memory { IfErr result (λ e. e.name ≡ Memory) }
 {
-    let alloc = *files.allocator();
-    let entries = files.into_iter().map(|file| (file.meta.number, file));
-    let mut new: BTreeMap<u64, NewFile> = entries.collect(alloc)?;
-    by_number.append(&mut new)?;
+    let entries = numbered(alloc, first, files)?;
+    let mut new: BTreeMap<u64, usize> = entries.into_iter().collect(alloc)?;
+    places.append(&mut new)?;
     Ok(())
+}
+
+/// The files' numbers, with places that count from the first one. Fails for want of memory alone.
+fn numbered(alloc: Global, first: usize, files: &[NewFile]) -> Result<Vec<(u64, usize)>, Fault>
+    requires { first + length files.now < 2 ^ 64 }
+    ensures ok { IfOk result (λ v. v.items ≡ places_from first files.now) }
+    ensures memory { IfErr result (λ e. e.name ≡ Memory) }
+{
+    let mut entries = Vec::with_capacity(alloc, files.len())?;
+    let mut place = first;
+    for file in files {
+        entries.push((file.meta.number, place))?;
+        place += 1;
+    }
+    Ok(entries)
 }

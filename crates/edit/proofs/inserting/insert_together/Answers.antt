@@ -1,17 +1,14 @@
-use Rattle.std.proofs.Common.{◌∙◌, BTreeMap, Result, IfOk, map, rules, tests, subst, ℕ}
+use Rattle.std.proofs.Common.{◌∙◌, BTreeMap, Result, IfOk, subst, ℕ, ap, fold}
 use Rattle.std.specs.BTreeMap.{IsFromIterResult}
 use Rattle.std.specs.Ordering.{nat_cmp}
-use Rattle.std.proofs.lemmas.Iterator.{YieldsList-from_map}
 use Rattle.std.proofs.lemmas.Iterator.Adapters.{YieldsList-from_vec, fact_from_collect}
-use Rattle.std.proofs.lemmas.Iterator.Consumers.{YieldsList-at}
-use Rattle.edit.specs.declared.meta.NewFile.{NewFile}
-use Rattle.edit.proofs.Together.{numbered, together_is}
+use Rattle.edit.specs.Placed.{with_place}
+use Rattle.edit.proofs.Together.{together_is}
 use Rattle.edit.proofs.inserting.insert_together.Goals as goal
 
 pub returns-clause-ok : goal.returns-clause-ok
 returns-clause-ok c =
-    let made = fact_from_collect (IsFromIterResult {X = NewFile} nat_cmp) c.collect.result c.collect.ensures.ran
-    (YieldsList-from_map _ numbered (YieldsList-at c.map-entries.ensures.source (YieldsList-from_vec c.args.files.items c.into_iter.ensures.rest (c.into_iter.ensures.len ∙ c.args.files.ok.0))) c.map-entries.ensures.closure (λ x r q k. search (rules, tests))) in
-    together_is c.args.by_number.now c.in_ok-new.new c.append.new.self c.args.files.items c.requires
-    (subst (λ (r : Result (BTreeMap ℕ NewFile) _). IfOk r (IsFromIterResult nat_cmp (map numbered c.args.files.items))) c.in_ok-new.was made)
-    c.in_ok-append.ensures.inserts_all
+    let entries = c.in_ok-entries.entries.items in
+    let made = fact_from_collect (IsFromIterResult {X = ℕ} nat_cmp) c.collect.result c.collect.ensures.ran (YieldsList-from_vec entries c.into_iter.ensures.rest (c.into_iter.ensures.len ∙ c.in_ok-entries.entries.ok.0)) in
+    together_is c.args.places.now c.in_ok-new.new c.append.new.self entries c.requires.ordered (subst (λ (r : Result (BTreeMap ℕ ℕ) _). IfOk r (IsFromIterResult nat_cmp entries)) c.in_ok-new.was made) c.in_ok-append.ensures.inserts_all
+    ∙ ap (fold with_place c.args.places.now.entries) c.in_ok-entries.ensures.ok

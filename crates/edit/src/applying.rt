@@ -1,11 +1,11 @@
 //! What an edit makes of files and of compact pointers.
 
-ghost use Rattle.std.specs.Prelude.{◌≡◌, true, false, fold, IfOk, IfErr, OnOk};
+ghost use Rattle.std.specs.Prelude.{◌≡◌, true, false, if◌then◌else◌, Some, None, fold, IfOk, IfErr, OnOk};
 ghost use Rattle.std.specs.List.{list_all};
 ghost use Rattle.std.specs.Option.{ok_or};
 ghost use Rattle.coding.specs.Answers.{Gives, fault};
 ghost use Rattle.coding.specs.declared.fault.FaultName.TheVariants.{Apply, Memory};
-ghost use Rattle.edit.specs.Version.{files_after, kept_files, has_place, with_pointer};
+ghost use Rattle.edit.specs.Version.{files_after, kept_files, has_place, are_new, with_file, with_pointer};
 
 use crate::files::Files;
 use crate::meta::{CompactPointer, DeletedFile, NewFile};
@@ -22,9 +22,9 @@ pub(crate) fn files_after(
 ) -> Result<Files, Fault>
     ensures { Gives (λ v. v) result (ok_or (files_after files deleted.keys added.items) (fault Apply)) }
 {
-    let mut files = files;
-    take_out_all(&mut files, &deleted)?;
-    files.with_all(added)?.ok_or(Fault::of(FaultName::Apply))
+    let mut kept = files;
+    take_out_all(&mut kept, &deleted)?;
+    put_in_all(kept, added)
 }
 
 /// Takes out each file that a deletion names. `Apply` where one names no file.
@@ -39,6 +39,13 @@ fn take_out_all(files: &mut Files, deleted: &BTreeSet<DeletedFile>) -> Result<()
         }
     }
     Ok(())
+}
+
+/// Puts in the new files. `Apply` where one has the number of another, be it a new one too.
+fn put_in_all(files: Files, added: Vec<NewFile>) -> Result<Files, Fault>
+    ensures { Gives (λ v. v) result (ok_or (if are_new files added.items then Some (fold with_file files added.items) else None) (fault Apply)) }
+{
+    files.with_all(added)?.ok_or(Fault::of(FaultName::Apply))
 }
 
 /// The pointers, of which the new ones replace those of their levels. Fails for want of memory alone.

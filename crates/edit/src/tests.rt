@@ -326,6 +326,25 @@ fn many_files_go_in_together(rt: HostRuntime) -> Result<(), Fail> {
     Ok(())
 }
 
+/// The deletions of the first of the odd numbers, of one in the middle and of the last.
+const THREE_DELETED: &[u8] = b"\x06\x01\x21\x06\x01\x11\x06\x01\x01";
+
+#[test]
+fn files_are_taken_out_of_many(rt: HostRuntime) -> Result<(), Fail> {
+    let alloc = rt.alloc();
+    let odd = Version::empty(alloc).applied::<Bytewise>(new_files(alloc, ODD)?)?;
+    let fewer = odd.applied::<Bytewise>(VersionEdit::decode(alloc, THREE_DELETED)?)?;
+    // Of those that were left last, one more.
+    let left = fewer.applied::<Bytewise>(VersionEdit::decode(alloc, b"\x06\x01\x03")?)?;
+    let mut numbers = Vec::new(alloc);
+    for file in &left.files::<Bytewise>(alloc, 1)? {
+        numbers.push(file.number)?;
+    }
+    let want = [5, 7, 9, 11, 13, 15, 19, 21, 23, 25, 27, 29, 31];
+    assert_eq!(rt; numbers.as_slice(), want.as_slice());
+    Ok(())
+}
+
 #[test]
 fn the_later_of_two_pointers_counts(rt: HostRuntime) -> Result<(), Fail> {
     let bytes = b"\x05\x03\x09a\x01\x01\0\0\0\0\0\0\x05\x03\x09b\x01\x01\0\0\0\0\0\0";

@@ -102,7 +102,11 @@ fn told(alloc: Global, answer: Result<Vec<u8>, Fault>) -> Result<String, Fail> {
 }
 
 /// What `verify` tells of a folder with this manifest, and with tables of these bytes as files 7 and 8.
-fn verified(alloc: Global, manifest: &[u8], tables: &[(&str, &[u8])]) -> Result<String, Fail> {
+fn verified<'x>(
+    alloc: Global,
+    manifest: &'x [u8],
+    tables: &'x [(&'x str, &'x [u8])],
+) -> Result<String, Fail> {
     let mut files = vec![in alloc; CURRENT, ("MANIFEST-000005", manifest)]?;
     files.extend_from_slice(tables)?;
     told(alloc, verify(alloc, &mut LentFiles::new(alloc, &files, 9)))

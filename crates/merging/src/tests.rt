@@ -206,3 +206,9 @@ fn a_refused_seek_loses_no_entry_from_its_target_on(rt: HostRuntime) -> Result<(
     assert!(rt; left.as_slice().ends_with(b"d2e1f3"));
     Ok(())
 }
+
+#[test]
+fn the_laws_are_called() {
+    merge_law::<Bytewise>();
+    union_law::<Bytewise>();
+}

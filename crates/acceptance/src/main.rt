@@ -7,7 +7,7 @@ mod tables;
 
 use anyhow::{Context, Result};
 use blocks::{CASES, outcome};
-use folders::{FOLDERS, opened};
+use folders::{FOLDERS, folder_compared};
 use std::fs;
 use std::rt::Files;
 use tables::{TABLES, compared};
@@ -30,8 +30,8 @@ fn main(rt: HostRuntime) -> Result<()> {
         println!(rt; "{name}: dumped, and built again")?;
     }
     for name in FOLDERS {
-        let tables = opened(&rt, name)?;
-        println!(rt; "{name}: shown, tables read: {tables}")?;
+        let gets = folder_compared(&rt, name)?;
+        println!(rt; "{name}: shown, verified, {gets} gets")?;
     }
     Ok(())
 }

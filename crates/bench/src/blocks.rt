@@ -18,7 +18,7 @@ const ENTRY_LEN: usize = VALUE_LEN + 4;
 /// A block of so many bytes gets no further entry.
 const BLOCK_LEN: usize = 4096;
 /// How many entries there are for each restart.
-const INTERVAL: u32 = 16;
+const INTERVAL: u64 = 16;
 /// The first key: eight bytes that are the same in all keys, and a number, the highest byte first.
 const FIRST_KEY: u128 = 0x6265_6e63_682d_6b65 << 64;
 

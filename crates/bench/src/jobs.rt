@@ -16,11 +16,13 @@ struct Numbers;
 impl Labour for Numbers {
     type Out = u64;
 
-    ghost use Rattle.std.specs.Prelude.{◌≡◌, None};
+    ghost use Rattle.std.specs.Prelude.{◌≡◌, ◌^◌, None};
+
+    ghost jobs = { λ _. 2 ^ 40 };
 
     ghost refusal = { λ _ _. None };
 
-    ghost holds = { λ _ job out. out ≡ job };
+    ghost gives = { λ _ job out. out ≡ job };
 
     fn work(&self, job: u64) -> Result<u64, Fault> {
         Ok(job)
@@ -63,7 +65,7 @@ fn added(sum: &AtomicU64, times: u32) -> u32 {
 }
 
 /// Runs so many jobs by so many workers, and gives the number of the last.
-fn ran<R: Threads + Sync>(rt: &R, alloc: Global, jobs: u32, workers: u32) -> Result<u32> {
+fn ran<R: Threads + Sync>(rt: &R, alloc: Global, jobs: u32, workers: u64) -> Result<u32> {
     match run(rt, alloc, &Numbers, u64::from(jobs), workers, &Open) {
         Ok(results) => Ok(results.last().map_or(0, |job| (*job % (1 << 32)) as u32)),
         Err(_) => bail!("a run of the board was refused"),

@@ -9,6 +9,7 @@ mod checksums;
 mod figures;
 mod jobs;
 mod manifests;
+mod merging;
 mod random;
 mod tables;
 
@@ -44,6 +45,7 @@ fn main(rt: HostRuntime) -> Result<()> {
     checksums::measure(&rt, alloc, &bytes, &mut figures)?;
     blocks::measure(&rt, alloc, &bytes, &mut figures)?;
     tables::measure(&rt, alloc, &bytes, &mut figures)?;
+    merging::measure(&rt, alloc, &bytes, &mut figures)?;
     manifests::measure(&rt, alloc, files, &mut figures)?;
     jobs::measure(&rt, alloc, jobs, &mut figures)?;
     if full {

@@ -9,9 +9,9 @@ use std::rt::Clock;
 use table::{Cursor, Options, SoundTable, TableBuilder, TableCursor, check};
 
 /// The bytes of a value. Those of a user key are 16.
-const VALUE_LEN: usize = 100;
+pub const VALUE_LEN: usize = 100;
 /// The bytes that an entry takes at least, with its three lengths and a byte of its user key and its tag.
-const ENTRY_LEN: usize = VALUE_LEN + 12;
+pub const ENTRY_LEN: usize = VALUE_LEN + 12;
 /// The first user key: eight bytes that are the same in all, and a number, the highest byte first.
 const FIRST_KEY: u128 = 0x6265_6e63_682d_6b65 << 64;
 /// The most keys that are sought.
@@ -84,7 +84,7 @@ fn write_files(alloc: Global, values: &[u8]) -> Result<u32> {
 }
 
 /// A table without entries, which may become as long as the file size.
-fn begun(alloc: Global, file_size: u64) -> Result<TableBuilder<Bytewise>> {
+pub fn begun(alloc: Global, file_size: u64) -> Result<TableBuilder<Bytewise>> {
     let options = Options {
         file_size,
         ..Options::default()
@@ -102,7 +102,11 @@ fn key_of(number: usize) -> [u8; 24] {
 }
 
 /// Appends the entry of this number.
-fn add(builder: &mut TableBuilder<Bytewise>, number: usize, value: &[u8; VALUE_LEN]) -> Result<()> {
+pub fn add(
+    builder: &mut TableBuilder<Bytewise>,
+    number: usize,
+    value: &[u8; VALUE_LEN],
+) -> Result<()> {
     let bytes = key_of(number);
     let key = InternalKey::parse(&bytes)?;
     ensure!(builder.is_above_last(&key), "keys that don't rise");
@@ -149,6 +153,6 @@ fn seek(alloc: Global, table: &SoundTable<'_, Bytewise>, keys: &[[u8; 24]]) -> R
 }
 
 /// The last of some bytes; 0 where there is none.
-fn last_of(bytes: &[u8]) -> u32 {
+pub fn last_of(bytes: &[u8]) -> u32 {
     bytes.last().map_or(0, |byte| u32::from(*byte))
 }

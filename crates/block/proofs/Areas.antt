@@ -5,7 +5,8 @@ use Rattle.std.proofs.lemmas.List.{append-nil, append_cancel_left, length-append
 use Rattle.std.proofs.lemmas.Grind.{flat_map-append}
 use Rattle.std.proofs.lemmas.Option.{same_Some, none-some}
 use Rattle.byteorder.specs.Endian.{little_bytes}
-use Rattle.block.specs.Piece.{Piece, piece_bytes, restarts_from, restarts_of, IsPieceAfter, ArePieces, BeginsWithRestart, AreOfBlock, IsArea}
+use Rattle.block.specs.Piece.{Piece, piece_bytes, restarts_from, restarts_of, IsPieceAfter, ArePieces, BeginsWithRestart, AreOfBlock}
+use Rattle.block.specs.Kept.{IsArea}
 use Rattle.block.specs.Parts.{BeginsWith}
 use Rattle.block.specs.Reading.{Field, piece_at}
 use Rattle.block.proofs.Pieces.{plain, Widths, Widths-of, reads_piece, piece_at_front, piece_at-nil, length-piece_bytes_pos}

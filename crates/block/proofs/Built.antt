@@ -7,9 +7,10 @@ use Rattle.std.proofs.lemmas.List.Concat.{flat_map-append}
 use Rattle.std.proofs.lemmas.Nat.{mod_below}
 use Rattle.std.proofs.Math.Nat.{zero-mod, mod-add-mod, mod_self, mod-eq_of_lt}
 use Rattle.block.specs.Piece.{Entry, Piece, piece_bytes, restarts_from, restarts_of, restart_bytes}
-use Rattle.block.specs.Reading.{entries_behind}
+use Rattle.block.specs.Behind.{entries_behind}
 use Rattle.block.specs.Writing.{piece_of, pieces_from, block}
-use Rattle.block.specs.Building.{last_key, with_entry, IsBuilt}
+use Rattle.block.specs.Building.{last_key, with_entry}
+use Rattle.block.specs.Kept.{IsBuilt}
 use Rattle.block.proofs.Pieces.{AreWide-of, entries_behind-pieces}
 use Rattle.block.proofs.Written.{common, take-common, piece_at_restart, entries_after-pieces_from, AreOfBlock-pieces_from, restarts_from-push, length-block}
 

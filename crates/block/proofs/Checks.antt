@@ -2,14 +2,15 @@
 use Rattle.std.proofs.Common.{◌≡◌, ℕ, ◌+◌, ◌<◌, Bool, cond, List, [], ◌∷◌, ◌++◌, length, refl, sym, ap, subst, ◌∙◌, arith}
 use Rattle.std.specs.List.{flat_map}
 use Rattle.byteorder.specs.Endian.{little_bytes}
-use Rattle.block.specs.Piece.{Entry, Piece, piece_bytes, restarts_from, restarts_of, block_bytes, BeginsWithRestart, IsBlock, IsArea}
+use Rattle.block.specs.Piece.{Entry, Piece, piece_bytes, restarts_from, restarts_of, block_bytes, BeginsWithRestart, IsBlock}
+use Rattle.block.specs.Kept.{IsArea, sound_in}
 use Rattle.block.specs.Parts.{IsSplit}
-use Rattle.block.specs.Reading.{entries_behind}
+use Rattle.block.specs.Behind.{entries_behind}
 use Rattle.block.proofs.Restarts.{words, length-words}
 use Rattle.block.proofs.Splits.{one_split}
 use Rattle.block.proofs.Walks.{entries_of_area}
 use Rattle.block.proofs.Places.{places_of_area}
-use Rattle.block.specs.Sound.{PointsAt, sound_in}
+use Rattle.block.specs.Sound.{PointsAt}
 
 -- there is a restart
 some_restart : (ps : List Piece) → BeginsWithRestart ps → 0 < length (restarts_of ps)

@@ -6,7 +6,9 @@ use Rattle.std.proofs.lemmas.Bool.{le-leb, leb-true}
 use Rattle.std.proofs.lemmas.Option.{same_Some, cond_some}
 use Rattle.coding.specs.Varint.{varint, varint_reading}
 use Rattle.block.specs.Piece.{Entry, Piece, piece_bytes, key_after, entries_after, IsPieceAfter, ArePieces}
-use Rattle.block.specs.Reading.{Field, and_then, length_at, piece_at, entries_in, entries_behind}
+use Rattle.coding.specs.Answers.{and_then}
+use Rattle.block.specs.Reading.{Field, length_at, piece_at}
+use Rattle.block.specs.Behind.{entries_in, entries_behind}
 use Rattle.coding.proofs.Varints.{varint_reading-varint, reads_varint, length-varint_pos}
 
 -- a piece at which no restart points

@@ -6,9 +6,10 @@ use Rattle.std.proofs.lemmas.List.{append-nil, length-append, take_at, drop_at, 
 use Rattle.std.proofs.lemmas.Grind.{flat_map-append}
 use Rattle.std.proofs.lemmas.Option.{none-some}
 use Rattle.byteorder.specs.Endian.{little_number}
-use Rattle.block.specs.Piece.{Entry, Piece, piece_bytes, key_after, entries_after, restarts_from, restarts_of, ArePieces, BeginsWithRestart, AreOfBlock, IsArea}
-use Rattle.block.specs.Reading.{entries_behind, ArePiecesBehind}
-use Rattle.block.specs.Sound.{places_from, places_of, numbers_in, entries_before, sound_in}
+use Rattle.block.specs.Piece.{Entry, Piece, piece_bytes, key_after, entries_after, restarts_from, restarts_of, ArePieces, BeginsWithRestart, AreOfBlock}
+use Rattle.block.specs.Kept.{IsArea, entries_before, sound_in}
+use Rattle.block.specs.Behind.{entries_behind, ArePiecesBehind}
+use Rattle.block.specs.Sound.{places_from, places_of, numbers_in}
 use Rattle.block.proofs.Pieces.{Widths, AreWide, AreWide-of, entries_behind-pieces}
 use Rattle.block.proofs.Restarts.{words, length-words, front_word}
 use Rattle.block.proofs.Areas.{AllByRecursion-append, AllByRecursion-weaker, marks}

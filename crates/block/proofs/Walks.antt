@@ -4,8 +4,10 @@ use Rattle.std.specs.List.{flat_map, slice_get}
 use Rattle.std.specs.Option.{option_map}
 use Rattle.std.proofs.lemmas.List.{length-append, length-take-le, nil_from_length}
 use Rattle.std.proofs.lemmas.Option.{same_Some, none-some}
-use Rattle.block.specs.Piece.{Entry, Piece, piece_bytes, key_after, entries_after, ArePieces, IsArea}
-use Rattle.block.specs.Reading.{Field, piece_at, entries_behind, ArePiecesBehind}
+use Rattle.block.specs.Piece.{Entry, Piece, piece_bytes, key_after, entries_after, ArePieces}
+use Rattle.block.specs.Kept.{IsArea}
+use Rattle.block.specs.Reading.{Field, piece_at}
+use Rattle.block.specs.Behind.{entries_behind, ArePiecesBehind}
 use Rattle.block.proofs.Pieces.{plain, Widths-of, piece_at_front, piece_at-nil, entries_behind-pieces, AreWide-of}
 
 pub length-key_after : (before : List ℕ) (p : Piece) → p.shared ≤ length before → length (key_after before p) ≡ p.shared + length p.unshared

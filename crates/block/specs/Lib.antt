@@ -1,9 +1,13 @@
+-- what contracts rest on
 pub mod Piece
 pub mod Writing
 pub mod Building
 pub mod Reading
 pub mod Sound
-pub mod Lent
-pub mod Parts
-pub mod Walking
 pub mod ReadingBlocks
+-- serves proofs alone
+pub mod Behind
+pub mod Kept
+pub mod Parts
+pub mod Front
+pub mod Walking

@@ -75,7 +75,3 @@ pub record AreOfBlock (ps : List Piece) : Type 0 where
 -- The bytes read as a block of these entries, with any lawful sharing and any lawful restarts.
 abbrev pub IsBlock : List ℕ → List Entry → Type 0
 IsBlock bytes entries = (ps : List Piece) × AreOfBlock ps × (bytes ≡ block_bytes ps) × (entries_after [] ps ≡ entries)
-
--- The bytes before the restarts and those of the restarts are of a block.
-abbrev pub IsArea : List ℕ → List ℕ → Type 0
-IsArea area restarts = (ps : List Piece) × AreOfBlock ps × (area ≡ flat_map piece_bytes ps) × (restarts ≡ flat_map (little_bytes 4) (restarts_of ps))

@@ -1,8 +1,7 @@
 -- What the bytes of a block hold: entries, and restarts that point at some of them.
-use Rattle.std.specs.Prelude.{◌≡◌, ℕ, ◌+◌, if◌then◌else◌, List, [], ◌∷◌, ◌++◌, map, length, take}
+use Rattle.std.specs.Prelude.{◌≡◌, ℕ, ◌+◌, if◌then◌else◌, List, [], ◌∷◌, ◌++◌}
 use Rattle.byteorder.specs.Endian.{little_number}
 use Rattle.block.specs.Piece.{Entry, Piece, block_bytes, AreOfBlock}
-use Rattle.block.specs.Reading.{entries_behind}
 
 -- the entries, and the places among them at which restarts point
 pub record Sound : Type 0 where
@@ -27,14 +26,3 @@ PointsAt bytes places = (ps : List Piece) × AreOfBlock ps × (bytes ≡ block_b
 abbrev pub numbers_in : List ℕ → List ℕ
 numbers_in (a ∷ b ∷ c ∷ d ∷ bytes) = little_number 4 (a ∷ b ∷ c ∷ d ∷ []) ∷ numbers_in bytes
 numbers_in _ = []
-
--- how many entries stand before this offset
-abbrev pub entries_before : List ℕ → ℕ → ℕ
-entries_before area offset = length (entries_behind [] (take offset area))
-
--- what stands in the bytes before the restarts and in those of the restarts
-abbrev pub sound_in : List ℕ → List ℕ → Sound
-sound_in area restarts = record {
-  entries = entries_behind [] area;
-  restarts = map (entries_before area) (numbers_in restarts);
-}

@@ -24,7 +24,7 @@ const WORD_LEN: usize = 8;
 #[derive(Drop)]
 pub struct BlockBuilder {
     /// How many entries there are for each restart.
-    interval: u32,
+    interval: u64,
     /// The entries as they will stand in the block.
     bytes: Vec<u8>,
     /// The offsets of the entries with whole keys.
@@ -32,24 +32,26 @@ pub struct BlockBuilder {
     /// The key of the last entry; empty where there is none.
     last: Vec<u8>,
     /// The number of entries behind the last whole interval.
-    since: u32,
+    since: u64,
 }
 
 impl Model for BlockBuilder {
     ghost use Rattle.std.specs.Prelude.{[]};
-    ghost use Rattle.block.specs.Reading.{entries_behind};
-    ghost use Rattle.block.specs.Building.{Building, IsBuilt};
+    ghost use Rattle.block.specs.Behind.{entries_behind};
+    ghost use Rattle.block.specs.Building.{Building};
+    ghost use Rattle.block.specs.Kept.{IsBuilt};
 
     ghost Value = { Building };
 
     ghost view = { λ b. record { interval = b.interval; entries = entries_behind [] b.bytes.items } };
 
-    ghost invariant = { λ b. IsBuilt b.interval (entries_behind [] b.bytes.items) b.bytes.items b.restarts.items b.last.items b.since };
+    ghost invariant = { λ b.
+        IsBuilt b.interval (entries_behind [] b.bytes.items) b.bytes.items b.restarts.items b.last.items b.since };
 }
 
 impl BlockBuilder {
     /// A block without entries, at a restart interval from 1 to 1,024. Takes no memory.
-    pub fn new(alloc: Global, interval: u32) -> BlockBuilder
+    pub fn new(alloc: Global, interval: u64) -> BlockBuilder
         requires positive { 1 ≤ interval }
         requires limited { interval ≤ 1024 }
         ensures { result ≡ record { interval = interval; entries = [] } }
@@ -66,10 +68,13 @@ impl BlockBuilder {
     /// Appends an entry, after which the block has at most 2^31 bytes: one entry adds at most 34 to the bytes of its key and
     /// value. A key is any bytes, and the order of keys isn't tested.
     ///
-    /// Refused only for want of memory, and then the block is as it was.
+    /// Refused for want of memory alone. A refusal leaves it as it was.
     pub fn add(&mut self, key: &[u8], value: &[u8]) -> Result<(), Fault>
         requires { length (block self.old.interval (with_entry self.old.entries key.now value.now)) ≤ 2 ^ 31 }
-        ensures ok { OnOk result (self.new ≡ record { interval = self.old.interval; entries = with_entry self.old.entries key.now value.now }) }
+        ensures ok { OnOk result (self.new ≡ record {
+          interval = self.old.interval;
+          entries = with_entry self.old.entries key.now value.now;
+        }) }
         ensures err { OnErr result (self.new ≡ self.old) }
         ensures memory { IsOkUnless result (fault Memory) }
     {
@@ -126,7 +131,7 @@ impl BlockBuilder {
 
     /// Appends the block that `finish` would give now.
     ///
-    /// Refused only for want of memory, and then nothing is appended.
+    /// Refused for want of memory alone. A refusal leaves it as it was.
     pub fn push_block(&self, out: &mut Vec<u8>) -> Result<(), Fault>
         ensures ok { OnOk result (out.new.items ≡ out.old.items ++ block self.now.interval self.now.entries) }
         ensures err { OnErr result (out.new.items ≡ out.old.items) }
@@ -151,7 +156,7 @@ impl BlockBuilder {
     /// The block of the entries: the entries, their restarts, and the number of restarts. One without entries has the one
     /// restart 0.
     ///
-    /// Refused only for want of memory.
+    /// Refused for want of memory alone, and then the builder and its entries are gone.
     pub fn finish(self) -> Result<Vec<u8>, Fault>
         ensures ok { IfOk result (λ bytes. bytes.items ≡ block self.interval self.entries) }
         ensures memory { IfErr result (λ e. e ≡ fault Memory) }
@@ -174,7 +179,7 @@ impl BlockBuilder {
 }
 
 /// How many bytes of the key before it the next entry leaves out: none where a restart points at it.
-fn shared_len(since: u32, before: &[u8], key: &[u8]) -> usize
+fn shared_len(since: u64, before: &[u8], key: &[u8]) -> usize
     ensures value { result ≡ (if since == 0 then 0 else common_prefix_len nat_eq before.now key.now) }
     ensures within { result ≤ length key.now }
 {
@@ -195,7 +200,8 @@ fn common_len(before: &[u8], key: &[u8]) -> usize
 
 /// How many bytes two keys share at their beginnings, up to the first eight that they don't share whole.
 fn common_words(before: &[u8], key: &[u8]) -> usize
-    ensures shared { common_prefix_len nat_eq before.now key.now ≡ result + common_prefix_len nat_eq (drop result before.now) (drop result key.now) }
+    ensures shared { common_prefix_len nat_eq before.now key.now
+        ≡ result + common_prefix_len nat_eq (drop result before.now) (drop result key.now) }
     ensures within { (result ≤ length before.now) × (result ≤ length key.now) }
 {
     let (before, _) = before.as_chunks::<WORD_LEN>();
@@ -222,9 +228,15 @@ fn common_bytes(before: &[u8], key: &[u8]) -> usize
     end
 }
 
-/// Appends the three lengths, the key's own bytes and the value. A refused growth appends nothing.
+/// Appends the three lengths, the key's own bytes and the value. Refused for want of memory alone. A refusal leaves it as
+/// it was.
 fn push_piece(out: &mut Vec<u8>, shared: usize, unshared: &[u8], value: &[u8]) -> Result<(), Fault>
-    ensures ok { OnOk result (out.new.items ≡ out.old.items ++ piece_bytes (record { is_restart = false; shared = shared; unshared = unshared.now; value = value.now })) }
+    ensures ok { OnOk result (out.new.items ≡ out.old.items ++ piece_bytes (record {
+      is_restart = false;
+      shared = shared;
+      unshared = unshared.now;
+      value = value.now;
+    })) }
     ensures err { OnErr result (out.new.items ≡ out.old.items) }
     ensures memory { IsOkUnless result (fault Memory) }
 {
@@ -238,7 +250,12 @@ fn push_piece(out: &mut Vec<u8>, shared: usize, unshared: &[u8], value: &[u8]) -
 
 /// Appends the three lengths, the key's own bytes and the value, or on a refused growth some of them.
 fn push_fields(out: &mut Vec<u8>, shared: usize, unshared: &[u8], value: &[u8]) -> Result<(), Fault>
-    ensures ok { OnOk result (out.new.items ≡ out.old.items ++ piece_bytes (record { is_restart = false; shared = shared; unshared = unshared.now; value = value.now })) }
+    ensures ok { OnOk result (out.new.items ≡ out.old.items ++ piece_bytes (record {
+      is_restart = false;
+      shared = shared;
+      unshared = unshared.now;
+      value = value.now;
+    })) }
     ensures err { OnErr result (take (length out.old.items) out.new.items ≡ out.old.items) }
     ensures memory { IsOkUnless result (fault Memory) }
 {

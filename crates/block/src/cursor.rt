@@ -2,7 +2,7 @@
 
 ghost use Rattle.std.specs.Prelude.{◌≡◌, ◌<◌, ◌↔◌, [], length, IsTrue, IfOk, OnOk, OnErr, IsOkUnless, IfErr, slice_get, slice_index, Some, take, drop, ◌++◌};
 ghost use Rattle.std.specs.Option.{option_map};
-ghost use Rattle.block.specs.Reading.{entries_behind, ArePiecesBehind};
+ghost use Rattle.block.specs.Behind.{entries_behind, ArePiecesBehind};
 ghost use Rattle.coding.specs.Answers.{fault};
 ghost use Rattle.coding.specs.declared.fault.FaultName.TheVariants.{Memory};
 
@@ -11,18 +11,6 @@ use crate::sound_block::SoundBlock;
 use coding::Fault;
 use std::alloc::Global;
 use std::marker::Model;
-
-/// Keeps so many bytes of a key and appends the others. A refused growth leaves the key as it was.
-fn replace_end(key: &mut Vec<u8>, shared: usize, unshared: &[u8]) -> Result<(), Fault>
-    ensures ok { OnOk result (key.new.items ≡ take shared key.old.items ++ unshared.now) }
-    ensures err { OnErr result (key.new.items ≡ key.old.items) }
-    ensures memory { IsOkUnless result (fault Memory) }
-{
-    key.reserve(unshared.len())?;
-    key.truncate(shared);
-    key.extend_from_slice(unshared).unwrap();
-    Ok(())
-}
 
 /// A place in a block, seen as the entries from there on, in the order of the block.
 ///
@@ -41,9 +29,9 @@ impl<'a> Model for BlockCursor<'a> {
 
     ghost Value = { List Entry };
 
-    ghost use Rattle.block.specs.Walking.{to_come, IsWalking};
+    ghost use Rattle.block.specs.Walking.{remaining, IsWalking};
 
-    ghost view = { to_come };
+    ghost view = { remaining };
 
     ghost invariant = { IsWalking };
 }
@@ -51,7 +39,7 @@ impl<'a> Model for BlockCursor<'a> {
 impl<'a> BlockCursor<'a> {
     /// All entries of a block.
     ///
-    /// Refused only for want of memory: it takes the bytes of one key.
+    /// Refused for want of memory alone. It takes the bytes of one key.
     pub fn new(alloc: Global, block: &SoundBlock<'a>) -> Result<BlockCursor<'a>, Fault>
         ensures all { IfOk result (λ cursor. cursor ≡ block.now.entries) }
         ensures memory { IfErr result (λ e. e ≡ fault Memory) }
@@ -61,7 +49,7 @@ impl<'a> BlockCursor<'a> {
 
     /// The entries from a restart on. Restarts are counted from 0.
     ///
-    /// Refused only for want of memory: it takes the bytes of one key.
+    /// Refused for want of memory alone. It takes the bytes of one key.
     pub fn at(alloc: Global, block: &SoundBlock<'a>, restart: u64) -> Result<BlockCursor<'a>, Fault>
         requires { restart < length block.now.restarts }
         ensures from { IfOk result (λ cursor. cursor ≡ drop (slice_index block.now.restarts restart) block.now.entries) }
@@ -80,41 +68,6 @@ impl<'a> BlockCursor<'a> {
             value: &[],
             rest: &[],
         }
-    }
-
-    /// The entries of pieces, the first of which has its whole key.
-    fn over(alloc: Global, pieces: &'a [u8]) -> Result<BlockCursor<'a>, Fault>
-        requires { ArePiecesBehind [] pieces.now }
-        ensures all { IfOk result (λ cursor. cursor ≡ entries_behind [] pieces.now) }
-        ensures memory { IfErr result (λ e. e ≡ fault Memory) }
-    {
-        let Some(piece) = piece_at(pieces) else {
-            return Ok(BlockCursor::none(alloc));
-        };
-        let mut key = Vec::new(alloc);
-        replace_end(&mut key, piece.shared, piece.unshared)?;
-        Ok(BlockCursor {
-            valid: true,
-            key,
-            value: piece.value,
-            rest: piece.rest,
-        })
-    }
-
-    /// Another cursor at the same place.
-    ///
-    /// Refused only for want of memory: it takes the bytes of one key.
-    pub fn copy(&self, alloc: Global) -> Result<BlockCursor<'a>, Fault>
-        ensures same { IfOk result (λ cursor. cursor ≡ self.now) }
-        ensures memory { IfErr result (λ e. e ≡ fault Memory) }
-    {
-        let key = Vec::from_slice(alloc, &self.key)?;
-        Ok(BlockCursor {
-            valid: self.valid,
-            key,
-            value: self.value,
-            rest: self.rest,
-        })
     }
 
     /// Whether an entry is still to come.
@@ -148,7 +101,9 @@ impl<'a> BlockCursor<'a> {
         self.rest.is_empty()
     }
 
-    /// Takes the first entry off. Refused only for want of memory, and then nothing is taken off.
+    /// Takes the first entry off.
+    ///
+    /// Refused for want of memory alone. A refusal leaves it as it was.
     pub fn advance(&mut self) -> Result<(), Fault>
         requires { 0 < length self.old }
         ensures ok { OnOk result (self.new ≡ drop 1 self.old) }
@@ -164,4 +119,35 @@ impl<'a> BlockCursor<'a> {
         self.rest = piece.rest;
         Ok(())
     }
+
+    /// The entries of pieces, the first of which has its whole key.
+    fn over(alloc: Global, pieces: &'a [u8]) -> Result<BlockCursor<'a>, Fault>
+        requires { ArePiecesBehind [] pieces.now }
+        ensures all { IfOk result (λ cursor. cursor ≡ entries_behind [] pieces.now) }
+        ensures memory { IfErr result (λ e. e ≡ fault Memory) }
+    {
+        let Some(piece) = piece_at(pieces) else {
+            return Ok(BlockCursor::none(alloc));
+        };
+        let mut key = Vec::new(alloc);
+        replace_end(&mut key, piece.shared, piece.unshared)?;
+        Ok(BlockCursor {
+            valid: true,
+            key,
+            value: piece.value,
+            rest: piece.rest,
+        })
+    }
+}
+
+/// Keeps so many bytes of a key and appends the others. Refused for want of memory alone. A refusal leaves it as it was.
+fn replace_end(key: &mut Vec<u8>, shared: usize, unshared: &[u8]) -> Result<(), Fault>
+    ensures ok { OnOk result (key.new.items ≡ take shared key.old.items ++ unshared.now) }
+    ensures err { OnErr result (key.new.items ≡ key.old.items) }
+    ensures memory { IsOkUnless result (fault Memory) }
+{
+    key.reserve(unshared.len())?;
+    key.truncate(shared);
+    key.extend_from_slice(unshared).unwrap();
+    Ok(())
 }

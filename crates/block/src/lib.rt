@@ -8,13 +8,13 @@ ghost use Rattle.block.specs.Writing.{block};
 
 mod builder;
 mod cursor;
-mod lent;
+mod front;
 mod piece;
 mod sound_block;
 
 pub use builder::BlockBuilder;
 pub use cursor::BlockCursor;
-pub use sound_block::{SoundBlock, check, known};
+pub use sound_block::{SoundBlock, check, reopen};
 
 /// The block of a list at any interval reads as that list.
 pub fn reads_back()

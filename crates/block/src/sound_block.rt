@@ -4,8 +4,9 @@ ghost use Rattle.std.specs.Prelude.{◌≡◌, ◌<◌, ◌^◌, ◌↔◌, [], 
 ghost use Rattle.std.specs.List.{All};
 ghost use Rattle.std.specs.Option.{option_map};
 ghost use Rattle.std.specs.List.Sorted.{IsStrictlyIncreasing};
-ghost use Rattle.block.specs.Piece.{Entry, IsArea, IsBlock};
-ghost use Rattle.block.specs.Reading.{entries_behind, ArePiecesBehind};
+ghost use Rattle.block.specs.Piece.{Entry, IsBlock};
+ghost use Rattle.block.specs.Kept.{IsArea};
+ghost use Rattle.block.specs.Behind.{entries_behind, ArePiecesBehind};
 ghost use Rattle.block.specs.Sound.{PointsAt};
 ghost use Rattle.block.specs.Parts.{BeginsWith, IsSplit};
 ghost use Rattle.coding.specs.Answers.{fault};
@@ -19,71 +20,6 @@ use std::marker::Model;
 /// The bytes of a restart, or of their number.
 const RESTART_LEN: usize = 4;
 
-/// The two parts of a block before the number of its restarts.
-#[derive(Clone, Copy)]
-struct Parts<'a> {
-    area: &'a [u8],
-    restarts: &'a [u8],
-}
-
-/// Takes the number of restarts off the end, and the restarts before it.
-fn split(bytes: &[u8]) -> Option<Parts<'_>>
-    ensures found { IfSome result (λ parts. IsSplit bytes.now parts.area.now parts.restarts.now) }
-    ensures none { IfNone result ((area restarts : List ℕ) → IsSplit bytes.now area restarts → ⊥) }
-{
-    if bytes.len() < RESTART_LEN {
-        return None;
-    }
-    let (front, count) = bytes.split_at(bytes.len() - RESTART_LEN);
-    let count = LittleEndian::read_u32(count) as usize;
-    if count == 0 || front.len() < count * RESTART_LEN {
-        return None;
-    }
-    let (area, restarts) = front.split_at(front.len() - count * RESTART_LEN);
-    Some(Parts { area, restarts })
-}
-
-/// Whether the number of this offset is the next restart.
-fn is_next(pending: &[u8], at: usize) -> bool
-    ensures { IsTrue result ↔ ((at < 2 ^ 32) × BeginsWith pending.now at) }
-{
-    pending.len() >= RESTART_LEN && LittleEndian::read_u32(pending) as usize == at
-}
-
-/// Whether the bytes before the restarts are pieces, and the restarts offsets of pieces that share nothing.
-fn are_pieces(area: &[u8], restarts: &[u8]) -> bool
-    requires { length restarts.now < 2 ^ 34 }
-    ensures { IsTrue result ↔ IsArea area.now restarts.now }
-{
-    if !is_next(restarts, 0) {
-        return false;
-    }
-    if area.is_empty() {
-        return restarts.len() == RESTART_LEN;
-    }
-    let mut rest = area;
-    let mut pending = restarts;
-    let mut key_len = 0;
-    while !rest.is_empty() {
-        let at = area.len() - rest.len();
-        let Some(piece) = piece_at(rest) else {
-            return false;
-        };
-        if piece.shared > key_len {
-            return false;
-        }
-        if is_next(pending, at) {
-            if piece.shared != 0 {
-                return false;
-            }
-            (_, pending) = pending.split_at(RESTART_LEN);
-        }
-        key_len = piece.shared + piece.unshared.len();
-        rest = piece.rest;
-    }
-    pending.is_empty()
-}
-
 /// The bytes of a block that were checked, seen as its entries and the places among them at which its restarts point.
 ///
 /// The place of a restart is the number of entries that stand before it. The entry there has its whole key, so that a
@@ -95,8 +31,8 @@ pub struct SoundBlock<'a> {
 }
 
 impl<'a> Model for SoundBlock<'a> {
-    ghost use Rattle.block.specs.Piece.{IsArea};
-    ghost use Rattle.block.specs.Sound.{Sound, sound_in};
+    ghost use Rattle.block.specs.Kept.{IsArea, sound_in};
+    ghost use Rattle.block.specs.Sound.{Sound};
 
     ghost Value = { Sound };
 
@@ -123,7 +59,8 @@ impl<'a> SoundBlock<'a> {
     /// It reads that entry alone, and takes no memory.
     pub fn key_at(&self, restart: u64) -> Option<&'a [u8]>
         requires { restart < length self.now.restarts }
-        ensures { option_map (λ key. key.now) result ≡ option_map (λ e. e.key) (slice_get self.now.entries (slice_index self.now.restarts restart)) }
+        ensures { option_map (λ key. key.now) result
+            ≡ option_map (λ e. e.key) (slice_get self.now.entries (slice_index self.now.restarts restart)) }
     {
         let piece = piece_at(self.area_from(restart))?;
         Some(piece.unshared)
@@ -194,7 +131,7 @@ pub fn check(bytes: &[u8]) -> Result<SoundBlock<'_>, Fault>
 /// again.
 ///
 /// It reads the number of restarts and no more, whatever the block holds, and takes no memory.
-pub fn known(bytes: &[u8]) -> SoundBlock<'_>
+pub fn reopen(bytes: &[u8]) -> SoundBlock<'_>
     requires { (entries : List Entry) × IsBlock bytes.now entries }
     ensures found { IsBlock bytes.now result.entries }
     ensures places { PointsAt bytes.now result.restarts }
@@ -207,4 +144,69 @@ pub fn known(bytes: &[u8]) -> SoundBlock<'_>
         area: parts.area,
         restarts: parts.restarts,
     }
+}
+
+/// The two parts of a block before the number of its restarts.
+#[derive(Clone, Copy)]
+struct Parts<'a> {
+    area: &'a [u8],
+    restarts: &'a [u8],
+}
+
+/// Takes the number of restarts off the end, and the restarts before it.
+fn split(bytes: &[u8]) -> Option<Parts<'_>>
+    ensures found { IfSome result (λ parts. IsSplit bytes.now parts.area.now parts.restarts.now) }
+    ensures none { IfNone result ((area restarts : List ℕ) → IsSplit bytes.now area restarts → ⊥) }
+{
+    if bytes.len() < RESTART_LEN {
+        return None;
+    }
+    let (front, count) = bytes.split_at(bytes.len() - RESTART_LEN);
+    let count = LittleEndian::read_u32(count) as usize;
+    if count == 0 || front.len() < count * RESTART_LEN {
+        return None;
+    }
+    let (area, restarts) = front.split_at(front.len() - count * RESTART_LEN);
+    Some(Parts { area, restarts })
+}
+
+/// Whether the number of this offset is the next restart.
+fn is_next(pending: &[u8], at: usize) -> bool
+    ensures { IsTrue result ↔ ((at < 2 ^ 32) × BeginsWith pending.now at) }
+{
+    pending.len() >= RESTART_LEN && LittleEndian::read_u32(pending) as usize == at
+}
+
+/// Whether the bytes before the restarts are pieces, and the restarts offsets of pieces that share nothing.
+fn are_pieces(area: &[u8], restarts: &[u8]) -> bool
+    requires { length restarts.now < 2 ^ 34 }
+    ensures { IsTrue result ↔ IsArea area.now restarts.now }
+{
+    if !is_next(restarts, 0) {
+        return false;
+    }
+    if area.is_empty() {
+        return restarts.len() == RESTART_LEN;
+    }
+    let mut rest = area;
+    let mut pending = restarts;
+    let mut key_len = 0;
+    while !rest.is_empty() {
+        let at = area.len() - rest.len();
+        let Some(piece) = piece_at(rest) else {
+            return false;
+        };
+        if piece.shared > key_len {
+            return false;
+        }
+        if is_next(pending, at) {
+            if piece.shared != 0 {
+                return false;
+            }
+            (_, pending) = pending.split_at(RESTART_LEN);
+        }
+        key_len = piece.shared + piece.unshared.len();
+        rest = piece.rest;
+    }
+    pending.is_empty()
 }

@@ -1,6 +1,7 @@
 -- Several seats together, once their board is closed.
 use Rattle.std.proofs.Common.{◌≡◌, inl, inr, ℕ, zero, suc, ◌+◌, ◌<◌, ◌≤◌, ◌^◌, min, List, [], ◌∷◌, ◌++◌, length, All, get_or, Option, None, Some, IfSome, ◌≢◌, ◌⊎◌, refl, sym, ap, ◌∙◌, subst, arith, length-append}
 use Rattle.std.proofs.lemmas.List.Elements.{All-nil}
+use Rattle.std.specs.List.{flat_map}
 use mathlib.Core.Option.{some, some-injective, some-ne-none}
 use lib.ListN.{get_elem?}
 use Rattle.atomic_table.specs.Table.{Me, Final, Seen}
@@ -8,10 +9,13 @@ use Rattle.atomic_table.specs.Seated.{TableId}
 use Rattle.board.specs.declared.rule.SeatView.{SeatView}
 use Rattle.board.specs.declared.rule.Extent.{Extent}
 use Rattle.board.specs.declared.gathered.Gathered.{Gathered}
-use Rattle.board.specs.Shares.{times, once_below}
-use Rattle.board.specs.Rule.{Kept, gathered, IsWhole, no_fault}
-use Rattle.board.specs.Progress.{Layout, layout, Progress, progress_of, IsSeated, IsCounted, fault_word}
-use Rattle.board.specs.Closing.{joined, all_drawn, all_failed, all_skipped, all_done, times_spent, HasSpentAll, IsLeastOf, IsClosed, Gathers, most}
+use Rattle.board.specs.Shares.{times}
+use Rattle.board.specs.Progress.{no_fault, Layout, Progress, fault_word}
+use Rattle.board.specs.Finished.{all_drawn, all_failed, all_skipped, all_done, times_spent, HasSpentAll, IsLeastOf, IsFinished}
+use Rattle.board.specs.Words.{once_below}
+use Rattle.board.specs.Rule.{Kept, gathered, IsWhole}
+use Rattle.board.specs.Seats.{layout, progress_of, IsSeated, IsCounted}
+use Rattle.board.specs.Gathering.{Gathers, most}
 use Rattle.board.proofs.Sums.{times-append}
 use Rattle.board.proofs.Counts.{spent_few, nothing}
 use Rattle.board.proofs.Moves.{learns, learns_part, below_one}
@@ -35,9 +39,9 @@ module _ {A : Type 0} (P : A → Type 0) where
   all_last (x ∷ xs) y h = all_last xs y (all_tail x (xs ++ y ∷ []) h)
 
 -- one list more
-more_times : (f : Progress → List ℕ) (p : Progress) (ps : List Progress) (x : ℕ) (xs ys : List ℕ) → times x xs ≡ times x (joined f ps) → ys ≡ f p → times x (xs ++ ys) ≡ times x (joined f (p ∷ ps))
+more_times : (f : Progress → List ℕ) (p : Progress) (ps : List Progress) (x : ℕ) (xs ys : List ℕ) → times x xs ≡ times x (flat_map f ps) → ys ≡ f p → times x (xs ++ ys) ≡ times x (flat_map f (p ∷ ps))
 more_times f p ps x xs ys same is =
-    let a = times-append x xs ys in let b = times-append x (f p) (joined f ps) in let c : times x ys ≡ times x (f p) = ap (times x) is in omega arith
+    let a = times-append x xs ys in let b = times-append x (f p) (flat_map f ps) in let c : times x ys ≡ times x (f p) = ap (times x) is in omega arith
 
 pub gathers : (b : Layout) (g g' : Gathered) (ps : List Progress) (p : Progress) (t : TableId) (number passed jobs seats : ℕ) (me : Me (Unit {0}) SeatView) (trail : List ℕ) (d f s : ℕ)
     → IsSeated number passed jobs seats me × IsCounted me.0 trail d f s → progress_of t number me.0 trail ≡ p
@@ -87,12 +91,12 @@ once_lt x n lt = grind (arith, nat_tests)
 -- the least job that failed, by the fault word
 least_of : (xs : List ℕ) (fault jobs : ℕ) (found : Option ℕ) → fault_word found ≡ fault → IfSome found (λ y. y ≢ no_fault) → jobs ≤ 2 ^ 40
     → (fault ≡ no_fault) ⊎ (0 < times fault xs) → ((x : ℕ) → 0 < times x xs → (x < jobs) × (fault ≤ x)) → IsLeastOf xs found
-least_of xs fault jobs None is real small known least =
+least_of xs fault jobs None is real small found least =
     nothing xs (λ x. elim (dec_le 1 (times x xs)) [
       | yes one ↦ (let l = least x one in let a = l.0 in let b = l.1 in let c : 18446744073709551615 ≡ fault = is in let d : jobs ≤ 1099511627776 = small in absurd (omega arith))
       | no none ↦ omega arith
     ])
-least_of xs fault jobs (Some y) is real small known least = elim known [
+least_of xs fault jobs (Some y) is real small found least = elim found [
   | inl free ↦ absurd (real (is ∙ free))
   | inr there ↦ (subst (λ (z : ℕ). 0 < times z xs) (sym is) there, λ x any. let l = (least x any).1 in omega arith)
 ]
@@ -104,7 +108,7 @@ skipped_above x fault jobs (Some y) is small below above = (y, refl, omega arith
 
 -- all seats of the board
 pub closes : (b : Layout) (g : Gathered) (ps : List Progress) (fault : ℕ) (found : Option ℕ) → Gathers b g ps → IsWhole g.token.me.0 fault
-    → g.token.me.0.jobs ≤ 2 ^ 40 → fault_word found ≡ fault → IfSome found (λ y. y ≢ no_fault) → IsClosed b ps found
+    → g.token.me.0.jobs ≤ 2 ^ 40 → fault_word found ≡ fault → IfSome found (λ y. y ≢ no_fault) → IsFinished b ps found
 closes b g ps fault found h w small is real =
     let j : g.token.me.0.jobs ≡ b.jobs = ap (λ (l : Layout). l.jobs) h.board in
     let n : g.token.me.0.seats ≡ b.seats = ap (λ (l : Layout). l.seats) h.board in
@@ -117,7 +121,7 @@ closes b g ps fault found h w small is real =
           let o = w.all (λ k less. let s = seen k (omega arith) in let e = h.empty k in omega arith) x in
           let d = h.drawn x in let e : once_below x g.token.me.0.jobs ≡ once_below x b.jobs = ap (once_below x) j in let one = once_lt x b.jobs lt in omega arith;
       least = least_of (all_failed ps) fault b.jobs found is real few
-          (elim w.known [ inl free ↦ inl free | inr there ↦ inr (let f = h.failed fault in omega arith) ])
+          (elim w.found [ inl free ↦ inl free | inr there ↦ inr (let f = h.failed fault in omega arith) ])
           (λ x any. let l = w.least x (let f = h.failed x in omega arith) in ((let a = l.0 in omega arith), l.1));
       looked = λ x any. elim (w.looked x (let f = h.looked x in omega arith)) [ inl free ↦ inl free | inr there ↦ inr (let f = h.failed x in omega arith) ];
       skipped = λ x any. skipped_above x fault b.jobs found is few (below x (let s = h.spent x in omega arith)) (w.skipped x (let f = h.skipped x in omega arith));
@@ -150,6 +154,6 @@ nothing_left all (x ∷ items) ps is none = absurd (omega arith)
 
 -- all seats were gathered, and the fault word is that of the table
 pub closes_all : (b : Layout) (g : Gathered) (ps : List Progress) (fault : ℕ) (found : Option ℕ) → Gathers b g ps → (g.token.me.0.parts ≡ g.token.me.0.seats → IsWhole g.token.me.0 fault) → length ps ≡ b.seats
-    → g.token.me.0.jobs ≤ 2 ^ 40 → fault_word found ≡ fault → IfSome found (λ y. y ≢ no_fault) → IsClosed b ps found
+    → g.token.me.0.jobs ≤ 2 ^ 40 → fault_word found ≡ fault → IfSome found (λ y. y ≢ no_fault) → IsFinished b ps found
 closes_all b g ps fault found h whole count small is real =
     closes b g ps fault found h (whole (h.parts ∙ count ∙ sym (ap (λ (l : Layout). l.seats) h.board))) small is real

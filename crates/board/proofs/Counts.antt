@@ -5,8 +5,9 @@ use Rattle.atomic_table.specs.Table.{Me}
 use Rattle.atomic_table.specs.Seated.{TableId}
 use Rattle.board.specs.declared.rule.SeatView.{SeatView}
 use Rattle.board.specs.Shares.{times, one_if_same}
-use Rattle.board.specs.Rule.{drew, saw_empty, has_failed, has_looked, has_skipped, has_looked_for, Looks, no_fault}
-use Rattle.board.specs.Progress.{progress_of, IsSeated, IsCounted, IsUnspent, fault_word}
+use Rattle.board.specs.Progress.{no_fault, IsUnspent, fault_word}
+use Rattle.board.specs.Rule.{drew, saw_empty, has_failed, has_looked, has_skipped, has_looked_for, IsLeastFound}
+use Rattle.board.specs.Seats.{progress_of, IsSeated, IsCounted}
 use Rattle.board.proofs.Sums.{times-snoc, same_tells, same_one, other_zero}
 
 -- the sum of f over the numbers below n
@@ -157,8 +158,8 @@ nothing [] each = refl
 nothing (x ∷ xs) each = absurd (let e = each x in let o = same_one x in omega arith)
 
 -- who finds no fault has failed no job
-pub none_failed : (v u : SeatView) (found : ℕ) → Looks v found u → found ≡ no_fault → v.jobs ≤ 2 ^ 40 → v.failed ≡ []
-none_failed v u found h is small = nothing v.failed (λ x. elim (dec_le 1 (times x v.failed)) [
+pub none_failed : (v : SeatView) (found : ℕ) → IsLeastFound v found → found ≡ no_fault → v.jobs ≤ 2 ^ 40 → v.failed ≡ []
+none_failed v found h is small = nothing v.failed (λ x. elim (dec_le 1 (times x v.failed)) [
   | yes some ↦ (let l = h.failed x some in let a = l.0 in let b = l.1 in let c : found ≡ 18446744073709551615 = is in let d : v.jobs ≤ 1099511627776 = small in absurd (omega arith))
   | no none ↦ omega arith
 ])
@@ -174,8 +175,8 @@ pub seated_as : (number passed jobs seats : ℕ) (me me' : Me (Unit {0}) SeatVie
 seated_as number passed jobs seats me me' h slots u is parts j w empty =
     still_seated number passed jobs seats me me' h slots (ap (λ (v : SeatView). v.parts) is ∙ parts) (ap (λ (v : SeatView). v.jobs) is ∙ j) (ap (λ (v : SeatView). v.seats) is ∙ w) (ap (λ (v : SeatView). v.empty) is ∙ empty)
 
-pub none_looked : (v u : SeatView) (found : ℕ) → Looks v found u → found ≡ no_fault → v.jobs ≤ 2 ^ 40 → (x : ℕ) → 0 < times x v.looked → x ≡ no_fault
-none_looked v u found h is small x any = let l = h.looked x any in elim l.1 [
+pub none_looked : (v : SeatView) (found : ℕ) → IsLeastFound v found → found ≡ no_fault → v.jobs ≤ 2 ^ 40 → (x : ℕ) → 0 < times x v.looked → x ≡ no_fault
+none_looked v found h is small x any = let l = h.looked x any in elim l.1 [
   | inl free ↦ free
   | inr below ↦ (let a = l.0 in let c : found ≡ 18446744073709551615 = is in let d : v.jobs ≤ 1099511627776 = small in absurd (omega arith))
 ]
@@ -185,10 +186,10 @@ pub few_drawn : (v : SeatView) (done : List ℕ) (d f s : ℕ) → IsCounted v d
 few_drawn v done d f s h = let l = spent_few v.drawn v.drawn [] [] v.jobs h.within h.once (λ x. omega arith) in omega arith
 
 -- who finds no fault has failed no job and seen no fault
-pub none_found : (o : Option ℕ) (v u : SeatView) (found : ℕ) → fault_word o ≡ found → Looks v found u → v.jobs ≤ 2 ^ 40 → IfNone o ((v.failed ≡ []) × ((x : ℕ) → 0 < times x v.looked → x ≡ no_fault))
-none_found None v u found is h small = (none_failed v u found h (sym is) small, none_looked v u found h (sym is) small)
-none_found (Some y) v u found is h small = tt
+pub none_found : (o : Option ℕ) (v : SeatView) (found : ℕ) → fault_word o ≡ found → IsLeastFound v found → v.jobs ≤ 2 ^ 40 → IfNone o ((v.failed ≡ []) × ((x : ℕ) → 0 < times x v.looked → x ≡ no_fault))
+none_found None v found is h small = (none_failed v found h (sym is) small, none_looked v found h (sym is) small)
+none_found (Some y) v found is h small = tt
 
 -- what is found is no greater than what the seat failed or looked at
-pub found_least : (v u : SeatView) (found : ℕ) → Looks v found u → (x : ℕ) → 0 < times x v.failed + times x v.looked → found ≤ x
-found_least v u found h x any = elim (dec_le 1 (times x v.failed)) [ yes one ↦ (h.failed x one).1 | no none ↦ (h.looked x (omega arith)).0 ]
+pub found_least : (v : SeatView) (found : ℕ) → IsLeastFound v found → (x : ℕ) → 0 < times x v.failed + times x v.looked → found ≤ x
+found_least v found h x any = elim (dec_le 1 (times x v.failed)) [ yes one ↦ (h.failed x one).1 | no none ↦ (h.looked x (omega arith)).0 ]

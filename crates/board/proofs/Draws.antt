@@ -1,11 +1,12 @@
--- Each step keeps what is known of the numbers drawn.
+-- Each step keeps what holds of the numbers drawn.
 use Rattle.std.proofs.Common.{◌≡◌, ◌≢◌, inl, inr, ℕ, suc, ◌+◌, ◌<◌, ◌≤◌, ◌^◌, List, [], ◌∷◌, ◌++◌, length, set, get_or, refl, sym, ap, ◌∙◌, arith, length-set, get_or-set_same, get_or-set_other}
 use native.Mathlib.Decide.{ℕ_discrete}
 use mathlib.Core.Option.{some, some-ne-none}
 use lib.ListN.{get_elem?}
 use Rattle.board.specs.declared.rule.SeatView.{SeatView}
-use Rattle.board.specs.Shares.{total, times, one_if_same, start, share_len, word_of, claims_of, claimed_in}
-use Rattle.board.specs.Rule.{fresh, drew, saw_empty, Fits, all_drawn, all_empty, KeepsDrawn}
+use Rattle.board.specs.Shares.{times, one_if_same, start}
+use Rattle.board.specs.Words.{total, share_len, word_of, claims_of, claimed_in}
+use Rattle.board.specs.Rule.{fresh, drew, saw_empty, Fits, times_drawn, times_empty, KeepsDrawn}
 use Rattle.board.proofs.Sums.{total_set, times-snoc, same_tells, same_one, other_zero}
 use Rattle.board.proofs.Spans.{in_more, in_full, claimed_set, claimed_none, claimed_same, word_below, word_apart}
 use Rattle.board.proofs.Views.{each_set, each_snoc}
@@ -37,7 +38,7 @@ draws n w words views id v k c h at sits lt is room =
     let sat = h.seats.0 in let few = h.seats.1 in
     let in_words : word_of w k < length words = (let a = h.wide in let b = word_below w k few lt in omega arith) in
     let mine = h.each id v at in
-    let seen : (j : ℕ) → all_empty j (set views id u) ≡ all_empty j views = (λ j. let e = total_set (λ (z : SeatView). times j z.empty) views id v u at in omega arith) in record {
+    let seen : (j : ℕ) → times_empty j (set views id u) ≡ times_empty j views = (λ j. let e = total_set (λ (z : SeatView). times j z.empty) views id v u at in omega arith) in record {
       seats = h.seats;
       jobs = h.jobs;
       wide = length-set words (word_of w k) (suc c) ∙ h.wide;
@@ -70,7 +71,7 @@ sees n w words views id v k c h at sits lt is full =
     let sat = h.seats.0 in let few = h.seats.1 in
     let in_words : word_of w k < length words = (let a = h.wide in let b = word_below w k few lt in omega arith) in
     let mine = h.each id v at in
-    let seen : (j : ℕ) → all_empty j (set views id u) ≡ all_empty j views + one_if_same j k = (λ j. let e = total_set (λ (z : SeatView). times j z.empty) views id v u at in let s = times-snoc j v.empty k in omega arith) in record {
+    let seen : (j : ℕ) → times_empty j (set views id u) ≡ times_empty j views + one_if_same j k = (λ j. let e = total_set (λ (z : SeatView). times j z.empty) views id v u at in let s = times-snoc j v.empty k in omega arith) in record {
       seats = h.seats;
       jobs = h.jobs;
       wide = length-set words (word_of w k) (suc c) ∙ h.wide;
@@ -111,7 +112,7 @@ sees n w words views id v k c h at sits lt is full =
 pub still_drawn : (n w : ℕ) (words words' : List ℕ) (views views' : List SeatView)
     → KeepsDrawn n w words views → length words' ≡ length words → ((k : ℕ) → k < w → claims_of w words' k ≡ claims_of w words k)
     → total (λ (v : SeatView). v.parts) views' ≡ total (λ (v : SeatView). v.parts) views → ((i : ℕ) (v : SeatView) → get_elem? views' i ≡ some v → Fits n w v)
-    → ((x : ℕ) → all_drawn x views' ≡ all_drawn x views) → ((k : ℕ) → all_empty k views' ≡ all_empty k views)
+    → ((x : ℕ) → times_drawn x views' ≡ times_drawn x views) → ((k : ℕ) → times_empty k views' ≡ times_empty k views)
     → KeepsDrawn n w words' views'
 still_drawn n w words words' views views' h long claims parts each drawn empty = record {
   seats = h.seats;

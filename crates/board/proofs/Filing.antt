@@ -1,33 +1,36 @@
 -- What the workers leave, put together.
 use Rattle.std.proofs.Common.{◌≡◌, ◌⊎◌, inl, ℕ, zero, suc, ◌+◌, ◌<◌, ◌≤◌, List, [], ◌∷◌, ◌++◌, map, length, get_or, All, Option, None, Some, replicate, refl, sym, ap, ◌∙◌, subst, arith, append_assoc, append-nil, length-append}
 use Rattle.std.proofs.lemmas.List.Elements.{All-append, All-nil}
+use Rattle.std.specs.List.{flat_map}
 use native.Mathlib.Decide.{dec_le}
 use Rattle.coding.specs.declared.fault.Fault.{Fault}
 use Rattle.board.specs.declared.shift.Shift.{Shift}
 use Rattle.board.specs.Shares.{times}
-use Rattle.board.specs.Progress.{Layout, layout, Progress, HasEachShare, IsUnused, unused, unused_seats}
-use Rattle.board.specs.Closing.{joined, HasSpentAll, IsLeastOf, IsClosed, all_drawn, all_empty, all_done, all_failed, all_skipped, times_spent}
-use Rattle.board.specs.Running.{IsLeastFailed, IsShift, IsFiled, IsPlaced, HasPlace, IsRefused}
+use Rattle.board.specs.Progress.{Layout, Progress, HasEachShare, unused, unused_seats}
+use Rattle.board.specs.Finished.{HasSpentAll, IsLeastOf, IsFinished, all_drawn, all_empty, all_done, all_failed, all_skipped, times_spent}
+use Rattle.board.specs.Running.{IsRefused}
+use Rattle.board.specs.Seats.{IsUnused}
+use Rattle.board.specs.Working.{IsLeastFailed, IsShift, IsFiled, IsPlaced, HasPlace}
 use Rattle.board.proofs.Sums.{times-append, same_one}
 use Rattle.board.proofs.Workings.{all_one}
 use Rattle.board.proofs.Placing.{none_is_not}
 use Rattle.board.proofs.Closings.{all_front, all_last}
 
-pub joined-snoc : (f : Progress → List ℕ) (ps : List Progress) (p : Progress) → joined f (ps ++ p ∷ []) ≡ joined f ps ++ f p
-joined-snoc f [] p = append-nil (f p)
-joined-snoc f (q ∷ ps) p = ap (λ l. f q ++ l) (joined-snoc f ps p) ∙ sym (append_assoc (f q) (joined f ps) (f p))
+pub flat_map-snoc : (f : Progress → List ℕ) (ps : List Progress) (p : Progress) → flat_map f (ps ++ p ∷ []) ≡ flat_map f ps ++ f p
+flat_map-snoc f [] p = append-nil (f p)
+flat_map-snoc f (q ∷ ps) p = ap (λ l. f q ++ l) (flat_map-snoc f ps p) ∙ sym (append_assoc (f q) (flat_map f ps) (f p))
 
-times_joined : (x : ℕ) (f : Progress → List ℕ) (ps : List Progress) (p : Progress) → times x (joined f (ps ++ p ∷ [])) ≡ times x (joined f ps) + times x (f p)
-times_joined x f ps p = ap (times x) (joined-snoc f ps p) ∙ times-append x (joined f ps) (f p)
+times-flat_map : (x : ℕ) (f : Progress → List ℕ) (ps : List Progress) (p : Progress) → times x (flat_map f (ps ++ p ∷ [])) ≡ times x (flat_map f ps) + times x (f p)
+times-flat_map x f ps p = ap (times x) (flat_map-snoc f ps p) ∙ times-append x (flat_map f ps) (f p)
 
 all_none : {O : Type 0} (n i : ℕ) → get_or (replicate {A = Option O} n None) i None ≡ None
 all_none zero i = refl
 all_none (suc n) zero = refl
 all_none (suc n) (suc i) = all_none n i
 
-module _ {O : Type 0} (refusal : ℕ → Option Fault) (holds : ℕ → O → Type 0) (of : Layout) where
+module _ {O : Type 0} (refusal : ℕ → Option Fault) (gives : ℕ → O → Type 0) (of : Layout) where
   -- nothing came back yet
-  pub files_none : (places : List (Option O)) → places ≡ replicate of.jobs None → length places ≡ of.jobs → IsFiled refusal holds of [] places None
+  pub files_none : (places : List (Option O)) → places ≡ replicate of.jobs None → length places ≡ of.jobs → IsFiled refusal gives of [] places None
   files_none places is long = record {
     boards = All-nil (λ p. p.board ≡ of);
     spent = All-nil HasSpentAll;
@@ -39,23 +42,23 @@ module _ {O : Type 0} (refusal : ℕ → Option Fault) (holds : ℕ → O → Ty
   }
 
   pub files_more : (ps : List Progress) (places places' : List (Option O)) (refused refused' : Option (ℕ × Fault)) (s : Shift O)
-      → IsFiled refusal holds of ps places refused → IsShift refusal holds of s
-      → IsPlaced refusal holds places' → length places' ≡ length places → ((i : ℕ) → HasPlace places i → HasPlace places' i) → ((i : ℕ) → 0 < times i (map (λ r. r.0) s.results.items) → HasPlace places' i)
+      → IsFiled refusal gives of ps places refused → IsShift refusal gives of s
+      → IsPlaced refusal gives places' → length places' ≡ length places → ((i : ℕ) → HasPlace places i → HasPlace places' i) → ((i : ℕ) → 0 < times i (map (λ r. r.0) s.results.items) → HasPlace places' i)
       → IsLeastFailed refusal (all_failed ps ++ s.seat.failed) refused'
-      → IsFiled refusal holds of (ps ++ s.seat ∷ []) places' refused'
+      → IsFiled refusal gives of (ps ++ s.seat ∷ []) places' refused'
   files_more ps places places' refused refused' s h w placed long kept new least = record {
     boards = All-append (λ p. p.board ≡ of) ps (s.seat ∷ []) h.boards (all_one (λ p. p.board ≡ of) s.seat w.works.board);
     spent = All-append HasSpentAll ps (s.seat ∷ []) h.spent (all_one HasSpentAll s.seat (λ x. let q = w.works.spent x in omega arith));
-    empty = λ any k lt. let e = times_joined k (λ p. p.empty) ps s.seat in let t = w.empty k lt in omega arith;
+    empty = λ any k lt. let e = times-flat_map k (λ p. p.empty) ps s.seat in let t = w.empty k lt in omega arith;
     long = long ∙ h.long;
     placed = placed;
     done = λ i any.
-        let e = times_joined i (λ p. p.done) ps s.seat in
+        let e = times-flat_map i (λ p. p.done) ps s.seat in
         elim (dec_le 1 (times i (all_done ps))) [
           | yes old ↦ kept i (h.done i old)
           | no none ↦ new i (let d : times i s.seat.done ≡ times i (map (λ r. r.0) s.results.items) = ap (times i) w.works.done in omega arith)
         ];
-    least = subst (λ (l : List ℕ). IsLeastFailed refusal l refused') (sym (joined-snoc (λ p. p.failed) ps s.seat)) least;
+    least = subst (λ (l : List ℕ). IsLeastFailed refusal l refused') (sym (flat_map-snoc (λ p. p.failed) ps s.seat)) least;
   }
 
 -- of two least jobs the lesser
@@ -77,7 +80,7 @@ least_right refusal xs ys r h less = (
 )
 
 -- a number that was drawn by somebody, and neither failed nor skipped, was done
-module _ (of : Layout) (ps : List Progress) (found : Option ℕ) (c : IsClosed of ps found) (spent : (x : ℕ) → times_spent x ps ≡ times x (all_drawn ps)) (all : HasEachShare of.seats (all_empty ps)) where
+module _ (of : Layout) (ps : List Progress) (found : Option ℕ) (c : IsFinished of ps found) (spent : (x : ℕ) → times_spent x ps ≡ times x (all_drawn ps)) (all : HasEachShare of.seats (all_empty ps)) where
   -- a job that was skipped lies above one that failed
   skipped_tells : (i : ℕ) → 0 < times i (all_skipped ps) → (y : ℕ) × (0 < times y (all_failed ps)) × (y < i)
   skipped_tells i one =
@@ -117,13 +120,13 @@ numbers_within [] n each k d lt = absurd (omega arith)
 numbers_within (r ∷ rs) n each zero d lt = each r.0 (let o = same_one r.0 in omega arith)
 numbers_within (r ∷ rs) n each (suc k) d lt = numbers_within rs n (λ x any. each x (omega arith)) k d (omega arith)
 
-pub shift_within : {O : Type 0} (refusal : ℕ → Option Fault) (holds : ℕ → O → Type 0) (of : Layout) (s : Shift O) (n : ℕ) → IsShift refusal holds of s → n ≡ of.jobs → All (λ (r : ℕ × O). r.0 < n) s.results.items
-shift_within refusal holds of s n h is = numbers_within s.results.items n (λ x any. let t : times x s.seat.done ≡ times x (map (λ r. r.0) s.results.items) = ap (times x) h.works.done in let w = h.works.within x (omega arith) in omega arith)
+pub shift_within : {O : Type 0} (refusal : ℕ → Option Fault) (gives : ℕ → O → Type 0) (of : Layout) (s : Shift O) (n : ℕ) → IsShift refusal gives of s → n ≡ of.jobs → All (λ (r : ℕ × O). r.0 < n) s.results.items
+shift_within refusal gives of s n h is = numbers_within s.results.items n (λ x any. let t : times x s.seat.done ≡ times x (map (λ r. r.0) s.results.items) = ap (times x) h.works.done in let w = h.works.within x (omega arith) in omega arith)
 
-pub last_shift : {O : Type 0} (refusal : ℕ → Option Fault) (holds : ℕ → O → Type 0) (of : Layout) (items rest : List (Shift O)) (s : Shift O) → All (IsShift refusal holds of) items → items ≡ rest ++ s ∷ [] → IsShift refusal holds of s × All (IsShift refusal holds of) rest
-last_shift refusal holds of items rest s h is =
-    let all : All (IsShift refusal holds of) (rest ++ s ∷ []) = subst (All (IsShift refusal holds of)) is h in
-    (all_last (IsShift refusal holds of) rest s all, all_front (IsShift refusal holds of) rest (s ∷ []) all)
+pub last_shift : {O : Type 0} (refusal : ℕ → Option Fault) (gives : ℕ → O → Type 0) (of : Layout) (items rest : List (Shift O)) (s : Shift O) → All (IsShift refusal gives of) items → items ≡ rest ++ s ∷ [] → IsShift refusal gives of s × All (IsShift refusal gives of) rest
+last_shift refusal gives of items rest s h is =
+    let all : All (IsShift refusal gives of) (rest ++ s ∷ []) = subst (All (IsShift refusal gives of)) is h in
+    (all_last (IsShift refusal gives of) rest s all, all_front (IsShift refusal gives of) rest (s ∷ []) all)
 
 -- the seats of a new board
 pub unused_free : (b : Layout) (m : ℕ) → m ≤ b.seats → All (IsUnused b) (unused_seats b m)
@@ -135,22 +138,21 @@ length-unused_seats b zero = refl
 length-unused_seats b (suc m) = let e = length-unused_seats b m in omega (arith, length-append (unused_seats b m) (unused b m ∷ []))
 
 -- the end of a run in which a job failed
-pub refused_least : {O : Type 0} (refusal : ℕ → Option Fault) (holds : ℕ → O → Type 0) (of : Layout) (ps : List Progress) (places : List (Option O)) (r : ℕ × Fault) (found : Option ℕ)
-    → IsFiled refusal holds of ps places (Some r) → IsClosed of ps found → ((x : ℕ) → times_spent x ps ≡ times x (all_drawn ps)) → 0 < length ps → IsRefused refusal holds of.jobs r.0 r.1
-refused_least refusal holds of ps places r found h c spent any = record {
+pub refused_least : {O : Type 0} (refusal : ℕ → Option Fault) (gives : ℕ → O → Type 0) (of : Layout) (ps : List Progress) (places : List (Option O)) (r : ℕ × Fault) (found : Option ℕ)
+    → IsFiled refusal gives of ps places (Some r) → IsFinished of ps found → ((x : ℕ) → times_spent x ps ≡ times x (all_drawn ps)) → 0 < length ps → IsRefused refusal gives of.jobs r.0 r.1
+refused_least refusal gives of ps places r found h c spent any = record {
   within = failed_within of ps found c spent (h.empty any) r.0 h.least.0;
   before = λ i lt. let p = h.done i (done_below of ps found c spent (h.empty any) r.0 h.least.0 h.least.1 i lt) in (p.0, h.placed i p.0 p.1);
   refused = h.least.2;
 }
 
 -- the end of a run in which none did
-pub each_placed : {O : Type 0} (refusal : ℕ → Option Fault) (holds : ℕ → O → Type 0) (of : Layout) (ps : List Progress) (places : List (Option O)) (found : Option ℕ)
-    → IsFiled refusal holds of ps places None → IsClosed of ps found → ((x : ℕ) → times_spent x ps ≡ times x (all_drawn ps)) → 0 < length ps → (i : ℕ) → i < length places → HasPlace places i
-each_placed refusal holds of ps places found h c spent any i lt = h.done i (done_all of ps found c spent (h.empty any) h.least i (let l = h.long in omega arith))
+pub each_placed : {O : Type 0} (refusal : ℕ → Option Fault) (gives : ℕ → O → Type 0) (of : Layout) (ps : List Progress) (places : List (Option O)) (found : Option ℕ)
+    → IsFiled refusal gives of ps places None → IsFinished of ps found → ((x : ℕ) → times_spent x ps ≡ times x (all_drawn ps)) → 0 < length ps → (i : ℕ) → i < length places → HasPlace places i
+each_placed refusal gives of ps places found h c spent any i lt = h.done i (done_all of ps found c spent (h.empty any) h.least i (let l = h.long in omega arith))
 
-pub new_seats : (b : Layout) (w : ℕ) (ps : List Progress) → b ≡ layout b.table b.jobs w → ps ≡ unused_seats b w → All (IsUnused b) ps × (length ps ≡ w) × (b.seats ≡ w)
-new_seats b w ps is seats =
-    let s : b.seats ≡ w = ap (λ (l : Layout). l.seats) is in
+pub new_seats : (b : Layout) (w : ℕ) (ps : List Progress) → b.seats ≡ w → ps ≡ unused_seats b w → All (IsUnused b) ps × (length ps ≡ w) × (b.seats ≡ w)
+new_seats b w ps s seats =
     (subst (All (IsUnused b)) (sym seats) (unused_free b w (omega arith)), ap length seats ∙ length-unused_seats b w, s)
 
 pub not_none : (w : ℕ) (R : Type 0) → ((w ≡ 0) ⊎ (64 < w) → R) → (R → ⊥) → 0 < w

@@ -1,5 +1,5 @@
 -- What a seat may do at its board.
-use Rattle.std.proofs.Common.{◌≡◌, ◌⊎◌, inl, inr, ℕ, suc, ◌+◌, ◌-◌, ◌<◌, ◌≤◌, ◌^◌, ◌%◌, min, List, [], ◌∷◌, ◌++◌, length, set, get_or, refl, sym, ap, ◌∙◌, subst, arith, length-set, get_or-set_same, get_or-set_other, replicate, Bool, true, false, cond, ltb, ltb-true}
+use Rattle.std.proofs.Common.{◌≡◌, inl, inr, ℕ, suc, ◌+◌, ◌-◌, ◌<◌, ◌≤◌, ◌^◌, ◌%◌, min, List, [], ◌∷◌, ◌++◌, length, set, get_or, refl, sym, ap, ◌∙◌, subst, arith, length-set, get_or-set_same, get_or-set_other, replicate, Bool, true, false, cond, ltb, ltb-true}
 use Rattle.std.proofs.lemmas.Bool.Decides.{nat_tests}
 use Rattle.std.proofs.lemmas.List.{set-get_or, get_or-replicate}
 use native.Mathlib.Decide.{dec_le}
@@ -9,8 +9,10 @@ use Rattle.atomic_table.specs.Table.{State, Me, step, keeps, Allows, Splits, Joi
 use Rattle.atomic_table.proofs.Lists.{at_set}
 use Rattle.board.specs.declared.rule.SeatView.{SeatView}
 use Rattle.board.specs.declared.rule.Extent.{Extent}
-use Rattle.board.specs.Shares.{total, times, once_below, start, share_len, word_of, claims_of}
-use Rattle.board.specs.Rule.{fresh, drew, saw_empty, has_failed, has_looked, has_skipped, gathered, HasNoLists, Fits, all_drawn, all_empty, all_failed, all_looked, all_skipped, KeepsDrawn, KeepsSkipped, BoardRule, Kept, Claims, Claimed, Looked, Settled, Skipped, has_looked_for, IsWhole, fault_of, no_fault, opening_words}
+use Rattle.board.specs.Shares.{times, start}
+use Rattle.board.specs.Progress.{no_fault}
+use Rattle.board.specs.Words.{total, once_below, share_len, word_of, claims_of}
+use Rattle.board.specs.Rule.{fresh, drew, saw_empty, has_failed, has_looked, has_skipped, gathered, HasNoLists, Fits, times_drawn, times_empty, times_failed, times_looked, times_skipped, KeepsDrawn, KeepsSkipped, BoardRule, Kept, Claims, Claimed, Looked, Settled, Skipped, has_looked_for, IsLeastFound, IsWhole, fault_of, opening_words}
 use Rattle.board.proofs.Sums.{total_set, total-snoc, le-total, total_le, total_only, times-append, times-snoc, same_one}
 use Rattle.board.proofs.Spans.{claimed_le, claimed_all, start_rises, start_zero, start_end, start_le, word_below, word_apart}
 use Rattle.board.proofs.Views.{each_set, each_snoc}
@@ -18,7 +20,7 @@ use Rattle.board.proofs.Draws.{draws, sees, still_drawn, opens}
 use Rattle.board.proofs.Faults.{still_failed, still_skipped, settles, looks, skips, no_faults}
 
 -- no claim word wraps
-all_empty_few : (n w : ℕ) (words : List ℕ) (views : List SeatView) (k : ℕ) → KeepsDrawn n w words views → all_empty k views ≤ 64
+all_empty_few : (n w : ℕ) (words : List ℕ) (views : List SeatView) (k : ℕ) → KeepsDrawn n w words views → times_empty k views ≤ 64
 all_empty_few n w words views k h =
     let t = total_le (λ (v : SeatView). times k v.empty) (λ (v : SeatView). v.parts) views (λ i v at. (h.each i v at).once k) in
     let p = h.parts in let few = h.seats.1 in omega arith
@@ -28,7 +30,7 @@ claims_few n w words views k h lt =
     let b = h.bounded k lt in let e = all_empty_few n w words views k h in let l = start_le n w (suc k) h.seats.0 lt in let j = h.jobs in omega arith
 
 -- no number is claimed twice
-drawn_once : (n w : ℕ) (words : List ℕ) (views : List SeatView) (x : ℕ) → KeepsDrawn n w words views → all_drawn x views ≤ once_below x n
+drawn_once : (n w : ℕ) (words : List ℕ) (views : List SeatView) (x : ℕ) → KeepsDrawn n w words views → times_drawn x views ≤ once_below x n
 drawn_once n w words views x h =
     let d = h.drawn x in
     let l = claimed_le (start n w) (claims_of w words) x w (λ k. start_rises n w k h.seats.0) in
@@ -56,7 +58,7 @@ claim_step v words views id k h at lt once =
           let e = total_set (λ (z : SeatView). times x z.drawn) views id v u at in
           let s = times-snoc x v.drawn x in let o = same_one x in
           let b = below_one x n in let b0 = b.0 in
-          let mine : times x v.drawn ≤ all_drawn x views = le-total (λ (z : SeatView). times x z.drawn) views id v at in (
+          let mine : times x v.drawn ≤ times_drawn x views = le-total (λ (z : SeatView). times x z.drawn) views id v at in (
             u,
             subst (λ (m : ℕ). BoardRule n w (set words i m) (set views id u)) next record {
               drawn = new;
@@ -85,19 +87,19 @@ claim_step v words views id k h at lt once =
     ]
 
 -- a seat's view has the numbers of jobs and seats of the board
-known_extent : (n w : ℕ) (words : List ℕ) (views : List SeatView) (id : ℕ) (v : SeatView) → KeepsDrawn n w words views → get_elem? views id ≡ some v → 0 < v.parts → (v.jobs ≡ n) × (v.seats ≡ w)
-known_extent n w words views id v h at sits = (h.each id v at).same sits
+extent_of : (n w : ℕ) (words : List ℕ) (views : List SeatView) (id : ℕ) (v : SeatView) → KeepsDrawn n w words views → get_elem? views id ≡ some v → 0 < v.parts → (v.jobs ≡ n) × (v.seats ≡ w)
+extent_of n w words views id v h at sits = (h.each id v at).same sits
 
 pub claims : (e : Extent) (slots id : ℕ) (me : Me (Unit {0}) SeatView) (k : ℕ) → k < me.0.seats → times k me.0.empty < me.0.parts
     → Allows (Kept e) slots id me (word_of me.0.seats k) (λ x. (x + 1) % 2 ^ 64) (Claimed (step slots (word_of me.0.seats k) 1 0 none) me)
 claims e slots id me k lt once s h len at small =
     let v = me.0 in
-    let is = known_extent e.jobs e.seats s.words s.views id v h.drawn at (omega arith) in
+    let is = extent_of e.jobs e.seats s.words s.views id v h.drawn at (omega arith) in
     let here = subst (λ (z : ℕ × ℕ). BoardRule z.0 z.1 s.words s.views) (λ i. (sym is.0 i, sym is.1 i)) h in
     let r = claim_step v s.words s.views id k here at lt once in
-    let told_of : (j : ℕ) → j < v.seats → word_of v.seats k ≡ word_of v.seats j → Claims v j (claims_of v.seats s.words k) r.0 =
+    let claimed_of : (j : ℕ) → j < v.seats → word_of v.seats k ≡ word_of v.seats j → Claims v j (claims_of v.seats s.words k) r.0 =
     (λ j less same. subst (λ (i : ℕ). Claims v i (claims_of v.seats s.words k) r.0) (word_apart v.seats k j (omega arith) here.drawn.seats.1 same) r.2) in
-    (r.0, keeps, tt, subst (λ (z : ℕ × ℕ). BoardRule z.0 z.1 (set s.words (word_of v.seats k) ((claims_of v.seats s.words k + 1) % 2 ^ 64)) (set s.views id r.0)) (λ i. (is.0 i, is.1 i)) r.1, (told_of, refl))
+    (r.0, keeps, tt, subst (λ (z : ℕ × ℕ). BoardRule z.0 z.1 (set s.words (word_of v.seats k) ((claims_of v.seats s.words k + 1) % 2 ^ 64)) (set s.views id r.0)) (λ i. (is.0 i, is.1 i)) r.1, (claimed_of, refl))
 
 -- the same at the word's number
 pub claims_at : (e : Extent) (slots id : ℕ) (me : Me (Unit {0}) SeatView) (k word : ℕ) → word ≡ word_of me.0.seats k → k < me.0.seats → times k me.0.empty < me.0.parts
@@ -107,8 +109,8 @@ claims_at e slots id me k word is lt once = subst (λ (i : ℕ). Allows (Kept e)
 -- the seats' lists are put together or apart, and the words stay
 rearranged : (n w : ℕ) (words : List ℕ) (views views' : List SeatView) → BoardRule n w words views
     → total (λ (v : SeatView). v.parts) views' ≡ total (λ (v : SeatView). v.parts) views → ((i : ℕ) (v : SeatView) → get_elem? views' i ≡ some v → Fits n w v)
-    → ((x : ℕ) → all_drawn x views' ≡ all_drawn x views) → ((k : ℕ) → all_empty k views' ≡ all_empty k views)
-    → ((x : ℕ) → all_failed x views' ≡ all_failed x views) → ((x : ℕ) → all_looked x views' ≡ all_looked x views) → ((x : ℕ) → all_skipped x views' ≡ all_skipped x views)
+    → ((x : ℕ) → times_drawn x views' ≡ times_drawn x views) → ((k : ℕ) → times_empty k views' ≡ times_empty k views)
+    → ((x : ℕ) → times_failed x views' ≡ times_failed x views) → ((x : ℕ) → times_looked x views' ≡ times_looked x views) → ((x : ℕ) → times_skipped x views' ≡ times_skipped x views)
     → BoardRule n w words views'
 rearranged n w words views views' h parts each drawn empty failed looked skipped = record {
   drawn = still_drawn n w words words views views' h.drawn refl (λ k lt. refl) parts each drawn empty;
@@ -153,7 +155,7 @@ pub settle_step : (e : Extent) (slots id : ℕ) (me : Me (Unit {0}) SeatView) (j
     → Allows (Kept e) slots id me 64 (λ x. min x j) (Settled (step slots 64 j 0 none) me)
 settle_step e slots id me j sits small s h len at range =
     let v = me.0 in let u : SeatView = has_failed v j in
-    let is = known_extent e.jobs e.seats s.words s.views id v h.drawn at sits in
+    let is = extent_of e.jobs e.seats s.words s.views id v h.drawn at sits in
     let mine = h.drawn.each id v at in
     let words : List ℕ = set s.words 64 (min (fault_of s.words) j) in
     let wide : 64 < length s.words = (let l = h.drawn.wide in omega arith) in
@@ -194,23 +196,21 @@ look_kept e s id v u h at sits parts jobs seats drawn empty failed looked skippe
       skipped = skipped;
     }
 
--- what a look tells
-told : (e : Extent) (s : State (Unit {0}) SeatView) (id : ℕ) (v : SeatView) → Kept e s → get_elem? s.views id ≡ some v → 0 < v.parts
-    → ((x : ℕ) → 0 < times x v.failed → (x < v.jobs) × (fault_of s.words ≤ x)) × ((x : ℕ) → 0 < times x v.looked → (fault_of s.words ≤ x) × ((x ≡ no_fault) ⊎ (x < v.jobs)))
-told e s id v h at sits =
-    let is = (h.drawn.each id v at).same sits in (
-      λ x any. let t = le-total (λ (z : SeatView). times x z.failed) s.views id v at in let l = h.failed.least x (omega arith) in ((let a = l.0 in let b = is.0 in omega arith), l.1),
-      λ x any.
+-- what a look finds
+least_found : (e : Extent) (s : State (Unit {0}) SeatView) (id : ℕ) (v : SeatView) → Kept e s → get_elem? s.views id ≡ some v → 0 < v.parts → IsLeastFound v (fault_of s.words)
+least_found e s id v h at sits =
+    let is = (h.drawn.each id v at).same sits in record {
+      failed = λ x any. let t = le-total (λ (z : SeatView). times x z.failed) s.views id v at in let l = h.failed.least x (omega arith) in ((let a = l.0 in let b = is.0 in omega arith), l.1);
+      looked = λ x any.
           let t = le-total (λ (z : SeatView). times x z.looked) s.views id v at in
           let l = h.failed.looked x (omega arith) in
-          (l.0, elim l.1 [ inl free ↦ inl free | inr there ↦ inr (let a = (h.failed.least x there).0 in let b = is.0 in omega arith) ]),
-    )
+          (l.0, elim l.1 [ inl free ↦ inl free | inr there ↦ inr (let a = (h.failed.least x there).0 in let b = is.0 in omega arith) ]);
+    }
 
 pub look_step : (e : Extent) (slots id : ℕ) (me : Me (Unit {0}) SeatView) → 0 < me.0.parts
     → Allows (Kept e) slots id me 64 (λ x. x) (Looked (step slots 64 0 0 none) me)
 look_step e slots id me sits s h len at range =
     let v = me.0 in let r = fault_of s.words in let u : SeatView = has_looked v r in
-    let t = told e s id v h at sits in
     let same : (f : SeatView → ℕ) → f u ≡ f v → total f (set s.views id u) ≡ total f s.views = (λ f e. let q = total_set f s.views id v u at in omega arith) in (
       u,
       keeps,
@@ -218,14 +218,14 @@ look_step e slots id me sits s h len at range =
       subst (λ (ws : List ℕ). BoardRule e.jobs e.seats ws (set s.views id u)) (sym (set-get_or s.words 64 0))
           (look_kept e s id v u h at sits refl refl refl refl refl refl refl
           (still_skipped s.words s.words s.views (set s.views id u) h.skipped (omega arith) (λ x. same (λ z. times x z.skipped) refl))),
-      (record { view = refl; failed = t.0; looked = t.1 }, refl),
+      (refl, least_found e s id v h at sits, refl),
     )
 
 pub skip_step : (e : Extent) (slots id : ℕ) (me : Me (Unit {0}) SeatView) (x : ℕ) → 0 < me.0.parts
     → Allows (Kept e) slots id me 64 (λ n. n) (Skipped x (step slots 64 0 0 none) me)
 skip_step e slots id me x sits s h len at range =
     let v = me.0 in let r = fault_of s.words in let u : SeatView = has_looked_for v x r in
-    (u, keeps, tt, subst (λ (ws : List ℕ). BoardRule e.jobs e.seats ws (set s.views id u)) (sym (set-get_or s.words 64 0)) (by_test (ltb r x) refl), (refl, refl))
+    (u, keeps, tt, subst (λ (ws : List ℕ). BoardRule e.jobs e.seats ws (set s.views id u)) (sym (set-get_or s.words 64 0)) (by_test (ltb r x) refl), (refl, least_found e s id v h at sits, refl))
   where
     v : SeatView
     v = me.0
@@ -253,11 +253,11 @@ learns e id v s seen sits whole =
     let all_parts : total (λ (z : SeatView). z.parts) s.views ≡ v.parts = (let p = h.drawn.parts in let q = is.1 in omega arith) in
     let mine : (f : SeatView → ℕ) → ((z : SeatView) → HasNoLists z → f z ≡ 0) → total f s.views ≡ f v =
     (λ f zero. total_only (λ (z : SeatView). z.parts) f s.views id v (λ j b there none. zero b ((h.drawn.each j b there).spent none)) at all_parts) in
-    let drawn : (x : ℕ) → all_drawn x s.views ≡ times x v.drawn = (λ x. mine (λ z. times x z.drawn) (λ z n. ap (times x) n.0)) in
-    let empty : (x : ℕ) → all_empty x s.views ≡ times x v.empty = (λ x. mine (λ z. times x z.empty) (λ z n. ap (times x) n.1)) in
-    let failed : (x : ℕ) → all_failed x s.views ≡ times x v.failed = (λ x. mine (λ z. times x z.failed) (λ z n. ap (times x) n.2)) in
-    let looked : (x : ℕ) → all_looked x s.views ≡ times x v.looked = (λ x. mine (λ z. times x z.looked) (λ z n. ap (times x) n.3)) in
-    let skipped : (x : ℕ) → all_skipped x s.views ≡ times x v.skipped = (λ x. mine (λ z. times x z.skipped) (λ z n. ap (times x) n.4)) in record {
+    let drawn : (x : ℕ) → times_drawn x s.views ≡ times x v.drawn = (λ x. mine (λ z. times x z.drawn) (λ z n. ap (times x) n.0)) in
+    let empty : (x : ℕ) → times_empty x s.views ≡ times x v.empty = (λ x. mine (λ z. times x z.empty) (λ z n. ap (times x) n.1)) in
+    let failed : (x : ℕ) → times_failed x s.views ≡ times x v.failed = (λ x. mine (λ z. times x z.failed) (λ z n. ap (times x) n.2)) in
+    let looked : (x : ℕ) → times_looked x s.views ≡ times x v.looked = (λ x. mine (λ z. times x z.looked) (λ z n. ap (times x) n.3)) in
+    let skipped : (x : ℕ) → times_skipped x s.views ≡ times x v.skipped = (λ x. mine (λ z. times x z.skipped) (λ z n. ap (times x) n.4)) in record {
       once = λ x. let d = drawn x in let o = drawn_once e.jobs e.seats s.words s.views x h.drawn in let n : once_below x v.jobs ≡ once_below x e.jobs = ap (once_below x) is.0 in omega arith;
       all = λ seen x.
           let c = claimed_all (start e.jobs e.seats) (claims_of e.seats s.words) x e.seats (λ k. start_rises e.jobs e.seats k h.drawn.seats.0) (start_zero e.jobs e.seats)
@@ -265,7 +265,7 @@ learns e id v s seen sits whole =
           let en : once_below x (start e.jobs e.seats e.seats) ≡ once_below x e.jobs = ap (once_below x) (start_end e.jobs e.seats h.drawn.seats.0) in
           let n : once_below x v.jobs ≡ once_below x e.jobs = ap (once_below x) is.0 in
           let d = drawn x in let w = h.drawn.drawn x in omega arith;
-      known = elim h.failed.known [ inl free ↦ inl free | inr there ↦ inr (let f = failed (fault_of s.words) in omega arith) ];
+      found = elim h.failed.found [ inl free ↦ inl free | inr there ↦ inr (let f = failed (fault_of s.words) in omega arith) ];
       least = λ x any. let l = h.failed.least x (let f = failed x in omega arith) in ((let a = l.0 in let b = is.0 in omega arith), l.1);
       looked = λ x any. elim (h.failed.looked x (let f = looked x in omega arith)).1 [ inl free ↦ inl free | inr there ↦ inr (let f = failed x in omega arith) ];
       skipped = λ x any. h.skipped.above x (let f = skipped x in omega arith);
@@ -289,4 +289,4 @@ learns_part e id v s seen sits x =
     let is = (h.drawn.each id v at).same sits in
     let o = drawn_once e.jobs e.seats s.words s.views x h.drawn in
     let n : once_below x v.jobs ≡ once_below x e.jobs = ap (once_below x) is.0 in
-    let m : times x v.drawn ≤ all_drawn x s.views = le-total (λ (z : SeatView). times x z.drawn) s.views id v at in omega arith
+    let m : times x v.drawn ≤ times_drawn x s.views = le-total (λ (z : SeatView). times x z.drawn) s.views id v at in omega arith

@@ -5,7 +5,8 @@ use Rattle.std.proofs.Math.Seq.{get_or-append_seam}
 use native.Mathlib.Decide.{ℕ_discrete, dec_le}
 use Rattle.coding.specs.declared.fault.Fault.{Fault}
 use Rattle.board.specs.Shares.{times}
-use Rattle.board.specs.Running.{IsResult, IsPlaced, HasPlace}
+use Rattle.board.specs.Running.{IsResult}
+use Rattle.board.specs.Working.{IsPlaced, HasPlace}
 use Rattle.board.proofs.Sums.{same_tells}
 
 some_is : {A : Type 0} (a b : A) → Some a ≡ Some b → a ≡ b
@@ -24,11 +25,11 @@ module _ {O : Type 0} (places : List (Option O)) (n : ℕ) (out : O) (lt : n < l
     | no apart ↦ (h.0, get_or-set_other places n i (Some out) None apart ∙ h.1)
   ]
 
-  pub placed_set : (refusal : ℕ → Option Fault) (holds : ℕ → O → Type 0) → IsPlaced refusal holds places → IsResult refusal holds (n, out) → IsPlaced refusal holds (set places n (Some out))
-  placed_set refusal holds h is i o e = elim (ℕ_discrete i n) [
+  pub placed_set : (refusal : ℕ → Option Fault) (gives : ℕ → O → Type 0) → IsPlaced refusal gives places → IsResult refusal gives (n, out) → IsPlaced refusal gives (set places n (Some out))
+  placed_set refusal gives h is i o e = elim (ℕ_discrete i n) [
     | yes same ↦
         let now : Some out ≡ Some o = sym (ap (λ (j : ℕ). get_or (set places n (Some out)) j None) same ∙ get_or-set_same places n (Some out) None lt) ∙ e in
-        subst (IsResult refusal holds) (λ k. (sym same k, some_is out o now k)) is
+        subst (IsResult refusal gives) (λ k. (sym same k, some_is out o now k)) is
     | no apart ↦ h i o (sym (get_or-set_other places n i (Some out) None apart) ∙ e)
   ]
 
@@ -46,11 +47,11 @@ pub read_is : {O : Type 0} (places was : List (Option O)) (i : ℕ) (read : Opti
 read_is places was i read out lt same is some = sym same ∙ sym (get_or_default places i read None lt) ∙ sym is ∙ sym some
 
 -- one result more in order
-pub holds_more : {O : Type 0} (holds : ℕ → O → Type 0) (rs : List O) (i : ℕ) (out : O) → length rs ≡ i → ((k : ℕ) (d : O) → k < i → holds k (get_or rs k d)) → holds i out → (k : ℕ) (d : O) → k < i + 1 → holds k (get_or (rs ++ out ∷ []) k d)
-holds_more {O} holds rs i out len before is k d lt = elim (dec_le i k) [
+pub holds_more : {O : Type 0} (gives : ℕ → O → Type 0) (rs : List O) (i : ℕ) (out : O) → length rs ≡ i → ((k : ℕ) (d : O) → k < i → gives k (get_or rs k d)) → gives i out → (k : ℕ) (d : O) → k < i + 1 → gives k (get_or (rs ++ out ∷ []) k d)
+holds_more {O} gives rs i out len before is k d lt = elim (dec_le i k) [
   | yes le ↦
       let same : i ≡ k = omega arith in
       let read : get_or (rs ++ out ∷ []) k d ≡ out = ap (λ (j : ℕ). get_or (rs ++ out ∷ []) j d) (sym same ∙ sym len) ∙ get_or-append_seam rs out [] d in
-      subst (λ (z : ℕ × O). holds z.0 z.1) (λ j. (same j, sym read j)) is
-  | no above ↦ subst (holds k) (sym (get_or_append_left rs (out ∷ []) d k (omega arith))) (before k d (omega arith))
+      subst (λ (z : ℕ × O). gives z.0 z.1) (λ j. (same j, sym read j)) is
+  | no above ↦ subst (gives k) (sym (get_or_append_left rs (out ∷ []) d k (omega arith))) (before k d (omega arith))
 ]

@@ -5,7 +5,8 @@ use lib.Ieee.Nearest.{div_mono}
 use native.Mathlib.Decide.{ℕ_discrete, dec_le}
 use Rattle.std.proofs.Math.Nat.{le-div_iff_mul-le, mul-div-le}
 use native.Mathlib.Nat.{zero-div}
-use Rattle.board.specs.Shares.{one_if_same, once_below, start, word_of, claimed_in, claimed}
+use Rattle.board.specs.Shares.{one_if_same, start}
+use Rattle.board.specs.Words.{once_below, word_of, claimed_in, claimed}
 
 -- one more claim of a share that is not used up
 pub in_more : (first : ℕ → ℕ) (x k c : ℕ) → c < first (suc k) - first k → claimed_in first x k (suc c) ≡ claimed_in first x k c + one_if_same x (first k + c)

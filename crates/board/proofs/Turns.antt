@@ -7,9 +7,10 @@ use Rattle.atomic_table.specs.Seated.{TableId}
 use Rattle.atomic_table.proofs.Lists.{one_turn}
 use Rattle.board.specs.declared.rule.SeatView.{SeatView}
 use Rattle.board.specs.declared.share.Share.{Share}
-use Rattle.board.specs.Shares.{times, one_if_same}
+use Rattle.board.specs.Shares.{times, one_if_same, share_in_turn, IsInShare}
+use Rattle.board.specs.Progress.{Progress, shares_in_turn, SeesInTurn, after_draw, DrawsJob, DrawsNone}
 use Rattle.board.specs.Rule.{fresh, drew, saw_empty}
-use Rattle.board.specs.Progress.{Progress, progress_of, share_in_turn, shares_in_turn, IsSeated, IsCounted, IsInShare, IsShare, SeesInTurn, after_draw, DrawsJob, DrawsNone}
+use Rattle.board.specs.Seats.{progress_of, IsSeated, IsCounted, IsShare}
 use Rattle.board.proofs.Sums.{times-snoc, other_zero, same_one}
 
 pub length-shares_in_turn : (w s m : ℕ) → length (shares_in_turn w s m) ≡ m

@@ -6,15 +6,16 @@ use Rattle.coding.specs.declared.fault.Fault.{Fault}
 use Rattle.board.specs.declared.shift.Shift.{Shift}
 use Rattle.board.specs.Shares.{times}
 use Rattle.board.specs.Progress.{Layout, Progress, after_done, after_fail, after_look, after_skip, DrawsJob, DrawsNone, HasEachShare, unused, unused_seats}
-use Rattle.board.specs.Running.{IsFaultOf, IsLeastFailed, IsResult, IsWorking}
+use Rattle.board.specs.Running.{IsFaultOf, IsResult}
+use Rattle.board.specs.Working.{IsLeastFailed, IsWorking}
 use Rattle.board.proofs.Sums.{times-snoc, same_tells, same_one}
 
 pub all_one : {A : Type 0} (P : A → Type 0) (x : A) → P x → All P (x ∷ [])
 all_one P x h zero d lt = h
 all_one P x h (suc k) d lt = absurd (omega arith)
 
-module _ {O : Type 0} (refusal : ℕ → Option Fault) (holds : ℕ → O → Type 0) (b : Layout) (s s' : Shift O) where
-  pub works_fail : (j : ℕ) → IsWorking refusal holds b (j ∷ []) s → s'.seat ≡ after_fail s.seat j → s'.results.items ≡ s.results.items → IsLeastFailed refusal (s.seat.failed ++ j ∷ []) s'.refused → IsWorking refusal holds b [] s'
+module _ {O : Type 0} (refusal : ℕ → Option Fault) (gives : ℕ → O → Type 0) (b : Layout) (s s' : Shift O) where
+  pub works_fail : (j : ℕ) → IsWorking refusal gives b (j ∷ []) s → s'.seat ≡ after_fail s.seat j → s'.results.items ≡ s.results.items → IsLeastFailed refusal (s.seat.failed ++ j ∷ []) s'.refused → IsWorking refusal gives b [] s'
   works_fail j h seat results refused = record {
     due = λ x any. absurd (omega arith);
     within = λ x any. h.within x (let e : times x s'.seat.done ≡ times x s.seat.done = ap (λ (p : Progress). times x p.done) seat in omega arith);
@@ -23,11 +24,11 @@ module _ {O : Type 0} (refusal : ℕ → Option Fault) (holds : ℕ → O → Ty
         let q = h.spent x in let e = times-snoc x s.seat.failed j in
         subst (λ (p : Progress). times x p.drawn ≤ (times x p.done + times x p.failed + times x p.skipped) + 0) (sym seat) (omega arith);
     done = ap (λ (p : Progress). p.done) seat ∙ h.done ∙ ap (map (λ (r : ℕ × O). r.0)) (sym results);
-    results = subst (All (IsResult refusal holds)) (sym results) h.results;
+    results = subst (All (IsResult refusal gives)) (sym results) h.results;
     refused = subst (λ (xs : List ℕ). IsLeastFailed refusal xs s'.refused) (sym (ap (λ (p : Progress). p.failed) seat)) refused;
   }
 
-  pub works_done : (j y : ℕ) (out : O) → IsWorking refusal holds b (j ∷ []) s → s'.seat ≡ after_done (after_look s.seat y) j → s'.results.items ≡ s.results.items ++ (j, out) ∷ [] → s'.refused ≡ s.refused → IsResult refusal holds (j, out) → IsWorking refusal holds b [] s'
+  pub works_done : (j y : ℕ) (out : O) → IsWorking refusal gives b (j ∷ []) s → s'.seat ≡ after_done (after_look s.seat y) j → s'.results.items ≡ s.results.items ++ (j, out) ∷ [] → s'.refused ≡ s.refused → IsResult refusal gives (j, out) → IsWorking refusal gives b [] s'
   works_done j y out h seat results refused is = record {
     due = λ x any. absurd (omega arith);
     within = λ x any.
@@ -38,11 +39,11 @@ module _ {O : Type 0} (refusal : ℕ → Option Fault) (holds : ℕ → O → Ty
         let q = h.spent x in let e = times-snoc x s.seat.done j in
         subst (λ (p : Progress). times x p.drawn ≤ (times x p.done + times x p.failed + times x p.skipped) + 0) (sym seat) (omega arith);
     done = ap (λ (p : Progress). p.done) seat ∙ ap (λ (xs : List ℕ). xs ++ j ∷ []) h.done ∙ sym (map-append (λ (r : ℕ × O). r.0) s.results.items ((j, out) ∷ [])) ∙ ap (map (λ (r : ℕ × O). r.0)) (sym results);
-    results = subst (All (IsResult refusal holds)) (sym results) (All-append (IsResult refusal holds) s.results.items ((j, out) ∷ []) h.results (all_one (IsResult refusal holds) (j, out) is));
+    results = subst (All (IsResult refusal gives)) (sym results) (All-append (IsResult refusal gives) s.results.items ((j, out) ∷ []) h.results (all_one (IsResult refusal gives) (j, out) is));
     refused = subst (λ (z : List ℕ × Option (ℕ × Fault)). IsLeastFailed refusal z.0 z.1) (λ i. (sym (ap (λ (p : Progress). p.failed) seat) i, sym refused i)) h.refused;
   }
 
-  pub works_skip : (j y : ℕ) → IsWorking refusal holds b (j ∷ []) s → s'.seat ≡ after_skip (after_look s.seat y) j → s'.results.items ≡ s.results.items → s'.refused ≡ s.refused → IsWorking refusal holds b [] s'
+  pub works_skip : (j y : ℕ) → IsWorking refusal gives b (j ∷ []) s → s'.seat ≡ after_skip (after_look s.seat y) j → s'.results.items ≡ s.results.items → s'.refused ≡ s.refused → IsWorking refusal gives b [] s'
   works_skip j y h seat results refused = record {
     due = λ x any. absurd (omega arith);
     within = λ x any. h.within x (let e : times x s'.seat.done ≡ times x s.seat.done = ap (λ (p : Progress). times x p.done) seat in omega arith);
@@ -51,13 +52,13 @@ module _ {O : Type 0} (refusal : ℕ → Option Fault) (holds : ℕ → O → Ty
         let q = h.spent x in let e = times-snoc x s.seat.skipped j in
         subst (λ (p : Progress). times x p.drawn ≤ (times x p.done + times x p.failed + times x p.skipped) + 0) (sym seat) (omega arith);
     done = ap (λ (p : Progress). p.done) seat ∙ h.done ∙ ap (map (λ (r : ℕ × O). r.0)) (sym results);
-    results = subst (All (IsResult refusal holds)) (sym results) h.results;
+    results = subst (All (IsResult refusal gives)) (sym results) h.results;
     refused = subst (λ (z : List ℕ × Option (ℕ × Fault)). IsLeastFailed refusal z.0 z.1) (λ i. (sym (ap (λ (p : Progress). p.failed) seat) i, sym refused i)) h.refused;
   }
 
   -- the seat looked, or drew nothing
-  pub works_still : (due : List ℕ) → IsWorking refusal holds b due s → s'.seat.board ≡ s.seat.board → s'.seat.drawn ≡ s.seat.drawn → s'.seat.done ≡ s.seat.done → s'.seat.failed ≡ s.seat.failed → s'.seat.skipped ≡ s.seat.skipped
-      → s'.results.items ≡ s.results.items → s'.refused ≡ s.refused → IsWorking refusal holds b due s'
+  pub works_still : (due : List ℕ) → IsWorking refusal gives b due s → s'.seat.board ≡ s.seat.board → s'.seat.drawn ≡ s.seat.drawn → s'.seat.done ≡ s.seat.done → s'.seat.failed ≡ s.seat.failed → s'.seat.skipped ≡ s.seat.skipped
+      → s'.results.items ≡ s.results.items → s'.refused ≡ s.refused → IsWorking refusal gives b due s'
   works_still due h board drawn done failed skipped results refused = record {
     due = h.due;
     within = λ x any. h.within x (let e : times x s'.seat.done ≡ times x s.seat.done = ap (times x) done in omega arith);
@@ -67,16 +68,16 @@ module _ {O : Type 0} (refusal : ℕ → Option Fault) (holds : ℕ → O → Ty
         let a : times x s'.seat.drawn ≡ times x s.seat.drawn = ap (times x) drawn in let e : times x s'.seat.done ≡ times x s.seat.done = ap (times x) done in
         let f : times x s'.seat.failed ≡ times x s.seat.failed = ap (times x) failed in let k : times x s'.seat.skipped ≡ times x s.seat.skipped = ap (times x) skipped in omega arith;
     done = done ∙ h.done ∙ ap (map (λ (r : ℕ × O). r.0)) (sym results);
-    results = subst (All (IsResult refusal holds)) (sym results) h.results;
+    results = subst (All (IsResult refusal gives)) (sym results) h.results;
     refused = subst (λ (z : List ℕ × Option (ℕ × Fault)). IsLeastFailed refusal z.0 z.1) (λ i. (sym failed i, sym refused i)) h.refused;
   }
 
-  pub works_none : IsWorking refusal holds b [] s → DrawsNone s.seat s'.seat → s'.results.items ≡ s.results.items → s'.refused ≡ s.refused → IsWorking refusal holds b [] s'
+  pub works_none : IsWorking refusal gives b [] s → DrawsNone s.seat s'.seat → s'.results.items ≡ s.results.items → s'.refused ≡ s.refused → IsWorking refusal gives b [] s'
   works_none h none results refused =
       let n = none.same in
       works_still [] h (ap (λ (p : Progress). p.board) n) (ap (λ (p : Progress). p.drawn) n) (ap (λ (p : Progress). p.done) n) (ap (λ (p : Progress). p.failed) n) (ap (λ (p : Progress). p.skipped) n) results refused
 
-  pub works_draw : (x : ℕ) → IsWorking refusal holds b [] s → DrawsJob s.seat x s'.seat → s'.results.items ≡ s.results.items → s'.refused ≡ s.refused → IsWorking refusal holds b (x ∷ []) s'
+  pub works_draw : (x : ℕ) → IsWorking refusal gives b [] s → DrawsJob s.seat x s'.seat → s'.results.items ≡ s.results.items → s'.refused ≡ s.refused → IsWorking refusal gives b (x ∷ []) s'
   works_draw x h d results refused = record {
     due = λ y any. elim (same_tells y x) [ inl q ↦ (let a = q.1 in let n = d.new.0 in let b' : s.seat.board.jobs ≡ b.jobs = ap (λ (l : Layout). l.jobs) h.board in omega arith) | inr q ↦ absurd (let a = q.0 in omega arith) ];
     within = λ y any. h.within y (let e : times y s'.seat.done ≡ times y s.seat.done = ap (λ (p : Progress). times y p.done) d.drawn in omega arith);
@@ -85,7 +86,7 @@ module _ {O : Type 0} (refusal : ℕ → Option Fault) (holds : ℕ → O → Ty
         let q = h.spent y in let e = times-snoc y s.seat.drawn x in
         subst (λ (p : Progress). times y p.drawn ≤ (times y p.done + times y p.failed + times y p.skipped) + times y (x ∷ [])) (sym d.drawn) (omega arith);
     done = ap (λ (p : Progress). p.done) d.drawn ∙ h.done ∙ ap (map (λ (r : ℕ × O). r.0)) (sym results);
-    results = subst (All (IsResult refusal holds)) (sym results) h.results;
+    results = subst (All (IsResult refusal gives)) (sym results) h.results;
     refused = subst (λ (z : List ℕ × Option (ℕ × Fault)). IsLeastFailed refusal z.0 z.1) (λ i. (sym (ap (λ (p : Progress). p.failed) d.drawn) i, sym refused i)) h.refused;
   }
 

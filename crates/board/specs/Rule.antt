@@ -5,26 +5,28 @@ use lib.ListN.{get_elem?}
 use Rattle.atomic_table.specs.Table.{State, Me, Step}
 use Rattle.board.specs.declared.rule.SeatView.{SeatView}
 use Rattle.board.specs.declared.rule.Extent.{Extent}
-use Rattle.board.specs.Shares.{total, times, once_below, start, share_len, word_of, claims_of, claimed}
+use Rattle.board.specs.Shares.{times, start}
+use Rattle.board.specs.Progress.{no_fault}
+use Rattle.board.specs.Words.{total, once_below, share_len, word_of, claims_of, claimed}
 
 -- this many seats that have done nothing
 abbrev pub fresh : ℕ → ℕ → ℕ → SeatView
 fresh parts jobs seats = record { parts = parts; jobs = jobs; seats = seats; drawn = []; empty = []; failed = []; looked = []; skipped = [] }
 
 abbrev pub drew : SeatView → ℕ → SeatView
-drew v x = record { parts = v.parts; jobs = v.jobs; seats = v.seats; drawn = v.drawn ++ x ∷ []; empty = v.empty; failed = v.failed; looked = v.looked; skipped = v.skipped }
+drew v x = record v { drawn = v.drawn ++ x ∷ [] }
 
 abbrev pub saw_empty : SeatView → ℕ → SeatView
-saw_empty v k = record { parts = v.parts; jobs = v.jobs; seats = v.seats; drawn = v.drawn; empty = v.empty ++ k ∷ []; failed = v.failed; looked = v.looked; skipped = v.skipped }
+saw_empty v k = record v { empty = v.empty ++ k ∷ [] }
 
 abbrev pub has_failed : SeatView → ℕ → SeatView
-has_failed v x = record { parts = v.parts; jobs = v.jobs; seats = v.seats; drawn = v.drawn; empty = v.empty; failed = v.failed ++ x ∷ []; looked = v.looked; skipped = v.skipped }
+has_failed v x = record v { failed = v.failed ++ x ∷ [] }
 
 abbrev pub has_looked : SeatView → ℕ → SeatView
-has_looked v x = record { parts = v.parts; jobs = v.jobs; seats = v.seats; drawn = v.drawn; empty = v.empty; failed = v.failed; looked = v.looked ++ x ∷ []; skipped = v.skipped }
+has_looked v x = record v { looked = v.looked ++ x ∷ [] }
 
 abbrev pub has_skipped : SeatView → ℕ → SeatView
-has_skipped v x = record { parts = v.parts; jobs = v.jobs; seats = v.seats; drawn = v.drawn; empty = v.empty; failed = v.failed; looked = v.looked; skipped = v.skipped ++ x ∷ [] }
+has_skipped v x = record v { skipped = v.skipped ++ x ∷ [] }
 
 -- two views as one
 abbrev pub gathered : SeatView → SeatView → SeatView
@@ -42,27 +44,27 @@ gathered v w = record {
 abbrev pub HasNoLists : SeatView → Type 0
 HasNoLists v = (v.drawn ≡ []) × (v.empty ≡ []) × (v.failed ≡ []) × (v.looked ≡ []) × (v.skipped ≡ [])
 
--- What is known of one view. A view of no seat was joined into another
+-- What holds of one view. A view of no seat was joined into another
 pub record Fits (n w : ℕ) (v : SeatView) : Type 0 where
   pub same : 0 < v.parts → (v.jobs ≡ n) × (v.seats ≡ w)
   pub spent : v.parts ≡ 0 → HasNoLists v
   pub once : (k : ℕ) → times k v.empty ≤ v.parts
 
 -- how often x stands in lists of all views together
-abbrev pub all_drawn : ℕ → List SeatView → ℕ
-all_drawn x views = total (λ v. times x v.drawn) views
+abbrev pub times_drawn : ℕ → List SeatView → ℕ
+times_drawn x views = total (λ v. times x v.drawn) views
 
-abbrev pub all_empty : ℕ → List SeatView → ℕ
-all_empty k views = total (λ v. times k v.empty) views
+abbrev pub times_empty : ℕ → List SeatView → ℕ
+times_empty k views = total (λ v. times k v.empty) views
 
-abbrev pub all_failed : ℕ → List SeatView → ℕ
-all_failed x views = total (λ v. times x v.failed) views
+abbrev pub times_failed : ℕ → List SeatView → ℕ
+times_failed x views = total (λ v. times x v.failed) views
 
-abbrev pub all_looked : ℕ → List SeatView → ℕ
-all_looked x views = total (λ v. times x v.looked) views
+abbrev pub times_looked : ℕ → List SeatView → ℕ
+times_looked x views = total (λ v. times x v.looked) views
 
-abbrev pub all_skipped : ℕ → List SeatView → ℕ
-all_skipped x views = total (λ v. times x v.skipped) views
+abbrev pub times_skipped : ℕ → List SeatView → ℕ
+times_skipped x views = total (λ v. times x v.skipped) views
 
 -- The numbers drawn are the first ones of each share, as many as its word says, each once. A word is at most its share's length and one for each time that a seat saw it empty
 pub record KeepsDrawn (n w : ℕ) (words : List ℕ) (views : List SeatView) : Type 0 where
@@ -71,13 +73,9 @@ pub record KeepsDrawn (n w : ℕ) (words : List ℕ) (views : List SeatView) : T
   pub wide : length words ≡ 65
   pub parts : total (λ v. v.parts) views ≡ w
   pub each : (i : ℕ) (v : SeatView) → get_elem? views i ≡ some v → Fits n w v
-  pub drawn : (x : ℕ) → all_drawn x views ≡ claimed (start n w) (claims_of w words) x w
-  pub empty : (k : ℕ) → 0 < all_empty k views → (k < w) × (share_len n w k ≤ claims_of w words k)
-  pub bounded : (k : ℕ) → k < w → claims_of w words k ≤ share_len n w k + all_empty k views
-
--- the fault word where nobody failed
-abbrev pub no_fault : ℕ
-no_fault = 18446744073709551615
+  pub drawn : (x : ℕ) → times_drawn x views ≡ claimed (start n w) (claims_of w words) x w
+  pub empty : (k : ℕ) → 0 < times_empty k views → (k < w) × (share_len n w k ≤ claims_of w words k)
+  pub bounded : (k : ℕ) → k < w → claims_of w words k ≤ share_len n w k + times_empty k views
 
 -- the words at the start
 abbrev pub opening_words : List ℕ
@@ -88,13 +86,13 @@ fault_of words = slice_index words 64
 
 -- The fault word is the least number failed. What was looked at is none, or was failed, and the word has not risen since
 pub record KeepsFailed (n : ℕ) (words : List ℕ) (views : List SeatView) : Type 0 where
-  pub known : (fault_of words ≡ no_fault) ⊎ (0 < all_failed (fault_of words) views)
-  pub least : (x : ℕ) → 0 < all_failed x views → (x < n) × (fault_of words ≤ x)
-  pub looked : (x : ℕ) → 0 < all_looked x views → (fault_of words ≤ x) × ((x ≡ no_fault) ⊎ (0 < all_failed x views))
+  pub found : (fault_of words ≡ no_fault) ⊎ (0 < times_failed (fault_of words) views)
+  pub least : (x : ℕ) → 0 < times_failed x views → (x < n) × (fault_of words ≤ x)
+  pub looked : (x : ℕ) → 0 < times_looked x views → (fault_of words ≤ x) × ((x ≡ no_fault) ⊎ (0 < times_failed x views))
 
 -- each number skipped is above the least one failed
 pub record KeepsSkipped (words : List ℕ) (views : List SeatView) : Type 0 where
-  pub above : (x : ℕ) → 0 < all_skipped x views → fault_of words < x
+  pub above : (x : ℕ) → 0 < times_skipped x views → fault_of words < x
 
 -- the rule of a board of n jobs and w seats
 pub record BoardRule (n w : ℕ) (words : List ℕ) (views : List SeatView) : Type 0 where
@@ -112,9 +110,8 @@ pub record Claims (v : SeatView) (k c : ℕ) (v' : SeatView) : Type 0 where
   pub new : c < share_len v.jobs v.seats k → (start v.jobs v.seats k + c < v.jobs) × (times (start v.jobs v.seats k + c) v.drawn ≡ 0)
   pub empty : share_len v.jobs v.seats k ≤ c → v' ≡ saw_empty v k
 
--- the least fault was looked at
-pub record Looks (v : SeatView) (found : ℕ) (v' : SeatView) : Type 0 where
-  pub view : v' ≡ has_looked v found
+-- what was found in the fault word is at most each number that the view has failed or looked at
+pub record IsLeastFound (v : SeatView) (found : ℕ) : Type 0 where
   pub failed : (x : ℕ) → 0 < times x v.failed → (x < v.jobs) × (found ≤ x)
   pub looked : (x : ℕ) → 0 < times x v.looked → (found ≤ x) × ((x ≡ no_fault) ⊎ (x < v.jobs))
 
@@ -128,7 +125,7 @@ Settled st m found m' = (m'.0 ≡ has_failed m.0 st.first) × (m'.1 ≡ m.1)
 
 -- the least fault was looked at, in a step
 abbrev pub Looked : Step (Unit {0}) → Me (Unit {0}) SeatView → ℕ → Me (Unit {0}) SeatView → Type 0
-Looked st m found m' = Looks m.0 found m'.0 × (m'.1 ≡ m.1)
+Looked st m found m' = (m'.0 ≡ has_looked m.0 found) × IsLeastFound m.0 found × (m'.1 ≡ m.1)
 
 -- the view after a look on behalf of job x, which is skipped where it lies above what was found
 abbrev pub has_looked_for : SeatView → ℕ → ℕ → SeatView
@@ -136,13 +133,13 @@ has_looked_for v x found = cond (ltb found x) (has_skipped (has_looked v found) 
 
 -- the least fault was looked at on behalf of job x
 abbrev pub Skipped : ℕ → Step (Unit {0}) → Me (Unit {0}) SeatView → ℕ → Me (Unit {0}) SeatView → Type 0
-Skipped x st m found m' = (m'.0 ≡ has_looked_for m.0 x found) × (m'.1 ≡ m.1)
+Skipped x st m found m' = (m'.0 ≡ has_looked_for m.0 x found) × IsLeastFound m.0 found × (m'.1 ≡ m.1)
 
--- what is known of all lists of a board together, once one view has them, and of its fault word
+-- what holds of all lists of a board together, once one view has them, and of its fault word
 pub record IsWhole (v : SeatView) (fault : ℕ) : Type 0 where
   pub once : (x : ℕ) → times x v.drawn ≤ once_below x v.jobs
   pub all : ((k : ℕ) → k < v.seats → 0 < times k v.empty) → (x : ℕ) → times x v.drawn ≡ once_below x v.jobs
-  pub known : (fault ≡ no_fault) ⊎ (0 < times fault v.failed)
+  pub found : (fault ≡ no_fault) ⊎ (0 < times fault v.failed)
   pub least : (x : ℕ) → 0 < times x v.failed → (x < v.jobs) × (fault ≤ x)
   pub looked : (x : ℕ) → 0 < times x v.looked → (x ≡ no_fault) ⊎ (0 < times x v.failed)
   pub skipped : (x : ℕ) → 0 < times x v.skipped → fault < x

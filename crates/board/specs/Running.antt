@@ -1,29 +1,16 @@
--- What a labour states of its jobs, what one worker did, and what a run answers.
-use Rattle.std.specs.Prelude.{◌≡◌, ℕ, ◌+◌, ◌<◌, ◌≤◌, List, [], map, Option, None, Some, All, length, slice_index_or}
+-- What a labour states of its jobs, and what a run answers.
+use Rattle.std.specs.Prelude.{◌≡◌, ℕ, ◌<◌, List, Option, None, Some, length, slice_index_or}
 use Rattle.coding.specs.declared.fault.Fault.{Fault}
 use Rattle.coding.specs.Answers.{UnlessMemory}
-use Rattle.board.specs.declared.shift.Shift.{Shift}
-use Rattle.board.specs.Shares.{times}
-use Rattle.board.specs.Progress.{Layout, Progress, HasEachShare}
-use Rattle.board.specs.Closing.{HasSpentAll, all_empty, all_done, all_failed}
 
 -- a fault of the job: the one that the labour states, or want of memory
 abbrev pub IsFaultOf : (ℕ → Option Fault) → ℕ → Fault → Type 0
-IsFaultOf refusal job fault = UnlessMemory fault.name (refusal job ≡ Some fault)
+IsFaultOf refusal job fault = UnlessMemory fault (refusal job ≡ Some fault)
 
--- the least of the numbers failed, where there is one, with a fault of that job
-abbrev pub IsLeastFailed : (ℕ → Option Fault) → List ℕ → Option (ℕ × Fault) → Type 0
-IsLeastFailed refusal failed None = failed ≡ []
-IsLeastFailed refusal failed (Some r) = (0 < times r.0 failed) × ((x : ℕ) → 0 < times x failed → r.0 ≤ x) × IsFaultOf refusal r.0 r.1
-
--- there is something at this place
-abbrev pub HasPlace : {O : Type 0} → List (Option O) → ℕ → Type 0
-HasPlace {O} places i = (out : O) × (slice_index_or places i None ≡ Some out)
-
-module _ {O : Type 0} (refusal : ℕ → Option Fault) (holds : ℕ → O → Type 0) where
+module _ {O : Type 0} (refusal : ℕ → Option Fault) (gives : ℕ → O → Type 0) where
   -- a result of the job, by what the labour states
   abbrev pub IsResult : ℕ × O → Type 0
-  IsResult r = (refusal r.0 ≡ None) × holds r.0 r.1
+  IsResult r = (refusal r.0 ≡ None) × gives r.0 r.1
 
   -- as many results as jobs, each at the number of its job
   pub record AreResults (jobs : ℕ) (outs : List O) : Type 0 where
@@ -35,32 +22,3 @@ module _ {O : Type 0} (refusal : ℕ → Option Fault) (holds : ℕ → O → Ty
     pub within : job < jobs
     pub before : (i : ℕ) → i < job → (out : O) × IsResult (i, out)
     pub refused : IsFaultOf refusal job fault
-
-  -- A worker at its seat. The jobs that are due were drawn and not yet spent
-  pub record IsWorking (of : Layout) (due_jobs : List ℕ) (s : Shift O) : Type 0 where
-    pub board : s.seat.board ≡ of
-    pub spent : (x : ℕ) → times x s.seat.drawn ≤ (times x s.seat.done + times x s.seat.failed + times x s.seat.skipped) + times x due_jobs
-    pub due : (x : ℕ) → 0 < times x due_jobs → x < of.jobs
-    pub within : (x : ℕ) → 0 < times x s.seat.done → x < of.jobs
-    pub done : s.seat.done ≡ map (λ r. r.0) s.results.items
-    pub results : All IsResult s.results.items
-    pub refused : IsLeastFailed refusal s.seat.failed s.refused
-
-  -- what one worker leaves at its end
-  pub record IsShift (of : Layout) (s : Shift O) : Type 0 where
-    pub works : IsWorking of [] s
-    pub empty : HasEachShare of.seats s.seat.empty
-
-  -- each result that was put in its place is one of that job
-  abbrev pub IsPlaced : List (Option O) → Type 0
-  IsPlaced places = (i : ℕ) (out : O) → slice_index_or places i None ≡ Some out → IsResult (i, out)
-
-  -- What came back of the workers that left these seats. Each result is in its place
-  pub record IsFiled (of : Layout) (ps : List Progress) (places : List (Option O)) (refused : Option (ℕ × Fault)) : Type 0 where
-    pub boards : All (λ p. p.board ≡ of) ps
-    pub spent : All HasSpentAll ps
-    pub empty : 0 < length ps → HasEachShare of.seats (all_empty ps)
-    pub long : length places ≡ of.jobs
-    pub placed : IsPlaced places
-    pub done : (i : ℕ) → 0 < times i (all_done ps) → HasPlace places i
-    pub least : IsLeastFailed refusal (all_failed ps) refused

@@ -1,10 +1,5 @@
--- How n jobs are shared out among w seats, and which numbers were claimed.
-use Rattle.std.specs.Prelude.{ℕ, suc, zero, ◌+◌, ◌-◌, ◌*◌, ◌/◌, min, cond, ltb, leb, ◌==◌, ◌&&◌, List, [], ◌∷◌, slice_index}
-
--- the sum of f over the list
-abbrev pub total : {A : Type 0} → (A → ℕ) → List A → ℕ
-total f [] = 0
-total f (x ∷ xs) = f x + total f xs
+-- How n jobs are shared out among w seats.
+use Rattle.std.specs.Prelude.{ℕ, suc, ◌+◌, ◌*◌, ◌/◌, ◌%◌, ◌<◌, ◌≤◌, cond, ◌==◌, List, [], ◌∷◌}
 
 -- 1 where the numbers are the same, and else 0
 abbrev pub one_if_same : ℕ → ℕ → ℕ
@@ -15,30 +10,14 @@ abbrev pub times : ℕ → List ℕ → ℕ
 times x [] = 0
 times x (y ∷ ys) = one_if_same x y + times x ys
 
--- 1 where x is below m, and else 0
-abbrev pub once_below : ℕ → ℕ → ℕ
-once_below x m = cond (ltb x m) 1 0
-
--- the first number of the share of seat s. Of the seat w, which there is not, it is n
+-- the first job of the share of seat s. Of the seat w, which there is not, it is n
 unfoldable pub start : ℕ → ℕ → ℕ → ℕ
 start n w s = s * n / w
 
-abbrev pub share_len : ℕ → ℕ → ℕ → ℕ
-share_len n w s = start n w (suc s) - start n w s
+-- x is a job of the share of seat s
+abbrev pub IsInShare : ℕ → ℕ → ℕ → ℕ → Type 0
+IsInShare n w s x = (start n w s ≤ x) × (x < start n w (suc s))
 
--- the claim word of share k of w. The 64 words that there are lie in a row, and those in use as far apart as they can
-unfoldable pub word_of : ℕ → ℕ → ℕ
-word_of w k = k * (64 / w)
-
--- how often share k was claimed from
-abbrev pub claims_of : ℕ → List ℕ → ℕ → ℕ
-claims_of w words k = slice_index words (word_of w k)
-
--- Shares that begin at `first`, each up to the next. 1 where x is among the first c numbers of share k, and else 0
-abbrev pub claimed_in : (ℕ → ℕ) → ℕ → ℕ → ℕ → ℕ
-claimed_in first x k c = cond (leb (first k) x && ltb x (min (first k + c) (first (suc k)))) 1 0
-
--- in how many of the shares below m the number x was claimed, where `claims` says how often each was claimed from
-abbrev pub claimed : (ℕ → ℕ) → (ℕ → ℕ) → ℕ → ℕ → ℕ
-claimed first claims x zero = 0
-claimed first claims x (suc k) = claimed first claims x k + claimed_in first x k (claims k)
+-- the shares in turn, from that of seat s on and round all w: the one after i others
+abbrev pub share_in_turn : ℕ → ℕ → ℕ → ℕ
+share_in_turn w s i = (s + i) % w

@@ -2,10 +2,13 @@
 ghost use Rattle.std.specs.Prelude.{◌≡◌, ◌≢◌, ℕ, ◌+◌, ◌≤◌, ◌<◌, ◌^◌, ◌⊎◌, ◌↔◌, [], Err, IfOk, IfErr, IfSome, IfNone, All, List, ◌∷◌, length, vec_len};
 ghost use Rattle.coding.specs.Answers.{fault};
 ghost use Rattle.coding.specs.declared.fault.FaultName.TheVariants.{Workers as NamedWorkers, Memory as NamedMemory};
-ghost use Rattle.board.specs.Rule.{fresh, drew, saw_empty, opening_words, no_fault, Looks, IsWhole, has_looked_for};
-ghost use Rattle.board.specs.Progress.{Progress, layout, unused_seats, IsInShare, IsShare, DrawsJob, DrawsNone, IsUnspent, after_done, after_fail, after_look, after_skip, fault_word};
-ghost use Rattle.board.specs.Shares.{times, once_below};
-ghost use Rattle.board.specs.Closing.{CountsOf, HasSpentAll, IsClosed, Gathers, times_spent, all_drawn};
+ghost use Rattle.board.specs.Shares.{IsInShare, times};
+ghost use Rattle.board.specs.Progress.{no_fault, Progress, unused_seats, DrawsJob, DrawsNone, IsUnspent, after_done, after_fail, after_look, after_skip, IsAtMostSeen, fault_word};
+ghost use Rattle.board.specs.Finished.{CountsOf, HasSpentAll, IsFinished, times_spent, all_drawn};
+ghost use Rattle.board.specs.Words.{once_below};
+ghost use Rattle.board.specs.Rule.{fresh, drew, saw_empty, opening_words, has_looked, IsLeastFound, IsWhole, has_looked_for};
+ghost use Rattle.board.specs.Seats.{layout, IsShare};
+ghost use Rattle.board.specs.Gathering.{Gathers};
 
 use crate::gathered::Gathered;
 use crate::job::Job;
@@ -27,9 +30,11 @@ const FAULT: usize = 64;
 // What it holds while no job has failed.
 const NO_FAULT: u64 = u64::MAX;
 
-/// Jobs numbered from 0, each of which one seat draws. Contracts see which board it is, and how many jobs and seats it has.
+/// Jobs numbered from 0, each of which one seat draws. Contracts see which board it is, and how many jobs and seats it
+/// has.
 ///
-/// Of `n` jobs and `w` seats, seat `s` owns the share from job `s * n / w` to before `(s + 1) * n / w`, both rounded down.
+/// Of `n` jobs and `w` seats, seat `s` owns the share from job `s * n / w` to before `(s + 1) * n / w`, both rounded
+/// down.
 #[derive(Drop)]
 pub struct Board {
     table: Table<(), SeatView, Extent, ByShares, Global>,
@@ -38,55 +43,33 @@ pub struct Board {
 impl Model for Board {
     ghost use Rattle.std.specs.Prelude.{◌≡◌};
     ghost use Rattle.std.specs.Prelude.{◌<◌};
-    ghost use Rattle.board.specs.Progress.{Layout, layout};
+    ghost use Rattle.board.specs.Progress.{Layout};
+    ghost use Rattle.board.specs.Seats.{layout};
 
     ghost Value = { Layout };
 
     ghost view = { λ b. layout b.table.shared.table_id b.table.shared.key.jobs b.table.shared.key.seats };
 
-    ghost invariant = { λ b. (b.table.shared.table_id.words ≡ 65) × (b.table.shared.table_id.slots ≡ 0) × (0 < b.table.shared.key.seats) };
-}
-
-// No job is claimed, and none has failed.
-fn opening_words() -> [u64; 65]
-    ensures { result ≡ opening_words }
-{
-    let mut words = [0; 65];
-    words[FAULT] = NO_FAULT;
-    words
-}
-
-fn make_table(
-    alloc: Global,
-    extent: Extent,
-) -> Result<
-    (
-        Table<(), SeatView, Extent, ByShares, Global>,
-        Token<(), SeatView>,
-    ),
-    AllocError,
->
-    requires few { (0 < extent.seats) × (extent.seats ≤ 64) × (extent.jobs ≤ 2 ^ 40) }
-    ensures { IfOk result (λ t. (t.0.shared.table_id.words ≡ 65) × (t.0.shared.table_id.slots ≡ 0) × (t.0.shared.key ≡ extent) × (t.1.table_id ≡ t.0.shared.table_id) × (t.1.me ≡ (fresh extent.seats extent.jobs extent.seats, []))) }
-{
-    Table::of_words(alloc, &opening_words(), &extent)
+    ghost invariant = { λ b.
+        (b.table.shared.table_id.words ≡ 65) × (b.table.shared.table_id.slots ≡ 0)
+        × (0 < b.table.shared.key.seats) };
 }
 
 impl Board {
     /// A board of at most 2^40 jobs, and its 1 to 64 seats in the order of their numbers.
     ///
     /// Any other number of seats is `Workers`. The one other refusal is `Memory`, where a growth was refused.
-    pub fn new(alloc: Global, jobs: u64, seats: u32) -> Result<(Board, Vec<Seat>), Fault>
+    pub fn new(alloc: Global, jobs: u64, seats: u64) -> Result<(Board, Vec<Seat>), Fault>
         requires { jobs ≤ 2 ^ 40 }
         ensures workers { (result ≡ Err (fault NamedWorkers)) ↔ ((seats ≡ 0) ⊎ (64 < seats)) }
         ensures err { IfErr result (λ e. (e ≡ fault NamedWorkers) ⊎ (e ≡ fault NamedMemory)) }
-        ensures ok { IfOk result (λ r. (r.0 ≡ layout r.0.table jobs seats) × (r.1.items ≡ unused_seats r.0 seats)) }
-        ensures boards { IfOk result (λ r. All (λ p. p.board ≡ r.0) r.1.items) }
+        ensures ok { IfOk result (λ made. (made.0.jobs ≡ jobs) × (made.0.seats ≡ seats)) }
+        ensures unused { IfOk result (λ made. made.1.items ≡ unused_seats made.0 seats) }
+        ensures boards { IfOk result (λ made. All (λ p. p.board ≡ made.0) made.1.items) }
     {
         if seats == 0 || seats > 64 {
             return Err(Fault::of(FaultName::Workers));
         }
-        let seats = u64::from(seats);
         match Board::of(alloc, Extent { jobs, seats }) {
             Ok(made) => Ok(made),
             Err(AllocError) => Err(Fault::of(FaultName::Memory)),
@@ -96,7 +79,9 @@ impl Board {
     // The first seat stands for all, until each other is cut from it.
     fn of(alloc: Global, extent: Extent) -> Result<(Board, Vec<Seat>), AllocError>
         requires few { (0 < extent.seats) × (extent.seats ≤ 64) × (extent.jobs ≤ 2 ^ 40) }
-        ensures { IfOk result (λ r. (r.0 ≡ layout r.0.table extent.jobs extent.seats) × (r.1.items ≡ unused_seats r.0 extent.seats)) }
+        ensures { IfOk result (λ made.
+            (made.0 ≡ layout made.0.table extent.jobs extent.seats)
+            × (made.1.items ≡ unused_seats made.0 extent.seats)) }
     {
         let Extent { jobs, seats } = extent;
         let (table, mut token) = make_table(alloc, extent)?;
@@ -109,7 +94,8 @@ impl Board {
         Ok((Board { table }, all))
     }
 
-    /// The next job, which no other seat draws: one of the seat's own share until that is seen empty, and then of the next shares in turn, round all.
+    /// The next job, which no other seat draws: one of the seat's own share until that is seen empty, and then of the
+    /// next shares in turn, round all.
     ///
     /// There is none once the seat has seen each share empty. It takes no memory and waits for nobody.
     pub fn draw(&self, seat: &mut Seat) -> Option<Job>
@@ -158,9 +144,10 @@ impl Board {
     pub fn least_fault(&self, seat: &mut Seat) -> Option<u64>
         requires board { seat.old.board ≡ self.now }
         ensures look { seat.new ≡ after_look seat.old (fault_word result) }
-        ensures least { (x : ℕ) → 0 < times x seat.old.failed + times x seat.old.looked → fault_word result ≤ x }
+        ensures least { IsAtMostSeen seat.old (fault_word result) }
         ensures some { IfSome result (λ y. y ≢ no_fault) }
-        ensures none { IfNone result ((seat.old.failed ≡ []) × ((x : ℕ) → 0 < times x seat.old.looked → x ≡ no_fault)) }
+        ensures none { IfNone result
+            ((seat.old.failed ≡ []) × ((x : ℕ) → 0 < times x seat.old.looked → x ≡ no_fault)) }
     {
         fault_at(self.look(&mut seat.token))
     }
@@ -169,8 +156,13 @@ impl Board {
     pub fn skip(&self, seat: &mut Seat, job: Job) -> Option<Job>
         requires board { seat.old.board ≡ self.now }
         requires unspent { IsUnspent seat.old job }
-        ensures none { IfNone result ((y : ℕ) × (y < job) × (seat.new ≡ after_skip (after_look seat.old y) job)) }
-        ensures some { IfSome result (λ j. (j ≡ job) × ((y : ℕ) × (job ≤ y) × (seat.new ≡ after_look seat.old y))) }
+        ensures none { IfNone result
+            ((y : ℕ) × (y < job) × IsAtMostSeen seat.old y
+            × (seat.new ≡ after_skip (after_look seat.old y) job)) }
+        ensures some { IfSome result (λ back.
+            (back ≡ job)
+            × ((y : ℕ) × (job ≤ y) × IsAtMostSeen seat.old y
+            × (seat.new ≡ after_look seat.old y))) }
     {
         let number = job.number();
         let found = self.look_for::<Brand>(&mut seat.token, number);
@@ -183,12 +175,14 @@ impl Board {
         }
     }
 
-    /// Ends the board, and counts what was done at these seats together. With all seats of the board, `least` is the least job that failed.
+    /// Ends the board, and counts what was done at these seats together. With all seats of the board, `least` is the
+    /// least job that failed.
     pub fn close(self, mut seats: Vec<Seat>) -> Tally
         requires boards { All (λ p. p.board ≡ self) seats.items }
         ensures counts { CountsOf seats.items result }
-        ensures spent { All HasSpentAll seats.items → (x : ℕ) → times_spent x seats.items ≡ times x (all_drawn seats.items) }
-        ensures all { vec_len seats ≡ self.seats → IsClosed self seats.items result.least }
+        ensures spent { All HasSpentAll seats.items
+            → (x : ℕ) → times_spent x seats.items ≡ times x (all_drawn seats.items) }
+        ensures all { vec_len seats ≡ self.seats → IsFinished self seats.items result.least }
     {
         let Some(first) = seats.pop() else {
             seats.destroy_empty();
@@ -220,9 +214,13 @@ impl Board {
 
     // Takes in one seat more.
     fn gather(&self, gathered: &mut Gathered, seat: Seat)
-        requires board { (layout gathered.old.token.table_id gathered.old.token.me.0.jobs gathered.old.token.me.0.seats ≡ self.now) × (seat.board ≡ self.now) }
+        requires board { layout gathered.old.token.table_id
+            gathered.old.token.me.0.jobs gathered.old.token.me.0.seats
+            ≡ self.now }
+        requires seat { seat.board ≡ self.now }
         requires seats { 0 < gathered.old.token.me.0.parts }
-        ensures { (ps : List Progress) → Gathers self.now gathered.old ps → Gathers self.now gathered.new (seat ∷ ps) }
+        ensures { (ps : List Progress)
+            → Gathers self.now gathered.old ps → Gathers self.now gathered.new (seat ∷ ps) }
     {
         let Seat {
             number: _,
@@ -264,7 +262,8 @@ impl Board {
         requires board { token.old.table_id ≡ self.now.table }
         requires seats { 0 < token.old.me.0.parts }
         ensures token { (token.new.table_id ≡ token.old.table_id) × (token.new.me.1 ≡ token.old.me.1) }
-        ensures looks { Looks token.old.me.0 result token.new.me.0 }
+        ensures looks { token.new.me.0 ≡ has_looked token.old.me.0 result }
+        ensures least { IsLeastFound token.old.me.0 result }
     {
         self.table.shared.load::<Look>(token, FAULT)
     }
@@ -276,6 +275,7 @@ impl Board {
         requires job { number ≡ J.job }
         ensures token { (token.new.table_id ≡ token.old.table_id) × (token.new.me.1 ≡ token.old.me.1) }
         ensures looks { token.new.me.0 ≡ has_looked_for token.old.me.0 number result }
+        ensures least { IsLeastFound token.old.me.0 result }
     {
         self.table.shared.load::<Skip<J>>(token, FAULT)
     }
@@ -285,9 +285,12 @@ impl Board {
         requires board { token.old.table_id ≡ self.now.table }
         requires few { (token.old.me.0.seats ≤ 64) × (token.old.me.0.jobs ≤ 2 ^ 40) }
         requires share { IsShare token.old.me.0.jobs token.old.me.0.seats share.number share }
-        requires left { (share.number < token.old.me.0.seats) × (times share.number token.old.me.0.empty < token.old.me.0.parts) }
+        requires left { (share.number < token.old.me.0.seats)
+            × (times share.number token.old.me.0.empty < token.old.me.0.parts) }
         ensures token { (token.new.table_id ≡ token.old.table_id) × (token.new.me.1 ≡ token.old.me.1) }
-        ensures number { IfSome result (λ x. (token.new.me.0 ≡ drew token.old.me.0 x) × IsInShare token.old.me.0.jobs token.old.me.0.seats share.number x) }
+        ensures number { IfSome result (λ x.
+            (token.new.me.0 ≡ drew token.old.me.0 x)
+            × IsInShare token.old.me.0.jobs token.old.me.0.seats share.number x) }
         ensures new { IfSome result (λ x. (x < token.old.me.0.jobs) × (times x token.old.me.0.drawn ≡ 0)) }
         ensures none { IfNone result (token.new.me.0 ≡ saw_empty token.old.me.0 share.number) }
     {
@@ -301,6 +304,34 @@ impl Board {
             None
         }
     }
+}
+
+// No job is claimed, and none has failed.
+fn opening_words() -> [u64; 65]
+    ensures { result ≡ opening_words }
+{
+    let mut words = [0; 65];
+    words[FAULT] = NO_FAULT;
+    words
+}
+
+fn make_table(
+    alloc: Global,
+    extent: Extent,
+) -> Result<
+    (
+        Table<(), SeatView, Extent, ByShares, Global>,
+        Token<(), SeatView>,
+    ),
+    AllocError,
+>
+    requires few { (0 < extent.seats) × (extent.seats ≤ 64) × (extent.jobs ≤ 2 ^ 40) }
+    ensures { IfOk result (λ t.
+        (t.0.shared.table_id.words ≡ 65) × (t.0.shared.table_id.slots ≡ 0) × (t.0.shared.key ≡ extent)
+        × (t.1.table_id ≡ t.0.shared.table_id)
+        × (t.1.me ≡ (fresh extent.seats extent.jobs extent.seats, []))) }
+{
+    Table::of_words(alloc, &opening_words(), &extent)
 }
 
 // The least job that has failed, by the fault word.

@@ -1,6 +1,6 @@
 // The seats of a board that is closed, gathered one at a time.
 ghost use Rattle.std.specs.Prelude.{◌∷◌, []};
-ghost use Rattle.board.specs.Closing.{Gathers};
+ghost use Rattle.board.specs.Gathering.{Gathers};
 
 use crate::rule::SeatView;
 use crate::seat::Seat;

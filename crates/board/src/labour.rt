@@ -1,5 +1,5 @@
 // What the jobs are, and what a worker passes on its way.
-ghost use Rattle.std.specs.Prelude.{◌≡◌, ℕ, Option, None, Some, IfOk, IfErr};
+ghost use Rattle.std.specs.Prelude.{◌<◌, ℕ, Option, IfOk, IfErr};
 ghost use Rattle.coding.specs.declared.fault.Fault.{Fault};
 ghost use Rattle.board.specs.Running.{IsResult, IsFaultOf};
 
@@ -10,15 +10,19 @@ pub trait Labour {
     /// What a job gives.
     type Out;
 
+    /// How many jobs there are.
+    ghost jobs: { Self → ℕ };
+
     /// The one fault that refuses the job, where one does. Want of memory is no such fault.
     ghost refusal: { Self → ℕ → Option Fault };
 
-    /// What a result of the job holds.
-    ghost holds: { Self → ℕ → Self.Out → Type 0 };
+    /// Whether the job gives this result.
+    ghost gives: { Self → ℕ → Self.Out → Type 0 };
 
     /// Does the job of this number. The refusal is the stated one, or `Memory` where a growth was refused.
     fn work(&self, job: u64) -> Result<Self::Out, Fault>
-        ensures ok { IfOk result (λ out. IsResult (refusal self.now) (holds self.now) (job, out)) }
+        requires { job < jobs self.now }
+        ensures ok { IfOk result (λ out. IsResult (refusal self.now) (gives self.now) (job, out)) }
         ensures err { IfErr result (IsFaultOf (refusal self.now) job) };
 }
 

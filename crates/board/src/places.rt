@@ -1,7 +1,8 @@
 // The results of all workers, each in its place.
 ghost use Rattle.std.specs.Prelude.{◌≡◌, ◌<◌, ◌≤◌, ℕ, [], map, All, length, vec_capacity};
 ghost use Rattle.board.specs.Shares.{times};
-ghost use Rattle.board.specs.Running.{AreResults, IsResult, IsPlaced, HasPlace};
+ghost use Rattle.board.specs.Running.{AreResults, IsResult};
+ghost use Rattle.board.specs.Working.{IsPlaced, HasPlace};
 
 use crate::labour::Labour;
 
@@ -14,9 +15,9 @@ pub(crate) fn place<L: Labour>(
 where
     L::Out: Drop,
     requires within { All (λ r. r.0 < length places.old.items) results.items }
-    requires results { All (IsResult (L.refusal labour.now) (L.holds labour.now)) results.items }
-    requires placed { IsPlaced (L.refusal labour.now) (L.holds labour.now) places.old.items }
-    ensures placed { IsPlaced (L.refusal labour.now) (L.holds labour.now) places.new.items }
+    requires results { All (IsResult (L.refusal labour.now) (L.gives labour.now)) results.items }
+    requires placed { IsPlaced (L.refusal labour.now) (L.gives labour.now) places.old.items }
+    ensures placed { IsPlaced (L.refusal labour.now) (L.gives labour.now) places.new.items }
     ensures len { length places.new.items ≡ length places.old.items }
     ensures kept { (i : ℕ) → HasPlace places.old.items i → HasPlace places.new.items i }
     ensures new { (i : ℕ) → 0 < times i (map (λ r. r.0) results.items) → HasPlace places.new.items i }
@@ -36,10 +37,10 @@ pub(crate) fn take_all<L: Labour>(
 ) -> Vec<L::Out>
 where
     L::Out: Drop,
-    requires placed { IsPlaced (L.refusal labour.now) (L.holds labour.now) places.items }
+    requires placed { IsPlaced (L.refusal labour.now) (L.gives labour.now) places.items }
     requires each { (i : ℕ) → i < length places.items → HasPlace places.items i }
     requires room { (results.items ≡ []) × (length places.items ≤ vec_capacity results) }
-    ensures { AreResults (L.refusal labour.now) (L.holds labour.now) (length places.items) result.items }
+    ensures { AreResults (L.refusal labour.now) (L.gives labour.now) (length places.items) result.items }
 {
     let _ = labour;
     for i in 0..places.len() {

@@ -2,8 +2,9 @@
 ghost use Rattle.std.specs.Prelude.{◌≡◌, ◌⊎◌, ◌↔◌, ◌<◌, ◌≤◌, ◌^◌, ℕ, List, [], ◌++◌, Option, None, Err, IfOk, IfErr, All, replicate, vec_len, vec_capacity};
 ghost use Rattle.coding.specs.declared.fault.Fault.{Fault};
 ghost use Rattle.board.specs.declared.pool.RunFault.{RunFault};
-ghost use Rattle.board.specs.Progress.{IsUnused};
-ghost use Rattle.board.specs.Running.{AreResults, IsShift, IsFiled, IsLeastFailed, IsRefused};
+ghost use Rattle.board.specs.Running.{AreResults, IsRefused};
+ghost use Rattle.board.specs.Seats.{IsUnused};
+ghost use Rattle.board.specs.Working.{IsShift, IsFiled, IsLeastFailed};
 
 use crate::board::Board;
 use crate::labour::{Gate, Labour};
@@ -27,25 +28,29 @@ pub enum RunFault {
     Memory,
 }
 
-/// Does all jobs of the labour by 1 to 64 workers, and answers their results in order. There are at most 2^40 jobs.
+/// Does the first `jobs` jobs of the labour by 1 to 64 workers, and answers their results in order. There are at most
+/// 2^40 jobs.
 ///
-/// Workers draw the jobs from one board, and skip those above a job that has failed. Each calls the gate around each job that it draws.
-/// Room for all results is there before a worker starts, and where a thread can't be started, workers follow each other.
+/// Workers draw the jobs from one board, and skip those above a job that has failed. Each calls the gate around each job
+/// that it draws. Room for all results is there before a worker starts, and where a thread can't be started, workers
+/// follow each other.
 /// A worker that finds no room for a result fails that job with `Memory`.
 pub fn run<L: Labour + Sync, G: Gate + Sync, R: Threads + Sync>(
     rt: &R,
     alloc: Global,
     labour: &L,
     jobs: u64,
-    workers: u32,
+    workers: u64,
     gate: &G,
 ) -> Result<Vec<L::Out>, RunFault>
 where
     L::Out: Drop + Send,
-    requires { jobs ≤ 2 ^ 40 }
-    ensures ok { IfOk result (λ v. AreResults (L.refusal labour.now) (L.holds labour.now) jobs v.items) }
+    requires few { jobs ≤ 2 ^ 40 }
+    requires within { jobs ≤ L.jobs labour.now }
+    ensures ok { IfOk result (λ v. AreResults (L.refusal labour.now) (L.gives labour.now) jobs v.items) }
     ensures workers { (result ≡ Err RunFault.Workers) ↔ ((workers ≡ 0) ⊎ (64 < workers)) }
-    ensures refused { (job : ℕ) (fault : Fault) → result ≡ Err (RunFault.Job job fault) → IsRefused (L.refusal labour.now) (L.holds labour.now) jobs job fault }
+    ensures refused { (job : ℕ) (fault : Fault) → result ≡ Err (RunFault.Job job fault)
+        → IsRefused (L.refusal labour.now) (L.gives labour.now) jobs job fault }
 {
     let (board, seats) = match Board::new(alloc, jobs, workers) {
         Ok(made) => made,
@@ -56,6 +61,21 @@ where
         Ok(Ok(results)) => Ok(results),
         Ok(Err((job, fault))) => Err(RunFault::Job { job, fault }),
         Err(AllocError) => Err(RunFault::Memory),
+    }
+}
+
+impl From<RunFault> for Fault {
+    ghost use Rattle.std.specs.Prelude.{◌≡◌};
+    ghost use Rattle.board.specs.Collected.{fault_of_run};
+
+    ghost from_gives = { λ why e. e ≡ fault_of_run why };
+
+    fn from(why: RunFault) -> Fault {
+        match why {
+            RunFault::Job { job: _, fault } => fault,
+            RunFault::Workers => Fault::of(FaultName::Workers),
+            RunFault::Memory => Fault::of(FaultName::Memory),
+        }
     }
 }
 
@@ -72,9 +92,12 @@ fn run_board<L: Labour + Sync, G: Gate + Sync, R: Threads + Sync>(
 where
     L::Out: Drop + Send,
     requires jobs { (board.jobs ≡ jobs) × (jobs ≤ 2 ^ 40) }
+    requires within { jobs ≤ L.jobs labour.now }
     requires seats { All (IsUnused board) seats.items × (vec_len seats ≡ board.seats) × (0 < board.seats) }
-    ensures ok { IfOk result (λ o. IfOk o (λ v. AreResults (L.refusal labour.now) (L.holds labour.now) jobs v.items)) }
-    ensures refused { IfOk result (λ o. IfErr o (λ r. IsRefused (L.refusal labour.now) (L.holds labour.now) jobs r.0 r.1)) }
+    ensures ok { IfOk result (λ o. IfOk o (λ v.
+        AreResults (L.refusal labour.now) (L.gives labour.now) jobs v.items)) }
+    ensures refused { IfOk result (λ o. IfErr o (λ r.
+        IsRefused (L.refusal labour.now) (L.gives labour.now) jobs r.0 r.1)) }
 {
     let mut places = no_results(alloc, jobs as usize)?;
     let results = Vec::with_capacity(alloc, jobs as usize)?;
@@ -109,10 +132,12 @@ fn file_all<L: Labour>(
 ) -> Option<(u64, Fault)>
 where
     L::Out: Drop,
-    requires shifts { All (IsShift (L.refusal labour.now) (L.holds labour.now) board.now) shifts.items }
-    requires places { IsFiled (L.refusal labour.now) (L.holds labour.now) board.now seats.old.items places.old.items None }
+    requires shifts { All (IsShift (L.refusal labour.now) (L.gives labour.now) board.now) shifts.items }
+    requires places { IsFiled (L.refusal labour.now) (L.gives labour.now) board.now
+        seats.old.items places.old.items None }
     requires room { (seats.old.items ≡ []) × (vec_len shifts ≤ vec_capacity seats.old) }
-    ensures filed { IsFiled (L.refusal labour.now) (L.holds labour.now) board.now seats.new.items places.new.items result }
+    ensures filed { IsFiled (L.refusal labour.now) (L.gives labour.now) board.now
+        seats.new.items places.new.items result }
     ensures len { vec_len seats.new ≡ vec_len shifts }
 {
     let mut refused = None;
@@ -132,7 +157,9 @@ where
 
 // The lesser of two jobs that failed, each the least of some.
 fn least_of(one: Option<(u64, Fault)>, other: Option<(u64, Fault)>) -> Option<(u64, Fault)>
-    ensures { (refusal : ℕ → Option Fault) (xs ys : List ℕ) → IsLeastFailed refusal xs one → IsLeastFailed refusal ys other → IsLeastFailed refusal (xs ++ ys) result }
+    ensures { (refusal : ℕ → Option Fault) (xs ys : List ℕ)
+        → IsLeastFailed refusal xs one → IsLeastFailed refusal ys other
+        → IsLeastFailed refusal (xs ++ ys) result }
 {
     let Some((job, fault)) = one else {
         return other;
@@ -157,8 +184,10 @@ fn work_all<L: Labour + Sync, G: Gate + Sync, R: Threads + Sync>(
 ) -> Result<Vec<Shift<L::Out>>, AllocError>
 where
     L::Out: Drop + Send,
-    requires { All (IsUnused board.now) seats.items }
-    ensures shifts { IfOk result (λ v. All (IsShift (L.refusal labour.now) (L.holds labour.now) board.now) v.items) }
+    requires seats { All (IsUnused board.now) seats.items }
+    requires within { board.now.jobs ≤ L.jobs labour.now }
+    ensures shifts { IfOk result (λ v.
+        All (IsShift (L.refusal labour.now) (L.gives labour.now) board.now) v.items) }
     ensures len { IfOk result (λ v. vec_len v ≡ vec_len seats) }
 {
     thread::map_vec(rt, seats, &|seat| serve(board, labour, gate, alloc, seat))

@@ -25,17 +25,23 @@ pub struct Seat {
 }
 
 impl Model for Seat {
-    ghost use Rattle.board.specs.Progress.{Progress, progress_of, share_in_turn, IsSeated, IsCounted, IsShare};
+    ghost use Rattle.board.specs.Shares.{share_in_turn};
+    ghost use Rattle.board.specs.Progress.{Progress};
+    ghost use Rattle.board.specs.Seats.{progress_of, IsSeated, IsCounted, IsShare};
 
     ghost Value = { Progress };
 
     ghost view = { λ s. progress_of s.token.table_id s.number s.token.me.0 s.trail.items };
 
-    ghost invariant = { λ s. IsSeated s.number s.passed s.jobs s.seats s.token.me × IsCounted s.token.me.0 s.trail.items s.done s.failed s.skipped × IsShare s.jobs s.seats (share_in_turn s.seats s.number s.passed) s.share };
+    ghost invariant = { λ s.
+        IsSeated s.number s.passed s.jobs s.seats s.token.me
+        × IsCounted s.token.me.0 s.trail.items s.done s.failed s.skipped
+        × IsShare s.jobs s.seats (share_in_turn s.seats s.number s.passed) s.share };
 }
 
 impl Seat {
-    ghost use Rattle.board.specs.Progress.{layout, unused};
+    ghost use Rattle.board.specs.Progress.{unused};
+    ghost use Rattle.board.specs.Seats.{layout};
 
     // The seat of this number, which has done nothing.
     pub(crate) fn new(number: u64, jobs: u64, seats: u64, token: Token<(), SeatView>) -> Seat
@@ -58,8 +64,8 @@ impl Seat {
         }
     }
 
-    /// The seat's number, from 0 on.
-    pub fn number(&self) -> u32
+    // The seat's number, from 0 on, as a gate hears it.
+    pub(crate) fn number(&self) -> u32
         ensures { result ≡ self.now.number }
     {
         self.number as u32

@@ -1,7 +1,8 @@
 // A share of a board's jobs, as a seat claims from it.
 ghost use Rattle.std.specs.Prelude.{◌≡◌, ◌<◌, ◌≤◌, ◌^◌};
-ghost use Rattle.board.specs.Shares.{start, word_of};
-ghost use Rattle.board.specs.Progress.{IsShare};
+ghost use Rattle.board.specs.Shares.{start};
+ghost use Rattle.board.specs.Words.{word_of};
+ghost use Rattle.board.specs.Seats.{IsShare};
 
 // What a claim needs, worked out once for each share that a seat comes to.
 #[derive(Clone, Copy)]

@@ -1,5 +1,5 @@
 // What no clause says: which seat draws what, that two threads run, that calls succeed, and the rows of the rules.
-ghost use Rattle.std.specs.Prelude.{◌≡◌, ◌≤◌, ◌^◌, All, IfSome};
+ghost use Rattle.std.specs.Prelude.{◌≡◌, ◌≤◌, ◌^◌, All, IfSome, IfOk, drop, length, slice_index_or};
 
 use crate::{Board, Gate, Labour, Open, RunFault, Seat, Tally, run};
 use coding::{Fault, FaultName};
@@ -49,7 +49,7 @@ fn draw_ten(board: &Board, mut seat: Seat, all: &mut Vec<u64>) -> Result<(), All
 fn draw_at(
     board: &Board,
     mut made: Vec<Seat>,
-    at: u32,
+    at: u64,
     all: &mut Vec<u64>,
 ) -> Result<(), AllocError>
     requires { All (λ p. p.board ≡ board.now) made.items }
@@ -58,14 +58,14 @@ fn draw_at(
         let Some(seat) = take_last(board, &mut made) else {
             break;
         };
-        if seat.number() == at {
+        if u64::from(seat.number()) == at {
             draw_ten(board, seat, all)?;
         }
     }
     Ok(())
 }
 
-fn drawn_alone(alloc: Global, jobs: u64, seats: u32, at: u32) -> Result<Vec<u64>, Fault>
+fn drawn_alone(alloc: Global, jobs: u64, seats: u64, at: u64) -> Result<Vec<u64>, Fault>
     requires { jobs ≤ 2 ^ 40 }
 {
     let mut all = Vec::new(alloc);
@@ -234,11 +234,13 @@ impl Gate for Meeting {
 impl Labour for Meeting {
     type Out = u64;
 
-    ghost use Rattle.std.specs.Prelude.{◌≡◌, None};
+    ghost use Rattle.std.specs.Prelude.{◌≡◌, ◌^◌, None};
+
+    ghost jobs = { λ _. 2 ^ 40 };
 
     ghost refusal = { λ _ _. None };
 
-    ghost holds = { λ _ job out. out ≡ job };
+    ghost gives = { λ _ job out. out ≡ job };
 
     fn work(&self, job: u64) -> Result<u64, Fault> {
         self.hold();
@@ -256,13 +258,15 @@ struct Refusing {
 impl Labour for Refusing {
     type Out = u64;
 
-    ghost use Rattle.std.specs.Prelude.{◌≡◌, None, Some, cond, ◌==◌};
+    ghost use Rattle.std.specs.Prelude.{◌≡◌, ◌^◌, None, Some, cond, ◌==◌};
     ghost use Rattle.coding.specs.Answers.{fault};
     ghost use Rattle.coding.specs.declared.fault.FaultName.TheVariants.{Options};
 
+    ghost jobs = { λ _. 2 ^ 40 };
+
     ghost refusal = { λ s job. cond (job == s.by_name) (Some (fault Options)) None };
 
-    ghost holds = { λ _ job out. out ≡ job };
+    ghost gives = { λ _ job out. out ≡ job };
 
     fn work(&self, job: u64) -> Result<u64, Fault> {
         if job == self.for_memory {
@@ -280,6 +284,53 @@ const WILLING: Refusing = Refusing {
     by_name: u64::MAX,
     for_memory: u64::MAX,
 };
+
+// Gives what is left of lent bytes from each place on.
+#[derive(Clone, Copy)]
+struct Endings<'t> {
+    bytes: &'t [u8],
+}
+
+impl<'t> Labour for Endings<'t> {
+    type Out = &'t [u8];
+
+    ghost use Rattle.std.specs.Prelude.{◌≡◌, None, drop, length};
+
+    ghost jobs = { λ s. length s.bytes.now };
+
+    ghost refusal = { λ _ _. None };
+
+    ghost gives = { λ s job out. out.now ≡ drop job s.bytes.now };
+
+    fn work(&self, job: u64) -> Result<&'t [u8], Fault> {
+        Ok(&self.bytes[job as usize..])
+    }
+}
+
+// What each of two jobs gives of bytes that the caller still lends.
+fn two_endings<'t, R: Threads + Sync>(
+    rt: &R,
+    alloc: Global,
+    bytes: &'t [u8],
+) -> Result<Vec<&'t [u8]>, RunFault>
+    requires { 2 ≤ length bytes.now }
+    ensures { IfOk result (λ v.
+        (length v.items ≡ 2)
+        × ((d : _) → (slice_index_or v.items 1 d).now ≡ drop 1 bytes.now)) }
+{
+    run(rt, alloc, &Endings { bytes }, 2, 2, &Open)
+}
+
+#[test]
+fn results_may_borrow(rt: HostRuntime) -> Result<(), Fail> {
+    let Ok(all) = two_endings(&rt, rt.alloc(), b"ab") else {
+        return Ok(assert!(rt; false));
+    };
+    assert_eq!(rt; all.len(), 2);
+    assert_eq!(rt; all[0], b"ab".as_slice());
+    assert_eq!(rt; all[1], b"b".as_slice());
+    Ok(())
+}
 
 // A caller that does all jobs itself would give up here.
 #[test]
@@ -402,7 +453,7 @@ impl Gate for Late {
 
 // The greater of the two jobs that fail does so first, in the share of the second worker.
 #[test]
-fn the_least_job_that_failed_is_told(rt: HostRuntime) -> Result<(), Fail> {
+fn the_least_job_that_failed_is_answered(rt: HostRuntime) -> Result<(), Fail> {
     let labour = Refusing {
         by_name: 2,
         for_memory: 0,

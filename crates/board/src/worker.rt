@@ -1,8 +1,10 @@
 // What a worker does.
-ghost use Rattle.std.specs.Prelude.{◌≡◌, ℕ, List, [], ◌∷◌, ◌++◌, Option};
+ghost use Rattle.std.specs.Prelude.{◌≡◌, ◌≤◌, ℕ, List, [], ◌∷◌, ◌++◌, Option};
 ghost use Rattle.coding.specs.declared.fault.Fault.{Fault};
-ghost use Rattle.board.specs.Progress.{IsUnspent, IsUnused};
-ghost use Rattle.board.specs.Running.{IsWorking, IsShift, IsLeastFailed, IsFaultOf};
+ghost use Rattle.board.specs.Progress.{IsUnspent};
+ghost use Rattle.board.specs.Running.{IsFaultOf};
+ghost use Rattle.board.specs.Seats.{IsUnused};
+ghost use Rattle.board.specs.Working.{IsWorking, IsShift, IsLeastFailed};
 
 use crate::board::Board;
 use crate::job::Job;
@@ -22,8 +24,9 @@ pub(crate) fn serve<L: Labour, G: Gate>(
 ) -> Shift<L::Out>
 where
     L::Out: Drop,
-    requires { IsUnused board.now seat }
-    ensures { IsShift (L.refusal labour.now) (L.holds labour.now) board.now result }
+    requires seat { IsUnused board.now seat }
+    requires within { board.now.jobs ≤ L.jobs labour.now }
+    ensures { IsShift (L.refusal labour.now) (L.gives labour.now) board.now result }
 {
     let mut shift = Shift {
         seat,
@@ -46,26 +49,30 @@ fn serve_job<L: Labour, G: Gate>(
 )
 where
     L::Out: Drop,
-    requires works { IsWorking (L.refusal labour.now) (L.holds labour.now) board.now (job ∷ []) shift.old }
+    requires works { IsWorking (L.refusal labour.now) (L.gives labour.now) board.now (job ∷ []) shift.old }
     requires unspent { IsUnspent shift.old.seat job }
-    ensures works { IsWorking (L.refusal labour.now) (L.holds labour.now) board.now [] shift.new }
-    ensures drawn { (shift.new.seat.drawn ≡ shift.old.seat.drawn) × (shift.new.seat.empty ≡ shift.old.seat.empty) }
+    requires within { board.now.jobs ≤ L.jobs labour.now }
+    ensures works { IsWorking (L.refusal labour.now) (L.gives labour.now) board.now [] shift.new }
+    ensures drawn { (shift.new.seat.drawn ≡ shift.old.seat.drawn)
+        × (shift.new.seat.empty ≡ shift.old.seat.empty) }
 {
     let number = job.number();
     let seat = shift.seat.number();
     gate.pass(seat, number);
-    do_job(board, labour, shift, job);
+    work_unless_skipped(board, labour, shift, job);
     gate.left(seat, number);
 }
 
 // Does one job, unless it is skipped.
-fn do_job<L: Labour>(board: &Board, labour: &L, shift: &mut Shift<L::Out>, job: Job)
+fn work_unless_skipped<L: Labour>(board: &Board, labour: &L, shift: &mut Shift<L::Out>, job: Job)
 where
     L::Out: Drop,
-    requires works { IsWorking (L.refusal labour.now) (L.holds labour.now) board.now (job ∷ []) shift.old }
+    requires works { IsWorking (L.refusal labour.now) (L.gives labour.now) board.now (job ∷ []) shift.old }
     requires unspent { IsUnspent shift.old.seat job }
-    ensures works { IsWorking (L.refusal labour.now) (L.holds labour.now) board.now [] shift.new }
-    ensures drawn { (shift.new.seat.drawn ≡ shift.old.seat.drawn) × (shift.new.seat.empty ≡ shift.old.seat.empty) }
+    requires within { board.now.jobs ≤ L.jobs labour.now }
+    ensures works { IsWorking (L.refusal labour.now) (L.gives labour.now) board.now [] shift.new }
+    ensures drawn { (shift.new.seat.drawn ≡ shift.old.seat.drawn)
+        × (shift.new.seat.empty ≡ shift.old.seat.empty) }
 {
     let Some(job) = board.skip(&mut shift.seat, job) else {
         return;
@@ -89,11 +96,12 @@ where
 fn refuse<L: Labour>(board: &Board, labour: &L, shift: &mut Shift<L::Out>, job: Job, fault: Fault)
 where
     L::Out: Drop,
-    requires works { IsWorking (L.refusal labour.now) (L.holds labour.now) board.now (job ∷ []) shift.old }
+    requires works { IsWorking (L.refusal labour.now) (L.gives labour.now) board.now (job ∷ []) shift.old }
     requires unspent { IsUnspent shift.old.seat job }
     requires fault { IsFaultOf (L.refusal labour.now) job fault }
-    ensures works { IsWorking (L.refusal labour.now) (L.holds labour.now) board.now [] shift.new }
-    ensures drawn { (shift.new.seat.drawn ≡ shift.old.seat.drawn) × (shift.new.seat.empty ≡ shift.old.seat.empty) }
+    ensures works { IsWorking (L.refusal labour.now) (L.gives labour.now) board.now [] shift.new }
+    ensures drawn { (shift.new.seat.drawn ≡ shift.old.seat.drawn)
+        × (shift.new.seat.empty ≡ shift.old.seat.empty) }
 {
     let _ = labour;
     shift.refused = lesser(shift.refused, job.number(), fault);
@@ -106,7 +114,9 @@ pub(crate) fn lesser(
     number: u64,
     fault: Fault,
 ) -> Option<(u64, Fault)>
-    ensures { (refusal : ℕ → Option Fault) (failed : List ℕ) → IsLeastFailed refusal failed refused → IsFaultOf refusal number fault → IsLeastFailed refusal (failed ++ number ∷ []) result }
+    ensures { (refusal : ℕ → Option Fault) (failed : List ℕ)
+        → IsLeastFailed refusal failed refused → IsFaultOf refusal number fault
+        → IsLeastFailed refusal (failed ++ number ∷ []) result }
 {
     let Some((least, first)) = refused else {
         return Some((number, fault));

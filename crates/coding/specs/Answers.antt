@@ -1,8 +1,8 @@
 -- What a call that can be refused answers, want of memory aside.
-use Rattle.std.specs.Prelude.{◌≡◌, ℕ, None, Result, Ok, Err}
+use Rattle.std.specs.Prelude.{◌≡◌, ℕ, Option, Some, None, Result, Ok, Err}
 use Rattle.coding.specs.declared.fault.Fault.{Fault}
 use Rattle.coding.specs.declared.fault.FaultName.{FaultName}
-use Rattle.coding.specs.declared.fault.FaultName.TheVariants.{NoInput, Level, Options, SplitOrder, SplitCount, Workers, Snapshot, Size, Short, Magic, Handle, Range, Trailer, Compressed, BlockType, Block, Key, Index, Order, Empty, Bounds, Duplicate, Numbers, TooLarge, LogChecksum, LogShape, EditTag, EditField, Comparator, Apply, Lawless, Device, Missing, Memory}
+use Rattle.coding.specs.declared.fault.FaultName.TheVariants.{NoInput, Level, Options, SplitOrder, SplitCount, Workers, Snapshot, Size, Short, Magic, Handle, Range, Trailer, Compressed, BlockType, Block, Key, Index, Order, Empty, Bounds, Duplicate, Numbers, TooLarge, SnapshotList, LogChecksum, LogShape, EditTag, EditField, Comparator, Apply, Lawless, Device, Missing, Memory}
 
 -- the fault of this name that is about no input
 abbrev pub fault : FaultName → Fault
@@ -34,6 +34,7 @@ code_of Bounds = 21
 code_of Duplicate = 22
 code_of Numbers = 23
 code_of TooLarge = 24
+code_of SnapshotList = 25
 code_of LogChecksum = 30
 code_of LogShape = 31
 code_of EditTag = 32
@@ -45,19 +46,23 @@ code_of Device = 40
 code_of Missing = 41
 code_of Memory = 99
 
--- the fact, unless the name is that of want of memory
-abbrev pub UnlessMemory : FaultName → Type 0 → Type 0
-UnlessMemory Memory P = Unit {0}
-UnlessMemory _ P = P
+-- the fact, unless these are the name and the input of want of memory
+abbrev pub UnlessNamed : FaultName → Option ℕ → Type 0 → Type 0
+UnlessNamed Memory None P = Unit {0}
+UnlessNamed _ _ P = P
+
+-- the fact, unless the fault is want of memory, which is about no input
+abbrev pub UnlessMemory : Fault → Type 0 → Type 0
+UnlessMemory e P = UnlessNamed e.name e.input P
 
 -- an error that is want of memory, or the refusal that the definition answers
-abbrev pub Fails : {Y : Type 0} → Fault → Result Y Fault → Type 0
-Fails e answer = UnlessMemory e.name (answer ≡ Err e)
+abbrev pub FailsOrMemory : {Y : Type 0} → Fault → Result Y Fault → Type 0
+FailsOrMemory e answer = UnlessMemory e (answer ≡ Err e)
 
 -- What a call answers, seen by view, is what the definition answers, want of memory aside.
-abbrev pub Gives : {X Y : Type 0} → (X → Y) → Result X Fault → Result Y Fault → Type 0
-Gives view (Ok x) answer = answer ≡ Ok (view x)
-Gives view (Err e) answer = Fails e answer
+abbrev pub EqualOrMemory : {X Y : Type 0} → (X → Y) → Result X Fault → Result Y Fault → Type 0
+EqualOrMemory view (Ok x) answer = answer ≡ Ok (view x)
+EqualOrMemory view (Err e) answer = FailsOrMemory e answer
 
 -- the ? of the logic
 infixl 10 ◌>>=◌
@@ -65,10 +70,15 @@ abbrev pub ◌>>=◌ : {A B : Type 0} → Result A Fault → (A → Result B Fau
 (Ok x) >>= f = f x
 (Err e) >>= f = Err e
 
+-- the ? of the logic, where a reading has no refusal of its own
+abbrev pub and_then : {A B : Type 0} → Option A → (A → Option B) → Option B
+and_then None f = None
+and_then (Some x) f = f x
+
 -- What a call answers, seen by view, is such an answer, want of memory aside.
-abbrev pub Answers : {X Y : Type 0} → (X → Y) → Result X Fault → (Result Y Fault → Type 0) → Type 0
-Answers view (Ok x) IsAnswer = IsAnswer (Ok (view x))
-Answers view (Err e) IsAnswer = UnlessMemory e.name (IsAnswer (Err e))
+abbrev pub HoldsOrMemory : {X Y : Type 0} → (X → Y) → Result X Fault → (Result Y Fault → Type 0) → Type 0
+HoldsOrMemory view (Ok x) IsAnswer = IsAnswer (Ok (view x))
+HoldsOrMemory view (Err e) IsAnswer = UnlessMemory e (IsAnswer (Err e))
 
 -- what follows a first answer: a next one from its value, or else its refusal
 abbrev pub Follows : {A B : Type 0} → (A → Result B Fault → Type 0) → Result A Fault → Result B Fault → Type 0

@@ -1,4 +1,6 @@
+-- what contracts rest on
 pub mod Answers
 pub mod Varint
 pub mod Crc
+-- serves proofs alone
 pub mod CrcRegister

@@ -82,6 +82,9 @@ pub enum FaultName {
     /// A user key, a value or what is to be written is over its limit.
     #[error("TooLarge")]
     TooLarge,
+    /// Listed snapshots are more than 4,096, don't rise strictly, or one is above the last sequence.
+    #[error("SnapshotList")]
+    SnapshotList,
     /// The checksum of a log's fragment isn't that of its bytes.
     #[error("LogChecksum")]
     LogChecksum,
@@ -116,7 +119,7 @@ pub enum FaultName {
 
 impl FaultName {
     /// The number of the name, from 1 to 99.
-    pub fn code(self) -> u8
+    pub fn code(self) -> u64
         ensures { result ≡ code_of self }
     {
         match self {
@@ -144,6 +147,7 @@ impl FaultName {
             FaultName::Duplicate => 22,
             FaultName::Numbers => 23,
             FaultName::TooLarge => 24,
+            FaultName::SnapshotList => 25,
             FaultName::LogChecksum => 30,
             FaultName::LogShape => 31,
             FaultName::EditTag => 32,
@@ -177,7 +181,7 @@ impl Fault {
     }
 
     /// The number of the fault's name, from 1 to 99.
-    pub fn code(&self) -> u8
+    pub fn code(&self) -> u64
         ensures { result ≡ code_of self.now.name }
     {
         self.name.code()

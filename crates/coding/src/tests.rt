@@ -67,6 +67,20 @@ fn slices_are_spelt(rt: HostRuntime) -> Result<(), Fail> {
     Ok(())
 }
 
+#[test]
+fn faults_have_numbers(rt: HostRuntime) {
+    let rows = [
+        (FaultName::NoInput, 1),
+        (FaultName::TooLarge, 24),
+        (FaultName::SnapshotList, 25),
+        (FaultName::LogChecksum, 30),
+        (FaultName::Memory, 99),
+    ];
+    for (name, number) in rows {
+        assert_eq!(rt; Fault::of(name).code(), number);
+    }
+}
+
 // With `rt try --test --fail-alloc N` the Nth growth is refused; without it, none is.
 #[test]
 fn a_refused_push_appends_nothing(rt: HostRuntime) {

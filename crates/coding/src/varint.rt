@@ -41,6 +41,59 @@ pub fn read_u64_varint(bytes: &[u8]) -> Option<(u64, usize)>
     }
 }
 
+/// Appends the one spelling of the number, 1 to 10 bytes.
+///
+/// Refused for want of memory alone. A refusal leaves it as it was.
+#[inline]
+pub fn push_varint(out: &mut Vec<u8>, number: u64) -> Result<(), Fault>
+    ensures ok { OnOk result (out.new.items ≡ out.old.items ++ varint number) }
+    ensures err { OnErr result (out.new.items ≡ out.old.items) }
+    ensures memory { IsOkUnless result (fault Memory) }
+{
+    if number < 128 {
+        out.push(number as u8)?;
+        return Ok(());
+    }
+    push_groups(out, number)
+}
+
+/// Appends the slice's length as a varint and then the slice, of fewer than 2^32 bytes.
+///
+/// Refused for want of memory alone. A refusal leaves it as it was.
+pub fn push_slice(out: &mut Vec<u8>, slice: &[u8]) -> Result<(), Fault>
+    requires { length slice.now < 2 ^ 32 }
+    ensures ok { OnOk result (out.new.items ≡ out.old.items ++ length_prefixed slice.now) }
+    ensures err { OnErr result (out.new.items ≡ out.old.items) }
+    ensures memory { IsOkUnless result (fault Memory) }
+{
+    let len = out.len();
+    push_varint(out, slice.len() as u64)?;
+    if let Err(refused) = out.extend_from_slice(slice) {
+        // The bytes of the length go too.
+        out.truncate(len);
+        return Err(refused.into());
+    }
+    Ok(())
+}
+
+/// A number has one spelling, the shortest, and no spelling begins another: what is read is what was spelt, whatever
+/// follows it.
+pub fn one_reading()
+    // The spelling is the number's groups.
+    ensures groups { (number : ℕ) → number < 2 ^ 64
+        → IsGroups (varint number) × (front_number (varint number) ≡ number) }
+    // Any other groups for the number are longer.
+    ensures shortest { (bytes : List ℕ) → IsGroups bytes → front_number bytes < 2 ^ 64 →
+        (bytes ≡ varint (front_number bytes)) ⊎ (length (varint (front_number bytes)) < length bytes) }
+    // A reading finds the spelling at the front, and only that.
+    ensures read { (limit : ℕ) (bytes : List ℕ) (number used : ℕ) → limit ≤ 2 ^ 64 →
+        (varint_reading limit bytes ≡ Some (number, used)) ↔
+        ((number < limit) × (used ≡ length (varint number)) × ((rest : List ℕ) × (bytes ≡ varint number ++ rest))) }
+    // The bytes behind a spelling are not part of it.
+    ensures apart { (x y : ℕ) (a b : List ℕ) → x < 2 ^ 64 → y < 2 ^ 64
+        → varint x ++ a ≡ varint y ++ b → (x ≡ y) × (a ≡ b) }
+{}
+
 /// The reading of a first byte with the high bit and the bytes behind it.
 fn read_groups(first: u8, rest: &[u8]) -> Option<(u64, usize)>
     requires { 128 ≤ first }
@@ -66,23 +119,7 @@ fn read_groups(first: u8, rest: &[u8]) -> Option<(u64, usize)>
     None
 }
 
-/// Appends the one spelling of the number, 1 to 10 bytes.
-///
-/// Refused only for want of memory, and then nothing is appended.
-#[inline]
-pub fn push_varint(out: &mut Vec<u8>, number: u64) -> Result<(), Fault>
-    ensures ok { OnOk result (out.new.items ≡ out.old.items ++ varint number) }
-    ensures err { OnErr result (out.new.items ≡ out.old.items) }
-    ensures memory { IsOkUnless result (fault Memory) }
-{
-    if number < 128 {
-        out.push(number as u8)?;
-        return Ok(());
-    }
-    push_groups(out, number)
-}
-
-/// Appends the one spelling of the number. A refused growth appends nothing.
+/// Appends the one spelling of the number. Refused for want of memory alone. A refusal leaves it as it was.
 fn push_groups(out: &mut Vec<u8>, number: u64) -> Result<(), Fault>
     ensures ok { OnOk result (out.new.items ≡ out.old.items ++ varint number) }
     ensures err { OnErr result (out.new.items ≡ out.old.items) }
@@ -100,38 +137,3 @@ fn push_groups(out: &mut Vec<u8>, number: u64) -> Result<(), Fault>
     out.extend_from_slice(&buffer[..last + 1])?;
     Ok(())
 }
-
-/// Appends the slice's length as a varint and then the slice, of fewer than 2^32 bytes.
-///
-/// Refused only for want of memory, and then nothing is appended.
-pub fn push_slice(out: &mut Vec<u8>, slice: &[u8]) -> Result<(), Fault>
-    requires { length slice.now < 2 ^ 32 }
-    ensures ok { OnOk result (out.new.items ≡ out.old.items ++ length_prefixed slice.now) }
-    ensures err { OnErr result (out.new.items ≡ out.old.items) }
-    ensures memory { IsOkUnless result (fault Memory) }
-{
-    let len = out.len();
-    push_varint(out, slice.len() as u64)?;
-    if let Err(refused) = out.extend_from_slice(slice) {
-        // The bytes of the length go too.
-        out.truncate(len);
-        return Err(refused.into());
-    }
-    Ok(())
-}
-
-/// A number has one spelling, the shortest, and no spelling begins another: what is read is what was spelt, whatever
-/// follows it.
-pub fn one_reading()
-    // The spelling is the number's groups.
-    ensures groups { (number : ℕ) → number < 2 ^ 64 → IsGroups (varint number) × (front_number (varint number) ≡ number) }
-    // Any other groups for the number are longer.
-    ensures shortest { (bytes : List ℕ) → IsGroups bytes → front_number bytes < 2 ^ 64 →
-        (bytes ≡ varint (front_number bytes)) ⊎ (length (varint (front_number bytes)) < length bytes) }
-    // A reading finds the spelling at the front, and only that.
-    ensures read { (limit : ℕ) (bytes : List ℕ) (number used : ℕ) → limit ≤ 2 ^ 64 →
-        (varint_reading limit bytes ≡ Some (number, used)) ↔
-        ((number < limit) × (used ≡ length (varint number)) × ((rest : List ℕ) × (bytes ≡ varint number ++ rest))) }
-    // The bytes behind a spelling are not part of it.
-    ensures apart { (x y : ℕ) (a b : List ℕ) → x < 2 ^ 64 → y < 2 ^ 64 → varint x ++ a ≡ varint y ++ b → (x ≡ y) × (a ≡ b) }
-{}

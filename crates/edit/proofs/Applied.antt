@@ -10,15 +10,18 @@ use Rattle.std.specs.declared.cmp.Ordering.TheVariants.{Less, Greater}
 use Rattle.std.proofs.lemmas.Cmp.{nat_cmp_total}
 use Rattle.std.proofs.lemmas.List.Elements.{All-head, All-tail, All-filter}
 use Rattle.std.proofs.lemmas.Map.Views.{All-keys-insert_entry, All-insert_key}
-use Rattle.coding.specs.Answers.{fault, UnlessMemory, Fails}
+use Rattle.coding.proofs.Refusals.{unless_from}
+use Rattle.coding.specs.Answers.{fault, FailsOrMemory}
 use Rattle.coding.specs.declared.fault.Fault.{Fault}
-use Rattle.coding.specs.declared.fault.FaultName.{FaultName}
-use Rattle.coding.specs.declared.fault.FaultName.TheVariants.{Apply, Memory}
+use Rattle.coding.specs.declared.fault.FaultName.TheVariants.{Apply}
 use Rattle.edit.specs.Edit.{Edit, HasLevels}
-use Rattle.edit.specs.Version.{State, AreLevelled, is_deleted, has_place, kept_files, are_new, number_cmp, with_file, files_after, with_pointer, applied}
+use Rattle.edit.specs.Version.{State, AreLevelled, IsState, is_deleted, has_place, kept_files, are_new, number_cmp, with_file, files_after, with_pointer, applied}
 use Rattle.edit.specs.declared.meta.NewFile.{NewFile}
 use Rattle.edit.specs.declared.meta.CompactPointer.{CompactPointer}
 use Rattle.edit.specs.declared.meta.DeletedFile.{DeletedFile}
+use Rattle.edit.proofs.Inserted.{sorted_all}
+use Rattle.edit.proofs.Rising.{number_total, rising_apart, rising_filter}
+use Rattle.edit.proofs.Together.{rises_put}
 
 -- ---- copies of maps
 
@@ -26,7 +29,7 @@ entry_below : {X : Type 0} (x k : ℕ) (v : X) (done rest : List (ℕ × X)) →
 entry_below x k v [] rest h = h.0
 entry_below x k v (e ∷ done) rest h = entry_below x k v done rest h.1
 
-last_entry : {X : Type 0} (done rest : List (ℕ × X)) (k : ℕ) (v : X) → IsStrictlySortedBy nat_cmp (keys_of (done ++ (k, v) ∷ rest)) → insert_entry nat_cmp done k v ≡ done ++ (k, v) ∷ []
+pub last_entry : {X : Type 0} (done rest : List (ℕ × X)) (k : ℕ) (v : X) → IsStrictlySortedBy nat_cmp (keys_of (done ++ (k, v) ∷ rest)) → insert_entry nat_cmp done k v ≡ done ++ (k, v) ∷ []
 unfolding IsStrictlySortedBy
 last_entry [] rest k v h = refl
 last_entry (e ∷ done) rest k v h =
@@ -79,10 +82,6 @@ pub from_ok_or : (o : Option (List NewFile)) (d : Fault) (y : List NewFile) → 
 from_ok_or None d y e = absurd cc
 from_ok_or (Some x) d y e = cc
 
-unless_on : (n : FaultName) (P Q : Type 0) → (P → Q) → UnlessMemory n P → UnlessMemory n Q
-unless_on Memory P Q f h = tt
-unless_on _ P Q f h = f h
-
 abbrev no_files : Fault → Result (List NewFile) Fault
 no_files e = Err e
 
@@ -97,9 +96,9 @@ none_after None make e h = ap no_version (same_fault (fault Apply) e h)
 none_after (Some x) make e h = absurd cc
 
 -- where there are no files after an edit, there is no version
-pub refused_after : (v : State) (e : Edit) (d : Fault) → Fails d (answer (files_after v.files e.deleted e.added)) → Fails d (ok_or (applied v e) (fault Apply))
+pub refused_after : (v : State) (e : Edit) (d : Fault) → FailsOrMemory d (answer (files_after v.files e.deleted e.added)) → FailsOrMemory d (ok_or (applied v e) (fault Apply))
 refused_after v e d h =
-    unless_on d.name (answer (files_after v.files e.deleted e.added) ≡ Err d) (ok_or (applied v e) (fault Apply) ≡ Err d) (λ none. none_after (files_after v.files e.deleted e.added) _ d none) h
+    unless_from d (answer (files_after v.files e.deleted e.added) ≡ Err d) (ok_or (applied v e) (fault Apply) ≡ Err d) (λ none. none_after (files_after v.files e.deleted e.added) _ d none) h
 
 abbrev low : NewFile → Type 0
 low f = f.level ≤ 6
@@ -113,14 +112,30 @@ pointer_levels m [] h k = h
 pointer_levels m (p ∷ ps) h k =
     pointer_levels (with_pointer m p) ps (All-keys-insert_entry nat_cmp p.level p.key (λ (level : ℕ). level ≤ 6) m h (All-head (λ (q : CompactPointer). q.level ≤ 6) p ps k)) (All-tail (λ (q : CompactPointer). q.level ≤ 6) p ps k)
 
--- what holds of a version holds of it after an edit
-pub levels_after : (pointers after_pointers : List (ℕ × List ℕ)) (files after : List NewFile) (e : Edit) → AreLevelled pointers files → HasLevels e → files_after files e.deleted e.added ≡ Some after
+levels_after : (pointers after_pointers : List (ℕ × List ℕ)) (files after : List NewFile) (e : Edit) → AreLevelled pointers files → HasLevels e → files_after files e.deleted e.added ≡ Some after
     → after_pointers ≡ fold with_pointer pointers e.pointers → AreLevelled after_pointers after
 levels_after pointers after_pointers files after e state levels is pointers-are =
     let t = tests_passed (list_all (has_place files) e.deleted) (are_new (kept_files e.deleted files) e.added) (fold with_file (kept_files e.deleted files) e.added) after is in
     record {
       file_levels = subst (All low) t (low_added (kept_files e.deleted files) e.added (All-filter (λ (f : NewFile). not (is_deleted e.deleted f)) low files state.file_levels) levels.added);
       pointer_levels = subst (λ (m : List (ℕ × List ℕ)). All (λ (level : ℕ). level ≤ 6) (keys_of m)) (sym pointers-are) (pointer_levels pointers e.pointers state.pointer_levels levels.pointers);
+    }
+
+pointers_rise : (m : List (ℕ × List ℕ)) (ps : List CompactPointer) → IsStrictlySortedBy nat_cmp (keys_of m) → IsStrictlySortedBy nat_cmp (keys_of (fold with_pointer m ps))
+pointers_rise m [] h = h
+pointers_rise m (p ∷ ps) h = pointers_rise (with_pointer m p) ps (rises_put m p.level p.key h)
+
+-- what holds of a version holds of it after an edit
+pub state_after : (pointers after_pointers : List (ℕ × List ℕ)) (files after : List NewFile) (e : Edit) → IsState pointers files → HasLevels e → files_after files e.deleted e.added ≡ Some after
+    → after_pointers ≡ fold with_pointer pointers e.pointers → IsState after_pointers after
+state_after pointers after_pointers files after e state levels is pointers-are =
+    let t = tests_passed (list_all (has_place files) e.deleted) (are_new (kept_files e.deleted files) e.added) (fold with_file (kept_files e.deleted files) e.added) after is in
+    let rise = subst (IsStrictlySortedBy number_cmp) t (sorted_all number_cmp number_total (kept_files e.deleted files) e.added (rising_filter number_cmp (λ (f : NewFile). not (is_deleted e.deleted f)) files state.files_rise)) in
+    record {
+      files_rise = rise;
+      apart = rising_apart after rise;
+      pointers_rise = subst (λ (m : List (ℕ × List ℕ)). IsStrictlySortedBy nat_cmp (keys_of m)) (sym pointers-are) (pointers_rise pointers e.pointers state.pointers_rise);
+      levels = levels_after pointers after_pointers files after e state.levels levels is pointers-are;
     }
 
 -- the version after an edit, by its parts

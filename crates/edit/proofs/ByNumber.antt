@@ -13,5 +13,5 @@ pub record IsByNumber (entries : List (ℕ × NewFile)) : Type 0 where
   pub rises : IsStrictlySortedBy nat_cmp (keys_of entries)
 
 -- the entries with a file's under its number, in place of the one that stands there
-abbrev pub with_entry : List (ℕ × NewFile) → NewFile → List (ℕ × NewFile)
-with_entry entries f = insert_entry nat_cmp entries f.meta.number f
+abbrev pub with_numbered : List (ℕ × NewFile) → NewFile → List (ℕ × NewFile)
+with_numbered entries f = insert_entry nat_cmp entries f.meta.number f

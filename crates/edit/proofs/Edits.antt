@@ -7,13 +7,12 @@ use Rattle.std.proofs.lemmas.List.Elements.{All-nil, All-push}
 use Rattle.std.proofs.lemmas.List.Sums.{fold_push}
 use Rattle.std.proofs.lemmas.Grind.{flat_map-append}
 use Rattle.std.proofs.lemmas.Map.Views.{All-insert_key}
-use Rattle.coding.specs.Answers.{UnlessMemory, Gives}
+use Rattle.coding.specs.Answers.{UnlessMemory, EqualOrMemory}
 use Rattle.coding.specs.declared.fault.Fault.{Fault}
-use Rattle.coding.specs.declared.fault.FaultName.{FaultName}
-use Rattle.coding.specs.declared.fault.FaultName.TheVariants.{Memory}
 use Rattle.coding.specs.Varint.{varint}
 use Rattle.coding.proofs.Varints.{length-varint_pos}
 use Rattle.coding.proofs.Bytes.{IsBytes}
+use Rattle.coding.proofs.Refusals.{unless_from}
 use Rattle.edit.specs.Tag.{tag_number}
 use Rattle.edit.specs.Field.{Field, SetComparator, SetLogNumber, SetPreviousLog, SetNextFile, SetLastSequence, SetPointer, DeleteFile, AddFile, tag_of, content, spelling, IsField}
 use Rattle.edit.specs.Reading.{field_at}
@@ -183,19 +182,11 @@ not_both bytes d e r x =
     let begins = fields_begin r.read x.fields r.rest r.lawful x.lawful (sym r.parts ∙ x.spelled) in
     left_over begins.others r.rest begins.lawful r.some begins.left r.no_field
 
-unless_never : (n : FaultName) (P Q : Type 0) (never : P → ⊥) → UnlessMemory n P → UnlessMemory n Q
-unless_never Memory P Q never h = tt
-unless_never _ P Q never h = absurd (never h)
-
 abbrev edits : Edit → Result Edit Fault
 edits e = Ok e
 
 -- what is read is the one edit that the bytes read as
-pub only_edit : {X : Type 0} (view : X → Edit) (bytes : List ℕ) (result : Result X Fault) → IfOk result (λ x. IsEdit bytes (view x)) → IfErr result (λ d. UnlessMemory d.name (IsRefused bytes d))
-    → (e : Edit) → IsEdit bytes e → Gives view result (edits e)
+pub only_edit : {X : Type 0} (view : X → Edit) (bytes : List ℕ) (result : Result X Fault) → IfOk result (λ x. IsEdit bytes (view x)) → IfErr result (λ d. UnlessMemory d (IsRefused bytes d))
+    → (e : Edit) → IsEdit bytes e → EqualOrMemory view result (edits e)
 only_edit view bytes (Ok x) found refused e h = ap edits (one_edit bytes e (view x) h found)
-only_edit view bytes (Err d) found refused e h = unless_never d.name (IsRefused bytes d) (edits e ≡ Err d) (λ r. not_both bytes d e r h) refused
-
-pub unless : (n : FaultName) (P : Type 0) → P → UnlessMemory n P
-unless Memory P h = tt
-unless _ P h = h
+only_edit view bytes (Err d) found refused e h = unless_from d (IsRefused bytes d) (edits e ≡ Err d) (λ r. absurd (not_both bytes d e r h)) refused

@@ -12,6 +12,9 @@ pub mod Together
 pub mod Added
 pub mod Places
 pub mod Moved
+pub mod Inserted
+pub mod Rising
 pub mod Applied
 pub mod Sorting
+pub mod Remade
 pub mod Snapshots

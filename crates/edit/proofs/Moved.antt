@@ -11,14 +11,14 @@ use Rattle.std.proofs.lemmas.Cmp.{nat_cmp_total, eq_by_cmp_equiv}
 use Rattle.std.proofs.lemmas.Map.{lookup-remove_entry, lookup-set_value, keys-set_value}
 use Rattle.std.proofs.lemmas.Map.Keys.{IsDistinct-from_sorted}
 use Rattle.std.proofs.lemmas.Option.{none-some, same_Some, slice_get-get_or, slice_get_within}
-use Rattle.edit.specs.Placed.{number_at, IsPlaced, placed, told_at}
+use Rattle.edit.specs.FilePlaces.{number_at, AreFilePlaces, numbered_files, with_place_of}
 use Rattle.edit.specs.Version.{has_place, kept_files}
 use Rattle.edit.specs.declared.meta.NewFile.{NewFile}
 use Rattle.edit.specs.declared.meta.DeletedFile.{DeletedFile}
 use Rattle.edit.proofs.Kept.{there_is, others_are}
 use Rattle.edit.proofs.Tested.{by_test}
 use Rattle.edit.proofs.Together.{Rises, Above, some, same, same_is, found, same_entries}
-use Rattle.edit.proofs.Places.{number_of, by_file, at_place, found_placed, held_is, same_self, by_number_is}
+use Rattle.edit.proofs.Places.{AreComplete, number_of, by_file, at_place, found_placed, held_is, same_self, by_number_is}
 
 -- ---- entries without one
 
@@ -79,15 +79,12 @@ file_by : (b : Bool) (files after : List NewFile) (i last j : ℕ) → IsSwapped
 file_by true files after i last j s is apart lt = s.moved (below i last j s.within (eqb-true j last is) apart) ∙ ap (slice_get files) (sym (eqb-true j last is))
 file_by false files after i last j s is apart lt = s.others j apart (before_last j last (length files) lt s.long is)
 
-abbrev Holds : List NewFile → List (ℕ × ℕ) → Type 0
-Holds files ps = (n i : ℕ) → found ps n ≡ Some i → number_at files i ≡ Some n
-
-abbrev Tells : List NewFile → List (ℕ × ℕ) → Type 0
-Tells files ps = (n i : ℕ) → number_at files i ≡ Some n → found ps n ≡ Some i
+abbrev AreSound : List NewFile → List (ℕ × ℕ) → Type 0
+AreSound files ps = (n i : ℕ) → found ps n ≡ Some i → number_at files i ≡ Some n
 
 -- what is taken out, and what is left
 pub record TakesOne (files after : List NewFile) (ps : List (ℕ × ℕ)) (d i last : ℕ) : Type 0 where
-  pub placed_so : IsPlaced files ps
+  pub placed_so : AreFilePlaces files ps
   pub under : found ps d ≡ Some i
   pub swapped : IsSwapped files after i last
 
@@ -105,7 +102,7 @@ true_false false e h = absurd cc
 -- a place that another number has is another place
 other_place : (files after : List NewFile) (ps : List (ℕ × ℕ)) (d i last q j : ℕ) → TakesOne files after ps d i last → same d q ≡ false → number_at files j ≡ Some q → j ≡ i → ⊥
 other_place files after ps d i last q j t apart there is =
-    true_false (same d q) (some_test d q (one_number files i d q (t.placed_so.held d i t.under) (ap (number_at files) (sym is) ∙ there))) apart
+    true_false (same d q) (some_test d q (one_number files i d q (t.placed_so.sound d i t.under) (ap (number_at files) (sym is) ∙ there))) apart
 
 file_moved : (files after : List NewFile) (ps : List (ℕ × ℕ)) (d i last q j : ℕ) → TakesOne files after ps d i last → same d q ≡ false → number_at files j ≡ Some q → slice_get after (moved_to last i j) ≡ slice_get files j
 file_moved files after ps d i last q j t apart there =
@@ -132,11 +129,11 @@ moves_by : (b : Bool) (files after : List NewFile) (ps : List (ℕ × ℕ)) (d i
     → cond b (some i) (cond (same d q) None (found ps q)) ≡ cond (same d q) None (moved last i (found ps q))
 moves_by true files after ps d i last m q t is apart at =
     let none : same d q ≡ false = ap (same d) (sym (same_is m q is)) ∙ apart in
-    let there : found ps q ≡ Some last = ap (found ps) (sym (same_is m q is)) ∙ t.placed_so.told m last at in
+    let there : found ps q ≡ Some last = ap (found ps) (sym (same_is m q is)) ∙ t.placed_so.complete m last at in
     let self : eqb last last ≡ true = grind (arith, nat_tests) in
     rw (none, there, self) refl
 moves_by false files after ps d i last m q t is apart at =
-    ap (λ (o : Option ℕ). cond (same d q) None o) (sym (not_last files after ps i last m q (found ps q) (t.placed_so.held q) at is))
+    ap (λ (o : Option ℕ). cond (same d q) None o) (sym (not_last files after ps i last m q (found ps q) (t.placed_so.sound q) at is))
 
 none_within : (xs : List NewFile) (i : ℕ) → i < length xs → slice_get xs i ≡ None → ⊥
 none_within [] i lt e = absurd (omega arith)
@@ -156,10 +153,10 @@ moved_number files after ps d i last f t is = let lt = slice_get_within after i 
 other_number : (files after : List NewFile) (ps : List (ℕ × ℕ)) (d i last m : ℕ) → TakesOne files after ps d i last → i < last → number_at files last ≡ Some m → same d m ≡ false
 other_number files after ps d i last m t lt at =
     by_test (same d m) (λ (b : Bool). same d m ≡ b → b ≡ false)
-    (λ _ is. let e : i ≡ last = same_Some i last (sym t.under ∙ ap (found ps) (same_is d m is) ∙ t.placed_so.told m last at) in absurd (omega arith))
+    (λ _ is. let e : i ≡ last = same_Some i last (sym t.under ∙ ap (found ps) (same_is d m is) ∙ t.placed_so.complete m last at) in absurd (omega arith))
     (λ _ _. refl) refl
 
-moves_at : (o : Option NewFile) (files after : List NewFile) (ps : List (ℕ × ℕ)) (d i last : ℕ) → TakesOne files after ps d i last → slice_get after i ≡ o → Moves ps (told_at o i (remove_entry (is_at (nat_cmp d)) ps)) d i last
+moves_at : (o : Option NewFile) (files after : List NewFile) (ps : List (ℕ × ℕ)) (d i last : ℕ) → TakesOne files after ps d i last → slice_get after i ≡ o → Moves ps (with_place_of o i (remove_entry (is_at (nat_cmp d)) ps)) d i last
 moves_at None files after ps d i last t is = λ q.
     found_without d q ps t.placed_so.rises
     ∙ ap (λ (o : Option ℕ). cond (same d q) None o) (sym (moved_same last (found ps q)) ∙ ap (λ (k : ℕ). moved last k (found ps q)) (sym (last_file files after i last None t.swapped is refl)))
@@ -167,7 +164,7 @@ moves_at (Some f) files after ps d i last t is = λ q.
     let lt = moved_number files after ps d i last f t is in
     let at : number_at files last ≡ Some f.meta.number = ap number_of (sym (t.swapped.moved lt) ∙ is) in
     let apart : same d f.meta.number ≡ false = other_number files after ps d i last f.meta.number t lt at in
-    let there : found (remove_entry (is_at (nat_cmp d)) ps) f.meta.number ≡ Some last = found_without d f.meta.number ps t.placed_so.rises ∙ rw apart (t.placed_so.told f.meta.number last at) in
+    let there : found (remove_entry (is_at (nat_cmp d)) ps) f.meta.number ≡ Some last = found_without d f.meta.number ps t.placed_so.rises ∙ rw apart (t.placed_so.complete f.meta.number last at) in
     found_set f.meta.number i q (remove_entry (is_at (nat_cmp d)) ps) (ap is_some there)
     ∙ ap (λ (o : Option ℕ). cond (same f.meta.number q) (some i) o) (found_without d q ps t.placed_so.rises)
     ∙ moves_by (same f.meta.number q) files after ps d i last f.meta.number q t refl apart at
@@ -175,9 +172,9 @@ moves_at (Some f) files after ps d i last t is = λ q.
 -- ---- what is found after
 
 abbrev pub left : List NewFile → List (ℕ × ℕ) → ℕ → ℕ → List (ℕ × ℕ)
-left after ps d i = told_at (slice_get after i) i (remove_entry (is_at (nat_cmp d)) ps)
+left after ps d i = with_place_of (slice_get after i) i (remove_entry (is_at (nat_cmp d)) ps)
 
-rises_at : (o : Option NewFile) (i : ℕ) (ps : List (ℕ × ℕ)) → Rises ps → Rises (told_at o i ps)
+rises_at : (o : Option NewFile) (i : ℕ) (ps : List (ℕ × ℕ)) → Rises ps → Rises (with_place_of o i ps)
 rises_at None i ps h = h
 rises_at (Some f) i ps h = subst (IsStrictlySortedBy nat_cmp) (sym (keys-set_value (is_at (nat_cmp f.meta.number)) ps i)) h
 
@@ -190,19 +187,19 @@ number_by : (o : Option ℕ) (files : List NewFile) (q i last k : ℕ) → moved
 number_by None files q i last k e h = absurd (none-some k e)
 number_by (Some j) files q i last k e h = h j refl
 
-holds_by : (b : Bool) (files after : List NewFile) (ps : List (ℕ × ℕ)) (d i last n k : ℕ) → TakesOne files after ps d i last → same d n ≡ b → cond b None (moved last i (found ps n)) ≡ Some k → number_at after k ≡ Some n
-holds_by true files after ps d i last n k t is e = absurd (none-some k e)
-holds_by false files after ps d i last n k t is e =
+sound_by : (b : Bool) (files after : List NewFile) (ps : List (ℕ × ℕ)) (d i last n k : ℕ) → TakesOne files after ps d i last → same d n ≡ b → cond b None (moved last i (found ps n)) ≡ Some k → number_at after k ≡ Some n
+sound_by true files after ps d i last n k t is e = absurd (none-some k e)
+sound_by false files after ps d i last n k t is e =
     ap (λ (o : Option ℕ). number_of (at_place after o)) (sym e)
-    ∙ ap number_of (file_at files after ps d i last n (found ps n) t is (t.placed_so.held n))
-    ∙ number_by (found ps n) files n i last k e (t.placed_so.held n)
+    ∙ ap number_of (file_at files after ps d i last n (found ps n) t is (t.placed_so.sound n))
+    ∙ number_by (found ps n) files n i last k e (t.placed_so.sound n)
 
-holds_after : (files after : List NewFile) (ps qs : List (ℕ × ℕ)) (d i last : ℕ) → TakesOne files after ps d i last → Moves ps qs d i last → Holds after qs
-holds_after files after ps qs d i last t m = λ n k e. holds_by (same d n) files after ps d i last n k t refl (sym (m n) ∙ e)
+sound_after : (files after : List NewFile) (ps qs : List (ℕ × ℕ)) (d i last : ℕ) → TakesOne files after ps d i last → Moves ps qs d i last → AreSound after qs
+sound_after files after ps qs d i last t m = λ n k e. sound_by (same d n) files after ps d i last n k t refl (sym (m n) ∙ e)
 
-told_by : (files after : List NewFile) (ps qs : List (ℕ × ℕ)) (d i last n j k : ℕ) → TakesOne files after ps d i last → Moves ps qs d i last → number_at files j ≡ Some n → (j ≡ i → ⊥) → moved_to last i j ≡ k → found qs n ≡ Some k
-told_by files after ps qs d i last n j k t m there apart is =
-    let at : found ps n ≡ Some j = t.placed_so.told n j there in
+found_moved : (files after : List NewFile) (ps qs : List (ℕ × ℕ)) (d i last n j k : ℕ) → TakesOne files after ps d i last → Moves ps qs d i last → number_at files j ≡ Some n → (j ≡ i → ⊥) → moved_to last i j ≡ k → found qs n ≡ Some k
+found_moved files after ps qs d i last n j k t m there apart is =
+    let at : found ps n ≡ Some j = t.placed_so.complete n j there in
     let other : same d n ≡ false = by_test (same d n) (λ (b : Bool). same d n ≡ b → b ≡ false)
     (λ _ e. absurd (apart (sym (same_Some i j (sym t.under ∙ ap (found ps) (same_is d n e) ∙ at))))) (λ _ _. refl) refl in
     m n ∙ ap (λ (b : Bool). cond b None (moved last i (found ps n))) other ∙ ap (moved last i) at ∙ ap (λ (x : ℕ). some x) is
@@ -210,75 +207,75 @@ told_by files after ps qs d i last n j k t m there apart is =
 eqb_self : (k i : ℕ) → k ≡ i → eqb k i ≡ true
 eqb_self k i e = grind (arith, nat_tests)
 
-tells_by : (b : Bool) (files after : List NewFile) (ps qs : List (ℕ × ℕ)) (d i last n k : ℕ) → TakesOne files after ps d i last → Moves ps qs d i last → eqb k i ≡ b → k < last → number_at after k ≡ Some n → found qs n ≡ Some k
-tells_by true files after ps qs d i last n k t m is lt there =
+complete_by : (b : Bool) (files after : List NewFile) (ps qs : List (ℕ × ℕ)) (d i last n k : ℕ) → TakesOne files after ps d i last → Moves ps qs d i last → eqb k i ≡ b → k < last → number_at after k ≡ Some n → found qs n ≡ Some k
+complete_by true files after ps qs d i last n k t m is lt there =
     let k-is = eqb-true k i is in
     let low : i < last = omega arith in
     let self : eqb last last ≡ true = grind (arith, nat_tests) in
-    told_by files after ps qs d i last n last k t m (ap number_of (sym (t.swapped.moved low)) ∙ ap (number_at after) (sym k-is) ∙ there) (λ e. omega arith) (ap (λ (b : Bool). cond b i last) self ∙ sym k-is)
-tells_by false files after ps qs d i last n k t m is lt there =
+    found_moved files after ps qs d i last n last k t m (ap number_of (sym (t.swapped.moved low)) ∙ ap (number_at after) (sym k-is) ∙ there) (λ e. omega arith) (ap (λ (b : Bool). cond b i last) self ∙ sym k-is)
+complete_by false files after ps qs d i last n k t m is lt there =
     let apart : k ≡ i → ⊥ = λ e. true_false (eqb k i) (eqb_self k i e) is in
     let low : eqb k last ≡ false = grind (arith, nat_tests) in
-    told_by files after ps qs d i last n k k t m (ap number_of (sym (t.swapped.others k apart lt)) ∙ there) apart (ap (λ (b : Bool). cond b i k) low)
+    found_moved files after ps qs d i last n k k t m (ap number_of (sym (t.swapped.others k apart lt)) ∙ there) apart (ap (λ (b : Bool). cond b i k) low)
 
-tells_after : (files after : List NewFile) (ps qs : List (ℕ × ℕ)) (d i last : ℕ) → TakesOne files after ps d i last → Moves ps qs d i last → Tells after qs
-tells_after files after ps qs d i last t m = λ n k e.
+complete_after : (files after : List NewFile) (ps qs : List (ℕ × ℕ)) (d i last : ℕ) → TakesOne files after ps d i last → Moves ps qs d i last → AreComplete after qs
+complete_after files after ps qs d i last t m = λ n k e.
     by_file (slice_get after k) n (found qs n ≡ Some k) e
-    (λ f is num. let lt = slice_get_within after k f is in let s = t.swapped.short in tells_by (eqb k i) files after ps qs d i last n k t m refl (omega arith) e)
+    (λ f is num. let lt = slice_get_within after k f is in let s = t.swapped.short in complete_by (eqb k i) files after ps qs d i last n k t m refl (omega arith) e)
 
-pub placed_left : (files after : List NewFile) (ps : List (ℕ × ℕ)) (d i last : ℕ) → TakesOne files after ps d i last → IsPlaced after (left after ps d i)
+pub placed_left : (files after : List NewFile) (ps : List (ℕ × ℕ)) (d i last : ℕ) → TakesOne files after ps d i last → AreFilePlaces after (left after ps d i)
 placed_left files after ps d i last t =
     let m = moves_at (slice_get after i) files after ps d i last t refl in
     record {
       rises = rises_at (slice_get after i) i (remove_entry (is_at (nat_cmp d)) ps) (rises_without (is_at (nat_cmp d)) ps t.placed_so.rises);
-      held = holds_after files after ps (left after ps d i) d i last t m;
-      told = tells_after files after ps (left after ps d i) d i last t m;
+      sound = sound_after files after ps (left after ps d i) d i last t m;
+      complete = complete_after files after ps (left after ps d i) d i last t m;
     }
 
 same_by : (b : Bool) (files after : List NewFile) (ps : List (ℕ × ℕ)) (d i last q : ℕ) → TakesOne files after ps d i last → same d q ≡ b → at_place after (cond b None (moved last i (found ps q))) ≡ cond b None (at_place files (found ps q))
 same_by true files after ps d i last q t is = refl
-same_by false files after ps d i last q t is = file_at files after ps d i last q (found ps q) t is (t.placed_so.held q)
+same_by false files after ps d i last q t is = file_at files after ps d i last q (found ps q) t is (t.placed_so.sound q)
 
 -- the files that are left, by number, are those without the one that is taken out
-pub left_is : (files after : List NewFile) (ps : List (ℕ × ℕ)) (d i last : ℕ) → TakesOne files after ps d i last → placed after (left after ps d i) ≡ remove_entry (is_at (nat_cmp d)) (placed files ps)
+pub left_is : (files after : List NewFile) (ps : List (ℕ × ℕ)) (d i last : ℕ) → TakesOne files after ps d i last → numbered_files after (left after ps d i) ≡ remove_entry (is_at (nat_cmp d)) (numbered_files files ps)
 left_is files after ps d i last t =
     let was = by_number_is files ps t.placed_so in
     let now = placed_left files after ps d i last t in
-    same_entries (placed after (left after ps d i)) (remove_entry (is_at (nat_cmp d)) (placed files ps)) (by_number_is after (left after ps d i) now).rises (rises_without (is_at (nat_cmp d)) (placed files ps) was.rises)
+    same_entries (numbered_files after (left after ps d i)) (remove_entry (is_at (nat_cmp d)) (numbered_files files ps)) (by_number_is after (left after ps d i) now).rises (rises_without (is_at (nat_cmp d)) (numbered_files files ps) was.rises)
     (λ q.
     found_placed after (left after ps d i) q (held_is after (left after ps d i) now)
     ∙ ap (at_place after) (moves_at (slice_get after i) files after ps d i last t refl q)
     ∙ same_by (same d q) files after ps d i last q t refl
     ∙ ap (λ (o : Option NewFile). cond (same d q) None o) (sym (found_placed files ps q (held_is files ps t.placed_so)))
-    ∙ sym (found_without d q (placed files ps) was.rises))
+    ∙ sym (found_without d q (numbered_files files ps) was.rises))
 
 -- ---- a deletion
 
-pub left_as : (after : List NewFile) (ps some_ps qs : List (ℕ × ℕ)) (d i : ℕ) → qs ≡ told_at (slice_get after i) i some_ps → some_ps ≡ remove_entry (is_at (nat_cmp d)) ps → qs ≡ left after ps d i
-left_as after ps some_ps qs d i e h = e ∙ ap (told_at (slice_get after i) i) h
+pub left_as : (after : List NewFile) (ps some_ps qs : List (ℕ × ℕ)) (d i : ℕ) → qs ≡ with_place_of (slice_get after i) i some_ps → some_ps ≡ remove_entry (is_at (nat_cmp d)) ps → qs ≡ left after ps d i
+left_as after ps some_ps qs d i e h = e ∙ ap (with_place_of (slice_get after i) i) h
 
-found_file : (files : List NewFile) (ps : List (ℕ × ℕ)) (n : ℕ) (o : Option ℕ) → IsPlaced files ps → found ps n ≡ o → at_place files o ≡ found (placed files ps) n
+found_file : (files : List NewFile) (ps : List (ℕ × ℕ)) (n : ℕ) (o : Option ℕ) → AreFilePlaces files ps → found ps n ≡ o → at_place files o ≡ found (numbered_files files ps) n
 found_file files ps n o h under = ap (at_place files) (sym under) ∙ sym (found_placed files ps n (held_is files ps h))
 
 -- whether the file under a deletion's number stands at its level
-pub stands_there : (files : List NewFile) (ps : List (ℕ × ℕ)) (d : DeletedFile) (i : ℕ) (x : NewFile) → IsPlaced files ps → found ps d.number ≡ Some i → slice_get files i ≡ Some x
-    → eqb x.level d.level ≡ has_place (values_of (placed files ps)) d
+pub stands_there : (files : List NewFile) (ps : List (ℕ × ℕ)) (d : DeletedFile) (i : ℕ) (x : NewFile) → AreFilePlaces files ps → found ps d.number ≡ Some i → slice_get files i ≡ Some x
+    → eqb x.level d.level ≡ has_place (values_of (numbered_files files ps)) d
 stands_there files ps d i x h under is =
     let es = by_number_is files ps h in
-    ap (λ (o : Option NewFile). option_map_or (λ (f : NewFile). eqb f.level d.level) o false) (sym is ∙ found_file files ps d.number (Some i) h under) ∙ there_is (placed files ps) d es.numbers es.rises
+    ap (λ (o : Option NewFile). option_map_or (λ (f : NewFile). eqb f.level d.level) o false) (sym is ∙ found_file files ps d.number (Some i) h under) ∙ there_is (numbered_files files ps) d es.numbers es.rises
 
-pub stands_nowhere : (files : List NewFile) (ps : List (ℕ × ℕ)) (d : DeletedFile) → IsPlaced files ps → found ps d.number ≡ None → false ≡ has_place (values_of (placed files ps)) d
+pub stands_nowhere : (files : List NewFile) (ps : List (ℕ × ℕ)) (d : DeletedFile) → AreFilePlaces files ps → found ps d.number ≡ None → false ≡ has_place (values_of (numbered_files files ps)) d
 stands_nowhere files ps d h under =
     let es = by_number_is files ps h in
-    ap (λ (o : Option NewFile). option_map_or (λ (f : NewFile). eqb f.level d.level) o false) (found_file files ps d.number None h under) ∙ there_is (placed files ps) d es.numbers es.rises
+    ap (λ (o : Option NewFile). option_map_or (λ (f : NewFile). eqb f.level d.level) o false) (found_file files ps d.number None h under) ∙ there_is (numbered_files files ps) d es.numbers es.rises
 
-pub others_left : (files after : List NewFile) (ps qs : List (ℕ × ℕ)) (d : DeletedFile) (i last : ℕ) → TakesOne files after ps d.number i last → qs ≡ left after ps d.number i → has_place (values_of (placed files ps)) d ≡ true
-    → values_of (placed after qs) ≡ kept_files (d ∷ []) (values_of (placed files ps))
+pub others_left : (files after : List NewFile) (ps qs : List (ℕ × ℕ)) (d : DeletedFile) (i last : ℕ) → TakesOne files after ps d.number i last → qs ≡ left after ps d.number i → has_place (values_of (numbered_files files ps)) d ≡ true
+    → values_of (numbered_files after qs) ≡ kept_files (d ∷ []) (values_of (numbered_files files ps))
 others_left files after ps qs d i last t is there =
     let es = by_number_is files ps t.placed_so in
-    ap (λ (q : List (ℕ × ℕ)). values_of (placed after q)) is ∙ ap values_of (left_is files after ps d.number i last t) ∙ others_are (placed files ps) d es.numbers es.rises there
+    ap (λ (q : List (ℕ × ℕ)). values_of (numbered_files after q)) is ∙ ap values_of (left_is files after ps d.number i last t) ∙ others_are (numbered_files files ps) d es.numbers es.rises there
 
--- ---- a place that is told to no number
+-- ---- a place that no number has
 
 set_none_by : (b : Bool) (test : ℕ → Bool) (p : ℕ × ℕ) (ps : List (ℕ × ℕ)) (i : ℕ) → cond b (some p.1) (lookup test ps) ≡ None → (lookup test ps ≡ None → set_value test ps i ≡ ps)
     → cond b ((p.0, i) ∷ ps) (p ∷ set_value test ps i) ≡ p ∷ ps

@@ -14,11 +14,11 @@ use Rattle.edit.specs.declared.meta.CompactPointer.{CompactPointer}
 abbrev pub one_level : (List ℕ → List ℕ → Ordering) → List NewFile → ℕ → List NewFile
 one_level cmp files level = map (at_level level) (in_version_order cmp (files_at files level))
 
-added_from-suc : (cmp : List ℕ → List ℕ → Ordering) (files : List NewFile) (level n : ℕ) → added_from cmp files level (suc n) ≡ one_level cmp files level ++ added_from cmp files (level + 1) n
+pub added_from-suc : (cmp : List ℕ → List ℕ → Ordering) (files : List NewFile) (level n : ℕ) → added_from cmp files level (suc n) ≡ one_level cmp files level ++ added_from cmp files (level + 1) n
 unfolding added_from
 added_from-suc cmp files level n = refl
 
-added_from-zero : (cmp : List ℕ → List ℕ → Ordering) (files : List NewFile) (level : ℕ) → added_from cmp files level zero ≡ []
+pub added_from-zero : (cmp : List ℕ → List ℕ → Ordering) (files : List NewFile) (level : ℕ) → added_from cmp files level zero ≡ []
 unfolding added_from
 added_from-zero cmp files level = refl
 

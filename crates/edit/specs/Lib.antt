@@ -1,8 +1,10 @@
+-- what contracts rest on
 pub mod Tag
 pub mod Field
 pub mod Edit
-pub mod Reading
-pub mod Lent
 pub mod Version
 pub mod VersionOrder
-pub mod Placed
+-- serves proofs alone
+pub mod Reading
+pub mod CodeFields
+pub mod FilePlaces

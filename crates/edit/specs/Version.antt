@@ -1,6 +1,7 @@
 -- Versions: files at their levels, counters and compact pointers; and a version after an edit.
 use Rattle.std.specs.Prelude.{◌≡◌, ℕ, ◌≤◌, nat_eq, Bool, true, false, not, ◌&&◌, ◌==◌, if◌then◌else◌, List, [], ◌∷◌, filter, fold, Option, Some, None, Result, Err}
 use Rattle.std.specs.List.{All, list_any, list_all}
+use Rattle.std.specs.List.Sorted.{IsStrictlySortedBy}
 use Rattle.std.specs.Option.{option_map, option_map_or, option_or, ok_or}
 use Rattle.std.specs.Ordering.{nat_cmp}
 use Rattle.std.specs.Str.{bytes_eq}
@@ -117,7 +118,10 @@ pub record AreLevelled (pointers : List (ℕ × List ℕ)) (files : List NewFile
   pub file_levels : All (λ (f : NewFile). f.level ≤ 6) files
   pub pointer_levels : All (λ (level : ℕ). level ≤ 6) (keys_of pointers)
 
--- what holds of each version: no two files have one number, and the levels are from 0 to 6
+-- What holds of each version: its files rise by number, so that no two have one number; its pointers rise by level, so that
+-- a level has one at most; and the levels are from 0 to 6.
 pub record IsState (pointers : List (ℕ × List ℕ)) (files : List NewFile) : Type 0 where
+  pub files_rise : IsStrictlySortedBy number_cmp files
   pub apart : are_apart files ≡ true
+  pub pointers_rise : IsStrictlySortedBy nat_cmp (keys_of pointers)
   pub levels : AreLevelled pointers files

@@ -52,3 +52,14 @@ snapshot_of name cmp v = record {
   deleted = [];
   added = added_from cmp v.files 0 7;
 }
+
+-- a version without its numbers
+abbrev pub unnumbered : State → State
+unnumbered v = record {
+  log_number = None;
+  previous_log = None;
+  next_file = None;
+  last_sequence = None;
+  pointers = v.pointers;
+  files = v.files;
+}

@@ -3,7 +3,7 @@
 ghost use Rattle.std.specs.Prelude.{◌≡◌, true, false, if◌then◌else◌, Some, None, fold, IfOk, IfErr, OnOk};
 ghost use Rattle.std.specs.List.{list_all};
 ghost use Rattle.std.specs.Option.{ok_or};
-ghost use Rattle.coding.specs.Answers.{Gives, fault};
+ghost use Rattle.coding.specs.Answers.{EqualOrMemory, fault};
 ghost use Rattle.coding.specs.declared.fault.FaultName.TheVariants.{Apply, Memory};
 ghost use Rattle.edit.specs.Version.{files_after, kept_files, has_place, are_new, with_file, with_pointer};
 
@@ -20,7 +20,8 @@ pub(crate) fn files_after(
     deleted: BTreeSet<DeletedFile>,
     added: Vec<NewFile>,
 ) -> Result<Files, Fault>
-    ensures { Gives (λ v. v) result (ok_or (files_after files deleted.keys added.items) (fault Apply)) }
+    ensures { EqualOrMemory (λ v. v) result
+        (ok_or (files_after files deleted.keys added.items) (fault Apply)) }
 {
     let mut kept = files;
     take_out_all(&mut kept, &deleted)?;
@@ -31,7 +32,8 @@ pub(crate) fn files_after(
 fn take_out_all(files: &mut Files, deleted: &BTreeSet<DeletedFile>) -> Result<(), Fault>
     ensures kept { OnOk result (files.new ≡ kept_files deleted.now.keys files.old) }
     ensures there { OnOk result (list_all (has_place files.old) deleted.now.keys ≡ true) }
-    ensures refused { IfErr result (λ e. (e ≡ fault Apply) × (list_all (has_place files.old) deleted.now.keys ≡ false)) }
+    ensures refused { IfErr result (λ e. (e ≡ fault Apply) ×
+        (list_all (has_place files.old) deleted.now.keys ≡ false)) }
 {
     for place in deleted.iter() {
         if !files.take_out(*place) {
@@ -43,18 +45,19 @@ fn take_out_all(files: &mut Files, deleted: &BTreeSet<DeletedFile>) -> Result<()
 
 /// Puts in the new files. `Apply` where one has the number of another, be it a new one too.
 fn put_in_all(files: Files, added: Vec<NewFile>) -> Result<Files, Fault>
-    ensures { Gives (λ v. v) result (ok_or (if are_new files added.items then Some (fold with_file files added.items) else None) (fault Apply)) }
+    ensures { EqualOrMemory (λ v. v) result
+        (ok_or (if are_new files added.items then Some (fold with_file files added.items) else None) (fault Apply)) }
 {
     files.with_all(added)?.ok_or(Fault::of(FaultName::Apply))
 }
 
-/// The pointers, of which the new ones replace those of their levels. Fails for want of memory alone.
+/// The pointers, of which the new ones replace those of their levels. Refused for want of memory alone.
 pub(crate) fn pointers_after(
     pointers: BTreeMap<u64, KeyBuf>,
     new: Vec<CompactPointer>,
 ) -> Result<BTreeMap<u64, KeyBuf>, Fault>
     ensures ok { IfOk result (λ m. m.entries ≡ fold with_pointer pointers.entries new.items) }
-    ensures memory { IfErr result (λ e. e.name ≡ Memory) }
+    ensures memory { IfErr result (λ e. e ≡ fault Memory) }
 {
     let mut pointers = pointers;
     for pointer in new {

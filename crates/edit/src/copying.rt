@@ -3,6 +3,7 @@
 ghost use Rattle.std.specs.Prelude.{◌≡◌, IfOk, IfErr};
 ghost use Rattle.std.specs.Option.{option_map};
 ghost use Rattle.std.specs.String.{string_bytes};
+ghost use Rattle.coding.specs.Answers.{fault};
 ghost use Rattle.coding.specs.declared.fault.FaultName.TheVariants.{Memory};
 
 use crate::meta::{CompactPointer, NewFile};
@@ -14,7 +15,7 @@ use std::collections::BTreeMap;
 /// Copies of the files.
 pub(crate) fn copied_files(alloc: Global, files: &[NewFile]) -> Result<Vec<NewFile>, Fault>
     ensures ok { IfOk result (λ v. v.items ≡ files.now) }
-    ensures memory { IfErr result (λ e. e.name ≡ Memory) }
+    ensures memory { IfErr result (λ e. e ≡ fault Memory) }
 {
     let mut copies = Vec::with_capacity(alloc, files.len())?;
     for file in files {
@@ -29,7 +30,7 @@ pub(crate) fn copied_pointers(
     pointers: &[CompactPointer],
 ) -> Result<Vec<CompactPointer>, Fault>
     ensures ok { IfOk result (λ v. v.items ≡ pointers.now) }
-    ensures memory { IfErr result (λ e. e.name ≡ Memory) }
+    ensures memory { IfErr result (λ e. e ≡ fault Memory) }
 {
     let mut copies = Vec::with_capacity(alloc, pointers.len())?;
     for pointer in pointers {
@@ -41,10 +42,10 @@ pub(crate) fn copied_pointers(
     Ok(copies)
 }
 
-/// A copy of the places of files. Fails for want of memory alone.
+/// A copy of the places of files. Refused for want of memory alone.
 pub(crate) fn copied_places(places: &BTreeMap<u64, usize>) -> Result<BTreeMap<u64, usize>, Fault>
     ensures ok { IfOk result (λ m. m.entries ≡ places.now.entries) }
-    ensures memory { IfErr result (λ e. e.name ≡ Memory) }
+    ensures memory { IfErr result (λ e. e ≡ fault Memory) }
 {
     Ok(places.clone()?)
 }
@@ -55,7 +56,7 @@ pub(crate) fn copied_by_level(
     pointers: &BTreeMap<u64, KeyBuf>,
 ) -> Result<BTreeMap<u64, KeyBuf>, Fault>
     ensures ok { IfOk result (λ m. m.entries ≡ pointers.now.entries) }
-    ensures memory { IfErr result (λ e. e.name ≡ Memory) }
+    ensures memory { IfErr result (λ e. e ≡ fault Memory) }
 {
     let mut copy = BTreeMap::new(alloc);
     for (level, key) in pointers.iter() {
@@ -67,7 +68,7 @@ pub(crate) fn copied_by_level(
 /// A copy of a name, where there is one.
 pub(crate) fn copied_name(alloc: Global, name: &Option<String>) -> Result<Option<String>, Fault>
     ensures ok { IfOk result (λ n. option_map string_bytes n ≡ option_map string_bytes name.now) }
-    ensures memory { IfErr result (λ e. e.name ≡ Memory) }
+    ensures memory { IfErr result (λ e. e ≡ fault Memory) }
 {
     match name {
         Some(name) => Ok(Some(String::from_str(alloc, name.as_str())?)),

@@ -5,14 +5,14 @@ use ikey::InternalKey;
 
 /// A compact pointer, its key where it lies.
 #[derive(Clone, Copy)]
-pub(crate) struct LentPointer<'a> {
+pub(crate) struct PointerContent<'a> {
     pub level: u64,
     pub key: InternalKey<'a>,
 }
 
 /// A new file, its keys where they lie.
 #[derive(Clone, Copy)]
-pub(crate) struct LentFile<'a> {
+pub(crate) struct FileContent<'a> {
     pub level: u64,
     pub number: u64,
     pub size: u64,
@@ -27,8 +27,8 @@ pub(crate) enum Field<'a> {
     LogNumber(u64),
     NextFile(u64),
     LastSequence(u64),
-    Pointer(LentPointer<'a>),
+    Pointer(PointerContent<'a>),
     Deleted(DeletedFile),
-    Added(LentFile<'a>),
+    Added(FileContent<'a>),
     PreviousLog(u64),
 }

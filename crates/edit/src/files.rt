@@ -1,9 +1,9 @@
 //! The files of a version, found by their numbers.
 
 ghost use Rattle.std.specs.Prelude.{◌≡◌, ◌++◌, true, length, map, fold, if◌then◌else◌, [], ◌∷◌, Some, None, Ok, slice_get, IfOk, IfErr};
-ghost use Rattle.coding.specs.Answers.{Gives};
+ghost use Rattle.coding.specs.Answers.{EqualOrMemory, fault};
 ghost use Rattle.coding.specs.declared.fault.FaultName.TheVariants.{Memory};
-ghost use Rattle.edit.specs.Placed.{told_at};
+ghost use Rattle.edit.specs.FilePlaces.{with_place_of};
 ghost use Rattle.edit.specs.Version.{has_place, kept_files, with_file, are_new, are_apart};
 ghost use Rattle.edit.specs.VersionOrder.{files_at};
 
@@ -29,14 +29,14 @@ pub(crate) struct Files {
 impl Model for Files {
     ghost use Rattle.std.specs.Prelude.{List};
     ghost use Rattle.std.specs.Map.{values_of};
-    ghost use Rattle.edit.specs.Placed.{placed, IsPlaced};
+    ghost use Rattle.edit.specs.FilePlaces.{numbered_files, AreFilePlaces};
     ghost use Rattle.edit.specs.declared.meta.NewFile.{NewFile as File};
 
     ghost Value = { List File };
 
-    ghost view = { λ f. values_of (placed f.files.items f.places.entries) };
+    ghost view = { λ f. values_of (numbered_files f.files.items f.places.entries) };
 
-    ghost invariant = { λ f. IsPlaced f.files.items f.places.entries };
+    ghost invariant = { λ f. AreFilePlaces f.files.items f.places.entries };
 }
 
 impl Files {
@@ -50,17 +50,18 @@ impl Files {
         }
     }
 
-    /// The files and new ones, or `None` where a new one has the number of another, be it a new one too. Fails for want of
-    /// memory alone.
+    /// The files and new ones, or `None` where a new one has the number of another, be it a new one too. Refused for
+    /// want of memory alone.
     ///
     /// Each new file takes a time that grows with the logarithm of the number of files, and less where many come together.
     pub fn with_all(self, added: Vec<NewFile>) -> Result<Option<Files>, Fault>
-        ensures { Gives (λ files. files) result (Ok (if are_new self added.items then Some (fold with_file self added.items) else None)) }
+        ensures { EqualOrMemory (λ files. files) result
+            (Ok (if are_new self added.items then Some (fold with_file self added.items) else None)) }
     {
         let mut places = self.places;
         let wanted = places.len() + added.len();
         insert_all(*added.allocator(), &mut places, self.files.len(), &added)?;
-        let files = joined(self.files, added)?;
+        let files = appended(self.files, added)?;
         if places.len() == wanted {
             Ok(Some(Files { files, places }))
         } else {
@@ -76,7 +77,7 @@ impl Files {
         match self.places.remove(&place.number) {
             Some(spot) => {
                 let file = self.files.swap_remove(spot);
-                tell_place(&mut self.places, &self.files, spot);
+                set_place(&mut self.places, &self.files, spot);
                 file.level == place.level
             }
             None => false,
@@ -85,7 +86,8 @@ impl Files {
 
     /// The files that stand at a level.
     pub fn at_level(&self, alloc: Global, level: u64) -> Result<Vec<&FileMeta>, Fault>
-        ensures files { Gives (λ v. map (λ f. f.now) v.items) result (Ok (files_at self.now level)) }
+        ensures files { EqualOrMemory (λ v. map (λ f. f.now) v.items) result
+            (Ok (files_at self.now level)) }
         ensures apart { are_apart self.now ≡ true }
     {
         let mut found = Vec::new(alloc);
@@ -101,10 +103,10 @@ impl Files {
         Ok(found)
     }
 
-    /// A copy of the files. Fails for want of memory alone.
+    /// A copy of the files. Refused for want of memory alone.
     pub fn copy(&self, alloc: Global) -> Result<Files, Fault>
         ensures same { IfOk result (λ f. f ≡ self.now) }
-        ensures memory { IfErr result (λ e. e.name ≡ Memory) }
+        ensures memory { IfErr result (λ e. e ≡ fault Memory) }
     {
         let files = copied_files(alloc, &self.files)?;
         let places = copied_places(&self.places)?;
@@ -119,10 +121,10 @@ impl Files {
     }
 }
 
-/// The files, and then the added ones. Fails for want of memory alone.
-fn joined(files: Vec<NewFile>, added: Vec<NewFile>) -> Result<Vec<NewFile>, Fault>
+/// The files, and then the added ones. Refused for want of memory alone.
+fn appended(files: Vec<NewFile>, added: Vec<NewFile>) -> Result<Vec<NewFile>, Fault>
     ensures ok { IfOk result (λ v. v.items ≡ files.items ++ added.items) }
-    ensures memory { IfErr result (λ e. e.name ≡ Memory) }
+    ensures memory { IfErr result (λ e. e ≡ fault Memory) }
 {
     if files.is_empty() {
         return Ok(added);
@@ -134,12 +136,13 @@ fn joined(files: Vec<NewFile>, added: Vec<NewFile>) -> Result<Vec<NewFile>, Faul
 }
 
 /// Sets the place of the file that lies there, where one does and its number is in the map.
-fn tell_place(places: &mut BTreeMap<u64, usize>, files: &[NewFile], place: usize)
-    ensures { places.new.entries ≡ told_at (slice_get files.now place) place places.old.entries }
+fn set_place(places: &mut BTreeMap<u64, usize>, files: &[NewFile], place: usize)
+    ensures { places.new.entries ≡
+        with_place_of (slice_get files.now place) place places.old.entries }
 {
     if let Some(file) = files.get(place) {
-        if let Some(told) = places.get_mut(&file.meta.number) {
-            *told = place;
+        if let Some(old) = places.get_mut(&file.meta.number) {
+            *old = place;
         }
     }
 }

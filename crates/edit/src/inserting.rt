@@ -3,8 +3,9 @@
 ghost use Rattle.std.specs.Prelude.{◌≡◌, ◌+◌, ◌<◌, ◌^◌, length, fold, IfOk, IfErr, OnOk};
 ghost use Rattle.std.specs.BTreeMap.{IsOrdered};
 ghost use Rattle.std.specs.Ordering.{nat_cmp};
+ghost use Rattle.coding.specs.Answers.{fault};
 ghost use Rattle.coding.specs.declared.fault.FaultName.TheVariants.{Memory};
-ghost use Rattle.edit.specs.Placed.{places_from, with_place};
+ghost use Rattle.edit.specs.FilePlaces.{places_from, with_place};
 
 use crate::meta::NewFile;
 use coding::Fault;
@@ -18,7 +19,7 @@ const FEW: usize = 16;
 const SHARE: usize = 4;
 
 /// Puts places, which count from the first one, under the numbers of the files, each in place of one that stands there.
-/// Fails for want of memory alone.
+/// Refused for want of memory alone.
 ///
 /// Few files take a time each that grows with the logarithm of the map's length; more are merged with it in one pass.
 pub(crate) fn insert_all(
@@ -28,8 +29,9 @@ pub(crate) fn insert_all(
     files: &[NewFile],
 ) -> Result<(), Fault>
     requires { first + length files.now < 2 ^ 64 }
-    ensures ok { OnOk result (places.new.entries ≡ fold with_place places.old.entries (places_from first files.now)) }
-    ensures memory { IfErr result (λ e. e.name ≡ Memory) }
+    ensures ok { OnOk result
+        (places.new.entries ≡ fold with_place places.old.entries (places_from first files.now)) }
+    ensures memory { IfErr result (λ e. e ≡ fault Memory) }
 {
     if files.len() <= FEW.max(places.len() / SHARE) {
         insert_each(places, first, files)
@@ -45,8 +47,9 @@ fn insert_each(
     files: &[NewFile],
 ) -> Result<(), Fault>
     requires { first + length files.now < 2 ^ 64 }
-    ensures ok { OnOk result (places.new.entries ≡ fold with_place places.old.entries (places_from first files.now)) }
-    ensures memory { IfErr result (λ e. e.name ≡ Memory) }
+    ensures ok { OnOk result
+        (places.new.entries ≡ fold with_place places.old.entries (places_from first files.now)) }
+    ensures memory { IfErr result (λ e. e ≡ fault Memory) }
 {
     let mut place = first;
     for file in files {
@@ -65,8 +68,9 @@ fn insert_together(
 ) -> Result<(), Fault>
     requires room { first + length files.now < 2 ^ 64 }
     requires ordered { IsOrdered nat_cmp places.old }
-    ensures ok { OnOk result (places.new.entries ≡ fold with_place places.old.entries (places_from first files.now)) }
-    ensures memory { IfErr result (λ e. e.name ≡ Memory) }
+    ensures ok { OnOk result
+        (places.new.entries ≡ fold with_place places.old.entries (places_from first files.now)) }
+    ensures memory { IfErr result (λ e. e ≡ fault Memory) }
 {
     let entries = numbered(alloc, first, files)?;
     let mut new: BTreeMap<u64, usize> = entries.into_iter().collect(alloc)?;
@@ -74,11 +78,11 @@ fn insert_together(
     Ok(())
 }
 
-/// The files' numbers, with places that count from the first one. Fails for want of memory alone.
+/// The files' numbers, with places that count from the first one. Refused for want of memory alone.
 fn numbered(alloc: Global, first: usize, files: &[NewFile]) -> Result<Vec<(u64, usize)>, Fault>
     requires { first + length files.now < 2 ^ 64 }
     ensures ok { IfOk result (λ v. v.items ≡ places_from first files.now) }
-    ensures memory { IfErr result (λ e. e.name ≡ Memory) }
+    ensures memory { IfErr result (λ e. e ≡ fault Memory) }
 {
     let mut entries = Vec::with_capacity(alloc, files.len())?;
     let mut place = first;

@@ -12,6 +12,7 @@ mod inserting;
 mod laws;
 mod meta;
 mod order;
+mod outcome;
 mod reading;
 mod snapshot;
 mod tag;
@@ -19,8 +20,9 @@ mod version;
 mod version_edit;
 mod writing;
 
-pub use laws::edit_laws;
+pub use laws::{edit_laws, snapshot_law};
 pub use meta::{CompactPointer, DeletedFile, FileMeta, NewFile};
+pub use outcome::Outcome;
 pub use version::Version;
 pub use version_edit::VersionEdit;
 

@@ -1,7 +1,7 @@
 //! What an edit says of files and of compact pointers.
 
 ghost use Rattle.std.specs.Prelude.{Ok};
-ghost use Rattle.coding.specs.Answers.{Gives};
+ghost use Rattle.coding.specs.Answers.{EqualOrMemory};
 
 use coding::Fault;
 use ikey::KeyBuf;
@@ -24,9 +24,9 @@ pub struct FileMeta {
 }
 
 impl FileMeta {
-    /// A copy of what is known of the file. Fails for want of memory alone.
+    /// A copy of what is known of the file. Refused for want of memory alone.
     pub fn copy(&self, alloc: Global) -> Result<FileMeta, Fault>
-        ensures { Gives (λ file. file) result (Ok self.now) }
+        ensures { EqualOrMemory (λ file. file) result (Ok self.now) }
     {
         Ok(FileMeta {
             number: self.number,
@@ -47,9 +47,9 @@ pub struct NewFile {
 }
 
 impl NewFile {
-    /// A copy of the file. Fails for want of memory alone.
+    /// A copy of the file. Refused for want of memory alone.
     pub(crate) fn copy(&self, alloc: Global) -> Result<NewFile, Fault>
-        ensures { Gives (λ file. file) result (Ok self.now) }
+        ensures { EqualOrMemory (λ file. file) result (Ok self.now) }
     {
         let meta = self.meta.copy(alloc)?;
         Ok(NewFile {

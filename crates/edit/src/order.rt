@@ -1,7 +1,7 @@
 //! The order of files in a version.
 
 ghost use Rattle.std.specs.Prelude.{◌≡◌, map, true, Ok, IfOk};
-ghost use Rattle.coding.specs.Answers.{Gives};
+ghost use Rattle.coding.specs.Answers.{EqualOrMemory};
 ghost use Rattle.edit.specs.Version.{are_apart};
 ghost use Rattle.edit.specs.VersionOrder.{version_cmp, in_version_order, files_at};
 
@@ -12,24 +12,25 @@ use ikey::Comparator;
 use std::alloc::Global;
 use std::cmp::Ordering;
 
+/// The files that stand at a level, in version order. Refused for want of memory alone.
+pub(crate) fn ordered_at<C: Comparator>(
+    alloc: Global,
+    files: &Files,
+    level: u64,
+) -> Result<Vec<&FileMeta>, Fault>
+    ensures ordered { EqualOrMemory (λ v. map (λ f. f.now) v.items) result
+        (Ok (in_version_order C.cmp (files_at files.now level))) }
+    ensures apart { are_apart files.now ≡ true }
+{
+    let mut found = files.at_level(alloc, level)?;
+    found.sort_unstable_by(|a, b| version_order::<C>(a, b));
+    Ok(found)
+}
+
 /// How two files are ordered in a version: by smallest internal key, then number.
 fn version_order<C: Comparator>(a: &FileMeta, b: &FileMeta) -> Ordering
     ensures { result ≡ version_cmp C.cmp a.now b.now }
 {
     let keys = a.smallest.as_key().compare::<C>(&b.smallest.as_key());
     keys.then(a.number.cmp(&b.number))
-}
-
-/// The files that stand at a level, in version order.
-pub(crate) fn ordered_at<C: Comparator>(
-    alloc: Global,
-    files: &Files,
-    level: u64,
-) -> Result<Vec<&FileMeta>, Fault>
-    ensures ordered { Gives (λ v. map (λ f. f.now) v.items) result (Ok (in_version_order C.cmp (files_at files.now level))) }
-    ensures apart { are_apart files.now ≡ true }
-{
-    let mut found = files.at_level(alloc, level)?;
-    found.sort_unstable_by(|a, b| version_order::<C>(a, b));
-    Ok(found)
 }

@@ -3,10 +3,10 @@
 ghost use Rattle.std.specs.Prelude.{◌≡◌, ◌^◌};
 ghost use Rattle.std.specs.Option.{option_map};
 ghost use Rattle.std.specs.Result.{result_map_both};
-ghost use Rattle.edit.specs.Lent.{field_in};
+ghost use Rattle.edit.specs.CodeFields.{field_in};
 ghost use Rattle.edit.specs.Reading.{varint_at, slice_at, level_at, text_at, key_at, pointer_at, deleted_at, added_at, content_at, field_at};
 
-use crate::field::{Field, LentFile, LentPointer};
+use crate::field::{Field, FileContent, PointerContent};
 use crate::meta::{DeletedFile, LEVELS};
 use crate::tag::Tag;
 use coding::{Fault, FaultName, read_u32_varint, read_u64_varint};
@@ -65,7 +65,7 @@ fn pointer_at(bytes: &[u8]) -> Option<(Field<'_>, &[u8])>
 {
     let (level, rest) = level_at(bytes)?;
     let (key, rest) = key_at(rest)?;
-    Some((Field::Pointer(LentPointer { level, key }), rest))
+    Some((Field::Pointer(PointerContent { level, key }), rest))
 }
 
 /// A level and a file's number.
@@ -88,7 +88,7 @@ fn added_at(bytes: &[u8]) -> Option<(Field<'_>, &[u8])>
     let (size, rest) = number_at(rest)?;
     let (smallest, rest) = key_at(rest)?;
     let (largest, rest) = key_at(rest)?;
-    let file = LentFile {
+    let file = FileContent {
         level,
         number,
         size,
@@ -133,7 +133,7 @@ fn level_at(bytes: &[u8]) -> Option<(u64, &[u8])>
     Some((level, rest))
 }
 
-/// The slice behind its length, which is held against the bytes that are there.
+/// The slice behind its length, which is compared with the bytes that are there.
 #[tactic(auto, unfolding(crate::specs::Reading::slice_at))]
 fn slice_at(bytes: &[u8]) -> Option<(&[u8], &[u8])>
     ensures { option_map (λ x. (x.0.now, x.1.now)) result ≡ slice_at bytes.now }

@@ -3,7 +3,7 @@
 ghost use Rattle.std.specs.Prelude.{◌≡◌, ◌<◌, ◌≤◌, ◌^◌, length, map, Ok, IfOk, IfErr};
 ghost use Rattle.coding.specs.declared.fault.FaultName.TheVariants.{Apply, Memory};
 ghost use Rattle.std.specs.Option.{option_copied, ok_or};
-ghost use Rattle.coding.specs.Answers.{Gives, fault};
+ghost use Rattle.coding.specs.Answers.{EqualOrMemory, fault};
 ghost use Rattle.edit.specs.Edit.{HasLevels, HasShortName};
 ghost use Rattle.edit.specs.Version.{IsState, empty_state, pointer_of, applied, applied_by};
 ghost use Rattle.edit.specs.VersionOrder.{level_files, snapshot_of};
@@ -35,7 +35,7 @@ pub struct Version {
 }
 
 impl Model for Version {
-    ghost use Rattle.edit.specs.Version.{State, AreLevelled};
+    ghost use Rattle.edit.specs.Version.{State, IsState};
 
     ghost Value = { State };
 
@@ -48,7 +48,7 @@ impl Model for Version {
       files = v.files;
     } };
 
-    ghost invariant = { λ v. AreLevelled v.pointers.entries v.files };
+    ghost invariant = { λ v. IsState v.pointers.entries v.files };
 }
 
 impl Version {
@@ -75,7 +75,7 @@ impl Version {
         self.log_number
     }
 
-    /// The number of the write-ahead log before, where an edit has set it.
+    /// The number of the write-ahead log before, where an edit has set it; one that was never set counts as 0.
     pub fn previous_log(&self) -> Option<u64>
         ensures { result ≡ self.now.previous_log }
     {
@@ -109,10 +109,11 @@ impl Version {
     ///
     /// The edit's levels are from 0 to 6. `Comparator` where the edit names another comparator than `C`. Else `Apply`
     /// where the edit doesn't fit: it takes out a file that isn't at that level, or it puts in a file whose number is then
-    /// there, or it puts in two files of one number. Also refused for want of memory.
+    /// there, or it puts in two files of one number. Else refused for want of memory alone.
     pub fn apply<C: Comparator>(&self, alloc: Global, edit: &VersionEdit) -> Result<Version, Fault>
         requires { HasLevels (edit_in edit.now) }
-        ensures after { Gives (λ v. v) result (applied_by C.name_bytes self.now (edit_in edit.now)) }
+        ensures after { EqualOrMemory (λ v. v) result
+            (applied_by C.name_bytes self.now (edit_in edit.now)) }
     {
         if edit.names_another::<C>() {
             return Err(Fault::of(FaultName::Comparator));
@@ -122,11 +123,12 @@ impl Version {
 
     /// The version after an edit, made of this one and of what the edit holds.
     ///
-    /// As `apply`, which leaves both as they are; this copies nothing. The time that it takes is that of the edit: each of
+    /// As `apply`, which leaves both as they are; this copies nothing, and uses both up, also where it is refused. The time that it takes is that of the edit: each of
     /// its fields takes one that grows with the logarithm of the number of files.
     pub fn applied<C: Comparator>(self, edit: VersionEdit) -> Result<Version, Fault>
         requires { HasLevels (edit_in edit) }
-        ensures after { Gives (λ v. v) result (applied_by C.name_bytes self (edit_in edit)) }
+        ensures after { EqualOrMemory (λ v. v) result
+            (applied_by C.name_bytes self (edit_in edit)) }
     {
         if edit.names_another::<C>() {
             return Err(Fault::of(FaultName::Comparator));
@@ -134,10 +136,41 @@ impl Version {
         self.changed(edit)
     }
 
-    /// The version after an edit, whose comparator is this version's. `Apply` where the edit doesn't fit.
+    /// The files of a level in version order: by smallest internal key, then number. Refused for want of memory alone.
+    pub fn files<C: Comparator>(&self, alloc: Global, level: u64) -> Result<Vec<&FileMeta>, Fault>
+        requires { level ≤ 6 }
+        ensures ordered { EqualOrMemory (λ files. map (λ file. file.now) files.items) result
+            (Ok (level_files C.cmp self.now level)) }
+        // The files rise by number, the pointers by level, and the levels are from 0 to 6.
+        ensures state { IsState self.now.pointers self.now.files }
+    {
+        ordered_at::<C>(alloc, &self.files, level)
+    }
+
+    /// The edit that makes the version of an empty one, but for its numbers: the comparator's name, the compact pointers by
+    /// level, and all files as new files, by level and in version order. Refused for want of memory alone.
+    pub fn snapshot_edit<C: Comparator>(&self, alloc: Global) -> Result<VersionEdit, Fault>
+        ensures edit { IfOk result (λ e. edit_in e ≡ snapshot_of C.name_bytes C.cmp self.now) }
+        ensures memory { IfErr result (λ e. e ≡ fault Memory) }
+        // It can be applied, and written where the comparator's name is short enough.
+        ensures levels { IfOk result (λ e. HasLevels (edit_in e)) }
+        ensures name { length C.name_bytes < 2 ^ 32 → IfOk result (λ e. HasShortName (edit_in e)) }
+        // The files rise by number, the pointers by level, and the levels are from 0 to 6.
+        ensures state { IsState self.now.pointers self.now.files }
+    {
+        let mut edit = VersionEdit::empty(alloc);
+        edit.pointers = all_pointers(alloc, &self.pointers)?;
+        edit.added = all_added::<C>(alloc, &self.files)?;
+        edit.comparator = Some(String::from_str(alloc, C::name())?);
+        Ok(edit)
+    }
+
+    /// The version after an edit, whose comparator is this version's. `Apply` where the edit doesn't fit. Else refused
+    /// for want of memory alone.
     fn changed(self, edit: VersionEdit) -> Result<Version, Fault>
         requires { HasLevels (edit_in edit) }
-        ensures after { Gives (λ v. v) result (ok_or (applied self (edit_in edit)) (fault Apply)) }
+        ensures after { EqualOrMemory (λ v. v) result
+            (ok_or (applied self (edit_in edit)) (fault Apply)) }
     {
         let files = files_after(self.files, edit.deleted, edit.added)?;
         let pointers = pointers_after(self.pointers, edit.pointers)?;
@@ -151,10 +184,10 @@ impl Version {
         })
     }
 
-    /// A copy of the version. Fails for want of memory alone.
+    /// A copy of the version. Refused for want of memory alone.
     fn copy(&self, alloc: Global) -> Result<Version, Fault>
         ensures same { IfOk result (λ v. v ≡ self.now) }
-        ensures memory { IfErr result (λ e. e.name ≡ Memory) }
+        ensures memory { IfErr result (λ e. e ≡ fault Memory) }
     {
         Ok(Version {
             log_number: self.log_number,
@@ -164,31 +197,5 @@ impl Version {
             pointers: copied_by_level(alloc, &self.pointers)?,
             files: self.files.copy(alloc)?,
         })
-    }
-
-    /// The files of a level in version order: by smallest internal key, then number. Refused only for want of memory.
-    pub fn files<C: Comparator>(&self, alloc: Global, level: u64) -> Result<Vec<&FileMeta>, Fault>
-        requires { level ≤ 6 }
-        ensures ordered { Gives (λ files. map (λ file. file.now) files.items) result (Ok (level_files C.cmp self.now level)) }
-        // No two files have one number, and the levels are from 0 to 6.
-        ensures state { IsState self.now.pointers self.now.files }
-    {
-        ordered_at::<C>(alloc, &self.files, level)
-    }
-
-    /// The edit that makes the version of an empty one, but for its numbers: the comparator's name, the compact pointers by
-    /// level, and all files as new files, by level and in version order. Refused only for want of memory.
-    pub fn snapshot_edit<C: Comparator>(&self, alloc: Global) -> Result<VersionEdit, Fault>
-        ensures edit { IfOk result (λ e. edit_in e ≡ snapshot_of C.name_bytes C.cmp self.now) }
-        ensures memory { IfErr result (λ e. e.name ≡ Memory) }
-        // It can be applied, and written where the comparator's name is short enough.
-        ensures levels { IfOk result (λ e. HasLevels (edit_in e)) }
-        ensures name { length C.name_bytes < 2 ^ 32 → IfOk result (λ e. HasShortName (edit_in e)) }
-    {
-        let mut edit = VersionEdit::empty(alloc);
-        edit.comparator = Some(String::from_str(alloc, C::name())?);
-        edit.pointers = all_pointers(alloc, &self.pointers)?;
-        edit.added = all_added::<C>(alloc, &self.files)?;
-        Ok(edit)
     }
 }

@@ -2,10 +2,10 @@
 
 ghost use Rattle.std.specs.Prelude.{◌≡◌, ◌<◌, ◌^◌, ◌++◌, IfOk, IfErr, OnOk, IsOkUnless, Ok};
 ghost use Rattle.std.specs.List.{flat_map, AllByRecursion};
-ghost use Rattle.coding.specs.Answers.{Gives, UnlessMemory, fault};
+ghost use Rattle.coding.specs.Answers.{EqualOrMemory, UnlessMemory, fault};
 ghost use Rattle.coding.specs.declared.fault.FaultName.TheVariants.{Memory};
 ghost use Rattle.edit.specs.Field.{IsField, spelling};
-ghost use Rattle.edit.specs.Lent.{field_in};
+ghost use Rattle.edit.specs.CodeFields.{field_in};
 
 use crate::copying::{copied_files, copied_name, copied_pointers};
 use crate::field::Field;
@@ -63,15 +63,15 @@ impl VersionEdit {
     ///
     /// A field is a tag, a varint, and behind it the field's content. A name or a number that comes again replaces
     /// the earlier one. Refused at the first field without a reading: `EditTag` where a number that is no tag stands
-    /// there, and else `EditField`. A claimed length is held against the bytes that are there before memory is asked
-    /// for; also refused for want of memory.
+    /// there, and else `EditField`. A claimed length is compared with the bytes that are there before memory is asked
+    /// for. Else refused for want of memory alone.
     pub fn decode(alloc: Global, bytes: &[u8]) -> Result<VersionEdit, Fault>
         // What is read is what the bytes read as.
         ensures found { IfOk result (λ e. IsEdit bytes.now (edit_in e)) }
         // What the bytes read as is read, unless memory runs out.
-        ensures only { (e : Edit) → IsEdit bytes.now e → Gives edit_in result (Ok e) }
+        ensures only { (e : Edit) → IsEdit bytes.now e → EqualOrMemory edit_in result (Ok e) }
         // Which refusal it is.
-        ensures refused { IfErr result (λ e. UnlessMemory e.name (IsRefused bytes.now e)) }
+        ensures refused { IfErr result (λ e. UnlessMemory e (IsRefused bytes.now e)) }
         // It can be written and applied.
         ensures levels { IfOk result (λ e. HasLevels (edit_in e)) }
         ensures name { IfOk result (λ e. HasShortName (edit_in e)) }
@@ -83,7 +83,7 @@ impl VersionEdit {
     /// compact pointers in their order, the deleted files by level and number, and the new files in their order. What
     /// isn't set is left out.
     ///
-    /// The levels are from 0 to 6, and the comparator's name has fewer than 2^32 bytes. Refused only for want of memory.
+    /// The levels are from 0 to 6, and the comparator's name has fewer than 2^32 bytes. Refused for want of memory alone.
     pub fn encode(&self, alloc: Global) -> Result<Vec<u8>, Fault>
         requires levels { HasLevels (edit_in self.now) }
         requires name { HasShortName (edit_in self.now) }
@@ -103,7 +103,8 @@ impl VersionEdit {
     /// Appends the comparator and the numbers.
     fn push_settings(&self, out: &mut Vec<u8>) -> Result<(), Fault>
         requires { HasShortName (edit_in self.now) }
-        ensures ok { OnOk result (out.new.items ≡ out.old.items ++ flat_map spelling (settings_of (edit_in self.now))) }
+        ensures ok { OnOk result
+            (out.new.items ≡ out.old.items ++ flat_map spelling (settings_of (edit_in self.now))) }
         ensures lawful { OnOk result (AllByRecursion IsField (settings_of (edit_in self.now))) }
         ensures memory { IsOkUnless result (fault Memory) }
     {
@@ -115,10 +116,10 @@ impl VersionEdit {
         Ok(())
     }
 
-    /// A copy of the edit. Fails for want of memory alone.
+    /// A copy of the edit. Refused for want of memory alone.
     pub(crate) fn copy(&self, alloc: Global) -> Result<VersionEdit, Fault>
         ensures same { IfOk result (λ e. edit_in e ≡ edit_in self.now) }
-        ensures memory { IfErr result (λ e. e.name ≡ Memory) }
+        ensures memory { IfErr result (λ e. e ≡ fault Memory) }
     {
         Ok(VersionEdit {
             comparator: copied_name(alloc, &self.comparator)?,
@@ -145,7 +146,7 @@ impl VersionEdit {
     /// Sets each field, one after the other.
     fn read(alloc: Global, bytes: &[u8]) -> Result<VersionEdit, Fault>
         ensures found { IfOk result (λ e. IsEdit bytes.now (edit_in e)) }
-        ensures refused { IfErr result (λ e. UnlessMemory e.name (IsRefused bytes.now e)) }
+        ensures refused { IfErr result (λ e. UnlessMemory e (IsRefused bytes.now e)) }
         ensures levels { IfOk result (λ e. HasLevels (edit_in e)) }
         ensures name { IfOk result (λ e. HasShortName (edit_in e)) }
     {
@@ -161,8 +162,9 @@ impl VersionEdit {
 
     /// Sets one field.
     fn set(&mut self, alloc: Global, field: Field<'_>) -> Result<(), Fault>
-        ensures ok { OnOk result (edit_in self.new ≡ with_field (edit_in self.old) (field_in field.entry)) }
-        ensures memory { IfErr result (λ e. e.name ≡ Memory) }
+        ensures ok { OnOk result
+            (edit_in self.new ≡ with_field (edit_in self.old) (field_in field.entry)) }
+        ensures memory { IfErr result (λ e. e ≡ fault Memory) }
     {
         match field {
             Field::Comparator(name) => self.comparator = Some(String::from_str(alloc, name)?),

@@ -20,8 +20,10 @@ use std::collections::BTreeSet;
 /// Appends the comparator's name, where there is one.
 pub(crate) fn push_comparator(out: &mut Vec<u8>, name: &Option<String>) -> Result<(), Fault>
     requires { ForSome (option_map string_bytes name.now) (λ n. length n < 2 ^ 32) }
-    ensures ok { OnOk result (out.new.items ≡ out.old.items ++ flat_map spelling (optional SetComparator (option_map string_bytes name.now))) }
-    ensures lawful { OnOk result (AllByRecursion IsField (optional SetComparator (option_map string_bytes name.now))) }
+    ensures ok { OnOk result (out.new.items ≡
+        out.old.items ++ flat_map spelling (optional SetComparator (option_map string_bytes name.now))) }
+    ensures lawful { OnOk result
+        (AllByRecursion IsField (optional SetComparator (option_map string_bytes name.now))) }
     ensures memory { IsOkUnless result (fault Memory) }
 {
     let Some(name) = name else {
@@ -33,7 +35,8 @@ pub(crate) fn push_comparator(out: &mut Vec<u8>, name: &Option<String>) -> Resul
 
 /// Appends a field of one number, where there is one.
 pub(crate) fn push_optional(out: &mut Vec<u8>, tag: Tag, number: Option<u64>) -> Result<(), Fault>
-    ensures ok { OnOk result (out.new.items ≡ out.old.items ++ option_map_or (λ n. varint (tag_number tag) ++ varint n) number []) }
+    ensures ok { OnOk result (out.new.items ≡
+        out.old.items ++ option_map_or (λ n. varint (tag_number tag) ++ varint n) number []) }
     ensures fits { IfSome number (λ n. n < 2 ^ 64) }
     ensures memory { IsOkUnless result (fault Memory) }
 {
@@ -47,7 +50,8 @@ pub(crate) fn push_optional(out: &mut Vec<u8>, tag: Tag, number: Option<u64>) ->
 /// Appends each pointer.
 pub(crate) fn push_pointers(out: &mut Vec<u8>, pointers: &[CompactPointer]) -> Result<(), Fault>
     requires { All (λ pointer. pointer.level ≤ 6) pointers.now }
-    ensures ok { OnOk result (out.new.items ≡ out.old.items ++ flat_map spelling (map SetPointer pointers.now)) }
+    ensures ok { OnOk result
+        (out.new.items ≡ out.old.items ++ flat_map spelling (map SetPointer pointers.now)) }
     ensures lawful { OnOk result (AllByRecursion IsField (map SetPointer pointers.now)) }
     ensures memory { IsOkUnless result (fault Memory) }
 {
@@ -73,7 +77,8 @@ fn push_pointer(out: &mut Vec<u8>, pointer: &CompactPointer) -> Result<(), Fault
 /// Appends each deleted file, by level and number.
 pub(crate) fn push_deleted(out: &mut Vec<u8>, deleted: &BTreeSet<DeletedFile>) -> Result<(), Fault>
     requires { All (λ file. file.level ≤ 6) deleted.now.keys }
-    ensures ok { OnOk result (out.new.items ≡ out.old.items ++ flat_map spelling (map DeleteFile deleted.now.keys)) }
+    ensures ok { OnOk result
+        (out.new.items ≡ out.old.items ++ flat_map spelling (map DeleteFile deleted.now.keys)) }
     ensures lawful { OnOk result (AllByRecursion IsField (map DeleteFile deleted.now.keys)) }
     ensures ordered { OnOk result (IsStrictlySortedBy deleted_cmp deleted.now.keys) }
     ensures memory { IsOkUnless result (fault Memory) }
@@ -99,7 +104,8 @@ fn push_deletion(out: &mut Vec<u8>, file: DeletedFile) -> Result<(), Fault>
 /// Appends each new file.
 pub(crate) fn push_added(out: &mut Vec<u8>, added: &[NewFile]) -> Result<(), Fault>
     requires { All (λ file. file.level ≤ 6) added.now }
-    ensures ok { OnOk result (out.new.items ≡ out.old.items ++ flat_map spelling (map AddFile added.now)) }
+    ensures ok { OnOk result
+        (out.new.items ≡ out.old.items ++ flat_map spelling (map AddFile added.now)) }
     ensures lawful { OnOk result (AllByRecursion IsField (map AddFile added.now)) }
     ensures memory { IsOkUnless result (fault Memory) }
 {

@@ -1,5 +1,14 @@
-mod NameLemmas
+pub mod NameLemmas
 mod ManifestLemmas
 pub mod OpeningLemmas
 pub mod LoadingLemmas
 mod RefusalLemmas
+pub mod TellsLemmas
+pub mod PutLemmas
+pub mod ReadsLemmas
+pub mod CrashLemmas
+pub mod RunLemmas
+pub mod NameEnds
+pub mod WrittenLemmas
+mod AloneLemmas
+pub mod CountLemmas

@@ -6,7 +6,7 @@ use Rattle.std.specs.List.{AllZip}
 use Rattle.coding.specs.declared.fault.Fault.{Fault}
 use Rattle.folder.specs.Folder.{TellsSame}
 use Rattle.folder.specs.Levels.{by_level}
-use Rattle.folder.specs.Loading.{IsLoaded, IsTable, IsTableOf}
+use Rattle.folder.specs.Loading.{IsLoaded, IsTableAnswer, IsTableOf}
 use Rattle.folder.proofs.ManifestLemmas.{zip_push}
 
 -- one level more
@@ -28,7 +28,7 @@ pub told_since : (one two three : List ℕ → Option (List ℕ) → Type 0) →
 told_since one two three a b name held = (λ h. (b name held).0 ((a name held).0 h), λ h. (a name held).1 ((b name held).1 h))
 
 -- a table told later
-pub table_before : (old new : List ℕ → Option (List ℕ) → Type 0) (number : ℕ) (r : Result (List ℕ) Fault) → TellsSame old new → IsTable new number r → IsTable old number r
+pub table_before : (old new : List ℕ → Option (List ℕ) → Type 0) (number : ℕ) (r : Result (List ℕ) Fault) → TellsSame old new → IsTableAnswer new number r → IsTableAnswer old number r
 table_before old new number (Ok bytes) same (inl h) = inl ((same _ (Some bytes)).1 h)
 table_before old new number (Ok bytes) same (inr h) = inr ((same _ None).1 h.0, (same _ (Some bytes)).1 h.1)
 table_before old new number (Err e) same h = ((same _ None).1 h.0, (same _ None).1 h.1, h.2)
@@ -39,7 +39,7 @@ table_of t = (t.0, t.1.items)
 
 -- one table more
 pub tables_more : (tells : List ℕ → Option (List ℕ) → Type 0) (numbers : List ℕ) (i : ℕ) (tables after : List (ℕ × Vec ℕ)) (bytes : Vec ℕ) → i < length numbers → after ≡ tables ++ (get_or numbers i 0, bytes) ∷ []
-    → AllZip (IsTableOf tells) (take i numbers) (map table_of tables) → IsTable tells (get_or numbers i 0) (Ok bytes.items) → AllZip (IsTableOf tells) (take (i + 1) numbers) (map table_of after)
+    → AllZip (IsTableOf tells) (take i numbers) (map table_of tables) → IsTableAnswer tells (get_or numbers i 0) (Ok bytes.items) → AllZip (IsTableOf tells) (take (i + 1) numbers) (map table_of after)
 tables_more tells numbers i tables after bytes within made all one =
     let number = get_or numbers i 0 in
     let front : take (i + 1) numbers ≡ take i numbers ++ number ∷ [] = take_more numbers i 0 within in
@@ -48,7 +48,7 @@ tables_more tells numbers i tables after bytes within made all one =
 
 -- the next table isn't there
 pub missing_there : (tells : List ℕ → Option (List ℕ) → Type 0) (numbers : List ℕ) (i : ℕ) (tables : List (ℕ × Vec ℕ)) (e : Fault) → i < length numbers
-    → AllZip (IsTableOf tells) (take i numbers) (map table_of tables) → IsTable tells (get_or numbers i 0) (Err e) → IsLoaded tells numbers (Err e)
+    → AllZip (IsTableOf tells) (take i numbers) (map table_of tables) → IsTableAnswer tells (get_or numbers i 0) (Err e) → IsLoaded tells numbers (Err e)
 missing_there tells numbers i tables e within all h = record {
   before = take i numbers;
   tables = map table_of tables;

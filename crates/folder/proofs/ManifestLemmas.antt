@@ -4,7 +4,7 @@ use Rattle.std.proofs.lemmas.List.{take_more, take-append-drop, map-append}
 use Rattle.std.specs.Global.{Vec}
 use Rattle.std.specs.List.{AllZip}
 use Rattle.coding.proofs.Refusals.{unless_from}
-use Rattle.coding.specs.Answers.{Fails, Gives, UnlessMemory, Answers}
+use Rattle.coding.specs.Answers.{FailsOrMemory, EqualOrMemory, UnlessMemory, HoldsOrMemory}
 use Rattle.coding.specs.declared.fault.Fault.{Fault}
 use Rattle.logrec.specs.Reading.{lists, records_of}
 use Rattle.edit.specs.Edit.{Edit, IsEdit, IsRefused, edit_in}
@@ -14,14 +14,14 @@ use Rattle.folder.specs.Manifest.{AreEdits, IsEditsAnswer, IsManifestAnswer, ver
 use Rattle.folder.specs.declared.order.Order.{Order}
 
 -- a refusal that `?` hands on
-pub handed_on : {X Y : Type 0} (view : X → Y) (r : Result X Fault) (e : Fault) (IsAnswer : Result Y Fault → Type 0) → IsErrAnd r (λ f. f ≡ e) → UnlessMemory e.name (IsAnswer (Err e)) → Answers view r IsAnswer
+pub handed_on : {X Y : Type 0} (view : X → Y) (r : Result X Fault) (e : Fault) (IsAnswer : Result Y Fault → Type 0) → IsErrAnd r (λ f. f ≡ e) → UnlessMemory e (IsAnswer (Err e)) → HoldsOrMemory view r IsAnswer
 handed_on view (Ok x) e IsAnswer h u = absurd h
-handed_on view (Err f) e IsAnswer h u = subst (λ (g : Fault). UnlessMemory g.name (IsAnswer (Err g))) (sym h) u
+handed_on view (Err f) e IsAnswer h u = subst (λ (g : Fault). UnlessMemory g (IsAnswer (Err g))) (sym h) u
 
 -- what a call answers that gives what a definition answers
-pub given_answer : {X Y : Type 0} (view : X → Y) (r : Result X Fault) (d : Result Y Fault) (IsAnswer : Result Y Fault → Type 0) → ((a : Result Y Fault) → a ≡ d → IsAnswer a) → Gives view r d → Answers view r IsAnswer
+pub given_answer : {X Y : Type 0} (view : X → Y) (r : Result X Fault) (d : Result Y Fault) (IsAnswer : Result Y Fault → Type 0) → ((a : Result Y Fault) → a ≡ d → IsAnswer a) → EqualOrMemory view r d → HoldsOrMemory view r IsAnswer
 given_answer view (Ok x) d IsAnswer f given = f (Ok (view x)) (sym given)
-given_answer view (Err e) d IsAnswer f given = unless_from e.name (d ≡ Err e) (IsAnswer (Err e)) (λ same. f (Err e) (sym same)) given
+given_answer view (Err e) d IsAnswer f given = unless_from e (d ≡ Err e) (IsAnswer (Err e)) (λ same. f (Err e) (sym same)) given
 
 -- one pair more
 pub zip_push : {A B : Type 0} (R : A → B → Type 0) (xs : List A) (ys : List B) (x : A) (y : B) → AllZip R xs ys → R x y → AllZip R (xs ++ x ∷ []) (ys ++ y ∷ [])
@@ -41,12 +41,12 @@ read_more records i r edits after e within is pushed all one =
 
 -- the next record is refused
 pub refused_there : (records : List (Vec ℕ)) (i : ℕ) (r : Vec ℕ) (edits : List VersionEdit) (e : Fault) → i < length records → r ≡ get_or records i r
-    → AreEdits (lists (take i records)) (map edit_in edits) → UnlessMemory e.name (IsRefused r.items e) → UnlessMemory e.name (IsEditsAnswer (lists records) (Err e))
+    → AreEdits (lists (take i records)) (map edit_in edits) → UnlessMemory e (IsRefused r.items e) → UnlessMemory e (IsEditsAnswer (lists records) (Err e))
 refused_there records i r edits e within is all h =
     let rest : drop i records ≡ r ∷ drop (suc i) records = drop-cons records i r within ∙ ap (λ (x : Vec ℕ). x ∷ drop (suc i) records) (sym is) in
     let parts : lists records ≡ lists (take i records) ++ r.items ∷ lists (drop (suc i) records) =
     ap lists (sym (take-append-drop i records) ∙ ap (λ (xs : List (Vec ℕ)). take i records ++ xs) rest) ∙ map-append _ (take i records) (r ∷ drop (suc i) records) in
-    unless_from e.name (IsRefused r.items e) (IsEditsAnswer (lists records) (Err e)) (λ refused. record {
+    unless_from e (IsRefused r.items e) (IsEditsAnswer (lists records) (Err e)) (λ refused. record {
       before = lists (take i records);
       edits = map edit_in edits;
       bytes = r.items;
@@ -57,12 +57,12 @@ refused_there records i r edits e within is all h =
     }) h
 
 -- the bytes are no log
-pub no_log : (number : ℕ) (bytes : List ℕ) (e : Fault) → Fails e (records_of bytes) → UnlessMemory e.name (IsManifestAnswer number bytes (Err e))
-no_log number bytes e h = unless_from e.name (records_of bytes ≡ Err e) (IsManifestAnswer number bytes (Err e)) (λ same. (Err e, (sym same, refl))) h
+pub no_log : (number : ℕ) (bytes : List ℕ) (e : Fault) → FailsOrMemory e (records_of bytes) → UnlessMemory e (IsManifestAnswer number bytes (Err e))
+no_log number bytes e h = unless_from e (records_of bytes ≡ Err e) (IsManifestAnswer number bytes (Err e)) (λ same. (Err e, (sym same, refl))) h
 
 -- a record reads as no edit
-pub no_edits : (number : ℕ) (bytes : List ℕ) (records : List (List ℕ)) (e : Fault) → records_of bytes ≡ Ok records → UnlessMemory e.name (IsEditsAnswer records (Err e)) → UnlessMemory e.name (IsManifestAnswer number bytes (Err e))
-no_edits number bytes records e log h = unless_from e.name (IsEditsAnswer records (Err e)) (IsManifestAnswer number bytes (Err e)) (λ f. (Ok records, (sym log, (Err e, (f, refl))))) h
+pub no_edits : (number : ℕ) (bytes : List ℕ) (records : List (List ℕ)) (e : Fault) → records_of bytes ≡ Ok records → UnlessMemory e (IsEditsAnswer records (Err e)) → UnlessMemory e (IsManifestAnswer number bytes (Err e))
+no_edits number bytes records e log h = unless_from e (IsEditsAnswer records (Err e)) (IsManifestAnswer number bytes (Err e)) (λ f. (Ok records, (sym log, (Err e, (f, refl))))) h
 
 -- the records are edits, which answer
 pub edits_answer : (number : ℕ) (bytes : List ℕ) (records : List (List ℕ)) (edits : List Edit) → records_of bytes ≡ Ok records → IsEditsAnswer records (Ok edits) → (a : Result (Order × State) Fault) → a ≡ version_from number edits → IsManifestAnswer number bytes a

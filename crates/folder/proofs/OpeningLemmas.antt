@@ -1,7 +1,7 @@
 -- What opening a folder answers, step by step.
 use Rattle.std.proofs.Common.{◌≡◌, ◌⊎◌, ℕ, ◌≤◌, List, Option, Some, None, Result, Ok, Err, IsErrAnd, refl, sym, subst, arith, inl, inr, codes}
 use Rattle.coding.proofs.Refusals.{unless_from}
-use Rattle.coding.specs.Answers.{UnlessMemory, Answers}
+use Rattle.coding.specs.Answers.{UnlessMemory, HoldsOrMemory}
 use Rattle.coding.specs.declared.fault.Fault.{Fault}
 use Rattle.edit.specs.Version.{State}
 use Rattle.folder.specs.Folder.{DeviceFailed, TellsSame}
@@ -20,29 +20,29 @@ failed_since before middle now one two h =
 
 -- a call's refusal that `?` hands on, where more calls came before it
 pub hands_on : {X Y Z : Type 0} (view : X → Y) (before middle now : ℕ) (r : Result X Fault) (e : Fault) (IsFirst : Result Z Fault → Type 0) (IsAnswer : Result Y Fault → Type 0)
-    → IsErrAnd r (λ f. f ≡ e) → before ≤ middle → middle ≤ now → UnlessMemory e.name (IsStopped middle now e ⊎ IsFirst (Err e)) → (IsFirst (Err e) → IsAnswer (Err e)) → FolderAnswers view before now r IsAnswer
+    → IsErrAnd r (λ f. f ≡ e) → before ≤ middle → middle ≤ now → UnlessMemory e (IsStopped middle now e ⊎ IsFirst (Err e)) → (IsFirst (Err e) → IsAnswer (Err e)) → FolderAnswers view before now r IsAnswer
 hands_on view before middle now (Ok x) e IsFirst IsAnswer h one two given f = absurd h
 hands_on view before middle now (Err g) e IsFirst IsAnswer h one two given f =
-    subst (λ (x : Fault). UnlessMemory x.name (IsStopped before now x ⊎ IsAnswer (Err x))) (sym h)
-    (unless_from e.name (IsStopped middle now e ⊎ IsFirst (Err e)) (IsStopped before now e ⊎ IsAnswer (Err e)) (λ g. elim g [
+    subst (λ (x : Fault). UnlessMemory x (IsStopped before now x ⊎ IsAnswer (Err x))) (sym h)
+    (unless_from e (IsStopped middle now e ⊎ IsFirst (Err e)) (IsStopped before now e ⊎ IsAnswer (Err e)) (λ g. elim g [
       | inl stopped ↦ inl (stopped.0, failed_since before middle now one two stopped.1)
       | inr first ↦ inr (f first)
     ]) given)
 
 -- a refusal by what was read alone
 pub refuses : {X Y Z : Type 0} (view : X → Y) (before now : ℕ) (r : Result X Fault) (e : Fault) (IsFirst : Result Z Fault → Type 0) (IsAnswer : Result Y Fault → Type 0)
-    → IsErrAnd r (λ f. f ≡ e) → UnlessMemory e.name (IsFirst (Err e)) → (IsFirst (Err e) → IsAnswer (Err e)) → FolderAnswers view before now r IsAnswer
+    → IsErrAnd r (λ f. f ≡ e) → UnlessMemory e (IsFirst (Err e)) → (IsFirst (Err e) → IsAnswer (Err e)) → FolderAnswers view before now r IsAnswer
 refuses view before now (Ok x) e IsFirst IsAnswer h given f = absurd h
 refuses view before now (Err g) e IsFirst IsAnswer h given f =
-    subst (λ (x : Fault). UnlessMemory x.name (IsStopped before now x ⊎ IsAnswer (Err x))) (sym h)
-    (unless_from e.name (IsFirst (Err e)) (IsStopped before now e ⊎ IsAnswer (Err e)) (λ first. inr (f first)) given)
+    subst (λ (x : Fault). UnlessMemory x (IsStopped before now x ⊎ IsAnswer (Err x))) (sym h)
+    (unless_from e (IsFirst (Err e)) (IsStopped before now e ⊎ IsAnswer (Err e)) (λ first. inr (f first)) given)
 
 -- what is read alone answers
 pub answers_alone : {X Y : Type 0} (view : X → Y) (before now : ℕ) (r : Result X Fault) (IsFirst IsAnswer : Result Y Fault → Type 0)
-    → ((a : Result Y Fault) → IsFirst a → IsAnswer a) → Answers view r IsFirst → FolderAnswers view before now r IsAnswer
+    → ((a : Result Y Fault) → IsFirst a → IsAnswer a) → HoldsOrMemory view r IsFirst → FolderAnswers view before now r IsAnswer
 answers_alone view before now (Ok x) IsFirst IsAnswer f given = f (Ok (view x)) given
 answers_alone view before now (Err e) IsFirst IsAnswer f given =
-    unless_from e.name (IsFirst (Err e)) (IsStopped before now e ⊎ IsAnswer (Err e)) (λ first. inr (f (Err e) first)) given
+    unless_from e (IsFirst (Err e)) (IsStopped before now e ⊎ IsAnswer (Err e)) (λ first. inr (f (Err e) first)) given
 
 -- what was held at first, told later
 pub held_before : (old new : List ℕ → Option (List ℕ) → Type 0) (name told : List ℕ) (r : Result (List ℕ) Fault) → TellsSame old new → told ≡ name → IsHeld new told r → IsHeld old name r

@@ -2,7 +2,8 @@
 use Rattle.std.proofs.Common.{◌≡◌, ◌⊎◌, ℕ, suc, zero, ◌^◌, nat_lt, length, drop, is_none, Bool, true, false, List, [], ◌∷◌, Option, Some, None, Result, Ok, Err, IfErr, sym, subst, if◌then◌else◌, inl, inr}
 use Rattle.std.specs.Option.{option_map_or, ok_or}
 use Rattle.coding.proofs.Binds.{failed}
-use Rattle.coding.specs.Answers.{◌>>=◌, IsThen, UnlessMemory, fault}
+use Rattle.coding.proofs.Refusals.{unless_device}
+use Rattle.coding.specs.Answers.{◌>>=◌, IsThen, fault}
 use Rattle.coding.specs.declared.fault.Fault.{Fault}
 use Rattle.coding.specs.declared.fault.FaultName.{FaultName}
 use Rattle.coding.specs.Varint.{varint_reading}
@@ -160,7 +161,7 @@ pub device_failed : {X Y : Type 0} (view : X → Y) (before now : ℕ) (r : Resu
     → FolderAnswers view before now r IsAnswer → IfErr r (HasDeviceFailed before now)
 device_failed view before now (Ok x) IsAnswer of_contents h = tt
 device_failed view before now (Err e) IsAnswer of_contents h = λ is.
-    elim (subst (λ (n : FaultName). UnlessMemory n (IsStopped before now e ⊎ IsAnswer (Err e))) is h) [
+    elim (unless_device e (IsStopped before now e ⊎ IsAnswer (Err e)) is h) [
       | inl stopped ↦ stopped.1
       | inr answer ↦ absurd (subst IsOfContents is (of_contents e answer))
     ]

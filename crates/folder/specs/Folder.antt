@@ -1,5 +1,5 @@
 -- What the calls of a folder promise.
-use Rattle.std.specs.Prelude.{◌≡◌, ◌⊎◌, ◌↔◌, ℕ, ◌<◌, ◌≤◌, ◌^◌, ◌-◌, List, Option, Result, IsErrOf}
+use Rattle.std.specs.Prelude.{◌≡◌, ◌⊎◌, ◌↔◌, ℕ, ◌+◌, ◌<◌, ◌^◌, ◌-◌, nat_eq, if◌then◌else◌, List, Option, Result, Ok, Err}
 use Rattle.coding.specs.declared.fault.FaultName.{FaultName}
 use Rattle.coding.specs.declared.fault.FaultName.TheVariants as name
 use Rattle.folder.specs.declared.folder.FolderFault.{FolderFault}
@@ -10,14 +10,19 @@ abbrev pub fault_name : FolderFault → FaultName
 fault_name Device = name.Device
 fault_name Memory = name.Memory
 
+-- one failure more: the count ends at 2^64 - 1, and stays there
+abbrev pub one_more : ℕ → ℕ
+one_more n = if nat_eq n (2 ^ 64 - 1) then n else n + 1
+
+-- the count of failures after a call: one more where it answers Device, and else as before
+abbrev pub failures_after : {T : Type 0} → ℕ → Result T FolderFault → ℕ
+failures_after before (Ok x) = before
+failures_after before (Err Device) = one_more before
+failures_after before (Err Memory) = before
+
 -- The device failed in between: the count of failures rose, or stood at its end.
 abbrev pub DeviceFailed : ℕ → ℕ → Type 0
 DeviceFailed before now = (before < now) ⊎ (before ≡ 2 ^ 64 - 1)
-
--- The count of failures doesn't fall, and Device is answered only where the device failed.
-pub record HasCause {T : Type 0} (before now : ℕ) (result : Result T FolderFault) : Type 0 where
-  pub later : before ≤ now
-  pub device : IsErrOf result Device → DeviceFailed before now
 
 -- what may be read stays the same under each name
 abbrev pub TellsSame : (List ℕ → Option (List ℕ) → Type 0) → (List ℕ → Option (List ℕ) → Type 0) → Type 0

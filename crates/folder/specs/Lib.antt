@@ -1,6 +1,14 @@
+-- what contracts rest on
 pub mod Names
 pub mod Folder
+pub mod Calls
 pub mod Manifest
 pub mod Opening
 pub mod Levels
 pub mod Loading
+pub mod Crash
+pub mod ReadsAs
+pub mod Runs
+-- serves proofs alone
+pub mod Attempts
+pub mod Free

@@ -8,13 +8,13 @@ use Rattle.folder.specs.Names.{old_table_name, table_name}
 
 -- The bytes of the table of a number: those under its name, and where it has none those under its older name. Missing
 -- where it has neither.
-abbrev pub IsTable : (List ℕ → Option (List ℕ) → Type 0) → ℕ → Result (List ℕ) Fault → Type 0
-IsTable tells number (Ok bytes) = tells (table_name number) (Some bytes) ⊎ (tells (table_name number) None × tells (old_table_name number) (Some bytes))
-IsTable tells number (Err e) = tells (table_name number) None × tells (old_table_name number) None × (e ≡ fault Missing)
+abbrev pub IsTableAnswer : (List ℕ → Option (List ℕ) → Type 0) → ℕ → Result (List ℕ) Fault → Type 0
+IsTableAnswer tells number (Ok bytes) = tells (table_name number) (Some bytes) ⊎ (tells (table_name number) None × tells (old_table_name number) (Some bytes))
+IsTableAnswer tells number (Err e) = tells (table_name number) None × tells (old_table_name number) None × (e ≡ fault Missing)
 
 -- the table of this number
 abbrev pub IsTableOf : (List ℕ → Option (List ℕ) → Type 0) → ℕ → ℕ × List ℕ → Type 0
-IsTableOf tells number table = (table.0 ≡ number) × IsTable tells number (Ok table.1)
+IsTableOf tells number table = (table.0 ≡ number) × IsTableAnswer tells number (Ok table.1)
 
 -- the first of the numbers whose table isn't there
 pub record IsFirstMissing (tells : List ℕ → Option (List ℕ) → Type 0) (numbers : List ℕ) (e : Fault) : Type 0 where
@@ -24,7 +24,7 @@ pub record IsFirstMissing (tells : List ℕ → Option (List ℕ) → Type 0) (n
   pub behind : List ℕ
   pub parts : numbers ≡ before ++ number ∷ behind
   pub read : AllZip (IsTableOf tells) before tables
-  pub missing : IsTable tells number (Err e)
+  pub missing : IsTableAnswer tells number (Err e)
 
 -- the tables of these numbers in order, or Missing at the first that isn't there
 abbrev pub IsLoaded : (List ℕ → Option (List ℕ) → Type 0) → List ℕ → Result (List (ℕ × List ℕ)) Fault → Type 0

@@ -1,11 +1,13 @@
 //! A folder of the system.
 
-ghost use Rattle.std.specs.Prelude.{IsOkUnless, ◌≡◌};
-ghost use Rattle.std.specs.Option.{option_map};
-ghost use Rattle.folder.specs.Folder.{HasCause, TellsSame};
+ghost use Rattle.std.specs.Prelude.{IsOkUnless, ◌≡◌, [], ◌∷◌, ◌++◌};
+ghost use Rattle.folder.specs.Calls.{step_of};
+ghost use Rattle.folder.specs.Folder.{failures_after};
+ghost use Rattle.folder.specs.Attempts.{call_in};
 ghost use Rattle.folder.specs.declared.folder.FolderFault.TheVariants.{Memory};
 
 use crate::folder::{Folder, FolderFault};
+use crate::trail::{Attempt, Trail, WriteCall};
 use std::fs::{File, OpenFile, OpenOptions};
 use std::io::ErrorKind;
 use std::rt::Files;
@@ -19,17 +21,20 @@ pub struct Disk<'r, R> {
     rt: &'r R,
     path: &'r str,
     failures: u64,
+    trail: Trail,
 }
 
 impl<'r, R: Files + AllocGlobal> Disk<'r, R> {
     /// The folder at this path, of which no call has failed yet. Nothing is read.
     pub fn new(rt: &'r R, path: &'r str) -> Disk<'r, R>
-        ensures { ⟦<Disk<'r, R> as Folder>⟧.failed result ≡ 0 }
+        ensures failed { ⟦<Disk<'r, R> as Folder>⟧.failed result ≡ 0 }
+        ensures calls { ⟦<Disk<'r, R> as Folder>⟧.calls result ≡ [] }
     {
         Disk {
             rt,
             path,
             failures: 0,
+            trail: Trail::new(),
         }
     }
 
@@ -46,7 +51,8 @@ impl<'r, R: Files + AllocGlobal> Disk<'r, R> {
 
     /// What a call of the system answered. A failure that isn't want of memory is the device's, and is counted.
     fn counted<T>(&mut self, answer: io::Result<T>) -> Result<T, FolderFault>
-        ensures { HasCause self.old.failures self.new.failures result }
+        ensures failures { self.new.failures ≡ failures_after self.old.failures result }
+        ensures trail { self.new.trail ≡ self.old.trail }
     {
         match answer {
             Ok(value) => Ok(value),
@@ -57,10 +63,65 @@ impl<'r, R: Files + AllocGlobal> Disk<'r, R> {
             }
         }
     }
+
+    /// Adds a call to the trail, by what it answered.
+    fn note(
+        &mut self,
+        call: WriteCall<'_>,
+        answer: Result<(), FolderFault>,
+    ) -> Result<(), FolderFault>
+        ensures answer { result ≡ answer }
+        ensures trail { self.new.trail.steps ≡ self.old.trail.steps ++ step_of (call_in call.entry) answer ∷ [] }
+        ensures failures { self.new.failures ≡ self.old.failures }
+    {
+        let is_done = answer.is_ok();
+        self.trail = self.trail.then(&Attempt { call, is_done });
+        answer
+    }
+
+    fn made(&mut self, name: &str, bytes: &[u8]) -> Result<(), FolderFault>
+        ensures failures { self.new.failures ≡ failures_after self.old.failures result }
+        ensures trail { self.new.trail ≡ self.old.trail }
+    {
+        let place = self.place(name)?;
+        let answer = fs::write(self.rt, place.as_str(), bytes);
+        self.counted(answer)
+    }
+
+    fn synced(&mut self, name: &str) -> Result<(), FolderFault>
+        ensures failures { self.new.failures ≡ failures_after self.old.failures result }
+        ensures trail { self.new.trail ≡ self.old.trail }
+    {
+        let place = self.place(name)?;
+        let file = OpenOptions::new().write(true).open(self.rt, place.as_str());
+        let answer = self.counted(file)?.sync_all();
+        self.counted(answer)
+    }
+
+    fn renamed(&mut self, from: &str, to: &str) -> Result<(), FolderFault>
+        ensures failures { self.new.failures ≡ failures_after self.old.failures result }
+        ensures trail { self.new.trail ≡ self.old.trail }
+    {
+        let from = self.place(from)?;
+        let to = self.place(to)?;
+        let answer = fs::rename(self.rt, from.as_str(), to.as_str());
+        self.counted(answer)
+    }
+
+    fn folder_synced(&mut self) -> Result<(), FolderFault>
+        ensures failures { self.new.failures ≡ failures_after self.old.failures result }
+        ensures trail { self.new.trail ≡ self.old.trail }
+    {
+        let folder = File::open(self.rt, self.path);
+        let answer = self.counted(folder)?.sync_all();
+        self.counted(answer)
+    }
 }
 
 impl<'r, R: Files + AllocGlobal> Folder for Disk<'r, R> {
     ghost tells = { λ _ _ _. Unit {0} };
+
+    ghost calls = { λ disk. disk.trail.steps };
 
     ghost failed = { λ disk. disk.failures };
 
@@ -74,29 +135,23 @@ impl<'r, R: Files + AllocGlobal> Folder for Disk<'r, R> {
     }
 
     fn create(&mut self, name: &str, bytes: &[u8]) -> Result<(), FolderFault> {
-        let place = self.place(name)?;
-        let answer = fs::write(self.rt, place.as_str(), bytes);
-        self.counted(answer)
+        let answer = self.made(name, bytes);
+        self.note(WriteCall::Create(name, bytes), answer)
     }
 
     fn sync(&mut self, name: &str) -> Result<(), FolderFault> {
-        let place = self.place(name)?;
-        let file = OpenOptions::new().write(true).open(self.rt, place.as_str());
-        let answer = self.counted(file)?.sync_all();
-        self.counted(answer)
+        let answer = self.synced(name);
+        self.note(WriteCall::Sync(name), answer)
     }
 
     fn rename(&mut self, from: &str, to: &str) -> Result<(), FolderFault> {
-        let from = self.place(from)?;
-        let to = self.place(to)?;
-        let answer = fs::rename(self.rt, from.as_str(), to.as_str());
-        self.counted(answer)
+        let answer = self.renamed(from, to);
+        self.note(WriteCall::Rename(from, to), answer)
     }
 
     fn sync_folder(&mut self) -> Result<(), FolderFault> {
-        let folder = File::open(self.rt, self.path);
-        let answer = self.counted(folder)?.sync_all();
-        self.counted(answer)
+        let answer = self.folder_synced();
+        self.note(WriteCall::SyncFolder, answer)
     }
 
     fn failures(&self) -> u64 {

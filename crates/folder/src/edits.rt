@@ -1,7 +1,7 @@
 //! What the bytes of a manifest say.
 
 ghost use Rattle.std.specs.Prelude.{◌≡◌, All, IfOk, map, if◌then◌else◌, Ok, Err};
-ghost use Rattle.coding.specs.Answers.{Gives, fault, Answers, IsThen};
+ghost use Rattle.coding.specs.Answers.{EqualOrMemory, fault, HoldsOrMemory, IsThen};
 ghost use Rattle.coding.specs.declared.fault.FaultName.TheVariants.{Apply};
 ghost use Rattle.logrec.specs.Reading.{lists, records_of};
 ghost use Rattle.edit.specs.Edit.{HasLevels, edit_in};
@@ -25,7 +25,7 @@ pub(crate) fn version_in(
     number: u64,
     bytes: &[u8],
 ) -> Result<(Order, Version), Fault>
-    ensures { Answers (λ r. (r.0, r.1)) result (IsManifestAnswer number bytes.now) }
+    ensures { HoldsOrMemory (λ r. (r.0, r.1)) result (IsManifestAnswer number bytes.now) }
 {
     let records = logrec::records(alloc, bytes)?;
     let edits = edits_in(alloc, &records)?;
@@ -34,7 +34,7 @@ pub(crate) fn version_in(
 
 /// The edits that the records read as.
 fn edits_in(alloc: Global, records: &[Vec<u8>]) -> Result<Vec<VersionEdit>, Fault>
-    ensures answer { Answers (λ v. map edit_in v.items) result (IsEditsAnswer (lists records.now)) }
+    ensures answer { HoldsOrMemory (λ v. map edit_in v.items) result (IsEditsAnswer (lists records.now)) }
     ensures levels { IfOk result (λ v. All (λ e. HasLevels (edit_in e)) v.items) }
 {
     let mut edits = Vec::new(alloc);
@@ -63,7 +63,7 @@ fn version_from(
     edits: Vec<VersionEdit>,
 ) -> Result<(Order, Version), Fault>
     requires { All (λ e. HasLevels (edit_in e)) edits.items }
-    ensures { Gives (λ r. (r.0, r.1)) result (version_from number (map edit_in edits.items)) }
+    ensures { EqualOrMemory (λ r. (r.0, r.1)) result (version_from number (map edit_in edits.items)) }
 {
     let order = order_in(&edits)?;
     let version = version_by(alloc, order, edits)?;
@@ -77,7 +77,7 @@ fn version_from(
 /// The version after the edits by the comparator of this order.
 fn version_by(alloc: Global, order: Order, edits: Vec<VersionEdit>) -> Result<Version, Fault>
     requires { All (λ e. HasLevels (edit_in e)) edits.items }
-    ensures { Gives (λ v. v) result (version_after (order_name order) empty_state (map edit_in edits.items)) }
+    ensures { EqualOrMemory (λ v. v) result (version_after (order_name order) empty_state (map edit_in edits.items)) }
 {
     match order {
         Order::Bytewise => version_after::<Bytewise>(alloc, edits),
@@ -88,7 +88,7 @@ fn version_by(alloc: Global, order: Order, edits: Vec<VersionEdit>) -> Result<Ve
 /// The version after the edits, one after the other.
 fn version_after<C: Comparator>(alloc: Global, edits: Vec<VersionEdit>) -> Result<Version, Fault>
     requires { All (λ e. HasLevels (edit_in e)) edits.items }
-    ensures { Gives (λ v. v) result (version_after C.name_bytes empty_state (map edit_in edits.items)) }
+    ensures { EqualOrMemory (λ v. v) result (version_after C.name_bytes empty_state (map edit_in edits.items)) }
 {
     let mut version = Version::empty(alloc);
     for edit in edits {

@@ -48,39 +48,54 @@ impl<T: Drop> From<AllocFailed<T>> for FolderFault {
 }
 
 /// A folder of files, by their names.
+///
+/// A call that fails may be done all the same, wholly or in part.
 pub trait Folder {
-    ghost use Rattle.std.specs.Prelude.{ℕ, List, Option, IfOk};
+    ghost use Rattle.std.specs.Prelude.{◌≡◌, ◌∷◌, ◌++◌, [], ℕ, List, Option, IfOk};
     ghost use Rattle.std.specs.Option.{option_map};
-    ghost use Rattle.folder.specs.Folder.{HasCause, TellsSame};
+    ghost use Rattle.folder.specs.Calls.{Step, step_of, Created, Synced, Renamed, FolderSynced, TellsAfter};
+    ghost use Rattle.folder.specs.Folder.{TellsSame, failures_after};
 
     /// What it tells of what it holds: which bytes, or that there is no file, may be read under a name. A folder that
     /// tells nothing lets each of these be read.
     ghost tells: { Self → List ℕ → Option (List ℕ) → Type 0 };
 
-    /// How often the device has failed, up to 2^64 - 1.
+    /// The calls that wrote to it, in their order, with those that failed.
+    ghost calls: { Self → List Step };
+
+    /// How often the device has failed, up to 2^64 - 1. Each answer `Device` is one more, and no other answer is.
     ghost failed: { Self → ℕ };
 
     /// The bytes of a file, and None where there is no file of that name.
     fn read(&mut self, name: &str) -> Result<Option<Vec<u8>>, FolderFault>
         ensures held { IfOk result (λ held. tells self.old name.now (option_map (λ bytes. bytes.items) held)) }
         ensures same { TellsSame (tells self.old) (tells self.new) }
-        ensures cause { HasCause (failed self.old) (failed self.new) result };
+        ensures calls { calls self.new ≡ calls self.old }
+        ensures failures { failed self.new ≡ failures_after (failed self.old) result };
 
     /// Makes a file of these bytes, in place of what a file of that name held.
     fn create(&mut self, name: &str, bytes: &[u8]) -> Result<(), FolderFault>
-        ensures { HasCause (failed self.old) (failed self.new) result };
+        ensures calls { calls self.new ≡ calls self.old ++ step_of (Created name.now bytes.now) result ∷ [] }
+        ensures change { TellsAfter (step_of (Created name.now bytes.now) result) (tells self.old) (tells self.new) }
+        ensures failures { failed self.new ≡ failures_after (failed self.old) result };
 
     /// Writes a file's bytes through to the device.
     fn sync(&mut self, name: &str) -> Result<(), FolderFault>
-        ensures { HasCause (failed self.old) (failed self.new) result };
+        ensures calls { calls self.new ≡ calls self.old ++ step_of (Synced name.now) result ∷ [] }
+        ensures change { TellsAfter (step_of (Synced name.now) result) (tells self.old) (tells self.new) }
+        ensures failures { failed self.new ≡ failures_after (failed self.old) result };
 
     /// Gives a file another name, in place of the file that had it.
     fn rename(&mut self, from: &str, to: &str) -> Result<(), FolderFault>
-        ensures { HasCause (failed self.old) (failed self.new) result };
+        ensures calls { calls self.new ≡ calls self.old ++ step_of (Renamed from.now to.now) result ∷ [] }
+        ensures change { TellsAfter (step_of (Renamed from.now to.now) result) (tells self.old) (tells self.new) }
+        ensures failures { failed self.new ≡ failures_after (failed self.old) result };
 
     /// Writes the folder's names through to the device.
     fn sync_folder(&mut self) -> Result<(), FolderFault>
-        ensures { HasCause (failed self.old) (failed self.new) result };
+        ensures calls { calls self.new ≡ calls self.old ++ step_of FolderSynced result ∷ [] }
+        ensures change { TellsAfter (step_of FolderSynced result) (tells self.old) (tells self.new) }
+        ensures failures { failed self.new ≡ failures_after (failed self.old) result };
 
     /// How often the device has failed, up to 2^64 - 1, where the count stays.
     fn failures(&self) -> u64

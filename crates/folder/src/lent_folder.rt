@@ -1,8 +1,10 @@
 //! A folder in memory, for tests, and what its manifests hold.
 
-ghost use Rattle.folder.specs.Folder.{HasCause};
+ghost use Rattle.std.specs.Prelude.{◌≡◌};
+ghost use Rattle.folder.specs.Folder.{failures_after};
 
 use crate::folder::{Folder, FolderFault};
+use crate::trail::{Attempt, Trail, WriteCall};
 use coding::Fault;
 use std::alloc::Global;
 
@@ -41,6 +43,7 @@ pub(crate) struct LentFolder<'a> {
     failing: Option<(u64, FolderFault)>,
     calls: u64,
     failures: u64,
+    trail: Trail,
 }
 
 impl<'a> LentFolder<'a> {
@@ -52,6 +55,7 @@ impl<'a> LentFolder<'a> {
             failing: None,
             calls: 0,
             failures: 0,
+            trail: Trail::new(),
         }
     }
 
@@ -70,7 +74,8 @@ impl<'a> LentFolder<'a> {
 
     /// Counts a call, which may be the one that fails.
     fn called(&mut self) -> Result<(), FolderFault>
-        ensures { HasCause self.old.failures self.new.failures result }
+        ensures failures { self.new.failures ≡ failures_after self.old.failures result }
+        ensures trail { self.new.trail ≡ self.old.trail }
     {
         self.calls = self.calls.saturating_add(1);
         match self.failing {
@@ -87,6 +92,8 @@ impl<'a> LentFolder<'a> {
 impl<'a> Folder for LentFolder<'a> {
     ghost tells = { λ _ _ _. Unit {0} };
 
+    ghost calls = { λ folder. folder.trail.steps };
+
     ghost failed = { λ folder. folder.failures };
 
     fn read(&mut self, name: &str) -> Result<Option<Vec<u8>>, FolderFault> {
@@ -99,20 +106,44 @@ impl<'a> Folder for LentFolder<'a> {
         Ok(None)
     }
 
-    fn create(&mut self, _name: &str, _bytes: &[u8]) -> Result<(), FolderFault> {
-        self.called()
+    fn create(&mut self, name: &str, bytes: &[u8]) -> Result<(), FolderFault> {
+        let answer = self.called();
+        let is_done = answer.is_ok();
+        self.trail = self.trail.then(&Attempt {
+            call: WriteCall::Create(name, bytes),
+            is_done,
+        });
+        answer
     }
 
-    fn sync(&mut self, _name: &str) -> Result<(), FolderFault> {
-        self.called()
+    fn sync(&mut self, name: &str) -> Result<(), FolderFault> {
+        let answer = self.called();
+        let is_done = answer.is_ok();
+        self.trail = self.trail.then(&Attempt {
+            call: WriteCall::Sync(name),
+            is_done,
+        });
+        answer
     }
 
-    fn rename(&mut self, _from: &str, _to: &str) -> Result<(), FolderFault> {
-        self.called()
+    fn rename(&mut self, from: &str, to: &str) -> Result<(), FolderFault> {
+        let answer = self.called();
+        let is_done = answer.is_ok();
+        self.trail = self.trail.then(&Attempt {
+            call: WriteCall::Rename(from, to),
+            is_done,
+        });
+        answer
     }
 
     fn sync_folder(&mut self) -> Result<(), FolderFault> {
-        self.called()
+        let answer = self.called();
+        let is_done = answer.is_ok();
+        self.trail = self.trail.then(&Attempt {
+            call: WriteCall::SyncFolder,
+            is_done,
+        });
+        answer
     }
 
     fn failures(&self) -> u64 {

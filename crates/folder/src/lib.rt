@@ -10,13 +10,16 @@ mod loading;
 mod names;
 mod opening;
 mod order;
+mod trail;
 
 pub use disk::Disk;
 pub use folder::{Folder, FolderFault};
-pub use laws::folder_laws;
+pub use laws::{crash_laws, folder_laws, reading_laws};
 pub use loading::load;
+pub use names::{CURRENT, current_text, manifest_name, table_name, temporary_name};
 pub use opening::open;
 pub use order::Order;
+pub use trail::{Attempt, Trail, WriteCall};
 
 #[cfg(test)]
 mod lent_folder;

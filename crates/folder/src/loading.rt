@@ -1,12 +1,12 @@
 //! Reading a version's tables.
 
 ghost use Rattle.std.specs.Prelude.{◌≡◌, ◌++◌, ◌≤◌, map, Ok, IfErr, OnOk, IsOkUnless};
-ghost use Rattle.coding.specs.Answers.{Gives, fault};
+ghost use Rattle.coding.specs.Answers.{EqualOrMemory, fault};
 ghost use Rattle.coding.specs.declared.fault.FaultName.TheVariants.{Memory};
 ghost use Rattle.folder.specs.Folder.{TellsSame};
 ghost use Rattle.folder.specs.Levels.{file_numbers};
-ghost use Rattle.folder.specs.Loading.{IsLoaded, IsTable};
-ghost use Rattle.folder.specs.Opening.{FolderAnswers, HasDeviceFailed};
+ghost use Rattle.folder.specs.Loading.{IsLoaded, IsTableAnswer};
+ghost use Rattle.folder.specs.Opening.{FolderAnswers, HasDeviceFailed, StopsAtDevice};
 
 use crate::folder::Folder;
 use crate::names::{old_table_name, table_name};
@@ -28,6 +28,8 @@ pub fn load<C: Comparator, F: Folder>(
     ensures answer { FolderAnswers (λ v. map (λ t. (t.0, t.1.items)) v.items) (F.failed folder.old) (F.failed folder.new) result (IsLoaded (F.tells folder.old) (file_numbers C.cmp version.now)) }
     ensures device { IfErr result (HasDeviceFailed (F.failed folder.old) (F.failed folder.new)) }
     ensures same { TellsSame (F.tells folder.old) (F.tells folder.new) }
+    ensures calls { F.calls folder.new ≡ F.calls folder.old }
+    ensures at_once { StopsAtDevice (F.failed folder.old) (F.failed folder.new) result }
     ensures later { F.failed folder.old ≤ F.failed folder.new }
 {
     let numbers = file_numbers::<C>(alloc, version)?;
@@ -42,6 +44,8 @@ fn tables<F: Folder>(
 ) -> Result<Vec<(u64, Vec<u8>)>, Fault>
     ensures answer { FolderAnswers (λ v. map (λ t. (t.0, t.1.items)) v.items) (F.failed folder.old) (F.failed folder.new) result (IsLoaded (F.tells folder.old) numbers.now) }
     ensures same { TellsSame (F.tells folder.old) (F.tells folder.new) }
+    ensures calls { F.calls folder.new ≡ F.calls folder.old }
+    ensures at_once { StopsAtDevice (F.failed folder.old) (F.failed folder.new) result }
     ensures later { F.failed folder.old ≤ F.failed folder.new }
 {
     let mut tables = Vec::with_capacity(alloc, numbers.len())?;
@@ -54,8 +58,10 @@ fn tables<F: Folder>(
 
 /// The bytes of the table of a number.
 fn table<F: Folder>(alloc: Global, folder: &mut F, number: u64) -> Result<Vec<u8>, Fault>
-    ensures answer { FolderAnswers (λ v. v.items) (F.failed folder.old) (F.failed folder.new) result (IsTable (F.tells folder.old) number) }
+    ensures answer { FolderAnswers (λ v. v.items) (F.failed folder.old) (F.failed folder.new) result (IsTableAnswer (F.tells folder.old) number) }
     ensures same { TellsSame (F.tells folder.old) (F.tells folder.new) }
+    ensures calls { F.calls folder.new ≡ F.calls folder.old }
+    ensures at_once { StopsAtDevice (F.failed folder.old) (F.failed folder.new) result }
     ensures later { F.failed folder.old ≤ F.failed folder.new }
 {
     let name = table_name(alloc, number)?;
@@ -68,7 +74,7 @@ fn table<F: Folder>(alloc: Global, folder: &mut F, number: u64) -> Result<Vec<u8
 
 /// The numbers of a version's files, by level, and each level's in version order.
 fn file_numbers<C: Comparator>(alloc: Global, version: &Version) -> Result<Vec<u64>, Fault>
-    ensures { Gives (λ v. v.items) result (Ok (file_numbers C.cmp version.now)) }
+    ensures { EqualOrMemory (λ v. v.items) result (Ok (file_numbers C.cmp version.now)) }
 {
     let mut numbers = Vec::new(alloc);
     for level in 0..7 {

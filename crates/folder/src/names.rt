@@ -1,43 +1,50 @@
 //! The names of a folder's files, and what CURRENT holds.
 
 ghost use Rattle.std.specs.Prelude.{◌≡◌, ◌<◌, ◌^◌, ℕ, Some, Ok, string_bytes};
-ghost use Rattle.coding.specs.Answers.{Gives, Answers};
-ghost use Rattle.folder.specs.Names.{IsNumberAnswer, current_text, manifest_name, old_table_name, table_name};
+ghost use Rattle.coding.specs.Answers.{EqualOrMemory, HoldsOrMemory};
+ghost use Rattle.folder.specs.Names.{IsNumberAnswer, current_text, manifest_name, old_table_name, table_name, temporary_name};
 
 use coding::{Fault, FaultName};
 use std::alloc::Global;
 use std::str;
 
 /// The file that names the manifest in use.
-pub(crate) const CURRENT: &str = "CURRENT";
+pub const CURRENT: &str = "CURRENT";
 
 /// What the name of each manifest begins with.
 const MANIFEST: &[u8] = b"MANIFEST-";
 
 /// The name of the manifest of this number: its decimal digits, at least six, behind `MANIFEST-`.
-pub(crate) fn manifest_name(alloc: Global, number: u64) -> Result<String, Fault>
-    ensures { Gives string_bytes result (Ok (manifest_name number)) }
+pub fn manifest_name(alloc: Global, number: u64) -> Result<String, Fault>
+    ensures { EqualOrMemory string_bytes result (Ok (manifest_name number)) }
 {
     Ok(format!(in alloc; "MANIFEST-{number:06}")?)
 }
 
 /// The name of the table of this number.
-pub(crate) fn table_name(alloc: Global, number: u64) -> Result<String, Fault>
-    ensures { Gives string_bytes result (Ok (table_name number)) }
+pub fn table_name(alloc: Global, number: u64) -> Result<String, Fault>
+    ensures { EqualOrMemory string_bytes result (Ok (table_name number)) }
 {
     Ok(format!(in alloc; "{number:06}.ldb")?)
 }
 
 /// The older name of the table of this number.
 pub(crate) fn old_table_name(alloc: Global, number: u64) -> Result<String, Fault>
-    ensures { Gives string_bytes result (Ok (old_table_name number)) }
+    ensures { EqualOrMemory string_bytes result (Ok (old_table_name number)) }
 {
     Ok(format!(in alloc; "{number:06}.sst")?)
 }
 
+/// The name under which what CURRENT is to hold is written first, with the number of the manifest that it names.
+pub fn temporary_name(alloc: Global, number: u64) -> Result<String, Fault>
+    ensures { EqualOrMemory string_bytes result (Ok (temporary_name number)) }
+{
+    Ok(format!(in alloc; "{number:06}.dbtmp")?)
+}
+
 /// What CURRENT holds where it names the manifest of this number.
-fn current_text(alloc: Global, number: u64) -> Result<String, Fault>
-    ensures { Gives string_bytes result (Ok (current_text number)) }
+pub fn current_text(alloc: Global, number: u64) -> Result<String, Fault>
+    ensures { EqualOrMemory string_bytes result (Ok (current_text number)) }
 {
     Ok(format!(in alloc; "MANIFEST-{number:06}\n")?)
 }
@@ -46,7 +53,7 @@ fn current_text(alloc: Global, number: u64) -> Result<String, Fault>
 ///
 /// Refused as Apply where they aren't a manifest's name, exactly as it is written, and one newline.
 pub(crate) fn number_in_current(alloc: Global, bytes: &[u8]) -> Result<u64, Fault>
-    ensures { Answers (λ n. n) result (IsNumberAnswer bytes.now) }
+    ensures { HoldsOrMemory (λ n. n) result (IsNumberAnswer bytes.now) }
 {
     let Some(number) = number_between(bytes) else {
         return Err(Fault::of(FaultName::Apply));

@@ -1,8 +1,8 @@
 //! Opening a folder.
 
-ghost use Rattle.std.specs.Prelude.{◌≤◌, IfErr};
+ghost use Rattle.std.specs.Prelude.{◌≡◌, ◌≤◌, IfErr};
 ghost use Rattle.folder.specs.Folder.{TellsSame};
-ghost use Rattle.folder.specs.Opening.{FolderAnswers, HasDeviceFailed, IsHeld, IsOpened};
+ghost use Rattle.folder.specs.Opening.{FolderAnswers, HasDeviceFailed, IsHeld, IsOpened, StopsAtDevice};
 
 use crate::edits::version_in;
 use crate::folder::Folder;
@@ -25,6 +25,8 @@ pub fn open<F: Folder>(alloc: Global, folder: &mut F) -> Result<(Order, Version)
     ensures answer { FolderAnswers (λ r. (r.0, r.1)) (F.failed folder.old) (F.failed folder.new) result (IsOpened (F.tells folder.old)) }
     ensures device { IfErr result (HasDeviceFailed (F.failed folder.old) (F.failed folder.new)) }
     ensures same { TellsSame (F.tells folder.old) (F.tells folder.new) }
+    ensures calls { F.calls folder.new ≡ F.calls folder.old }
+    ensures at_once { StopsAtDevice (F.failed folder.old) (F.failed folder.new) result }
     ensures later { F.failed folder.old ≤ F.failed folder.new }
 {
     let current = held(folder, CURRENT)?;
@@ -38,6 +40,8 @@ pub fn open<F: Folder>(alloc: Global, folder: &mut F) -> Result<(Order, Version)
 pub(crate) fn held<F: Folder>(folder: &mut F, name: &str) -> Result<Vec<u8>, Fault>
     ensures answer { FolderAnswers (λ v. v.items) (F.failed folder.old) (F.failed folder.new) result (IsHeld (F.tells folder.old) name.now) }
     ensures same { TellsSame (F.tells folder.old) (F.tells folder.new) }
+    ensures calls { F.calls folder.new ≡ F.calls folder.old }
+    ensures at_once { StopsAtDevice (F.failed folder.old) (F.failed folder.new) result }
     ensures later { F.failed folder.old ≤ F.failed folder.new }
 {
     match folder.read(name)? {

@@ -182,7 +182,10 @@ fn calls_that_fail(rt: HostRuntime) -> Result<(), Fail> {
 
 #[test]
 fn the_laws_are_called(rt: HostRuntime) {
-    folder_laws(&LentFolder::new(rt.alloc(), &[]));
+    let folder = LentFolder::new(rt.alloc(), &[]);
+    folder_laws(&folder);
+    reading_laws(&folder);
+    crash_laws();
 }
 
 /// Opens the folder of one table.

@@ -47,12 +47,13 @@ fn names_of_manifests(rt: HostRuntime) {
 }
 
 #[test]
-fn names_of_tables(rt: HostRuntime) -> Result<(), Fail> {
+fn names_of_other_files(rt: HostRuntime) -> Result<(), Fail> {
     assert_eq!(rt; table_name(rt.alloc(), 9)?.as_str(), "000009.ldb");
     assert_eq!(rt;
         old_table_name(rt.alloc(), 1_234_567)?.as_str(),
         "1234567.sst"
     );
+    assert_eq!(rt; temporary_name(rt.alloc(), 9)?.as_str(), "000009.dbtmp");
     Ok(())
 }
 

@@ -2,12 +2,13 @@
 use Rattle.std.proofs.Common.{◌≡◌, ℕ, ◌+◌, ◌-◌, ◌^◌, ◌<◌, ◌≤◌, not, cond, eqb, List, ◌++◌, length, take, drop, replicate, Option, Some, Result, Err, refl, sym, ap, ◌∙◌, arith, append_assoc, length-append}
 use Rattle.std.specs.List.{starts_with}
 use Rattle.std.proofs.lemmas.List.{take_at, drop_at, drop-replicate, length-replicate}
-use Rattle.coding.specs.Answers.{fault}
+use Rattle.std.specs.Option.{ok_or}
+use Rattle.coding.specs.Answers.{and_then, fault}
 use Rattle.coding.specs.declared.fault.Fault.{Fault}
 use Rattle.coding.specs.declared.fault.FaultName.TheVariants.{Magic, Handle}
 use Rattle.frame.specs.declared.footer.Footer.{Footer}
-use Rattle.frame.specs.Handle.{handle_bytes, handle_reading, HandleBehind, and_then}
-use Rattle.frame.specs.Footer.{magic, handles_bytes, footer_bytes, handles_reading, ok_or_fault, footer_reading, FooterLaw}
+use Rattle.frame.specs.Handle.{handle_bytes, handle_reading, HandleBehind}
+use Rattle.frame.specs.Footer.{magic, handles_bytes, footer_bytes, handles_reading, footer_reading, FooterLaw}
 use Rattle.frame.proofs.Handles.{handle_reading-spelled, length-handle_bytes}
 
 pub length-handles_bytes : (f : Footer) → length (handles_bytes f) ≤ 40
@@ -66,7 +67,7 @@ handles_again f bytes rest a b c d e =
     ∙ ap (λ r. and_then r (λ (index : HandleBehind). Some (record { metaindex = f.metaindex; index = index.handle }))) (handle_reading-spelled (behind f rest) f.index.offset f.index.size rest c d refl)
 
 abbrev read_by : List ℕ → List ℕ → Result Footer Fault
-read_by handles last = cond (not (starts_with eqb last magic)) (Err (fault Magic)) (ok_or_fault (fault Handle) (handles_reading handles))
+read_by handles last = cond (not (starts_with eqb last magic)) (Err (fault Magic)) (ok_or (handles_reading handles) (fault Handle))
 
 footer_reading-by : (bytes : List ℕ) → footer_reading bytes ≡ read_by (take 40 bytes) (drop 40 bytes)
 unfolding footer_reading
@@ -80,4 +81,4 @@ footer_again f a b c d =
     let last : drop 40 bytes ≡ magic = ap (drop 40) (footer_bytes-parts f) ∙ drop_at (front f) magic 40 at in
     footer_reading-by bytes
     ∙ ap (λ (x : List ℕ). read_by (take 40 bytes) x) last
-    ∙ ap (ok_or_fault (fault Handle)) (handles_again f (take 40 bytes) (replicate (40 - length (handles_bytes f)) 0) a b c d handles)
+    ∙ ap (λ (o : Option Footer). ok_or o (fault Handle)) (handles_again f (take 40 bytes) (replicate (40 - length (handles_bytes f)) 0) a b c d handles)

@@ -3,7 +3,8 @@ use Rattle.std.proofs.Common.{◌≡◌, ℕ, ◌^◌, ◌<◌, ◌≤◌, List,
 use Rattle.std.proofs.Math.Seq.{drop-append_seam}
 use Rattle.coding.specs.Varint.{varint, varint_reading}
 use Rattle.coding.proofs.Varints.{varint_reading-varint, reads_varint, length-varint_le}
-use Rattle.frame.specs.Handle.{handle_bytes, handle_reading, and_then, HandleBehind, HandleReadLaw}
+use Rattle.coding.specs.Answers.{and_then}
+use Rattle.frame.specs.Handle.{handle_bytes, handle_reading, HandleBehind, HandleReadLaw}
 
 -- what is read behind the offset
 abbrev after_offset : List ℕ → ℕ × ℕ → Option HandleBehind

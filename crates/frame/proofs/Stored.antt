@@ -131,8 +131,8 @@ front_read bytes contents e =
     (read_by-Ok (little_number 4 (drop (length bytes - 4) bytes)) (masked (crc32c (take (length bytes - 4) bytes))) (get_or bytes (length bytes - 5) 0) (take (length bytes - 5) bytes) contents (sym (stored_reading-by bytes) ∙ e)).front_is
 
 -- bytes that pass the tests are read as what stands before their trailer
-pub known_front : (bytes : List ℕ) → IsOk (stored_reading bytes) → stored_reading bytes ≡ Ok (take (length bytes - 5) bytes)
-known_front bytes h = of_reading (stored_reading bytes) refl h
+pub passed_front : (bytes : List ℕ) → IsOk (stored_reading bytes) → stored_reading bytes ≡ Ok (take (length bytes - 5) bytes)
+passed_front bytes h = of_reading (stored_reading bytes) refl h
   where
     of_reading : (r : Result (List ℕ) Fault) → stored_reading bytes ≡ r → IsOk r → r ≡ Ok (take (length bytes - 5) bytes)
     of_reading (Ok contents) e h = ap (λ (x : List ℕ). done x) (sym (front_read bytes contents e))

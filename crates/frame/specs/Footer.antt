@@ -1,12 +1,13 @@
 -- A footer, the last 48 bytes of a table: the handles of the metaindex and of the index, zeros up to 40 bytes, and 8
 -- bytes of magic.
-use Rattle.std.specs.Prelude.{◌≡◌, ℕ, ◌-◌, ◌<◌, ◌^◌, nat_eq, not, if◌then◌else◌, List, [], ◌∷◌, ◌++◌, length, take, drop, replicate, Option, Some, None, Result, Ok, Err}
+use Rattle.std.specs.Prelude.{◌≡◌, ℕ, ◌-◌, ◌<◌, ◌^◌, nat_eq, not, if◌then◌else◌, List, [], ◌∷◌, ◌++◌, length, take, drop, replicate, Option, Some, Result, Ok, Err}
 use Rattle.std.specs.List.{starts_with}
-use Rattle.coding.specs.Answers.{fault}
+use Rattle.std.specs.Option.{ok_or}
+use Rattle.coding.specs.Answers.{and_then, fault}
 use Rattle.coding.specs.declared.fault.Fault.{Fault}
 use Rattle.coding.specs.declared.fault.FaultName.TheVariants.{Magic, Handle}
 use Rattle.frame.specs.declared.footer.Footer.{Footer}
-use Rattle.frame.specs.Handle.{handle_bytes, handle_reading, and_then}
+use Rattle.frame.specs.Handle.{handle_bytes, handle_reading}
 
 -- the number 0xdb4775248b80fb57, the lowest byte first
 abbrev pub magic : List ℕ
@@ -28,17 +29,12 @@ handles_reading bytes =
     and_then (handle_reading metaindex.rest) (λ index.
     Some (record { metaindex = metaindex.handle; index = index.handle })))
 
--- what is there, or this refusal
-abbrev pub ok_or_fault : {A : Type 0} → Fault → Option A → Result A Fault
-ok_or_fault e None = Err e
-ok_or_fault e (Some x) = Ok x
-
 -- the footer that 48 bytes are, or the first test that fails: the magic stands behind 40 bytes, and in those stand two
 -- handles
 unfoldable pub footer_reading : List ℕ → Result Footer Fault
 footer_reading bytes =
     if not (starts_with nat_eq (drop 40 bytes) magic) then Err (fault Magic)
-    else ok_or_fault (fault Handle) (handles_reading (take 40 bytes))
+    else ok_or (handles_reading (take 40 bytes)) (fault Handle)
 
 -- a footer that was written is read
 abbrev pub FooterLaw : Type 0

@@ -1,5 +1,6 @@
 -- A block handle: where a block stands in its file, by its offset and the size of its contents.
-use Rattle.std.specs.Prelude.{◌≡◌, ℕ, ◌<◌, ◌^◌, ◌↔◌, List, ◌++◌, drop, Option, Some, None}
+use Rattle.std.specs.Prelude.{◌≡◌, ℕ, ◌<◌, ◌^◌, ◌↔◌, List, ◌++◌, drop, Option, Some}
+use Rattle.coding.specs.Answers.{and_then}
 use Rattle.coding.specs.Varint.{varint, varint_reading}
 use Rattle.frame.specs.declared.handle.BlockHandle.{BlockHandle}
 
@@ -11,11 +12,6 @@ handle_bytes offset size = varint offset ++ varint size
 pub record HandleBehind : Type 0 where
   pub handle : BlockHandle
   pub rest : List ℕ
-
--- the ? of the logic
-abbrev pub and_then : {A B : Type 0} → Option A → (A → Option B) → Option B
-and_then None f = None
-and_then (Some x) f = f x
 
 -- the handle whose spelling begins the bytes, its numbers below 2 ^ 64, and the bytes behind the spelling
 unfoldable pub handle_reading : List ℕ → Option HandleBehind

@@ -59,7 +59,7 @@ impl Footer {
 
     /// Appends the 48 bytes.
     ///
-    /// Refused only for want of memory, and then nothing is appended.
+    /// Refused for want of memory alone. A refusal leaves it as it was.
     pub fn push(self, out: &mut Vec<u8>) -> Result<(), Fault>
         ensures ok { OnOk result (out.new.items ≡ out.old.items ++ footer_bytes self) }
         ensures err { OnErr result (out.new.items ≡ out.old.items) }

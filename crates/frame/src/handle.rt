@@ -35,7 +35,8 @@ impl BlockHandle {
     /// None where the bytes don't begin with the shortest spellings of two numbers below 2^64. Takes no memory.
     #[tactic(auto, unfolding(crate::specs::Handle::handle_reading))]
     pub fn read(bytes: &[u8]) -> Option<HandleBehind<'_>>
-        ensures { option_map (λ found. record { handle = found.handle; rest = found.rest.now }) result ≡ handle_reading bytes.now }
+        ensures { option_map (λ found. record { handle = found.handle; rest = found.rest.now }) result
+            ≡ handle_reading bytes.now }
     {
         let (offset, used) = read_u64_varint(bytes)?;
         let (_, bytes) = bytes.split_at(used);
@@ -49,7 +50,7 @@ impl BlockHandle {
 
     /// Appends the spelling of the handle.
     ///
-    /// Refused only for want of memory, and then nothing is appended.
+    /// Refused for want of memory alone. A refusal leaves it as it was.
     #[tactic(auto, unfolding(crate::specs::Handle::handle_bytes))]
     pub fn push(self, out: &mut Vec<u8>) -> Result<(), Fault>
         ensures ok { OnOk result (out.new.items ≡ out.old.items ++ handle_bytes self.offset self.size) }

@@ -11,7 +11,7 @@ mod trailer;
 
 pub use footer::{FOOTER_LEN, Footer};
 pub use handle::{BlockHandle, HandleBehind};
-pub use trailer::{TRAILER_LEN, Trailer, contents, known_contents, push_stored};
+pub use trailer::{TRAILER_LEN, Trailer, contents, reopen_contents};
 
 /// What is read is what was written: a handle is read exactly where its spelling begins the bytes, contents exactly of
 /// the bytes that they are stored as, and a footer of its bytes. A call does nothing.

@@ -1,9 +1,9 @@
 //! Stored blocks: contents, and a trailer behind them.
 
-ghost use Rattle.std.specs.Prelude.{◌≡◌, ◌≤◌, ◌<◌, ◌^◌, ◌++◌, ◌∷◌, ◌-◌, take, drop, slice_index, length, Ok, IsOk, OnOk, OnErr, IsOkUnless};
+ghost use Rattle.std.specs.Prelude.{◌≡◌, ◌≤◌, ◌++◌, ◌∷◌, length, Ok, IsOk, OnOk, OnErr, IsOkUnless};
 ghost use Rattle.std.specs.Result.{result_map_both};
-ghost use Rattle.byteorder.specs.Endian.{little_bytes, little_number};
-ghost use Rattle.frame.specs.Trailer.{stored, stored_reading};
+ghost use Rattle.byteorder.specs.Endian.{little_bytes};
+ghost use Rattle.frame.specs.Trailer.{stored_reading};
 ghost use Rattle.coding.specs.Answers.{fault};
 ghost use Rattle.coding.specs.declared.fault.FaultName.TheVariants.{Memory};
 
@@ -42,21 +42,9 @@ impl Trailer {
         }
     }
 
-    /// The trailer that the first 5 of these bytes are. Takes no memory.
-    pub fn read(bytes: &[u8]) -> Trailer
-        requires { 5 ≤ length bytes.now }
-        ensures block_type { result.block_type ≡ slice_index bytes.now 0 }
-        ensures checksum { result.checksum ≡ little_number 4 (drop 1 bytes.now) }
-    {
-        Trailer {
-            block_type: bytes[0],
-            checksum: LittleEndian::read_u32(&bytes[1..]),
-        }
-    }
-
     /// Appends the 5 bytes.
     ///
-    /// Refused only for want of memory, and then nothing is appended.
+    /// Refused for want of memory alone. A refusal leaves it as it was.
     pub fn push(self, out: &mut Vec<u8>) -> Result<(), Fault>
         ensures ok { OnOk result (out.new.items ≡ out.old.items ++ self.block_type ∷ little_bytes 4 self.checksum) }
         ensures err { OnErr result (out.new.items ≡ out.old.items) }
@@ -66,24 +54,6 @@ impl Trailer {
         out.extend_from_slice(&[self.block_type, first, second, third, fourth])?;
         Ok(())
     }
-}
-
-/// Appends contents as they are, and their trailer.
-///
-/// Refused only for want of memory, and then nothing is appended.
-pub fn push_stored(out: &mut Vec<u8>, contents: &[u8]) -> Result<(), Fault>
-    ensures ok { OnOk result (out.new.items ≡ out.old.items ++ stored contents.now) }
-    ensures err { OnErr result (out.new.items ≡ out.old.items) }
-    ensures memory { IsOkUnless result (fault Memory) }
-{
-    let start = out.len();
-    out.extend_from_slice(contents)?;
-    if let Err(refused) = Trailer::of(contents).push(out) {
-        // The contents go too.
-        out.truncate(start);
-        return Err(refused);
-    }
-    Ok(())
 }
 
 /// The contents of a stored block, which is contents and the 5 bytes of their trailer.
@@ -109,9 +79,9 @@ pub fn contents(bytes: &[u8]) -> Result<&[u8], Fault>
 
 /// The contents of a stored block that is known to pass the tests of [`contents`], which aren't made again. Takes no
 /// memory.
-pub fn known_contents(bytes: &[u8]) -> &[u8]
+pub fn reopen_contents(bytes: &[u8]) -> &[u8]
     requires long { 5 ≤ length bytes.now }
-    requires known { IsOk (stored_reading bytes.now) }
+    requires passed { IsOk (stored_reading bytes.now) }
     ensures { stored_reading bytes.now ≡ Ok result.now }
 {
     let (found, _) = bytes.split_at(bytes.len() - TRAILER_LEN);

@@ -1,8 +1,10 @@
-pub mod Bytewise
-pub mod BytewiseLaws
+-- what contracts rest on
 pub mod Comparator
+pub mod Bytewise
+pub mod Shortlex
 pub mod Key
 pub mod Order
 pub mod Short
-pub mod Shortlex
+-- serves proofs alone
+pub mod BytewiseLaws
 pub mod ShortlexLaws

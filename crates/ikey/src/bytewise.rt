@@ -2,12 +2,12 @@
 
 ghost use Rattle.std.specs.Prelude.{◌≡◌, ℕ, ◌+◌, ◌<◌, List, Ok, length, nat_eq, slice_index};
 ghost use Rattle.std.specs.List.{common_prefix_len};
-ghost use Rattle.coding.specs.Answers.{Gives};
+ghost use Rattle.coding.specs.Answers.{EqualOrMemory};
 ghost use Rattle.ikey.specs.Bytewise.{bytewise_name, bytewise_cmp, bytewise_separator, bytewise_successor, first_raisable, raised_at};
 ghost use Rattle.std.proofs.lemmas.Cmp.{nat_list_cmp_total};
 ghost use Rattle.ikey.specs.BytewiseLaws.{bytewise_exact, bytewise_between, bytewise_above};
 
-use crate::comparator::Comparator;
+use crate::comparator::{Comparator, SharedComparator};
 use coding::Fault;
 use std::alloc::Global;
 use std::cmp::Ordering;
@@ -15,44 +15,6 @@ use std::cmp::Ordering;
 /// User keys as unsigned bytes, a proper prefix first. Its separator and its successor raise one byte
 /// by one and cut off the rest, where that serves.
 pub struct Bytewise;
-
-/// The number of bytes at the front of both.
-fn shared_length(a: &[u8], b: &[u8]) -> usize
-    ensures { result ≡ common_prefix_len nat_eq a.now b.now }
-{
-    let shorter = a.len().min(b.len());
-    for place in 0..shorter {
-        if a[place] != b[place] {
-            return place;
-        }
-    }
-    shorter
-}
-
-/// The place of the first byte that is not 0xff, or the length where there is none.
-fn raisable_place(key: &[u8]) -> usize
-    ensures place { result ≡ first_raisable key.now }
-    ensures raisable { result < length key.now → slice_index key.now result < 255 }
-{
-    for (place, byte) in key.iter().enumerate() {
-        if *byte != 0xff {
-            return place;
-        }
-    }
-    key.len()
-}
-
-/// The key up to the place, with the byte there raised by one.
-fn raised(alloc: Global, key: &[u8], place: usize) -> Result<Vec<u8>, Fault>
-    requires inside { place < length key.now }
-    requires fits { slice_index key.now place < 255 }
-    ensures { Gives (λ v. v.items) result (Ok (raised_at place key.now)) }
-{
-    let mut bytes = Vec::with_capacity(alloc, place + 1)?;
-    bytes.extend_from_slice(&key[..place])?;
-    bytes.push(key[place] + 1)?;
-    Ok(bytes)
-}
 
 impl Comparator for Bytewise {
     ghost name_bytes = { bytewise_name };
@@ -100,4 +62,44 @@ impl Comparator for Bytewise {
         }
         Ok(Vec::from_slice(alloc, key)?)
     }
+}
+
+impl SharedComparator for Bytewise {}
+
+/// The number of bytes at the front of both.
+fn shared_length(a: &[u8], b: &[u8]) -> usize
+    ensures { result ≡ common_prefix_len nat_eq a.now b.now }
+{
+    let shorter = a.len().min(b.len());
+    for place in 0..shorter {
+        if a[place] != b[place] {
+            return place;
+        }
+    }
+    shorter
+}
+
+/// The place of the first byte that is not 0xff, or the length where there is none.
+fn raisable_place(key: &[u8]) -> usize
+    ensures place { result ≡ first_raisable key.now }
+    ensures raisable { result < length key.now → slice_index key.now result < 255 }
+{
+    for (place, byte) in key.iter().enumerate() {
+        if *byte != 0xff {
+            return place;
+        }
+    }
+    key.len()
+}
+
+/// The key up to the place, with the byte there raised by one.
+fn raised(alloc: Global, key: &[u8], place: usize) -> Result<Vec<u8>, Fault>
+    requires inside { place < length key.now }
+    requires fits { slice_index key.now place < 255 }
+    ensures { EqualOrMemory (λ v. v.items) result (Ok (raised_at place key.now)) }
+{
+    let mut bytes = Vec::with_capacity(alloc, place + 1)?;
+    bytes.extend_from_slice(&key[..place])?;
+    bytes.push(key[place] + 1)?;
+    Ok(bytes)
 }

@@ -3,7 +3,7 @@
 ghost use Rattle.std.specs.Prelude.{◌≡◌, ℕ, List, Ok, codes};
 ghost use Rattle.std.specs.declared.cmp.Ordering.{Ordering};
 ghost use Rattle.std.specs.Cmp.{IsTotalOrder};
-ghost use Rattle.coding.specs.Answers.{Gives};
+ghost use Rattle.coding.specs.Answers.{EqualOrMemory};
 ghost use Rattle.ikey.specs.Comparator.{IsExact, Separates, Succeeds};
 
 use coding::Fault;
@@ -28,14 +28,17 @@ pub trait Comparator {
     fn compare(a: &[u8], b: &[u8]) -> Ordering
         ensures { result ≡ cmp a.now b.now };
 
-    /// A key of `start` or above it, and below `limit`, where `start` is below `limit`. Fails for want
-    /// of memory alone.
+    /// A key of `start` or above it, and below `limit`, where `start` is below `limit`.
+    ///
+    /// Refused for want of memory alone.
     fn separator(alloc: Global, start: &[u8], limit: &[u8]) -> Result<Vec<u8>, Fault>
-        ensures { Gives (λ v. v.items) result (Ok (separator_of start.now limit.now)) };
+        ensures { EqualOrMemory (λ v. v.items) result (Ok (separator_of start.now limit.now)) };
 
-    /// A key of `key` or above it. Fails for want of memory alone.
+    /// A key of `key` or above it.
+    ///
+    /// Refused for want of memory alone.
     fn successor(alloc: Global, key: &[u8]) -> Result<Vec<u8>, Fault>
-        ensures { Gives (λ v. v.items) result (Ok (successor_of key.now)) };
+        ensures { EqualOrMemory (λ v. v.items) result (Ok (successor_of key.now)) };
 
     ghost total: { IsTotalOrder cmp };
 
@@ -45,3 +48,6 @@ pub trait Comparator {
 
     ghost above: { Succeeds cmp successor_of };
 }
+
+/// A comparator that threads may share, as workers ask of it.
+pub trait SharedComparator: Comparator + Send + Sync {}

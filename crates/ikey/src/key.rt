@@ -19,15 +19,6 @@ pub const MAX_USER_KEY: usize = 65_535;
 /// The greatest sequence, 2^56 - 1.
 pub const MAX_SEQUENCE: u64 = 0xff_ffff_ffff_ffff;
 
-/// The number in the last 8 bytes.
-#[tactic(auto, unfolding(crate::specs::Key::tag_of))]
-fn tag(bytes: &[u8]) -> u64
-    requires { 8 ≤ length bytes.now }
-    ensures { result ≡ tag_of bytes.now }
-{
-    LittleEndian::read_u64(&bytes[bytes.len() - 8..])
-}
-
 /// The bytes of an internal key: a user key, and behind it 8 bytes of `sequence * 256 + type`.
 #[derive(Clone, Copy)]
 pub struct InternalKey<'a> {
@@ -98,3 +89,12 @@ impl<'a> InternalKey<'a> {
 pub fn order_is_total<C: Comparator>()
     ensures { IsTotalOrder (internal_cmp C.cmp) }
 {}
+
+/// The number in the last 8 bytes.
+#[tactic(auto, unfolding(crate::specs::Key::tag_of))]
+fn tag(bytes: &[u8]) -> u64
+    requires { 8 ≤ length bytes.now }
+    ensures { result ≡ tag_of bytes.now }
+{
+    LittleEndian::read_u64(&bytes[bytes.len() - 8..])
+}

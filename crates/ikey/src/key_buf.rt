@@ -1,7 +1,8 @@
 //! An internal key that owns its bytes.
 
-ghost use Rattle.std.specs.Prelude.{◌≡◌, ℕ, ◌^◌, ◌<◌, ◌≤◌, List, Ok, length};
-ghost use Rattle.coding.specs.Answers.{Gives};
+ghost use Rattle.std.specs.Prelude.{◌≡◌, ℕ, ◌^◌, ◌<◌, ◌≤◌, List, Ok, length, OnOk, OnErr, IsOkUnless};
+ghost use Rattle.coding.specs.Answers.{EqualOrMemory, fault};
+ghost use Rattle.coding.specs.declared.fault.FaultName.TheVariants.{Memory};
 ghost use Rattle.ikey.specs.Key.{internal_key};
 
 use crate::key::InternalKey;
@@ -28,25 +29,45 @@ impl Model for KeyBuf {
 }
 
 impl KeyBuf {
-    /// A copy of an internal key. Fails for want of memory alone.
+    /// A copy of an internal key.
+    ///
+    /// Refused for want of memory alone.
     pub fn of(alloc: Global, key: InternalKey) -> Result<KeyBuf, Fault>
-        ensures { Gives (λ own. own) result (Ok key.entry.bytes.now) }
+        ensures { EqualOrMemory (λ own. own) result (Ok key.entry.bytes.now) }
     {
         let bytes = Vec::from_slice(alloc, key.bytes())?;
         Ok(KeyBuf { bytes })
     }
 
-    /// The internal key of a user key, a sequence and a type. Fails for want of memory alone.
+    /// The internal key of a user key of at most 65,535 bytes, a sequence below 2^56 and a type.
+    ///
+    /// Refused for want of memory alone.
     pub fn new(alloc: Global, user: &[u8], sequence: u64, kind: Kind) -> Result<KeyBuf, Fault>
         requires user_fits { length user.now ≤ 65535 }
         requires sequence_fits { sequence < 2 ^ 56 }
-        ensures { Gives (λ own. own) result (Ok (internal_key user.now sequence kind)) }
+        ensures { EqualOrMemory (λ own. own) result (Ok (internal_key user.now sequence kind)) }
     {
         let tag = sequence * 256 + u64::from(kind.number());
         let mut bytes = Vec::with_capacity(alloc, user.len() + 8)?;
         bytes.extend_from_slice(user)?;
         bytes.extend_from_slice(&tag.to_le_bytes())?;
         Ok(KeyBuf { bytes })
+    }
+
+    /// Puts a copy of another key in its place, in the same memory where that is enough.
+    ///
+    /// Refused for want of memory alone. A refusal leaves it as it was.
+    pub fn set(&mut self, key: InternalKey) -> Result<(), Fault>
+        ensures ok { OnOk result (self.new ≡ key.entry.bytes.now) }
+        ensures err { OnErr result (self.new ≡ self.old) }
+        ensures memory { IsOkUnless result (fault Memory) }
+    {
+        let bytes = key.bytes();
+        self.bytes
+            .reserve(bytes.len().saturating_sub(self.bytes.len()))?;
+        self.bytes.clear();
+        self.bytes.extend_from_slice(bytes).unwrap();
+        Ok(())
     }
 
     /// The key, seen where it lies.

@@ -14,7 +14,7 @@ mod short;
 mod shortlex;
 
 pub use bytewise::Bytewise;
-pub use comparator::Comparator;
+pub use comparator::{Comparator, SharedComparator};
 pub use key::{InternalKey, MAX_SEQUENCE, MAX_USER_KEY, order_is_total};
 pub use key_buf::KeyBuf;
 pub use kind::Kind;

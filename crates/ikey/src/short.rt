@@ -2,7 +2,7 @@
 
 ghost use Rattle.std.specs.Prelude.{◌≡◌, ◌≢◌, Ok, IfOk};
 ghost use Rattle.std.specs.declared.cmp.Ordering.TheVariants.{Less, Greater};
-ghost use Rattle.coding.specs.Answers.{Gives};
+ghost use Rattle.coding.specs.Answers.{EqualOrMemory};
 ghost use Rattle.ikey.specs.Comparator.{IsBetween};
 ghost use Rattle.ikey.specs.Order.{internal_cmp};
 ghost use Rattle.ikey.specs.Short.{shortened, internal_separator_of, internal_successor_of};
@@ -14,29 +14,18 @@ use crate::kind::Kind;
 use coding::Fault;
 use std::alloc::Global;
 
-/// The first internal key of `short`, where that is shorter than the key's user key and greater; else
-/// the key.
-#[tactic(auto, unfolding(crate::specs::Short::shortened))]
-fn shorten<C: Comparator>(alloc: Global, key: InternalKey, short: &[u8]) -> Result<KeyBuf, Fault>
-    ensures { Gives (λ own. own) result (Ok (shortened C.cmp key.entry.bytes.now short.now)) }
-{
-    let user = key.user();
-    if short.len() < user.len() && C::compare(user, short).is_lt() {
-        return KeyBuf::new(alloc, short, MAX_SEQUENCE, Kind::Put);
-    }
-    KeyBuf::of(alloc, key)
-}
-
 /// A short key of `a` or above it, and below `b`, where `a` is below `b`: `a` where the user keys are
 /// equal, and else the first internal key of the comparator's separator, where that is shorter than the
-/// user key of `a` and greater; else `a`. Fails for want of memory alone.
+/// user key of `a` and greater; else `a`.
+///
+/// Refused for want of memory alone.
 #[tactic(auto, unfolding(crate::specs::Short::internal_separator_of))]
 pub fn internal_separator<C: Comparator>(
     alloc: Global,
     a: InternalKey,
     b: InternalKey,
 ) -> Result<KeyBuf, Fault>
-    ensures separator { Gives (λ own. own) result
+    ensures separator { EqualOrMemory (λ own. own) result
         (Ok (internal_separator_of C.cmp C.separator_of a.entry.bytes.now b.entry.bytes.now)) }
     ensures between { internal_cmp C.cmp a.entry.bytes.now b.entry.bytes.now ≡ Less
         → IfOk result (IsBetween (internal_cmp C.cmp) a.entry.bytes.now b.entry.bytes.now) }
@@ -49,13 +38,28 @@ pub fn internal_separator<C: Comparator>(
 }
 
 /// A short key of `key` or above it: the first internal key of the comparator's successor, where that is
-/// shorter than the user key and greater; else `key`. Fails for want of memory alone.
+/// shorter than the user key and greater; else `key`.
+///
+/// Refused for want of memory alone.
 #[tactic(auto, unfolding(crate::specs::Short::internal_successor_of))]
 pub fn internal_successor<C: Comparator>(alloc: Global, key: InternalKey) -> Result<KeyBuf, Fault>
-    ensures successor { Gives (λ own. own) result
+    ensures successor { EqualOrMemory (λ own. own) result
         (Ok (internal_successor_of C.cmp C.successor_of key.entry.bytes.now)) }
     ensures above { IfOk result (λ own. internal_cmp C.cmp key.entry.bytes.now own ≢ Greater) }
 {
     let short = C::successor(alloc, key.user())?;
     shorten::<C>(alloc, key, &short)
+}
+
+/// The first internal key of `short`, where that is shorter than the key's user key and greater; else
+/// the key.
+#[tactic(auto, unfolding(crate::specs::Short::shortened))]
+fn shorten<C: Comparator>(alloc: Global, key: InternalKey, short: &[u8]) -> Result<KeyBuf, Fault>
+    ensures { EqualOrMemory (λ own. own) result (Ok (shortened C.cmp key.entry.bytes.now short.now)) }
+{
+    let user = key.user();
+    if short.len() < user.len() && C::compare(user, short).is_lt() {
+        return KeyBuf::new(alloc, short, MAX_SEQUENCE, Kind::Put);
+    }
+    KeyBuf::of(alloc, key)
 }

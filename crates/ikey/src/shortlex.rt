@@ -3,7 +3,7 @@
 ghost use Rattle.ikey.specs.Shortlex.{shortlex_name, shortlex_cmp, shortlex_separator, shortlex_successor};
 ghost use Rattle.ikey.specs.ShortlexLaws.{shortlex_total, shortlex_exact, shortlex_between, shortlex_above};
 
-use crate::comparator::Comparator;
+use crate::comparator::{Comparator, SharedComparator};
 use coding::Fault;
 use std::alloc::Global;
 use std::cmp::Ordering;
@@ -45,3 +45,5 @@ impl Comparator for Shortlex {
         Ok(Vec::from_slice(alloc, key)?)
     }
 }
+
+impl SharedComparator for Shortlex {}

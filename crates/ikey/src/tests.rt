@@ -46,6 +46,20 @@ fn orders_of_user_keys(rt: HostRuntime) {
     assert!(rt; Shortlex::compare(b"b", b"aa") == Ordering::Less);
 }
 
+/// The name of a comparator that threads may share.
+fn shared_name<C: SharedComparator>() -> &'static str {
+    C::name()
+}
+
+#[test]
+fn comparators_that_threads_share(rt: HostRuntime) {
+    assert_eq!(rt; shared_name::<Bytewise>(), "leveldb.BytewiseComparator");
+    assert_eq!(rt;
+        shared_name::<Shortlex>(),
+        "subcompaction.ShortlexComparator"
+    );
+}
+
 #[test]
 fn spelling(rt: HostRuntime) -> Result<(), Fail> {
     let put = KeyBuf::new(rt.alloc(), b"a", 1, Kind::Put)
@@ -177,5 +191,20 @@ fn a_refused_growth_is_memory(rt: HostRuntime) -> Result<(), Fault> {
     is_key_or_memory(&rt, KeyBuf::of(alloc, start), &START);
     let made = KeyBuf::new(alloc, b"abcz", 5, Kind::Put);
     is_key_or_memory(&rt, made, &START);
+    Ok(())
+}
+
+// With `rt try --test --fail-alloc N` the Nth growth is refused; without it, none is.
+#[test]
+fn a_key_gives_way_to_another(rt: HostRuntime) -> Result<(), Fault> {
+    let short = InternalKey::parse(&START[3..])?;
+    let mut own = KeyBuf::of(rt.alloc(), short)?;
+    match own.set(InternalKey::parse(&LIMIT)?) {
+        Ok(()) => assert_eq!(rt; own.as_key().bytes(), LIMIT.as_slice()),
+        Err(refused) => {
+            assert_eq!(rt; refused, Fault::of(FaultName::Memory));
+            assert_eq!(rt; own.as_key().bytes(), &START[3..]);
+        }
+    }
     Ok(())
 }

@@ -8,7 +8,7 @@ use Rattle.std.proofs.lemmas.Bool.Decides.{Decides-eqb}
 use Rattle.std.proofs.lemmas.Slice.Eq.{starts_is}
 use Rattle.std.specs.Prelude.{IfOk}
 use Rattle.std.specs.Global.{Vec}
-use Rattle.coding.specs.Answers.{fault, Gives, ◌>>=◌}
+use Rattle.coding.specs.Answers.{fault, EqualOrMemory, ◌>>=◌}
 use Rattle.coding.specs.declared.fault.Fault.{Fault}
 use Rattle.coding.specs.declared.fault.FaultName.TheVariants.{LogShape}
 use Rattle.coding.proofs.Binds.{bind_ok, ok_is}
@@ -151,7 +151,7 @@ pub one_list : OneListLaw
 one_list rs ss e = ok_is rs ss (sym (log_again rs) ∙ ap records_of e ∙ log_again ss)
 
 -- what the code read is the log's
-pub is_found : (bytes : List ℕ) (r : Result (Vec (Vec ℕ)) Fault) → IsBytes bytes → Gives (λ v. lists v.items) r (records_of bytes) → IfOk r (λ v. bytes ≡ log (lists v.items))
+pub is_found : (bytes : List ℕ) (r : Result (Vec (Vec ℕ)) Fault) → IsBytes bytes → EqualOrMemory (λ v. lists v.items) r (records_of bytes) → IfOk r (λ v. bytes ≡ log (lists v.items))
 is_found bytes (Ok v) fits given = log_read bytes (lists v.items) fits given
 is_found bytes (Err e) fits given = tt
 

@@ -2,10 +2,10 @@
 use Rattle.std.proofs.Common.{◌≡◌, ℕ, zero, suc, ◌+◌, ◌-◌, ◌<◌, ◌≤◌, Bool, true, false, ltb, List, [], ◌∷◌, ◌++◌, length, take, drop, Result, Ok, Err, refl, sym, ap, ◌∙◌, append_assoc, arith}
 use Rattle.std.proofs.lemmas.List.{append-nil, length-drop}
 use Rattle.std.proofs.lemmas.Bool.{lt-ltb}
-use Rattle.coding.specs.Answers.{fault, UnlessMemory, Fails, ◌>>=◌}
+use Rattle.coding.specs.Answers.{fault, FailsOrMemory, ◌>>=◌}
+use Rattle.coding.proofs.Refusals.{unless_from}
 use Rattle.coding.specs.declared.fault.Fault.{Fault}
-use Rattle.coding.specs.declared.fault.FaultName.{FaultName}
-use Rattle.coding.specs.declared.fault.FaultName.TheVariants.{LogShape, Memory}
+use Rattle.coding.specs.declared.fault.FaultName.TheVariants.{LogShape}
 use Rattle.logrec.specs.Log.{fragment_type, fragment, fragments}
 use Rattle.logrec.specs.Reading.{Piece, piece_at, ends_record, left_at, record_at, records_in, records_of}
 use Rattle.logrec.proofs.Pieces.{piece_shorter}
@@ -14,12 +14,8 @@ use Rattle.logrec.proofs.Logs.{others_in, records_in-suc, records_in-nil, record
 
 -- ---- refusals
 
-unless_map : (n : FaultName) (P Q : Type 0) → (P → Q) → UnlessMemory n P → UnlessMemory n Q
-unless_map Memory P Q f p = tt
-unless_map _ P Q f p = f p
-
-pub Fails-map : {X Y : Type 0} (e : Fault) (a : Result X Fault) (b : Result Y Fault) → (a ≡ Err e → b ≡ Err e) → Fails e a → Fails e b
-Fails-map e a b f h = unless_map e.name (a ≡ Err e) (b ≡ Err e) f h
+pub FailsOrMemory-map : {X Y : Type 0} (e : Fault) (a : Result X Fault) (b : Result Y Fault) → (a ≡ Err e → b ≡ Err e) → FailsOrMemory e a → FailsOrMemory e b
+FailsOrMemory-map e a b f h = unless_from e (a ≡ Err e) (b ≡ Err e) f h
 
 -- ---- writing the fragments of a record
 
@@ -126,9 +122,9 @@ unfolding left_at
 piece_failed zero begins room rest e enough h = ap failing (same_fault (fault LogShape) e (sym (no_piece room rest enough) ∙ h))
 piece_failed (suc most) begins room rest e enough h = left_at-suc most begins room rest ∙ ap (λ (r : Result Piece Fault). r >>= going most begins room) h
 
-pub reads_refused : (total : Result (List ℕ × List ℕ) Fault) (front : List ℕ) (begins : Bool) (room : ℕ) (rest : List ℕ) (e : Fault) → Reads total front begins room rest → Fails e (piece_at room rest) → Fails e total
+pub reads_refused : (total : Result (List ℕ × List ℕ) Fault) (front : List ℕ) (begins : Bool) (room : ℕ) (rest : List ℕ) (e : Fault) → Reads total front begins room rest → FailsOrMemory e (piece_at room rest) → FailsOrMemory e total
 reads_refused total front begins room rest e r =
-    Fails-map e (piece_at room rest) total (λ h. sym r.parts ∙ ap (with_front front) (piece_failed r.most begins room rest e r.enough h))
+    FailsOrMemory-map e (piece_at room rest) total (λ h. sym r.parts ∙ ap (with_front front) (piece_failed r.most begins room rest e r.enough h))
 
 ends_failed : (most : ℕ) (begins : Bool) (room : ℕ) (rest : List ℕ) (p : Piece) (e : Fault) → length rest ≤ most → piece_at room rest ≡ Ok p → ends_record begins room p.kind (length p.content) ≡ Err e → left_at most begins room rest ≡ Err e
 ends_failed zero begins room rest p e enough f h = absurd (omega (arith, piece_shorter room rest p f))
@@ -138,9 +134,9 @@ ends_failed (suc most) begins room rest p e enough f h =
     ∙ ap (λ (r : Result Bool Fault). r >>= ending most p) h
 
 pub reads_misplaced : (total : Result (List ℕ × List ℕ) Fault) (front : List ℕ) (begins : Bool) (room : ℕ) (rest : List ℕ) (p : Piece) (e : Fault) → Reads total front begins room rest → piece_at room rest ≡ Ok p
-    → Fails e (ends_record begins room p.kind (length p.content)) → Fails e total
+    → FailsOrMemory e (ends_record begins room p.kind (length p.content)) → FailsOrMemory e total
 reads_misplaced total front begins room rest p e r f =
-    Fails-map e (ends_record begins room p.kind (length p.content)) total (λ h. sym r.parts ∙ ap (with_front front) (ends_failed r.most begins room rest p e r.enough f h))
+    FailsOrMemory-map e (ends_record begins room p.kind (length p.content)) total (λ h. sym r.parts ∙ ap (with_front front) (ends_failed r.most begins room rest p e r.enough f h))
 
 -- ---- reading the records of a log
 
@@ -209,6 +205,6 @@ record_failed (suc most) bytes front rest e enough some parts h =
     sym parts
     ∙ ap (with_records front) (records_in-suc most (length bytes - length rest) rest some ∙ ap (λ (r : Result (List ℕ × List ℕ) Fault). r >>= others_in most (length bytes - length rest) rest) h)
 
-pub records_refused : (bytes : List ℕ) (front : List (List ℕ)) (rest : List ℕ) (e : Fault) → ReadsRecords bytes front rest → 0 < length rest → Fails e (record_at (length bytes - length rest) rest) → Fails e (records_of bytes)
+pub records_refused : (bytes : List ℕ) (front : List (List ℕ)) (rest : List ℕ) (e : Fault) → ReadsRecords bytes front rest → 0 < length rest → FailsOrMemory e (record_at (length bytes - length rest) rest) → FailsOrMemory e (records_of bytes)
 records_refused bytes front rest e r some =
-    Fails-map e (record_at (length bytes - length rest) rest) (records_of bytes) (record_failed r.most bytes front rest e r.enough some r.parts)
+    FailsOrMemory-map e (record_at (length bytes - length rest) rest) (records_of bytes) (record_failed r.most bytes front rest e r.enough some r.parts)

@@ -7,17 +7,12 @@ use Rattle.coding.specs.Answers.{fault, ◌>>=◌}
 use Rattle.coding.specs.declared.fault.Fault.{Fault}
 use Rattle.coding.specs.declared.fault.FaultName.TheVariants.{LogChecksum, LogShape}
 use Rattle.logrec.specs.Log.{zeros_due, room_at, fragment_type, checksum}
-use Rattle.logrec.specs.declared.reading.Fragment as code
 
 -- a fragment that is read, and the bytes behind it
 pub record Piece : Type 0 where
   pub kind : ℕ
   pub content : List ℕ
   pub rest : List ℕ
-
--- the fragment of the code, by its bytes
-abbrev pub piece : code.Fragment → Piece
-piece f = record { kind = f.kind; content = f.content.now; rest = f.rest.now }
 
 -- the length in a header, as a number
 abbrev pub content_len : List ℕ → ℕ

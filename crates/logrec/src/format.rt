@@ -17,26 +17,6 @@ pub const MAX_CONTENT_LEN: usize = 32_761;
 /// As many zeros as are ever due at a block's end.
 pub const ZEROS: [u8; 6] = [0; 6];
 
-/// The type of a fragment.
-#[derive(Clone, Copy)]
-enum FragmentType {
-    /// It is its record.
-    Full = 1,
-    /// It begins its record and does not end it.
-    First = 2,
-    /// It neither begins nor ends its record.
-    Middle = 3,
-    /// It ends its record and does not begin it.
-    Last = 4,
-}
-
-/// How many bytes are left in the block that an offset is in.
-fn block_left(offset: usize) -> usize
-    ensures { result ≡ block_left offset }
-{
-    BLOCK_LEN - offset % BLOCK_LEN
-}
-
 /// How many zeros stand between an offset and the next header.
 pub fn zeros_len(offset: usize) -> usize
     ensures len { result ≡ length (zeros_due offset) }
@@ -77,4 +57,24 @@ pub fn checksum(kind: u8, content: &[u8]) -> u32
     ensures { result ≡ checksum kind content.now }
 {
     mask(crc32c_pair(&[kind], content))
+}
+
+/// How many bytes are left in the block that an offset is in.
+fn block_left(offset: usize) -> usize
+    ensures { result ≡ block_left offset }
+{
+    BLOCK_LEN - offset % BLOCK_LEN
+}
+
+/// The type of a fragment.
+#[derive(Clone, Copy)]
+enum FragmentType {
+    /// It is its record.
+    Full = 1,
+    /// It begins its record and does not end it.
+    First = 2,
+    /// It neither begins nor ends its record.
+    Middle = 3,
+    /// It ends its record and does not begin it.
+    Last = 4,
 }

@@ -1,9 +1,10 @@
 //! Reading the records of a log.
 
 ghost use Rattle.std.specs.Prelude.{◌≡◌, ◌≤◌, true, List, ℕ, length, IfOk, Ok};
-ghost use Rattle.coding.specs.Answers.{Gives};
+ghost use Rattle.coding.specs.Answers.{EqualOrMemory};
 ghost use Rattle.logrec.specs.Log.{log};
-ghost use Rattle.logrec.specs.Reading.{piece, piece_at, ends_record, left_at, behind_zeros, record_at, records_of, lists};
+ghost use Rattle.logrec.specs.CodeFragment.{piece};
+ghost use Rattle.logrec.specs.Reading.{piece_at, ends_record, left_at, behind_zeros, record_at, records_of, lists};
 
 use crate::format::{HEADER_LEN, MAX_CONTENT_LEN, ZEROS, checksum, room_at, type_of, zeros_len};
 use byteorder::{ByteOrder, LittleEndian};
@@ -23,22 +24,22 @@ struct Fragment<'a> {
 /// Other bytes are refused, at the first fragment from the front that is not as a writer leaves it. LogShape: the zeros
 /// at a block's end, the header or the content are not whole or pass the block, or type and length are not
 /// those that a writer would have written there; also bytes that end inside a record. LogChecksum: the parts are
-/// whole and the checksum is not theirs. A length in a header is held against the bytes that are there before
-/// memory is asked for.
+/// whole and the checksum is not theirs. A length in a header is compared with the bytes that are there before
+/// memory is asked for. Else refused for want of memory alone.
 pub fn records(alloc: Global, bytes: &[u8]) -> Result<Vec<Vec<u8>>, Fault>
     // The bytes are the log of what is read.
     ensures found { IfOk result (λ v. bytes.now ≡ log (lists v.items)) }
     // A log is read, unless memory runs out.
-    ensures only { (rs : List (List ℕ)) → bytes.now ≡ log rs → Gives (λ v. lists v.items) result (Ok rs) }
+    ensures only { (rs : List (List ℕ)) → bytes.now ≡ log rs → EqualOrMemory (λ v. lists v.items) result (Ok rs) }
     // Which refusal it is.
-    ensures exact { Gives (λ v. lists v.items) result (records_of bytes.now) }
+    ensures exact { EqualOrMemory (λ v. lists v.items) result (records_of bytes.now) }
 {
     all(alloc, bytes)
 }
 
 /// Each record, one after the other.
 fn all(alloc: Global, bytes: &[u8]) -> Result<Vec<Vec<u8>>, Fault>
-    ensures { Gives (λ v. lists v.items) result (records_of bytes.now) }
+    ensures { EqualOrMemory (λ v. lists v.items) result (records_of bytes.now) }
 {
     let mut records = Vec::new(alloc);
     let mut rest = bytes;
@@ -53,7 +54,7 @@ fn all(alloc: Global, bytes: &[u8]) -> Result<Vec<Vec<u8>>, Fault>
 /// The record at an offset, and the bytes behind it.
 #[tactic(auto, unfolding(crate::specs::Reading::record_at))]
 fn record_at(alloc: Global, offset: usize, bytes: &[u8]) -> Result<(Vec<u8>, &[u8]), Fault>
-    ensures { Gives (λ x. (x.0.items, x.1.now)) result (record_at offset bytes.now) }
+    ensures { EqualOrMemory (λ x. (x.0.items, x.1.now)) result (record_at offset bytes.now) }
 {
     let body = behind_zeros(offset, bytes)?;
     left_at(alloc, room_at(offset), body)
@@ -62,7 +63,7 @@ fn record_at(alloc: Global, offset: usize, bytes: &[u8]) -> Result<(Vec<u8>, &[u
 /// The bytes behind the zeros that are due at an offset.
 #[tactic(auto, unfolding(crate::specs::Reading::behind_zeros))]
 fn behind_zeros(offset: usize, bytes: &[u8]) -> Result<&[u8], Fault>
-    ensures { Gives (λ x. x.now) result (behind_zeros offset bytes.now) }
+    ensures { EqualOrMemory (λ x. x.now) result (behind_zeros offset bytes.now) }
 {
     let zeros = zeros_len(offset);
     if !bytes.starts_with(&ZEROS[..zeros]) {
@@ -73,7 +74,8 @@ fn behind_zeros(offset: usize, bytes: &[u8]) -> Result<&[u8], Fault>
 
 /// The record whose first fragment has this room, and the bytes behind it.
 fn left_at(alloc: Global, room: usize, bytes: &[u8]) -> Result<(Vec<u8>, &[u8]), Fault>
-    ensures { Gives (λ x. (x.0.items, x.1.now)) result (left_at (length bytes.now) true room bytes.now) }
+    ensures { EqualOrMemory (λ x. (x.0.items, x.1.now)) result
+        (left_at (length bytes.now) true room bytes.now) }
 {
     let mut record = Vec::with_capacity(alloc, content_len(bytes))?;
     let mut begins = true;
@@ -115,7 +117,7 @@ fn content_len(bytes: &[u8]) -> usize
 /// The fragment at the front, with its checksum tested.
 #[tactic(auto, unfolding(crate::specs::Reading::piece_at))]
 fn fragment_at(room: usize, bytes: &[u8]) -> Result<Fragment<'_>, Fault>
-    ensures { Gives piece result (piece_at room bytes.now) }
+    ensures { EqualOrMemory piece result (piece_at room bytes.now) }
 {
     if bytes.len() < HEADER_LEN {
         return Err(Fault::of(FaultName::LogShape));
@@ -141,7 +143,8 @@ fn fragment_at(room: usize, bytes: &[u8]) -> Result<Fragment<'_>, Fault>
 /// written its type and length there.
 #[tactic(auto, unfolding(crate::specs::Reading::ends_record))]
 fn ends_record(begins: bool, room: usize, fragment: &Fragment<'_>) -> Result<bool, Fault>
-    ensures { Gives (λ b. b) result (ends_record begins room fragment.now.kind (length fragment.now.content.now)) }
+    ensures { EqualOrMemory (λ b. b) result
+        (ends_record begins room fragment.now.kind (length fragment.now.content.now)) }
 {
     let len = fragment.content.len();
     // An empty fragment ends a record only where it is all of it.

@@ -11,8 +11,8 @@ use std::alloc::Global;
 
 /// The log `old` with the record at its end: `old` and what is written at its length.
 ///
-/// `old` is taken as it is; only its length counts. Refused only for want of memory; memory for the whole
-/// log is asked for once.
+/// `old` is taken as it is; only its length counts. Refused for want of memory alone, which is asked for once, for the
+/// whole log.
 pub fn append(alloc: Global, old: &[u8], record: &[u8]) -> Result<Vec<u8>, Fault>
     ensures ok { IfOk result (λ v. v.items ≡ old.now ++ written (length old.now) «record».now) }
     ensures memory { IsOkUnless result (fault Memory) }
@@ -37,7 +37,8 @@ fn grown_len(old: usize, room: usize, record: usize) -> usize {
 /// Appends the fragments of a record of which the first has this room.
 fn push_fragments(log: &mut Vec<u8>, room: usize, record: &[u8]) -> Result<(), Fault>
     requires { room ≤ 32761 }
-    ensures ok { OnOk result (log.new.items ≡ log.old.items ++ fragments (length «record».now) true room «record».now) }
+    ensures ok { OnOk result (log.new.items ≡
+        log.old.items ++ fragments (length «record».now) true room «record».now) }
     ensures memory { IsOkUnless result (fault Memory) }
 {
     let mut begins = true;

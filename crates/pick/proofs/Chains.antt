@@ -17,7 +17,7 @@ use Rattle.edit.specs.declared.meta.FileMeta.{FileMeta}
 use Rattle.edit.proofs.Tested.{eqb-sym}
 use Rattle.edit.proofs.Sorting.{same_number}
 use Rattle.pick.specs.Boundaries.{greater_key, with_largest, largest_key, goes_on, is_among, next_boundary, IsChain, AreWithBoundaries}
-use Rattle.pick.specs.Choices.{joined}
+use Rattle.pick.specs.Choices.{boundary_pass}
 use Rattle.pick.proofs.Lists.{IsIn, in_back, in_either, any_from, any_gives, none_any, or_left, cond_true, cond_false, false_true, cases, filter_in, in_filter, find_past, none_find, one_alone, apart_behind, before, and_both, and_first, and_second, same_test}
 use Rattle.pick.proofs.VersionFiles.{AreLevelFiles}
 
@@ -115,7 +115,7 @@ module _ (cmp : List ℕ → List ℕ → Ordering) (total : IsTotalOrder cmp) w
   abbrev pub is_next : List FileMeta → FileMeta → Bool
   is_next chosen f = not (is_among chosen f) && goes_on cmp (largest_key cmp chosen) f
 
-  largest-push : (chosen : List FileMeta) (f : FileMeta) → largest_key cmp (chosen ++ f ∷ []) ≡ with_largest cmp (largest_key cmp chosen) f
+  pub largest-push : (chosen : List FileMeta) (f : FileMeta) → largest_key cmp (chosen ++ f ∷ []) ≡ with_largest cmp (largest_key cmp chosen) f
   largest-push chosen f = fold-append (with_largest cmp) None chosen (f ∷ [])
 
   among-append : (xs ys : List FileMeta) (q : FileMeta) → is_among (xs ++ ys) q ≡ (is_among xs q || is_among ys q)
@@ -162,7 +162,7 @@ module _ (cmp : List ℕ → List ℕ → Ordering) (total : IsTotalOrder cmp) w
     record Run (chosen left : List FileMeta) : Type 0 where
       added : List FileMeta
       chain : IsChain cmp files chosen added
-      these : joined cmp p (largest_key cmp chosen) left ≡ filter (is_among (chosen ++ added)) left
+      these : boundary_pass cmp p (largest_key cmp chosen) left ≡ filter (is_among (chosen ++ added)) left
       of_left : (q : FileMeta) → IsIn added q → IsIn left q
 
     -- where the pass is: no file behind it is a next one, and those ahead are chosen where they pass the test
@@ -220,7 +220,7 @@ module _ (cmp : List ℕ → List ℕ → Ordering) (total : IsTotalOrder cmp) w
         record {
           added = run.added;
           chain = run.chain;
-          these = cond_true (p f) (f ∷ joined cmp p (largest_key cmp chosen) rest) (cond (goes_on cmp (largest_key cmp chosen) f) (f ∷ joined cmp p (with_largest cmp (largest_key cmp chosen) f) rest) (joined cmp p (largest_key cmp chosen) rest)) e
+          these = cond_true (p f) (f ∷ boundary_pass cmp p (largest_key cmp chosen) rest) (cond (goes_on cmp (largest_key cmp chosen) f) (f ∷ boundary_pass cmp p (with_largest cmp (largest_key cmp chosen) f) rest) (boundary_pass cmp p (largest_key cmp chosen) rest)) e
               ∙ ap (λ (l : List FileMeta). f ∷ l) run.these
               ∙ head_kept (is_among (chosen ++ run.added)) f rest kept;
           of_left = λ q i. inr (run.of_left q i);
@@ -233,9 +233,9 @@ module _ (cmp : List ℕ → List ℕ → Ordering) (total : IsTotalOrder cmp) w
         record {
           added = f ∷ run.added;
           chain = (found, run.chain);
-          these = cond_false (p f) (f ∷ joined cmp p (largest_key cmp chosen) rest) (cond (goes_on cmp (largest_key cmp chosen) f) (f ∷ joined cmp p (with_largest cmp (largest_key cmp chosen) f) rest) (joined cmp p (largest_key cmp chosen) rest)) e
-              ∙ cond_true (goes_on cmp (largest_key cmp chosen) f) (f ∷ joined cmp p (with_largest cmp (largest_key cmp chosen) f) rest) (joined cmp p (largest_key cmp chosen) rest) g
-              ∙ ap (λ o. f ∷ joined cmp p o rest) (sym (largest-push chosen f))
+          these = cond_false (p f) (f ∷ boundary_pass cmp p (largest_key cmp chosen) rest) (cond (goes_on cmp (largest_key cmp chosen) f) (f ∷ boundary_pass cmp p (with_largest cmp (largest_key cmp chosen) f) rest) (boundary_pass cmp p (largest_key cmp chosen) rest)) e
+              ∙ cond_true (goes_on cmp (largest_key cmp chosen) f) (f ∷ boundary_pass cmp p (with_largest cmp (largest_key cmp chosen) f) rest) (boundary_pass cmp p (largest_key cmp chosen) rest) g
+              ∙ ap (λ o. f ∷ boundary_pass cmp p o rest) (sym (largest-push chosen f))
               ∙ ap (λ (l : List FileMeta). f ∷ l) (run.these ∙ ap (λ (l : List FileMeta). filter (is_among l) rest) (append_assoc chosen (f ∷ []) run.added))
               ∙ head_kept (is_among (chosen ++ f ∷ run.added)) f rest kept;
           of_left = λ q i. elim i [ inl same ↦ inl same | inr j ↦ inr (run.of_left q j) ];
@@ -247,8 +247,8 @@ module _ (cmp : List ℕ → List ℕ → Ordering) (total : IsTotalOrder cmp) w
         record {
           added = run.added;
           chain = run.chain;
-          these = cond_false (p f) (f ∷ joined cmp p (largest_key cmp chosen) rest) (cond (goes_on cmp (largest_key cmp chosen) f) (f ∷ joined cmp p (with_largest cmp (largest_key cmp chosen) f) rest) (joined cmp p (largest_key cmp chosen) rest)) e
-              ∙ cond_false (goes_on cmp (largest_key cmp chosen) f) (f ∷ joined cmp p (with_largest cmp (largest_key cmp chosen) f) rest) (joined cmp p (largest_key cmp chosen) rest) g
+          these = cond_false (p f) (f ∷ boundary_pass cmp p (largest_key cmp chosen) rest) (cond (goes_on cmp (largest_key cmp chosen) f) (f ∷ boundary_pass cmp p (with_largest cmp (largest_key cmp chosen) f) rest) (boundary_pass cmp p (largest_key cmp chosen) rest)) e
+              ∙ cond_false (goes_on cmp (largest_key cmp chosen) f) (f ∷ boundary_pass cmp p (with_largest cmp (largest_key cmp chosen) f) rest) (boundary_pass cmp p (largest_key cmp chosen) rest) g
               ∙ run.these
               ∙ head_left (is_among (chosen ++ run.added)) f rest left_out;
           of_left = λ q i. inr (run.of_left q i);
@@ -277,7 +277,7 @@ module _ (cmp : List ℕ → List ℕ → Ordering) (total : IsTotalOrder cmp) w
             let inside = filter_in p files x.item x.inside in
             ap p (sym (one_alone same_number (λ f g. eqb-sym f.number g.number) files level.differ x.item q inside.0 i x.passes)) ∙ inside.1
 
-    pub pass_is : AreWithBoundaries cmp files (filter p files) (joined cmp p (largest_key cmp (filter p files)) files)
+    pub pass_is : AreWithBoundaries cmp files (filter p files) (boundary_pass cmp p (largest_key cmp (filter p files)) files)
     pass_is =
         let run = all_run [] (filter p files) files (record { parts = refl; done = λ q i. absurd i; tells = among_filter }) in
         record { added = run.added; chain = run.chain; these = run.these }

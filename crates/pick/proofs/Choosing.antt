@@ -6,7 +6,7 @@ use Rattle.std.specs.Option.{option_or}
 use Rattle.std.specs.Cmp.{IsTotalOrder}
 use Rattle.std.specs.Ordering.{is_lt}
 use Rattle.std.specs.declared.cmp.Ordering.{Ordering}
-use Rattle.coding.specs.Answers.{Gives, Answers}
+use Rattle.coding.specs.Answers.{EqualOrMemory, HoldsOrMemory}
 use Rattle.coding.specs.declared.fault.Fault.{Fault}
 use Rattle.coding.proofs.Refusals.{unless_from}
 use Rattle.std.proofs.lemmas.Bool.Decides.{nat_tests}
@@ -21,8 +21,8 @@ use Rattle.pick.specs.Ranges.{is_at_most, begins_by, ends_from, overlaps}
 use Rattle.pick.specs.Chosen.{first_file, IsLeastClosed, AreChosen}
 use Rattle.pick.specs.Spans.{is_overlapping, is_covering}
 use Rattle.pick.specs.Boundaries.{with_largest, largest_key, goes_on, AreWithBoundaries}
-use Rattle.pick.specs.Choices.{IsGrown, joined}
-use Rattle.pick.specs.Picked.{AreUpper, IsUpperAnswer}
+use Rattle.pick.specs.Choices.{IsGrown, boundary_pass, IsUpperAnswer}
+use Rattle.pick.specs.Picked.{AreUpper}
 use Rattle.pick.proofs.Lists.{IsIn, all_in, all_from, any_gives, filter_in, in_filter, filter_nothing, find_some, or_left, or_right, or_either, and_both, and_first, and_second, cond_true, cond_false, one_alone}
 use Rattle.pick.proofs.UserOrders.{le_trans}
 use Rattle.pick.proofs.Grown.{overlaps_reaching, reaches_own}
@@ -129,17 +129,17 @@ module _ (cmp : List ℕ → List ℕ → Ordering) (total : IsTotalOrder cmp) w
   in_passed f q xs ys i j false false = i
 
   -- a file that passes the test is one of those that the pass gives
-  in_joined : (p : FileMeta → Bool) (key : Option (List ℕ)) (files : List FileMeta) (q : FileMeta) → IsIn files q → p q ≡ true → IsIn (joined cmp p key files) q
+  in_joined : (p : FileMeta → Bool) (key : Option (List ℕ)) (files : List FileMeta) (q : FileMeta) → IsIn files q → p q ≡ true → IsIn (boundary_pass cmp p key files) q
   in_joined p key [] q i h = absurd i
   in_joined p key (f ∷ files) q (inl e) h =
-      subst (λ (l : List FileMeta). IsIn l q) (sym (cond_true (p f) (f ∷ joined cmp p key files) (cond (goes_on cmp key f) (f ∷ joined cmp p (with_largest cmp key f) files) (joined cmp p key files)) (ap p (sym e) ∙ h))) (inl e)
+      subst (λ (l : List FileMeta). IsIn l q) (sym (cond_true (p f) (f ∷ boundary_pass cmp p key files) (cond (goes_on cmp key f) (f ∷ boundary_pass cmp p (with_largest cmp key f) files) (boundary_pass cmp p key files)) (ap p (sym e) ∙ h))) (inl e)
   in_joined p key (f ∷ files) q (inr i) h =
-      in_passed f q (joined cmp p key files) (joined cmp p (with_largest cmp key f) files) (in_joined p key files q i h) (in_joined p (with_largest cmp key f) files q i h) (p f) (goes_on cmp key f)
+      in_passed f q (boundary_pass cmp p key files) (boundary_pass cmp p (with_largest cmp key f) files) (in_joined p key files q i h) (in_joined p (with_largest cmp key f) files q i h) (p f) (goes_on cmp key f)
 
   -- a call that gives what the fact holds of answers it
-  pub answers_from : {X Y : Type 0} (view : X → Y) (r : Result X Fault) (y : Y) (P : Y → Type 0) → Gives view r (Ok y) → P y → Answers view r (λ answer. IsOkAnd answer P)
+  pub answers_from : {X Y : Type 0} (view : X → Y) (r : Result X Fault) (y : Y) (P : Y → Type 0) → EqualOrMemory view r (Ok y) → P y → HoldsOrMemory view r (λ answer. IsOkAnd answer P)
   answers_from view (Ok x) y P e h = subst P (let same : y ≡ view x = cc in same) h
-  answers_from {X} {Y} view (Err f) y P e h = unless_from f.name (Ok y ≡ Err f) ⊥ (λ same. absurd cc) e
+  answers_from {X} {Y} view (Err f) y P e h = unless_from f (Ok y ≡ Err f) ⊥ (λ same. absurd cc) e
 
   chosen_at : (level : ℕ) (files : List FileMeta) (first : FileMeta) (chosen : List FileMeta) → (level ≡ 0 → ⊥) → chosen ≡ first ∷ [] → AreChosen cmp level files first chosen
   chosen_at zero files first chosen some e = absurd (some refl)
@@ -164,30 +164,30 @@ module _ (cmp : List ℕ → List ℕ → Ordering) (total : IsTotalOrder cmp) w
     of_level = are_level_files total v level apart
 
     -- the inputs of the level below
-    pub lower_is : {X : Type 0} (view : X → List FileMeta) (r : Result X Fault) (p : FileMeta → Bool) (files : List FileMeta) → files ≡ level_files cmp v level → Gives view r (Ok (joined cmp p (largest_key cmp (filter p files)) files))
-        → Answers view r (λ answer. IsOkAnd answer (AreWithBoundaries cmp (level_files cmp v level) (filter p (level_files cmp v level))))
+    pub lower_is : {X : Type 0} (view : X → List FileMeta) (r : Result X Fault) (p : FileMeta → Bool) (files : List FileMeta) → files ≡ level_files cmp v level → EqualOrMemory view r (Ok (boundary_pass cmp p (largest_key cmp (filter p files)) files))
+        → HoldsOrMemory view r (λ answer. IsOkAnd answer (AreWithBoundaries cmp (level_files cmp v level) (filter p (level_files cmp v level))))
     lower_is view r p files same gives =
-        answers_from view r (joined cmp p (largest_key cmp (filter p (level_files cmp v level))) (level_files cmp v level)) (AreWithBoundaries cmp (level_files cmp v level) (filter p (level_files cmp v level)))
-        (subst (λ (fs : List FileMeta). Gives view r (Ok (joined cmp p (largest_key cmp (filter p fs)) fs))) same gives) (pass_is cmp total p (level_files cmp v level) of_level)
+        answers_from view r (boundary_pass cmp p (largest_key cmp (filter p (level_files cmp v level))) (level_files cmp v level)) (AreWithBoundaries cmp (level_files cmp v level) (filter p (level_files cmp v level)))
+        (subst (λ (fs : List FileMeta). EqualOrMemory view r (Ok (boundary_pass cmp p (largest_key cmp (filter p fs)) fs))) same gives) (pass_is cmp total p (level_files cmp v level) of_level)
 
-    upper_from : {X : Type 0} (view : X → List FileMeta) (r : Result X Fault) → 0 < length (level_files cmp v level) → Answers view r (λ answer. IsOkAnd answer (λ upper. AreUpper cmp v level upper × (0 < length upper))) → Answers view r (IsUpperAnswer cmp v level)
+    upper_from : {X : Type 0} (view : X → List FileMeta) (r : Result X Fault) → 0 < length (level_files cmp v level) → HoldsOrMemory view r (λ answer. IsOkAnd answer (λ upper. AreUpper cmp v level upper × (0 < length upper))) → HoldsOrMemory view r (IsUpperAnswer cmp v level)
     upper_from view (Ok x) some h = with_files (nat_lt 0 (length (level_files cmp v level))) (some_test (length (level_files cmp v level)) some) (AreUpper cmp v level (view x) × (0 < length (view x))) (Ok (view x) ≡ Ok []) h
-    upper_from view (Err e) some h = unless_from e.name ⊥ (IsUpperAnswer cmp v level (Err e)) (λ none. absurd none) h
+    upper_from view (Err e) some h = unless_from e ⊥ (IsUpperAnswer cmp v level (Err e)) (λ none. absurd none) h
 
     -- the inputs of the level itself
     upper_is : {X : Type 0} (view : X → List FileMeta) (r : Result X Fault) (p : FileMeta → Bool) (files : List FileMeta) (first : FileMeta) → files ≡ level_files cmp v level → first_file cmp (pointer_of v level) (level_files cmp v level) ≡ Some first
-        → AreChosen cmp level (level_files cmp v level) first (filter p (level_files cmp v level)) → p first ≡ true → Gives view r (Ok (joined cmp p (largest_key cmp (filter p files)) files)) → Answers view r (IsUpperAnswer cmp v level)
+        → AreChosen cmp level (level_files cmp v level) first (filter p (level_files cmp v level)) → p first ≡ true → EqualOrMemory view r (Ok (boundary_pass cmp p (largest_key cmp (filter p files)) files)) → HoldsOrMemory view r (IsUpperAnswer cmp v level)
     upper_is view r p files first same is_first chosen holds gives =
         let all = level_files cmp v level in
         let i = first_in cmp (pointer_of v level) all first is_first in
-        let upper = joined cmp p (largest_key cmp (filter p all)) all in
+        let upper = boundary_pass cmp p (largest_key cmp (filter p all)) all in
         upper_from view r (some_in all first i)
-        (answers_from view r upper (λ upper. AreUpper cmp v level upper × (0 < length upper)) (subst (λ (fs : List FileMeta). Gives view r (Ok (joined cmp p (largest_key cmp (filter p fs)) fs))) same gives)
+        (answers_from view r upper (λ upper. AreUpper cmp v level upper × (0 < length upper)) (subst (λ (fs : List FileMeta). EqualOrMemory view r (Ok (boundary_pass cmp p (largest_key cmp (filter p fs)) fs))) same gives)
         (record { first = first; is_first = is_first; chosen = filter p all; are_chosen = chosen; with_boundaries = pass_is cmp total p all of_level }, some_in upper first (in_joined p (largest_key cmp (filter p all)) all first i holds)))
 
     -- the first file alone
     pub upper_one : {X : Type 0} (view : X → List FileMeta) (r : Result X Fault) (files : List FileMeta) (first : FileMeta) → files ≡ level_files cmp v level → first_file cmp (pointer_of v level) files ≡ Some first → (level ≡ 0 → ⊥)
-        → Gives view r (Ok (joined cmp (λ (f : FileMeta). eqb f.number first.number) (largest_key cmp (filter (λ (f : FileMeta). eqb f.number first.number) files)) files)) → Answers view r (IsUpperAnswer cmp v level)
+        → EqualOrMemory view r (Ok (boundary_pass cmp (λ (f : FileMeta). eqb f.number first.number) (largest_key cmp (filter (λ (f : FileMeta). eqb f.number first.number) files)) files)) → HoldsOrMemory view r (IsUpperAnswer cmp v level)
     upper_one view r files first same is_first some gives =
         let first_is = subst (λ (fs : List FileMeta). first_file cmp (pointer_of v level) fs ≡ Some first) same is_first in
         let i = first_in cmp (pointer_of v level) (level_files cmp v level) first first_is in
@@ -196,7 +196,7 @@ module _ (cmp : List ℕ → List ℕ → Ordering) (total : IsTotalOrder cmp) w
 
     -- at level 0, the first file and those around it
     pub upper_around : {X : Type 0} (view : X → List FileMeta) (r : Result X Fault) (files : List FileMeta) (first : FileMeta) (s l : List ℕ) → files ≡ level_files cmp v level → first_file cmp (pointer_of v level) files ≡ Some first → level ≡ 0
-        → IsGrown cmp files first s l → Gives view r (Ok (joined cmp (is_around first s l) (largest_key cmp (filter (is_around first s l) files)) files)) → Answers view r (IsUpperAnswer cmp v level)
+        → IsGrown cmp files first s l → EqualOrMemory view r (Ok (boundary_pass cmp (is_around first s l) (largest_key cmp (filter (is_around first s l) files)) files)) → HoldsOrMemory view r (IsUpperAnswer cmp v level)
     upper_around view r files first s l same is_first zeroth grown gives =
         let first_is = subst (λ (fs : List FileMeta). first_file cmp (pointer_of v level) fs ≡ Some first) same is_first in
         let all_grown = subst (λ (fs : List FileMeta). IsGrown cmp fs first s l) same grown in

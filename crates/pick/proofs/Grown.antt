@@ -7,7 +7,7 @@ use Rattle.std.specs.declared.cmp.Ordering.{Ordering}
 use Rattle.ikey.specs.Key.{user_of}
 use Rattle.edit.specs.declared.meta.FileMeta.{FileMeta}
 use Rattle.pick.specs.Ranges.{is_at_most, begins_by, ends_from, overlaps}
-use Rattle.pick.specs.Chosen.{IsClosed}
+use Rattle.pick.specs.Chosen.{IsOverlapClosed}
 use Rattle.pick.specs.Spans.{lesser_user, greater_user, is_overlapping, is_covering}
 use Rattle.pick.specs.Choices.{Reaches, IsGrown}
 use Rattle.pick.proofs.Lists.{IsIn, all_in, all_from, any_from, any_gives, in_filter, or_left, or_right, and_both, and_first, and_second, find_none, false_true}
@@ -16,7 +16,7 @@ use Rattle.pick.proofs.UserOrders.{le_refl, le_trans, at_most_lesser, at_most_gr
 -- what holds of the range whenever it has grown
 pub record IsGrowing (cmp : List ℕ → List ℕ → Ordering) (files : List FileMeta) (first : FileMeta) (smallest largest : List ℕ) : Type 0 where
   pub with_first : is_covering cmp smallest largest first ≡ true
-  pub least : (other : FileMeta → Bool) → IsClosed cmp files other → Reaches cmp (filter other files) (user_of first.smallest) (user_of first.largest) → Reaches cmp (filter other files) smallest largest
+  pub least : (other : FileMeta → Bool) → IsOverlapClosed cmp files other → Reaches cmp (filter other files) (user_of first.smallest) (user_of first.largest) → Reaches cmp (filter other files) smallest largest
 
 -- ---- how many pass a test
 

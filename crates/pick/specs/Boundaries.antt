@@ -25,7 +25,7 @@ abbrev pub goes_on : (List ℕ → List ℕ → Ordering) → Option (List ℕ) 
 goes_on cmp None f = false
 goes_on cmp (Some key) f = is_lt (internal_cmp cmp key f.smallest) && is_eq (cmp (user_of key) (user_of f.smallest))
 
--- whether a file is one of the files, which are told by their numbers
+-- whether a file is one of the files, which are known by their numbers
 abbrev pub is_among : List FileMeta → FileMeta → Bool
 is_among files f = list_any (λ (g : FileMeta). nat_eq g.number f.number) files
 

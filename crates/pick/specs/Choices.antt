@@ -1,13 +1,17 @@
 -- Which files of a level are chosen before boundary files are, as the code tells them.
-use Rattle.std.specs.Prelude.{◌≡◌, ℕ, nat_eq, Bool, true, ◌||◌, ◌&&◌, not, if◌then◌else◌, List, [], ◌∷◌, filter, Option}
+use Rattle.std.specs.Prelude.{◌≡◌, ℕ, ◌<◌, nat_eq, nat_lt, Bool, true, ◌||◌, ◌&&◌, not, if◌then◌else◌, List, [], ◌∷◌, filter, length, Option, Result, Ok, MatchBool, IsOkAnd}
 use Rattle.std.specs.List.{AllByRecursion}
 use Rattle.std.specs.declared.cmp.Ordering.{Ordering}
+use Rattle.coding.specs.declared.fault.Fault.{Fault}
 use Rattle.ikey.specs.Key.{user_of}
+use Rattle.edit.specs.Version.{State}
+use Rattle.edit.specs.VersionOrder.{level_files}
 use Rattle.edit.specs.declared.meta.FileMeta.{FileMeta}
 use Rattle.pick.specs.Ranges.{begins_by, ends_from}
-use Rattle.pick.specs.Chosen.{IsClosed}
+use Rattle.pick.specs.Chosen.{IsOverlapClosed}
 use Rattle.pick.specs.Spans.{is_overlapping, is_covering}
 use Rattle.pick.specs.Boundaries.{with_largest, largest_key, goes_on}
+use Rattle.pick.specs.Picked.{AreUpper}
 use Rattle.pick.specs.declared.choice.Choice.{Choice}
 use Rattle.pick.specs.declared.choice.Choice.TheVariants.{First, Around, Overlapping}
 use Rattle.pick.specs.declared.range.UserRange.{UserRange}
@@ -36,18 +40,25 @@ is_chosen cmp (Overlapping range) f = is_in cmp range f
 pub record IsGrown (cmp : List ℕ → List ℕ → Ordering) (files : List FileMeta) (first : FileMeta) (smallest largest : List ℕ) : Type 0 where
   pub with_first : is_covering cmp smallest largest first ≡ true
   pub rests : AllByRecursion (λ (f : FileMeta). is_overlapping cmp smallest largest f ≡ true → is_covering cmp smallest largest f ≡ true) files
-  pub least : (other : FileMeta → Bool) → IsClosed cmp files other → Reaches cmp (filter other files) (user_of first.smallest) (user_of first.largest) → Reaches cmp (filter other files) smallest largest
+  pub least : (other : FileMeta → Bool) → IsOverlapClosed cmp files other → Reaches cmp (filter other files) (user_of first.smallest) (user_of first.largest) → Reaches cmp (filter other files) smallest largest
 
 -- the files that pass the test and those that go on within the largest key so far, in one pass
-abbrev pub joined : (List ℕ → List ℕ → Ordering) → (FileMeta → Bool) → Option (List ℕ) → List FileMeta → List FileMeta
-joined cmp test key [] = []
-joined cmp test key (f ∷ files) =
+abbrev pub boundary_pass : (List ℕ → List ℕ → Ordering) → (FileMeta → Bool) → Option (List ℕ) → List FileMeta → List FileMeta
+boundary_pass cmp test key [] = []
+boundary_pass cmp test key (f ∷ files) =
     if test f
-    then f ∷ joined cmp test key files
+    then f ∷ boundary_pass cmp test key files
     else if goes_on cmp key f
-    then f ∷ joined cmp test (with_largest cmp key f) files
-    else joined cmp test key files
+    then f ∷ boundary_pass cmp test (with_largest cmp key f) files
+    else boundary_pass cmp test key files
 
 -- the files that pass the test and their boundary files
 abbrev pub with_boundary_files : (List ℕ → List ℕ → Ordering) → (FileMeta → Bool) → List FileMeta → List FileMeta
-with_boundary_files cmp test files = joined cmp test (largest_key cmp (filter test files)) files
+with_boundary_files cmp test files = boundary_pass cmp test (largest_key cmp (filter test files)) files
+
+-- the inputs of the level itself, and none where the level has no file
+abbrev pub IsUpperAnswer : (List ℕ → List ℕ → Ordering) → State → ℕ → Result (List FileMeta) Fault → Type 0
+IsUpperAnswer cmp v level answer =
+    MatchBool (nat_lt 0 (length (level_files cmp v level)))
+    (IsOkAnd answer (λ upper. AreUpper cmp v level upper × (0 < length upper)))
+    (answer ≡ Ok [])

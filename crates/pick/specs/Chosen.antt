@@ -16,16 +16,16 @@ first_file cmp (Some pointer) files =
     option_or (find (λ (f : FileMeta). is_lt (internal_cmp cmp pointer f.largest)) files) (slice_get files 0)
 
 -- The set of those files that pass the test holds each file whose user-key range overlaps that of the set.
-abbrev pub IsClosed : (List ℕ → List ℕ → Ordering) → List FileMeta → (FileMeta → Bool) → Type 0
-IsClosed cmp files test = AllByRecursion (λ (f : FileMeta). overlaps cmp (filter test files) f ≡ true → test f ≡ true) files
+abbrev pub IsOverlapClosed : (List ℕ → List ℕ → Ordering) → List FileMeta → (FileMeta → Bool) → Type 0
+IsOverlapClosed cmp files test = AllByRecursion (λ (f : FileMeta). overlaps cmp (filter test files) f ≡ true → test f ≡ true) files
 
 -- The least closed set of files that holds the first one, in version order.
 pub record IsLeastClosed (cmp : List ℕ → List ℕ → Ordering) (files : List FileMeta) (first : FileMeta) (chosen : List FileMeta) : Type 0 where
   pub test : FileMeta → Bool
   pub passed : chosen ≡ filter test files
   pub holds_first : test first ≡ true
-  pub closed : IsClosed cmp files test
-  pub least : (other : FileMeta → Bool) → other first ≡ true → IsClosed cmp files other → AllByRecursion (λ (f : FileMeta). test f ≡ true → other f ≡ true) files
+  pub closed : IsOverlapClosed cmp files test
+  pub least : (other : FileMeta → Bool) → other first ≡ true → IsOverlapClosed cmp files other → AllByRecursion (λ (f : FileMeta). test f ≡ true → other f ≡ true) files
 
 -- The files that are chosen before boundary files are: at level 0, where ranges overlap, the least closed set that holds
 -- the first file, and at each other level that file alone.

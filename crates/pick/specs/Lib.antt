@@ -1,11 +1,8 @@
+-- what contracts rest on
 pub mod Ranges
 pub mod Chosen
 pub mod Boundaries
 pub mod Picked
+-- serves proofs alone
 pub mod Spans
 pub mod Choices
-pub mod Tables
-pub mod Gets
-pub mod Lawful
-pub mod Seen
-pub mod Checking

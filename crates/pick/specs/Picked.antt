@@ -1,5 +1,5 @@
 -- The inputs of a compaction.
-use Rattle.std.specs.Prelude.{◌≡◌, ℕ, zero, suc, ◌+◌, ◌-◌, ◌<◌, nat_lt, if◌then◌else◌, List, [], ◌++◌, length, map, filter, Some, Result, Ok, Err, MatchBool, IsOkAnd}
+use Rattle.std.specs.Prelude.{◌≡◌, ℕ, zero, suc, ◌+◌, ◌-◌, nat_lt, if◌then◌else◌, List, [], ◌++◌, length, map, filter, Some, Result, Err, MatchBool, IsOkAnd}
 use Rattle.std.specs.declared.cmp.Ordering.{Ordering}
 use Rattle.coding.specs.Answers.{fault}
 use Rattle.coding.specs.declared.fault.Fault.{Fault}
@@ -59,11 +59,6 @@ abbrev pub AreLower : (List ℕ → List ℕ → Ordering) → State → ℕ →
 AreLower cmp v level upper lower =
     AreWithBoundaries cmp (level_files cmp v level) (filter (overlaps cmp upper) (level_files cmp v level)) lower
 
--- the inputs of the level itself, and none where the level has no file
-abbrev pub IsUpperAnswer : (List ℕ → List ℕ → Ordering) → State → ℕ → Result (List FileMeta) Fault → Type 0
-IsUpperAnswer cmp v level answer =
-    MatchBool (nat_lt 0 (length (level_files cmp v level))) (IsOkAnd answer (λ upper. AreUpper cmp v level upper × (0 < length upper))) (answer ≡ Ok [])
-
 -- The inputs of a compaction of a level: its own inputs, then those of the level below; the files of the level below that
 -- which overlap them, the files of all levels from there on, and the largest key of its own inputs as its new compact
 -- pointer.
@@ -82,7 +77,10 @@ pub record IsPicked (cmp : List ℕ → List ℕ → Ordering) (v : State) (leve
 -- The answer on a level of a version: Level where the level is above 5, else NoInput where it has no file, else its inputs.
 abbrev pub IsInputsAnswer : (List ℕ → List ℕ → Ordering) → State → ℕ → Result Picked Fault → Type 0
 IsInputsAnswer cmp v level answer =
-    MatchBool (nat_lt 5 level) (answer ≡ Err (fault Level)) (MatchBool (nat_lt 0 (length (level_files cmp v level))) (IsOkAnd answer (IsPicked cmp v level)) (answer ≡ Err (fault NoInput)))
+    MatchBool (nat_lt 5 level) (answer ≡ Err (fault Level))
+    (MatchBool (nat_lt 0 (length (level_files cmp v level)))
+    (IsOkAnd answer (IsPicked cmp v level))
+    (answer ≡ Err (fault NoInput)))
 
 -- a level of a version has no two choices of inputs
 abbrev pub HasOneChoice : (List ℕ → List ℕ → Ordering) → Type 0

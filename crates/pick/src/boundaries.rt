@@ -2,7 +2,7 @@
 
 ghost use Rattle.std.specs.Prelude.{◌≡◌, Ok, Some, map, filter, fold};
 ghost use Rattle.std.specs.Option.{option_copied};
-ghost use Rattle.coding.specs.Answers.{Gives};
+ghost use Rattle.coding.specs.Answers.{EqualOrMemory};
 ghost use Rattle.pick.specs.Boundaries.{greater_key, with_largest, largest_key, goes_on as is_going_on};
 ghost use Rattle.pick.specs.Choices.{is_chosen, with_boundary_files};
 
@@ -57,7 +57,7 @@ fn largest_chosen<'a, C: Comparator>(
 {
     let mut largest = None;
     for file in files {
-        if choice.holds::<C>(*file) {
+        if choice.chooses::<C>(*file) {
             largest = largest_with::<C>(largest, *file);
         }
     }
@@ -82,13 +82,13 @@ pub(crate) fn with_boundaries<'a, C: Comparator>(
     files: &[&'a FileMeta],
     choice: Choice<'_>,
 ) -> Result<Vec<&'a FileMeta>, Fault>
-    ensures { Gives (λ v. map (λ f. f.now) v.items) result
+    ensures { EqualOrMemory (λ v. map (λ f. f.now) v.items) result
         (Ok (with_boundary_files C.cmp (is_chosen C.cmp choice.entry) (map (λ f. f.now) files.now))) }
 {
     let mut largest = largest_chosen::<C>(files, choice);
     let mut all = Vec::new(alloc);
     for file in files {
-        if choice.holds::<C>(*file) {
+        if choice.chooses::<C>(*file) {
             all.push(*file)?;
         } else if goes_on::<C>(largest, *file) {
             largest = largest_with::<C>(largest, *file);

@@ -24,7 +24,7 @@ pub(crate) enum Choice<'a> {
 
 impl<'a> Choice<'a> {
     /// Whether a file is chosen.
-    pub fn holds<C: Comparator>(self, file: &FileMeta) -> bool
+    pub fn chooses<C: Comparator>(self, file: &FileMeta) -> bool
         ensures { result ≡ is_chosen C.cmp self.entry file.now }
     {
         match self {
@@ -52,7 +52,8 @@ pub(crate) fn first_file<'a, C: Comparator>(
 
 /// The first file whose largest key is greater than the pointer.
 fn first_above<'a, C: Comparator>(files: &[&'a FileMeta], pointer: &KeyBuf) -> Option<&'a FileMeta>
-    ensures { option_copied result ≡ find (λ f. is_lt (internal_cmp C.cmp pointer.now f.largest)) (map (λ f. f.now) files.now) }
+    ensures { option_copied result
+        ≡ find (λ f. is_lt (internal_cmp C.cmp pointer.now f.largest)) (map (λ f. f.now) files.now) }
 {
     for file in files {
         if pointer

@@ -1,7 +1,7 @@
 //! Copies of files for the inputs.
 
 ghost use Rattle.std.specs.Prelude.{◌≡◌, ◌≤◌, ◌+◌, ◌-◌, ◌++◌, Ok, [], nat_lt, if◌then◌else◌, map, filter, OnOk, IfErr};
-ghost use Rattle.coding.specs.Answers.{Gives};
+ghost use Rattle.coding.specs.Answers.{EqualOrMemory, fault};
 ghost use Rattle.coding.specs.declared.fault.FaultName.TheVariants.{Memory};
 ghost use Rattle.edit.specs.VersionOrder.{level_files};
 ghost use Rattle.pick.specs.Choices.{is_in};
@@ -25,7 +25,7 @@ pub(crate) fn push_inputs(
     files: &[&FileMeta],
 ) -> Result<(), Fault>
     ensures ok { OnOk result (inputs.new.items ≡ inputs.old.items ++ map (λ f. input_at level f.now) files.now) }
-    ensures memory { IfErr result (λ e. e.name ≡ Memory) }
+    ensures memory { IfErr result (λ e. e ≡ fault Memory) }
 {
     for file in files {
         let meta = file.copy(alloc)?;
@@ -37,7 +37,7 @@ pub(crate) fn push_inputs(
 /// Appends copies of the files.
 fn push_copies(alloc: Global, copies: &mut Vec<FileMeta>, files: &[&FileMeta]) -> Result<(), Fault>
     ensures ok { OnOk result (copies.new.items ≡ copies.old.items ++ map (λ f. f.now) files.now) }
-    ensures memory { IfErr result (λ e. e.name ≡ Memory) }
+    ensures memory { IfErr result (λ e. e ≡ fault Memory) }
 {
     for file in files {
         copies.push(file.copy(alloc)?)?;
@@ -53,7 +53,7 @@ fn overlapping<C: Comparator>(
     range: UserRange<'_>,
 ) -> Result<Vec<FileMeta>, Fault>
     requires { level ≤ 6 }
-    ensures { Gives (λ v. v.items) result
+    ensures { EqualOrMemory (λ v. v.items) result
         (Ok (filter (is_in C.cmp range.entry) (level_files C.cmp version.now level))) }
 {
     let mut found = Vec::new(alloc);
@@ -72,7 +72,7 @@ pub(crate) fn deeper_files<C: Comparator>(
     version: &Version,
     from: u64,
 ) -> Result<Vec<FileMeta>, Fault>
-    ensures { Gives (λ v. v.items) result (Ok (files_from C.cmp version.now from (7 - from))) }
+    ensures { EqualOrMemory (λ v. v.items) result (Ok (files_from C.cmp version.now from (7 - from))) }
 {
     let mut deeper = Vec::new(alloc);
     for level in from..LAST_LEVEL + 1 {
@@ -90,7 +90,7 @@ pub(crate) fn grandparents<C: Comparator>(
     level: u64,
     range: UserRange<'_>,
 ) -> Result<Vec<FileMeta>, Fault>
-    ensures { Gives (λ v. v.items) result
+    ensures { EqualOrMemory (λ v. v.items) result
         (Ok (if nat_lt 6 level then [] else filter (is_in C.cmp range.entry) (level_files C.cmp version.now level))) }
 {
     if level > LAST_LEVEL {

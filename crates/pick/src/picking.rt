@@ -1,6 +1,8 @@
 //! The choice of the inputs of a compaction.
 
-ghost use Rattle.coding.specs.Answers.{Answers};
+ghost use Rattle.std.specs.Prelude.{OnOk};
+ghost use Rattle.coding.specs.Answers.{HoldsOrMemory};
+ghost use Rattle.edit.specs.Version.{IsState};
 ghost use Rattle.pick.specs.Picked.{picked_in, IsInputsAnswer};
 
 use crate::boundaries::largest_of;
@@ -26,7 +28,9 @@ const LAST_INPUT_LEVEL: u64 = 5;
 ///
 /// `Level` where the level is above 5, else `NoInput` where the level has no file. Also refused for want of memory.
 pub fn inputs<C: Comparator>(alloc: Global, version: &Version, level: u64) -> Result<Inputs, Fault>
-    ensures { Answers picked_in result (IsInputsAnswer C.cmp version.now level) }
+    ensures picked { HoldsOrMemory picked_in result (IsInputsAnswer C.cmp version.now level) }
+    // What holds of each version: the levels of its files are from 0 to 6.
+    ensures state { OnOk result (IsState version.now.pointers version.now.files) }
 {
     if level > LAST_INPUT_LEVEL {
         return Err(Fault::of(FaultName::Level));

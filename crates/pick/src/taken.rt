@@ -1,11 +1,11 @@
 //! The files of a level that a compaction takes.
 
 ghost use Rattle.std.specs.Prelude.{◌≤◌, map, filter, IsOkAnd};
-ghost use Rattle.coding.specs.Answers.{Answers};
+ghost use Rattle.coding.specs.Answers.{HoldsOrMemory};
+ghost use Rattle.edit.specs.Version.{IsState};
 ghost use Rattle.edit.specs.VersionOrder.{level_files};
 ghost use Rattle.pick.specs.Boundaries.{AreWithBoundaries};
-ghost use Rattle.pick.specs.Choices.{is_in};
-ghost use Rattle.pick.specs.Picked.{IsUpperAnswer};
+ghost use Rattle.pick.specs.Choices.{is_in, IsUpperAnswer};
 
 use crate::boundaries::with_boundaries;
 use crate::choice::{Choice, first_file, grown_range};
@@ -23,7 +23,7 @@ pub(crate) fn upper_files<C: Comparator>(
     level: u64,
 ) -> Result<Vec<&FileMeta>, Fault>
     requires { level ≤ 6 }
-    ensures { Answers (λ v. map (λ f. f.now) v.items) result (IsUpperAnswer C.cmp version.now level) }
+    ensures { HoldsOrMemory (λ v. map (λ f. f.now) v.items) result (IsUpperAnswer C.cmp version.now level) }
 {
     let files = version.files::<C>(alloc, level)?;
     let Some(first) = first_file::<C>(&files, version.pointer(level)) else {
@@ -44,9 +44,10 @@ pub(crate) fn lower_files<'a, C: Comparator>(
     range: UserRange<'_>,
 ) -> Result<Vec<&'a FileMeta>, Fault>
     requires { level ≤ 6 }
-    ensures { Answers (λ v. map (λ f. f.now) v.items) result
+    ensures lower { HoldsOrMemory (λ v. map (λ f. f.now) v.items) result
         (λ answer. IsOkAnd answer (AreWithBoundaries C.cmp (level_files C.cmp version.now level)
         (filter (is_in C.cmp range.entry) (level_files C.cmp version.now level)))) }
+    ensures state { IsState version.now.pointers version.now.files }
 {
     let files = version.files::<C>(alloc, level)?;
     with_boundaries::<C>(alloc, &files, Choice::Overlapping(range))

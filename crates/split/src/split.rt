@@ -40,27 +40,14 @@ impl<C: Comparator> Model for Split<C> {
     ghost invariant = { λ s. IsSplit C.cmp (map (λ key. key.items) s.boundaries.items) };
 }
 
-/// Whether the keys rise strictly.
-fn is_rising<C: Comparator>(keys: &[Vec<u8>]) -> bool
-    ensures { (result ≡ true) ↔ IsRising C.cmp (map (λ key. key.items) keys.now) }
-{
-    keys.is_sorted_by(|key, next| C::compare(key, next).is_lt())
-}
-
-/// The key at a place, where there is one.
-fn key_at(keys: &[Vec<u8>], place: usize) -> Option<&[u8]>
-    ensures { option_map (λ key. key.now) result ≡ slice_get (map (λ key. key.items) keys.now) place }
-{
-    keys.get(place).map(|key| key.as_slice())
-}
-
 impl<C: Comparator> Split<C> {
     /// The split at these boundaries. `SplitCount` where there are more than 4,095, and else `SplitOrder` where they
     /// don't rise strictly. Takes no memory.
     pub fn from_keys(keys: Vec<Vec<u8>>) -> Result<Split<C>, Fault>
         ensures accepted { IsOk result ↔ IsSplit C.cmp (map (λ key. key.items) keys.items) }
         ensures boundaries { IfOk result (λ split. split ≡ map (λ key. key.items) keys.items) }
-        ensures refused { IfErr result (λ e. e ≡ fault (if nat_le (length keys.items) 4095 then SplitOrder else SplitCount)) }
+        ensures refused { IfErr result
+            (λ e. e ≡ fault (if nat_le (length keys.items) 4095 then SplitOrder else SplitCount)) }
     {
         if keys.len() > MAX_BOUNDARIES {
             return Err(Fault::of(FaultName::SplitCount));
@@ -77,11 +64,13 @@ impl<C: Comparator> Split<C> {
     /// The split of the user keys of these tables' index entries into at most `want` ranges. Of the m keys of all of them,
     /// each once and in order, its boundaries are those at the places `j * m / want`, rounded down, for j from 1 to
     /// `want - 1`, each place once; where there are no keys there is no boundary. `SplitCount` where `want` is not from
-    /// 1 to 4,096, and else refused only for want of memory.
+    /// 1 to 4,096.
+    ///
+    /// Else refused for want of memory alone.
     pub fn choose(alloc: Global, tables: &[SoundTable<'_, C>], want: u64) -> Result<Split<C>, Fault>
         ensures wanted { (result ≡ Err (fault SplitCount)) ↔ ((want ≡ 0) ⊎ (4096 < want)) }
         ensures chosen { IfOk result (λ split. IsChoice C.cmp (index_users_of tables.now) want split) }
-        ensures refused { IfErr result (λ e. UnlessMemory e.name (e ≡ fault SplitCount)) }
+        ensures refused { IfErr result (λ e. UnlessMemory e (e ≡ fault SplitCount)) }
     {
         if want == 0 || want > MAX_RANGES {
             return Err(Fault::of(FaultName::SplitCount));
@@ -95,20 +84,21 @@ impl<C: Comparator> Split<C> {
     }
 
     /// The number of ranges, one more than there are boundaries. Takes no memory.
-    pub fn len(&self) -> usize
+    pub fn len(&self) -> u64
         ensures number { result ≡ length self.now + 1 }
         ensures split { IsSplit C.cmp self.now }
     {
-        self.boundaries.len() + 1
+        self.boundaries.len() as u64 + 1
     }
 
     /// The range of a number below `len`: from the boundary before it, where there is one, to before the boundary of its
     /// number, where there is one. Together the ranges hold each user key once, in order. Takes no memory.
-    pub fn range(&self, number: usize) -> Range<'_>
+    pub fn range(&self, number: u64) -> Range<'_>
         requires { number < length self.now + 1 }
         ensures bounds { key_range result ≡ range_at self.now number }
         ensures cover { IsCover C.cmp self.now }
     {
+        let number = number as usize;
         Range {
             lower: if number == 0 {
                 None
@@ -118,4 +108,18 @@ impl<C: Comparator> Split<C> {
             upper: key_at(&self.boundaries, number),
         }
     }
+}
+
+/// Whether the keys rise strictly.
+fn is_rising<C: Comparator>(keys: &[Vec<u8>]) -> bool
+    ensures { (result ≡ true) ↔ IsRising C.cmp (map (λ key. key.items) keys.now) }
+{
+    keys.is_sorted_by(|key, next| C::compare(key, next).is_lt())
+}
+
+/// The key at a place, where there is one.
+fn key_at(keys: &[Vec<u8>], place: usize) -> Option<&[u8]>
+    ensures { option_map (λ key. key.now) result ≡ slice_get (map (λ key. key.items) keys.now) place }
+{
+    keys.get(place).map(|key| key.as_slice())
 }

@@ -5,7 +5,7 @@ use Rattle.std.proofs.Math.Seq.{take-append_seam}
 use Rattle.std.proofs.lemmas.List.{drop_at}
 use Rattle.byteorder.specs.Endian.{little_bytes, little_number}
 use Rattle.block.specs.Piece.{Entry, Piece, piece_bytes, restarts_of, block_bytes}
-use Rattle.block.specs.Reading.{entries_behind}
+use Rattle.block.specs.Behind.{entries_behind}
 use Rattle.block.specs.Writing.{pieces_from, block}
 use Rattle.block.specs.Parts.{IsSplit}
 use Rattle.block.proofs.Restarts.{words, length-words}
@@ -15,10 +15,10 @@ use Rattle.block.proofs.Written.{AreOfBlock-pieces_from, entries_after-pieces_fr
 use Rattle.block.proofs.Built.{length-restarts_of}
 use Rattle.frame.specs.Trailer.{stored, trailer_bytes}
 use Rattle.frame.proofs.Stored.{length-stored}
-use Rattle.table.specs.declared.index_entry.IndexEntry.{IndexEntry}
+use Rattle.table.specs.declared.flushed_block.FlushedBlock.{FlushedBlock}
 use Rattle.table.specs.Table.{IndexKeys, stored_blocks}
 use Rattle.table.specs.Flushed.{index_before}
-use Rattle.table.specs.Building.{block_entries, blocks_in}
+use Rattle.table.specs.Kept.{block_entries, blocks_in}
 
 -- a block gives the entries back
 pub block_entries-block : (r : ℕ) (q : List Entry) → length (block r q) ≤ 2 ^ 31 → block_entries (block r q) ≡ q
@@ -57,7 +57,7 @@ blocks_in-stored r (p ∷ ps) h =
     ∙ ap (λ (x : List (List Entry)). p ∷ x) (blocks_in-stored r ps h.1)
 
 -- the sizes in the index are those of the blocks
-pub sizes-index_before : (keys : IndexKeys) (r at : ℕ) (parts : List (List Entry)) (behind : List ℕ) → map (λ (i : IndexEntry). i.handle.size) (index_before keys r at parts behind) ≡ sizes_of r parts
+pub sizes-index_before : (keys : IndexKeys) (r at : ℕ) (parts : List (List Entry)) (behind : List ℕ) → map (λ (i : FlushedBlock). i.handle.size) (index_before keys r at parts behind) ≡ sizes_of r parts
 sizes-index_before keys r at [] behind = refl
 sizes-index_before keys r at (p ∷ ps) behind =
     ap (λ (x : List ℕ). length (block r p) ∷ x) (sizes-index_before keys r (at + length (block r p) + 5) ps behind)

@@ -13,24 +13,24 @@ use Rattle.block.proofs.Sizes.{length-block-nil, fits_with_entry}
 use Rattle.frame.specs.Trailer.{stored}
 use Rattle.frame.proofs.Stored.{length-stored}
 use Rattle.table.specs.declared.options.Options.{Options}
-use Rattle.table.specs.declared.index_entry.IndexEntry.{IndexEntry}
+use Rattle.table.specs.declared.flushed_block.FlushedBlock.{FlushedBlock}
 use Rattle.table.specs.Options.{AreInLimits}
 use Rattle.table.specs.DataBlocks.{is_full, blocks_behind, data_blocks, flushed_len}
 use Rattle.table.specs.Table.{IndexKeys, stored_blocks}
 use Rattle.table.specs.ReadingEntries.{first_key}
 use Rattle.table.specs.Flushed.{entry_at, index_before}
-use Rattle.table.specs.Building.{entries_so_far, joined, blocks_in, IsBuilt, IsKept}
+use Rattle.table.specs.Kept.{entries_so_far, entries_of_parts, blocks_in, IsBuilt, IsKept}
 use Rattle.table.proofs.BlockEntries.{blocks_in-stored, sizes-index_before}
-use Rattle.table.proofs.Flushes.{stored_blocks-push, joined-push, index_before-push}
+use Rattle.table.proofs.Flushes.{stored_blocks-push, entries_of_parts-push, index_before-push}
 
 -- what is kept gives the entries back
-pub entries_so_far-built : {keys : IndexKeys} {o : Options} {parts : List (List Entry)} {bytes : List ℕ} {index : List IndexEntry} {interval : ℕ} {entries : List Entry} → IsBuilt keys o parts bytes index interval entries → entries_so_far bytes index entries ≡ joined parts ++ entries
+pub entries_so_far-built : {keys : IndexKeys} {o : Options} {parts : List (List Entry)} {bytes : List ℕ} {index : List FlushedBlock} {interval : ℕ} {entries : List Entry} → IsBuilt keys o parts bytes index interval entries → entries_so_far bytes index entries ≡ entries_of_parts parts ++ entries
 unfolding entries_so_far
 entries_so_far-built {keys = keys} {o = o} {parts = parts} {bytes = bytes} {index = index} {entries = entries} h =
-    let sizes = ap (map (λ (i : IndexEntry). i.handle.size)) h.index_is ∙ sizes-index_before keys o.restart_interval 0 parts (first_key entries) in
-    let blocks : blocks_in bytes (map (λ (i : IndexEntry). i.handle.size) index) ≡ parts =
+    let sizes = ap (map (λ (i : FlushedBlock). i.handle.size)) h.index_is ∙ sizes-index_before keys o.restart_interval 0 parts (first_key entries) in
+    let blocks : blocks_in bytes (map (λ (i : FlushedBlock). i.handle.size) index) ≡ parts =
     ap (blocks_in bytes) sizes ∙ ap (λ (x : List ℕ). blocks_in x (map (λ p. length (block o.restart_interval p)) parts)) h.bytes_are ∙ blocks_in-stored o.restart_interval parts h.parts_fit in
-    ap (λ (x : List (List Entry)). joined x ++ entries) blocks
+    ap (λ (x : List (List Entry)). entries_of_parts x ++ entries) blocks
 
 pub IsBuilt-nil : (keys : IndexKeys) (o : Options) (interval : ℕ) → AreInLimits o → interval ≡ o.restart_interval → IsBuilt keys o [] [] [] interval []
 unfolding data_blocks
@@ -62,7 +62,7 @@ blocks_behind-grown o entries e more part = rw part refl
 blocks_behind-flushed : (o : Options) (entries : List Entry) (e : Entry) (more : List Entry) → is_full o entries ≡ true → blocks_behind o entries (e ∷ more) ≡ entries ∷ blocks_behind o (e ∷ []) more
 blocks_behind-flushed o entries e more full = rw full refl
 
-pub IsBuilt-grown : {keys : IndexKeys} {o : Options} {parts : List (List Entry)} {bytes : List ℕ} {index : List IndexEntry} {interval : ℕ} {entries : List Entry} (e : Entry) → IsBuilt keys o parts bytes index interval entries
+pub IsBuilt-grown : {keys : IndexKeys} {o : Options} {parts : List (List Entry)} {bytes : List ℕ} {index : List FlushedBlock} {interval : ℕ} {entries : List Entry} (e : Entry) → IsBuilt keys o parts bytes index interval entries
     → is_full o entries ≡ false → IsInternalKey e.key → length (block o.restart_interval (entries ++ e ∷ [])) ≤ 2 ^ 31 → IsBuilt keys o parts bytes index interval (entries ++ e ∷ [])
 IsBuilt-grown {keys = keys} {o = o} {parts = parts} {entries = entries} e h part lawful fits = record {
   limits = h.limits;
@@ -71,8 +71,8 @@ IsBuilt-grown {keys = keys} {o = o} {parts = parts} {entries = entries} e h part
   index_is = h.index_is ∙ index_before-grown keys o.restart_interval parts entries e h.begun;
   begun = λ none. absurd (omega (arith, length_push entries e));
   cut = λ more.
-      let grouped : (joined parts ++ (entries ++ e ∷ [])) ++ more ≡ (joined parts ++ entries) ++ (e ∷ more) =
-      ap (λ (x : List Entry). x ++ more) (sym (append_assoc (joined parts) entries (e ∷ []))) ∙ append_assoc (joined parts ++ entries) (e ∷ []) more in
+      let grouped : (entries_of_parts parts ++ (entries ++ e ∷ [])) ++ more ≡ (entries_of_parts parts ++ entries) ++ (e ∷ more) =
+      ap (λ (x : List Entry). x ++ more) (sym (append_assoc (entries_of_parts parts) entries (e ∷ []))) ∙ append_assoc (entries_of_parts parts ++ entries) (e ∷ []) more in
       ap (data_blocks o) grouped ∙ h.cut (e ∷ more) ∙ ap (λ (x : List (List Entry)). parts ++ x) (blocks_behind-grown o entries e more part);
   flushed_is = h.flushed_is;
   parts_fit = h.parts_fit;
@@ -93,7 +93,7 @@ full_some : (o : Options) (entries : List Entry) → is_full o entries ≡ true 
 full_some o [] full = absurd (cc)
 full_some o (e ∷ es) full = omega arith
 
-pub IsBuilt-flushed : {keys : IndexKeys} {o : Options} {parts : List (List Entry)} {bytes : List ℕ} {index : List IndexEntry} {interval : ℕ} {entries : List Entry} (e : Entry) (interval' : ℕ) → IsBuilt keys o parts bytes index interval entries → interval' ≡ o.restart_interval
+pub IsBuilt-flushed : {keys : IndexKeys} {o : Options} {parts : List (List Entry)} {bytes : List ℕ} {index : List FlushedBlock} {interval : ℕ} {entries : List Entry} (e : Entry) (interval' : ℕ) → IsBuilt keys o parts bytes index interval entries → interval' ≡ o.restart_interval
     → is_full o entries ≡ true → IsInternalKey e.key → length (block o.restart_interval (e ∷ [])) ≤ 2 ^ 31
     → IsBuilt keys o (parts ++ entries ∷ []) (bytes ++ stored (block interval entries)) (index ++ entry_at (keys.between (last_key [] entries) e.key) (length bytes) (length (block interval entries)) ∷ []) interval' (e ∷ [])
 IsBuilt-flushed {keys = keys} {o = o} {parts = parts} {bytes = bytes} {index = index} {interval = interval} {entries = entries} e interval' h interval_same full lawful fits =
@@ -107,14 +107,14 @@ IsBuilt-flushed {keys = keys} {o = o} {parts = parts} {bytes = bytes} {index = i
       interval_is = interval_same;
       bytes_are = ap (λ (x : List ℕ). x ++ stored b) h.bytes_are ∙ ap (λ (x : List ℕ). stored_blocks r parts ++ stored x) same ∙ sym (stored_blocks-push r parts entries);
       index_is =
-          ap (λ (x : List IndexEntry). x ++ entry_at (keys.between (last_key [] entries) e.key) (length bytes) (length b) ∷ []) h.index_is
+          ap (λ (x : List FlushedBlock). x ++ entry_at (keys.between (last_key [] entries) e.key) (length bytes) (length b) ∷ []) h.index_is
           ∙ ap (λ (n : ℕ). index_before keys r 0 parts (first_key entries) ++ entry_at (keys.between (last_key [] entries) e.key) n (length b) ∷ []) (sym place)
           ∙ ap (λ (n : ℕ). index_before keys r 0 parts (first_key entries) ++ entry_at (keys.between (last_key [] entries) e.key) (0 + length (stored_blocks r parts)) n ∷ []) len
           ∙ sym (index_before-push keys r 0 parts entries e.key);
       begun = λ none. absurd (omega arith);
       cut = λ more.
-          let grouped : (joined (parts ++ entries ∷ []) ++ e ∷ []) ++ more ≡ (joined parts ++ entries) ++ (e ∷ more) =
-          ap (λ (x : List Entry). (x ++ e ∷ []) ++ more) (joined-push parts entries) ∙ append_assoc (joined parts ++ entries) (e ∷ []) more in
+          let grouped : (entries_of_parts (parts ++ entries ∷ []) ++ e ∷ []) ++ more ≡ (entries_of_parts parts ++ entries) ++ (e ∷ more) =
+          ap (λ (x : List Entry). (x ++ e ∷ []) ++ more) (entries_of_parts-push parts entries) ∙ append_assoc (entries_of_parts parts ++ entries) (e ∷ []) more in
           ap (data_blocks o) grouped
           ∙ h.cut (e ∷ more)
           ∙ ap (λ (x : List (List Entry)). parts ++ x) (blocks_behind-flushed o entries e more full)
@@ -128,7 +128,7 @@ IsBuilt-flushed {keys = keys} {o = o} {parts = parts} {bytes = bytes} {index = i
 -- ---- with one more entry, however it was added
 
 -- What is kept, and that it is of the entries before and one more.
-pub record Adds (keys : IndexKeys) (o : Options) (before : List Entry) (key value : List ℕ) (o' : Options) (bytes : List ℕ) (index : List IndexEntry) (latest : Building) : Type 0 where
+pub record Adds (keys : IndexKeys) (o : Options) (before : List Entry) (key value : List ℕ) (o' : Options) (bytes : List ℕ) (index : List FlushedBlock) (latest : Building) : Type 0 where
   pub kept : IsKept keys o' bytes index latest
   pub options : o' ≡ o
   pub entries : entries_so_far bytes index latest.entries ≡ with_entry before key value
@@ -147,14 +147,14 @@ pub first_fits : (b : Building) (key value : List ℕ) → b.entries ≡ [] → 
 first_fits b key value none lawful value_fits =
     next_fits b key value (rw none (omega (arith, length-block-nil b.interval))) lawful.fits value_fits
 
-pub open_fits : (keys : IndexKeys) (o : Options) (bytes : List ℕ) (index : List IndexEntry) (latest : Building) (key value : List ℕ) → IsKept keys o bytes index latest → is_full o latest.entries ≡ false → IsInternalKey key → length value < 2 ^ 24
+pub open_fits : (keys : IndexKeys) (o : Options) (bytes : List ℕ) (index : List FlushedBlock) (latest : Building) (key value : List ℕ) → IsKept keys o bytes index latest → is_full o latest.entries ≡ false → IsInternalKey key → length value < 2 ^ 24
     → length (block latest.interval (with_entry latest.entries key value)) ≤ 2 ^ 31
 open_fits keys o bytes index latest key value kept part lawful value_fits =
     let h = kept.1 in
     next_fits latest key value (subst (λ (n : ℕ). length (block n latest.entries) ≤ 4194304) (sym h.interval_is) (open_len o latest.entries h.limits part)) lawful.fits value_fits
 
 -- the next entry goes into the open block
-pub grows : (keys : IndexKeys) (o : Options) (bytes : List ℕ) (index : List IndexEntry) (latest : Building) (key value : List ℕ) (o' : Options) (bytes' : List ℕ) (index' : List IndexEntry) (latest' : Building)
+pub grows : (keys : IndexKeys) (o : Options) (bytes : List ℕ) (index : List FlushedBlock) (latest : Building) (key value : List ℕ) (o' : Options) (bytes' : List ℕ) (index' : List FlushedBlock) (latest' : Building)
     → IsKept keys o bytes index latest → is_full o latest.entries ≡ false → IsInternalKey key → length value < 2 ^ 24
     → o' ≡ o → bytes' ≡ bytes → index' ≡ index → latest' ≡ record { interval = latest.interval; entries = with_entry latest.entries key value }
     → Adds keys o (entries_so_far bytes index latest.entries) key value o' bytes' index' latest'
@@ -166,11 +166,11 @@ grows keys o bytes index latest key value o' bytes' index' latest' kept part law
     rw (o_is, bytes_are, index_is, latest_is) (record {
       kept = (kept.0, next);
       options = refl;
-      entries = entries_so_far-built next ∙ sym (append_assoc (joined kept.0) latest.entries (e ∷ [])) ∙ ap (λ (x : List Entry). x ++ e ∷ []) (sym (entries_so_far-built h));
+      entries = entries_so_far-built next ∙ sym (append_assoc (entries_of_parts kept.0) latest.entries (e ∷ [])) ∙ ap (λ (x : List Entry). x ++ e ∷ []) (sym (entries_so_far-built h));
     })
 
 -- the open block is flushed, and the next entry begins another
-pub flushes : (keys : IndexKeys) (o : Options) (bytes : List ℕ) (index : List IndexEntry) (latest : Building) (key value : List ℕ) (o' : Options) (bytes' : List ℕ) (index' : List IndexEntry) (latest' : Building)
+pub flushes : (keys : IndexKeys) (o : Options) (bytes : List ℕ) (index : List FlushedBlock) (latest : Building) (key value : List ℕ) (o' : Options) (bytes' : List ℕ) (index' : List FlushedBlock) (latest' : Building)
     → IsKept keys o bytes index latest → is_full o latest.entries ≡ true → IsInternalKey key → length value < 2 ^ 24
     → o' ≡ o → bytes' ≡ bytes ++ stored (block latest.interval latest.entries) → index' ≡ index ++ entry_at (keys.between (last_key [] latest.entries) key) (length bytes) (length (block latest.interval latest.entries)) ∷ []
     → latest' ≡ record { interval = o.restart_interval; entries = with_entry [] key value }
@@ -183,5 +183,5 @@ flushes keys o bytes index latest key value o' bytes' index' latest' kept full l
     rw (o_is, bytes_are, index_is, latest_is) (record {
       kept = (kept.0 ++ latest.entries ∷ [], next);
       options = refl;
-      entries = entries_so_far-built next ∙ ap (λ (x : List Entry). x ++ e ∷ []) (joined-push kept.0 latest.entries ∙ sym (entries_so_far-built h));
+      entries = entries_so_far-built next ∙ ap (λ (x : List Entry). x ++ e ∷ []) (entries_of_parts-push kept.0 latest.entries ∙ sym (entries_so_far-built h));
     })

@@ -1,10 +1,10 @@
 -- What is known of a table that was checked.
-use Rattle.std.proofs.Common.{◌≡◌, ℕ, ◌-◌, Bool, true, false, List, [], ◌∷◌, ◌++◌, map, length, Option, Some, None, Result, Ok, Err, refl, sym, ap, subst, ◌∙◌, arith, append_assoc}
+use Rattle.std.proofs.Common.{◌≡◌, ℕ, ◌-◌, Bool, true, false, List, [], ◌∷◌, ◌++◌, map, length, Option, Some, None, Result, Ok, Err, refl, sym, ap, subst, ◌∙◌, arith}
 use Rattle.std.specs.Prelude.{slice_get, IfOk}
 use Rattle.std.specs.Option.{option_map}
 use Rattle.std.specs.Result.{result_map_both}
 use Rattle.std.specs.declared.cmp.Ordering.{Ordering}
-use Rattle.coding.specs.Answers.{Gives, ◌>>=◌}
+use Rattle.coding.specs.Answers.{EqualOrMemory, ◌>>=◌}
 use Rattle.coding.specs.declared.fault.Fault.{Fault}
 use Rattle.coding.specs.declared.fault.FaultName.TheVariants.{Empty, Index}
 use Rattle.coding.proofs.Binds.{done, bind_ok, ok_is}
@@ -12,19 +12,20 @@ use Rattle.block.specs.Piece.{Entry}
 use Rattle.block.specs.Building.{last_key}
 use Rattle.ikey.specs.Key.{user_of}
 use Rattle.table.specs.ReadingSteps.{pass}
-use Rattle.table.specs.ReadingEntries.{Ends, first_key, key_behind, is_some_list, data_test}
+use Rattle.table.specs.ReadingEntries.{first_key, key_behind, is_some_list, data_test}
+use Rattle.table.specs.Ends.{Ends, ends_of}
 use Rattle.table.specs.ReadingIndex.{IndexEntry, block_in, index_reading}
-use Rattle.table.specs.Reading.{DataBlock, blocks_reading, index_fits, data_reading, index_in, blocks_of, ends_of, entries_of, Contents, contents_of, contents_reading, contents_in, table_reading}
+use Rattle.table.specs.Reading.{DataBlock, blocks_reading, index_fits, data_reading, index_in, blocks_of, entries_of, Contents, contents_of, contents_reading, table_reading}
+use Rattle.table.specs.Checked.{contents_in, IsChecked}
 use Rattle.table.specs.ReadingTables.{IsTable}
-use Rattle.table.specs.Checked.{IsChecked}
 use Rattle.table.proofs.Steps.{fails_map}
 use Rattle.table.proofs.DataSteps.{all_ends}
 
 -- ---- what it holds
 
-pub blocks_are : (cmp : List ℕ → List ℕ → Ordering) (bytes : List ℕ) (named : List Entry) (index : List IndexEntry) (smallest largest : List ℕ) (k : IsChecked cmp bytes named index smallest largest) → blocks_of cmp bytes ≡ Ok k.blocks
+pub blocks_are : (cmp : List ℕ → List ℕ → Ordering) (bytes : List ℕ) (named : List Entry) (smallest largest : List ℕ) (k : IsChecked cmp bytes named smallest largest) → blocks_of cmp bytes ≡ Ok k.blocks
 unfolding blocks_of
-blocks_are cmp bytes named index smallest largest k =
+blocks_are cmp bytes named smallest largest k =
     ap (λ (r : Result (List Entry) Fault). r >>= λ entries. index_reading bytes entries >>= λ is. data_reading cmp is) k.index_block
     ∙ ap (λ (r : Result (List IndexEntry) Fault). r >>= λ is. data_reading cmp is) k.index_entries
     ∙ k.data_blocks
@@ -155,23 +156,20 @@ ends_refused cmp bytes named index d e f h =
     ∙ ap (λ (r : Result (List IndexEntry) Fault). r >>= λ is. data_reading cmp is) f ∙ map_err ends_of (data_reading cmp index) d h)
 
 pub checked : (cmp : List ℕ → List ℕ → Ordering) (bytes : List ℕ) (named : List Entry) (index : List IndexEntry) (x : Ends) → index_in bytes ≡ Ok named → index_reading bytes named ≡ Ok index → all_ends cmp index ≡ Ok x
-    → IsChecked cmp bytes named index x.smallest x.largest
+    → IsChecked cmp bytes named x.smallest x.largest
 checked cmp bytes named index x e f h =
     let a = map_ok ends_of (data_reading cmp index) x h in
-    record { blocks = a.0; index_block = e; index_entries = f; data_blocks = a.1; first = sym (ap (λ (y : Ends). y.smallest) a.2); last = sym (ap (λ (y : Ends). y.largest) a.2) }
+    record { index = index; blocks = a.0; index_block = e; index_entries = f; data_blocks = a.1; first = sym (ap (λ (y : Ends). y.smallest) a.2); last = sym (ap (λ (y : Ends). y.largest) a.2) }
 
 -- ---- the user keys of the index
 
 abbrev pub users_of : List IndexEntry → List (List ℕ)
 users_of index = map (λ i. user_of i.key) index
 
-pub users_are : (cmp : List ℕ → List ℕ → Ordering) (bytes : List ℕ) (named : List Entry) (index : List IndexEntry) (smallest largest : List ℕ) → IsChecked cmp bytes named index smallest largest → (contents_in cmp bytes).index_users ≡ users_of index
-users_are cmp bytes named index smallest largest k =
-    ap (λ (x : Contents). x.index_users) (contents_are cmp bytes k.blocks (blocks_are cmp bytes named index smallest largest k))
-    ∙ keys_kept cmp None index k.blocks (read_data cmp index k.blocks k.data_blocks).read
-
-pub users_go_on : (front : List (List ℕ)) (i : IndexEntry) (is : List IndexEntry) (u : List ℕ) (total : List (List ℕ)) → u ≡ user_of i.key → front ++ users_of (i ∷ is) ≡ total → (front ++ u ∷ []) ++ users_of is ≡ total
-users_go_on front i is u total e h = append_assoc front (u ∷ []) (users_of is) ∙ ap (λ (v : List ℕ). front ++ v ∷ users_of is) e ∙ h
+pub users_are : (cmp : List ℕ → List ℕ → Ordering) (bytes : List ℕ) (named : List Entry) (smallest largest : List ℕ) (k : IsChecked cmp bytes named smallest largest) → (contents_in cmp bytes).index_users ≡ users_of k.index
+users_are cmp bytes named smallest largest k =
+    ap (λ (x : Contents). x.index_users) (contents_are cmp bytes k.blocks (blocks_are cmp bytes named smallest largest k))
+    ∙ keys_kept cmp None k.index k.blocks (read_data cmp k.index k.blocks k.data_blocks).read
 
 -- ---- the entries and the whole of what is read
 
@@ -193,12 +191,12 @@ pub entries_read : (cmp : List ℕ → List ℕ → Ordering) (bytes : List ℕ)
 entries_read cmp bytes x h = entries_by bytes (blocks_of cmp bytes) x h
 
 -- what is read of a table is a table
-pub found_table : (cmp : List ℕ → List ℕ → Ordering) (bytes : List ℕ) (r : Result Contents Fault) → ((q : List Entry) → table_reading cmp bytes ≡ Ok q → IsTable cmp bytes q) → Gives (λ t. t) r (contents_reading cmp bytes) → IfOk r (λ t. IsTable cmp bytes t.entries)
+pub found_table : (cmp : List ℕ → List ℕ → Ordering) (bytes : List ℕ) (r : Result Contents Fault) → ((q : List Entry) → table_reading cmp bytes ≡ Ok q → IsTable cmp bytes q) → EqualOrMemory (λ t. t) r (contents_reading cmp bytes) → IfOk r (λ t. IsTable cmp bytes t.entries)
 found_table cmp bytes (Ok x) law h = law x.entries (entries_read cmp bytes x h)
 found_table cmp bytes (Err e) law h = tt
 
 -- bytes that read as a list give that list, or want of memory
-pub gives_entries : (cmp : List ℕ → List ℕ → Ordering) (bytes : List ℕ) (r : Result Contents Fault) (q : List Entry) → Gives (λ t. t) r (contents_reading cmp bytes) → table_reading cmp bytes ≡ Ok q → Gives (λ t. t.entries) r (Ok q)
+pub gives_entries : (cmp : List ℕ → List ℕ → Ordering) (bytes : List ℕ) (r : Result Contents Fault) (q : List Entry) → EqualOrMemory (λ t. t) r (contents_reading cmp bytes) → table_reading cmp bytes ≡ Ok q → EqualOrMemory (λ t. t.entries) r (Ok q)
 gives_entries cmp bytes (Ok x) q h e = sym e ∙ entries_read cmp bytes x h
 gives_entries cmp bytes (Err d) q h e =
     fails_map d (contents_reading cmp bytes) (done q) (λ f. sym e ∙ contents_by bytes (blocks_of cmp bytes) d f) h

@@ -1,8 +1,7 @@
 -- The table of what a builder keeps.
 use Rattle.std.proofs.Common.{◌≡◌, ℕ, ◌+◌, ◌<◌, Bool, true, false, cond, List, [], ◌∷◌, ◌++◌, length, refl, sym, ap, subst, ◌∙◌, zero-add, arith}
-use Rattle.std.proofs.lemmas.List.{append-nil}
+use Rattle.std.proofs.lemmas.List.{append-nil, map-append}
 use Rattle.std.specs.List.{sum_by}
-use Rattle.std.proofs.lemmas.List.{map-append}
 use Rattle.std.proofs.lemmas.List.Sums.{sum_by-append}
 use Rattle.std.specs.Prelude.{◌↔◌}
 use Rattle.std.specs.Ordering.{is_lt}
@@ -14,17 +13,18 @@ use Rattle.block.specs.Writing.{block}
 use Rattle.block.specs.Building.{last_key}
 use Rattle.frame.specs.Trailer.{stored}
 use Rattle.table.specs.declared.options.Options.{Options}
-use Rattle.table.specs.declared.index_entry.IndexEntry.{IndexEntry}
+use Rattle.table.specs.declared.flushed_block.FlushedBlock.{FlushedBlock}
 use Rattle.table.specs.DataBlocks.{is_full, open_block, data_blocks, flushed_len, flushed}
-use Rattle.table.specs.Table.{IndexKeys, index_entry, index_from, stored_blocks, closing, table_of}
+use Rattle.table.specs.Table.{IndexKeys, handle_entry, index_from, stored_blocks, closing, table_of}
 use Rattle.table.specs.ReadingEntries.{first_key}
 use Rattle.table.specs.Flushed.{entry_at, index_entries, index_before}
-use Rattle.table.specs.Building.{IsAboveLast, IsBuilt, entries_so_far, joined}
+use Rattle.table.specs.Building.{IsAboveLast}
+use Rattle.table.specs.Kept.{IsBuilt, entries_so_far, entries_of_parts}
 use Rattle.table.proofs.Flushes.{stored_blocks-push, index_from-push}
 use Rattle.table.proofs.Builds.{entries_so_far-built}
 
 -- the data blocks of what is kept
-data_blocks-built : {keys : IndexKeys} {o : Options} {parts : List (List Entry)} {bytes : List ℕ} {index : List IndexEntry} {interval : ℕ} {entries : List Entry} → IsBuilt keys o parts bytes index interval entries → data_blocks o (entries_so_far bytes index entries) ≡ parts ++ open_block entries
+data_blocks-built : {keys : IndexKeys} {o : Options} {parts : List (List Entry)} {bytes : List ℕ} {index : List FlushedBlock} {interval : ℕ} {entries : List Entry} → IsBuilt keys o parts bytes index interval entries → data_blocks o (entries_so_far bytes index entries) ≡ parts ++ open_block entries
 data_blocks-built {o = o} h = ap (data_blocks o) (entries_so_far-built h ∙ sym (append-nil _)) ∙ h.cut []
 
 -- ---- the flushed size
@@ -35,7 +35,7 @@ flushed_len-open o [] false e = refl
 flushed_len-open o (x ∷ xs) true e = rw e (zero-add _)
 flushed_len-open o (x ∷ xs) false e = rw e refl
 
-pub flushed-kept : (keys : IndexKeys) (o : Options) (bytes : List ℕ) (index : List IndexEntry) (interval : ℕ) (entries : List Entry) (parts : List (List Entry)) (full : Bool) → IsBuilt keys o parts bytes index interval entries → is_full o entries ≡ full
+pub flushed-kept : (keys : IndexKeys) (o : Options) (bytes : List ℕ) (index : List FlushedBlock) (interval : ℕ) (entries : List Entry) (parts : List (List Entry)) (full : Bool) → IsBuilt keys o parts bytes index interval entries → is_full o entries ≡ full
     → flushed o (entries_so_far bytes index entries) ≡ length bytes + cond full (length (block interval entries) + 5) 0
 unfolding flushed
 flushed-kept keys o bytes index interval entries parts full h e =
@@ -48,15 +48,15 @@ flushed-kept keys o bytes index interval entries parts full h e =
 -- ---- the table
 
 -- what is written of bytes of data blocks and their index
-abbrev pub closed : List ℕ → List IndexEntry → List ℕ
+abbrev pub closed : List ℕ → List FlushedBlock → List ℕ
 closed bytes index = bytes ++ closing (length bytes) (index_entries index)
 
-pub closed_is : (bytes bytes' : List ℕ) (index index' : List IndexEntry) → bytes' ≡ bytes → index' ≡ index → closed bytes' index' ≡ closed bytes index
+pub closed_is : (bytes bytes' : List ℕ) (index index' : List FlushedBlock) → bytes' ≡ bytes → index' ≡ index → closed bytes' index' ≡ closed bytes index
 closed_is bytes bytes' index index' bytes_are index_is = rw (bytes_are, index_is) refl
 
 -- the last block is not empty
 table-last : (keys : IndexKeys) (o : Options) (parts : List (List Entry)) (p : List Entry) (bytes : List ℕ) (entries : List Entry) → bytes ≡ stored_blocks o.restart_interval parts ++ stored (block o.restart_interval p)
-    → entries ≡ index_entries (index_before keys o.restart_interval 0 parts (first_key p)) ++ index_entry (keys.above (last_key [] p)) (0 + length (stored_blocks o.restart_interval parts)) (length (block o.restart_interval p)) ∷ []
+    → entries ≡ index_entries (index_before keys o.restart_interval 0 parts (first_key p)) ++ handle_entry (keys.above (last_key [] p)) (0 + length (stored_blocks o.restart_interval parts)) (length (block o.restart_interval p)) ∷ []
     → bytes ++ closing (length bytes) entries ≡ table_of keys o.restart_interval (parts ++ p ∷ [])
 table-last keys o parts p bytes entries bytes_are entries_are =
     let r : ℕ = o.restart_interval in
@@ -69,7 +69,7 @@ open_block-some : (entries : List Entry) → 0 < length entries → open_block e
 open_block-some [] some = absurd (omega arith)
 open_block-some (e ∷ es) some = refl
 
-pub closes_last : (keys : IndexKeys) (o : Options) (bytes : List ℕ) (index : List IndexEntry) (interval : ℕ) (entries : List Entry) (parts : List (List Entry)) → IsBuilt keys o parts bytes index interval entries → 0 < length entries
+pub closes_last : (keys : IndexKeys) (o : Options) (bytes : List ℕ) (index : List FlushedBlock) (interval : ℕ) (entries : List Entry) (parts : List (List Entry)) → IsBuilt keys o parts bytes index interval entries → 0 < length entries
     → closed (bytes ++ stored (block interval entries)) (index ++ entry_at (keys.above (last_key [] entries)) (length bytes) (length (block interval entries)) ∷ []) ≡ table_of keys o.restart_interval (data_blocks o (entries_so_far bytes index entries))
 closes_last keys o bytes index interval entries parts h some =
     let r : ℕ = o.restart_interval in
@@ -77,11 +77,11 @@ closes_last keys o bytes index interval entries parts h some =
     let same : b ≡ block r entries = ap (λ (n : ℕ). block n entries) h.interval_is in
     let place : length bytes ≡ 0 + length (stored_blocks r parts) = ap length h.bytes_are ∙ sym (zero-add _) in
     let written : bytes ++ stored b ≡ stored_blocks r parts ++ stored (block r entries) = ap (λ (x : List ℕ). x ++ stored b) h.bytes_are ∙ ap (λ (x : List ℕ). stored_blocks r parts ++ stored x) same in
-    let listed : index_entries (index ++ entry_at (keys.above (last_key [] entries)) (length bytes) (length b) ∷ []) ≡ index_entries (index_before keys r 0 parts (first_key entries)) ++ index_entry (keys.above (last_key [] entries)) (0 + length (stored_blocks r parts)) (length (block r entries)) ∷ [] =
-    map-append (λ (i : IndexEntry). index_entry i.key i.handle.offset i.handle.size) index (entry_at (keys.above (last_key [] entries)) (length bytes) (length b) ∷ [])
-    ∙ ap (λ (x : List IndexEntry). index_entries x ++ index_entry (keys.above (last_key [] entries)) (length bytes) (length b) ∷ []) h.index_is
-    ∙ ap (λ (n : ℕ). index_entries (index_before keys r 0 parts (first_key entries)) ++ index_entry (keys.above (last_key [] entries)) n (length b) ∷ []) place
-    ∙ ap (λ (x : List ℕ). index_entries (index_before keys r 0 parts (first_key entries)) ++ index_entry (keys.above (last_key [] entries)) (0 + length (stored_blocks r parts)) (length x) ∷ []) same in
+    let listed : index_entries (index ++ entry_at (keys.above (last_key [] entries)) (length bytes) (length b) ∷ []) ≡ index_entries (index_before keys r 0 parts (first_key entries)) ++ handle_entry (keys.above (last_key [] entries)) (0 + length (stored_blocks r parts)) (length (block r entries)) ∷ [] =
+    map-append (λ (i : FlushedBlock). handle_entry i.key i.handle.offset i.handle.size) index (entry_at (keys.above (last_key [] entries)) (length bytes) (length b) ∷ [])
+    ∙ ap (λ (x : List FlushedBlock). index_entries x ++ handle_entry (keys.above (last_key [] entries)) (length bytes) (length b) ∷ []) h.index_is
+    ∙ ap (λ (n : ℕ). index_entries (index_before keys r 0 parts (first_key entries)) ++ handle_entry (keys.above (last_key [] entries)) n (length b) ∷ []) place
+    ∙ ap (λ (x : List ℕ). index_entries (index_before keys r 0 parts (first_key entries)) ++ handle_entry (keys.above (last_key [] entries)) (0 + length (stored_blocks r parts)) (length x) ∷ []) same in
     table-last keys o parts entries (bytes ++ stored b) (index_entries (index ++ entry_at (keys.above (last_key [] entries)) (length bytes) (length b) ∷ [])) written listed
     ∙ ap (λ (x : List (List Entry)). table_of keys r (parts ++ x)) (sym (open_block-some entries some))
     ∙ ap (table_of keys r) (sym (data_blocks-built h))
@@ -91,7 +91,7 @@ open_block-none [] none = refl
 open_block-none (e ∷ es) none = absurd (omega arith)
 
 -- without entries there is no block
-pub closes_none : (keys : IndexKeys) (o : Options) (bytes : List ℕ) (index : List IndexEntry) (interval : ℕ) (entries : List Entry) (parts : List (List Entry)) → IsBuilt keys o parts bytes index interval entries → length entries ≡ 0
+pub closes_none : (keys : IndexKeys) (o : Options) (bytes : List ℕ) (index : List FlushedBlock) (interval : ℕ) (entries : List Entry) (parts : List (List Entry)) → IsBuilt keys o parts bytes index interval entries → length entries ≡ 0
     → closed bytes index ≡ table_of keys o.restart_interval (data_blocks o (entries_so_far bytes index entries))
 closes_none keys o bytes index interval entries parts h none =
     let r : ℕ = o.restart_interval in
@@ -113,8 +113,8 @@ is_less Equal e = absurd (cc)
 is_less Greater e = absurd (cc)
 
 -- what a comparison with the last key tells
-pub told_less : (told : Bool) (o p : Ordering) → told ≡ is_lt o → o ≡ p → (told ≡ true) ↔ (p ≡ Less)
-told_less told o p told_is same = (λ t. is_less p (ap is_lt (sym same) ∙ sym told_is ∙ t), λ less. told_is ∙ ap is_lt (same ∙ less))
+pub less_by_test : (told : Bool) (o p : Ordering) → told ≡ is_lt o → o ≡ p → (told ≡ true) ↔ (p ≡ Less)
+less_by_test told o p told_is same = (λ t. is_less p (ap is_lt (sym same) ∙ sym told_is ∙ t), λ less. told_is ∙ ap is_lt (same ∙ less))
 
 last_key-append : (before : List ℕ) (q : List Entry) (e : Entry) (es : List Entry) → last_key before (q ++ e ∷ es) ≡ last_key e.key es
 last_key-append before [] e es = refl
@@ -131,17 +131,17 @@ above_some cmp q [] key some = absurd (omega arith)
 above_some cmp q (e ∷ es) key some = above_by cmp q e es key
 
 -- a key is above the last of what is kept where it is above the last key of the open block
-pub above_kept : (cmp : List ℕ → List ℕ → Ordering) (keys : IndexKeys) (o : Options) (bytes : List ℕ) (index : List IndexEntry) (interval : ℕ) (entries : List Entry) (key : List ℕ) (parts : List (List Entry)) → IsBuilt keys o parts bytes index interval entries → 0 < length entries
+pub above_kept : (cmp : List ℕ → List ℕ → Ordering) (keys : IndexKeys) (o : Options) (bytes : List ℕ) (index : List FlushedBlock) (interval : ℕ) (entries : List Entry) (key : List ℕ) (parts : List (List Entry)) → IsBuilt keys o parts bytes index interval entries → 0 < length entries
     → IsAboveLast cmp (entries_so_far bytes index entries) key ↔ (internal_cmp cmp (last_key [] entries) key ≡ Less)
 above_kept cmp keys o bytes index interval entries key parts h some =
-    rw (entries_so_far-built h) (above_some cmp (joined parts) entries key some)
+    rw (entries_so_far-built h) (above_some cmp (entries_of_parts parts) entries key some)
 
-none_joined : (parts : List (List Entry)) (entries : List Entry) → parts ≡ [] → length entries ≡ 0 → joined parts ++ entries ≡ []
-none_joined parts [] nothing none = ap (λ (x : List (List Entry)). joined x ++ []) nothing
+none_joined : (parts : List (List Entry)) (entries : List Entry) → parts ≡ [] → length entries ≡ 0 → entries_of_parts parts ++ entries ≡ []
+none_joined parts [] nothing none = ap (λ (x : List (List Entry)). entries_of_parts x ++ []) nothing
 none_joined parts (e ∷ es) nothing none = absurd (omega arith)
 
 -- and each key is above none
-pub above_none : (cmp : List ℕ → List ℕ → Ordering) (keys : IndexKeys) (o : Options) (bytes : List ℕ) (index : List IndexEntry) (interval : ℕ) (entries : List Entry) (key : List ℕ) (parts : List (List Entry)) → IsBuilt keys o parts bytes index interval entries → length entries ≡ 0
+pub above_none : (cmp : List ℕ → List ℕ → Ordering) (keys : IndexKeys) (o : Options) (bytes : List ℕ) (index : List FlushedBlock) (interval : ℕ) (entries : List Entry) (key : List ℕ) (parts : List (List Entry)) → IsBuilt keys o parts bytes index interval entries → length entries ≡ 0
     → IsAboveLast cmp (entries_so_far bytes index entries) key
 above_none cmp keys o bytes index interval entries key parts h none =
     rw (entries_so_far-built h ∙ none_joined parts entries (h.begun none) none) tt

@@ -11,9 +11,10 @@ use Rattle.block.specs.Piece.{Entry}
 use Rattle.block.specs.Building.{last_key}
 use Rattle.ikey.specs.Order.{internal_cmp}
 use Rattle.table.specs.ReadingSteps.{pass}
-use Rattle.table.specs.ReadingEntries.{Ends, first_key, key_behind, is_above, data_test, ends_reading}
+use Rattle.table.specs.ReadingEntries.{first_key, key_behind, is_above, data_test}
+use Rattle.table.specs.Ends.{Ends, ends_reading, ends_of}
 use Rattle.table.specs.ReadingIndex.{IndexEntry, block_in}
-use Rattle.table.specs.Reading.{DataBlock, blocks_reading, is_between, index_fits, data_reading, entries_of, ends_of}
+use Rattle.table.specs.Reading.{DataBlock, blocks_reading, is_between, index_fits, data_reading, entries_of}
 
 pub last_key-append : (before : List ℕ) (es fs : List Entry) → last_key before (es ++ fs) ≡ last_key (last_key before es) fs
 last_key-append before [] fs = refl

@@ -16,11 +16,11 @@ use Rattle.ikey.specs.Key.{tag_of, internal_key_reading}
 use Rattle.ikey.specs.Order.{internal_cmp}
 use Rattle.ikey.proofs.Ordered.{internal_cmp-total}
 use Rattle.table.specs.ReadingSteps.{pass}
-use Rattle.table.specs.ReadingEntries.{is_above, key_behind, entry_test, entries_test, is_some_list, data_test}
+use Rattle.table.specs.ReadingEntries.{is_above, key_behind, entry_test, entries_test, is_some_list, data_test, HaveKeys}
 use Rattle.table.specs.ReadingIndex.{IndexEntry}
 use Rattle.table.specs.Reading.{DataBlock, blocks_reading, entries_of}
-use Rattle.table.specs.ReadingCursors.{IsRising, entries_from, first_is_below}
-use Rattle.table.specs.Checked.{HaveKeys}
+use Rattle.table.specs.ReadingCursors.{IsRising, entries_from}
+use Rattle.table.specs.Seeking.{first_is_below}
 use Rattle.table.proofs.CheckedTables.{read_block}
 
 -- ---- one entry

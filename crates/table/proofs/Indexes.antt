@@ -12,15 +12,15 @@ use Rattle.frame.specs.declared.handle.BlockHandle.{BlockHandle}
 use Rattle.frame.proofs.Handles.{length-handle_bytes}
 use Rattle.frame.proofs.Stored.{length-stored}
 use Rattle.frame.proofs.Footers.{length-footer_bytes}
-use Rattle.table.specs.declared.index_entry.IndexEntry.{IndexEntry}
-use Rattle.table.specs.Table.{index_entry, metaindex, footer_at, closing}
+use Rattle.table.specs.declared.flushed_block.FlushedBlock.{FlushedBlock}
+use Rattle.table.specs.Table.{handle_entry, metaindex, footer_at, closing}
 use Rattle.table.specs.Flushed.{index_entries}
 
 -- the index of some blocks is no longer than that of all
-pub length-index_part : (index : List IndexEntry) (i : ℕ) → length (block 1 (index_entries (take i index))) ≤ length (block 1 (index_entries index))
+pub length-index_part : (index : List FlushedBlock) (i : ℕ) → length (block 1 (index_entries (take i index))) ≤ length (block 1 (index_entries index))
 length-index_part index i =
     let parts : index_entries index ≡ index_entries (take i index) ++ index_entries (drop i index) =
-    ap index_entries (sym (take-append-drop i index)) ∙ map-append (λ (x : IndexEntry). index_entry x.key x.handle.offset x.handle.size) (take i index) (drop i index) in
+    ap index_entries (sym (take-append-drop i index)) ∙ map-append (λ (x : FlushedBlock). handle_entry x.key x.handle.offset x.handle.size) (take i index) (drop i index) in
     omega (arith, length-block-append 1 (index_entries (take i index)) (index_entries (drop i index)), ap (λ (x : List Entry). length (block 1 x)) parts)
 
 -- one more entry of the index, behind an index that is no longer than a table

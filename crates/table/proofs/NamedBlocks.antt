@@ -18,12 +18,11 @@ use Rattle.frame.specs.declared.handle.BlockHandle.{BlockHandle}
 use Rattle.frame.specs.Handle.{handle_bytes, handle_reading, HandleBehind}
 use Rattle.frame.proofs.Handles.{handle_reading-spelled, reads_handle}
 use Rattle.table.specs.ReadingSteps.{pass}
-use Rattle.table.specs.ReadingEntries.{first_key, is_above, key_behind, entry_test, entries_test, is_some_list, data_test}
+use Rattle.table.specs.ReadingEntries.{first_key, is_above, key_behind, entry_test, entries_test, is_some_list, data_test, HaveKeys}
 use Rattle.table.specs.ReadingIndex.{IndexEntry, handle_alone, one_handle, stored_at, block_in, index_entry, index_reading}
 use Rattle.table.specs.Reading.{DataBlock, blocks_reading, is_between, index_fits, entries_of}
 use Rattle.table.specs.ReadingCursors.{IsRising}
 use Rattle.table.specs.ReadingTables.{AreNamed, IsBelowNext, AreBetween, AreBytes}
-use Rattle.table.specs.Checked.{HaveKeys}
 use Rattle.block.proofs.BlockReadings.{both, join}
 use Rattle.table.proofs.CheckedTables.{read_block}
 use Rattle.table.proofs.EntryTests.{AllAbove, less_is, key_same, passes, behind_again}

@@ -20,12 +20,11 @@ use Rattle.frame.proofs.Stored.{length-stored}
 use Rattle.frame.proofs.Footers.{length-handles_bytes, length-footer_bytes}
 use Rattle.table.specs.declared.options.Options.{Options}
 use Rattle.table.specs.DataBlocks.{data_blocks, AreDataBlocks}
-use Rattle.table.specs.Building.{joined}
+use Rattle.table.specs.Kept.{entries_of_parts}
 use Rattle.table.specs.Table.{IndexKeys, index_key, index_from, stored_blocks, metaindex, footer_at, closing, table_of}
-use Rattle.table.specs.ReadingEntries.{first_key}
+use Rattle.table.specs.ReadingEntries.{first_key, HaveKeys}
 use Rattle.table.specs.ReadingCursors.{IsRising}
 use Rattle.table.specs.Reading.{DataBlock, entries_of}
-use Rattle.table.specs.Checked.{HaveKeys}
 use Rattle.table.specs.ReadingTables.{StandsAt, EndsWith, AreNamed, AreBetween, IsTable}
 use Rattle.table.specs.ReadingBack.{IsWritable}
 use Rattle.table.proofs.Indexes.{length-closing}
@@ -102,13 +101,13 @@ rising_behind : (cmp : List ℕ → List ℕ → Ordering) (p rest : List Entry)
 rising_behind cmp [] rest h = h
 rising_behind cmp (e ∷ es) rest h = rising_behind cmp es rest h.1
 
-are_between : (cmp : List ℕ → List ℕ → Ordering) (keys : IndexKeys) (parts : List (List Entry)) → KeepOrder cmp keys → HaveEntries parts → IsRising cmp (joined parts) → AreBetween cmp (blocks_of_parts keys parts)
+are_between : (cmp : List ℕ → List ℕ → Ordering) (keys : IndexKeys) (parts : List (List Entry)) → KeepOrder cmp keys → HaveEntries parts → IsRising cmp (entries_of_parts parts) → AreBetween cmp (blocks_of_parts keys parts)
 are_between cmp keys [] laws some h = tt
 are_between cmp keys (p ∷ []) laws some h = (laws.above (last_key [] p), tt, tt)
 are_between cmp keys (p ∷ n ∷ ps) laws some h =
-    let order = rising_across cmp p n (joined ps) some.0 some.1.0 h in
+    let order = rising_across cmp p n (entries_of_parts ps) some.0 some.1.0 h in
     let lies = laws.between (last_key [] p) (first_key n) order in
-    (lies.at_least, lies.below, are_between cmp keys (n ∷ ps) laws some.1 (rising_behind cmp p (joined (n ∷ ps)) h))
+    (lies.at_least, lies.below, are_between cmp keys (n ∷ ps) laws some.1 (rising_behind cmp p (entries_of_parts (n ∷ ps)) h))
 
 -- ---- the keys of the index are internal keys
 
@@ -128,10 +127,10 @@ key_lawful : (cmp : List ℕ → List ℕ → Ordering) (keys : IndexKeys) (p : 
 key_lawful cmp keys p [] laws h = laws.lawful_above (last_key [] p) h
 key_lawful cmp keys p (n ∷ ns) laws h = laws.lawful_between (last_key [] p) (first_key n) h
 
-keys_lawful : (cmp : List ℕ → List ℕ → Ordering) (keys : IndexKeys) (parts : List (List Entry)) → KeepOrder cmp keys → HaveEntries parts → AllByRecursion (λ e. IsInternalKey e.key) (joined parts) → AreLawful keys parts
+keys_lawful : (cmp : List ℕ → List ℕ → Ordering) (keys : IndexKeys) (parts : List (List Entry)) → KeepOrder cmp keys → HaveEntries parts → AllByRecursion (λ e. IsInternalKey e.key) (entries_of_parts parts) → AreLawful keys parts
 keys_lawful cmp keys [] laws some h = tt
 keys_lawful cmp keys (p ∷ ps) laws some h =
-    let s = all_split (λ e. IsInternalKey e.key) p (joined ps) h in
+    let s = all_split (λ e. IsInternalKey e.key) p (entries_of_parts ps) h in
     (key_lawful cmp keys p ps laws (last_lawful p some.0 s.0), keys_lawful cmp keys ps laws some.1 s.1)
 
 keys_read : (q : List Entry) → AllByRecursion (λ e. IsInternalKey e.key) q → HaveKeys q
@@ -140,17 +139,17 @@ keys_read (e ∷ es) h = (internal_key_reading-Ok e.key h.0, keys_read es h.1)
 
 -- ---- the parts
 
-parts_joined : (o : Options) (q : List Entry) (parts : List (List Entry)) → AreDataBlocks o q parts → (joined parts ≡ q) × HaveEntries parts
+parts_joined : (o : Options) (q : List Entry) (parts : List (List Entry)) → AreDataBlocks o q parts → (entries_of_parts parts ≡ q) × HaveEntries parts
 parts_joined o q [] h = (sym h, tt)
 parts_joined o q (p ∷ ps) h =
     let rest = parts_joined o h.0 ps h.3 in
     (ap (λ (x : List Entry). p ++ x) rest.0 ∙ sym h.1, (h.2.some, rest.1))
 
-entries_again : (keys : IndexKeys) (parts : List (List Entry)) → entries_of (blocks_of_parts keys parts) ≡ joined parts
+entries_again : (keys : IndexKeys) (parts : List (List Entry)) → entries_of (blocks_of_parts keys parts) ≡ entries_of_parts parts
 entries_again keys [] = refl
 entries_again keys (p ∷ ps) = ap (λ (x : List Entry). p ++ x) (entries_again keys ps)
 
-some_blocks : (keys : IndexKeys) (parts : List (List Entry)) → joined parts ≢ [] → 0 < length (blocks_of_parts keys parts)
+some_blocks : (keys : IndexKeys) (parts : List (List Entry)) → entries_of_parts parts ≢ [] → 0 < length (blocks_of_parts keys parts)
 some_blocks keys [] some = absurd (some refl)
 some_blocks keys (p ∷ ps) some = omega arith
 

@@ -2,27 +2,19 @@
 use Rattle.std.proofs.Common.{◌≡◌, ℕ, ◌^◌, ◌<◌, ◌≤◌, List, length, Result, Ok, Err, refl}
 use Rattle.std.specs.Result.{OnOk}
 use Rattle.std.proofs.lemmas.Bool.{lt-leb, le-leb}
-use Rattle.coding.specs.Answers.{UnlessMemory, Fails, fault}
+use Rattle.coding.specs.Answers.{FailsOrMemory, fault}
+use Rattle.coding.proofs.Refusals.{only_memory}
 use Rattle.coding.specs.declared.fault.Fault.{Fault}
-use Rattle.coding.specs.declared.fault.FaultName.{FaultName}
 use Rattle.coding.specs.declared.fault.FaultName.TheVariants.{Memory, TooLarge}
 use Rattle.table.specs.Table.{within_limit}
-
-memory_unless : (n : FaultName) (P : Type 0) → UnlessMemory n P → (P → ⊥) → n ≡ Memory
-memory_unless Memory P h never = refl
-memory_unless _ P h never = absurd (never h)
 
 -- an answer with a value
 abbrev pub fine : {X : Type 0} → X → Result X Fault
 fine x = Ok x
 
 -- where the definition answers a value
-pub memory_alone : {X : Type 0} (e : Fault) (x : X) (answer : Result X Fault) → answer ≡ Ok x → Fails e answer → e.name ≡ Memory
-memory_alone e x answer ok h = memory_unless e.name (answer ≡ Err e) h (λ no. absurd (cc))
-
-pub unless_map : (n : FaultName) (P Q : Type 0) → (P → Q) → UnlessMemory n P → UnlessMemory n Q
-unless_map Memory P Q f h = tt
-unless_map _ P Q f h = f h
+pub memory_alone : {X : Type 0} (e : Fault) (x : X) (answer : Result X Fault) → answer ≡ Ok x → FailsOrMemory e answer → e ≡ fault Memory
+memory_alone e x answer ok h = only_memory e (answer ≡ Err e) (λ no. absurd cc) h
 
 -- a fact that follows where a call succeeds
 pub OnOk-map : {X E : Type 0} (r : Result X E) (P Q : Type 0) → (P → Q) → OnOk r P → OnOk r Q

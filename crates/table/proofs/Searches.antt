@@ -12,9 +12,9 @@ use Rattle.block.specs.Piece.{Entry}
 use Rattle.block.specs.Sound.{Sound}
 use Rattle.ikey.specs.Order.{internal_cmp}
 use Rattle.ikey.proofs.Ordered.{internal_cmp-total}
-use Rattle.table.specs.ReadingCursors.{IsRising, entries_from, first_is_below}
-use Rattle.table.specs.Seeking.{restart_is_below, IsLastBelow}
-use Rattle.table.specs.Checked.{HaveKeys}
+use Rattle.table.specs.ReadingCursors.{IsRising, entries_from}
+use Rattle.table.specs.Seeking.{first_is_below, restart_is_below, IsLastBelow}
+use Rattle.table.specs.ReadingEntries.{HaveKeys}
 use Rattle.ikey.specs.Key.{internal_key_reading}
 use Rattle.table.proofs.EntryTests.{less_is}
 

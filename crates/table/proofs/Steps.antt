@@ -5,16 +5,16 @@ use Rattle.std.specs.Option.{option_map}
 use Rattle.std.specs.declared.cmp.Ordering.{Ordering}
 use Rattle.std.proofs.lemmas.List.{append-nil, drop_more, nil_from_length, length-drop}
 use Rattle.std.proofs.lemmas.Option.{same_Some, none-some}
-use Rattle.coding.specs.Answers.{Gives, Fails, UnlessMemory, fault, ◌>>=◌}
+use Rattle.coding.specs.Answers.{EqualOrMemory, FailsOrMemory, fault, ◌>>=◌}
 use Rattle.coding.specs.declared.fault.Fault.{Fault}
-use Rattle.coding.specs.declared.fault.FaultName.{FaultName}
-use Rattle.coding.specs.declared.fault.FaultName.TheVariants.{Block, Memory}
-use Rattle.coding.proofs.Refusals.{Fails-from}
+use Rattle.coding.specs.declared.fault.FaultName.TheVariants.{Block}
+use Rattle.coding.proofs.Refusals.{FailsOrMemory-from, unless_from}
 use Rattle.coding.proofs.Binds.{done, failed}
 use Rattle.block.specs.Piece.{Entry, IsBlock}
 use Rattle.block.specs.Building.{last_key}
 use Rattle.block.specs.ReadingBlocks.{block_reading}
-use Rattle.table.specs.ReadingEntries.{first_key, entry_test, entries_test, ends_reading}
+use Rattle.table.specs.ReadingEntries.{first_key, entry_test, entries_test}
+use Rattle.table.specs.Ends.{ends_reading}
 use Rattle.table.specs.ReadingIndex.{IndexEntry, index_entry, index_reading}
 use Rattle.block.proofs.BlockReadings.{reads_blocks, refused}
 
@@ -22,13 +22,13 @@ use Rattle.block.proofs.BlockReadings.{reads_blocks, refused}
 
 -- what is accepted, what alone is, and the one refusal, are the reading of a block
 pub check_gives : {X : Type 0} (view : X → List Entry) (bytes : List ℕ) (r : Result X Fault) → IfOk r (λ b. IsBlock bytes (view b)) → ((q : List Entry) → IsBlock bytes q → IsOkAnd r (λ b. view b ≡ q)) → IfErr r (λ e. e ≡ fault Block)
-    → Gives view r (block_reading bytes)
+    → EqualOrMemory view r (block_reading bytes)
 check_gives view bytes (Ok b) found only e = reads_blocks.only bytes (view b) found
 check_gives view bytes (Err e) found only name = of_reading (block_reading bytes) refl
   where
-    of_reading : (a : Result (List Entry) Fault) → block_reading bytes ≡ a → Fails e a
+    of_reading : (a : Result (List Entry) Fault) → block_reading bytes ≡ a → FailsOrMemory e a
     of_reading (Ok q) h = absurd (only q (reads_blocks.found bytes q h))
-    of_reading (Err d) h = Fails-from e (failed d) (ap (λ (x : Fault). failed x) (refused bytes d h ∙ sym name))
+    of_reading (Err d) h = FailsOrMemory-from e (failed d) (ap (λ (x : Fault). failed x) (refused bytes d h ∙ sym name))
 
 -- ---- a list, one element after the other
 
@@ -85,18 +85,14 @@ last_goes_on before q key value total first so_far = sym (ap (last_key before) f
 
 -- ---- refusals
 
-unless_map : (n : FaultName) (P Q : Type 0) → (P → Q) → UnlessMemory n P → UnlessMemory n Q
-unless_map Memory P Q f p = tt
-unless_map _ P Q f p = f p
-
 -- what a step is refused by, all is refused by
-pub fails_map : {Y Z : Type 0} (e : Fault) (a : Result Y Fault) (b : Result Z Fault) → (a ≡ Err e → b ≡ Err e) → Fails e a → Fails e b
-fails_map e a b f h = unless_map e.name (a ≡ Err e) (b ≡ Err e) f h
+pub fails_map : {Y Z : Type 0} (e : Fault) (a : Result Y Fault) (b : Result Z Fault) → (a ≡ Err e → b ≡ Err e) → FailsOrMemory e a → FailsOrMemory e b
+fails_map e a b f h = unless_from e (a ≡ Err e) (b ≡ Err e) f h
 
 -- a refusal that is handed on
-pub handed_on : {X Y : Type 0} (view : X → Y) (r : Result X Fault) (e d : Fault) (total : Result Y Fault) → r ≡ Err e → e ≡ d → Fails d total → Gives view r total
+pub handed_on : {X Y : Type 0} (view : X → Y) (r : Result X Fault) (e d : Fault) (total : Result Y Fault) → r ≡ Err e → e ≡ d → FailsOrMemory d total → EqualOrMemory view r total
 handed_on {X} {Y} view r e d total same name h =
-    subst (λ (x : Result X Fault). Gives view x total) (sym same) (subst (λ (x : Fault). Fails x total) (sym name) h)
+    subst (λ (x : Result X Fault). EqualOrMemory view x total) (sym same) (subst (λ (x : Fault). FailsOrMemory x total) (sym name) h)
 
 -- ---- the bounds of a data block
 

@@ -5,7 +5,8 @@ use Rattle.std.proofs.lemmas.Bool.{leb-true, le-leb}
 use Rattle.std.proofs.lemmas.List.{append-nil, length-append, length-drop, length-take-le, take_at, drop_at, take-append-drop, nil_from_length}
 use Rattle.std.proofs.lemmas.Option.{same_Some}
 use Rattle.std.proofs.lemmas.Slice.Eq.{bytes_eq-Decides}
-use Rattle.coding.specs.Answers.{fault, ◌>>=◌}
+use Rattle.std.specs.Option.{ok_or}
+use Rattle.coding.specs.Answers.{and_then, fault, ◌>>=◌}
 use Rattle.coding.specs.declared.fault.Fault.{Fault}
 use Rattle.coding.specs.declared.fault.FaultName.TheVariants.{Magic, Handle, Range}
 use Rattle.coding.proofs.Binds.{done, bind_ok, ok_is}
@@ -13,9 +14,9 @@ use Rattle.block.specs.Piece.{Entry}
 use Rattle.coding.proofs.Bytes.{IsBytes-take, IsBytes-drop}
 use Rattle.frame.specs.declared.handle.BlockHandle.{BlockHandle}
 use Rattle.frame.specs.declared.footer.Footer.{Footer}
-use Rattle.frame.specs.Handle.{handle_bytes, handle_reading, HandleBehind, and_then}
+use Rattle.frame.specs.Handle.{handle_bytes, handle_reading, HandleBehind}
 use Rattle.frame.specs.Trailer.{stored, stored_reading}
-use Rattle.frame.specs.Footer.{handles_bytes, magic, handles_reading, ok_or_fault, footer_reading}
+use Rattle.frame.specs.Footer.{handles_bytes, magic, handles_reading, footer_reading}
 use Rattle.frame.proofs.Handles.{handle_reading-spelled, reads_handle, found_first}
 use Rattle.frame.proofs.Stored.{length-stored, stored_again, only_stored}
 use Rattle.block.specs.ReadingBlocks.{block_reading}
@@ -87,7 +88,7 @@ read_stands bytes handle there q fits at h =
 -- ---- the footer
 
 abbrev read_by : List ℕ → List ℕ → Result Footer Fault
-read_by handles last = cond (not (starts_with nat_eq last magic)) (Err (fault Magic)) (ok_or_fault (fault Handle) (handles_reading handles))
+read_by handles last = cond (not (starts_with nat_eq last magic)) (Err (fault Magic)) (ok_or (handles_reading handles) (fault Handle))
 
 footer_reading-by : (bytes : List ℕ) → footer_reading bytes ≡ read_by (take 40 bytes) (drop 40 bytes)
 unfolding footer_reading
@@ -111,7 +112,7 @@ ends_read bytes f e a b =
     ap footer_reading tail ∙ footer_reading-by (handles ++ magic)
     ∙ ap (λ (t : List ℕ). read_by t (drop 40 (handles ++ magic))) (take_at handles magic 40 e.len)
     ∙ ap (read_by handles) (drop_at handles magic 40 e.len)
-    ∙ ap (ok_or_fault (fault Handle)) (handles_again f e.padding a b)
+    ∙ ap (λ (o : Option Footer). ok_or o (fault Handle)) (handles_again f e.padding a b)
 
 pub long_footer : (bytes : List ℕ) (f : Footer) → EndsWith bytes f → 48 ≤ length bytes
 long_footer bytes f e =
@@ -122,7 +123,7 @@ not_refused : (b : Bool) (d : Fault) (r : Result Footer Fault) (f : Footer) → 
 not_refused true d r f h = (refl, h)
 not_refused false d r f h = absurd cc
 
-is_there : (o : Option Footer) (d : Fault) (f : Footer) → ok_or_fault d o ≡ Ok f → o ≡ Some f
+is_there : (o : Option Footer) (d : Fault) (f : Footer) → ok_or o d ≡ Ok f → o ≡ Some f
 is_there None d f h = absurd cc
 is_there (Some x) d f h = ap (λ (y : Footer). Some y) (ok_is x f h)
 
@@ -148,7 +149,7 @@ pub read_ends : (bytes : List ℕ) (f : Footer) → 48 ≤ length bytes → foot
 read_ends bytes f long h =
     let t : List ℕ = drop (length bytes - 48) bytes in
     let len : length t ≡ 48 = omega (arith, length-drop (length bytes - 48) bytes, long) in
-    let a = not_refused (starts_with nat_eq (drop 40 t) magic) (fault Magic) (ok_or_fault (fault Handle) (handles_reading (take 40 t))) f (sym (footer_reading-by t) ∙ h) in
+    let a = not_refused (starts_with nat_eq (drop 40 t) magic) (fault Magic) (ok_or (handles_reading (take 40 t)) (fault Handle)) f (sym (footer_reading-by t) ∙ h) in
     let last_len : length (drop 40 t) ≡ 8 = omega (arith, length-drop 40 t, len) in
     let none : drop 8 (drop 40 t) ≡ [] = nil_from_length (drop 8 (drop 40 t)) (omega (arith, length-drop 8 (drop 40 t), last_len)) in
     let begins : magic ≡ take 8 (drop 40 t) = (bytes_eq-Decides magic (take 8 (drop 40 t))).0 a.0 in

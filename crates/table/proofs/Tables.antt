@@ -11,9 +11,8 @@ use Rattle.block.specs.Piece.{Entry}
 use Rattle.frame.specs.declared.footer.Footer.{Footer}
 use Rattle.frame.specs.Footer.{footer_reading}
 use Rattle.table.specs.ReadingSteps.{pass}
-use Rattle.table.specs.ReadingEntries.{is_some_list, entries_test}
+use Rattle.table.specs.ReadingEntries.{is_some_list, entries_test, HaveKeys}
 use Rattle.table.specs.ReadingCursors.{IsRising}
-use Rattle.table.specs.Checked.{HaveKeys}
 use Rattle.table.specs.ReadingIndex.{IndexEntry, stored_at, block_in, index_reading}
 use Rattle.table.specs.Reading.{DataBlock, blocks_reading, index_fits, data_reading, index_in, blocks_of, entries_of, table_reading}
 use Rattle.table.specs.ReadingTables.{StandsAt, EndsWith, IsTable, AreBytes, ReadsTables}

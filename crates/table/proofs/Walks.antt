@@ -1,9 +1,10 @@
 -- The walk over a table's data blocks by its index.
-use Rattle.std.proofs.Common.{◌≡◌, ℕ, zero, suc, ◌+◌, ◌<◌, Bool, true, false, not, cond, List, [], ◌∷◌, ◌++◌, length, drop, Option, Some, None, Result, Ok, Err, refl, sym, ap, subst, ◌∙◌, true≢false, arith}
+use Rattle.std.proofs.Common.{◌≡◌, ℕ, zero, suc, ◌+◌, ◌<◌, Bool, true, false, not, cond, List, [], ◌∷◌, ◌++◌, map, length, drop, Option, Some, None, Result, Ok, Err, refl, sym, ap, subst, ◌∙◌, true≢false, arith, append_assoc}
 use Rattle.std.specs.List.{AllByRecursion}
 use Rattle.std.specs.Cmp.{IsTotalOrder}
 use Rattle.std.specs.Prelude.{IsOk, OnOk, OnErr, slice_get}
 use Rattle.std.specs.Option.{option_map}
+use Rattle.std.specs.Result.{result_unwrap_or}
 use Rattle.std.specs.Ordering.{is_lt, is_gt, is_le, ordering_reverse}
 use Rattle.std.specs.BTreeMap.Comparable.{le_lt_trans}
 use Rattle.std.specs.declared.cmp.Ordering.{Ordering}
@@ -15,22 +16,23 @@ use Rattle.coding.specs.declared.fault.Fault.{Fault}
 use Rattle.coding.proofs.Binds.{done, bind_ok, ok_is}
 use Rattle.block.specs.Piece.{Entry, IsBlock}
 use Rattle.block.specs.Building.{last_key}
-use Rattle.ikey.specs.Key.{internal_key_reading}
+use Rattle.ikey.specs.Key.{internal_key_reading, user_of}
 use Rattle.ikey.specs.Order.{internal_cmp}
 use Rattle.ikey.proofs.Ordered.{internal_cmp-total}
 use Rattle.frame.specs.declared.handle.BlockHandle.{BlockHandle}
 use Rattle.frame.specs.Handle.{HandleBehind, handle_reading}
 use Rattle.frame.specs.Trailer.{stored_reading}
 use Rattle.block.specs.ReadingBlocks.{block_reading}
-use Rattle.table.specs.ReadingEntries.{first_key, is_above, key_behind, is_some_list, data_test}
+use Rattle.table.specs.ReadingEntries.{first_key, is_above, key_behind, is_some_list, data_test, HaveKeys}
 use Rattle.table.specs.ReadingIndex.{IndexEntry, handle_alone, one_handle, stored_at, block_in, index_entry, index_reading}
-use Rattle.table.specs.Reading.{DataBlock, blocks_reading, is_between, index_fits, entries_of, ok_or, Contents, contents_in}
-use Rattle.table.specs.ReadingCursors.{IsRising, entries_from, first_is_below}
-use Rattle.table.specs.Checked.{HaveKeys, IsChecked}
+use Rattle.table.specs.Reading.{DataBlock, blocks_reading, is_between, index_fits, entries_of, Contents}
+use Rattle.table.specs.Checked.{contents_in, IsChecked}
+use Rattle.table.specs.ReadingCursors.{IsRising, entries_from}
+use Rattle.table.specs.Seeking.{first_is_below}
 use Rattle.table.specs.Walking.{block_named, entries_named, all_named, NamesBlock, Indexes, IsLeft}
 use Rattle.block.proofs.BlockReadings.{both, reads_blocks}
 use Rattle.table.proofs.Searches.{from_place}
-use Rattle.table.proofs.CheckedTables.{read_block, read_data, blocks_are, contents_are}
+use Rattle.table.proofs.CheckedTables.{read_block, read_data, blocks_are, contents_are, users_of}
 use Rattle.table.proofs.EntryTests.{key_same, less_is, have_keys, data_tests, all_tests, AllAbove, all_above, rising}
 
 -- ---- the data block that an entry of the index names
@@ -41,7 +43,7 @@ block_named-by bytes value = refl
 
 pub named_entries : (bytes : List ℕ) (i : Entry) (q : List Entry) → block_named bytes i.value ≡ Ok q → entries_named bytes i ≡ q
 unfolding entries_named
-named_entries bytes i q h = ap (ok_or []) h
+named_entries bytes i q h = ap (λ (r : Result (List Entry) Fault). result_unwrap_or r []) h
 
 -- an entry that is read, and the block that it names
 record Reads (bytes : List ℕ) (i : Entry) (x : IndexEntry) : Type 0 where
@@ -159,23 +161,44 @@ name_all cmp bytes before below (e ∷ es) index blocks total h k fits =
     }
 
 -- the index of a table that was checked
-pub indexes : (cmp : List ℕ → List ℕ → Ordering) (bytes : List ℕ) (named : List Entry) (index : List IndexEntry) (smallest largest : List ℕ) (x : Contents) → IsTotalOrder cmp → IsChecked cmp bytes named index smallest largest → contents_in cmp bytes ≡ x
+pub indexes : (cmp : List ℕ → List ℕ → Ordering) (bytes : List ℕ) (named : List Entry) (smallest largest : List ℕ) (x : Contents) → IsTotalOrder cmp → IsChecked cmp bytes named smallest largest → contents_in cmp bytes ≡ x
     → Indexes cmp x.bytes named x.entries
-indexes cmp bytes named index smallest largest x total k e =
-    let d = read_data cmp index k.blocks k.data_blocks in
-    let all = name_all cmp bytes None None named index k.blocks total k.index_entries d.read d.fits in
-    subst (λ (y : Contents). Indexes cmp y.bytes named y.entries) (sym (contents_are cmp bytes k.blocks (blocks_are cmp bytes named index smallest largest k)) ∙ e)
+indexes cmp bytes named smallest largest x total k e =
+    let d = read_data cmp k.index k.blocks k.data_blocks in
+    let all = name_all cmp bytes None None named k.index k.blocks total k.index_entries d.read d.fits in
+    subst (λ (y : Contents). Indexes cmp y.bytes named y.entries) (sym (contents_are cmp bytes k.blocks (blocks_are cmp bytes named smallest largest k)) ∙ e)
     (record {
       some = some_named named k.index_entries d.some;
       named = all.each;
       keys_rise = all.keys_rise;
       whole = all.whole;
-      rising = rising cmp None (entries_of k.blocks) total (all_tests cmp None index k.blocks d.read);
+      rising = rising cmp None (entries_of k.blocks) total (all_tests cmp None k.index k.blocks d.read);
     })
   where
-    some_named : (es : List Entry) → index_reading bytes es ≡ Ok index → is_some_list index ≡ true → 0 < length es
-    some_named [] h some = let none : [] ≡ index = ok_is [] index h in absurd cc
+    some_named : (es : List Entry) → index_reading bytes es ≡ Ok k.index → is_some_list k.index ≡ true → 0 < length es
+    some_named [] h some = let none : [] ≡ k.index = ok_is [] k.index h in absurd cc
     some_named (e ∷ es) h some = omega arith
+
+-- the keys of the index block are those of the index
+pub users_named : (bytes : List ℕ) (es : List Entry) (index : List IndexEntry) → index_reading bytes es ≡ Ok index → map (λ (e : Entry). user_of e.key) es ≡ users_of index
+users_named bytes [] index h = ap users_of (ok_is [] index h)
+users_named bytes (e ∷ es) index h =
+    let a = bind_ok (index_entry bytes e) (λ x. index_reading bytes es >>= λ xs. Ok (x ∷ xs)) index h in
+    let c = bind_ok (index_reading bytes es) (λ xs. Ok (a.0 ∷ xs)) index a.2 in
+    let read = reads bytes e a.0 a.1 in
+    ap (λ (k : List ℕ). user_of k ∷ map (λ (x : Entry). user_of x.key) es) read.same
+    ∙ ap (λ (us : List (List ℕ)). user_of a.0.key ∷ us) (users_named bytes es c.0 c.1)
+    ∙ ap users_of (ok_is (a.0 ∷ c.0) index c.2)
+
+-- the user keys of the first entry and of those behind it
+pub users_go_on : (front : List (List ℕ)) (es : List Entry) (key user : List ℕ) (total : List (List ℕ)) → 0 < length es → option_map (λ e. e.key) (slice_get es 0) ≡ Some key → user ≡ user_of key
+    → front ++ map (λ (e : Entry). user_of e.key) es ≡ total → (front ++ user ∷ []) ++ map (λ (e : Entry). user_of e.key) (drop 1 es) ≡ total
+users_go_on front [] key user total some first u h = absurd (omega arith)
+users_go_on front (e ∷ es) key user total some first u h =
+    let same : e.key ≡ key = same_Some e.key key first in
+    append_assoc front (user ∷ []) (map (λ (x : Entry). user_of x.key) es)
+    ∙ ap (λ (v : List ℕ). front ++ v ∷ map (λ (x : Entry). user_of x.key) es) (u ∙ ap user_of (sym same))
+    ∙ h
 
 -- ---- how the block is found again
 
@@ -456,3 +479,8 @@ none_valid b (e ∷ q) some h = let yes : b ≡ true = some (omega arith) in abs
 
 pub some_valid : (b : Bool) (q : List Entry) → (b ≡ true → 0 < length q) → b ≡ true → q ≡ [] → ⊥
 some_valid b q some h none = omega (arith, some h, ap length none)
+
+-- the keys of the entries behind the first
+pub keys_behind : (es : List Entry) → HaveKeys es → HaveKeys (drop 1 es)
+keys_behind [] h = tt
+keys_behind (e ∷ es) h = h.1

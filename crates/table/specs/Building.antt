@@ -1,22 +1,11 @@
 -- A table that is being written.
-use Rattle.std.specs.Prelude.{◌≡◌, ℕ, ◌+◌, ◌-◌, ◌*◌, ◌<◌, ◌≤◌, ◌^◌, List, [], ◌∷◌, ◌++◌, map, length, take, drop}
-use Rattle.std.specs.List.{flat_map, sum_by, AllByRecursion}
+use Rattle.std.specs.Prelude.{◌≡◌, ℕ, List, [], ◌∷◌}
 use Rattle.std.specs.declared.cmp.Ordering.{Ordering}
 use Rattle.std.specs.declared.cmp.Ordering.TheVariants.{Less}
-use Rattle.byteorder.specs.Endian.{little_number}
-use Rattle.ikey.specs.Key.{IsInternalKey}
 use Rattle.ikey.specs.Order.{internal_cmp}
 use Rattle.block.specs.Piece.{Entry}
-use Rattle.block.specs.Reading.{entries_behind}
-use Rattle.block.specs.Writing.{block}
-use Rattle.block.specs.Building.{Building, last_key}
+use Rattle.block.specs.Building.{last_key}
 use Rattle.table.specs.declared.options.Options.{Options}
-use Rattle.table.specs.declared.index_entry.IndexEntry.{IndexEntry}
-use Rattle.table.specs.Options.{AreInLimits}
-use Rattle.table.specs.DataBlocks.{blocks_behind, data_blocks, flushed_len}
-use Rattle.table.specs.Table.{IndexKeys, stored_blocks}
-use Rattle.table.specs.ReadingEntries.{first_key}
-use Rattle.table.specs.Flushed.{index_before}
 
 -- what a table is written with, and its entries so far
 pub record TableBuilding : Type 0 where
@@ -27,43 +16,3 @@ pub record TableBuilding : Type 0 where
 abbrev pub IsAboveLast : (List ℕ → List ℕ → Ordering) → List Entry → List ℕ → Type 0
 IsAboveLast cmp [] key = Unit {0}
 IsAboveLast cmp (e ∷ es) key = internal_cmp cmp (last_key e.key es) key ≡ Less
-
--- the entries of a block, by its bytes: those before its restarts
-unfoldable pub block_entries : List ℕ → List Entry
-block_entries bytes =
-    entries_behind [] (take (length bytes - (4 * little_number 4 (drop (length bytes - 4) bytes) + 4)) bytes)
-
--- the entries of blocks of these sizes, each of which has its trailer
-abbrev pub blocks_in : List ℕ → List ℕ → List (List Entry)
-blocks_in bytes [] = []
-blocks_in bytes (size ∷ sizes) = block_entries (take size bytes) ∷ blocks_in (drop (size + 5) bytes) sizes
-
--- the entries of parts, one behind the other
-abbrev pub joined : List (List Entry) → List Entry
-joined parts = flat_map (λ p. p) parts
-
--- the entries of the flushed blocks, and then those of the open one
-unfoldable pub entries_so_far : List ℕ → List IndexEntry → List Entry → List Entry
-entries_so_far bytes index entries = joined (blocks_in bytes (map (λ (i : IndexEntry). i.handle.size) index)) ++ entries
-
--- What is kept of a list: the bytes of its flushed data blocks and their entries of the index, and the entries of the
--- open block behind them, which is the one that is not flushed though it may be full.
-pub record IsBuilt (keys : IndexKeys) (o : Options) (parts : List (List Entry)) (bytes : List ℕ) (index : List IndexEntry) (interval : ℕ) (entries : List Entry) : Type 0 where
-  pub limits : AreInLimits o
-  pub interval_is : interval ≡ o.restart_interval
-  pub bytes_are : bytes ≡ stored_blocks o.restart_interval parts
-  pub index_is : index ≡ index_before keys o.restart_interval 0 parts (first_key entries)
-  pub begun : length entries ≡ 0 → parts ≡ []
-  pub cut : (more : List Entry) → data_blocks o ((joined parts ++ entries) ++ more) ≡ parts ++ blocks_behind o entries more
-  pub flushed_is : sum_by (flushed_len o) parts ≡ length bytes
-  pub parts_fit : AllByRecursion (λ p. length (block o.restart_interval p) ≤ 2 ^ 31) parts
-  pub entries_fit : length (block o.restart_interval entries) ≤ 2 ^ 31
-  pub last_lawful : 0 < length entries → IsInternalKey (last_key [] entries)
-
--- what is kept, of some flushed data blocks
-abbrev pub IsKept : IndexKeys → Options → List ℕ → List IndexEntry → Building → Type 0
-IsKept keys o bytes index latest = (parts : List (List Entry)) × IsBuilt keys o parts bytes index latest.interval latest.entries
-
--- a block without entries, at the restart interval
-abbrev pub IsSpare : Options → Building → Type 0
-IsSpare o b = b ≡ record { interval = o.restart_interval; entries = [] }

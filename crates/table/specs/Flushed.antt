@@ -3,17 +3,17 @@ use Rattle.std.specs.Prelude.{ℕ, ◌+◌, List, [], ◌∷◌, map, length}
 use Rattle.block.specs.Piece.{Entry}
 use Rattle.block.specs.Writing.{block}
 use Rattle.block.specs.Building.{last_key}
-use Rattle.table.specs.declared.index_entry.IndexEntry.{IndexEntry}
-use Rattle.table.specs.Table.{IndexKeys, index_entry}
+use Rattle.table.specs.declared.flushed_block.FlushedBlock.{FlushedBlock}
+use Rattle.table.specs.Table.{IndexKeys, handle_entry}
 use Rattle.table.specs.ReadingEntries.{first_key}
 
 -- the index entry of a block at this offset and of this size
-abbrev pub entry_at : List ℕ → ℕ → ℕ → IndexEntry
+abbrev pub entry_at : List ℕ → ℕ → ℕ → FlushedBlock
 entry_at key offset size = record { key = key; handle = record { offset = offset; size = size } }
 
 -- the entries of the index as they are written
-abbrev pub index_entries : List IndexEntry → List Entry
-index_entries index = map (λ i. index_entry i.key i.handle.offset i.handle.size) index
+abbrev pub index_entries : List FlushedBlock → List Entry
+index_entries index = map (λ i. handle_entry i.key i.handle.offset i.handle.size) index
 
 -- the first key of blocks, or of what stands behind them
 abbrev pub next_key : List (List Entry) → List ℕ → List ℕ
@@ -21,7 +21,7 @@ next_key [] behind = behind
 next_key (p ∷ ps) behind = first_key p
 
 -- the entries of the index of blocks that stand before this key, where the first of them stands at this offset
-abbrev pub index_before : IndexKeys → ℕ → ℕ → List (List Entry) → List ℕ → List IndexEntry
+abbrev pub index_before : IndexKeys → ℕ → ℕ → List (List Entry) → List ℕ → List FlushedBlock
 index_before keys interval at [] behind = []
 index_before keys interval at (p ∷ ps) behind =
     entry_at (keys.between (last_key [] p) (next_key ps behind)) at (length (block interval p))

@@ -1,16 +1,20 @@
+-- what contracts rest on
 pub mod Options
 pub mod DataBlocks
 pub mod Table
-pub mod Flushed
 pub mod Building
 pub mod ReadingSteps
 pub mod ReadingEntries
 pub mod ReadingIndex
 pub mod Reading
-pub mod Placed
-pub mod Checked
+pub mod ReadingTables
+pub mod ReadingBack
 pub mod ReadingCursors
+-- serves proofs alone
+pub mod Flushed
+pub mod Kept
+pub mod Indexed
+pub mod Ends
+pub mod Checked
 pub mod Walking
 pub mod Seeking
-pub mod ReadingBack
-pub mod ReadingTables

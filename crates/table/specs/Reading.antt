@@ -1,5 +1,5 @@
 -- What stands in a table's bytes, and the first test that other bytes fail.
-use Rattle.std.specs.Prelude.{ℕ, ◌-◌, ◌^◌, nat_le, Bool, true, ◌&&◌, not, List, [], ◌∷◌, length, map, drop, Option, Some, None, Result, Ok, Err}
+use Rattle.std.specs.Prelude.{ℕ, ◌-◌, ◌^◌, nat_le, Bool, true, ◌&&◌, not, List, [], ◌∷◌, length, map, drop, Option, Some, None, Result, Ok}
 use Rattle.std.specs.List.{flat_map}
 use Rattle.std.specs.Ordering.{is_gt}
 use Rattle.std.specs.declared.cmp.Ordering.{Ordering}
@@ -12,7 +12,7 @@ use Rattle.ikey.specs.Key.{user_of}
 use Rattle.ikey.specs.Order.{internal_cmp}
 use Rattle.frame.specs.Footer.{footer_reading}
 use Rattle.table.specs.ReadingSteps.{pass}
-use Rattle.table.specs.ReadingEntries.{Ends, first_key, key_behind, is_above, is_some_list, data_test}
+use Rattle.table.specs.ReadingEntries.{first_key, key_behind, is_above, is_some_list, data_test}
 use Rattle.table.specs.ReadingIndex.{IndexEntry, stored_at, block_in, index_reading}
 
 -- the entries of a data block, and its key in the index
@@ -91,16 +91,3 @@ contents_reading cmp bytes = blocks_of cmp bytes >>= λ blocks. Ok (contents_of 
 -- the entries of the bytes as a table, or the first test that they fail
 abbrev pub table_reading : (List ℕ → List ℕ → Ordering) → List ℕ → Result (List Entry) Fault
 table_reading cmp bytes = blocks_of cmp bytes >>= λ blocks. Ok (entries_of blocks)
-
--- what is there, or else this
-abbrev pub ok_or : {A : Type 0} → A → Result A Fault → A
-ok_or otherwise (Ok x) = x
-ok_or otherwise (Err e) = otherwise
-
--- what bytes that are a table hold
-abbrev pub contents_in : (List ℕ → List ℕ → Ordering) → List ℕ → Contents
-contents_in cmp bytes = ok_or (contents_of bytes []) (contents_reading cmp bytes)
-
--- the first and the last key of data blocks
-abbrev pub ends_of : List DataBlock → Ends
-ends_of blocks = record { smallest = first_key (entries_of blocks); largest = last_key [] (entries_of blocks) }

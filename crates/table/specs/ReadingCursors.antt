@@ -1,5 +1,5 @@
 -- Lists of entries that are still to come.
-use Rattle.std.specs.Prelude.{◌≡◌, ◌⊎◌, ℕ, Bool, true, false, if◌then◌else◌, List, [], ◌∷◌}
+use Rattle.std.specs.Prelude.{◌≡◌, ◌⊎◌, ℕ, true, if◌then◌else◌, List, [], ◌∷◌}
 use Rattle.std.specs.List.{AllByRecursion}
 use Rattle.std.specs.Ordering.{is_le, is_lt}
 use Rattle.std.specs.declared.cmp.Ordering.{Ordering}
@@ -28,8 +28,3 @@ LeavesFrom cmp target [] new = new ≡ []
 LeavesFrom cmp target (e ∷ es) new =
     ((internal_cmp cmp e.key target ≡ Less) × LeavesFrom cmp target es new)
     ⊎ ((left : List Entry) × ((new ≡ e ∷ left) × LeavesFrom cmp target es left))
-
--- whether the first entry, where there is one, is below this internal key
-abbrev pub first_is_below : (List ℕ → List ℕ → Ordering) → List ℕ → List Entry → Bool
-first_is_below cmp target [] = false
-first_is_below cmp target (e ∷ es) = is_lt (internal_cmp cmp e.key target)

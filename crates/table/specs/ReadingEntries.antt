@@ -1,5 +1,6 @@
 -- The tests of a table's entries, in order.
-use Rattle.std.specs.Prelude.{ℕ, nat_le, Bool, true, false, List, [], ◌∷◌, length, Option, Some, None, Result, Ok}
+use Rattle.std.specs.Prelude.{◌≡◌, ℕ, nat_le, Bool, true, false, List, [], ◌∷◌, length, Option, Some, None, Result, Ok}
+use Rattle.std.specs.List.{AllByRecursion}
 use Rattle.std.specs.Ordering.{is_lt}
 use Rattle.std.specs.declared.cmp.Ordering.{Ordering}
 use Rattle.coding.specs.Answers.{◌>>=◌}
@@ -52,13 +53,6 @@ data_test cmp before entries = do
   _ ← pass (is_some_list entries) Empty
   entries_test cmp before entries
 
--- the first and the last key of entries
-pub record Ends : Type 0 where
-  pub smallest : List ℕ
-  pub largest : List ℕ
-
--- the first and the last key of a data block after this key, where its entries pass their tests
-abbrev pub ends_reading : (List ℕ → List ℕ → Ordering) → Option (List ℕ) → List Entry → Result Ends Fault
-ends_reading cmp before entries = do
-  _ ← data_test cmp before entries
-  Ok (record { smallest = first_key entries; largest = last_key [] entries })
+-- the key of each entry is an internal key
+abbrev pub HaveKeys : List Entry → Type 0
+HaveKeys entries = AllByRecursion (λ e. internal_key_reading e.key ≡ Ok e.key) entries

@@ -12,10 +12,9 @@ use Rattle.frame.specs.declared.footer.Footer.{Footer}
 use Rattle.frame.specs.Handle.{handle_bytes}
 use Rattle.frame.specs.Trailer.{stored}
 use Rattle.frame.specs.Footer.{handles_bytes, magic}
-use Rattle.table.specs.ReadingEntries.{first_key}
+use Rattle.table.specs.ReadingEntries.{first_key, HaveKeys}
 use Rattle.table.specs.ReadingCursors.{IsRising}
 use Rattle.table.specs.Reading.{DataBlock, entries_of, table_reading}
-use Rattle.table.specs.Checked.{HaveKeys}
 
 -- a block of these entries is stored at a handle, before a footer's 48 bytes
 pub record StandsAt (bytes : List ℕ) (handle : BlockHandle) (entries : List Entry) : Type 0 where

@@ -1,8 +1,15 @@
 -- Where a walk to an internal key begins in a block: at a restart, since the key there stands whole.
-use Rattle.std.specs.Prelude.{◌≡◌, ℕ, ◌<◌, Bool, true, false, List, length, drop, slice_index}
+use Rattle.std.specs.Prelude.{◌≡◌, ℕ, ◌<◌, Bool, true, false, List, [], ◌∷◌, length, drop, slice_index}
+use Rattle.std.specs.Ordering.{is_lt}
 use Rattle.std.specs.declared.cmp.Ordering.{Ordering}
+use Rattle.block.specs.Piece.{Entry}
 use Rattle.block.specs.Sound.{Sound}
-use Rattle.table.specs.ReadingCursors.{first_is_below}
+use Rattle.ikey.specs.Order.{internal_cmp}
+
+-- whether the first entry, where there is one, is below this internal key
+abbrev pub first_is_below : (List ℕ → List ℕ → Ordering) → List ℕ → List Entry → Bool
+first_is_below cmp target [] = false
+first_is_below cmp target (e ∷ es) = is_lt (internal_cmp cmp e.key target)
 
 -- whether the entry at a restart, where there is one, is below this internal key
 abbrev pub restart_is_below : (List ℕ → List ℕ → Ordering) → List ℕ → Sound → ℕ → Bool

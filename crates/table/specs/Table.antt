@@ -35,15 +35,15 @@ abbrev pub index_key : IndexKeys → List Entry → List (List Entry) → List �
 index_key keys p [] = keys.above (last_key [] p)
 index_key keys p (n ∷ ns) = keys.between (last_key [] p) (first_key n)
 
--- an entry of the index
-abbrev pub index_entry : List ℕ → ℕ → ℕ → Entry
-index_entry key offset size = record { key = key; value = handle_bytes offset size }
+-- an entry of the index: a key, and the handle of a block
+abbrev pub handle_entry : List ℕ → ℕ → ℕ → Entry
+handle_entry key offset size = record { key = key; value = handle_bytes offset size }
 
 -- the entries of the index, where the first data block stands at this offset
 abbrev pub index_from : IndexKeys → ℕ → ℕ → List (List Entry) → List Entry
 index_from keys interval at [] = []
 index_from keys interval at (p ∷ ps) =
-    index_entry (index_key keys p ps) at (length (block interval p)) ∷ index_from keys interval (at + length (block interval p) + 5) ps
+    handle_entry (index_key keys p ps) at (length (block interval p)) ∷ index_from keys interval (at + length (block interval p) + 5) ps
 
 -- data blocks, each with its trailer
 abbrev pub stored_blocks : ℕ → List (List Entry) → List ℕ

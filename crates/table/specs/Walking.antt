@@ -2,6 +2,7 @@
 use Rattle.std.specs.Prelude.{◌≡◌, ℕ, ◌<◌, true, List, [], ◌++◌, length, drop, Result, Ok}
 use Rattle.std.specs.List.{flat_map, AllByRecursion}
 use Rattle.std.specs.Ordering.{is_le}
+use Rattle.std.specs.Result.{result_unwrap_or}
 use Rattle.std.specs.declared.cmp.Ordering.{Ordering}
 use Rattle.coding.specs.Answers.{◌>>=◌}
 use Rattle.coding.specs.declared.fault.Fault.{Fault}
@@ -10,9 +11,8 @@ use Rattle.ikey.specs.Key.{internal_key_reading}
 use Rattle.ikey.specs.Order.{internal_cmp}
 use Rattle.frame.specs.Handle.{handle_reading}
 use Rattle.table.specs.ReadingIndex.{one_handle, stored_at, block_in}
-use Rattle.table.specs.Reading.{ok_or}
 use Rattle.table.specs.ReadingCursors.{IsRising}
-use Rattle.table.specs.Checked.{HaveKeys}
+use Rattle.table.specs.ReadingEntries.{HaveKeys}
 
 -- the entries of the data block whose handle these bytes are, or the first test that it fails
 unfoldable pub block_named : List ℕ → List ℕ → Result (List Entry) Fault
@@ -23,7 +23,7 @@ block_named bytes value = do
 
 -- the entries of the data block that an entry of the index names, where it names one
 unfoldable pub entries_named : List ℕ → Entry → List Entry
-entries_named bytes i = ok_or [] (block_named bytes i.value)
+entries_named bytes i = result_unwrap_or (block_named bytes i.value) []
 
 -- the entries of the data blocks that entries of the index name, one behind the other
 abbrev pub all_named : List ℕ → List Entry → List Entry

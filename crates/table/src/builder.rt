@@ -1,7 +1,7 @@
 //! Writing a table, entry by entry.
 
 ghost use Rattle.std.specs.Prelude.{◌≡◌, ◌≤◌, ◌<◌, ◌^◌, ◌↔◌, [], length, IsTrue, OnOk, OnErr, IfErr};
-ghost use Rattle.coding.specs.Answers.{Gives};
+ghost use Rattle.coding.specs.Answers.{EqualOrMemory, fault};
 ghost use Rattle.coding.specs.declared.fault.FaultName.TheVariants.{Memory};
 ghost use Rattle.block.specs.Building.{with_entry};
 ghost use Rattle.table.specs.Options.{AreInLimits};
@@ -36,21 +36,19 @@ pub struct TableBuilder<C: Comparator> {
 
 impl<C: Comparator> Model for TableBuilder<C> {
     ghost use Rattle.table.specs.Table.{index_keys};
-    ghost use Rattle.table.specs.Building.{TableBuilding, entries_so_far, IsKept, IsSpare};
+    ghost use Rattle.table.specs.Building.{TableBuilding};
+    ghost use Rattle.table.specs.Kept.{entries_so_far, IsKept, IsSpare};
 
     ghost Value = { TableBuilding };
 
-    ghost view = { λ b. record { options = b.options; entries = entries_so_far b.flushed.bytes.items b.flushed.index.items b.block.entries } };
+    ghost view = { λ b. record {
+      options = b.options;
+      entries = entries_so_far b.flushed.bytes.items b.flushed.index.items b.block.entries;
+    } };
 
-    ghost invariant = { λ b. IsKept (index_keys C.cmp C.separator_of C.successor_of) b.options b.flushed.bytes.items b.flushed.index.items b.block × IsSpare b.options b.next };
-}
-
-/// Whether a block has an entry and reaches the block size.
-fn is_full(block: &BlockBuilder, options: &Options) -> bool
-    requires { block.now.interval ≡ options.now.restart_interval }
-    ensures { result ≡ is_full options.now block.now.entries }
-{
-    !block.is_empty() && block.estimate() as u64 >= options.block_size
+    ghost invariant = { λ b.
+        IsKept (index_keys C.cmp C.separator_of C.successor_of) b.options b.flushed.bytes.items b.flushed.index.items b.block
+        × IsSpare b.options b.next };
 }
 
 impl<C: Comparator> TableBuilder<C> {
@@ -68,13 +66,15 @@ impl<C: Comparator> TableBuilder<C> {
                 bytes: Vec::new(alloc),
                 index: Vec::new(alloc),
             },
-            block: BlockBuilder::new(alloc, options.restart_interval as u32),
-            next: BlockBuilder::new(alloc, options.restart_interval as u32),
+            block: BlockBuilder::new(alloc, options.restart_interval),
+            next: BlockBuilder::new(alloc, options.restart_interval),
             order: PhantomData,
         }
     }
 
-    /// Whether a key is above the last one, as [`TableBuilder::add`] asks of its key. Each key is above none. Takes no memory.
+    /// Whether a key is above the last one, as [`TableBuilder::add`] asks of its key. Without an entry each key is.
+    ///
+    /// It takes no memory.
     pub fn is_above_last(&self, key: &InternalKey) -> bool
         ensures { IsTrue result ↔ IsAboveLast C.cmp self.now.entries key.now.bytes.now }
     {
@@ -89,13 +89,16 @@ impl<C: Comparator> TableBuilder<C> {
 
     /// Appends an entry: a key above the last one, and a value of at most 16,777,215 bytes.
     ///
-    /// Refused only for want of memory, and then the table is as it was.
+    /// Refused for want of memory alone. A refusal leaves it as it was.
     pub fn add(&mut self, key: InternalKey, value: &[u8]) -> Result<(), Fault>
         requires above { IsAboveLast C.cmp self.old.entries key.bytes.now }
         requires value_fits { length value.now < 2 ^ 24 }
-        ensures ok { OnOk result (self.new ≡ record { options = self.old.options; entries = with_entry self.old.entries key.entry.bytes.now value.now }) }
+        ensures ok { OnOk result (self.new ≡ record {
+          options = self.old.options;
+          entries = with_entry self.old.entries key.entry.bytes.now value.now;
+        }) }
         ensures err { OnErr result (self.new ≡ self.old) }
-        ensures memory { IfErr result (λ e. e.name ≡ Memory) }
+        ensures memory { IfErr result (λ e. e ≡ fault Memory) }
     {
         if !is_full(&self.block, &self.options) {
             self.block.add(key.bytes, value)?;
@@ -130,9 +133,10 @@ impl<C: Comparator> TableBuilder<C> {
         (self.flushed.bytes.len() + open) as u64
     }
 
-    /// The table of the entries. TooLarge where it would have more than 2^30 bytes.
+    /// The table of the entries. `TooLarge` where it would have more than 2^30 bytes. A refusal uses the builder up.
     pub fn finish(self) -> Result<Vec<u8>, Fault>
-        ensures { Gives (λ v. v.items) result (within_limit (table C.cmp C.separator_of C.successor_of self.options self.entries)) }
+        ensures { EqualOrMemory (λ v. v.items) result
+            (within_limit (table C.cmp C.separator_of C.successor_of self.options self.entries)) }
     {
         let TableBuilder {
             alloc,
@@ -149,4 +153,12 @@ impl<C: Comparator> TableBuilder<C> {
         }
         flushed.finish(alloc)
     }
+}
+
+/// Whether a block has an entry and reaches the block size.
+fn is_full(block: &BlockBuilder, options: &Options) -> bool
+    requires { block.now.interval ≡ options.now.restart_interval }
+    ensures { result ≡ is_full options.now block.now.entries }
+{
+    !block.is_empty() && block.estimate() as u64 >= options.block_size
 }

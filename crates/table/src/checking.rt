@@ -4,17 +4,17 @@ ghost use Rattle.std.specs.Prelude.{◌≡◌, ◌≤◌, ◌&&◌, not, IfOk, L
 ghost use Rattle.std.specs.Option.{option_map};
 ghost use Rattle.std.specs.Ordering.{is_gt};
 ghost use Rattle.std.specs.Result.{result_map_both};
-ghost use Rattle.coding.specs.Answers.{Gives};
+ghost use Rattle.coding.specs.Answers.{EqualOrMemory};
 ghost use Rattle.block.specs.Piece.{Entry};
 ghost use Rattle.ikey.specs.Order.{internal_cmp};
 ghost use Rattle.table.specs.ReadingTables.{IsTable, ReadsTables};
-ghost use Rattle.table.specs.ReadingEntries.{is_above, entry_test, ends_reading};
+ghost use Rattle.table.specs.ReadingEntries.{is_above, entry_test};
 ghost use Rattle.table.specs.ReadingIndex.{stored_at, block_in, index_entry, index_reading};
-ghost use Rattle.table.specs.Reading.{data_reading, ends_of, index_in, contents_reading};
-ghost use Rattle.table.specs.Placed.{index_entry_of, index_of};
+ghost use Rattle.table.specs.Reading.{data_reading, index_in, contents_reading};
+ghost use Rattle.table.specs.Ends.{ends_of, ends_reading};
+ghost use Rattle.table.specs.Indexed.{index_entry_of, index_of};
 
-use crate::kept_key::KeptKey;
-use crate::placed::Placed;
+use crate::indexed_block::IndexedBlock;
 use crate::sound_table::{Bounds, SoundTable};
 use block::{BlockCursor, SoundBlock};
 use coding::{Fault, FaultName};
@@ -24,183 +24,10 @@ use std::alloc::Global;
 use std::cmp::Ordering;
 
 /// The most bytes of a table, 2^30.
-pub const MAX_TABLE: usize = 1_073_741_824;
+pub const MAX_TABLE_LEN: usize = 1 << 30;
 
 /// The most bytes of a value, 2^24 - 1.
-pub const MAX_VALUE: usize = 16_777_215;
-
-/// The law that bytes are read as a table exactly where they are one. A call does nothing.
-pub fn reads_tables<C: Comparator>()
-    ensures { ReadsTables C.cmp }
-{}
-
-/// The stored block that a handle points at, where it lies before the footer.
-pub(crate) fn stored_at(bytes: &[u8], handle: BlockHandle) -> Result<&[u8], Fault>
-    ensures reading { result_map_both (λ stored. stored.now) (λ e. e) result ≡ stored_at bytes.now handle }
-    ensures long { IfOk result (λ stored. 5 ≤ length stored.now) }
-{
-    let Some(room) = bytes.len().checked_sub(FOOTER_LEN + TRAILER_LEN) else {
-        return Err(Fault::of(FaultName::Range));
-    };
-    if handle.size > room as u64 || handle.offset > room as u64 - handle.size {
-        return Err(Fault::of(FaultName::Range));
-    }
-    let offset = handle.offset as usize;
-    let (_, behind) = bytes.split_at(offset);
-    let (stored, _) = behind.split_at(handle.size as usize + TRAILER_LEN);
-    Ok(stored)
-}
-
-/// The block that is stored in bytes.
-fn block_in(stored: &[u8]) -> Result<SoundBlock<'_>, Fault>
-    requires { 5 ≤ length stored.now }
-    ensures { Gives (λ block. block.entries) result (block_in stored.now) }
-{
-    block::check(contents(stored)?)
-}
-
-/// The index block, where the footer and the metaindex block pass their tests.
-fn index_in(bytes: &[u8]) -> Result<SoundBlock<'_>, Fault>
-    ensures { Gives (λ block. block.entries) result (index_in bytes.now) }
-{
-    if bytes.len() > MAX_TABLE {
-        return Err(Fault::of(FaultName::Size));
-    }
-    if bytes.len() < FOOTER_LEN {
-        return Err(Fault::of(FaultName::Short));
-    }
-    let (_, footer) = bytes.split_at(bytes.len() - FOOTER_LEN);
-    let footer = Footer::read(footer)?;
-    let metaindex = stored_at(bytes, footer.metaindex)?;
-    let index = stored_at(bytes, footer.index)?;
-    block_in(metaindex)?;
-    block_in(index)
-}
-
-/// An entry of the index.
-fn placed<'a>(alloc: Global, bytes: &'a [u8], key: &[u8], value: &[u8]) -> Result<Placed<'a>, Fault>
-    ensures { Gives index_entry_of result (index_entry bytes.now (record { key = key.now; value = value.now })) }
-{
-    let key = InternalKey::parse(key)?;
-    let Some(found) = BlockHandle::read(value) else {
-        return Err(Fault::of(FaultName::Handle));
-    };
-    if !found.rest.is_empty() {
-        return Err(Fault::of(FaultName::Handle));
-    }
-    let stored = stored_at(bytes, found.handle)?;
-    Ok(Placed {
-        key: KeyBuf::of(alloc, key)?,
-        stored,
-    })
-}
-
-/// The entries of the index.
-fn placed_all<'a>(
-    alloc: Global,
-    bytes: &'a [u8],
-    index: &SoundBlock<'_>,
-) -> Result<Vec<Placed<'a>>, Fault>
-    ensures { Gives (λ v. index_of v.items) result (index_reading bytes.now index.now.entries) }
-{
-    let mut all: Vec<Placed<'a>> = Vec::new(alloc);
-    let mut cursor = BlockCursor::new(alloc, index)?;
-    while cursor.valid() {
-        all.push(placed(alloc, bytes, cursor.key(), cursor.value())?)?;
-        cursor.advance()?;
-    }
-    Ok(all)
-}
-
-/// Tests an entry that stands after this key.
-fn test_entry<'k, C: Comparator>(
-    before: Option<InternalKey<'_>>,
-    key: &'k [u8],
-    value: &[u8],
-) -> Result<InternalKey<'k>, Fault>
-    ensures test { result_map_both (λ key. tt) (λ e. e) result ≡ entry_test C.cmp (option_map (λ key. key.bytes.now) before.entry) (record { key = key.now; value = value.now }) }
-    ensures key { IfOk result (λ found. found.bytes.now ≡ key.now) }
-{
-    let key = InternalKey::parse(key)?;
-    if value.len() > MAX_VALUE {
-        return Err(Fault::of(FaultName::TooLarge));
-    }
-    match before {
-        Some(before) if before.compare::<C>(&key) != Ordering::Less => Err(Fault::of(
-            FaultName::Order,
-        )),
-        _ => Ok(key),
-    }
-}
-
-/// The first and the last key of a data block that stands after this key, where its entries pass their tests.
-fn bounds_of<C: Comparator>(
-    alloc: Global,
-    block: &SoundBlock<'_>,
-    before: Option<InternalKey<'_>>,
-) -> Result<Bounds, Fault>
-    ensures { Gives (λ b. record { smallest = b.smallest; largest = b.largest }) result (ends_reading C.cmp (option_map (λ key. key.bytes.now) before.entry) block.now.entries) }
-{
-    let mut cursor = BlockCursor::new(alloc, block)?;
-    if !cursor.valid() {
-        return Err(Fault::of(FaultName::Empty));
-    }
-    let first = test_entry::<C>(before, cursor.key(), cursor.value())?;
-    let smallest = KeyBuf::of(alloc, first)?;
-    let mut largest = KeptKey::of(alloc, first)?;
-    cursor.advance()?;
-    while cursor.valid() {
-        let key = test_entry::<C>(Some(largest.as_key()), cursor.key(), cursor.value())?;
-        largest.set(key)?;
-        cursor.advance()?;
-    }
-    Ok(Bounds { smallest, largest })
-}
-
-/// Whether a block of these bounds is above the index key before it, and none of its keys above its own.
-fn is_between<C: Comparator>(below: Option<&KeyBuf>, bounds: &Bounds, key: &KeyBuf) -> bool
-    ensures { result ≡ (is_above C.cmp (option_map (λ key. key.now) below.entry) bounds.now.smallest && not (is_gt (internal_cmp C.cmp bounds.now.largest key.now))) }
-{
-    let above = match below {
-        Some(below) => below.as_key().compare::<C>(&bounds.smallest.as_key()) == Ordering::Less,
-        None => true,
-    };
-    above && bounds.largest.as_key().compare::<C>(&key.as_key()) != Ordering::Greater
-}
-
-/// The first and the last key of the data blocks that the index names, where these and the index keys among them pass
-/// their tests.
-fn bounds_of_all<C: Comparator>(alloc: Global, index: &[Placed<'_>]) -> Result<Bounds, Fault>
-    ensures { Gives (λ b. record { smallest = b.smallest; largest = b.largest }) result (result_map_both ends_of (λ e. e) (data_reading C.cmp (index_of index.now))) }
-{
-    let Some((first, others)) = index.split_first() else {
-        return Err(Fault::of(FaultName::Empty));
-    };
-    let mut bounds = bounds_of::<C>(alloc, &block_in(first.stored)?, None)?;
-    let mut fits = is_between::<C>(None, &bounds, &first.key);
-    let mut below = &first.key;
-    for entry in others {
-        let block = block_in(entry.stored)?;
-        let next = bounds_of::<C>(alloc, &block, Some(bounds.largest.as_key()))?;
-        fits = is_between::<C>(Some(below), &next, &entry.key) && fits;
-        below = &entry.key;
-        bounds.largest = next.largest;
-    }
-    if !fits {
-        return Err(Fault::of(FaultName::Index));
-    }
-    Ok(bounds)
-}
-
-/// The table that the bytes are, or the first test that they fail.
-fn read<C: Comparator>(alloc: Global, bytes: &[u8]) -> Result<SoundTable<'_, C>, Fault>
-    ensures { Gives (λ table. table) result (contents_reading C.cmp bytes.now) }
-{
-    let block = index_in(bytes)?;
-    let index = placed_all(alloc, bytes, &block)?;
-    let bounds = bounds_of_all::<C>(alloc, &index)?;
-    Ok(SoundTable::of(bytes, block, index, bounds))
-}
+pub const MAX_VALUE_LEN: usize = 16_777_215;
 
 /// Reads bytes as a table: one list of entries, whose internal keys rise strictly.
 ///
@@ -226,15 +53,199 @@ fn read<C: Comparator>(alloc: Global, bytes: &[u8]) -> Result<SoundTable<'_, C>,
 ///     16,777,215: `TooLarge`; and the key is above the one before it in the table: `Order`;
 /// 11. each key of the index is at or above its block's last key, and below the next block's first: `Index`.
 ///
-/// It reads each data block once, and keeps the index and two keys. What a footer or an index claims is held against the
-/// bytes that are there before memory is asked for.
+/// It reads each data block once, and keeps two keys; on the way it takes the memory of the keys of the index. What a
+/// footer or an index claims is held against the bytes that are there before memory is asked for.
 pub fn check<C: Comparator>(alloc: Global, bytes: &[u8]) -> Result<SoundTable<'_, C>, Fault>
     // The bytes are a table of what is read.
     ensures found { IfOk result (λ table. IsTable C.cmp bytes.now table.entries) }
     // A table is read, unless memory runs out.
-    ensures only { (entries : List Entry) → IsTable C.cmp bytes.now entries → Gives (λ table. table.entries) result (Ok entries) }
+    ensures only { (entries : List Entry) → IsTable C.cmp bytes.now entries
+        → EqualOrMemory (λ table. table.entries) result (Ok entries) }
     // Which refusal it is, and all that is read.
-    ensures exact { Gives (λ table. table) result (contents_reading C.cmp bytes.now) }
+    ensures exact { EqualOrMemory (λ table. table) result (contents_reading C.cmp bytes.now) }
 {
     read(alloc, bytes)
+}
+
+/// The law that bytes are read as a table exactly where they are one. A call does nothing.
+pub fn reads_tables<C: Comparator>()
+    ensures { ReadsTables C.cmp }
+{}
+
+/// The table that the bytes are, or the first test that they fail.
+fn read<C: Comparator>(alloc: Global, bytes: &[u8]) -> Result<SoundTable<'_, C>, Fault>
+    ensures { EqualOrMemory (λ table. table) result (contents_reading C.cmp bytes.now) }
+{
+    let block = index_in(bytes)?;
+    let index = indexed_blocks(alloc, bytes, &block)?;
+    let bounds = bounds_of_all::<C>(alloc, &index)?;
+    Ok(SoundTable::of(bytes, block, bounds))
+}
+
+/// The stored block that a handle points at, where it lies before the footer.
+pub(crate) fn stored_at(bytes: &[u8], handle: BlockHandle) -> Result<&[u8], Fault>
+    ensures reading { result_map_both (λ stored. stored.now) (λ e. e) result ≡ stored_at bytes.now handle }
+    ensures long { IfOk result (λ stored. 5 ≤ length stored.now) }
+{
+    let Some(room) = bytes.len().checked_sub(FOOTER_LEN + TRAILER_LEN) else {
+        return Err(Fault::of(FaultName::Range));
+    };
+    if handle.size > room as u64 || handle.offset > room as u64 - handle.size {
+        return Err(Fault::of(FaultName::Range));
+    }
+    let offset = handle.offset as usize;
+    let (_, behind) = bytes.split_at(offset);
+    let (stored, _) = behind.split_at(handle.size as usize + TRAILER_LEN);
+    Ok(stored)
+}
+
+/// The block that is stored in bytes.
+fn block_in(stored: &[u8]) -> Result<SoundBlock<'_>, Fault>
+    requires { 5 ≤ length stored.now }
+    ensures { EqualOrMemory (λ block. block.entries) result (block_in stored.now) }
+{
+    block::check(contents(stored)?)
+}
+
+/// The index block, where the footer and the metaindex block pass their tests.
+fn index_in(bytes: &[u8]) -> Result<SoundBlock<'_>, Fault>
+    ensures { EqualOrMemory (λ block. block.entries) result (index_in bytes.now) }
+{
+    if bytes.len() > MAX_TABLE_LEN {
+        return Err(Fault::of(FaultName::Size));
+    }
+    if bytes.len() < FOOTER_LEN {
+        return Err(Fault::of(FaultName::Short));
+    }
+    let (_, footer) = bytes.split_at(bytes.len() - FOOTER_LEN);
+    let footer = Footer::read(footer)?;
+    let metaindex = stored_at(bytes, footer.metaindex)?;
+    let index = stored_at(bytes, footer.index)?;
+    block_in(metaindex)?;
+    block_in(index)
+}
+
+/// An entry of the index.
+fn indexed_block<'a>(
+    alloc: Global,
+    bytes: &'a [u8],
+    key: &[u8],
+    value: &[u8],
+) -> Result<IndexedBlock<'a>, Fault>
+    ensures { EqualOrMemory index_entry_of result (index_entry bytes.now (record { key = key.now; value = value.now })) }
+{
+    let key = InternalKey::parse(key)?;
+    let Some(found) = BlockHandle::read(value) else {
+        return Err(Fault::of(FaultName::Handle));
+    };
+    if !found.rest.is_empty() {
+        return Err(Fault::of(FaultName::Handle));
+    }
+    let stored = stored_at(bytes, found.handle)?;
+    Ok(IndexedBlock {
+        key: KeyBuf::of(alloc, key)?,
+        stored,
+    })
+}
+
+/// The entries of the index.
+fn indexed_blocks<'a>(
+    alloc: Global,
+    bytes: &'a [u8],
+    index: &SoundBlock<'_>,
+) -> Result<Vec<IndexedBlock<'a>>, Fault>
+    ensures { EqualOrMemory (λ v. index_of v.items) result (index_reading bytes.now index.now.entries) }
+{
+    let mut all: Vec<IndexedBlock<'a>> = Vec::new(alloc);
+    let mut cursor = BlockCursor::new(alloc, index)?;
+    while cursor.valid() {
+        all.push(indexed_block(alloc, bytes, cursor.key(), cursor.value())?)?;
+        cursor.advance()?;
+    }
+    Ok(all)
+}
+
+/// Tests an entry that stands after this key.
+fn test_entry<'k, C: Comparator>(
+    before: Option<InternalKey<'_>>,
+    key: &'k [u8],
+    value: &[u8],
+) -> Result<InternalKey<'k>, Fault>
+    ensures test { result_map_both (λ key. tt) (λ e. e) result
+        ≡ entry_test C.cmp (option_map (λ key. key.bytes.now) before.entry) (record { key = key.now; value = value.now }) }
+    ensures key { IfOk result (λ found. found.bytes.now ≡ key.now) }
+{
+    let key = InternalKey::parse(key)?;
+    if value.len() > MAX_VALUE_LEN {
+        return Err(Fault::of(FaultName::TooLarge));
+    }
+    match before {
+        Some(before) if before.compare::<C>(&key) != Ordering::Less => Err(Fault::of(
+            FaultName::Order,
+        )),
+        _ => Ok(key),
+    }
+}
+
+/// The first and the last key of a data block that stands after this key, where its entries pass their tests.
+fn bounds_of<C: Comparator>(
+    alloc: Global,
+    block: &SoundBlock<'_>,
+    before: Option<InternalKey<'_>>,
+) -> Result<Bounds, Fault>
+    ensures { EqualOrMemory (λ b. record { smallest = b.smallest; largest = b.largest }) result
+        (ends_reading C.cmp (option_map (λ key. key.bytes.now) before.entry) block.now.entries) }
+{
+    let mut cursor = BlockCursor::new(alloc, block)?;
+    if !cursor.valid() {
+        return Err(Fault::of(FaultName::Empty));
+    }
+    let first = test_entry::<C>(before, cursor.key(), cursor.value())?;
+    let smallest = KeyBuf::of(alloc, first)?;
+    let mut largest = KeyBuf::of(alloc, first)?;
+    cursor.advance()?;
+    while cursor.valid() {
+        let key = test_entry::<C>(Some(largest.as_key()), cursor.key(), cursor.value())?;
+        largest.set(key)?;
+        cursor.advance()?;
+    }
+    Ok(Bounds { smallest, largest })
+}
+
+/// Whether a block of these bounds is above the index key before it, and none of its keys above its own.
+fn is_between<C: Comparator>(below: Option<&KeyBuf>, bounds: &Bounds, key: &KeyBuf) -> bool
+    ensures { result
+        ≡ (is_above C.cmp (option_map (λ key. key.now) below.entry) bounds.now.smallest
+        && not (is_gt (internal_cmp C.cmp bounds.now.largest key.now))) }
+{
+    let above = match below {
+        Some(below) => below.as_key().compare::<C>(&bounds.smallest.as_key()) == Ordering::Less,
+        None => true,
+    };
+    above && bounds.largest.as_key().compare::<C>(&key.as_key()) != Ordering::Greater
+}
+
+/// The first and the last key of the data blocks that the index names, where these and the index keys among them pass
+/// their tests.
+fn bounds_of_all<C: Comparator>(alloc: Global, index: &[IndexedBlock<'_>]) -> Result<Bounds, Fault>
+    ensures { EqualOrMemory (λ b. record { smallest = b.smallest; largest = b.largest }) result
+        (result_map_both ends_of (λ e. e) (data_reading C.cmp (index_of index.now))) }
+{
+    let Some((first, others)) = index.split_first() else {
+        return Err(Fault::of(FaultName::Empty));
+    };
+    let mut bounds = bounds_of::<C>(alloc, &block_in(first.stored)?, None)?;
+    let mut fits = is_between::<C>(None, &bounds, &first.key);
+    let mut below = &first.key;
+    for entry in others {
+        let block = block_in(entry.stored)?;
+        let next = bounds_of::<C>(alloc, &block, Some(bounds.largest.as_key()))?;
+        fits = is_between::<C>(Some(below), &next, &entry.key) && fits;
+        below = &entry.key;
+        bounds.largest = next.largest;
+    }
+    if !fits {
+        return Err(Fault::of(FaultName::Index));
+    }
+    Ok(bounds)
 }

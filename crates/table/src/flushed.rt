@@ -1,22 +1,20 @@
 //! The data blocks of a table that were flushed.
 
 ghost use Rattle.std.specs.Prelude.{◌≡◌, ◌≤◌, ◌<◌, ◌^◌, ◌++◌, ◌∷◌, [], length, IfOk, IfErr, OnOk, OnErr, IsOkUnless, Ok};
-ghost use Rattle.coding.specs.Answers.{Gives, UnlessMemory, fault};
+ghost use Rattle.coding.specs.Answers.{EqualOrMemory, UnlessMemory, fault};
 ghost use Rattle.coding.specs.declared.fault.FaultName.TheVariants.{Memory, TooLarge};
 ghost use Rattle.block.specs.Writing.{block};
 ghost use Rattle.frame.specs.Trailer.{stored};
 ghost use Rattle.table.specs.Flushed.{entry_at, index_entries};
 ghost use Rattle.table.specs.Table.{closing, within_limit};
 
-use crate::index_entry::IndexEntry;
+use crate::checking::MAX_TABLE_LEN;
+use crate::flushed_block::FlushedBlock;
 use block::BlockBuilder;
 use coding::{Fault, FaultName};
 use frame::{BlockHandle, FOOTER_LEN, Footer, TRAILER_LEN, Trailer};
 use ikey::KeyBuf;
 use std::alloc::Global;
-
-/// The most bytes of a table.
-const MAX_TABLE_LEN: usize = 1 << 30;
 
 /// The most bytes that are asked for before they are written, 64 MiB.
 const MAX_ROOM: u64 = 1 << 26;
@@ -28,17 +26,21 @@ const EMPTY_BLOCK_LEN: usize = 8;
 #[derive(Drop)]
 pub(crate) struct Flushed {
     pub bytes: Vec<u8>,
-    pub index: Vec<IndexEntry>,
+    pub index: Vec<FlushedBlock>,
 }
 
 impl Flushed {
     /// Appends a block with its trailer, which has this key in the index. With the first, room is asked for where a file is to
     /// have this size.
     ///
-    /// Refused only for want of memory, and then nothing is appended.
+    /// Refused for want of memory alone. A refusal leaves it as it was.
     pub fn push(&mut self, key: KeyBuf, builder: &BlockBuilder, file_size: u64) -> Result<(), Fault>
-        ensures bytes { OnOk result (self.new.bytes.items ≡ self.old.bytes.items ++ stored (block builder.now.interval builder.now.entries)) }
-        ensures index { OnOk result (self.new.index.items ≡ self.old.index.items ++ entry_at key (length self.old.bytes.items) (length (block builder.now.interval builder.now.entries)) ∷ []) }
+        ensures bytes { OnOk result
+            (self.new.bytes.items ≡ self.old.bytes.items ++ stored (block builder.now.interval builder.now.entries)) }
+        ensures index { OnOk result
+            (self.new.index.items
+            ≡ self.old.index.items
+            ++ entry_at key (length self.old.bytes.items) (length (block builder.now.interval builder.now.entries)) ∷ []) }
         ensures bytes_stay { OnErr result (self.new.bytes.items ≡ self.old.bytes.items) }
         ensures index_stays { OnErr result (self.new.index.items ≡ self.old.index.items) }
         ensures memory { IsOkUnless result (fault Memory) }
@@ -47,10 +49,10 @@ impl Flushed {
         if self.bytes.is_empty() {
             // A sixteenth is for the index. Where so much is refused, the file grows block by block.
             let size = file_size.min(MAX_ROOM);
-            let _asked = self.bytes.reserve((size + size / 16) as usize);
+            let _room = self.bytes.reserve((size + size / 16) as usize);
         }
         let handle = push_block(&mut self.bytes, builder)?;
-        self.index.push(IndexEntry { key, handle })?;
+        self.index.push(FlushedBlock { key, handle })?;
         Ok(())
     }
 
@@ -58,7 +60,8 @@ impl Flushed {
     ///
     /// TooLarge where it would have more than 2^30 bytes.
     pub fn finish(self, alloc: Global) -> Result<Vec<u8>, Fault>
-        ensures { Gives (λ v. v.items) result (within_limit (self.bytes.items ++ closing (length self.bytes.items) (index_entries self.index.items))) }
+        ensures { EqualOrMemory (λ v. v.items) result
+            (within_limit (self.bytes.items ++ closing (length self.bytes.items) (index_entries self.index.items))) }
     {
         let Flushed { mut bytes, index } = self;
         let index = index_block(alloc, &index)?;
@@ -73,10 +76,13 @@ impl Flushed {
 
 /// Appends a block and its trailer, and answers where the block stands.
 ///
-/// Refused only for want of memory, and then nothing is appended.
+/// Refused for want of memory alone. A refusal leaves it as it was.
 fn push_block(out: &mut Vec<u8>, builder: &BlockBuilder) -> Result<BlockHandle, Fault>
     ensures ok { OnOk result (out.new.items ≡ out.old.items ++ stored (block builder.now.interval builder.now.entries)) }
-    ensures handle { IfOk result (λ h. h ≡ record { offset = length out.old.items; size = length (block builder.now.interval builder.now.entries) }) }
+    ensures handle { IfOk result (λ h. h ≡ record {
+      offset = length out.old.items;
+      size = length (block builder.now.interval builder.now.entries);
+    }) }
     ensures err { OnErr result (out.new.items ≡ out.old.items) }
     ensures memory { IfErr result (λ e. e ≡ fault Memory) }
 {
@@ -95,9 +101,10 @@ fn push_block(out: &mut Vec<u8>, builder: &BlockBuilder) -> Result<BlockHandle, 
 }
 
 /// The index block, unless it has more bytes than a table may have.
-fn index_block(alloc: Global, index: &[IndexEntry]) -> Result<BlockBuilder, Fault>
+fn index_block(alloc: Global, index: &[FlushedBlock]) -> Result<BlockBuilder, Fault>
     ensures ok { IfOk result (λ b. b ≡ record { interval = 1; entries = index_entries index.now }) }
-    ensures err { IfErr result (λ e. UnlessMemory e.name ((e ≡ fault TooLarge) × (2 ^ 30 < length (block 1 (index_entries index.now))))) }
+    ensures err { IfErr result
+        (λ e. UnlessMemory e ((e ≡ fault TooLarge) × (2 ^ 30 < length (block 1 (index_entries index.now))))) }
 {
     let mut entries = BlockBuilder::new(alloc, 1);
     let mut handle = Vec::new(alloc);

@@ -4,8 +4,8 @@ ghost use Rattle.std.specs.Prelude.{◌≡◌, Ok, IsOk};
 ghost use Rattle.table.specs.Walking.{block_named};
 
 use crate::checking::stored_at;
-use block::{SoundBlock, known};
-use frame::{BlockHandle, known_contents};
+use block::{SoundBlock, reopen};
+use frame::{BlockHandle, reopen_contents};
 
 /// The data block whose handle this value of the index is, in a table that was checked. Nothing is tested again, and no
 /// memory is taken.
@@ -19,5 +19,5 @@ pub(crate) fn block_named<'a>(bytes: &'a [u8], value: &[u8]) -> SoundBlock<'a>
     let Ok(stored) = stored_at(bytes, found.handle) else {
         unreachable!();
     };
-    known(known_contents(stored))
+    reopen(reopen_contents(stored))
 }

@@ -2,6 +2,8 @@
 
 ghost use Rattle.std.specs.Prelude.{◌≡◌, ◌↔◌, IsTrue};
 
+use crate::checking::MAX_TABLE_LEN;
+
 /// What a writer of tables is given to keep to. Each number has its limits.
 #[derive(Clone, Copy, Debug, PartialEq, Eq)]
 pub struct Options {
@@ -22,7 +24,7 @@ impl Options {
     {
         (1..=4_194_304).contains(&self.block_size)
             && (1..=1_024).contains(&self.restart_interval)
-            && (1..=1 << 30).contains(&self.file_size)
+            && (1..=MAX_TABLE_LEN as u64).contains(&self.file_size)
     }
 }
 

@@ -1,6 +1,6 @@
 use super::*;
 use coding::{Fault, FaultName, crc32c, mask};
-use frame::{BlockHandle, Footer, push_stored};
+use frame::{BlockHandle, Footer, Trailer};
 use ikey::{Bytewise, InternalKey};
 use std::alloc::Global;
 use std::process::Abort;
@@ -172,7 +172,8 @@ fn store(out: &mut Vec<u8>, block: &mut Vec<u8>) -> Result<BlockHandle, Fail> {
         offset: out.len() as u64,
         size: block.len() as u64,
     };
-    push_stored(out, block)?;
+    out.extend_from_slice(block)?;
+    Trailer::of(block).push(out)?;
     Ok(handle)
 }
 

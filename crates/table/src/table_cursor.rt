@@ -2,9 +2,10 @@
 
 ghost use Rattle.std.specs.Prelude.{◌≡◌, ◌<◌, ◌↔◌, List, true, length, drop, slice_get, IsTrue, IfOk, IfErr, OnOk, OnErr, IsOkUnless, Some, Ok};
 ghost use Rattle.std.specs.Option.{option_map};
-ghost use Rattle.coding.specs.Answers.{Gives, fault};
+ghost use Rattle.coding.specs.Answers.{EqualOrMemory, fault};
 ghost use Rattle.coding.specs.declared.fault.FaultName.TheVariants.{Memory};
-ghost use Rattle.table.specs.ReadingCursors.{IsRising, NeverFalls, first_is_below, entries_from, LeavesFrom};
+ghost use Rattle.table.specs.ReadingCursors.{IsRising, NeverFalls, entries_from, LeavesFrom};
+ghost use Rattle.table.specs.Seeking.{first_is_below};
 
 use crate::cursor::{Cursor, Entries};
 use crate::naming::block_named;
@@ -47,9 +48,9 @@ impl<'a, C: Comparator> Model for TableCursor<'a, C> {
 impl<'a, C: Comparator> TableCursor<'a, C> {
     /// All entries of a table.
     ///
-    /// Refused only for want of memory: it takes that of two keys.
+    /// Refused for want of memory alone. It takes that of two keys.
     pub fn new(alloc: Global, table: &SoundTable<'a, C>) -> Result<TableCursor<'a, C>, Fault>
-        ensures { Gives (λ cursor. cursor) result (Ok table.now.entries) }
+        ensures { EqualOrMemory (λ cursor. cursor) result (Ok table.now.entries) }
     {
         let bytes = table.bytes();
         let index_block = table.index_block();
@@ -69,7 +70,7 @@ impl<'a, C: Comparator> TableCursor<'a, C> {
     /// The first entry at or above an internal key that the entry here is below, and those behind it.
     ///
     /// The first data block that may have it is the one whose index key is the first that isn't below the internal key. It
-    /// is in the next where all of that block's entries are below. Refused only for want of memory.
+    /// is in the next where all of that block's entries are below. Refused for want of memory alone.
     fn sought(&self, target: InternalKey<'_>) -> Result<TableCursor<'a, C>, Fault>
         requires { first_is_below C.cmp target.bytes.now self.now ≡ true }
         ensures from { IfOk result (λ cursor. cursor ≡ entries_from C.cmp target.entry.bytes.now self.now) }
@@ -94,7 +95,7 @@ impl<'a, C: Comparator> TableCursor<'a, C> {
 }
 
 impl<'a, C: Comparator> Entries for TableCursor<'a, C> {
-    ghost to_come = { λ c. c };
+    ghost remaining = { λ c. c };
 }
 
 impl<'a, C: Comparator> Cursor<'a, C> for TableCursor<'a, C> {
@@ -115,7 +116,9 @@ impl<'a, C: Comparator> Cursor<'a, C> for TableCursor<'a, C> {
         self.block.value()
     }
 
-    /// Takes the first entry off. Refused for want of memory alone, and then nothing is taken off.
+    /// Takes the first entry off.
+    ///
+    /// Refused for want of memory alone. A refusal leaves it as it was.
     fn advance(&mut self) -> Result<(), Fault> {
         if !self.block.is_last() || !self.index.valid() {
             return self.block.advance();
@@ -129,9 +132,10 @@ impl<'a, C: Comparator> Cursor<'a, C> for TableCursor<'a, C> {
     /// Takes off the entries below an internal key. It never goes back.
     ///
     /// It picks the data block by the index keys, and in it the last restart whose key is below the internal key, and reads
-    /// on from there. Refused for want of memory alone, and then nothing is taken off. It takes no memory where the first
-    /// entry isn't below the internal key, and else that of a key of the index, and of one for each data block that it
-    /// looks into.
+    /// on from there. It takes no memory where the first entry isn't below the internal key, and else that of a key of the
+    /// index, and of one for each data block that it looks into.
+    ///
+    /// Refused for want of memory alone. A refusal leaves it as it was.
     fn seek(&mut self, target: InternalKey<'_>) -> Result<(), Fault>
         ensures ok { OnOk result (self.new ≡ entries_from C.cmp target.entry.bytes.now self.old) }
         ensures unchanged { OnErr result (self.new ≡ self.old) }

@@ -4,9 +4,9 @@ ghost use Rattle.std.specs.Prelude.{◌≡◌, ◌<◌, length, drop, slice_get,
 ghost use Rattle.std.specs.Option.{option_map};
 ghost use Rattle.coding.specs.Answers.{fault};
 ghost use Rattle.coding.specs.declared.fault.FaultName.TheVariants.{Memory};
-ghost use Rattle.table.specs.ReadingCursors.{IsRising, first_is_below, entries_from};
-ghost use Rattle.table.specs.Checked.{HaveKeys};
-ghost use Rattle.table.specs.Seeking.{restart_is_below, IsLastBelow};
+ghost use Rattle.table.specs.ReadingCursors.{IsRising, entries_from};
+ghost use Rattle.table.specs.Seeking.{first_is_below, restart_is_below, IsLastBelow};
+ghost use Rattle.table.specs.ReadingEntries.{HaveKeys};
 
 use block::{BlockCursor, SoundBlock};
 use coding::Fault;
@@ -49,6 +49,24 @@ pub(crate) fn walk_to<C: Comparator>(
     Ok(())
 }
 
+/// The entries of a block from the first on that isn't below an internal key.
+///
+/// It reads on from the last restart whose key is below. Refused for want of memory alone. It takes the bytes of one key.
+pub(crate) fn entries_from<'a, C: Comparator>(
+    alloc: Global,
+    block: &SoundBlock<'a>,
+    target: InternalKey<'_>,
+) -> Result<BlockCursor<'a>, Fault>
+    requires keys { HaveKeys block.now.entries }
+    requires rising { IsRising C.cmp block.now.entries }
+    ensures from { IfOk result (λ cursor. cursor ≡ entries_from C.cmp target.entry.bytes.now block.now.entries) }
+    ensures memory { IfErr result (λ e. e ≡ fault Memory) }
+{
+    let mut cursor = BlockCursor::at(alloc, block, last_below::<C>(block, target))?;
+    walk_to::<C>(&mut cursor, target)?;
+    Ok(cursor)
+}
+
 /// Whether the entry at a restart, where there is one, is below an internal key.
 fn restart_is_below<C: Comparator>(
     block: &SoundBlock<'_>,
@@ -74,7 +92,8 @@ fn last_below<C: Comparator>(block: &SoundBlock<'_>, target: InternalKey<'_>) ->
     requires keys { HaveKeys block.now.entries }
     requires rising { IsRising C.cmp block.now.entries }
     ensures last { IsLastBelow C.cmp target.entry.bytes.now block.now result }
-    ensures from { entries_from C.cmp target.entry.bytes.now (drop (slice_index block.now.restarts result) block.now.entries) ≡ entries_from C.cmp target.entry.bytes.now block.now.entries }
+    ensures from { entries_from C.cmp target.entry.bytes.now (drop (slice_index block.now.restarts result) block.now.entries)
+        ≡ entries_from C.cmp target.entry.bytes.now block.now.entries }
 {
     let mut restart = 0;
     let mut end = block.restarts();
@@ -87,22 +106,4 @@ fn last_below<C: Comparator>(block: &SoundBlock<'_>, target: InternalKey<'_>) ->
         }
     }
     restart
-}
-
-/// The entries of a block from the first on that isn't below an internal key.
-///
-/// It reads on from the last restart whose key is below. Refused for want of memory alone: it takes the bytes of one key.
-pub(crate) fn entries_from<'a, C: Comparator>(
-    alloc: Global,
-    block: &SoundBlock<'a>,
-    target: InternalKey<'_>,
-) -> Result<BlockCursor<'a>, Fault>
-    requires keys { HaveKeys block.now.entries }
-    requires rising { IsRising C.cmp block.now.entries }
-    ensures from { IfOk result (λ cursor. cursor ≡ entries_from C.cmp target.entry.bytes.now block.now.entries) }
-    ensures memory { IfErr result (λ e. e ≡ fault Memory) }
-{
-    let mut cursor = BlockCursor::at(alloc, block, last_below::<C>(block, target))?;
-    walk_to::<C>(&mut cursor, target)?;
-    Ok(cursor)
 }

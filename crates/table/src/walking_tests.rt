@@ -1,6 +1,6 @@
 use super::*;
 use coding::{Fault, FaultName};
-use frame::{BlockHandle, Footer, push_stored};
+use frame::{BlockHandle, Footer, Trailer};
 use ikey::{Bytewise, InternalKey, KeyBuf, Kind};
 use std::alloc::Global;
 use std::process::Abort;
@@ -98,7 +98,8 @@ fn store(out: &mut Vec<u8>, block: &mut Vec<u8>, restarts: &[u32]) -> Result<Blo
         offset: out.len() as u64,
         size: block.len() as u64,
     };
-    push_stored(out, block)?;
+    out.extend_from_slice(block)?;
+    Trailer::of(block).push(out)?;
     Ok(handle)
 }
 
@@ -177,7 +178,7 @@ fn is_refused(rt: &impl Abort, answer: Result<(), Fault>) -> bool {
     }
 }
 
-/// Takes the first entry off, which is `from`, and makes way for `to`. Where a growth is refused, nothing is taken off.
+/// Takes the first entry off, which is `from`, and makes way for `to`. A refusal leaves it as it was.
 fn steps(
     rt: &impl Abort,
     cursor: &mut TableCursor<'_, Bytewise>,
@@ -195,7 +196,7 @@ fn steps(
     Ok(())
 }
 
-/// Seeks a user key at sequence 1. Where a growth is refused, nothing is taken off.
+/// Seeks a user key at sequence 1. A refusal leaves it as it was.
 fn seeks(
     rt: &impl Abort,
     cursor: &mut TableCursor<'_, Bytewise>,

@@ -5,7 +5,7 @@ use Rattle.std.specs.Global.{Vec}
 use Rattle.std.specs.declared.cmp.Ordering.{Ordering}
 use Rattle.coding.specs.Answers.{◌>>=◌}
 use Rattle.coding.specs.declared.fault.Fault.{Fault}
-use Rattle.pick.specs.Tables.{Numbered}
+use Rattle.reads.specs.Tables.{Numbered}
 use Rattle.table.specs.Reading.{Contents, contents_reading}
 use Rattle.tool.specs.Checked.{tables_reading}
 

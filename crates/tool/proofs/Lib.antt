@@ -9,4 +9,4 @@ mod ShowingLemmas
 mod CheckedTables
 mod TableSizes
 mod TableRefusals
-mod VerifyingLemmas
+mod FolderLineLemmas

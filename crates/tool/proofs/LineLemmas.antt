@@ -1,13 +1,12 @@
 -- Facts on the texts of a command line.
-use Rattle.std.proofs.Common.{◌≡◌, ℕ, Bool, true, false, List, [], Option, Some, None, Result, Ok, Err, option_map, if◌then◌else◌, unwrap_or, inl, inr, refl, subst, sym, ap, ap₂, ◌∙◌}
-use Rattle.std.specs.Prelude.{IsErr, IsErrAnd, MatchOption, MatchResult, Box}
-use Rattle.std.specs.Str.Parse.{ParsesUnsigned}
+use Rattle.std.proofs.Common.{◌≡◌, ℕ, Bool, true, false, List, [], Option, Some, None, Result, Ok, Err, option_map, if◌then◌else◌, unwrap_or, codes, inl, inr, refl, subst, sym, ap, ap₂, ◌∙◌}
+use Rattle.std.specs.Prelude.{IsErr, IsErrAnd, MatchOption, Box}
 use Rattle.std.specs.Borrow.{Bor}
 use Rattle.std.specs.Str.{bytes_eq}
 use Rattle.clap.specs.declared.builder.command.Command.{Command}
 use Rattle.clap.specs.declared.builder.command.Command.TheViews.{out-Command}
 use Rattle.clap.specs.Words.{AddsSubcommand, App, app_of, IsAmong, Row, Text, fault_of, first_of, is_simple, is_simple_and_free, kind_of, subcommand_of, subcommand_rows, subcommand_rows_of, with_subcommand}
-use Rattle.clap.specs.Matches.{TriesOne, subcommand_name_of}
+use Rattle.clap.specs.Matches.{subcommand_name_of}
 use Rattle.clap.specs.Kinds.{HasKind}
 use Rattle.clap.specs.declared.error.Error.{Error}
 use Rattle.clap.specs.declared.parser.matches.ArgMatches.{ArgMatches}
@@ -16,15 +15,14 @@ use Rattle.clap.specs.declared.parser.matches.SubCommand.{SubCommand}
 use Rattle.clap.proofs.OnLiterals.{clap_on_literals}
 use Rattle.std.proofs.lemmas.Slice.Eq.{bytes_eq-Decides}
 use Rattle.std.specs.Box.{box_value}
-use Rattle.tool.specs.Line.{BlocksLine, GetLine, GivesBlocks, GivesGet, LineGives, GivesCommand, GivesTexts, Has, HasGet, HasGetTexts, HasPath, HasTexts, IsNoNumber, IsNumberOf, Lacks, LacksAll, LacksGet, LacksGetText, LacksPath, LacksText, TextsGiven, program_app, rows_under}
-use Rattle.tool.specs.declared.command_line.BlocksTexts.{BlocksTexts}
-use Rattle.tool.specs.declared.command_line.GetTexts.{GetTexts}
+use Rattle.tool.specs.Line.{GivesRows, HasBlocks, HasGet, HasRows, LacksAll, LacksRows, LineGives, program_app, rows_under}
+use Rattle.tool.specs.LineParts.{BlocksLine, GetLine, GivesCommand, GivesTexts, TextsGiven}
 use Rattle.tool.specs.declared.command_line.Given.{Given}
-use Rattle.tool.specs.declared.asked.Line.{Line}
-use Rattle.tool.specs.declared.asked.Line.TheVariants as line
+use Rattle.tool.specs.declared.requests.Line.{Line}
+use Rattle.tool.specs.declared.requests.Line.TheVariants as line
 use Rattle.tool.specs.Usage.{TurnsInto}
-use Rattle.tool.specs.declared.asked.Usage.{Usage}
-use Rattle.tool.specs.declared.asked.Usage.TheVariants.{Key, Memory, Clap}
+use Rattle.tool.specs.declared.requests.Usage.{Usage}
+use Rattle.tool.specs.declared.requests.Usage.TheVariants.{Key, Memory, Clap}
 
 -- what an optional text is, by what it points to
 pub MatchOption-now : (o : Option (Bor Text)) (first : Option Text) → option_map (λ s. s.now) o ≡ first
@@ -77,18 +75,11 @@ rows_under-other name (Some p) other =
     if-false true h = absurd (h refl)
     if-false false h = refl
 
--- what the texts of the rows are to a parse that gave them
-pub MatchOption-texts : (given : Option (List Row)) (rows : List Row) (r : Option BlocksTexts) → given ≡ Some rows
-    → MatchOption r (Lacks rows) (λ texts. Has rows texts.a.now texts.b.now texts.at.now texts.out.now)
-    → MatchOption r (LacksText given) (λ texts. HasTexts given texts.a.now texts.b.now texts.at.now texts.out.now)
-MatchOption-texts given rows None e h = inr (rows, (e, h))
-MatchOption-texts given rows (Some texts) e h = (rows, (e, h))
-
-pub MatchOption-path : (id : Text) (given : Option (List Row)) (rows : List Row) (r : Option (Bor Text)) → given ≡ Some rows
-    → MatchOption r (first_of id rows ≡ None) (λ text. first_of id rows ≡ Some text.now)
-    → MatchOption r (LacksPath id given) (λ text. HasPath id given text.now)
-MatchOption-path id given rows None e h = inr (rows, (e, h))
-MatchOption-path id given rows (Some text) e h = (rows, (e, h))
+-- what the rows of a command have, to a parse that gave them
+pub MatchOption-rows : {T : Type 0} (given : Option (List Row)) (rows : List Row) (r : Option T) (Lacks : List Row → Type 0) (Has : T → List Row → Type 0) → given ≡ Some rows
+    → MatchOption r (Lacks rows) (λ texts. Has texts rows) → MatchOption r (LacksRows Lacks given) (λ texts. HasRows (Has texts) given)
+MatchOption-rows given rows None Lacks Has e h = inr (rows, (e, h))
+MatchOption-rows given rows (Some texts) Lacks Has e h = (rows, (e, h))
 
 -- the usage that `clap`'s error turns into
 TurnsInto-refused : (words : List Text) (e : Error) (u : Usage) → HasKind (fault_of program_app words) e
@@ -135,12 +126,13 @@ TextsGiven-lacking app words s e (Clap d) same walked lacks h =
     inr (subst LacksAll (given_rows app words s same (walked (ap is_simple same ∙ is_simple-program)).1) lacks)
 
 -- the line of the texts of `blocks`
-pub LineGives-blocks : (words : List Text) (a b at out : Text) (r : Result Line Usage) → GivesBlocks words a b at out → BlocksLine a b at out r → LineGives words r
+pub LineGives-blocks : (words : List Text) (a b at out : Text) (r : Result Line Usage) → GivesRows words (codes "blocks") (HasBlocks a b at out) → BlocksLine a b at out r → LineGives words r
 LineGives-blocks words a b at out (Ok (line.Blocks a' b' key out')) given h = (
   at,
   (
-    subst (λ (x : Text). GivesBlocks words x b'.now at out'.now) (sym h.0)
-        (subst (λ (x : Text). GivesBlocks words a x at out'.now) (sym h.1.0) (subst (GivesBlocks words a b at) (sym h.1.1.1) given)),
+    subst (λ (x : Text). GivesRows words (codes "blocks") (HasBlocks x b'.now at out'.now)) (sym h.0)
+        (subst (λ (x : Text). GivesRows words (codes "blocks") (HasBlocks a x at out'.now)) (sym h.1.0)
+        (subst (λ (x : Text). GivesRows words (codes "blocks") (HasBlocks a b at x)) (sym h.1.1.1) given)),
     h.1.1.0,
   ),
 )
@@ -153,11 +145,12 @@ LineGives-blocks words a b at out (Err Memory) given h = tt
 LineGives-blocks words a b at out (Err (Clap e)) given h = absurd h
 
 -- the line of the texts of `get`
-pub LineGives-get : (words : List Text) (folder key : Text) (at : Option ℕ) (r : Result Line Usage) → GivesGet words folder key at → GetLine folder key at r → LineGives words r
+pub LineGives-get : (words : List Text) (folder key : Text) (at : Option ℕ) (r : Result Line Usage) → GivesRows words (codes "get") (HasGet folder key at) → GetLine folder key at r → LineGives words r
 LineGives-get words folder key at (Ok (line.Get folder' key' at')) given h = (
   key,
   (
-    subst (λ (x : Text). GivesGet words x key at') (sym h.0) (subst (GivesGet words folder key) (sym h.1.1) given),
+    subst (λ (x : Text). GivesRows words (codes "get") (HasGet x key at')) (sym h.0)
+        (subst (λ (n : Option ℕ). GivesRows words (codes "get") (HasGet folder key n)) (sym h.1.1) given),
     h.1.0,
   ),
 )
@@ -168,22 +161,6 @@ LineGives-get words folder key at (Ok (line.Verify f)) given h = absurd h
 LineGives-get words folder key at (Err Key) given h = (key, (inr (folder, at, given), h))
 LineGives-get words folder key at (Err Memory) given h = tt
 LineGives-get words folder key at (Err (Clap e)) given h = absurd h
-
--- what `get` is given, to a parse that gave the rows
-pub MatchOption-get : (given : Option (List Row)) (rows : List Row) (r : Option GetTexts) → given ≡ Some rows
-    → MatchOption r (LacksGet rows) (λ texts. HasGet rows texts.folder.now texts.key.now texts.at)
-    → MatchOption r (LacksGetText given) (λ texts. HasGetTexts given texts.folder.now texts.key.now texts.at)
-MatchOption-get given rows None e h = inr (rows, (e, h))
-MatchOption-get given rows (Some texts) e h = (rows, (e, h))
-
--- the number that a typed getter reads
-pub MatchResult-number : {E : Type 0} (gives : Text → Result ℕ E → Type 0) (text : Option Text) (r : Result (Option ℕ) E)
-    → ((t : Text) (x : Result ℕ E) → gives t x → ParsesUnsigned 64 10 t x) → (text ≡ None → r ≡ Ok None)
-    → ((t : Text) → text ≡ Some t → TriesOne gives t r) → MatchResult r (IsNumberOf text) (λ _. IsNoNumber text)
-MatchResult-number gives None r parses none some = subst (λ x. MatchResult x (IsNumberOf None) (λ _. IsNoNumber None)) (sym (none refl)) refl
-MatchResult-number gives (Some t) (Ok None) parses none some = absurd (some t refl)
-MatchResult-number gives (Some t) (Ok (Some n)) parses none some = let h = parses t (Ok n) (some t refl) in (h.0, ap Some h.1)
-MatchResult-number gives (Some t) (Err e) parses none some = parses t (Err e) (some t refl)
 
 -- none of the commands has its texts
 pub MatchOption-lacking : (parsed : Option (Text × List Row)) (r : Option Given) → r ≡ None → LacksAll parsed → MatchOption r (LacksAll parsed) (GivesCommand parsed)

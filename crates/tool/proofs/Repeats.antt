@@ -13,9 +13,10 @@ use Rattle.block.specs.Piece.{Entry}
 use Rattle.ikey.specs.Bytewise.{bytewise_cmp}
 use Rattle.ikey.specs.Key.{user_of, sequence_of, kind_of, kind_number}
 use Rattle.ikey.specs.Order.{internal_cmp}
-use Rattle.tool.specs.Merging.{entry_of, entries_of}
+use Rattle.tool.specs.Merging.{tested_entry, tested_entries}
 use Rattle.tool.specs.declared.tested.TestedEntry.{TestedEntry}
-use Rattle.tool.specs.Union.{version_cmp, IsRising, IsBehind, IsUnion}
+use Rattle.merge.specs.Union.{version_cmp, IsUnion, VersionsRise}
+use Rattle.tool.specs.Rising.{IsRising, IsBehind}
 use Rattle.tool.specs.Repeats.{has_version, times, HasRepeat, IsAtMost, IsOrdered, IsFirst, Takes}
 use Rattle.tool.proofs.Unions.{version_total, merge_more_tested}
 
@@ -50,7 +51,7 @@ none_behind e key (f ∷ es) p each = times-cons key f es ∙ by_order (version 
     by_order Equal q rest = let same : version e.key f.key ≡ Equal = same_version e.key f.key key p q in absurd (let bad : Equal ≡ Less = sym same ∙ each.0 in cc)
 
 -- in a rising list each version stands once at most
-pub rising_once : (key : List ℕ) (es : List Entry) → IsRising version es → times key es ≤ 1
+pub rising_once : (key : List ℕ) (es : List Entry) → VersionsRise bytewise_cmp es → times key es ≤ 1
 rising_once key [] rising = omega arith
 rising_once key (e ∷ es) rising = by_order (version e.key key) refl (rising_once key es rising.1)
   where
@@ -181,37 +182,37 @@ by_test Equal x y is = λ h. let bad : Equal ≡ Less = is ∙ reversed (version
 by_test Greater x y is = λ h. let bad : Greater ≡ Less = is ∙ reversed (version y.key x.key) (sym (version_total.antisymm x.key y.key) ∙ h) in absurd cc
 
 pub second_by : (ts us : List TestedEntry) (x y : TestedEntry) (o : Ordering) (r : Bool) → 0 < length ts → 0 < length us → x ≡ get_or ts 0 x → y ≡ get_or us 0 y → o ≡ version y.key x.key → r ≡ is_lt o
-    → MatchBool r (IsFirst (entries_of us) (entries_of ts)) (IsFirst (entries_of ts) (entries_of us))
+    → MatchBool r (IsFirst (tested_entries us) (tested_entries ts)) (IsFirst (tested_entries ts) (tested_entries us))
 second_by [] us x y o r some some' at at' order test = absurd (omega arith)
 second_by (t ∷ ts) [] x y o r some some' at at' order test = absurd (omega arith)
 second_by (t ∷ ts) (u ∷ us) x y o r some some' at at' order test =
     let here : o ≡ version u.key t.key = order ∙ ap (λ (z : TestedEntry). version z.key x.key) at' ∙ ap (λ (z : TestedEntry). version u.key z.key) at in
-    subst (λ (b : Bool). MatchBool b (IsFirst (entries_of (u ∷ us)) (entries_of (t ∷ ts))) (IsFirst (entries_of (t ∷ ts)) (entries_of (u ∷ us)))) (sym test) (by_test o (entry_of t) (entry_of u) here)
+    subst (λ (b : Bool). MatchBool b (IsFirst (tested_entries (u ∷ us)) (tested_entries (t ∷ ts))) (IsFirst (tested_entries (t ∷ ts)) (tested_entries (u ∷ us)))) (sym test) (by_test o (tested_entry t) (tested_entry u) here)
 
 -- the step over tested entries
-pub takes_ordered : (run list list' other other' : List TestedEntry) (e : TestedEntry) → Takes list list' other other' e → IsOrdered (entries_of run ++ entries_of list) → IsOrdered (entries_of run ++ entries_of other)
-    → IsOrdered ((entries_of run ++ entry_of e ∷ []) ++ entries_of list') × IsOrdered ((entries_of run ++ entry_of e ∷ []) ++ entries_of other')
+pub takes_ordered : (run list list' other other' : List TestedEntry) (e : TestedEntry) → Takes list list' other other' e → IsOrdered (tested_entries run ++ tested_entries list) → IsOrdered (tested_entries run ++ tested_entries other)
+    → IsOrdered ((tested_entries run ++ tested_entry e ∷ []) ++ tested_entries list') × IsOrdered ((tested_entries run ++ tested_entry e ∷ []) ++ tested_entries other')
 takes_ordered run list list' other other' e takes with_it without =
-    let both = popped_ordered (entries_of run) (entries_of list) (entries_of list') (entries_of other) (entry_of e) (ap entries_of takes.0) takes.1.1 with_it without in
-    (both.0, subst (λ (t : List TestedEntry). IsOrdered ((entries_of run ++ entry_of e ∷ []) ++ entries_of t)) (sym takes.1.0) both.1)
+    let both = popped_ordered (tested_entries run) (tested_entries list) (tested_entries list') (tested_entries other) (tested_entry e) (ap tested_entries takes.0) takes.1.1 with_it without in
+    (both.0, subst (λ (t : List TestedEntry). IsOrdered ((tested_entries run ++ tested_entry e ∷ []) ++ tested_entries t)) (sym takes.1.0) both.1)
 
-pub both_ordered : (run a a' b b' : List TestedEntry) (e : TestedEntry) → Takes a a' b b' e ⊎ Takes b b' a a' e → IsOrdered (entries_of run ++ entries_of a) → IsOrdered (entries_of run ++ entries_of b)
-    → IsOrdered ((entries_of run ++ entry_of e ∷ []) ++ entries_of a') × IsOrdered ((entries_of run ++ entry_of e ∷ []) ++ entries_of b')
+pub both_ordered : (run a a' b b' : List TestedEntry) (e : TestedEntry) → Takes a a' b b' e ⊎ Takes b b' a a' e → IsOrdered (tested_entries run ++ tested_entries a) → IsOrdered (tested_entries run ++ tested_entries b)
+    → IsOrdered ((tested_entries run ++ tested_entry e ∷ []) ++ tested_entries a') × IsOrdered ((tested_entries run ++ tested_entry e ∷ []) ++ tested_entries b')
 both_ordered run a a' b b' e (inl t) p q = takes_ordered run a a' b b' e t p q
 both_ordered run a a' b b' e (inr t) p q = let both = takes_ordered run b b' a a' e t q p in (both.1, both.0)
 
-pub stepped : (all : List Entry) (run a b a' b' : List TestedEntry) (e : TestedEntry) → IsPermutation all (entries_of run ++ (entries_of a ++ entries_of b)) → Takes a a' b b' e ⊎ Takes b b' a a' e
-    → IsPermutation all ((entries_of run ++ entry_of e ∷ []) ++ (entries_of a' ++ entries_of b'))
+pub stepped : (all : List Entry) (run a b a' b' : List TestedEntry) (e : TestedEntry) → IsPermutation all (tested_entries run ++ (tested_entries a ++ tested_entries b)) → Takes a a' b b' e ⊎ Takes b b' a a' e
+    → IsPermutation all ((tested_entries run ++ tested_entry e ∷ []) ++ (tested_entries a' ++ tested_entries b'))
 stepped all run a b a' b' e same (inl t) = merge_more_tested all run a b a' b' e same (inl (t.0, t.1.0))
 stepped all run a b a' b' e same (inr t) = merge_more_tested all run a b a' b' e same (inr (t.0, t.1.0))
 
 -- an entry that isn't behind the run has a version that stands twice
-pub found_twice : (all : List Entry) (run a b a' b' : List TestedEntry) (e : TestedEntry) → IsPermutation all (entries_of run ++ (entries_of a ++ entries_of b)) → Takes a a' b b' e ⊎ Takes b b' a a' e
-    → IsOrdered (entries_of run ++ entries_of a) → IsOrdered (entries_of run ++ entries_of b) → (IsBehind (entries_of run) e.key → ⊥) → HasRepeat all
+pub found_twice : (all : List Entry) (run a b a' b' : List TestedEntry) (e : TestedEntry) → IsPermutation all (tested_entries run ++ (tested_entries a ++ tested_entries b)) → Takes a a' b b' e ⊎ Takes b b' a a' e
+    → IsOrdered (tested_entries run ++ tested_entries a) → IsOrdered (tested_entries run ++ tested_entries b) → (IsBehind (tested_entries run) e.key → ⊥) → HasRepeat all
 found_twice all run a b a' b' e same takes p q not =
     let both = both_ordered run a a' b b' e takes p q in
-    let mine : IsOrdered (entries_of run ++ entry_of e ∷ entries_of a') = subst IsOrdered (append_assoc (entries_of run) (entry_of e ∷ []) (entries_of a')) both.0 in
-    finds_repeat all (entries_of run) (entries_of a) (entries_of b') (entries_of a') (entry_of e) (stepped all run a b a' b' e same takes) mine not
+    let mine : IsOrdered (tested_entries run ++ tested_entry e ∷ tested_entries a') = subst IsOrdered (append_assoc (tested_entries run) (tested_entry e ∷ []) (tested_entries a')) both.0 in
+    finds_repeat all (tested_entries run) (tested_entries a) (tested_entries b') (tested_entries a') (tested_entry e) (stepped all run a b a' b' e same takes) mine not
 
 -- ---- what is ordered
 

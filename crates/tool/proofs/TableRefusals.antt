@@ -1,5 +1,6 @@
 -- No refusal of a table is Device.
 use Rattle.std.proofs.Common.{◌≡◌, ◌≢◌, ℕ, ◌+◌, ◌-◌, ◌^◌, ◌%◌, nat_le, nat_lt, length, drop, Bool, true, false, List, [], ◌∷◌, Option, Some, None, Result, Ok, Err, IfErr, if◌then◌else◌, subst}
+use Rattle.std.specs.Option.{ok_or}
 use Rattle.std.specs.declared.cmp.Ordering.{Ordering}
 use Rattle.coding.proofs.Binds.{failed}
 use Rattle.coding.specs.Answers.{◌>>=◌, fault}
@@ -8,7 +9,7 @@ use Rattle.coding.specs.declared.fault.FaultName.{FaultName}
 use Rattle.coding.specs.declared.fault.FaultName.TheVariants.{Block, BlockType, Compressed, Device, Empty, Handle, Index, Key, Magic, Order, Range, Short, Size, TooLarge, Trailer}
 use Rattle.block.specs.Piece.{Entry}
 use Rattle.block.specs.ReadingBlocks.{block_reading}
-use Rattle.frame.specs.Footer.{footer_reading, ok_or_fault}
+use Rattle.frame.specs.Footer.{footer_reading}
 use Rattle.frame.specs.Handle.{HandleBehind, handle_reading}
 use Rattle.frame.specs.Trailer.{stored_reading}
 use Rattle.frame.specs.declared.handle.BlockHandle.{BlockHandle}
@@ -69,7 +70,7 @@ footer_other : (bytes : List ℕ) → AllOther (footer_reading bytes)
 unfolding footer_reading IsOther
 footer_other bytes = tested _ _ _ (named _ Magic tt) (by _)
   where
-    by : {A : Type 0} (found : Option A) → AllOther (ok_or_fault (fault Handle) found)
+    by : {A : Type 0} (found : Option A) → AllOther (ok_or found (fault Handle))
     by None = named _ Handle tt
     by (Some x) = value x
 

@@ -21,7 +21,7 @@ use Rattle.frame.specs.declared.handle.BlockHandle.{BlockHandle}
 use Rattle.frame.specs.Footer.{footer_reading}
 use Rattle.frame.specs.Handle.{handle_reading}
 use Rattle.ikey.specs.Key.{internal_key_reading}
-use Rattle.pick.specs.Tables.{Numbered}
+use Rattle.reads.specs.Tables.{Numbered}
 use Rattle.table.specs.Reading.{Contents, DataBlock, blocks_of, blocks_reading, contents_of, contents_reading, data_reading, entries_of, index_fits, index_in}
 use Rattle.table.specs.ReadingEntries.{data_test, is_some_list, key_behind}
 use Rattle.table.specs.ReadingIndex.{IndexEntry, block_in, index_entry, index_reading, one_handle, stored_at}

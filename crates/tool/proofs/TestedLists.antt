@@ -5,7 +5,7 @@ use Rattle.std.specs.List.{slice_get}
 use Rattle.std.specs.Option.{option_map}
 use Rattle.std.proofs.lemmas.Option.{same_Some, none-some}
 use Rattle.coding.proofs.Binds.{bind_ok, done, ok_is}
-use Rattle.coding.specs.Answers.{Gives, fault, ◌>>=◌}
+use Rattle.coding.specs.Answers.{EqualOrMemory, fault, ◌>>=◌}
 use Rattle.coding.specs.declared.fault.Fault.{Fault}
 use Rattle.coding.specs.declared.fault.FaultName.TheVariants.{Key, TooLarge, Order}
 use Rattle.ikey.specs.Key.{tag_of, internal_key_reading}
@@ -13,7 +13,7 @@ use Rattle.std.specs.Prelude.{IfOk}
 use Rattle.std.specs.Global.{Global}
 use Rattle.std.specs.declared.collections.VecDeque.{VecDeque}
 use Rattle.block.specs.Piece.{Entry, IsBlock}
-use Rattle.tool.specs.Merging.{entries_of}
+use Rattle.tool.specs.Merging.{tested_entries}
 use Rattle.tool.specs.declared.tested.TestedEntry.{TestedEntry}
 use Rattle.tool.specs.Testing.{entry_test, is_above, tested_after, last_key}
 
@@ -63,11 +63,11 @@ get_or-cons t ts d some =
     ap (λ (i : ℕ). get_or (t ∷ ts) i d) n
 
 -- the last of tested entries
-pub last_key-entries_of : (before : Option (List ℕ)) (ts : List TestedEntry) (d : TestedEntry) → 0 < length ts → last_key before (entries_of ts) ≡ Some (get_or ts (length ts - 1) d).key
-last_key-entries_of before [] d some = absurd (omega arith)
-last_key-entries_of before (t ∷ []) d some = refl
-last_key-entries_of before (t ∷ u ∷ ts) d some =
-    last_key-entries_of (Some t.key) (u ∷ ts) d (omega arith) ∙ ap (λ (x : TestedEntry). Some x.key) (sym (get_or-cons t (u ∷ ts) d (omega arith)))
+pub last_key-tested_entries : (before : Option (List ℕ)) (ts : List TestedEntry) (d : TestedEntry) → 0 < length ts → last_key before (tested_entries ts) ≡ Some (get_or ts (length ts - 1) d).key
+last_key-tested_entries before [] d some = absurd (omega arith)
+last_key-tested_entries before (t ∷ []) d some = refl
+last_key-tested_entries before (t ∷ u ∷ ts) d some =
+    last_key-tested_entries (Some t.key) (u ∷ ts) d (omega arith) ∙ ap (λ (x : TestedEntry). Some x.key) (sym (get_or-cons t (u ∷ ts) d (omega arith)))
 
 -- what is accepted are the entries themselves
 pub tested_same : (before : Option (List ℕ)) (q es : List Entry) → tested_after before q ≡ Ok es → q ≡ es
@@ -97,6 +97,6 @@ entry_test_same before key value internal h =
     ∙ two (nat_lt 16777215 (length value)) (is_above before key) (fault TooLarge) (fault Order) a.0 internal a.2
 
 -- the entries that were tested are those of the block
-pub found_tested : (bytes : List ℕ) (q : List Entry) (r : Result (VecDeque TestedEntry Global) Fault) → IsBlock bytes q → Gives (λ v. entries_of v.items) r (tested_after None q) → IfOk r (λ v. IsBlock bytes (entries_of v.items))
-found_tested bytes q (Ok v) block given = subst (IsBlock bytes) (tested_same None q (entries_of v.items) given) block
+pub found_tested : (bytes : List ℕ) (q : List Entry) (r : Result (VecDeque TestedEntry Global) Fault) → IsBlock bytes q → EqualOrMemory (λ v. tested_entries v.items) r (tested_after None q) → IfOk r (λ v. IsBlock bytes (tested_entries v.items))
+found_tested bytes q (Ok v) block given = subst (IsBlock bytes) (tested_same None q (tested_entries v.items) given) block
 found_tested bytes q (Err e) block given = tt

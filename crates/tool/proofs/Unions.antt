@@ -21,14 +21,15 @@ use Rattle.block.proofs.Sizes.{length-block-append, fits_with_entry}
 use Rattle.tool.specs.Blocks.{block_within}
 use Rattle.ikey.specs.Bytewise.{bytewise_cmp}
 use Rattle.ikey.specs.Key.{user_of, sequence_of, kind_of, kind_number, internal_key_reading}
-use Rattle.coding.specs.Answers.{Gives, fault, ◌>>=◌}
+use Rattle.coding.specs.Answers.{EqualOrMemory, fault, ◌>>=◌}
 use Rattle.coding.specs.declared.fault.Fault.{Fault}
 use Rattle.coding.specs.declared.fault.FaultName.TheVariants.{TooLarge, Order}
 use Rattle.ikey.specs.Order.{internal_cmp}
 use Rattle.ikey.proofs.Ordered.{internal_cmp-total}
-use Rattle.tool.specs.Union.{version_cmp, IsRising, IsBehind, IsUnion}
+use Rattle.merge.specs.Union.{version_cmp, IsUnion, VersionsRise}
+use Rattle.tool.specs.Rising.{IsRising, IsBehind}
 use Rattle.tool.specs.Ranges.{IsBefore, IsFrom}
-use Rattle.tool.specs.Merging.{entry_of, entries_of}
+use Rattle.tool.specs.Merging.{tested_entry, tested_entries}
 use Rattle.tool.specs.declared.tested.TestedEntry.{TestedEntry}
 use Rattle.tool.specs.Testing.{entry_test, is_above, tested_after}
 use Rattle.coding.proofs.Binds.{bind_ok}
@@ -113,8 +114,8 @@ tested_rising (e ∷ q) es h =
     (rest.0, rest.1)
 
 -- what was tested and accepted rises
-pub rising_tested : (q : List Entry) (r : Result (VecDeque TestedEntry Global) Fault) → Gives (λ v. entries_of v.items) r (tested_after None q) → IfOk r (λ v. IsRising (internal_cmp bytewise_cmp) (entries_of v.items))
-rising_tested q (Ok v) given = subst (IsRising (internal_cmp bytewise_cmp)) (tested_same None q (entries_of v.items) given) (tested_rising q (entries_of v.items) given)
+pub rising_tested : (q : List Entry) (r : Result (VecDeque TestedEntry Global) Fault) → EqualOrMemory (λ v. tested_entries v.items) r (tested_after None q) → IfOk r (λ v. IsRising (internal_cmp bytewise_cmp) (tested_entries v.items))
+rising_tested q (Ok v) given = subst (IsRising (internal_cmp bytewise_cmp)) (tested_same None q (tested_entries v.items) given) (tested_rising q (tested_entries v.items) given)
 rising_tested q (Err e) given = tt
 
 -- ---- the last of a run
@@ -128,7 +129,7 @@ pub record Iff (P Q : Type 0) : Type 0 where
   pub there : P → Q
   pub back : Q → P
 
-pub behind_last : (ts : List TestedEntry) (key : List ℕ) (d : TestedEntry) → 0 < length ts → Iff (IsBehind (entries_of ts) key) (version_cmp bytewise_cmp (get_or ts (length ts - 1) d).key key ≡ Less)
+pub behind_last : (ts : List TestedEntry) (key : List ℕ) (d : TestedEntry) → 0 < length ts → Iff (IsBehind (tested_entries ts) key) (version_cmp bytewise_cmp (get_or ts (length ts - 1) d).key key ≡ Less)
 behind_last [] key d some = absurd (omega arith)
 behind_last (t ∷ []) key d some = record { there = λ h. h; back = λ h. h }
 behind_last (t ∷ u ∷ ts) key d some =
@@ -139,7 +140,7 @@ behind_last (t ∷ u ∷ ts) key d some =
       back = λ h. rest.back (subst (λ (x : TestedEntry). version_cmp bytewise_cmp x.key key ≡ Less) same h);
     }
 
-pub behind_test : (ts : List TestedEntry) (key : List ℕ) (d : TestedEntry) (o : Ordering) → 0 < length ts → d ≡ get_or ts (length ts - 1) d → o ≡ version_cmp bytewise_cmp d.key key → (is_lt o ≡ true → IsBehind (entries_of ts) key) × (IsBehind (entries_of ts) key → is_lt o ≡ true)
+pub behind_test : (ts : List TestedEntry) (key : List ℕ) (d : TestedEntry) (o : Ordering) → 0 < length ts → d ≡ get_or ts (length ts - 1) d → o ≡ version_cmp bytewise_cmp d.key key → (is_lt o ≡ true → IsBehind (tested_entries ts) key) × (IsBehind (tested_entries ts) key → is_lt o ≡ true)
 behind_test ts key d o some last order =
     let both = behind_last ts key d some in (
       λ h. both.back (ap (λ (x : TestedEntry). version_cmp bytewise_cmp x.key key) (sym last) ∙ sym order ∙ (lt_is o).0 h),
@@ -149,12 +150,12 @@ behind_test ts key d o some last order =
 -- ---- a list cut at a key
 
 -- what holds at each place below n holds of each of the first n
-all_of_places : (P : Entry → Type 0) (n : ℕ) (ts : List TestedEntry) (d : TestedEntry) → ((k : ℕ) → k < n → P (entry_of (get_or ts k d))) → n ≤ length ts → AllByRecursion P (entries_of (take n ts))
+all_of_places : (P : Entry → Type 0) (n : ℕ) (ts : List TestedEntry) (d : TestedEntry) → ((k : ℕ) → k < n → P (tested_entry (get_or ts k d))) → n ≤ length ts → AllByRecursion P (tested_entries (take n ts))
 all_of_places P zero ts d h le = tt
 all_of_places P (suc n) [] d h le = absurd (omega arith)
 all_of_places P (suc n) (t ∷ ts) d h le = (h 0 (omega arith), all_of_places P n ts d (λ k lt. h (suc k) (omega arith)) (omega arith))
 
-pub before_cut : (at : List ℕ) (n : ℕ) (ts : List TestedEntry) → ((k : ℕ) (d : TestedEntry) → k < n → IsBefore at (entry_of (get_or ts k d))) → n ≤ length ts → AllByRecursion (IsBefore at) (entries_of (take n ts))
+pub before_cut : (at : List ℕ) (n : ℕ) (ts : List TestedEntry) → ((k : ℕ) (d : TestedEntry) → k < n → IsBefore at (tested_entry (get_or ts k d))) → n ≤ length ts → AllByRecursion (IsBefore at) (tested_entries (take n ts))
 before_cut at zero ts h le = tt
 before_cut at (suc n) [] h le = absurd (omega arith)
 before_cut at (suc n) (t ∷ ts) h le = all_of_places (IsBefore at) (suc n) (t ∷ ts) t (λ k lt. h k t lt) le
@@ -190,16 +191,16 @@ rising_drop zero q h = h
 rising_drop (suc n) [] h = tt
 rising_drop (suc n) (e ∷ q) h = rising_drop n q h.1
 
-head_of_drop : (n : ℕ) (ts : List TestedEntry) (e : Entry) (es : List Entry) (d : TestedEntry) → entries_of (drop n ts) ≡ e ∷ es → (n < length ts) × (entry_of (get_or ts n d) ≡ e)
+head_of_drop : (n : ℕ) (ts : List TestedEntry) (e : Entry) (es : List Entry) (d : TestedEntry) → tested_entries (drop n ts) ≡ e ∷ es → (n < length ts) × (tested_entry (get_or ts n d) ≡ e)
 head_of_drop zero [] e es d h = absurd cc
 head_of_drop zero (t ∷ ts) e es d h = (omega arith, cc)
 head_of_drop (suc n) [] e es d h = absurd cc
 head_of_drop (suc n) (t ∷ ts) e es d h = let rest = head_of_drop n ts e es d h in (omega (arith, rest.0), rest.1)
 
-pub from_cut : (at : List ℕ) (n : ℕ) (ts : List TestedEntry) → IsRising (internal_cmp bytewise_cmp) (entries_of ts) → ((d : TestedEntry) → n < length ts → IsFrom at (entry_of (get_or ts n d))) → AllByRecursion (IsFrom at) (entries_of (drop n ts))
-from_cut at n [] rising first = subst (λ (ts : List TestedEntry). AllByRecursion (IsFrom at) (entries_of ts)) (sym (drop_all n [] (omega arith))) tt
+pub from_cut : (at : List ℕ) (n : ℕ) (ts : List TestedEntry) → IsRising (internal_cmp bytewise_cmp) (tested_entries ts) → ((d : TestedEntry) → n < length ts → IsFrom at (tested_entry (get_or ts n d))) → AllByRecursion (IsFrom at) (tested_entries (drop n ts))
+from_cut at n [] rising first = subst (λ (ts : List TestedEntry). AllByRecursion (IsFrom at) (tested_entries ts)) (sym (drop_all n [] (omega arith))) tt
 from_cut at n (t ∷ ts) rising first =
-    from_rest at (entries_of (drop n (t ∷ ts))) (rw (← drop-map entry_of n (t ∷ ts)) (rising_drop n (entries_of (t ∷ ts)) rising))
+    from_rest at (tested_entries (drop n (t ∷ ts))) (rw (← drop-map tested_entry n (t ∷ ts)) (rising_drop n (tested_entries (t ∷ ts)) rising))
     (λ e es h. let at_place = head_of_drop n (t ∷ ts) e es t h in subst (IsFrom at) at_place.1 (first t at_place.0))
 
 -- ---- two runs joined
@@ -235,6 +236,11 @@ middle_four a b c d =
     subst (λ (t : List Entry). IsPermutation t ((a ++ c) ++ (b ++ d))) (sym left)
     (subst (IsPermutation (a ++ ((b ++ c) ++ d))) right (IsPermutation-append_right a ((b ++ c) ++ d) ((c ++ b) ++ d) (IsPermutation-append_left d (b ++ c) (c ++ b) (IsPermutation-append_comm b c))))
 
+-- versions that rise, and keys that rise by their versions
+versions_rise : (cmp : List ℕ → List ℕ → Ordering) (es : List Entry) → IsRising (version_cmp cmp) es → VersionsRise cmp es
+versions_rise cmp [] h = tt
+versions_rise cmp (e ∷ es) h = (h.0, versions_rise cmp es h.1)
+
 pub union_of_runs : (at : List ℕ) (qa qb a1 a2 b1 b2 run behind : List Entry) → Cut at qa a1 a2 → Cut at qb b1 b2
     → IsRising (version_cmp bytewise_cmp) run → IsPermutation (a1 ++ b1) run → IsRising (version_cmp bytewise_cmp) behind → IsPermutation (a2 ++ b2) behind → IsUnion bytewise_cmp (qa ∷ qb ∷ []) (run ++ behind)
 union_of_runs at qa qb a1 a2 b1 b2 run behind a b rising same rising' same' =
@@ -243,16 +249,16 @@ union_of_runs at qa qb a1 a2 b1 b2 run behind a b rising same rising' same' =
     let whole : flat_map (λ (input : List Entry). input) (qa ∷ qb ∷ []) ≡ (a1 ++ a2) ++ (b1 ++ b2) =
     ap (λ (t : List Entry). qa ++ t) (append-nil qb) ∙ ap (λ (t : List Entry). t ++ qb) a.parts ∙ ap (λ (t : List Entry). (a1 ++ a2) ++ t) b.parts in
     record {
-      rising = rising_append (version_cmp bytewise_cmp) run behind rising rising' (all_across at run behind before from);
+      rising = versions_rise bytewise_cmp (run ++ behind) (rising_append (version_cmp bytewise_cmp) run behind rising rising' (all_across at run behind before from));
       same = subst (λ (t : List Entry). IsPermutation t (run ++ behind)) (sym whole)
           (IsPermutation-trans ((a1 ++ a2) ++ (b1 ++ b2)) ((a1 ++ b1) ++ (a2 ++ b2)) (run ++ behind) (middle_four a1 a2 b1 b2) (IsPermutation-append (a1 ++ b1) run (a2 ++ b2) behind same same'));
     }
 
 -- the same step over tested entries
-pub merge_more_tested : (all : List Entry) (run a b a' b' : List TestedEntry) (e : TestedEntry) → IsPermutation all (entries_of run ++ (entries_of a ++ entries_of b)) → ((a ≡ e ∷ a') × (b' ≡ b)) ⊎ ((b ≡ e ∷ b') × (a' ≡ a))
-    → IsPermutation all ((entries_of run ++ entry_of e ∷ []) ++ (entries_of a' ++ entries_of b'))
-merge_more_tested all run a b a' b' e h (inl s) = merge_more all (entries_of run) (entries_of a) (entries_of b) (entries_of a') (entries_of b') (entry_of e) h (inl (ap entries_of s.0, ap entries_of s.1))
-merge_more_tested all run a b a' b' e h (inr s) = merge_more all (entries_of run) (entries_of a) (entries_of b) (entries_of a') (entries_of b') (entry_of e) h (inr (ap entries_of s.0, ap entries_of s.1))
+pub merge_more_tested : (all : List Entry) (run a b a' b' : List TestedEntry) (e : TestedEntry) → IsPermutation all (tested_entries run ++ (tested_entries a ++ tested_entries b)) → ((a ≡ e ∷ a') × (b' ≡ b)) ⊎ ((b ≡ e ∷ b') × (a' ≡ a))
+    → IsPermutation all ((tested_entries run ++ tested_entry e ∷ []) ++ (tested_entries a' ++ tested_entries b'))
+merge_more_tested all run a b a' b' e h (inl s) = merge_more all (tested_entries run) (tested_entries a) (tested_entries b) (tested_entries a') (tested_entries b') (tested_entry e) h (inl (ap tested_entries s.0, ap tested_entries s.1))
+merge_more_tested all run a b a' b' e h (inr s) = merge_more all (tested_entries run) (tested_entries a) (tested_entries b) (tested_entries a') (tested_entries b') (tested_entry e) h (inr (ap tested_entries s.0, ap tested_entries s.1))
 
 -- ---- the block that is written
 

@@ -6,8 +6,8 @@ use Rattle.coding.specs.declared.fault.FaultName.TheVariants.{Block, Duplicate, 
 use Rattle.block.specs.Piece.{Entry, IsBlock}
 use Rattle.block.specs.Writing.{block}
 use Rattle.ikey.specs.Bytewise.{bytewise_cmp}
+use Rattle.merge.specs.Union.{IsUnion}
 use Rattle.tool.specs.Testing.{tested_after}
-use Rattle.tool.specs.Union.{IsUnion}
 
 -- the block of a list at interval 16, or TooLarge where that has more than 2 ^ 30 bytes
 abbrev pub block_within : List Entry → Result (List ℕ) Fault

@@ -5,7 +5,7 @@ use Rattle.std.specs.declared.cmp.Ordering.{Ordering}
 use Rattle.coding.specs.Answers.{◌>>=◌}
 use Rattle.coding.specs.declared.fault.Fault.{Fault}
 use Rattle.table.specs.Reading.{contents_reading}
-use Rattle.pick.specs.Tables.{Numbered}
+use Rattle.reads.specs.Tables.{Numbered}
 
 -- the table of a number, or the first test that its bytes fail
 abbrev pub numbered_reading : (List ℕ → List ℕ → Ordering) → ℕ × List ℕ → Result Numbered Fault

@@ -1,14 +1,18 @@
-pub mod Union
-pub mod Repeats
-pub mod Testing
-pub mod Merging
-pub mod Ranges
-pub mod Blocks
-pub mod Line
-pub mod Dump
-pub mod Status
+-- what contracts rest on
 pub mod Text
 pub mod Usage
+pub mod Line
+pub mod Status
+pub mod Testing
+pub mod Blocks
+pub mod Dump
 pub mod Lines
 pub mod Checked
-pub mod Verifying
+pub mod FolderLines
+-- serves proofs alone
+pub mod LineParts
+pub mod Questions
+pub mod Rising
+pub mod Merging
+pub mod Ranges
+pub mod Repeats

@@ -55,9 +55,13 @@ file_line level f = codes "file " ++ decimal level ++ codes " " ++ decimal f.num
 abbrev pub file_lines : (List ℕ → List ℕ → Ordering) → State → ℕ → List ℕ
 file_lines cmp v level = flat_map (file_line level) (level_files cmp v level)
 
--- the comparator and the numbers, then the pointers by level, and then the files by level and in version order
+-- the comparator and the numbers, then the pointers by level, and then the files by level and in this version order
+abbrev pub lines_by : Order → (List ℕ → List ℕ → Ordering) → State → List ℕ
+lines_by order cmp v = head_lines order v ++ all_levels (pointer_lines v) ++ all_levels (file_lines cmp v)
+
+-- the same in the order's own version order
 abbrev pub version_lines : Order → State → List ℕ
-version_lines order v = head_lines order v ++ all_levels (pointer_lines v) ++ all_levels (file_lines (order_cmp order) v)
+version_lines order v = lines_by order (order_cmp order) v
 
 -- a folder is opened, and the lines show what that gives
 abbrev pub IsShown : (List ℕ → Option (List ℕ) → Type 0) → Result (List ℕ) Fault → Type 0

@@ -5,8 +5,8 @@ use Rattle.std.specs.Ordering.{is_eq}
 use Rattle.std.specs.declared.cmp.Ordering.TheVariants.{Greater}
 use Rattle.block.specs.Piece.{Entry}
 use Rattle.ikey.specs.Bytewise.{bytewise_cmp}
-use Rattle.tool.specs.Merging.{entries_of}
-use Rattle.tool.specs.Union.{version_cmp}
+use Rattle.tool.specs.Merging.{tested_entries}
+use Rattle.merge.specs.Union.{version_cmp}
 use Rattle.tool.specs.declared.range.Range.{Range}
 use Rattle.tool.specs.declared.tested.TestedEntry.{TestedEntry}
 
@@ -40,13 +40,13 @@ IsFirst (e ∷ es) (f ∷ fs) = IsAtMost e.key f
 -- what the first job has of each file is ordered
 abbrev pub IsFirstOrdered : List Range → Type 0
 IsFirstOrdered [] = Unit {0}
-IsFirstOrdered (range ∷ ranges) = IsOrdered (entries_of range.a.items) × IsOrdered (entries_of range.b.items)
+IsFirstOrdered (range ∷ ranges) = IsOrdered (tested_entries range.a.items) × IsOrdered (tested_entries range.b.items)
 
 -- the first job has a version twice
 abbrev pub HasFirstRepeat : List Range → Type 0
 HasFirstRepeat [] = ⊥
-HasFirstRepeat (range ∷ ranges) = HasRepeat (entries_of range.a.items ++ entries_of range.b.items)
+HasFirstRepeat (range ∷ ranges) = HasRepeat (tested_entries range.a.items ++ tested_entries range.b.items)
 
 -- The first entry of one list, which isn't behind that of the other, is taken off, and the other stays.
 abbrev pub Takes : List TestedEntry → List TestedEntry → List TestedEntry → List TestedEntry → TestedEntry → Type 0
-Takes list list' other other' e = (list ≡ e ∷ list') × ((other' ≡ other) × IsFirst (entries_of list) (entries_of other))
+Takes list list' other other' e = (list ≡ e ∷ list') × ((other' ≡ other) × IsFirst (tested_entries list) (tested_entries other))

@@ -1,6 +1,7 @@
--- Keys and values as text.
-use Rattle.std.specs.Prelude.{◌≡◌, ℕ, List, [], ◌∷◌, Option, Some, None, Result, Ok, Err, codes, map, if◌then◌else◌}
+-- Keys, values and numbers as text.
+use Rattle.std.specs.Prelude.{◌≡◌, ◌<◌, ◌^◌, ℕ, List, [], ◌∷◌, Option, Some, None, Result, Ok, Err, codes, map, if◌then◌else◌}
 use Rattle.std.specs.Str.{bytes_eq}
+use Rattle.std.specs.Str.Parse.{IsNumeral, digits_value}
 use Rattle.std.specs.Char.{to_ascii_lowercase}
 use Rattle.hex.specs.Hex.{decode_of, encode_lower}
 use Rattle.hex.specs.declared.error.FromHexError.{FromHexError}
@@ -31,3 +32,7 @@ bytes_of_text text = if bytes_eq text nothing_text then Some [] else bytes_of_di
 -- A text stands for bytes where it is their text but for the case of its letters.
 abbrev pub StandsFor : List ℕ → List ℕ → Type 0
 StandsFor text bytes = map to_ascii_lowercase text ≡ text_of_bytes bytes
+
+-- a text is a number of 64 bits: decimal digits alone
+abbrev pub IsNumberText : List ℕ → Type 0
+IsNumberText text = IsNumeral 10 text × (digits_value 10 text < 2 ^ 64)

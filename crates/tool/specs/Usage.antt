@@ -3,8 +3,8 @@ use Rattle.std.specs.Prelude.{◌≡◌, ◌≢◌}
 use Rattle.clap.specs.Words.{kind_of}
 use Rattle.clap.specs.declared.error.Error.{Error}
 use Rattle.clap.specs.declared.error.kind.ErrorKind.TheVariants.{OutOfMemory}
-use Rattle.tool.specs.declared.asked.Usage.{Usage}
-use Rattle.tool.specs.declared.asked.Usage.TheVariants.{Key, Memory, Clap}
+use Rattle.tool.specs.declared.requests.Usage.{Usage}
+use Rattle.tool.specs.declared.requests.Usage.TheVariants.{Key, Memory, Clap}
 
 -- `clap`'s want of memory is Memory, and each other error stays what it is
 abbrev pub TurnsInto : Error → Usage → Type 0

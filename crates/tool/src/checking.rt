@@ -2,12 +2,12 @@
 
 ghost use Rattle.std.specs.Prelude.{◌≡◌, ◌≤◌, ◌^◌, length, map, Ok, IfOk};
 ghost use Rattle.std.specs.List.{All};
-ghost use Rattle.coding.specs.Answers.{Gives};
+ghost use Rattle.coding.specs.Answers.{EqualOrMemory};
 ghost use Rattle.tool.specs.Checked.{entry_count, tables_reading};
 
 use coding::Fault;
 use ikey::Comparator;
-use pick::NumberedTable;
+use reads::NumberedTable;
 use std::alloc::Global;
 use table::{Cursor, SoundTable, TableCursor, check};
 
@@ -18,7 +18,7 @@ pub(crate) fn checked<C: Comparator>(
     alloc: Global,
     loaded: &[(u64, Vec<u8>)],
 ) -> Result<Vec<NumberedTable<'_, C>>, Fault>
-    ensures { Gives (λ v. v.items) result (tables_reading C.cmp (map (λ t. (t.0, t.1.items)) loaded.now)) }
+    ensures { EqualOrMemory (λ v. v.items) result (tables_reading C.cmp (map (λ t. (t.0, t.1.items)) loaded.now)) }
 {
     let mut tables = Vec::with_capacity(alloc, loaded.len())?;
     for table in loaded {
@@ -32,25 +32,25 @@ pub(crate) fn checked<C: Comparator>(
 /// How many entries tables have together.
 ///
 /// Refused only for want of memory: it takes that of a cursor, one table after the other.
-pub(crate) fn entries_in<C: Comparator>(
+pub(crate) fn entry_count<C: Comparator>(
     alloc: Global,
     tables: &[NumberedTable<'_, C>],
 ) -> Result<u128, Fault>
     requires { All (λ t. length t.contents.entries ≤ 2 ^ 60) tables.now }
-    ensures { Gives (λ count. count) result (Ok (entry_count tables.now)) }
+    ensures { EqualOrMemory (λ count. count) result (Ok (entry_count tables.now)) }
 {
     let mut count = 0;
     for table in tables {
-        let entries = entries_of(alloc, table.table())?;
+        let entries = table_entry_count(alloc, table.table())?;
         count += u128::from(entries);
     }
     Ok(count)
 }
 
 /// How many entries a table has.
-fn entries_of<C: Comparator>(alloc: Global, table: &SoundTable<'_, C>) -> Result<u64, Fault>
+fn table_entry_count<C: Comparator>(alloc: Global, table: &SoundTable<'_, C>) -> Result<u64, Fault>
     requires { length table.now.entries ≤ 2 ^ 60 }
-    ensures count { Gives (λ count. count) result (Ok (length table.now.entries)) }
+    ensures count { EqualOrMemory (λ count. count) result (Ok (length table.now.entries)) }
     ensures few { IfOk result (λ count. count ≤ 2 ^ 60) }
 {
     let mut cursor = TableCursor::new(alloc, table)?;

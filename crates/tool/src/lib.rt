@@ -1,39 +1,36 @@
 //! What the program `sedvokt` does: its command line, its files and what it prints, and the calls behind its commands.
 #![tactic(auto)]
 
-mod asked;
 mod checking;
 mod command_line;
+mod commands;
 mod cut;
 mod dumping;
+mod exit_status;
 mod files;
+mod folder_commands;
 mod getting;
-mod merge;
+mod merging;
 mod program;
+mod question;
 mod range;
+mod requests;
 mod showing;
-mod state;
 mod tested;
 mod testing;
 mod text;
 mod two_blocks;
 mod verifying;
 
-pub use asked::{Line, Usage};
 pub use command_line::line;
 pub use dumping::dump;
+pub use exit_status::status;
 pub use folder::{Disk, Folder, FolderFault, Order, load, open};
-pub use getting::get_dir;
+pub use folder_commands::{get_dir, manifest, verify};
 pub use program::run;
-pub use showing::manifest;
-pub use state::status;
+pub use requests::{Line, Usage};
 pub use text::{key_of, text_of};
 pub use two_blocks::blocks;
-pub use verifying::verify;
 
-#[cfg(test)]
-mod folder_tests;
-#[cfg(test)]
-mod showing_tests;
 #[cfg(test)]
 mod tests;

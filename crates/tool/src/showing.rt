@@ -1,54 +1,41 @@
-//! The lines that show what a folder's manifest says.
+//! The lines that show a version.
 
 ghost use Rattle.std.specs.Prelude.{◌≡◌, ◌++◌, ◌≤◌, Ok, IfErr, OnOk, string_bytes};
 ghost use Rattle.std.specs.List.{flat_map};
-ghost use Rattle.coding.specs.Answers.{Gives};
+ghost use Rattle.coding.specs.Answers.{EqualOrMemory, fault};
 ghost use Rattle.coding.specs.declared.fault.FaultName.TheVariants.{Memory};
-ghost use Rattle.folder.specs.Folder.{TellsSame};
 ghost use Rattle.folder.specs.Levels.{all_levels};
-ghost use Rattle.tool.specs.Lines.{IsShown, comparator_line, file_line, file_lines, head_lines, number_line, order_cmp, pointer_line, pointer_lines, version_lines};
-ghost use Rattle.folder.specs.Opening.{FolderAnswers, HasDeviceFailed};
+ghost use Rattle.tool.specs.Lines.{comparator_line, file_line, file_lines, head_lines, number_line, lines_by, pointer_line, pointer_lines};
 
 use crate::text::text_of;
 use coding::Fault;
 use edit::{FileMeta, Version};
-use folder::{Folder, Order, open};
-use ikey::{Bytewise, Comparator, KeyBuf, Shortlex};
+use folder::Order;
+use ikey::{Comparator, KeyBuf};
 use std::alloc::Global;
 
 /// No line of a file has more bytes: its level has one digit, and its numbers at most 20.
 const MAX_FILE_LINE: usize = 49;
 
-/// The lines that show a folder's version, each with its newline: `comparator NAME`, `log N`, `previous N`, `next N` and
-/// `last N`, then `pointer L KEY SEQ TYPE` by level, and then `file L NUMBER SIZE` by level and in version order.
-///
-/// A key is in hexadecimal digits, `-` where it is empty; a previous log number that was never set is 0. Refused as
-/// opening the folder is.
-pub fn manifest<F: Folder>(alloc: Global, folder: &mut F) -> Result<Vec<u8>, Fault>
-    ensures answer { FolderAnswers (λ v. v.items) (F.failed folder.old) (F.failed folder.new) result (IsShown (F.tells folder.old)) }
-    ensures device { IfErr result (HasDeviceFailed (F.failed folder.old) (F.failed folder.new)) }
-    ensures same { TellsSame (F.tells folder.old) (F.tells folder.new) }
-    ensures later { F.failed folder.old ≤ F.failed folder.new }
-{
-    let (order, version) = open(alloc, folder)?;
-    version_lines(alloc, order, &version)
-}
-
-/// The lines of a version.
-fn version_lines(alloc: Global, order: Order, version: &Version) -> Result<Vec<u8>, Fault>
-    ensures { Gives (λ v. v.items) result (Ok (version_lines order version.now)) }
+/// The lines of a version, its files in the version order of this comparator.
+pub(crate) fn version_lines<C: Comparator>(
+    alloc: Global,
+    order: Order,
+    version: &Version,
+) -> Result<Vec<u8>, Fault>
+    ensures { EqualOrMemory (λ v. v.items) result (Ok (lines_by order C.cmp version.now)) }
 {
     let mut text = String::new(alloc);
     push_head(&mut text, order, version)?;
     push_pointers(alloc, &mut text, version)?;
-    push_files_by(alloc, &mut text, order, version)?;
+    push_files::<C>(alloc, &mut text, version)?;
     Ok(text.into_bytes())
 }
 
 /// Appends the lines of the comparator and of the numbers.
 fn push_head(text: &mut String, order: Order, version: &Version) -> Result<(), Fault>
     ensures ok { OnOk result (string_bytes text.new ≡ string_bytes text.old ++ head_lines order version.now) }
-    ensures memory { IfErr result (λ e. e.name ≡ Memory) }
+    ensures memory { IfErr result (λ e. e ≡ fault Memory) }
 {
     push_comparator(text, order)?;
     push_number(text, "log", version.log_number())?;
@@ -61,7 +48,7 @@ fn push_head(text: &mut String, order: Order, version: &Version) -> Result<(), F
 /// Appends the line of the comparator.
 fn push_comparator(text: &mut String, order: Order) -> Result<(), Fault>
     ensures ok { OnOk result (string_bytes text.new ≡ string_bytes text.old ++ comparator_line order) }
-    ensures memory { IfErr result (λ e. e.name ≡ Memory) }
+    ensures memory { IfErr result (λ e. e ≡ fault Memory) }
 {
     let name = order.name();
     writeln!(text, "comparator {name}")?;
@@ -71,7 +58,7 @@ fn push_comparator(text: &mut String, order: Order) -> Result<(), Fault>
 /// Appends the line of a number, which is 0 where it was never set.
 fn push_number(text: &mut String, word: &str, number: Option<u64>) -> Result<(), Fault>
     ensures ok { OnOk result (string_bytes text.new ≡ string_bytes text.old ++ number_line word.now number) }
-    ensures memory { IfErr result (λ e. e.name ≡ Memory) }
+    ensures memory { IfErr result (λ e. e ≡ fault Memory) }
 {
     let number = number.unwrap_or(0);
     writeln!(text, "{word} {number}")?;
@@ -81,7 +68,7 @@ fn push_number(text: &mut String, word: &str, number: Option<u64>) -> Result<(),
 /// Appends the line of each level's compact pointer.
 fn push_pointers(alloc: Global, text: &mut String, version: &Version) -> Result<(), Fault>
     ensures ok { OnOk result (string_bytes text.new ≡ string_bytes text.old ++ all_levels (pointer_lines version.now)) }
-    ensures memory { IfErr result (λ e. e.name ≡ Memory) }
+    ensures memory { IfErr result (λ e. e ≡ fault Memory) }
 {
     for level in 0..7 {
         push_pointer_of(alloc, text, version, level)?;
@@ -98,7 +85,7 @@ fn push_pointer_of(
 ) -> Result<(), Fault>
     requires { level ≤ 6 }
     ensures ok { OnOk result (string_bytes text.new ≡ string_bytes text.old ++ pointer_lines version.now level) }
-    ensures memory { IfErr result (λ e. e.name ≡ Memory) }
+    ensures memory { IfErr result (λ e. e ≡ fault Memory) }
 {
     match version.pointer(level) {
         Some(key) => push_pointer(alloc, text, level, key),
@@ -109,7 +96,7 @@ fn push_pointer_of(
 /// Appends the line of a compact pointer.
 fn push_pointer(alloc: Global, text: &mut String, level: u64, key: &KeyBuf) -> Result<(), Fault>
     ensures ok { OnOk result (string_bytes text.new ≡ string_bytes text.old ++ pointer_line level key.now) }
-    ensures memory { IfErr result (λ e. e.name ≡ Memory) }
+    ensures memory { IfErr result (λ e. e ≡ fault Memory) }
 {
     let key = key.as_key();
     let user = text_of(alloc, key.user())?;
@@ -119,22 +106,6 @@ fn push_pointer(alloc: Global, text: &mut String, level: u64, key: &KeyBuf) -> R
     Ok(())
 }
 
-/// Appends the lines of the files by level, and each level's in the version order of this order.
-fn push_files_by(
-    alloc: Global,
-    text: &mut String,
-    order: Order,
-    version: &Version,
-) -> Result<(), Fault>
-    ensures ok { OnOk result (string_bytes text.new ≡ string_bytes text.old ++ all_levels (file_lines (order_cmp order) version.now)) }
-    ensures memory { IfErr result (λ e. e.name ≡ Memory) }
-{
-    match order {
-        Order::Bytewise => push_files::<Bytewise>(alloc, text, version),
-        Order::Shortlex => push_files::<Shortlex>(alloc, text, version),
-    }
-}
-
 /// Appends the lines of the files by level, and each level's in version order.
 fn push_files<C: Comparator>(
     alloc: Global,
@@ -142,7 +113,7 @@ fn push_files<C: Comparator>(
     version: &Version,
 ) -> Result<(), Fault>
     ensures ok { OnOk result (string_bytes text.new ≡ string_bytes text.old ++ all_levels (file_lines C.cmp version.now)) }
-    ensures memory { IfErr result (λ e. e.name ≡ Memory) }
+    ensures memory { IfErr result (λ e. e ≡ fault Memory) }
 {
     for level in 0..7 {
         push_files_of(text, level, &version.files::<C>(alloc, level)?)?;
@@ -153,7 +124,7 @@ fn push_files<C: Comparator>(
 /// Appends the lines of a level's files.
 fn push_files_of(text: &mut String, level: u64, files: &[&FileMeta]) -> Result<(), Fault>
     ensures ok { OnOk result (string_bytes text.new ≡ string_bytes text.old ++ flat_map (λ f. file_line level f.now) files.now) }
-    ensures memory { IfErr result (λ e. e.name ≡ Memory) }
+    ensures memory { IfErr result (λ e. e ≡ fault Memory) }
 {
     text.reserve(files.len().saturating_mul(MAX_FILE_LINE))?;
     for file in files {
@@ -165,7 +136,7 @@ fn push_files_of(text: &mut String, level: u64, files: &[&FileMeta]) -> Result<(
 /// Appends the line of a file.
 fn push_file(text: &mut String, level: u64, file: &FileMeta) -> Result<(), Fault>
     ensures ok { OnOk result (string_bytes text.new ≡ string_bytes text.old ++ file_line level file.now) }
-    ensures memory { IfErr result (λ e. e.name ≡ Memory) }
+    ensures memory { IfErr result (λ e. e ≡ fault Memory) }
 {
     let number = file.number;
     let size = file.size;

@@ -4,12 +4,12 @@ ghost use Rattle.std.specs.Prelude.{◌≡◌, IfOk, None};
 ghost use Rattle.std.specs.Option.{option_map};
 ghost use Rattle.std.specs.Result.{result_map_both};
 ghost use Rattle.block.specs.Piece.{IsBlock};
-ghost use Rattle.coding.specs.Answers.{Gives, Answers};
+ghost use Rattle.coding.specs.Answers.{EqualOrMemory, HoldsOrMemory};
 ghost use Rattle.tool.specs.Blocks.{IsFileAnswer};
-ghost use Rattle.tool.specs.Merging.{entries_of};
+ghost use Rattle.tool.specs.Merging.{tested_entries};
 ghost use Rattle.ikey.specs.Bytewise.{bytewise_cmp};
 ghost use Rattle.ikey.specs.Order.{internal_cmp};
-ghost use Rattle.tool.specs.Union.{IsRising};
+ghost use Rattle.tool.specs.Rising.{IsRising};
 ghost use Rattle.tool.specs.Testing.{entry_test, last_key, tested_after};
 
 use crate::tested::TestedEntry;
@@ -22,6 +22,18 @@ use std::collections::VecDeque;
 
 /// The most bytes of a value.
 const MAX_VALUE: usize = 16_777_215;
+
+/// The entries of a file, where each passes its tests.
+///
+/// Refused as Block where the bytes are no block, and else by the first test that fails.
+pub(crate) fn tested(alloc: Global, bytes: &[u8]) -> Result<VecDeque<TestedEntry<'_>>, Fault>
+    ensures found { IfOk result (λ v. IsBlock bytes.now (tested_entries v.items)) }
+    ensures rising { IfOk result (λ v. IsRising (internal_cmp bytewise_cmp) (tested_entries v.items)) }
+    ensures answer { HoldsOrMemory (λ v. tested_entries v.items) result (IsFileAnswer bytes.now) }
+{
+    let block = check(bytes)?;
+    tested_all(alloc, BlockCursor::new(alloc, &block)?)
+}
 
 /// Tests an entry that stands after this key.
 fn test_entry<'k>(
@@ -45,7 +57,7 @@ fn test_entry<'k>(
 
 /// The key of the last entry.
 fn last_of<'r>(entries: &'r VecDeque<TestedEntry<'_>>) -> Option<InternalKey<'r>>
-    ensures { option_map (λ key. key.bytes.now) result ≡ last_key None (entries_of entries.now.items) }
+    ensures { option_map (λ key. key.bytes.now) result ≡ last_key None (tested_entries entries.now.items) }
 {
     let last = entries.back()?;
     Some(last.key.as_key())
@@ -56,7 +68,7 @@ fn tested_all<'a>(
     alloc: Global,
     mut cursor: BlockCursor<'a>,
 ) -> Result<VecDeque<TestedEntry<'a>>, Fault>
-    ensures { Gives (λ v. entries_of v.items) result (tested_after None cursor.entry) }
+    ensures { EqualOrMemory (λ v. tested_entries v.items) result (tested_after None cursor.entry) }
 {
     let mut entries: VecDeque<TestedEntry<'a>> = VecDeque::new(alloc);
     while cursor.valid() {
@@ -67,16 +79,4 @@ fn tested_all<'a>(
         cursor.advance()?;
     }
     Ok(entries)
-}
-
-/// The entries of a file, where each passes its tests.
-///
-/// Refused as Block where the bytes are no block, and else by the first test that fails.
-pub(crate) fn tested(alloc: Global, bytes: &[u8]) -> Result<VecDeque<TestedEntry<'_>>, Fault>
-    ensures found { IfOk result (λ v. IsBlock bytes.now (entries_of v.items)) }
-    ensures rising { IfOk result (λ v. IsRising (internal_cmp bytewise_cmp) (entries_of v.items)) }
-    ensures answer { Answers (λ v. entries_of v.items) result (IsFileAnswer bytes.now) }
-{
-    let block = check(bytes)?;
-    tested_all(alloc, BlockCursor::new(alloc, &block)?)
 }

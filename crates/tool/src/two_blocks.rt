@@ -1,15 +1,15 @@
 //! Two blocks into one.
 
 ghost use Rattle.std.specs.Prelude.{IfOk};
-ghost use Rattle.coding.specs.Answers.{Gives, Answers};
+ghost use Rattle.coding.specs.Answers.{EqualOrMemory, HoldsOrMemory};
 ghost use Rattle.tool.specs.Blocks.{IsBlocksAnswer, IsMerged, IsUnionAnswer, block_within};
 ghost use Rattle.ikey.specs.Bytewise.{bytewise_cmp};
 ghost use Rattle.ikey.specs.Order.{internal_cmp};
-ghost use Rattle.tool.specs.Merging.{entries_of};
-ghost use Rattle.tool.specs.Union.{IsRising};
+ghost use Rattle.tool.specs.Merging.{tested_entries};
+ghost use Rattle.tool.specs.Rising.{IsRising};
 
 use crate::cut::split_off_at;
-use crate::merge::worked;
+use crate::merging::worked;
 use crate::range::Range;
 use crate::tested::TestedEntry;
 use crate::testing::tested;
@@ -19,14 +19,35 @@ use std::alloc::Global;
 use std::collections::VecDeque;
 
 /// How many entries stand for each restart of a block that is made.
-const INTERVAL: u32 = 16;
+const INTERVAL: u64 = 16;
 
 /// The most bytes of a block that is made, 2^30.
 const MAX_BLOCK: usize = 1_073_741_824;
 
+/// The number of entries of two blocks together, and their block at interval 16.
+///
+/// Each file is tested whole, the first before the second: Block where its bytes are no block; then each entry in
+/// order: Key where its key is no internal key, TooLarge where its user key or its value is over its limit, Order where
+/// its key isn't above the one before it. Then Duplicate where a user key comes twice with one sequence, and TooLarge
+/// where the block would have more than 2^30 bytes. Memory comes only where a growth was refused.
+///
+/// The entries are merged in two ranges of user keys, those before `at` and those from `at` on, and the runs joined:
+/// the block doesn't depend on `at`.
+pub fn blocks(alloc: Global, a: &[u8], b: &[u8], at: &[u8]) -> Result<(u64, Vec<u8>), Fault>
+    ensures answer { HoldsOrMemory (λ r. (r.0, r.1.items)) result (IsBlocksAnswer a.now b.now) }
+    ensures merged { IfOk result (λ r. IsMerged a.now b.now r.0 r.1.items) }
+{
+    let entries_a = tested(alloc, a)?;
+    let entries_b = tested(alloc, b)?;
+    let entries = united(alloc, entries_a, entries_b, at)?;
+    let count = entries.len() as u64;
+    let block = written(alloc, entries)?;
+    Ok((count, block))
+}
+
 /// The block of entries, or TooLarge where that is over its limit.
 fn written(alloc: Global, mut entries: VecDeque<TestedEntry<'_>>) -> Result<Vec<u8>, Fault>
-    ensures { Gives (λ v. v.items) result (block_within (entries_of entries.entry.items)) }
+    ensures { EqualOrMemory (λ v. v.items) result (block_within (tested_entries entries.entry.items)) }
 {
     let mut builder = BlockBuilder::new(alloc, INTERVAL);
     while let Some(entry) = entries.pop_front() {
@@ -48,9 +69,9 @@ fn united<'a>(
     mut b: VecDeque<TestedEntry<'a>>,
     at: &[u8],
 ) -> Result<VecDeque<TestedEntry<'a>>, Fault>
-    requires rising_a { IsRising (internal_cmp bytewise_cmp) (entries_of a.items) }
-    requires rising_b { IsRising (internal_cmp bytewise_cmp) (entries_of b.items) }
-    ensures { Answers (λ v. entries_of v.items) result (IsUnionAnswer (entries_of a.entry.items) (entries_of b.entry.items)) }
+    requires rising_a { IsRising (internal_cmp bytewise_cmp) (tested_entries a.items) }
+    requires rising_b { IsRising (internal_cmp bytewise_cmp) (tested_entries b.items) }
+    ensures { HoldsOrMemory (λ v. tested_entries v.items) result (IsUnionAnswer (tested_entries a.entry.items) (tested_entries b.entry.items)) }
 {
     let from_a = split_off_at(&mut a, at)?;
     let from_b = split_off_at(&mut b, at)?;
@@ -65,25 +86,4 @@ fn united<'a>(
     let mut behind = worked(alloc, &mut jobs)?;
     entries.append(&mut behind)?;
     Ok(entries)
-}
-
-/// The number of entries of two blocks together, and their block at interval 16.
-///
-/// Each file is tested whole, the first before the second: Block where its bytes are no block; then each entry in
-/// order: Key where its key is no internal key, TooLarge where its user key or its value is over its limit, Order where
-/// its key isn't above the one before it. Then Duplicate where a user key comes twice with one sequence, and TooLarge
-/// where the block would have more than 2^30 bytes. Memory comes only where a growth was refused.
-///
-/// The entries are merged in two ranges of user keys, those before `at` and those from `at` on, and the runs joined:
-/// the block doesn't depend on `at`.
-pub fn blocks(alloc: Global, a: &[u8], b: &[u8], at: &[u8]) -> Result<(u64, Vec<u8>), Fault>
-    ensures answer { Answers (λ r. (r.0, r.1.items)) result (IsBlocksAnswer a.now b.now) }
-    ensures merged { IfOk result (λ r. IsMerged a.now b.now r.0 r.1.items) }
-{
-    let entries_a = tested(alloc, a)?;
-    let entries_b = tested(alloc, b)?;
-    let entries = united(alloc, entries_a, entries_b, at)?;
-    let count = entries.len() as u64;
-    let block = written(alloc, entries)?;
-    Ok((count, block))
 }

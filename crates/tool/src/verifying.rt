@@ -1,64 +1,32 @@
 //! Testing whether the version of a folder is lawful.
 
 ghost use Rattle.std.specs.Prelude.{◌≡◌, ◌++◌, ◌≤◌, map, Ok, IfErr, OnOk, string_bytes};
-ghost use Rattle.coding.specs.Answers.{Answers, Gives};
+ghost use Rattle.coding.specs.Answers.{HoldsOrMemory, EqualOrMemory, fault};
 ghost use Rattle.coding.specs.declared.fault.FaultName.TheVariants.{Memory};
 ghost use Rattle.folder.specs.Folder.{TellsSame};
-ghost use Rattle.folder.specs.Opening.{FolderAnswers, HasDeviceFailed};
-ghost use Rattle.tool.specs.Lines.{order_cmp};
-ghost use Rattle.tool.specs.Verifying.{IsSound, IsTold, IsToldIn, IsToldOf, lawful_line, verified_line};
+ghost use Rattle.folder.specs.Opening.{FolderAnswers, HasDeviceFailed, StopsAtDevice};
+ghost use Rattle.tool.specs.FolderLines.{IsLawfulTables, IsLineOfLoaded, IsLineOfVersion, lawful_line, verified_line};
 
-use crate::checking::{checked, entries_in};
+use crate::checking::{checked, entry_count};
 use coding::Fault;
 use edit::Version;
-use folder::{Folder, Order, load, open};
-use ikey::{Bytewise, Comparator, Shortlex};
-use pick::{NumberedTable, lawful};
+use folder::{Folder, load};
+use ikey::Comparator;
+use reads::{NumberedTable, lawful};
 use std::alloc::Global;
 
-/// Tests the version that a folder holds, and answers the line `lawful: F files, E entries`: how many files the version
-/// has, and how many entries are in all their tables.
-///
-/// Refused as opening the folder is; then Missing at the first table that isn't there, by level and in version order;
-/// then by the first of the tables that is none, as `table::check` refuses it; and then Lawless where the version isn't
-/// lawful. A call that the device fails is Device at once, and want of memory Memory. Only reads.
-pub fn verify<F: Folder>(alloc: Global, folder: &mut F) -> Result<Vec<u8>, Fault>
-    ensures answer { FolderAnswers (λ v. v.items) (F.failed folder.old) (F.failed folder.new) result (IsToldOf (F.tells folder.old) (λ _. verified_line)) }
-    ensures device { IfErr result (HasDeviceFailed (F.failed folder.old) (F.failed folder.new)) }
-    ensures same { TellsSame (F.tells folder.old) (F.tells folder.new) }
-    ensures later { F.failed folder.old ≤ F.failed folder.new }
-{
-    let (order, version) = open(alloc, folder)?;
-    verified_by(alloc, folder, order, &version)
-}
-
-/// Tests a version by an order, with the tables that the folder holds.
-fn verified_by<F: Folder>(
-    alloc: Global,
-    folder: &mut F,
-    order: Order,
-    version: &Version,
-) -> Result<Vec<u8>, Fault>
-    ensures answer { FolderAnswers (λ v. v.items) (F.failed folder.old) (F.failed folder.new) result (IsToldIn (F.tells folder.old) (order_cmp order) version.now verified_line) }
-    ensures device { IfErr result (HasDeviceFailed (F.failed folder.old) (F.failed folder.new)) }
-    ensures same { TellsSame (F.tells folder.old) (F.tells folder.new) }
-    ensures later { F.failed folder.old ≤ F.failed folder.new }
-{
-    match order {
-        Order::Bytewise => verified_in::<Bytewise, F>(alloc, folder, version),
-        Order::Shortlex => verified_in::<Shortlex, F>(alloc, folder, version),
-    }
-}
-
-/// Tests a version with the tables that the folder holds.
-fn verified_in<C: Comparator, F: Folder>(
+/// The line of a version that is lawful with the tables that the folder holds.
+pub(crate) fn verified_in<C: Comparator, F: Folder>(
     alloc: Global,
     folder: &mut F,
     version: &Version,
 ) -> Result<Vec<u8>, Fault>
-    ensures answer { FolderAnswers (λ v. v.items) (F.failed folder.old) (F.failed folder.new) result (IsToldIn (F.tells folder.old) C.cmp version.now verified_line) }
+    ensures answer { FolderAnswers (λ v. v.items) (F.failed folder.old) (F.failed folder.new) result
+        (IsLineOfVersion (F.tells folder.old) C.cmp version.now verified_line) }
     ensures device { IfErr result (HasDeviceFailed (F.failed folder.old) (F.failed folder.new)) }
     ensures same { TellsSame (F.tells folder.old) (F.tells folder.new) }
+    ensures calls { F.calls folder.new ≡ F.calls folder.old }
+    ensures at_once { StopsAtDevice (F.failed folder.old) (F.failed folder.new) result }
     ensures later { F.failed folder.old ≤ F.failed folder.new }
 {
     let loaded = load::<C, F>(alloc, folder, version)?;
@@ -71,10 +39,11 @@ fn verified<C: Comparator>(
     version: &Version,
     loaded: &[(u64, Vec<u8>)],
 ) -> Result<Vec<u8>, Fault>
-    ensures { Answers (λ v. v.items) result (IsTold C.cmp version.now (map (λ t. (t.0, t.1.items)) loaded.now) verified_line) }
+    ensures { HoldsOrMemory (λ v. v.items) result
+        (IsLineOfLoaded C.cmp version.now (map (λ t. (t.0, t.1.items)) loaded.now) verified_line) }
 {
     let tables = lawful_tables::<C>(alloc, version, loaded)?;
-    let entries = entries_in(alloc, &tables)?;
+    let entries = entry_count(alloc, &tables)?;
     lawful_line(alloc, tables.len(), entries)
 }
 
@@ -86,7 +55,8 @@ pub(crate) fn lawful_tables<'t, C: Comparator>(
     version: &Version,
     loaded: &'t [(u64, Vec<u8>)],
 ) -> Result<Vec<NumberedTable<'t, C>>, Fault>
-    ensures { Answers (λ v. v.items) result (IsSound C.cmp version.now (map (λ t. (t.0, t.1.items)) loaded.now)) }
+    ensures { HoldsOrMemory (λ v. v.items) result
+        (IsLawfulTables C.cmp version.now (map (λ t. (t.0, t.1.items)) loaded.now)) }
 {
     let tables = checked::<C>(alloc, loaded)?;
     lawful(alloc, version, &tables)?;
@@ -95,7 +65,7 @@ pub(crate) fn lawful_tables<'t, C: Comparator>(
 
 /// The line of a lawful version of so many files and entries.
 fn lawful_line(alloc: Global, files: usize, entries: u128) -> Result<Vec<u8>, Fault>
-    ensures { Gives (λ v. v.items) result (Ok (lawful_line files entries)) }
+    ensures { EqualOrMemory (λ v. v.items) result (Ok (lawful_line files entries)) }
 {
     let mut text = String::new(alloc);
     push_lawful(&mut text, files, entries)?;
@@ -105,7 +75,7 @@ fn lawful_line(alloc: Global, files: usize, entries: u128) -> Result<Vec<u8>, Fa
 /// Appends that line.
 fn push_lawful(text: &mut String, files: usize, entries: u128) -> Result<(), Fault>
     ensures ok { OnOk result (string_bytes text.new ≡ string_bytes text.old ++ lawful_line files entries) }
-    ensures memory { IfErr result (λ e. e.name ≡ Memory) }
+    ensures memory { IfErr result (λ e. e ≡ fault Memory) }
 {
     writeln!(text, "lawful: {files} files, {entries} entries")?;
     Ok(())

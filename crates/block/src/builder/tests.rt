@@ -27,7 +27,7 @@ const WHOLE: [u8; 38] = [
 ];
 
 #[tactic(auto, using(crate::proofs::Sizes::fits_with_entry))]
-fn writes_two(rt: &impl Abort, alloc: Global, interval: u32, want: &[u8]) -> Result<(), Fail>
+fn writes_two(rt: &impl Abort, alloc: Global, interval: u64, want: &[u8]) -> Result<(), Fail>
     requires positive { 1 ≤ interval }
     requires limited { interval ≤ 1024 }
 {

@@ -1,8 +1,8 @@
 use Rattle.std.proofs.Common.{◌≡◌, ◌≢◌, true, ◌-◌, ◌+◌, List, ℕ, Bor, length, drop, [], sym, subst, ap, ◌∙◌}
 use Rattle.std.proofs.lemmas.List.{nil_from_length}
 use Rattle.std.proofs.lemmas.Bool.{eqb-true, eqb-false, eq-eqb}
-use Rattle.block.specs.Piece.{IsArea}
-use Rattle.block.specs.Lent.{lent_field}
+use Rattle.block.specs.Kept.{IsArea}
+use Rattle.block.specs.Front.{front_field}
 use Rattle.block.proofs.Areas.{Kept, shorter, kept_marked, kept_plain, no_piece, too_much_shared, restart_shares, kept_all, is_area, is_area_nil, area_nil}
 use Rattle.block.proofs.Restarts.{begins_drop}
 use Rattle.block.proofs.sound_block.are_pieces.Goals as goal
@@ -23,21 +23,21 @@ returns-in_default c =
 
 pub returns-then-piece-key_len : goal.returns-then-piece-key_len
 returns-then-piece-key_len c =
-    (λ h. absurd cc, λ h. absurd (too_much_shared c.args.area.now c.args.restarts.now c.loop-rest.rest.now c.loop-rest.pending.now c.loop-rest.key_len (lent_field c.in-Some.piece) c.loop-rest.invariant (sym c.in-Some.ensures) c.if-piece-key_len.true h))
+    (λ h. absurd cc, λ h. absurd (too_much_shared c.args.area.now c.args.restarts.now c.loop-rest.rest.now c.loop-rest.pending.now c.loop-rest.key_len (front_field c.in-Some.piece) c.loop-rest.invariant (sym c.in-Some.ensures) c.if-piece-key_len.true h))
 
 pub returns-then-piece-ne0 : goal.returns-then-piece-ne0
 returns-then-piece-ne0 c =
     let next = c.is_next-in-loop-rest.ensures.0 c.if-is_next.true in
-    (λ h. absurd cc, λ h. absurd (restart_shares c.args.area.now c.args.restarts.now c.loop-rest.rest.now c.loop-rest.pending.now next.1.0 c.loop-rest.key_len (lent_field c.in-Some.piece) c.loop-rest.invariant (sym c.in-Some.ensures) next.0 next.1.1 c.if-piece-ne0.true h))
+    (λ h. absurd cc, λ h. absurd (restart_shares c.args.area.now c.args.restarts.now c.loop-rest.rest.now c.loop-rest.pending.now next.1.0 c.loop-rest.key_len (front_field c.in-Some.piece) c.loop-rest.invariant (sym c.in-Some.ensures) next.0 next.1.1 c.if-piece-ne0.true h))
 
 pub loop-rest-smaller : goal.loop-rest-smaller
-loop-rest-smaller c = shorter c.loop-rest.rest.now (lent_field c.in-Some.piece) (sym c.in-Some.ensures)
+loop-rest-smaller c = shorter c.loop-rest.rest.now (front_field c.in-Some.piece) (sym c.in-Some.ensures)
 
 pub loop-rest-preserved : goal.loop-rest-preserved
 loop-rest-preserved c =
     let area = c.args.area.now in
     let restarts = c.args.restarts.now in
-    let piece = lent_field c.in-Some.piece in
+    let piece = front_field c.in-Some.piece in
     let P : List ℕ → Type 0 = λ t. Kept area restarts c.in-Some.piece.rest.now t (c.in-Some.piece.shared + length c.in-Some.piece.unshared.now) in
     elim c.if-is_next.branch [
       | then-is_next+else-piece-ne0 w ↦

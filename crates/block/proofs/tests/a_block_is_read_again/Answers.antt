@@ -1,4 +1,4 @@
 use Rattle.block.proofs.tests.a_block_is_read_again.Goals as goal
 
-pub known-block-requires : goal.known-block-requires
-known-block-requires g c = (c.in_ok-sound.sound.entries, c.in_ok-sound.ensures.found)
+pub reopen-block-requires : goal.reopen-block-requires
+reopen-block-requires g c = (c.in_ok-sound.sound.entries, c.in_ok-sound.ensures.found)

@@ -8,5 +8,5 @@ invariant-loop-i g l = record {
   count : length l.results.items ≡ l.i;
   room : length l.fn.places.items ≤ vec_capacity l.results;
   later : (k : ℕ) → l.i ≤ k → get_or l.places.items k None ≡ get_or l.fn.places.items k None;
-  each : (k : ℕ) (d : g.row.L-Out.Denot) → k < l.i → IsResult (g.L.Labour.refusal l.labour) (g.L.Labour.holds l.labour) (k, get_or l.results.items k d);
+  each : (k : ℕ) (d : g.row.L-Out.Denot) → k < l.i → IsResult (g.L.Labour.refusal l.labour) (g.L.Labour.gives l.labour) (k, get_or l.results.items k d);
 }

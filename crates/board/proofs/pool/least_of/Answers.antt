@@ -1,5 +1,5 @@
 use Rattle.std.proofs.Common.{Some, subst, arith}
-use Rattle.board.specs.Running.{IsLeastFailed}
+use Rattle.board.specs.Working.{IsLeastFailed}
 use Rattle.board.proofs.Filing.{least_left, least_right}
 use Rattle.board.proofs.pool.least_of.Goals as goal
 

@@ -6,16 +6,16 @@ use Rattle.board.proofs.pool.run_board.Goals as goal
 pub returns-in-Some-clause-refused : goal.returns-in-Some-clause-refused
 returns-in-Some-clause-refused g c =
     let refusal = g.L.Labour.refusal c.args.labour.now in
-    let holds = g.L.Labour.holds c.args.labour.now in
+    let gives = g.L.Labour.gives c.args.labour.now in
     let long : vec_len c.file_all-refused.new.seats ≡ c.args.board.seats = c.in-Some.ensures.len ∙ c.in_ok-shifts.ensures.len ∙ c.requires.seats.1 in
     let more : 0 < vec_len c.file_all-refused.new.seats = omega (arith, long, c.requires.seats.2) in
     let any : 0 < length c.file_all-refused.new.seats.items = search (rules, more) in
-    subst (λ n. IsRefused refusal holds n c.in-Some.refused.0 c.in-Some.refused.1) c.requires.jobs.0
-    (refused_least refusal holds c.args.board c.file_all-refused.new.seats.items c.file_all-refused.new.places.items c.in-Some.refused c.close-tally.result.least c.in-Some.ensures.filed (c.close-tally.ensures.all long) (c.close-tally.ensures.spent c.in-Some.ensures.filed.spent) any)
+    subst (λ n. IsRefused refusal gives n c.in-Some.refused.0 c.in-Some.refused.1) c.requires.jobs.0
+    (refused_least refusal gives c.args.board c.file_all-refused.new.seats.items c.file_all-refused.new.places.items c.in-Some.refused c.close-tally.result.least c.in-Some.ensures.filed (c.close-tally.ensures.all long) (c.close-tally.ensures.spent c.in-Some.ensures.filed.spent) any)
 
 pub take_all-requires-clause-each : goal.take_all-requires-clause-each
 take_all-requires-clause-each g c =
     let long : vec_len c.file_all-refused.new.seats ≡ c.args.board.seats = c.in-None.ensures.len ∙ c.in_ok-shifts.ensures.len ∙ c.requires.seats.1 in
     let more : 0 < vec_len c.file_all-refused.new.seats = omega (arith, long, c.requires.seats.2) in
     let any : 0 < length c.file_all-refused.new.seats.items = search (rules, more) in
-    each_placed (g.L.Labour.refusal c.args.labour.now) (g.L.Labour.holds c.args.labour.now) c.args.board c.file_all-refused.new.seats.items c.file_all-refused.new.places.items c.close-tally.result.least c.in-None.ensures.filed (c.close-tally.ensures.all long) (c.close-tally.ensures.spent c.in-None.ensures.filed.spent) any
+    each_placed (g.L.Labour.refusal c.args.labour.now) (g.L.Labour.gives c.args.labour.now) c.args.board c.file_all-refused.new.seats.items c.file_all-refused.new.places.items c.close-tally.result.least c.in-None.ensures.filed (c.close-tally.ensures.all long) (c.close-tally.ensures.spent c.in-None.ensures.filed.spent) any

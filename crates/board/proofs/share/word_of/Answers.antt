@@ -1,5 +1,5 @@
 use Rattle.std.proofs.Common.{refl}
-use Rattle.board.specs.Shares.{word_of}
+use Rattle.board.specs.Words.{word_of}
 use Rattle.board.proofs.share.word_of.Goals as goal
 
 pub returns-clause-value : goal.returns-clause-value

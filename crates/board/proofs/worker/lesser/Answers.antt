@@ -1,6 +1,6 @@
 use Rattle.std.proofs.Common.{◌≡◌, [], Some, ap, subst, arith}
-use Rattle.board.specs.Running.{IsLeastFailed}
 use Rattle.board.specs.Shares.{times}
+use Rattle.board.specs.Working.{IsLeastFailed}
 use Rattle.board.proofs.Workings.{least_first, least_now}
 use Rattle.board.proofs.worker.lesser.Goals as goal
 

@@ -1,5 +1,6 @@
 use Rattle.std.proofs.Common.{ℕ, [], ◌∷◌, ◌++◌, refl, sym, subst}
-use Rattle.board.specs.Running.{IsFaultOf, IsLeastFailed}
+use Rattle.board.specs.Running.{IsFaultOf}
+use Rattle.board.specs.Working.{IsLeastFailed}
 use Rattle.board.proofs.Workings.{works_fail}
 use Rattle.board.proofs.worker.refuse.Goals as goal
 

@@ -1,5 +1,5 @@
 use Rattle.std.proofs.Common.{◌≡◌, ◌+◌, drop, fold}
-use Rattle.edit.specs.Placed.{places_from, with_place}
+use Rattle.edit.specs.FilePlaces.{places_from, with_place}
 use Rattle.edit.proofs.inserting.insert_each.Given as goal
 
 -- the entries so far, and then the rest; the places count on

@@ -2,7 +2,7 @@ use Rattle.std.proofs.Common.{◌∙◌, BTreeMap, Result, IfOk, subst, ℕ, ap,
 use Rattle.std.specs.BTreeMap.{IsFromIterResult}
 use Rattle.std.specs.Ordering.{nat_cmp}
 use Rattle.std.proofs.lemmas.Iterator.Adapters.{YieldsList-from_vec, fact_from_collect}
-use Rattle.edit.specs.Placed.{with_place}
+use Rattle.edit.specs.FilePlaces.{with_place}
 use Rattle.edit.proofs.Together.{together_is}
 use Rattle.edit.proofs.inserting.insert_together.Goals as goal
 

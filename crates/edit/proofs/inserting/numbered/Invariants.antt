@@ -1,5 +1,5 @@
 use Rattle.std.proofs.Common.{◌≡◌, ◌+◌, ◌++◌, drop}
-use Rattle.edit.specs.Placed.{places_from}
+use Rattle.edit.specs.FilePlaces.{places_from}
 use Rattle.edit.proofs.inserting.numbered.Given as goal
 
 -- the entries so far, and then the rest; the places count on

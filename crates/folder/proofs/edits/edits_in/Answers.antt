@@ -11,7 +11,7 @@ use Rattle.folder.proofs.edits.edits_in.Goals as goal
 pub returns-in_err-decode-clause-answer : goal.returns-in_err-decode-clause-answer
 returns-in_err-decode-clause-answer c =
     let e = c.in_err-decode.field-0.0 in
-    let refused = subst (λ (bytes : List ℕ). UnlessMemory e.name (IsRefused bytes e)) c.deref.ensures.value c.in_err-decode.ensures.refused in
+    let refused = subst (λ (bytes : List ℕ). UnlessMemory e (IsRefused bytes e)) c.deref.ensures.value c.in_err-decode.ensures.refused in
     handed_on (λ v. map edit_in v.items) c.from_residual.result e (IsEditsAnswer (lists c.args.records.now)) c.from_residual.ensures.1
     (refused_there c.args.records.now c.loop-record.record-index c.record-item.result c.loop-record.edits.items e c.loop-record-test.true c.record-item.is c.loop-record.invariant.read refused)
 

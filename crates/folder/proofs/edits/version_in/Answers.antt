@@ -10,7 +10,7 @@ use Rattle.folder.proofs.edits.version_in.Goals as goal
 pub returns-in_err-edits : goal.returns-in_err-edits
 returns-in_err-edits c =
     let e = c.in_err-edits.field-0.0 in
-    let refused = subst (λ (rs : List (Vec ℕ)). UnlessMemory e.name (IsEditsAnswer (lists rs) (Err e))) c.deref.ensures.value c.in_err-edits.ensures.answer in
+    let refused = subst (λ (rs : List (Vec ℕ)). UnlessMemory e (IsEditsAnswer (lists rs) (Err e))) c.deref.ensures.value c.in_err-edits.ensures.answer in
     handed_on (λ r. (r.0, r.1)) c.from_residual-in_err-edits.result e (IsManifestAnswer c.args.number c.args.bytes.now) c.from_residual-in_err-edits.ensures.1
     (no_edits c.args.number c.args.bytes.now (lists c.in_ok-records.records.items) e c.in_ok-records.ensures.exact refused)
 

@@ -1,5 +1,5 @@
 use Rattle.std.proofs.Common.{◌≡◌, ℕ, List, Ok, Err, codes, string_bytes, sym, subst, ◌∙◌, arith}
-use Rattle.coding.specs.Answers.{UnlessMemory, Answers}
+use Rattle.coding.specs.Answers.{UnlessMemory, HoldsOrMemory}
 use Rattle.folder.specs.Manifest.{IsManifestAnswer}
 use Rattle.folder.specs.Names.{IsNumberAnswer, manifest_name}
 use Rattle.folder.specs.Opening.{IsHeld, IsOpened}
@@ -22,7 +22,7 @@ returns-in_err-number-clause-answer g c =
     let failed = g.F.Folder.failed in
     let e = c.in_err-number.field-0.0 in
     let current = c.in_ok-current.current.items in
-    let given = subst (λ (bytes : List ℕ). UnlessMemory e.name (IsNumberAnswer bytes (Err e))) c.deref.ensures.value c.in_err-number.ensures in
+    let given = subst (λ (bytes : List ℕ). UnlessMemory e (IsNumberAnswer bytes (Err e))) c.deref.ensures.value c.in_err-number.ensures in
     refuses (λ r. (r.0, r.1)) (failed c.args.folder.now) (failed c.held.new.folder) c.from_residual-in_err-number.result e (IsNumberAnswer current) (IsOpened tells)
     c.from_residual-in_err-number.ensures.1 given (no_number tells current e c.in_ok-current.ensures.answer)
 
@@ -51,7 +51,7 @@ returns-clause-answer g c =
     let two = subst (λ (bytes : List ℕ). IsNumberAnswer bytes (Ok number)) c.deref.ensures.value c.in_ok-number.ensures in
     let named : c.as_str.result.now ≡ manifest_name number = c.as_str.ensures.value ∙ sym (ok_is (manifest_name number) (string_bytes c.in_ok-name.name) c.in_ok-name.ensures) in
     let three = held_before tells then (manifest_name number) c.as_str.result.now (Ok bytes) c.held.ensures.same named c.in_ok-manifest.ensures.answer in
-    let given = subst (λ (bytes : List ℕ). Answers (λ r. (r.0, r.1)) c.version_in.result (IsManifestAnswer number bytes)) c.deref-2.ensures.value c.version_in.ensures in
+    let given = subst (λ (bytes : List ℕ). HoldsOrMemory (λ r. (r.0, r.1)) c.version_in.result (IsManifestAnswer number bytes)) c.deref-2.ensures.value c.version_in.ensures in
     answers_alone (λ r. (r.0, r.1)) (failed c.args.folder.now) (failed c.held-2.new.folder) c.version_in.result (IsManifestAnswer number bytes) (IsOpened tells)
     (manifest_answers tells current number bytes c.in_ok-current.ensures.answer two three) given
 

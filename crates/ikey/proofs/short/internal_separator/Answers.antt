@@ -2,7 +2,7 @@ use Rattle.std.proofs.Common.{rules}
 use Rattle.ikey.specs.Comparator.{IsBetween}
 use Rattle.ikey.specs.Order.{internal_cmp}
 use Rattle.ikey.specs.Short.{internal_separator_of}
-use Rattle.ikey.proofs.Answered.{IfOk-Gives}
+use Rattle.ikey.proofs.Answered.{IfOk-EqualOrMemory}
 use Rattle.ikey.proofs.Shortened.{internal_separator_of-between}
 use Rattle.ikey.proofs.short.internal_separator.Goals as goal
 
@@ -12,7 +12,7 @@ returns-then-is_eq-clause-separator g c = search rules
 
 pub returns-then-is_eq-clause-between : goal.returns-then-is_eq-clause-between
 returns-then-is_eq-clause-between g c h =
-    IfOk-Gives (IsBetween (internal_cmp g.C.Comparator.cmp) c.args.a.bytes.now c.args.b.bytes.now) c.of.result _ (returns-then-is_eq-clause-separator g c)
+    IfOk-EqualOrMemory (IsBetween (internal_cmp g.C.Comparator.cmp) c.args.a.bytes.now c.args.b.bytes.now) c.of.result _ (returns-then-is_eq-clause-separator g c)
     (internal_separator_of-between g.C.Comparator.cmp g.met.C.Comparator.total g.C.Comparator.separator_of g.met.C.Comparator.between c.args.a.bytes.now c.args.b.bytes.now h)
 
 pub returns-clause-separator : goal.returns-clause-separator
@@ -21,5 +21,5 @@ returns-clause-separator g c = search rules
 
 pub returns-clause-between : goal.returns-clause-between
 returns-clause-between g c h =
-    IfOk-Gives (IsBetween (internal_cmp g.C.Comparator.cmp) c.args.a.bytes.now c.args.b.bytes.now) c.shorten.result _ (returns-clause-separator g c)
+    IfOk-EqualOrMemory (IsBetween (internal_cmp g.C.Comparator.cmp) c.args.a.bytes.now c.args.b.bytes.now) c.shorten.result _ (returns-clause-separator g c)
     (internal_separator_of-between g.C.Comparator.cmp g.met.C.Comparator.total g.C.Comparator.separator_of g.met.C.Comparator.between c.args.a.bytes.now c.args.b.bytes.now h)

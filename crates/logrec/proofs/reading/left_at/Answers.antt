@@ -1,7 +1,8 @@
 use Rattle.std.proofs.Common.{true, Bool, length, Result, Ok, ap, ◌∙◌}
 use Rattle.std.proofs.lemmas.Result.{err_from_is_err_and}
 use Rattle.coding.specs.declared.fault.Fault.{Fault}
-use Rattle.logrec.specs.Reading.{piece, left_at}
+use Rattle.logrec.specs.CodeFragment.{piece}
+use Rattle.logrec.specs.Reading.{left_at}
 use Rattle.logrec.proofs.Pieces.{piece_shorter}
 use Rattle.logrec.proofs.Loops.{reads_refused, reads_misplaced, reads_on, reads_end}
 use Rattle.logrec.proofs.reading.left_at.Goals as goal

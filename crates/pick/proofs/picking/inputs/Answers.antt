@@ -16,19 +16,19 @@ use Rattle.pick.proofs.Assembling.{is_no_input, are_inputs, no_largest, no_head_
 use Rattle.pick.proofs.picking.inputs.Goals as goal
 use Rattle.pick.proofs.picking.inputs.Goals.{in_default-via-in-Some+in_default, in_default-via-in_default}
 
-pub returns-in_default : goal.returns-in_default
-returns-in_default g c =
+pub returns-in_default-clause-picked : goal.returns-in_default-clause-picked
+returns-in_default-clause-picked g c =
     let cmp = g.C.Comparator.cmp in
     let upper = c.in_ok-upper.upper.items in
     let refusal = λ (short : _). is_no_input cmp c.args.version.now c.args.level (lent upper) c.if-level-gt-LAST_INPUT_LEVEL.false c.in_ok-upper.ensures short in
-    subst (λ (e : Fault). UnlessMemory e.name (IsInputsAnswer cmp c.args.version.now c.args.level (Err e))) (sym c.of-in_default.ensures)
+    subst (λ (e : Fault). UnlessMemory e (IsInputsAnswer cmp c.args.version.now c.args.level (Err e))) (sym c.of-in_default.ensures)
     (elim c.in_default.branch [
       | in_default-via-in-Some+in_default w ↦ refusal (no_largest cmp (lent upper) (ap (λ (fs : List (Bor FileMeta)). largest_key cmp (lent fs)) (sym c.deref-2.ensures.value) ∙ sym c.largest_of.ensures ∙ ap option_copied w.in_default.is-1))
       | in_default-via-in_default w ↦ refusal (no_head_lent upper (ap (λ (fs : List (Bor FileMeta)). slice_get fs 0) (sym c.deref.ensures.value) ∙ sym c.first.ensures.value ∙ ap option_copied w.in_default.is-0))
     ])
 
-pub returns : goal.returns
-returns g c =
+pub returns-clause-picked : goal.returns-clause-picked
+returns-clause-picked g c =
     let cmp = g.C.Comparator.cmp in
     let v = c.args.version.now in
     let level = c.args.level in
@@ -52,4 +52,4 @@ returns g c =
     ∙ ap (λ l. cond (nat_lt 6 (level + 2)) [] (filter (is_overlapping cmp (least_user cmp range.smallest.now (lent lower)) l) (level_files cmp v (level + 2)))) wide_largest in
     let deeper : c.in_ok-deeper_files.field-0.items ≡ files_from cmp v (level + 2) (7 - (level + 2)) = sym (ok_is (files_from cmp v (level + 2) (7 - (level + 2))) c.in_ok-deeper_files.field-0.items c.in_ok-deeper_files.ensures) in
     are_inputs cmp v level g.met.C.Comparator.total (lent upper) (lent lower) first range.smallest.now range.largest.now c.in_ok-of.field-0 c.push_inputs-2.new.inputs.items c.in_ok-grandparents.field-0.items c.in_ok-deeper_files.field-0.items
-    c.if-level-gt-LAST_INPUT_LEVEL.false c.in_ok-upper.ensures head smallest largest c.in_ok-lower.ensures files grandparents deeper key
+    c.if-level-gt-LAST_INPUT_LEVEL.false c.in_ok-upper.ensures head smallest largest c.in_ok-lower.ensures.lower files grandparents deeper key

@@ -7,8 +7,8 @@ use Rattle.pick.proofs.Lists.{lent}
 use Rattle.pick.proofs.Choosing.{lower_is}
 use Rattle.pick.proofs.taken.lower_files.Goals as goal
 
-pub returns : goal.returns
-returns g c =
+pub returns-clause-lower : goal.returns-clause-lower
+returns-clause-lower g c =
     let cmp = g.C.Comparator.cmp in
     let same = sym (ok_is (level_files cmp c.args.version.now c.args.level) (lent c.in_ok-files.files.items) c.in_ok-files.ensures.ordered) in
     lower_is cmp g.met.C.Comparator.total c.args.version.now c.args.level c.in_ok-files.ensures.state.apart (λ (v : Vec (Bor FileMeta) Global). lent v.items) c.with_boundaries.result (is_in cmp c.args.range) (lent c.deref.result.now)

@@ -1,14 +1,14 @@
 use Rattle.std.proofs.Common.{Bor, Vec, Global, List, Ok, sym, ap, subst, ◌∙◌, ◌≡◌, arith}
 use Rattle.std.specs.List.{filter}
 use Rattle.std.specs.Option.{option_copied}
-use Rattle.coding.specs.Answers.{Gives}
+use Rattle.coding.specs.Answers.{EqualOrMemory}
 use Rattle.coding.proofs.Binds.{ok_is}
 use Rattle.edit.specs.Version.{pointer_of}
 use Rattle.edit.specs.VersionOrder.{level_files}
 use Rattle.edit.specs.declared.meta.FileMeta.{FileMeta}
 use Rattle.pick.specs.Boundaries.{largest_key}
 use Rattle.pick.specs.Chosen.{first_file}
-use Rattle.pick.specs.Choices.{is_chosen, joined, IsGrown}
+use Rattle.pick.specs.Choices.{is_chosen, boundary_pass, IsGrown}
 use Rattle.pick.specs.declared.choice.Choice.{Choice}
 use Rattle.pick.proofs.Lists.{lent}
 use Rattle.pick.proofs.Choosing.{upper_one, upper_around, upper_none}
@@ -21,8 +21,9 @@ returns-in_default g c =
     let v = c.args.version.now in
     let items = c.in_ok-files.files.items in
     let same = sym (ok_is (level_files cmp v c.args.level) (lent items) c.in_ok-files.ensures.ordered) in
+    let pointed : option_copied c.pointer.result ≡ pointer_of v c.args.level = cc in
     let found : option_copied c.first_file.result ≡ first_file cmp (pointer_of v c.args.level) (lent items) =
-    c.first_file.ensures ∙ ap (λ o. first_file cmp o (lent c.deref.result.now)) c.pointer.ensures ∙ ap (λ (fs : List (Bor FileMeta)). first_file cmp (pointer_of v c.args.level) (lent fs)) c.deref.ensures.value in
+    c.first_file.ensures ∙ ap (λ o. first_file cmp o (lent c.deref.result.now)) pointed ∙ ap (λ (fs : List (Bor FileMeta)). first_file cmp (pointer_of v c.args.level) (lent fs)) c.deref.ensures.value in
     upper_none cmp g.met.C.Comparator.total v c.args.level c.in_ok-files.ensures.state.apart (lent items) same (sym found ∙ ap option_copied c.in_default.is)
 
 pub returns : goal.returns
@@ -31,11 +32,12 @@ returns g c =
     let v = c.args.version.now in
     let items = c.in_ok-files.files.items in
     let same = sym (ok_is (level_files cmp v c.args.level) (lent items) c.in_ok-files.ensures.ordered) in
+    let pointed : option_copied c.pointer.result ≡ pointer_of v c.args.level = cc in
     let found : option_copied c.first_file.result ≡ first_file cmp (pointer_of v c.args.level) (lent items) =
-    c.first_file.ensures ∙ ap (λ o. first_file cmp o (lent c.deref.result.now)) c.pointer.ensures ∙ ap (λ (fs : List (Bor FileMeta)). first_file cmp (pointer_of v c.args.level) (lent fs)) c.deref.ensures.value in
+    c.first_file.ensures ∙ ap (λ o. first_file cmp o (lent c.deref.result.now)) pointed ∙ ap (λ (fs : List (Bor FileMeta)). first_file cmp (pointer_of v c.args.level) (lent fs)) c.deref.ensures.value in
     let is_first = sym found ∙ ap option_copied c.in-Some.is in
     let view = λ (fs : Vec (Bor FileMeta) Global). lent fs.items in
-    let given = λ (choice : Choice) (fs : List (Bor FileMeta)). Gives view c.with_boundaries.result (Ok (joined cmp (is_chosen cmp choice) (largest_key cmp (filter (is_chosen cmp choice) (lent fs))) (lent fs))) in
+    let given = λ (choice : Choice) (fs : List (Bor FileMeta)). EqualOrMemory view c.with_boundaries.result (Ok (boundary_pass cmp (is_chosen cmp choice) (largest_key cmp (filter (is_chosen cmp choice) (lent fs))) (lent fs))) in
     let gives = λ (choice : Choice) (e : c.match-level.choice ≡ choice). subst (given choice) c.deref-2.ensures.value (subst (λ (choice : Choice). given choice c.deref-2.result.now) e c.with_boundaries.ensures) in
     elim c.match-level.branch [
       | in-0 w ↦ upper_around cmp g.met.C.Comparator.total v c.args.level c.in_ok-files.ensures.state.apart view c.with_boundaries.result (lent items) c.in-Some.first.now w.grown_range.result.smallest.now w.grown_range.result.largest.now same is_first w.in-0.is

@@ -1,9 +1,10 @@
 use Rattle.std.proofs.Common.{◌≡◌, ◌<◌, List, ℕ, Option, Some, Err, length, sym, ap, subst, ◌∙◌, arith}
 use Rattle.std.specs.Option.{option_map}
 use Rattle.std.proofs.lemmas.Result.{err_from_is_err_and}
-use Rattle.coding.proofs.Refusals.{Fails-from}
+use Rattle.coding.proofs.Refusals.{FailsOrMemory-from}
 use Rattle.block.specs.Piece.{Entry}
-use Rattle.table.specs.ReadingEntries.{entry_test, entries_test, ends_reading}
+use Rattle.table.specs.ReadingEntries.{entry_test, entries_test}
+use Rattle.table.specs.Ends.{ends_reading}
 use Rattle.table.proofs.Steps.{first_entry, entries_end, ends_refused, handed_on}
 use Rattle.table.proofs.checking.bounds_of.Goals as goal
 
@@ -24,4 +25,4 @@ returns-in_err-key g c =
     let start = first_entry c.in_ok-cursor.cursor c.key.result.now c.value.result.now c.key.ensures c.value.ensures in
     let some : 0 < length entries = subst (λ (es : List Entry). 0 < length es) c.in_ok-cursor.ensures.all (subst (λ (es : List Entry). 0 < length es) (sym start) (omega arith)) in
     handed_on (λ b. record { smallest = b.smallest; largest = b.largest }) c.from_residual-in_err-key.result p.0 d (ends_reading cmp before entries) p.1 p.2
-    (Fails-from d (ends_reading cmp before entries) (ends_refused cmp before entries d some total))
+    (FailsOrMemory-from d (ends_reading cmp before entries) (ends_refused cmp before entries d some total))

@@ -3,10 +3,11 @@ use Rattle.std.specs.Ordering.{is_gt}
 use Rattle.std.proofs.lemmas.Result.{err_from_is_err_and}
 use Rattle.coding.specs.declared.fault.Fault.{Fault}
 use Rattle.ikey.specs.Order.{internal_cmp}
-use Rattle.table.specs.ReadingEntries.{Ends, is_above, ends_reading}
+use Rattle.table.specs.ReadingEntries.{is_above}
+use Rattle.table.specs.Ends.{Ends, ends_reading}
 use Rattle.table.specs.ReadingIndex.{IndexEntry}
-use Rattle.table.specs.Placed.{index_entry_of, index_of}
-use Rattle.table.specs.declared.placed.Placed.{Placed}
+use Rattle.table.specs.Indexed.{index_entry_of, index_of}
+use Rattle.table.specs.declared.indexed_block.IndexedBlock.{IndexedBlock}
 use Rattle.table.proofs.Steps.{fails_map, handed_on, next_item, both_hold, one_fails}
 use Rattle.table.proofs.DataSteps.{all_ends, rest_ends, stands, blocks_begin, blocks_go_on, first_data_refused, next_data_refused}
 use Rattle.table.proofs.checking.bounds_of_all.Goals as goal
@@ -21,7 +22,7 @@ returns-in_err-bounds g c =
     let is : List IndexEntry = index_of c.in-Some.others.now in
     let q = c.in_ok-block_in.field-0.entries in
     let total : Result Ends Fault = all_ends cmp (index_of c.args.index.now) in
-    let whole : total ≡ all_ends cmp (i ∷ is) = ap (λ (xs : List Placed). all_ends cmp (index_of xs)) c.in-Some.ensures.cases.0 in
+    let whole : total ≡ all_ends cmp (i ∷ is) = ap (λ (xs : List IndexedBlock). all_ends cmp (index_of xs)) c.in-Some.ensures.cases.0 in
     handed_on (λ b. record { smallest = b.smallest; largest = b.largest }) c.from_residual-in_err-bounds.result p.0 d total p.1 p.2
     (fails_map d (ends_reading cmp None q) total (λ h. whole ∙ first_data_refused cmp i is q d c.in_ok-block_in.ensures h) c.in_err-bounds.ensures)
 
@@ -32,7 +33,7 @@ loop-entry-init g c =
     let is : List IndexEntry = index_of c.in-Some.others.now in
     let q = c.in_ok-block_in.field-0.entries in
     let y : Ends = record { smallest = c.in_ok-bounds.bounds.smallest; largest = c.in_ok-bounds.bounds.largest } in
-    let whole : all_ends cmp (index_of c.args.index.now) ≡ all_ends cmp (i ∷ is) = ap (λ (xs : List Placed). all_ends cmp (index_of xs)) c.in-Some.ensures.cases.0 in
+    let whole : all_ends cmp (index_of c.args.index.now) ≡ all_ends cmp (i ∷ is) = ap (λ (xs : List IndexedBlock). all_ends cmp (index_of xs)) c.in-Some.ensures.cases.0 in
     subst (λ (t : Bool). rest_ends cmp y i.key t is ≡ all_ends cmp (index_of c.args.index.now)) (sym c.is_between-fits.ensures)
     (blocks_begin cmp i is q y c.in_ok-block_in.ensures (stands cmp None q y c.in_ok-bounds.ensures) ∙ sym whole)
 
@@ -47,7 +48,7 @@ returns-in_err-next g c =
     let is : List IndexEntry = index_of (drop (c.loop-entry.entry-index + 1) c.in-Some.others.now) in
     let total : Result Ends Fault = all_ends cmp (index_of c.args.index.now) in
     let next = next_item c.in-Some.others.now c.loop-entry.entry-index c.entry-item.result c.loop-entry-test.true c.entry-item.is in
-    let so_far : rest_ends cmp x c.loop-entry.below.now c.loop-entry.fits (i ∷ is) ≡ total = sym (ap (λ (xs : List Placed). rest_ends cmp x c.loop-entry.below.now c.loop-entry.fits (index_of xs)) next) ∙ c.loop-entry.invariant in
+    let so_far : rest_ends cmp x c.loop-entry.below.now c.loop-entry.fits (i ∷ is) ≡ total = sym (ap (λ (xs : List IndexedBlock). rest_ends cmp x c.loop-entry.below.now c.loop-entry.fits (index_of xs)) next) ∙ c.loop-entry.invariant in
     handed_on (λ b. record { smallest = b.smallest; largest = b.largest }) c.from_residual-in_err-next.result p.0 d total p.1 p.2
     (fails_map d (ends_reading cmp (Some c.as_key.result.bytes.now) q) total
     (λ h. sym so_far ∙ next_data_refused cmp x c.loop-entry.below.now c.loop-entry.fits i is q d c.in_ok-block.ensures (ap (λ (k : List ℕ). ends_reading cmp (Some k) q) (sym c.as_key.ensures) ∙ h)) c.in_err-next.ensures)
@@ -64,7 +65,7 @@ loop-entry-preserved g c =
     let is : List IndexEntry = index_of (drop (c.loop-entry.entry-index + 1) c.in-Some.others.now) in
     let total : Result Ends Fault = all_ends cmp (index_of c.args.index.now) in
     let next = next_item c.in-Some.others.now c.loop-entry.entry-index c.entry-item.result c.loop-entry-test.true c.entry-item.is in
-    let so_far : rest_ends cmp x below fits (i ∷ is) ≡ total = sym (ap (λ (xs : List Placed). rest_ends cmp x below fits (index_of xs)) next) ∙ c.loop-entry.invariant in
+    let so_far : rest_ends cmp x below fits (i ∷ is) ≡ total = sym (ap (λ (xs : List IndexedBlock). rest_ends cmp x below fits (index_of xs)) next) ∙ c.loop-entry.invariant in
     let read : ends_reading cmp (Some x.largest) q ≡ Ok y = ap (λ (k : List ℕ). ends_reading cmp (Some k) q) (sym c.as_key.ensures) ∙ c.in_ok-next.ensures in
     let now : c.if-is_between.fits ≡ (c.is_between.result && fits) =
     elim c.if-is_between.branch [

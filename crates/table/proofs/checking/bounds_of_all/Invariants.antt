@@ -1,5 +1,5 @@
 use Rattle.std.proofs.Common.{◌≡◌, drop}
-use Rattle.table.specs.Placed.{index_of}
+use Rattle.table.specs.Indexed.{index_of}
 use Rattle.table.proofs.DataSteps.{all_ends, rest_ends}
 use Rattle.table.proofs.checking.bounds_of_all.Given as goal
 

@@ -1,10 +1,10 @@
 use Rattle.std.proofs.Common.{List, sym, ap, ◌∙◌}
 use Rattle.std.proofs.lemmas.Result.{err_from_is_err_and}
-use Rattle.table.specs.ReadingEntries.{Ends}
+use Rattle.table.specs.Ends.{Ends}
 use Rattle.table.specs.ReadingIndex.{IndexEntry, index_reading}
 use Rattle.table.specs.Reading.{index_in, contents_reading}
-use Rattle.table.specs.Placed.{index_of}
-use Rattle.table.specs.declared.placed.Placed.{Placed}
+use Rattle.table.specs.Indexed.{index_of}
+use Rattle.table.specs.declared.indexed_block.IndexedBlock.{IndexedBlock}
 use Rattle.table.proofs.Steps.{fails_map, handed_on}
 use Rattle.table.proofs.DataSteps.{all_ends}
 use Rattle.table.proofs.CheckedTables.{index_refused, entries_refused, ends_refused, checked}
@@ -37,7 +37,7 @@ returns-in_err-bounds g c =
     let d = c.in_err-bounds.field-0.0 in
     let named = c.in_ok-block.block.entries in
     let index : List IndexEntry = index_of c.in_ok-index.index.items in
-    let lent = ap (λ (xs : List Placed). all_ends cmp (index_of xs)) c.deref.ensures.value in
+    let lent = ap (λ (xs : List IndexedBlock). all_ends cmp (index_of xs)) c.deref.ensures.value in
     handed_on (λ t. t) c.from_residual-in_err-bounds.result p.0 d (contents_reading cmp bytes) p.1 p.2
     (fails_map d (all_ends cmp (index_of c.deref.result.now)) (contents_reading cmp bytes) (λ h. ends_refused cmp bytes named index d c.in_ok-block.ensures c.in_ok-index.ensures (sym lent ∙ h)) c.in_err-bounds.ensures)
 
@@ -47,5 +47,5 @@ of-requires g c =
     let bytes = c.args.bytes.now in
     let index : List IndexEntry = index_of c.in_ok-index.index.items in
     let x : Ends = record { smallest = c.in_ok-bounds.bounds.smallest; largest = c.in_ok-bounds.bounds.largest } in
-    let lent = ap (λ (xs : List Placed). all_ends cmp (index_of xs)) c.deref.ensures.value in
+    let lent = ap (λ (xs : List IndexedBlock). all_ends cmp (index_of xs)) c.deref.ensures.value in
     checked cmp bytes c.in_ok-block.block.entries index x c.in_ok-block.ensures c.in_ok-index.ensures (sym lent ∙ c.in_ok-bounds.ensures)

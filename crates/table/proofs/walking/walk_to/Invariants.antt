@@ -1,6 +1,6 @@
 use Rattle.std.proofs.Common.{◌≡◌, length}
 use Rattle.table.specs.ReadingCursors.{entries_from}
-use Rattle.table.specs.Checked.{HaveKeys}
+use Rattle.table.specs.ReadingEntries.{HaveKeys}
 use Rattle.table.proofs.walking.walk_to.Given as goal
 
 abbrev pub invariant-loop-entries : goal.invariant-loop-entries

@@ -1,5 +1,5 @@
 use Rattle.std.proofs.Common.{◌≡◌, List, [], ◌∷◌, ◌++◌, ℕ, Ok, ap, map, subst, ◌∙◌}
-use Rattle.pick.specs.Tables.{Numbered}
+use Rattle.reads.specs.Tables.{Numbered}
 use Rattle.table.specs.Reading.{contents_reading}
 use Rattle.tool.specs.Checked.{tables_reading}
 use Rattle.tool.proofs.CheckedTables.{checked_more, lent_table}

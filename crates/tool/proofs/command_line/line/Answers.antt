@@ -1,6 +1,7 @@
 use Rattle.std.proofs.Common.{map, subst}
 use Rattle.clap.specs.Words.{subcommand_of}
-use Rattle.tool.specs.Line.{GivesCommand, program_app}
+use Rattle.tool.specs.Line.{program_app}
+use Rattle.tool.specs.LineParts.{GivesCommand}
 use Rattle.tool.proofs.LineLemmas.{LineGives-blocks, LineGives-get}
 use Rattle.tool.proofs.command_line.line.Goals as goal
 

@@ -1,7 +1,7 @@
 use Rattle.std.proofs.Common.{◌≡◌, ◌-◌, ◌<◌, List, ℕ, length, Some, None, get_or, refl, sym, ap, ◌∙◌, arith}
 use Rattle.std.specs.VecDeque.{deque_len}
 use Rattle.tool.specs.declared.tested.TestedEntry.{TestedEntry}
-use Rattle.tool.proofs.TestedLists.{last_key-entries_of}
+use Rattle.tool.proofs.TestedLists.{last_key-tested_entries}
 use Rattle.tool.proofs.testing.last_of.Goals as goal
 
 pub returns : goal.returns
@@ -13,4 +13,4 @@ returns c =
     ap (λ (k : List ℕ). Some k) c.as_key.ensures
     ∙ ap (λ (t : TestedEntry). Some t.key) c.in_ok-last.ensures.lookup
     ∙ ap (λ (n : ℕ). Some (get_or c.args.entries.now.items (n - 1) c.in_ok-last.last.now).key) len
-    ∙ sym (last_key-entries_of None c.args.entries.now.items c.in_ok-last.last.now some)
+    ∙ sym (last_key-tested_entries None c.args.entries.now.items c.in_ok-last.last.now some)

@@ -1,8 +1,8 @@
 use Rattle.std.proofs.Common.{List, None, refl, inr, subst}
 use Rattle.std.proofs.lemmas.Result.{err_from_is_err_and}
-use Rattle.coding.specs.Answers.{Gives}
+use Rattle.coding.specs.Answers.{EqualOrMemory}
 use Rattle.block.specs.Piece.{Entry}
-use Rattle.tool.specs.Merging.{entries_of}
+use Rattle.tool.specs.Merging.{tested_entries}
 use Rattle.tool.specs.Testing.{tested_after}
 use Rattle.tool.proofs.TestedLists.{found_tested}
 use Rattle.tool.proofs.Answering.{file_answer}
@@ -16,12 +16,12 @@ returns-in_err-block-clause-answer c =
 
 pub returns-clause-found : goal.returns-clause-found
 returns-clause-found c =
-    let given = subst (λ (q : List Entry). Gives (λ v. entries_of v.items) c.tested_all.result (tested_after None q)) c.in_ok-new.ensures.all c.tested_all.ensures in
+    let given = subst (λ (q : List Entry). EqualOrMemory (λ v. tested_entries v.items) c.tested_all.result (tested_after None q)) c.in_ok-new.ensures.all c.tested_all.ensures in
     found_tested c.args.bytes.now c.in_ok-block.block.entries c.tested_all.result c.in_ok-block.ensures.found given
 
 pub returns-clause-answer : goal.returns-clause-answer
 returns-clause-answer c =
-    let given = subst (λ (q : List Entry). Gives (λ v. entries_of v.items) c.tested_all.result (tested_after None q)) c.in_ok-new.ensures.all c.tested_all.ensures in
+    let given = subst (λ (q : List Entry). EqualOrMemory (λ v. tested_entries v.items) c.tested_all.result (tested_after None q)) c.in_ok-new.ensures.all c.tested_all.ensures in
     file_answer c.args.bytes.now c.in_ok-block.block.entries c.tested_all.result c.in_ok-block.ensures.found given
 
 pub returns-clause-rising : goal.returns-clause-rising

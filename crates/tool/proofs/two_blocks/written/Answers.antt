@@ -4,7 +4,7 @@ use Rattle.block.specs.Writing.{block}
 use Rattle.block.specs.Building.{Building, with_entry}
 use Rattle.block.proofs.Sizes.{length-block-nil}
 use Rattle.tool.specs.Blocks.{block_within}
-use Rattle.tool.specs.Merging.{entries_of}
+use Rattle.tool.specs.Merging.{tested_entries}
 use Rattle.tool.specs.declared.tested.TestedEntry.{TestedEntry}
 use Rattle.tool.proofs.Unions.{room, too_large}
 use Rattle.tool.proofs.two_blocks.written.Goals as goal
@@ -12,7 +12,7 @@ use Rattle.tool.proofs.two_blocks.written.Goals as goal
 pub loop-entry-init : goal.loop-entry-init
 loop-entry-init c = record {
   interval = ap (λ (b : Building). b.interval) c.new-builder.ensures;
-  entries = ap (λ (b : Building). b.entries ++ entries_of c.args.entries.items) c.new-builder.ensures;
+  entries = ap (λ (b : Building). b.entries ++ tested_entries c.args.entries.items) c.new-builder.ensures;
   small = omega (arith, ap (λ (b : Building). length (block 16 b.entries)) c.new-builder.ensures, length-block-nil 16);
 }
 
@@ -24,14 +24,14 @@ add-requires c =
 pub returns-then-estimate-gt-MAX_BLOCK : goal.returns-then-estimate-gt-MAX_BLOCK
 returns-then-estimate-gt-MAX_BLOCK c =
     let q : List Entry = c.loop-entry.builder.entries in
-    let rest : List Entry = entries_of c.pop_front.new.self.items in
+    let rest : List Entry = tested_entries c.pop_front.new.self.items in
     let longer : List Entry = with_entry c.loop-entry.builder.entries c.bytes.result.now c.in-Some.entry.value.now in
     let size : c.estimate.result ≡ length (block 16 longer) =
     c.estimate.ensures ∙ ap (λ (b : Building). length (block b.interval b.entries)) c.in_ok-add.ensures.ok ∙ ap (λ (n : ℕ). length (block n longer)) c.loop-entry.invariant.interval in
     let key : c.bytes.result.now ≡ c.in-Some.entry.key = c.bytes.ensures ∙ c.as_key-key.ensures in
-    let same : longer ++ rest ≡ entries_of c.args.entries.items =
+    let same : longer ++ rest ≡ tested_entries c.args.entries.items =
     append_assoc q (record { key = c.bytes.result.now; value = c.in-Some.entry.value.now } ∷ []) rest
     ∙ ap (λ (k : List ℕ). q ++ record { key = k; value = c.in-Some.entry.value.now } ∷ rest) key
-    ∙ ap (λ (ts : List TestedEntry). q ++ entries_of ts) (sym c.in-Some.ensures.items)
+    ∙ ap (λ (ts : List TestedEntry). q ++ tested_entries ts) (sym c.in-Some.ensures.items)
     ∙ c.loop-entry.invariant.entries in
     rw c.of.ensures (ap block_within (sym same) ∙ too_large longer rest (omega (arith, size, c.if-estimate-gt-MAX_BLOCK.true)))

@@ -1,12 +1,12 @@
 use Rattle.std.proofs.Common.{◌≡◌, ◌++◌, ◌≤◌, ◌^◌, length}
 use Rattle.block.specs.Writing.{block}
-use Rattle.tool.specs.Merging.{entries_of}
+use Rattle.tool.specs.Merging.{tested_entries}
 use Rattle.tool.proofs.two_blocks.written.Given as goal
 
 abbrev pub invariant-loop-entry : goal.invariant-loop-entry
 invariant-loop-entry l = record {
   interval : l.builder.interval ≡ 16;
-  entries : l.builder.entries ++ entries_of l.entries.items ≡ entries_of l.fn.entries.items;
+  entries : l.builder.entries ++ tested_entries l.entries.items ≡ tested_entries l.fn.entries.items;
   small : length (block 16 l.builder.entries) ≤ 2 ^ 30;
 }
 

@@ -1,6 +1,6 @@
 use Rattle.std.proofs.Common.{List, ℕ, Ok, ap, sym, ◌∙◌, ◌++◌}
 use Rattle.std.specs.Global.{Vec}
-use Rattle.tool.specs.Verifying.{lawful_line}
+use Rattle.tool.specs.FolderLines.{lawful_line}
 use Rattle.tool.proofs.verifying.lawful_line.Goals as goal
 
 pub returns : goal.returns

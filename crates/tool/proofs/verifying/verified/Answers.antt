@@ -1,12 +1,12 @@
 use Rattle.std.proofs.Common.{◌≡◌, List, ℕ, Ok, length, map, ap, ap₂, subst, sym, ◌∙◌}
 use Rattle.coding.proofs.Binds.{ok_is}
-use Rattle.coding.specs.Answers.{Gives}
+use Rattle.coding.specs.Answers.{EqualOrMemory}
 use Rattle.std.specs.List.{All}
 use Rattle.tool.proofs.CheckedTables.{lent_table}
 use Rattle.tool.proofs.TableSizes.{IsFew}
-use Rattle.tool.proofs.VerifyingLemmas.{handed_memory, handed_on, not_sound, sound_few, told_line}
+use Rattle.tool.proofs.FolderLineLemmas.{handed_memory, handed_on, not_sound, sound_few, told_line}
 use Rattle.tool.specs.Checked.{entry_count}
-use Rattle.tool.specs.Verifying.{IsSound, IsTold, lawful_line, verified_line}
+use Rattle.tool.specs.FolderLines.{IsLawfulTables, IsLineOfLoaded, lawful_line, verified_line}
 use Rattle.tool.proofs.verifying.verified.Goals as goal
 
 pub returns-in_err-tables : goal.returns-in_err-tables
@@ -15,11 +15,11 @@ returns-in_err-tables g c =
     let v = c.args.version.now in
     let loaded = map lent_table c.args.loaded.now in
     let e = c.in_err-tables.field-0.0 in
-    handed_on (λ v. v.items) c.from_residual.result e (IsSound cmp v loaded) (IsTold cmp v loaded verified_line) c.from_residual.ensures.1
+    handed_on (λ v. v.items) c.from_residual.result e (IsLawfulTables cmp v loaded) (IsLineOfLoaded cmp v loaded verified_line) c.from_residual.ensures.1
     c.in_err-tables.ensures (not_sound cmp v loaded verified_line e)
 
-pub entries_in-requires : goal.entries_in-requires
-entries_in-requires g c =
+pub entry_count-requires : goal.entry_count-requires
+entry_count-requires g c =
     subst (All IsFew) (sym c.deref.ensures.value) (sound_few g.C.Comparator.cmp c.args.version.now (map lent_table c.args.loaded.now) c.in_ok-tables.tables.items c.in_ok-tables.ensures)
 
 pub returns-in_err-entries : goal.returns-in_err-entries
@@ -27,7 +27,7 @@ returns-in_err-entries g c =
     let cmp = g.C.Comparator.cmp in
     let v = c.args.version.now in
     let loaded = map lent_table c.args.loaded.now in
-    handed_memory (λ v. v.items) c.from_residual-in_err-entries.result c.in_err-entries.field-0.0 (entry_count c.deref.result.now) (IsTold cmp v loaded verified_line)
+    handed_memory (λ v. v.items) c.from_residual-in_err-entries.result c.in_err-entries.field-0.0 (entry_count c.deref.result.now) (IsLineOfLoaded cmp v loaded verified_line)
     c.from_residual-in_err-entries.ensures.1 c.in_err-entries.ensures
 
 pub returns : goal.returns
@@ -40,4 +40,4 @@ returns g c =
     let files : c.len.result ≡ length tables = c.len.ensures ∙ c.in_ok-tables.tables.ok.0 in
     let line : lawful_line c.len.result c.in_ok-entries.entries ≡ verified_line tables = ap₂ lawful_line files count in
     told_line cmp v loaded (λ v. v.items) verified_line tables c.lawful_line.result c.in_ok-tables.ensures
-    (subst (λ (t : List ℕ). Gives (λ v. v.items) c.lawful_line.result (Ok t)) line c.lawful_line.ensures)
+    (subst (λ (t : List ℕ). EqualOrMemory (λ v. v.items) c.lawful_line.result (Ok t)) line c.lawful_line.ensures)

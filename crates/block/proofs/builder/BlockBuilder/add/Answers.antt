@@ -2,9 +2,10 @@ use Rattle.std.proofs.Common.{◌≡◌, ◌≤◌, ◌+◌, ◌^◌, ◌++◌, 
 use Rattle.std.proofs.lemmas.Bool.{eq-eqb, ne_eqb}
 use Rattle.std.proofs.lemmas.List.{take_rest, append-nil}
 use Rattle.block.specs.Piece.{piece_bytes}
-use Rattle.block.specs.Reading.{entries_behind}
+use Rattle.block.specs.Behind.{entries_behind}
 use Rattle.block.specs.Writing.{block}
-use Rattle.block.specs.Building.{Building, IsBuilt, with_entry}
+use Rattle.block.specs.Building.{Building, with_entry}
+use Rattle.block.specs.Kept.{IsBuilt}
 use Rattle.block.proofs.Built.{length-built, next_piece, next_shared, next_piece_bytes, next_last, next_since, IsKept-next, entries_behind-next}
 use Rattle.block.proofs.builder.BlockBuilder.add.Goals as goal
 use Rattle.block.proofs.builder.BlockBuilder.add.Goals.{then-self-eq0+in_ok-push, else-self-eq0, then-self, else-self}

@@ -1,7 +1,7 @@
 use Rattle.std.proofs.Common.{◌≡◌, ◌++◌, ℕ, List, Bor, [], vec_len, sym, ap, ◌∙◌, append_assoc, inl, inr, arith}
 use Rattle.std.proofs.lemmas.Bool.{eqb-true, eqb-false}
 use Rattle.block.specs.Piece.{restarts_of, restart_bytes}
-use Rattle.block.specs.Reading.{entries_behind}
+use Rattle.block.specs.Behind.{entries_behind}
 use Rattle.block.specs.Writing.{pieces_from, block}
 use Rattle.block.specs.Building.{Building}
 use Rattle.block.proofs.Built.{restarts_of-written, length-written, finished}

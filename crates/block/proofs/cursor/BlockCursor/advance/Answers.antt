@@ -1,18 +1,18 @@
 use Rattle.std.proofs.Common.{◌≡◌, List, ℕ, ◌∷◌, ap, subst, sym, ◌∙◌}
 use Rattle.block.specs.Piece.{Entry}
-use Rattle.block.specs.Lent.{lent_field}
-use Rattle.block.specs.Reading.{entries_behind, ArePiecesBehind}
+use Rattle.block.specs.Front.{front_field}
+use Rattle.block.specs.Behind.{entries_behind, ArePiecesBehind}
 use Rattle.block.proofs.Walks.{steps, advanced}
 use Rattle.block.proofs.cursor.BlockCursor.advance.Goals as goal
 
 pub invariant_of-self-2 : goal.invariant_of-self-2
 invariant_of-self-2 c =
-    let s = steps c.self.inside.key.items c.self.inside.rest.now (lent_field c.in-Some.piece) c.self.invariant (sym c.in-Some.ensures) in
+    let s = steps c.self.inside.key.items c.self.inside.rest.now (front_field c.in-Some.piece) c.self.invariant (sym c.in-Some.ensures) in
     subst (λ (key : List ℕ). ArePiecesBehind key c.in-Some.piece.rest.now) (sym c.in_ok-replace_end.ensures.ok) s.behind
 
 pub returns-clause-ok : goal.returns-clause-ok
 returns-clause-ok c =
-    let s = steps c.self.inside.key.items c.self.inside.rest.now (lent_field c.in-Some.piece) c.self.invariant (sym c.in-Some.ensures) in
+    let s = steps c.self.inside.key.items c.self.inside.rest.now (front_field c.in-Some.piece) c.self.invariant (sym c.in-Some.ensures) in
     let entry : List ℕ → Entry = λ k. record { key = k; value = c.in-Some.piece.value.now } in
     let same : entries_behind c.self.inside.key.items c.self.inside.rest.now ≡ entry c.replace_end.new.key.items ∷ entries_behind c.replace_end.new.key.items c.in-Some.piece.rest.now =
     s.entries ∙ ap (λ (k : List ℕ). entry k ∷ entries_behind k c.in-Some.piece.rest.now) (sym c.in_ok-replace_end.ensures.ok) in

@@ -1,7 +1,7 @@
 use Rattle.std.proofs.Common.{◌≡◌, [], length, ap, sym, ◌∙◌}
 use Rattle.std.proofs.lemmas.Bool.{eqb-true, eq-eqb}
 use Rattle.std.proofs.lemmas.List.{nil_from_length}
-use Rattle.block.specs.Reading.{entries_behind}
+use Rattle.block.specs.Behind.{entries_behind}
 use Rattle.block.proofs.Walks.{none_behind, last_by}
 use Rattle.block.proofs.cursor.BlockCursor.is_last.Goals as goal
 

@@ -1,7 +1,7 @@
 use Rattle.std.proofs.Common.{◌≡◌, ◌*◌, ◌<◌, ℕ, [], length, drop, get_or, ap, sym, subst, ◌∙◌, arith}
 use Rattle.std.proofs.lemmas.List.{length-drop}
 use Rattle.byteorder.specs.Endian.{little_number}
-use Rattle.block.specs.Reading.{entries_behind, ArePiecesBehind}
+use Rattle.block.specs.Behind.{entries_behind, ArePiecesBehind}
 use Rattle.block.specs.Sound.{Sound}
 use Rattle.block.proofs.Places.{stands_at, length-places}
 use Rattle.block.proofs.sound_block.SoundBlock.area_from.Goals as goal

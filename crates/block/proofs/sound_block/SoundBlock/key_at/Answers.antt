@@ -1,6 +1,6 @@
 use Rattle.std.proofs.Common.{ℕ, [], get_or, ap, sym, ◌∙◌}
 use Rattle.std.specs.Option.{option_map}
-use Rattle.block.specs.Lent.{lent_field}
+use Rattle.block.specs.Front.{front_field}
 use Rattle.block.proofs.Walks.{ends, first_key, no_key}
 use Rattle.block.proofs.sound_block.SoundBlock.key_at.Goals as goal
 
@@ -13,4 +13,4 @@ returns-in_err-piece c =
 pub returns : goal.returns
 returns c =
     let place : ℕ = get_or c.args.self.now.restarts c.args.restart 0 in
-    sym (first_key c.args.self.now.entries place c.area_from.result.now (lent_field c.in_ok-piece.piece) c.area_from.ensures.pieces (sym c.in_ok-piece.ensures) (sym c.area_from.ensures.entries))
+    sym (first_key c.args.self.now.entries place c.area_from.result.now (front_field c.in_ok-piece.piece) c.area_from.ensures.pieces (sym c.in_ok-piece.ensures) (sym c.area_from.ensures.entries))

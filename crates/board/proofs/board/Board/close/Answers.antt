@@ -1,6 +1,7 @@
 use Rattle.std.proofs.Common.{◌≡◌, List, [], ◌∷◌, All, length, sym, subst, rules}
 use Rattle.board.specs.Progress.{Progress}
-use Rattle.board.specs.Closing.{all_done, all_failed, all_skipped, Gathers}
+use Rattle.board.specs.Finished.{all_done, all_failed, all_skipped}
+use Rattle.board.specs.Gathering.{Gathers}
 use Rattle.board.proofs.Closings.{all_front, counts_exact, spent_exact, nothing_left, closes_all}
 use Rattle.board.proofs.Placing.{one_popped}
 use Rattle.board.proofs.board.Board.close.Goals as goal

@@ -1,5 +1,6 @@
 use Rattle.std.proofs.Common.{◌+◌, List, ℕ, sym, subst, arith}
-use Rattle.board.specs.Progress.{Progress, IsUnspent, IsCounted}
+use Rattle.board.specs.Progress.{Progress, IsUnspent}
+use Rattle.board.specs.Seats.{IsCounted}
 use Rattle.board.proofs.Counts.{counted_done, counts_small}
 use Rattle.board.proofs.board.Board.done.Goals as goal
 

@@ -1,6 +1,7 @@
 use Rattle.std.proofs.Common.{◌≤◌, ◌+◌, ℕ, ◌∙◌, sym, ap, subst, arith, length}
-use Rattle.board.specs.Progress.{DrawsJob, IsUnspent, progress_of}
+use Rattle.board.specs.Progress.{DrawsJob, IsUnspent}
 use Rattle.board.specs.Rule.{saw_empty}
+use Rattle.board.specs.Seats.{progress_of}
 use Rattle.board.proofs.Turns.{may_claim, share_kept, before_draw, after_pass, passes, draws_job, draws_none}
 use Rattle.board.proofs.Counts.{counted_pass, counted_draw, open_new, still_seated, few_drawn}
 use Rattle.board.proofs.board.Board.draw.Goals as goal

@@ -1,5 +1,7 @@
 use Rattle.std.proofs.Common.{◌≡◌, ◌≤◌, ◌-◌, length}
-use Rattle.board.specs.Progress.{progress_of, after_draw, IsSeated, IsCounted, IsShare, SeesInTurn, share_in_turn}
+use Rattle.board.specs.Shares.{share_in_turn}
+use Rattle.board.specs.Progress.{after_draw, SeesInTurn}
+use Rattle.board.specs.Seats.{progress_of, IsSeated, IsCounted, IsShare}
 use Rattle.board.proofs.board.Board.draw.Given as goal
 
 abbrev pub invariant-loop-seat : goal.invariant-loop-seat

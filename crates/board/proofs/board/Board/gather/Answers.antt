@@ -7,8 +7,8 @@ use Rattle.board.proofs.board.Board.gather.Goals as goal
 pub join_seat-requires : goal.join_seat-requires
 join_seat-requires c =
     let here = ap (λ (l : Layout). l.table) c.self.view_is in (
-      ap (λ (l : Layout). l.table) c.requires.board.0 ∙ sym here,
-      ap (λ (p : Progress). p.board.table) c.seat.view_is ∙ ap (λ (l : Layout). l.table) c.requires.board.1 ∙ sym here,
+      ap (λ (l : Layout). l.table) c.requires.board ∙ sym here,
+      ap (λ (p : Progress). p.board.table) c.seat.view_is ∙ ap (λ (l : Layout). l.table) c.requires.seat ∙ sym here,
       c.seat.invariant.0.slots,
       omega (arith, c.self.invariant.0),
       joins _ _ _ _ _ c.requires.seats,

@@ -1,6 +1,7 @@
 use Rattle.std.proofs.Common.{◌<◌, ◌-◌, ◌≡◌, sym, ap, ◌∙◌, arith}
 use Rattle.board.specs.declared.rule.Extent.{Extent}
-use Rattle.board.specs.Progress.{layout, unused, unused_seats}
+use Rattle.board.specs.Progress.{unused, unused_seats}
+use Rattle.board.specs.Seats.{layout}
 use Rattle.board.proofs.Moves.{splits_as}
 use Rattle.board.proofs.Workings.{all_made}
 use Rattle.board.proofs.board.Board.of.Goals as goal

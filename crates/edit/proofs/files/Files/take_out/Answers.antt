@@ -1,6 +1,6 @@
 use Rattle.std.proofs.Common.{◌<◌, ℕ, List, [], ◌∷◌, vec_len, slice_get, sym, ap, subst, ◌∙◌}
 use Rattle.std.proofs.lemmas.Option.{slice_get_read}
-use Rattle.edit.specs.Placed.{IsPlaced, told_at}
+use Rattle.edit.specs.FilePlaces.{AreFilePlaces, with_place_of}
 use Rattle.edit.specs.Version.{has_place, kept_files}
 use Rattle.edit.specs.declared.meta.NewFile.{NewFile}
 use Rattle.edit.proofs.Places.{is_within}
@@ -25,9 +25,9 @@ invariant_of-self c =
       under = under;
       swapped = is_swapped files after c.swap_remove-file.result (vec_len c.self.inside.files) (vec_len c.swap_remove-file.new.self) spot c.self.inside.files.ok.0 c.swap_remove-file.new.self.ok.0 c.swap_remove-file.ensures.len low c.swap_remove-file.ensures.by_index.0 c.swap_remove-file.ensures.by_index.1;
     } in
-    let as_told = left_as after ps c.remove.new.self.entries c.tell_place.new.places.entries number spot
-    (c.tell_place.ensures ∙ ap (λ (fs : List NewFile). told_at (slice_get fs spot) spot c.remove.new.self.entries) c.deref.ensures.value) c.remove.ensures.entries in
-    subst (IsPlaced after) (sym as_told) (placed_left files after ps number spot (vec_len c.swap_remove-file.new.self) left_so)
+    let as_set = left_as after ps c.remove.new.self.entries c.set_place.new.places.entries number spot
+    (c.set_place.ensures ∙ ap (λ (fs : List NewFile). with_place_of (slice_get fs spot) spot c.remove.new.self.entries) c.deref.ensures.value) c.remove.ensures.entries in
+    subst (AreFilePlaces after) (sym as_set) (placed_left files after ps number spot (vec_len c.swap_remove-file.new.self) left_so)
 
 pub returns-in-Some-clause-there : goal.returns-in-Some-clause-there
 returns-in-Some-clause-there c =
@@ -55,10 +55,10 @@ returns-in-Some-clause-others c =
       under = under;
       swapped = is_swapped files after c.swap_remove-file.result (vec_len c.self.inside.files) (vec_len c.swap_remove-file.new.self) spot c.self.inside.files.ok.0 c.swap_remove-file.new.self.ok.0 c.swap_remove-file.ensures.len low c.swap_remove-file.ensures.by_index.0 c.swap_remove-file.ensures.by_index.1;
     } in
-    let as_told = left_as after ps c.remove.new.self.entries c.tell_place.new.places.entries number spot
-    (c.tell_place.ensures ∙ ap (λ (fs : List NewFile). told_at (slice_get fs spot) spot c.remove.new.self.entries) c.deref.ensures.value) c.remove.ensures.entries in
+    let as_set = left_as after ps c.remove.new.self.entries c.set_place.new.places.entries number spot
+    (c.set_place.ensures ∙ ap (λ (fs : List NewFile). with_place_of (slice_get fs spot) spot c.remove.new.self.entries) c.deref.ensures.value) c.remove.ensures.entries in
     let stands = stands_there files ps c.args.place spot c.swap_remove-file.result c.self.invariant under (slice_get_read files (vec_len c.self.inside.files) spot c.swap_remove-file.result c.self.inside.files.ok.0 low c.swap_remove-file.ensures.value) in
-    λ yes. others_left files after ps c.tell_place.new.places.entries c.args.place spot (vec_len c.swap_remove-file.new.self) left_so as_told (sym stands ∙ yes) ∙ ap (kept_files (c.args.place ∷ [])) c.self.view_is
+    λ yes. others_left files after ps c.set_place.new.places.entries c.args.place spot (vec_len c.swap_remove-file.new.self) left_so as_set (sym stands ∙ yes) ∙ ap (kept_files (c.args.place ∷ [])) c.self.view_is
 
 pub returns-in-None-clause-there : goal.returns-in-None-clause-there
 returns-in-None-clause-there c =

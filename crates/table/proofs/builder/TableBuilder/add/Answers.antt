@@ -6,7 +6,8 @@ use Rattle.ikey.specs.Short.{internal_separator_of}
 use Rattle.table.specs.declared.options.Options.{Options}
 use Rattle.table.specs.Table.{index_keys}
 use Rattle.table.specs.Flushed.{entry_at}
-use Rattle.table.specs.Building.{TableBuilding, entries_so_far}
+use Rattle.table.specs.Building.{TableBuilding}
+use Rattle.table.specs.Kept.{entries_so_far}
 use Rattle.table.proofs.Builds.{Adds, first_fits, open_fits, grows, flushes}
 use Rattle.table.proofs.Refused.{ok_is}
 use Rattle.table.proofs.builder.TableBuilder.add.Given.{Over}

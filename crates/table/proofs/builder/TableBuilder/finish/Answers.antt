@@ -1,11 +1,12 @@
 use Rattle.std.proofs.Common.{◌≡◌, ◌++◌, ◌∷◌, [], ℕ, List, length, refl, sym, ap, subst, ◌∙◌}
-use Rattle.coding.specs.Answers.{Gives}
+use Rattle.coding.specs.Answers.{EqualOrMemory}
 use Rattle.block.specs.Writing.{block}
 use Rattle.block.specs.Building.{last_key}
 use Rattle.ikey.specs.Short.{internal_successor_of}
 use Rattle.table.specs.Table.{index_keys, table, within_limit}
 use Rattle.table.specs.Flushed.{entry_at}
-use Rattle.table.specs.Building.{TableBuilding, entries_so_far}
+use Rattle.table.specs.Building.{TableBuilding}
+use Rattle.table.specs.Kept.{entries_so_far}
 use Rattle.table.proofs.Closes.{closed, closed_is, closes_last, closes_none, some_length}
 use Rattle.table.proofs.Refused.{ok_is}
 use Rattle.table.proofs.builder.TableBuilder.finish.Goals as goal
@@ -31,4 +32,4 @@ returns g c =
           ∙ closes_none keys was.options was.flushed.bytes.items was.flushed.index.items was.block.interval was.block.entries c.self.invariant.0.0 c.self.invariant.0.1 (ap length (w.if-not-is_empty.ensures.0 refl))
     ] in
     let seen = ap (λ (b : TableBuilding). within_limit (table g.C.Comparator.cmp g.C.Comparator.separator_of g.C.Comparator.successor_of b.options b.entries)) c.self.view_is in
-    subst (Gives (λ v. v.items) c.finish.result) (ap within_limit whole ∙ seen) c.finish.ensures
+    subst (EqualOrMemory (λ v. v.items) c.finish.result) (ap within_limit whole ∙ seen) c.finish.ensures

@@ -4,11 +4,12 @@ use Rattle.coding.specs.declared.fault.Fault.{Fault}
 use Rattle.block.specs.Piece.{Entry}
 use Rattle.block.specs.Writing.{block}
 use Rattle.block.specs.Building.{Building}
-use Rattle.table.specs.declared.index_entry.IndexEntry.{IndexEntry}
+use Rattle.table.specs.declared.flushed_block.FlushedBlock.{FlushedBlock}
 use Rattle.table.specs.Table.{closing}
 use Rattle.table.specs.Flushed.{index_entries}
 use Rattle.table.proofs.Indexes.{length-closing}
-use Rattle.table.proofs.Refused.{unless_map, over_limit, in_limit}
+use Rattle.coding.proofs.Refusals.{unless_from}
+use Rattle.table.proofs.Refused.{over_limit, in_limit}
 use Rattle.table.proofs.flushed.Flushed.finish.Goals as goal
 
 abbrev refused : Fault → Result (List ℕ) Fault
@@ -18,10 +19,10 @@ pub returns-in_err-index : goal.returns-in_err-index
 returns-in_err-index c =
     let bytes : List ℕ = c.args.self.bytes.items in
     let index : List Entry = index_entries c.args.self.index.items in
-    let same : length (block 1 (index_entries c.deref.result.now)) ≡ length (block 1 index) = ap (λ (x : List IndexEntry). length (block 1 (index_entries x))) c.deref.ensures.value in
+    let same : length (block 1 (index_entries c.deref.result.now)) ≡ length (block 1 index) = ap (λ (x : List FlushedBlock). length (block 1 (index_entries x))) c.deref.ensures.value in
     let p = err_from_is_err_and c.from_residual.result c.from_residual.ensures.1 in
     rw (p.1, p.2)
-    (unless_map c.in_err-index.field-0.0.name _ _
+    (unless_from c.in_err-index.field-0.0 _ _
     (λ h. over_limit (bytes ++ closing (length bytes) index) (let long = h.1 in omega (arith, same, length-append bytes (closing (length bytes) index), length-closing (length bytes) index)) ∙ ap refused (sym h.0))
     c.in_err-index.ensures.err)
 
@@ -29,14 +30,14 @@ pub returns-then-len-closing_len-gt-MAX_TABLE_LEN : goal.returns-then-len-closin
 returns-then-len-closing_len-gt-MAX_TABLE_LEN c =
     let bytes : List ℕ = c.args.self.bytes.items in
     let index : List Entry = index_entries c.args.self.index.items in
-    let same = ap (λ (b : Building). length (block b.interval b.entries)) c.in_ok-index.ensures.ok ∙ ap (λ (x : List IndexEntry). length (block 1 (index_entries x))) c.deref.ensures.value in
+    let same = ap (λ (b : Building). length (block b.interval b.entries)) c.in_ok-index.ensures.ok ∙ ap (λ (x : List FlushedBlock). length (block 1 (index_entries x))) c.deref.ensures.value in
     rw c.of.ensures (over_limit (bytes ++ closing (length bytes) index) (omega (arith, same, c.estimate.ensures, length-append bytes (closing (length bytes) index), length-closing (length bytes) index)))
 
 pub returns : goal.returns
 returns c =
     let bytes : List ℕ = c.args.self.bytes.items in
     let index : List Entry = index_entries c.args.self.index.items in
-    let same = ap (λ (b : Building). length (block b.interval b.entries)) c.in_ok-index.ensures.ok ∙ ap (λ (x : List IndexEntry). length (block 1 (index_entries x))) c.deref.ensures.value in
+    let same = ap (λ (b : Building). length (block b.interval b.entries)) c.in_ok-index.ensures.ok ∙ ap (λ (x : List FlushedBlock). length (block 1 (index_entries x))) c.deref.ensures.value in
     let listed = ap (λ (b : Building). b.entries) c.in_ok-index.ensures.ok ∙ ap index_entries c.deref.ensures.value in
     let written = c.in_ok-push_closing.ensures.ok ∙ ap (λ (x : List Entry). bytes ++ closing (length bytes) x) listed in
     in_limit (bytes ++ closing (length bytes) index) (omega (arith, same, c.estimate.ensures, length-append bytes (closing (length bytes) index), length-closing (length bytes) index))

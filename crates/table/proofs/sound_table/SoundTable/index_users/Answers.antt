@@ -1,20 +1,56 @@
-use Rattle.std.proofs.Common.{◌≡◌, ◌++◌, ℕ, List, map, sym, ap, ◌∙◌, drop}
-use Rattle.std.proofs.lemmas.List.{append-nil}
+use Rattle.std.proofs.Common.{◌≡◌, ◌++◌, ◌∷◌, [], ℕ, List, map, length, drop, refl, sym, ap, subst, ◌∙◌, arith}
+use Rattle.std.proofs.lemmas.List.{append-nil, map_push, nil_from_length}
 use Rattle.coding.proofs.Binds.{done}
+use Rattle.block.specs.Piece.{Entry}
+use Rattle.ikey.specs.Key.{user_of}
+use Rattle.table.specs.ReadingEntries.{HaveKeys}
 use Rattle.table.specs.Reading.{Contents}
-use Rattle.table.specs.Placed.{index_of}
-use Rattle.table.specs.declared.placed.Placed.{Placed}
-use Rattle.table.proofs.Steps.{past_end}
-use Rattle.table.proofs.CheckedTables.{users_of, users_are}
+use Rattle.table.proofs.CheckedTables.{users_are}
+use Rattle.table.proofs.Walks.{indexes, keys_behind, named_keys, none_valid, users_go_on, users_named}
 use Rattle.table.proofs.sound_table.SoundTable.index_users.Goals as goal
+
+-- the user keys of entries
+abbrev users_in : List Entry → List (List ℕ)
+users_in entries = map (λ e. user_of e.key) entries
+
+pub loop-alloc-init : goal.loop-alloc-init
+loop-alloc-init g c =
+    let cmp = g.C.Comparator.cmp in
+    let t = c.self.inside in
+    let x = indexes cmp t.bytes.now t.index.entries t.bounds.smallest t.bounds.largest c.args.self.now g.met.C.Comparator.total c.self.invariant c.self.view_is in
+    record {
+      users = rw c.new-users.ensures.items refl;
+      keys = subst HaveKeys (sym c.in_ok-entries.ensures.all) (named_keys cmp c.args.self.now.bytes t.index.entries x.named);
+    }
+
+pub loop-alloc-preserved : goal.loop-alloc-preserved
+loop-alloc-preserved g c =
+    let q = c.loop-alloc.entries in
+    let front : List (List ℕ) = map (λ user. user.items) c.loop-alloc.users.items in
+    let user : List ℕ = c.user.result.now in
+    let pushed : map (λ u. u.items) c.push.new.self.items ≡ front ++ user ∷ [] =
+    ap (map (λ u. u.items)) c.in_ok-push.ensures.items
+    ∙ map_push (λ u. u.items) c.loop-alloc.users.items c.in_ok-from_slice.field-0
+    ∙ ap (λ (k : List ℕ). front ++ k ∷ []) c.in_ok-from_slice.ensures.items in
+    let on : (front ++ user ∷ []) ++ users_in (drop 1 q) ≡ users_in c.in_ok-entries.entries =
+    users_go_on front q c.first_key.result.bytes.now user (users_in c.in_ok-entries.entries) (omega arith) c.first_key.ensures c.user.ensures c.loop-alloc.invariant.users in
+    record {
+      users = subst (λ (us : List (List ℕ)). us ++ users_in c.advance.new.self ≡ users_in c.in_ok-entries.entries) (sym pushed)
+          (subst (λ (es : List Entry). (front ++ user ∷ []) ++ users_in es ≡ users_in c.in_ok-entries.entries) (sym c.in_ok-advance.ensures.ok) on);
+      keys = subst HaveKeys (sym c.in_ok-advance.ensures.ok) (keys_behind q c.loop-alloc.invariant.keys);
+    }
 
 pub returns : goal.returns
 returns g c =
     let t = c.self.inside in
-    let items = c.deref-entry-items.result.now in
-    let front : List (List ℕ) = map (λ user. user.items) c.loop-entry.users.items in
-    let none : front ++ users_of (index_of (drop c.loop-entry.entry-index items)) ≡ front =
-    ap (λ (ps : List Placed). front ++ users_of (index_of ps)) (past_end items c.loop-entry.entry-index c.loop-entry-test.false) ∙ append-nil front in
+    let k = c.self.invariant in
+    let front : List (List ℕ) = map (λ user. user.items) c.loop-alloc.users.items in
+    let ended : c.loop-alloc.entries ≡ [] = nil_from_length c.loop-alloc.entries (none_valid c.valid.result c.loop-alloc.entries c.valid.ensures.1 c.loop-alloc-test.false) in
+    let none : front ++ users_in c.loop-alloc.entries ≡ front = ap (λ (es : List Entry). front ++ users_in es) ended ∙ append-nil front in
     ap (λ (us : List (List ℕ)). done us)
-    (ap (λ (x : Contents). x.index_users) (sym c.self.view_is) ∙ users_are g.C.Comparator.cmp t.bytes.now t.block.entries (index_of t.index.items) t.bounds.smallest t.bounds.largest c.self.invariant
-    ∙ ap (λ (ps : List Placed). users_of (index_of ps)) (sym c.deref-entry-items.ensures.value) ∙ sym c.loop-entry.invariant ∙ none)
+    (ap (λ (x : Contents). x.index_users) (sym c.self.view_is)
+    ∙ users_are g.C.Comparator.cmp t.bytes.now t.index.entries t.bounds.smallest t.bounds.largest k
+    ∙ sym (users_named t.bytes.now t.index.entries k.index k.index_entries)
+    ∙ ap users_in (sym c.in_ok-entries.ensures.all)
+    ∙ sym c.loop-alloc.invariant.users
+    ∙ none)

@@ -1,4 +1,3 @@
-use Rattle.table.specs.Placed.{index_of}
 use Rattle.table.proofs.CheckedTables.{blocks_are, contents_read}
 use Rattle.table.proofs.sound_table.SoundTable.of.Goals as goal
 
@@ -6,4 +5,4 @@ pub returns : goal.returns
 returns g c =
     let cmp = g.C.Comparator.cmp in
     let k = c.requires in
-    contents_read cmp c.args.bytes.now k.blocks (blocks_are cmp c.args.bytes.now c.args.block.entries (index_of c.args.index.items) c.args.bounds.smallest c.args.bounds.largest k)
+    contents_read cmp c.args.bytes.now k.blocks (blocks_are cmp c.args.bytes.now c.args.index.entries c.args.bounds.smallest c.args.bounds.largest k)

@@ -13,7 +13,7 @@ invariant_of-result g c =
     let entries = c.args.table.now.entries in
     let all : index ≡ c.copy.result.entries = c.in_ok-index.ensures.all ∙ ap (λ (b : Sound). b.entries) (sym c.copy.ensures) in
     let indexes : Indexes cmp bytes index entries =
-    subst (λ (t : List ℕ). Indexes cmp t index entries) (sym c.bytes-bytes.ensures)
+    subst (λ (t : List ℕ). Indexes cmp t index entries) (sym c.bytes-bytes.ensures.bytes)
     (subst (λ (i : List Entry). Indexes cmp c.args.table.now.bytes i entries) (sym c.in_ok-index.ensures.all) c.index_block-index_block.ensures) in
     subst (λ (names : List Entry). IsLeft cmp bytes names c.in_ok-block.block c.advance.new.self) all
     (subst (λ (i : List Entry). IsLeft cmp bytes index c.in_ok-block.block i) (sym c.in_ok-advance.ensures.ok)

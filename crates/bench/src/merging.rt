@@ -1,0 +1,113 @@
+//! Figures of cursors that are walked as one: by a tournament, and by a pass over all for each entry.
+
+use crate::figures::{Call, Figures, Work};
+use crate::tables::{ENTRY_LEN, VALUE_LEN, add, begun, last_of};
+use anyhow::Result;
+use ikey::Bytewise;
+use merge::{Merging, least_place};
+use std::alloc::Global;
+use std::rt::Clock;
+use table::{Cursor, SoundTable, TableCursor, check};
+
+/// What part of the bytes are the values of the entries that are merged.
+const PART: usize = 8;
+/// How many cursors there are, with the call that merges them and the one that passes over them.
+const NUMBERS: [(usize, Call, Call); 4] = [
+    (4, Call::MergeFour, Call::PassFour),
+    (16, Call::MergeSixteen, Call::PassSixteen),
+    (64, Call::MergeSixtyFour, Call::PassSixtyFour),
+    (256, Call::MergeMany, Call::PassMany),
+];
+
+/// Takes the figures of the same entries, dealt out to more and more tables.
+pub fn measure(
+    clock: &impl Clock,
+    alloc: Global,
+    bytes: &[u8],
+    figures: &mut Figures,
+) -> Result<()> {
+    let (values, _) = bytes.split_at(bytes.len() / PART);
+    let (values, _) = values.as_chunks::<VALUE_LEN>();
+    for (number, merge, pass) in NUMBERS {
+        let written = dealt(alloc, values, number)?;
+        let tables = sound(alloc, &written)?;
+        let work = |call| Work {
+            call,
+            bytes: 0,
+            entries: values.len(),
+        };
+        figures.take(clock, work(merge), || merged(alloc, &tables, values.len()))?;
+        figures.take(clock, work(pass), || passed(alloc, &tables, values.len()))?;
+    }
+    Ok(())
+}
+
+/// So many tables, whose entries have rising keys and these values, each dealt out by the first byte of its value.
+fn dealt(alloc: Global, values: &[[u8; VALUE_LEN]], number: usize) -> Result<Vec<Vec<u8>>> {
+    let mut tables = Vec::new(alloc);
+    for place in 0..number {
+        let mut builder = begun(alloc, values.len().saturating_mul(ENTRY_LEN) as u64)?;
+        for (i, value) in values.iter().enumerate() {
+            if usize::from(value[0]) % number == place {
+                add(&mut builder, i, value)?;
+            }
+        }
+        tables.push(builder.finish()?)?;
+    }
+    Ok(tables)
+}
+
+/// These tables, checked.
+fn sound<'a>(alloc: Global, written: &'a [Vec<u8>]) -> Result<Vec<SoundTable<'a, Bytewise>>> {
+    let mut tables = Vec::new(alloc);
+    for bytes in written {
+        tables.push(check::<Bytewise>(alloc, bytes)?)?;
+    }
+    Ok(tables)
+}
+
+/// A cursor over each of these tables.
+fn cursors<'a>(
+    alloc: Global,
+    tables: &[SoundTable<'a, Bytewise>],
+) -> Result<Vec<TableCursor<'a, Bytewise>>> {
+    let mut cursors = Vec::new(alloc);
+    for table in tables {
+        cursors.push(TableCursor::new(alloc, table)?)?;
+    }
+    Ok(cursors)
+}
+
+/// The sum of the last bytes of the first entry's key and value, modulo 2^32. It takes the entry off, where there is one.
+fn taken<'a, S: Cursor<'a, Bytewise>>(cursor: &mut S) -> Result<u32> {
+    if !cursor.valid() {
+        return Ok(0);
+    }
+    let folded = last_of(cursor.key().bytes()).wrapping_add(last_of(cursor.value()));
+    cursor.advance()?;
+    Ok(folded)
+}
+
+/// The sum of what the first so many entries of all tables hold last, walked by a tournament.
+fn merged(alloc: Global, tables: &[SoundTable<'_, Bytewise>], entries: usize) -> Result<u32> {
+    let mut merging = Merging::<Bytewise, _>::new(alloc, cursors(alloc, tables)?)?;
+    let mut folded = 0u32;
+    for _entry in 0..entries {
+        folded = folded.wrapping_add(taken(&mut merging)?);
+    }
+    Ok(folded)
+}
+
+/// The same, where each entry is found by a pass over all cursors.
+fn passed(alloc: Global, tables: &[SoundTable<'_, Bytewise>], entries: usize) -> Result<u32> {
+    let mut cursors = cursors(alloc, tables)?;
+    let mut folded = 0u32;
+    for _entry in 0..entries {
+        if let Some(place) = least_place::<Bytewise, _>(&cursors) {
+            if let Some(cursor) = cursors.get_mut(place) {
+                folded = folded.wrapping_add(taken(cursor)?);
+            }
+        }
+    }
+    Ok(folded)
+}

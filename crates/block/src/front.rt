@@ -1,0 +1,24 @@
+//! What stands at the front of a block's bytes, and the bytes behind it.
+
+ghost use Rattle.std.specs.Prelude.{◌<◌, ◌^◌, length};
+
+/// A piece at the front of bytes: the three parts of an entry, and the bytes behind it.
+#[derive(Clone, Copy)]
+pub(crate) struct FrontPiece<'a> {
+    /// How many bytes of the key before begin its key.
+    pub shared: usize,
+    /// The other bytes of its key.
+    pub unshared: &'a [u8],
+    pub value: &'a [u8],
+    pub rest: &'a [u8],
+    ghost shared_fits: { shared < 2 ^ 32 },
+    ghost unshared_fits: { length unshared.now < 2 ^ 32 },
+}
+
+/// A length at the front of bytes, and the bytes behind it.
+#[derive(Clone, Copy)]
+pub(crate) struct FrontLength<'a> {
+    pub length: usize,
+    pub rest: &'a [u8],
+    ghost fits: { length < 2 ^ 32 },
+}

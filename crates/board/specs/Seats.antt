@@ -1,0 +1,46 @@
+-- How a seat is seen, and what its fields have to do with what it knows.
+use Rattle.std.specs.Prelude.{◌≡◌, ℕ, ◌+◌, ◌^◌, ◌<◌, ◌≤◌, List, [], length}
+use Rattle.atomic_table.specs.Table.{Me}
+use Rattle.atomic_table.specs.Seated.{TableId}
+use Rattle.board.specs.declared.rule.SeatView.{SeatView}
+use Rattle.board.specs.declared.share.Share.{Share}
+use Rattle.board.specs.Shares.{times, start}
+use Rattle.board.specs.Words.{share_len, word_of}
+use Rattle.board.specs.Progress.{Layout, Progress, shares_in_turn, unused}
+
+-- such a board
+abbrev pub layout : TableId → ℕ → ℕ → Layout
+layout table jobs seats = record { table = table; jobs = jobs; seats = seats }
+
+-- what was done at a seat, read from its view and its done list
+abbrev pub progress_of : TableId → ℕ → SeatView → List ℕ → Progress
+progress_of table number v done = record { board = layout table v.jobs v.seats; number = number; drawn = v.drawn; empty = v.empty; failed = v.failed; looked = v.looked; skipped = v.skipped; done = done }
+
+-- a seat of this board at which nothing was done
+pub record IsUnused (of : Layout) (p : Progress) : Type 0 where
+  pub board : p.board ≡ of
+  pub unused : p ≡ unused p.board p.number
+
+-- what the fields of a seat have to do with what it knows
+pub record IsSeated (number passed jobs seats : ℕ) (me : Me (Unit {0}) SeatView) : Type 0 where
+  pub slots : me.1 ≡ []
+  pub one : me.0.parts ≡ 1
+  pub extent : (me.0.jobs ≡ jobs) × (me.0.seats ≡ seats)
+  pub within : number < seats
+  pub few : (seats ≤ 64) × (jobs ≤ 2 ^ 40)
+  pub passes : passed ≤ seats
+  pub empty : me.0.empty ≡ shares_in_turn seats number passed
+
+-- what is kept of a share, so that a claim has nothing to work out
+pub record IsShare (jobs seats k : ℕ) (s : Share) : Type 0 where
+  pub number : s.number ≡ k
+  pub word : s.word ≡ word_of seats k
+  pub start : s.start ≡ start jobs seats k
+  pub len : s.len ≡ share_len jobs seats k
+
+-- What was spent at a seat was drawn there, each number once. The counts are those of the lists
+pub record IsCounted (v : SeatView) (done : List ℕ) (done_count failed_count skipped_count : ℕ) : Type 0 where
+  pub within : (x : ℕ) → 0 < times x v.drawn → x < v.jobs
+  pub once : (x : ℕ) → times x v.drawn ≤ 1
+  pub spent : (x : ℕ) → times x done + times x v.failed + times x v.skipped ≤ times x v.drawn
+  pub counts : (done_count ≡ length done) × (failed_count ≡ length v.failed) × (skipped_count ≡ length v.skipped)

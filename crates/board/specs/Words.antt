@@ -1,0 +1,32 @@
+-- Which numbers were claimed, by the claim words.
+use Rattle.std.specs.Prelude.{ℕ, suc, zero, ◌+◌, ◌-◌, ◌*◌, ◌/◌, min, cond, ltb, leb, ◌&&◌, List, [], ◌∷◌, slice_index}
+use Rattle.board.specs.Shares.{start}
+
+-- the sum of f over the list
+abbrev pub total : {A : Type 0} → (A → ℕ) → List A → ℕ
+total f [] = 0
+total f (x ∷ xs) = f x + total f xs
+
+-- 1 where x is below m, and else 0
+abbrev pub once_below : ℕ → ℕ → ℕ
+once_below x m = cond (ltb x m) 1 0
+
+abbrev pub share_len : ℕ → ℕ → ℕ → ℕ
+share_len n w s = start n w (suc s) - start n w s
+
+-- the claim word of share k of w. The 64 words that there are lie in a row, and those in use as far apart as they can
+unfoldable pub word_of : ℕ → ℕ → ℕ
+word_of w k = k * (64 / w)
+
+-- how often share k was claimed from
+abbrev pub claims_of : ℕ → List ℕ → ℕ → ℕ
+claims_of w words k = slice_index words (word_of w k)
+
+-- Shares that begin at `first`, each up to the next. 1 where x is among the first c numbers of share k, and else 0
+abbrev pub claimed_in : (ℕ → ℕ) → ℕ → ℕ → ℕ → ℕ
+claimed_in first x k c = cond (leb (first k) x && ltb x (min (first k + c) (first (suc k)))) 1 0
+
+-- in how many of the shares below m the number x was claimed, where `claims` says how often each was claimed from
+abbrev pub claimed : (ℕ → ℕ) → (ℕ → ℕ) → ℕ → ℕ → ℕ
+claimed first claims x zero = 0
+claimed first claims x (suc k) = claimed first claims x k + claimed_in first x k (claims k)

@@ -1,0 +1,10 @@
+pub mod FileKeys
+pub mod ClosedLevels
+pub mod BoundaryRanges
+pub mod ClosedHulls
+pub mod Closing
+pub mod ReadOrder
+pub mod FallingOrder
+pub mod Parting
+pub mod StandingTogether
+pub mod RowFacts

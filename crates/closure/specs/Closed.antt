@@ -1,0 +1,62 @@
+-- The inputs of a compaction of a lawful version are closed: what stays beside or above them is newer, and what lies below
+-- them is older.
+use Rattle.std.specs.Prelude.{◌≡◌, ℕ, ◌+◌, ◌≤◌, ◌<◌, nat_eq, Bool, false, ◌&&◌, List, map, filter, Contains}
+use Rattle.std.specs.List.{All, list_any}
+use Rattle.std.specs.declared.cmp.Ordering.{Ordering}
+use Rattle.ikey.specs.Key.{user_of}
+use Rattle.block.specs.Piece.{Entry}
+use Rattle.edit.specs.Version.{State}
+use Rattle.edit.specs.declared.meta.FileMeta.{FileMeta}
+use Rattle.edit.specs.declared.meta.NewFile.{NewFile}
+use Rattle.pick.specs.declared.picked.InputFile.{InputFile}
+use Rattle.pick.specs.Ranges.{begins_by, ends_from, is_in_none}
+use Rattle.pick.specs.Picked.{Picked, IsPicked}
+use Rattle.reads.specs.Tables.{Numbered, table_entries}
+use Rattle.reads.specs.Lawful.{AreNewer, IsLawful}
+
+-- whether a file of this number is an input
+abbrev pub is_input : Picked → ℕ → Bool
+is_input p number = list_any (λ (i : InputFile). nat_eq i.meta.number number) p.files
+
+-- the inputs of the compaction's own level
+abbrev pub upper_inputs : Picked → List FileMeta
+upper_inputs p = map (λ (i : InputFile). i.meta) (filter (λ (i : InputFile). nat_eq i.level p.level) p.files)
+
+-- whether a user key lies in the range of files, from the least of their user keys to the greatest
+abbrev pub is_within : (List ℕ → List ℕ → Ordering) → List FileMeta → List ℕ → Bool
+is_within cmp files user = begins_by cmp files user && ends_from cmp files user
+
+-- of each user key of an input, a file's entries are newer than the input's
+abbrev pub IsNewerThanInputs : List Numbered → Picked → NewFile → Type 0
+IsNewerThanInputs tables p f =
+    All (λ (i : InputFile). AreNewer (table_entries tables f.meta.number) (table_entries tables i.meta.number)) p.files
+
+-- of each user key of an input, a file's entries are older than the input's
+abbrev pub IsOlderThanInputs : List Numbered → Picked → NewFile → Type 0
+IsOlderThanInputs tables p f =
+    All (λ (i : InputFile). AreNewer (table_entries tables i.meta.number) (table_entries tables f.meta.number)) p.files
+
+-- The inputs of a compaction of a level, and what stays of the version's files:
+pub record AreClosed (cmp : List ℕ → List ℕ → Ordering) (v : State) (tables : List Numbered) (p : Picked) : Type 0 where
+  -- a file of the level that stays holds, of the inputs' user keys, newer entries alone;
+  pub same_level : (f : NewFile) → Contains v.files f → is_input p f.meta.number ≡ false → f.level ≡ p.level
+      → IsNewerThanInputs tables p f
+  -- a file of the next level that stays holds no user key in the range of the level's inputs,
+  pub next_level_apart : (f : NewFile) → Contains v.files f → is_input p f.meta.number ≡ false → f.level ≡ p.level + 1
+      → All (λ (e : Entry). is_within cmp (upper_inputs p) (user_of e.key) ≡ false) (table_entries tables f.meta.number)
+  -- and only newer entries of the other inputs' user keys;
+  pub next_level : (f : NewFile) → Contains v.files f → is_input p f.meta.number ≡ false → f.level ≡ p.level + 1
+      → IsNewerThanInputs tables p f
+  -- the files of shallower levels are newer;
+  pub shallower : (f : NewFile) → Contains v.files f → f.level < p.level → IsNewerThanInputs tables p f
+  -- those of deeper levels are older, and hold no user key that none of the deeper files' ranges holds.
+  pub deeper : (f : NewFile) → Contains v.files f → p.level + 1 < f.level → IsOlderThanInputs tables p f
+  pub at_base : (f : NewFile) → Contains v.files f → p.level + 1 < f.level
+      → All (λ (e : Entry). is_in_none cmp p.deeper (user_of e.key) ≡ false) (table_entries tables f.meta.number)
+
+-- the inputs of each lawful version whose files stand at levels up to 6 are closed
+abbrev pub ClosedInputs : (List ℕ → List ℕ → Ordering) → Type 0
+ClosedInputs cmp =
+    (v : State) (tables : List Numbered) (level : ℕ) (p : Picked) →
+    IsLawful cmp v tables → All (λ (f : NewFile). f.level ≤ 6) v.files → IsPicked cmp v level p →
+    AreClosed cmp v tables p

@@ -1,0 +1,47 @@
+-- A worked row: level 1 has a file A with the user key u at sequence 10, and a file B with it at 5.
+use Rattle.std.specs.Prelude.{ℕ, List, [], ◌∷◌, None, Some}
+use Rattle.ikey.specs.Key.{internal_key}
+use Rattle.ikey.specs.declared.kind.Kind.TheVariants.{Put}
+use Rattle.block.specs.Piece.{Entry}
+use Rattle.edit.specs.Version.{State}
+use Rattle.edit.specs.declared.meta.FileMeta.{FileMeta}
+use Rattle.pick.specs.Picked.{Picked}
+use Rattle.reads.specs.Tables.{Numbered}
+
+-- the key of u at a sequence, which is the byte 117
+abbrev pub key_at : ℕ → List ℕ
+key_at sequence = internal_key (117 ∷ []) sequence Put
+
+-- a file that has u at this sequence alone, and its table
+abbrev pub file_at : ℕ → ℕ → FileMeta
+file_at number sequence = record { number = number; size = 113; smallest = key_at sequence; largest = key_at sequence }
+
+abbrev pub entry_at : ℕ → Entry
+entry_at sequence = record { key = key_at sequence; value = [] }
+
+abbrev pub table_at : ℕ → ℕ → Numbered
+table_at number sequence = record { number = number; contents = record { bytes = []; entries = entry_at sequence ∷ []; index_users = [] } }
+
+-- A has number 8, B has number 9
+abbrev pub two_files : State
+two_files = record {
+  log_number = None;
+  previous_log = None;
+  next_file = Some 10;
+  last_sequence = None;
+  pointers = [];
+  files = record { level = 1; meta = file_at 8 10 } ∷ record { level = 1; meta = file_at 9 5 } ∷ [];
+}
+
+abbrev pub two_tables : List Numbered
+two_tables = table_at 8 10 ∷ table_at 9 5 ∷ []
+
+-- A alone as the inputs of level 1
+abbrev pub first_alone : Picked
+first_alone = record {
+  level = 1;
+  files = record { level = 1; meta = file_at 8 10 } ∷ [];
+  grandparents = [];
+  deeper = [];
+  pointer = record { level = 1; key = key_at 10 };
+}

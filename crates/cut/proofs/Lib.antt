@@ -1,0 +1,7 @@
+pub mod Elements
+pub mod Stopping
+pub mod Outputting
+pub mod Joining
+pub mod Whole
+pub mod Apart
+pub mod Metering

@@ -1,0 +1,71 @@
+-- Outputs have all kept entries, in their order, and each has one.
+use Rattle.std.proofs.Common.{◌≡◌, ◌≢◌, ℕ, ◌-◌, Bool, true, false, List, [], ◌∷◌, ◌++◌, take, drop, refl, sym, ap, ◌∙◌, append_assoc, append-nil}
+use Rattle.std.specs.Prelude.{flat_map, if◌then◌else◌}
+use Rattle.std.specs.List.{AllByRecursion}
+use Rattle.std.proofs.lemmas.Bool.{false≢true}
+use Rattle.std.proofs.lemmas.Grind.{flat_map-append}
+use Rattle.std.proofs.lemmas.List.{take-append-drop}
+use Rattle.block.specs.Piece.{Entry}
+use Rattle.table.specs.declared.options.Options.{Options}
+use Rattle.table.specs.DataBlocks.{open_block}
+use Rattle.cut.specs.Outputs.{all_of, ends_before, outputs_behind, outputs_in, segments}
+
+module _ (o : Options) where
+  -- ---- the entries of a segment
+
+  all_open : (latest : List Entry) → all_of (open_block latest) ≡ latest
+  all_open [] = refl
+  all_open (e ∷ es) = append-nil (e ∷ es)
+
+  all_by : (b : Bool) (latest : List Entry) (e : Entry) (es : List Entry) → all_of (outputs_behind o (e ∷ []) es) ≡ e ∷ es → all_of (outputs_behind o (latest ++ e ∷ []) es) ≡ (latest ++ e ∷ []) ++ es
+      → all_of (if b then latest ∷ outputs_behind o (e ∷ []) es else outputs_behind o (latest ++ e ∷ []) es) ≡ latest ++ e ∷ es
+  all_by true latest e es ended grown = ap (λ (xs : List Entry). latest ++ xs) ended
+  all_by false latest e es ended grown = grown ∙ append_assoc latest (e ∷ []) es
+
+  pub all_behind : (latest es : List Entry) → all_of (outputs_behind o latest es) ≡ latest ++ es
+  all_behind latest [] = all_open latest ∙ sym (append-nil latest)
+  all_behind latest (e ∷ es) = all_by (ends_before o latest e) latest e es (all_behind (e ∷ []) es) (all_behind (latest ++ e ∷ []) es)
+
+  abbrev pub IsSome : List Entry → Type 0
+  IsSome q = q ≢ []
+
+  some_open : (latest : List Entry) → AllByRecursion IsSome (open_block latest)
+  some_open [] = tt
+  some_open (e ∷ es) = ((λ no. absurd (cc)), tt)
+
+  ended_some : (latest : List Entry) (e : Entry) → ends_before o latest e ≡ true → IsSome latest
+  ended_some [] e h = absurd (false≢true h)
+  ended_some (a ∷ latest) e h = λ no. absurd (cc)
+
+  some_by : (b : Bool) (latest : List Entry) (e : Entry) (es : List Entry) → ends_before o latest e ≡ b → AllByRecursion IsSome (outputs_behind o (e ∷ []) es) → AllByRecursion IsSome (outputs_behind o (latest ++ e ∷ []) es)
+      → AllByRecursion IsSome (if b then latest ∷ outputs_behind o (e ∷ []) es else outputs_behind o (latest ++ e ∷ []) es)
+  some_by true latest e es ends ended grown = (ended_some latest e ends, ended)
+  some_by false latest e es ends ended grown = grown
+
+  some_behind : (latest es : List Entry) → AllByRecursion IsSome (outputs_behind o latest es)
+  some_behind latest [] = some_open latest
+  some_behind latest (e ∷ es) = some_by (ends_before o latest e) latest e es refl (some_behind (e ∷ []) es) (some_behind (latest ++ e ∷ []) es)
+
+  -- ---- the entries of all segments
+
+  pub all_two : (ps qs : List (List Entry)) → all_of (ps ++ qs) ≡ all_of ps ++ all_of qs
+  all_two ps qs = flat_map-append (λ q. q) ps qs
+
+  pub all_segments : (first : ℕ) (places : List ℕ) (es : List Entry) → all_of (flat_map (outputs_in o) (segments first places es)) ≡ es
+  all_segments first [] es = all_two (outputs_in o es) [] ∙ append-nil (all_of (outputs_in o es)) ∙ all_behind [] es
+  all_segments first (place ∷ places) es =
+      let front = take (place - first) es in
+      let behind = drop (place - first) es in
+      all_two (outputs_in o front) (flat_map (outputs_in o) (segments place places behind))
+      ∙ ap (λ (xs : List Entry). xs ++ all_of (flat_map (outputs_in o) (segments place places behind))) (all_behind [] front)
+      ∙ ap (λ (xs : List Entry). front ++ xs) (all_segments place places behind)
+      ∙ take-append-drop (place - first) es
+
+  some_two : (ps qs : List (List Entry)) → AllByRecursion IsSome ps → AllByRecursion IsSome qs → AllByRecursion IsSome (ps ++ qs)
+  some_two [] qs h k = k
+  some_two (p ∷ ps) qs h k = (h.0, some_two ps qs h.1 k)
+
+  pub some_segments : (first : ℕ) (places : List ℕ) (es : List Entry) → AllByRecursion IsSome (flat_map (outputs_in o) (segments first places es))
+  some_segments first [] es = some_two (outputs_in o es) [] (some_behind [] es) tt
+  some_segments first (place ∷ places) es =
+      some_two (outputs_in o (take (place - first) es)) (flat_map (outputs_in o) (segments place places (drop (place - first) es))) (some_behind [] (take (place - first) es)) (some_segments place places (drop (place - first) es))

@@ -1,0 +1,5 @@
+-- what contracts rest on
+pub mod Stops
+pub mod Outputs
+pub mod Plan
+pub mod Lengths

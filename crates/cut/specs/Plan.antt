@@ -1,0 +1,89 @@
+-- The plan of the outputs: numbers, data blocks and exact lengths, and the work that is left.
+use Rattle.std.specs.Prelude.{◌≡◌, ℕ, ◌+◌, ◌^◌, nat_lt, nat_le, ◌&&◌, if◌then◌else◌, List, [], ◌∷◌, ◌++◌, length, map, flat_map, Result, Ok}
+use Rattle.std.specs.List.{list_all}
+use Rattle.std.specs.declared.cmp.Ordering.{Ordering}
+use Rattle.coding.specs.Answers.{◌>>=◌}
+use Rattle.coding.specs.declared.fault.Fault.{Fault}
+use Rattle.coding.specs.declared.fault.FaultName.TheVariants.{Numbers, TooLarge}
+use Rattle.block.specs.Piece.{Entry}
+use Rattle.table.specs.declared.options.Options.{Options}
+use Rattle.table.specs.DataBlocks.{data_blocks}
+use Rattle.table.specs.Table.{closing, index_from, index_keys, stored_blocks, table}
+use Rattle.table.specs.ReadingSteps.{pass}
+
+-- an output: the number of its file, its entries, the place after the last entry of each of its data blocks, and the length
+-- of its table
+pub record Planned : Type 0 where
+  pub number : ℕ
+  pub entries : List Entry
+  pub blocks : List ℕ
+  pub length : ℕ
+
+-- the places after the last entry of each part, where so many entries stand before the first
+abbrev pub ends_from : ℕ → List (List Entry) → List ℕ
+ends_from at [] = []
+ends_from at (p ∷ ps) = (at + length p) ∷ ends_from (at + length p) ps
+
+-- the outputs of these lists of entries, numbered from here on, each of which is written as this table
+abbrev pub planned_from : (List Entry → List ℕ) → Options → ℕ → List (List Entry) → List Planned
+planned_from table_of o number [] = []
+planned_from table_of o number (q ∷ qs) =
+    record { number = number; entries = q; blocks = ends_from 0 (data_blocks o q); length = length (table_of q) }
+    ∷ planned_from table_of o (number + 1) qs
+
+-- the data blocks of all outputs, in order
+abbrev pub parts : Options → List (List Entry) → List (List Entry)
+parts o outputs = flat_map (data_blocks o) outputs
+
+-- The plan of outputs, numbered from the first number on. Numbers where the number behind the last exceeds 2 ^ 64 - 1;
+-- TooLarge where a table exceeds 2 ^ 30 bytes, or where there are more than 2 ^ 40 data blocks.
+abbrev pub plan_of : (List Entry → List ℕ) → Options → ℕ → List (List Entry) → Result (List Planned) Fault
+plan_of table_of o first outputs = do
+  _ ← pass (nat_lt (first + length outputs) (2 ^ 64)) Numbers
+  _ ← pass (list_all (λ q. nat_le (length (table_of q)) (2 ^ 30)) outputs && nat_le (length (parts o outputs)) (2 ^ 40)) TooLarge
+  Ok (planned_from table_of o first outputs)
+
+-- the number of each output, and its table
+abbrev pub assembled : (List Entry → List ℕ) → List Planned → List (ℕ × List ℕ)
+assembled table_of plan = map (λ (p : Planned). (p.number, table_of p.entries)) plan
+
+-- how many bytes data blocks take, each with its trailer
+abbrev pub stored_len : ℕ → List (List Entry) → ℕ
+stored_len interval parts = length (stored_blocks interval parts)
+
+-- the data blocks of an open piece, where there are any
+abbrev pub open_piece : List (List Entry) → List (List (List Entry))
+open_piece [] = []
+open_piece (p ∷ ps) = (p ∷ ps) ∷ []
+
+-- The pieces of data blocks of one output, of which some are in an open piece. A piece ends with the block at which its
+-- bytes reach this size.
+abbrev pub pieces_behind : ℕ → ℕ → List (List Entry) → List (List Entry) → List (List (List Entry))
+pieces_behind size interval latest [] = open_piece latest
+pieces_behind size interval latest (p ∷ ps) =
+    if nat_le size (stored_len interval (latest ++ p ∷ []))
+    then (latest ++ p ∷ []) ∷ pieces_behind size interval [] ps
+    else pieces_behind size interval (latest ++ p ∷ []) ps
+
+-- The pieces of an output, each of consecutive data blocks, which are encoded by themselves. Where all outputs together
+-- have fewer than 64 data blocks, each block is a piece; else a piece has some 2 ^ 22 bytes.
+abbrev pub pieces_in : Options → ℕ → List Entry → List (List (List Entry))
+pieces_in o blocks q =
+    if nat_lt blocks 64 then map (λ p. p ∷ []) (data_blocks o q) else pieces_behind (2 ^ 22) o.restart_interval [] (data_blocks o q)
+
+-- the pieces of all outputs, in order
+abbrev pub pieces : Options → List (List Entry) → List (List (List Entry))
+pieces o outputs = flat_map (pieces_in o (length (parts o outputs))) outputs
+
+-- how many pieces are to be encoded
+abbrev pub jobs : Options → List (List Entry) → ℕ
+jobs o outputs = length (pieces o outputs)
+
+-- The bytes of a piece are those of its blocks, each with its trailer. Those of an output's pieces, one behind the other,
+-- and what closes its table are its table.
+abbrev pub PiecesLaw : Type 0
+PiecesLaw =
+    (cmp : List ℕ → List ℕ → Ordering) (separator_of : List ℕ → List ℕ → List ℕ) (successor_of : List ℕ → List ℕ) (o : Options) (blocks : ℕ) (q : List Entry) →
+    let bytes = flat_map (stored_blocks o.restart_interval) (pieces_in o blocks q) in
+    table cmp separator_of successor_of o q
+    ≡ bytes ++ closing (length bytes) (index_from (index_keys cmp separator_of successor_of) o.restart_interval 0 (data_blocks o q))

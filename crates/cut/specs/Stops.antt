@@ -1,0 +1,50 @@
+-- Where an output ends because it would overlap too much of the grandparents. Grandparents are the files two levels below
+-- the compaction, which the next compaction of the outputs would have to merge with them.
+use Rattle.std.specs.Prelude.{◌≡◌, ◌↔◌, ℕ, ◌+◌, ◌-◌, ◌*◌, ◌≤◌, nat_lt, Bool, true, false, if◌then◌else◌, List, [], ◌∷◌, ◌++◌, take, drop}
+use Rattle.std.specs.List.{sum_by, AllByRecursion}
+use Rattle.edit.specs.declared.meta.FileMeta.{FileMeta}
+use Rattle.keep.specs.declared.mark.Mark.{Mark}
+use Rattle.keep.specs.Marks.{changes}
+
+-- the sizes of the grandparents from one number to before another, together
+abbrev pub size_between : List FileMeta → ℕ → ℕ → ℕ
+size_between grandparents from to = sum_by (λ (f : FileMeta). f.size) (take (to - from) (drop from grandparents))
+
+-- Whether there is a stop at a mark, where so many grandparents lie below the stop before it: those passed since have more
+-- than 10 times the maximal file size together.
+abbrev pub is_stop : List FileMeta → ℕ → ℕ → Mark → Bool
+is_stop grandparents file_size since m = nat_lt (10 * file_size) (size_between grandparents since m.below)
+
+-- the stops at marks behind a stop below which so many grandparents lie
+abbrev pub stops_behind : List FileMeta → ℕ → ℕ → List Mark → List ℕ
+stops_behind grandparents file_size since [] = []
+stops_behind grandparents file_size since (m ∷ ms) =
+    if is_stop grandparents file_size since m
+    then m.kept ∷ stops_behind grandparents file_size m.below ms
+    else stops_behind grandparents file_size since ms
+
+-- The stops of a compaction, each by the number of kept entries before it. A stop is asked at the first entry of each user
+-- key, kept or dropped. From the first entry, and then from each stop, the next is at the first mark at which the
+-- grandparents passed since have more than 10 times the maximal file size together.
+abbrev pub stops : List FileMeta → ℕ → List Mark → List ℕ
+stops grandparents file_size [] = []
+stops grandparents file_size (m ∷ ms) = stops_behind grandparents file_size m.below ms
+
+-- these are the stops at marks behind a stop: each is at the first mark that is one, and behind the last no mark is
+abbrev pub AreStops : List FileMeta → ℕ → ℕ → List Mark → List ℕ → Type 0
+AreStops grandparents file_size since ms [] = AllByRecursion (λ m. is_stop grandparents file_size since m ≡ false) ms
+AreStops grandparents file_size since ms (place ∷ places) =
+    (passed : List Mark) × (m : Mark) × (rest : List Mark) × (ms ≡ passed ++ m ∷ rest)
+    × AllByRecursion (λ earlier. is_stop grandparents file_size since earlier ≡ false) passed
+    × (is_stop grandparents file_size since m ≡ true) × (place ≡ m.kept)
+    × AreStops grandparents file_size m.below rest places
+
+-- marks have these stops and no others; a mark that repeats the number of the mark before is never one; and sizes add up, so
+-- that a running sum tells them
+pub record StopsLaw : Type 0 where
+  pub these : (grandparents : List FileMeta) (file_size since : ℕ) (ms : List Mark) (places : List ℕ) →
+      AreStops grandparents file_size since ms places ↔ (stops_behind grandparents file_size since ms ≡ places)
+  pub changes_alone : (grandparents : List FileMeta) (file_size : ℕ) (ms : List Mark) →
+      stops grandparents file_size (changes ms) ≡ stops grandparents file_size ms
+  pub running : (grandparents : List FileMeta) (from middle to : ℕ) → from ≤ middle → middle ≤ to →
+      size_between grandparents from to ≡ size_between grandparents from middle + size_between grandparents middle to

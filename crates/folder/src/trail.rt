@@ -1,0 +1,51 @@
+//! The calls that wrote to a folder, as clauses read them.
+
+ghost use Rattle.std.specs.Prelude.{◌≡◌, List, [], ◌∷◌, ◌++◌};
+ghost use Rattle.std.specs.Borrow.{ftrue};
+ghost use Rattle.folder.specs.Calls.{Step};
+
+use std::marker::Model;
+
+/// The calls so far. It takes no memory, and nothing is done with it at run time.
+#[derive(Drop)]
+pub struct Trail {
+    pub ghost steps: { List Step },
+}
+
+impl Model for Trail {
+    ghost also_owns = { λ _. ftrue };
+}
+
+/// A call that writes.
+#[derive(Clone, Copy, Drop)]
+pub enum WriteCall<'a> {
+    Create(&'a str, &'a [u8]),
+    Sync(&'a str),
+    Rename(&'a str, &'a str),
+    SyncFolder,
+}
+
+/// A call, and whether it was done.
+#[derive(Clone, Copy, Drop)]
+pub struct Attempt<'a> {
+    pub call: WriteCall<'a>,
+    pub is_done: bool,
+}
+
+impl Trail {
+    ghost use Rattle.folder.specs.Attempts.{step_in};
+
+    /// No call yet.
+    pub fn new() -> Trail
+        ensures { result.steps ≡ [] }
+    {
+        Trail {}
+    }
+
+    /// These calls, and one more.
+    pub fn then(&self, _attempt: &Attempt<'_>) -> Trail
+        ensures { result.steps ≡ self.now.steps ++ step_in _attempt.now ∷ [] }
+    {
+        Trail {}
+    }
+}

@@ -1,0 +1,9 @@
+mod Parts
+mod Outputs
+mod Switch
+mod Moments
+mod Options
+mod Numbers
+mod Edited
+mod Installed
+mod Files

@@ -1,0 +1,90 @@
+-- The calls of an installation, and what it makes of a version.
+use Rattle.std.specs.Prelude.{◌≡◌, ◌⊎◌, ◌<◌, ◌≤◌, ℕ, nat_eq, List, [], ◌∷◌, ◌++◌, map, unwrap_or, codes, Some, None, is_some, true}
+use Rattle.std.specs.Global.{Vec}
+use Rattle.std.specs.Map.{lookup}
+use Rattle.std.specs.declared.cmp.Ordering.{Ordering}
+use Rattle.logrec.specs.Log.{log}
+use Rattle.edit.specs.Edit.{Edit, IsEdit, edit_bytes}
+use Rattle.edit.specs.Version.{State, applied}
+use Rattle.edit.specs.VersionOrder.{snapshot_of}
+use Rattle.edit.specs.declared.meta.NewFile.{NewFile}
+use Rattle.folder.specs.Calls.{Call, Created, Files, FolderSynced, Renamed, Step, Synced}
+use Rattle.folder.specs.Crash.{Leads, World}
+use Rattle.folder.specs.Levels.{file_numbers}
+use Rattle.folder.specs.Manifest.{order_name}
+use Rattle.folder.specs.Names.{current_text, manifest_name, table_name, temporary_name}
+use Rattle.folder.specs.ReadsAs.{IsOneOf, ReadsAs, StandsAs}
+use Rattle.folder.specs.declared.order.Order.{Order}
+
+-- tables of the code, by their numbers and bytes
+abbrev pub tables_in : List (ℕ × Vec ℕ) → List (ℕ × List ℕ)
+tables_in tables = map (λ (t : ℕ × Vec ℕ). (t.0, t.1.items)) tables
+
+-- a file is made and synced
+abbrev pub writes : List ℕ → List ℕ → List Call
+writes name bytes = Created name bytes ∷ Synced name ∷ []
+
+-- each table is written
+abbrev pub table_calls : List (ℕ × List ℕ) → List Call
+table_calls [] = []
+table_calls (table ∷ tables) = writes (table_name table.0) table.1 ++ table_calls tables
+
+-- the manifest that makes the edited version: the snapshot of the version before, and the edit
+abbrev pub manifest_bytes : List ℕ → (List ℕ → List ℕ → Ordering) → State → List ℕ → List ℕ
+manifest_bytes name cmp v edit = log (edit_bytes (snapshot_of name cmp v) ∷ edit ∷ [])
+
+-- what CURRENT is to hold is written under its temporary name, and the folder is synced
+abbrev pub temporary_calls : ℕ → List Call
+temporary_calls number = writes (temporary_name number) (current_text number) ++ FolderSynced ∷ []
+
+-- it gets the name CURRENT, and the folder is synced
+abbrev pub current_calls : ℕ → List Call
+current_calls number = Renamed (temporary_name number) (codes "CURRENT") ∷ FolderSynced ∷ []
+
+-- The calls of an installation: the tables, the manifest, what CURRENT is to hold, and CURRENT.
+abbrev pub install_calls : ℕ → List (ℕ × List ℕ) → List ℕ → List Call
+install_calls number outputs manifest =
+    table_calls outputs ++ (writes (manifest_name number) manifest ++ (temporary_calls number ++ current_calls number))
+
+-- the numbers of tables
+abbrev pub numbers_of : List (ℕ × List ℕ) → List ℕ
+numbers_of tables = map (λ (t : ℕ × List ℕ). t.0) tables
+
+-- the bytes of the first table of a number, and none where there is no such table: each file that is asked for has one
+abbrev pub bytes_of : List (ℕ × List ℕ) → ℕ → List ℕ
+bytes_of tables number = unwrap_or (lookup (nat_eq number) tables) []
+
+-- the tables of a version after outputs came to the tables before
+abbrev pub tables_after : (List ℕ → List ℕ → Ordering) → State → List (ℕ × List ℕ) → List (ℕ × List ℕ) → List (ℕ × List ℕ)
+tables_after cmp next outputs tables = map (λ (n : ℕ). (n, bytes_of (outputs ++ tables) n)) (file_numbers cmp next)
+
+-- The outputs and the bytes of an edit make the next version of this one, by a manifest of this number.
+pub record IsEditedBy (name : List ℕ) (cmp : List ℕ → List ℕ → Ordering) (order : Order) (v : State) (number : ℕ) (outputs : List (ℕ × List ℕ)) (bytes : List ℕ) (next : State) : Type 0 where
+  pub named : order_name order ≡ name
+  -- the edit, which names no comparator and sets all numbers of a database
+  pub edit : Edit
+  pub read : IsEdit bytes edit
+  pub no_name : edit.comparator ≡ None
+  pub log_number : is_some edit.log_number ≡ true
+  pub previous_log : is_some edit.previous_log ≡ true
+  pub last_sequence : is_some edit.last_sequence ≡ true
+  pub edited : applied v edit ≡ Some next
+  -- its new files are the outputs in their order
+  pub added : map (λ (f : NewFile). f.meta.number) edit.added ≡ numbers_of outputs
+  -- the numbers of the version's files are below its next file, and those of the outputs and of the manifest are not
+  pub least : ℕ
+  pub first_free : v.next_file ≡ Some least
+  pub below : (n : ℕ) → IsOneOf (file_numbers cmp v) n → n < least
+  pub above : (n : ℕ) → IsOneOf (numbers_of outputs) n → least ≤ n
+  pub manifest_above : least ≤ number
+  pub next_free : ℕ
+  pub next_file : edit.next_file ≡ Some next_free
+  pub manifest_below : number < next_free
+
+-- files that read as the one version or the other
+abbrev pub IsBeforeOrAfter : (List ℕ → List ℕ → Ordering) → Order → State → List (ℕ × List ℕ) → State → List (ℕ × List ℕ) → Files → Type 0
+IsBeforeOrAfter cmp order v tables next tables' files = ReadsAs cmp order v tables files ⊎ ReadsAs cmp order next tables' files
+
+-- Wherever these calls lead from a start, the folder stands for the version and its tables.
+abbrev pub StandsAfter : (List ℕ → List ℕ → Ordering) → Order → State → List (ℕ × List ℕ) → World → List Step → Type 0
+StandsAfter cmp order v tables start calls = (w : World) → Leads start calls w → StandsAs cmp order v tables w

@@ -1,0 +1,88 @@
+//! Installing the outcome of a compaction.
+
+ghost use Rattle.std.specs.Prelude.{◌≡◌, ◌<◌, ◌≤◌, ◌^◌, ◌⊎◌, ℕ, List, length, IfErr, OnOk};
+ghost use Rattle.coding.specs.Answers.{UnlessMemory};
+ghost use Rattle.edit.specs.Version.{State};
+ghost use Rattle.folder.specs.Calls.{Files, Tells};
+ghost use Rattle.folder.specs.Runs.{Runs};
+ghost use Rattle.folder.specs.Crash.{LeavesOnly, World};
+ghost use Rattle.folder.specs.Opening.{IsStopped, StopsAtDevice};
+ghost use Rattle.folder.specs.ReadsAs.{ReadsAs};
+ghost use Rattle.folder.specs.declared.order.Order.{Order};
+ghost use Rattle.install.specs.Install.{IsBeforeOrAfter, IsEditedBy, StandsAfter, install_calls, manifest_bytes, tables_after, tables_in};
+
+use crate::manifest::manifest_bytes;
+use crate::writing::{name_current, write, write_tables, write_temporary};
+use coding::Fault;
+use edit::{Outcome, Version};
+use folder::{Folder, manifest_name};
+use ikey::Comparator;
+use std::alloc::Global;
+
+/// Makes the edited version the folder's version: writes the outcome's tables, a manifest of this number and CURRENT.
+///
+/// After `Device` or `Memory` the folder reads as the version before or as the edited one, and is opened again.
+/// The comparator's name has fewer than 2^32 bytes.
+pub fn install<C: Comparator, F: Folder>(
+    alloc: Global,
+    folder: &mut F,
+    version: &Version,
+    manifest_number: u64,
+    outcome: &Outcome,
+) -> Result<(), Fault>
+    requires { length C.name_bytes < 2 ^ 32 }
+
+    // The calls, in their order, up to one that fails.
+    ensures runs { Runs
+        (install_calls manifest_number (tables_in outcome.now.tables.items) (manifest_bytes C.name_bytes C.cmp version.now outcome.now.edit.items))
+        (F.calls folder.old) (F.calls folder.new) (F.tells folder.old) (F.tells folder.new) result }
+
+    // Where the folder stands for the version, a crash at any moment leaves it or the edited version.
+    ensures any_moment { (order : Order) (next : State) (tables : List (ℕ × List ℕ))
+        → IsEditedBy C.name_bytes C.cmp order version.now manifest_number (tables_in outcome.now.tables.items) outcome.now.edit.items next
+        → (start : World) → StandsAfter C.cmp order version.now tables start (F.calls folder.old)
+        → LeavesOnly start (F.calls folder.old) (F.calls folder.new)
+        (IsBeforeOrAfter C.cmp order version.now tables next (tables_after C.cmp next (tables_in outcome.now.tables.items) tables)) }
+
+    // At Ok it stands for the edited version.
+    ensures installed { (order : Order) (next : State) (tables : List (ℕ × List ℕ))
+        → IsEditedBy C.name_bytes C.cmp order version.now manifest_number (tables_in outcome.now.tables.items) outcome.now.edit.items next
+        → (start : World) → StandsAfter C.cmp order version.now tables start (F.calls folder.old)
+        → OnOk result (StandsAfter C.cmp order next (tables_after C.cmp next (tables_in outcome.now.tables.items) tables) start (F.calls folder.new)) }
+
+    // Without a crash the folder reads as one of the two, and at Ok as the edited version.
+    ensures read { (order : Order) (next : State) (tables : List (ℕ × List ℕ))
+        → IsEditedBy C.name_bytes C.cmp order version.now manifest_number (tables_in outcome.now.tables.items) outcome.now.edit.items next
+        → (files : Files) → Tells (F.tells folder.old) files → ReadsAs C.cmp order version.now tables files
+        → (now : Files) × Tells (F.tells folder.new) now
+        × IsBeforeOrAfter C.cmp order version.now tables next (tables_after C.cmp next (tables_in outcome.now.tables.items) tables) now
+        × OnOk result (ReadsAs C.cmp order next (tables_after C.cmp next (tables_in outcome.now.tables.items) tables) now) }
+
+    // Device is answered only where the device failed, and at once; nothing else but want of memory is.
+    ensures refused { IfErr result (λ e. UnlessMemory e (IsStopped (F.failed folder.old) (F.failed folder.new) e)) }
+    ensures at_once { StopsAtDevice (F.failed folder.old) (F.failed folder.new) result }
+    ensures later { F.failed folder.old ≤ F.failed folder.new }
+{
+    let manifest = manifest_bytes::<C>(alloc, version, &outcome.edit)?;
+    make_calls(alloc, folder, manifest_number, &outcome.tables, &manifest)
+}
+
+/// Writes the tables, the manifest and CURRENT.
+fn make_calls<F: Folder>(
+    alloc: Global,
+    folder: &mut F,
+    manifest_number: u64,
+    tables: &[(u64, Vec<u8>)],
+    manifest: &[u8],
+) -> Result<(), Fault>
+    ensures runs { Runs (install_calls manifest_number (tables_in tables.now) manifest.now) (F.calls folder.old) (F.calls folder.new) (F.tells folder.old) (F.tells folder.new) result }
+    ensures refused { IfErr result (λ e. UnlessMemory e (IsStopped (F.failed folder.old) (F.failed folder.new) e)) }
+    ensures at_once { StopsAtDevice (F.failed folder.old) (F.failed folder.new) result }
+    ensures later { F.failed folder.old ≤ F.failed folder.new }
+{
+    let name = manifest_name(alloc, manifest_number)?;
+    write_tables(alloc, folder, tables)?;
+    write(folder, name.as_str(), manifest)?;
+    write_temporary(alloc, folder, manifest_number)?;
+    name_current(alloc, folder, manifest_number)
+}

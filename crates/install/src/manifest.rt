@@ -1,0 +1,33 @@
+//! The manifest that an installation writes.
+
+ghost use Rattle.std.specs.Prelude.{◌≡◌, ◌<◌, ◌^◌, length, IfErr, IfOk};
+ghost use Rattle.coding.specs.Answers.{fault};
+ghost use Rattle.coding.specs.declared.fault.FaultName.TheVariants.{Memory};
+ghost use Rattle.edit.specs.Edit.{IsEdit, edit_bytes};
+ghost use Rattle.edit.specs.Version.{IsState};
+ghost use Rattle.edit.specs.VersionOrder.{snapshot_of};
+ghost use Rattle.install.specs.Install.{manifest_bytes};
+
+use coding::Fault;
+use edit::Version;
+use ikey::Comparator;
+use std::alloc::Global;
+
+/// The log of two records: the snapshot of a version, and an edit's bytes. Refused only for want of memory.
+///
+/// The comparator's name has fewer than 2^32 bytes.
+pub(crate) fn manifest_bytes<C: Comparator>(
+    alloc: Global,
+    version: &Version,
+    edit: &[u8],
+) -> Result<Vec<u8>, Fault>
+    requires { length C.name_bytes < 2 ^ 32 }
+    ensures bytes { IfOk result (λ v. v.items ≡ manifest_bytes C.name_bytes C.cmp version.now edit.now) }
+    ensures reads_back { IfOk result (λ _. IsEdit (edit_bytes (snapshot_of C.name_bytes C.cmp version.now)) (snapshot_of C.name_bytes C.cmp version.now)) }
+    ensures state { IsState version.now.pointers version.now.files }
+    ensures memory { IfErr result (λ e. e ≡ fault Memory) }
+{
+    let snapshot = version.snapshot_edit::<C>(alloc)?.encode(alloc)?;
+    let log = logrec::append(alloc, &[], &snapshot)?;
+    logrec::append(alloc, &log, edit)
+}

@@ -1,0 +1,114 @@
+//! The parts of an installation, of at most four calls each.
+
+ghost use Rattle.std.specs.Prelude.{◌≡◌, ◌∷◌, ◌++◌, [], ◌≤◌, ℕ, List, IfErr, OnOk};
+ghost use Rattle.std.specs.declared.cmp.Ordering.{Ordering};
+ghost use Rattle.edit.specs.Version.{State};
+ghost use Rattle.folder.specs.Crash.{Leads, LeavesOnly, World};
+ghost use Rattle.folder.specs.Free.{IsFree};
+ghost use Rattle.folder.specs.ReadsAs.{IsSettled, IsWritten, ReadsAs, StandsAs};
+ghost use Rattle.folder.specs.declared.order.Order.{Order};
+ghost use Rattle.coding.specs.Answers.{UnlessMemory};
+ghost use Rattle.folder.specs.Runs.{Runs};
+ghost use Rattle.folder.specs.Folder.{failures_after};
+ghost use Rattle.folder.specs.Opening.{IsStopped, StopsAtDevice};
+ghost use Rattle.install.specs.Install.{StandsAfter, current_calls, table_calls, tables_in, temporary_calls, writes};
+ghost use Rattle.folder.specs.Names.{current_text, temporary_name};
+
+use coding::Fault;
+use folder::{CURRENT, Folder, FolderFault, current_text, table_name, temporary_name};
+use std::alloc::Global;
+
+/// Makes a file and syncs it.
+pub(crate) fn write<F: Folder>(folder: &mut F, name: &str, bytes: &[u8]) -> Result<(), FolderFault>
+    ensures runs { Runs (writes name.now bytes.now) (F.calls folder.old) (F.calls folder.new) (F.tells folder.old) (F.tells folder.new) result }
+    // Under a free name a crash at any moment leaves the version before.
+    ensures before { (cmp : List ℕ → List ℕ → Ordering) (order : Order) (v : State) (tables : List (ℕ × List ℕ)) → IsFree cmp v name.now
+        → (start : World) → StandsAfter cmp order v tables start (F.calls folder.old)
+        → LeavesOnly start (F.calls folder.old) (F.calls folder.new) (ReadsAs cmp order v tables) }
+    // At Ok that version stands, and the file is written.
+    ensures written { (cmp : List ℕ → List ℕ → Ordering) (order : Order) (v : State) (tables : List (ℕ × List ℕ)) → IsFree cmp v name.now
+        → (start : World) → StandsAfter cmp order v tables start (F.calls folder.old)
+        → OnOk result ((w : World) → Leads start (F.calls folder.new) w → StandsAs cmp order v tables w × IsWritten w (name.now, bytes.now)) }
+    ensures failures { F.failed folder.new ≡ failures_after (F.failed folder.old) result }
+{
+    make_file(folder, name, bytes)
+}
+
+/// Makes a file and syncs it.
+fn make_file<F: Folder>(folder: &mut F, name: &str, bytes: &[u8]) -> Result<(), FolderFault>
+    ensures runs { Runs (writes name.now bytes.now) (F.calls folder.old) (F.calls folder.new) (F.tells folder.old) (F.tells folder.new) result }
+    ensures failures { F.failed folder.new ≡ failures_after (F.failed folder.old) result }
+{
+    folder.create(name, bytes)?;
+    folder.sync(name)
+}
+
+/// Writes the tables, each under the name of its number.
+pub(crate) fn write_tables<F: Folder>(
+    alloc: Global,
+    folder: &mut F,
+    tables: &[(u64, Vec<u8>)],
+) -> Result<(), Fault>
+    ensures runs { Runs (table_calls (tables_in tables.now)) (F.calls folder.old) (F.calls folder.new) (F.tells folder.old) (F.tells folder.new) result }
+    ensures refused { IfErr result (λ e. UnlessMemory e (IsStopped (F.failed folder.old) (F.failed folder.new) e)) }
+    ensures at_once { StopsAtDevice (F.failed folder.old) (F.failed folder.new) result }
+    ensures later { F.failed folder.old ≤ F.failed folder.new }
+{
+    for (number, bytes) in tables {
+        let name = table_name(alloc, *number)?;
+        write(folder, name.as_str(), bytes)?;
+    }
+    Ok(())
+}
+
+/// Writes what CURRENT is to hold under its temporary name, and syncs the folder.
+pub(crate) fn write_temporary<F: Folder>(
+    alloc: Global,
+    folder: &mut F,
+    number: u64,
+) -> Result<(), Fault>
+    ensures runs { Runs (temporary_calls number) (F.calls folder.old) (F.calls folder.new) (F.tells folder.old) (F.tells folder.new) result }
+    // Where the name is free, a crash at any moment leaves the version before.
+    ensures before { (cmp : List ℕ → List ℕ → Ordering) (order : Order) (v : State) (tables : List (ℕ × List ℕ)) → IsFree cmp v (temporary_name number)
+        → (start : World) → StandsAfter cmp order v tables start (F.calls folder.old)
+        → LeavesOnly start (F.calls folder.old) (F.calls folder.new) (ReadsAs cmp order v tables) }
+    // At Ok that version stands, and the file is written and settled.
+    ensures written { (cmp : List ℕ → List ℕ → Ordering) (order : Order) (v : State) (tables : List (ℕ × List ℕ)) → IsFree cmp v (temporary_name number)
+        → (start : World) → StandsAfter cmp order v tables start (F.calls folder.old)
+        → OnOk result ((w : World) → Leads start (F.calls folder.new) w
+        → StandsAs cmp order v tables w × IsWritten w (temporary_name number, current_text number) × IsSettled w (temporary_name number)) }
+    ensures refused { IfErr result (λ e. UnlessMemory e (IsStopped (F.failed folder.old) (F.failed folder.new) e)) }
+    ensures at_once { StopsAtDevice (F.failed folder.old) (F.failed folder.new) result }
+    ensures later { F.failed folder.old ≤ F.failed folder.new }
+{
+    make_temporary(alloc, folder, number)
+}
+
+/// Writes what CURRENT is to hold under its temporary name, and syncs the folder.
+fn make_temporary<F: Folder>(alloc: Global, folder: &mut F, number: u64) -> Result<(), Fault>
+    ensures runs { Runs (temporary_calls number) (F.calls folder.old) (F.calls folder.new) (F.tells folder.old) (F.tells folder.new) result }
+    ensures refused { IfErr result (λ e. UnlessMemory e (IsStopped (F.failed folder.old) (F.failed folder.new) e)) }
+    ensures at_once { StopsAtDevice (F.failed folder.old) (F.failed folder.new) result }
+    ensures later { F.failed folder.old ≤ F.failed folder.new }
+{
+    let name = temporary_name(alloc, number)?;
+    let text = current_text(alloc, number)?;
+    write(folder, name.as_str(), text.as_bytes())?;
+    Ok(folder.sync_folder()?)
+}
+
+/// Gives what has the temporary name the name CURRENT, and syncs the folder.
+pub(crate) fn name_current<F: Folder>(
+    alloc: Global,
+    folder: &mut F,
+    number: u64,
+) -> Result<(), Fault>
+    ensures runs { Runs (current_calls number) (F.calls folder.old) (F.calls folder.new) (F.tells folder.old) (F.tells folder.new) result }
+    ensures refused { IfErr result (λ e. UnlessMemory e (IsStopped (F.failed folder.old) (F.failed folder.new) e)) }
+    ensures at_once { StopsAtDevice (F.failed folder.old) (F.failed folder.new) result }
+    ensures later { F.failed folder.old ≤ F.failed folder.new }
+{
+    let name = temporary_name(alloc, number)?;
+    folder.rename(name.as_str(), CURRENT)?;
+    Ok(folder.sync_folder()?)
+}

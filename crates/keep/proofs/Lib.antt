@@ -1,0 +1,15 @@
+pub mod OneKey
+pub mod Dropped
+pub mod Composing
+pub mod Distinct
+pub mod Adjacent
+pub mod Counting
+pub mod Standing
+pub mod Leaving
+pub mod Bounds
+pub mod Lents
+pub mod Searching
+pub mod RangeWalks
+pub mod Neighbours
+pub mod OnAnswers
+pub mod Sought

@@ -1,0 +1,13 @@
+-- What stands before a range takes no part in it.
+use Rattle.std.specs.Prelude.{◌≡◌, ℕ, false, List}
+use Rattle.std.specs.declared.cmp.Ordering.{Ordering}
+use Rattle.block.specs.Piece.{Entry}
+use Rattle.split.specs.Ranges.{KeyRange}
+use Rattle.keep.specs.Left.{is_before, EachLosesOnly}
+use Rattle.keep.specs.Marks.{Below}
+use Rattle.keep.specs.Runs.{range_run}
+
+-- lists that have lost some entries before a range give in it what they gave
+abbrev pub BegunLaw : (List ℕ → List ℕ → Ordering) → Type 0
+BegunLaw cmp =
+    (b : Below) (range : KeyRange) (olds news : List (List Entry)) → EachLosesOnly (is_before cmp range.lower false) olds news → range_run cmp b news range ≡ range_run cmp b olds range

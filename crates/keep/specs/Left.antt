@@ -1,0 +1,34 @@
+-- What merging in a range leaves of the cursors that it walks.
+use Rattle.std.specs.Prelude.{◌≡◌, ◌⊎◌, ℕ, Bool, true, false, not, ◌||◌, List, [], ◌∷◌, map, filter, Option}
+use Rattle.std.specs.Option.{option_map_or}
+use Rattle.std.specs.Ordering.{is_lt}
+use Rattle.std.specs.declared.cmp.Ordering.{Ordering}
+use Rattle.ikey.specs.Key.{user_of}
+use Rattle.block.specs.Piece.{Entry}
+use Rattle.split.specs.Ranges.{KeyRange}
+
+-- whether an entry's user key is before a bound, or what is said where there is no bound
+abbrev pub is_before : (List ℕ → List ℕ → Ordering) → Option (List ℕ) → Bool → Entry → Bool
+is_before cmp bound otherwise e = option_map_or (λ limit. is_lt (cmp (user_of e.key) limit)) bound otherwise
+
+-- whether a walk of a range goes past an entry: its user key is before the upper bound, or before the lower one
+abbrev pub is_passed : (List ℕ → List ℕ → Ordering) → KeyRange → Entry → Bool
+is_passed cmp range e = is_before cmp range.lower false e || is_before cmp range.upper true e
+
+-- of each list the entries behind a range
+abbrev pub each_behind : (List ℕ → List ℕ → Ordering) → KeyRange → List (List Entry) → List (List Entry)
+each_behind cmp range lists = map (λ entries. filter (λ e. not (is_passed cmp range e)) entries) lists
+
+-- each entry of a list, in their order, but some that pass a test
+abbrev pub LosesOnly : (Entry → Bool) → List Entry → List Entry → Type 0
+LosesOnly test [] new = new ≡ []
+LosesOnly test (e ∷ es) new =
+    ((test e ≡ true) × LosesOnly test es new)
+    ⊎ ((left : List Entry) × ((new ≡ e ∷ left) × LosesOnly test es left))
+
+-- of each list each entry, in their order, but some that pass a test
+abbrev pub EachLosesOnly : (Entry → Bool) → List (List Entry) → List (List Entry) → Type 0
+EachLosesOnly test [] [] = Unit {0}
+EachLosesOnly test [] (new ∷ news) = ⊥
+EachLosesOnly test (old ∷ olds) [] = ⊥
+EachLosesOnly test (old ∷ olds) (new ∷ news) = LosesOnly test old new × EachLosesOnly test olds news

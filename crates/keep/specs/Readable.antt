@@ -1,0 +1,29 @@
+-- Which sequences stay readable after a compaction.
+use Rattle.std.specs.Prelude.{ℕ, nat_eq, nat_le, Bool, ◌||◌, List, []}
+use Rattle.std.specs.List.{list_any}
+use Rattle.keep.specs.declared.snapshots.Snapshots.{Snapshots}
+use Rattle.keep.specs.declared.snapshots.Snapshots.TheVariants.{From, Listed}
+
+-- The sequences at which every get has to answer as before: each listed one, and the floor and all above it. LevelDB has
+-- no list, and the oldest snapshot as the floor. Of a list of snapshots the floor is the version's last sequence.
+pub record Readable : Type 0 where
+  pub listed : List ℕ
+  pub floor : ℕ
+
+-- whether a sequence stays readable
+abbrev pub is_read : Readable → ℕ → Bool
+is_read r at = list_any (nat_eq at) r.listed || nat_le r.floor at
+
+-- the listed sequences of snapshots
+abbrev pub listed_of : Snapshots → List ℕ
+listed_of (From oldest) = []
+listed_of (Listed list) = list.now
+
+-- the floor of snapshots, in a version of this last sequence
+abbrev pub floor_of : Snapshots → ℕ → ℕ
+floor_of (From oldest) last = oldest
+floor_of (Listed list) last = last
+
+-- the sequences that stay readable of a version of this last sequence
+abbrev pub readable_of : Snapshots → ℕ → Readable
+readable_of snapshots last = record { listed = listed_of snapshots; floor = floor_of snapshots last }

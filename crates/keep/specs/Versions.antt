@@ -1,0 +1,17 @@
+-- The version of an entry: its user key and its sequence.
+use Rattle.std.specs.Prelude.{ℕ, if◌then◌else◌, List, Option, Some, None}
+use Rattle.std.specs.Str.{bytes_eq}
+use Rattle.ikey.specs.Key.{user_of, sequence_of}
+
+pub record EntryVersion : Type 0 where
+  pub user : List ℕ
+  pub sequence : ℕ
+
+-- the version of an internal key
+abbrev pub version_of : List ℕ → EntryVersion
+version_of key = record { user = user_of key; sequence = sequence_of key }
+
+-- the sequence of the last version, where it is of this user key
+abbrev pub newer_of : Option EntryVersion → List ℕ → Option ℕ
+newer_of None user = None
+newer_of (Some v) user = if bytes_eq v.user user then Some v.sequence else None

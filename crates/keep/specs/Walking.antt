@@ -1,0 +1,72 @@
+-- How far the entries of a range have been walked, and what the next one does.
+use Rattle.std.specs.Prelude.{ℕ, nat_eq, nat_lt, nat_le, Bool, false, not, ◌&&◌, ◌||◌, if◌then◌else◌, List, [], ◌∷◌, ◌++◌, length, Option, Some, None}
+use Rattle.std.specs.List.{list_any}
+use Rattle.std.specs.Option.{is_none}
+use Rattle.std.specs.declared.cmp.Ordering.{Ordering}
+use Rattle.ikey.specs.Key.{user_of, sequence_of}
+use Rattle.block.specs.Piece.{Entry}
+use Rattle.keep.specs.declared.mark.Mark.{Mark}
+use Rattle.keep.specs.declared.walk.Walk.{Walk}
+use Rattle.keep.specs.Versions.{EntryVersion, version_of, newer_of}
+use Rattle.keep.specs.Readable.{Readable}
+use Rattle.keep.specs.Keeping.{is_obsolete}
+use Rattle.keep.specs.Marks.{Below, grandparents_below}
+
+-- whether the entry before, of this sequence where it has the user key, is of the sequence of this internal key
+abbrev pub is_repeated : Option ℕ → List ℕ → Bool
+is_repeated None key = false
+is_repeated (Some newer) key = nat_eq newer (sequence_of key)
+
+-- whether a listed sequence reads a version of a sequence, and not yet one of a newer sequence
+abbrev pub is_needed : List ℕ → ℕ → ℕ → Bool
+is_needed listed newer older = list_any (λ s. nat_le older s && nat_lt s newer) listed
+
+-- whether the entry before, of this sequence where it has the user key, hides that of an internal key
+abbrev pub is_hidden_by : Readable → Option ℕ → List ℕ → Bool
+is_hidden_by r None key = false
+is_hidden_by r (Some newer) key = nat_le newer r.floor && not (is_needed r.listed newer (sequence_of key))
+
+-- whether an entry is kept behind that entry
+abbrev pub keeps_behind : (List ℕ → List ℕ → Ordering) → Below → Option ℕ → Entry → Bool
+keeps_behind cmp b newer e = not (is_hidden_by b.readable newer e.key) && not (is_obsolete cmp b.readable b.deeper e)
+
+-- Whether the first entry of a user key sets a mark: it is the first of all, or where so many grandparents lay below the
+-- user key before it, another number lies below it.
+abbrev pub sets_mark : Option EntryVersion → ℕ → ℕ → Bool
+sets_mark last passed below = is_none last || not (nat_eq below passed)
+
+-- the marks that it sets, where so many entries before it are kept
+abbrev pub new_marks : Option EntryVersion → ℕ → ℕ → ℕ → List Mark
+new_marks last passed below kept = if sets_mark last passed below then record { below = below; kept = kept } ∷ [] else []
+
+-- what the first entry of a user key does
+abbrev pub begun : (List ℕ → List ℕ → Ordering) → Below → Walk → List ℕ → Walk
+begun cmp b w key = record {
+  run = record {
+    kept = w.run.kept;
+    marks = w.run.marks ++ new_marks w.last w.passed (grandparents_below cmp b.grandparents key) (length w.run.kept);
+  };
+  last = w.last;
+  passed = grandparents_below cmp b.grandparents key;
+}
+
+-- what an entry does where the entry before it, of this sequence, has its user key; or none has
+abbrev pub headed : (List ℕ → List ℕ → Ordering) → Below → Option ℕ → Walk → List ℕ → Walk
+headed cmp b None w key = begun cmp b w key
+headed cmp b (Some newer) w key = w
+
+-- what each entry does behind that
+abbrev pub taken : Bool → Walk → Entry → Walk
+taken keeps w e = record {
+  run = record {
+    kept = w.run.kept ++ (if keeps then e ∷ [] else []);
+    marks = w.run.marks;
+  };
+  last = Some (version_of e.key);
+  passed = w.passed;
+}
+
+-- what an entry does
+abbrev pub walked : (List ℕ → List ℕ → Ordering) → Below → Walk → Entry → Walk
+walked cmp b w e =
+    taken (keeps_behind cmp b (newer_of w.last (user_of e.key)) e) (headed cmp b (newer_of w.last (user_of e.key)) w e.key) e

@@ -1,0 +1,27 @@
+//! Tests of what merging in a range asks for.
+
+ghost use Rattle.std.specs.Prelude.{◌≡◌, ◌↔◌, true};
+ghost use Rattle.std.specs.List.Sorted.{IsStrictlyIncreasing};
+ghost use Rattle.keep.specs.Marks.{LargestRise};
+
+use edit::FileMeta;
+use ikey::Comparator;
+
+/// Whether listed sequences rise strictly. Takes no memory.
+pub fn is_rising(listed: &[u64]) -> bool
+    ensures { (result ≡ true) ↔ IsStrictlyIncreasing listed.now }
+{
+    listed.is_sorted_by(|sequence, next| sequence < next)
+}
+
+/// Whether the largest keys of grandparents rise strictly. Takes no memory.
+pub fn largest_rise<C: Comparator>(grandparents: &[FileMeta]) -> bool
+    ensures { (result ≡ true) ↔ LargestRise C.cmp grandparents.now }
+{
+    grandparents.is_sorted_by(|file, next| {
+        file.largest
+            .as_key()
+            .compare::<C>(&next.largest.as_key())
+            .is_lt()
+    })
+}

@@ -1,0 +1,129 @@
+//! What merging in a range gives.
+
+ghost use Rattle.std.specs.Prelude.{◌≡◌, ◌<◌, ◌≤◌, [], ◌∷◌, ◌++◌, length, slice_get, slice_range, OnOk, OnErr, IsOkUnless, Some};
+ghost use Rattle.std.specs.List.{AllByRecursion};
+ghost use Rattle.std.specs.Option.{option_map};
+ghost use Rattle.coding.specs.Answers.{fault};
+ghost use Rattle.coding.specs.declared.fault.FaultName.TheVariants.{Memory};
+ghost use Rattle.ikey.specs.Key.{IsInternalKey};
+ghost use Rattle.keep.specs.Runs.{Run};
+
+use crate::kept_entry::KeptEntry;
+use crate::mark::Mark;
+use coding::Fault;
+use ikey::InternalKey;
+use std::alloc::Global;
+use std::marker::Model;
+
+/// The entries of a range that stay, and its marks, seen as these two lists.
+///
+/// Its keys lie in one buffer, one behind the other, and its values are slices of the inputs' bytes: a kept entry takes 24
+/// bytes and those of its key, and nothing is allocated for it alone.
+#[derive(Drop)]
+pub struct RangeRun<'a> {
+    keys: Vec<u8>,
+    kept: Vec<KeptEntry<'a>>,
+    marks: Vec<Mark>,
+}
+
+impl<'a> Model for RangeRun<'a> {
+    ghost use Rattle.keep.specs.Runs.{Run};
+
+    ghost Value = { Run };
+
+    ghost use Rattle.keep.specs.Lent.{entries_at, AreKeys};
+
+    ghost view = { λ r. record { kept = entries_at 0 r.keys.items r.kept.items; marks = r.marks.items } };
+
+    ghost invariant = { λ r. AreKeys r.keys.items r.kept.items };
+}
+
+/// The bytes from one offset to another.
+fn part_of(bytes: &[u8], start: usize, end: usize) -> &[u8]
+    requires rises { start ≤ end }
+    requires within { end ≤ length bytes.now }
+    ensures { result.now ≡ slice_range bytes.now start end }
+{
+    &bytes[start..end]
+}
+
+impl<'a> RangeRun<'a> {
+    /// No entry and no mark.
+    pub(crate) fn new(alloc: Global) -> RangeRun<'a>
+        ensures { result ≡ record { kept = []; marks = [] } }
+    {
+        RangeRun {
+            keys: Vec::new(alloc),
+            kept: Vec::new(alloc),
+            marks: Vec::new(alloc),
+        }
+    }
+
+    /// Keeps an entry, behind those that are kept. Refused for want of memory alone, and then nothing has changed.
+    pub(crate) fn push(&mut self, key: InternalKey<'_>, value: &'a [u8]) -> Result<(), Fault>
+        ensures ok { OnOk result (self.new ≡ record {
+          kept = self.old.kept ++ record { key = key.entry.bytes.now; value = value.now } ∷ [];
+          marks = self.old.marks;
+        }) }
+        ensures err { OnErr result (self.new ≡ self.old) }
+        ensures memory { IsOkUnless result (fault Memory) }
+    {
+        self.kept.reserve(1)?;
+        self.keys.extend_from_slice(key.bytes())?;
+        let end = self.keys.len();
+        self.kept.push(KeptEntry { end, value }).unwrap();
+        Ok(())
+    }
+
+    /// Sets a mark at the entry that comes next. Refused for want of memory alone, and then nothing has changed.
+    pub(crate) fn push_mark(&mut self, below: usize) -> Result<(), Fault>
+        ensures ok { OnOk result (self.new ≡ record {
+          kept = self.old.kept;
+          marks = self.old.marks ++ record { below = below; kept = length self.old.kept } ∷ [];
+        }) }
+        ensures err { OnErr result (self.new ≡ self.old) }
+        ensures memory { IsOkUnless result (fault Memory) }
+    {
+        let kept = self.kept.len();
+        self.marks.push(Mark { below, kept })?;
+        Ok(())
+    }
+
+    /// The number of kept entries. Their keys are internal keys. Takes no memory.
+    pub fn len(&self) -> usize
+        ensures number { result ≡ length self.now.kept }
+        ensures keys { AllByRecursion (λ e. IsInternalKey e.key) self.now.kept }
+    {
+        self.kept.len()
+    }
+
+    /// The internal key of the kept entry at a place. Takes no memory.
+    pub fn key(&self, place: usize) -> InternalKey<'_>
+        requires { place < length self.now.kept }
+        ensures { option_map (λ e. e.key) (slice_get self.now.kept place) ≡ Some result.bytes.now }
+    {
+        let start = if place == 0 {
+            0
+        } else {
+            self.kept[place - 1].end
+        };
+        let bytes = part_of(&self.keys, start, self.kept[place].end);
+        InternalKey { bytes }
+    }
+
+    /// The value of the kept entry at a place, a slice of an input's bytes. Takes no memory.
+    pub fn value(&self, place: usize) -> &'a [u8]
+        requires { place < length self.now.kept }
+        ensures { option_map (λ e. e.value) (slice_get self.now.kept place) ≡ Some result.now }
+    {
+        self.kept[place].value
+    }
+
+    /// The marks: at the first entry of the range, and at the first entry of each user key before which another number
+    /// of grandparents lies than before that of the user key before. Takes no memory.
+    pub fn marks(&self) -> &[Mark]
+        ensures { result.now ≡ self.now.marks }
+    {
+        &self.marks
+    }
+}

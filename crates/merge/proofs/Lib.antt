@@ -1,0 +1,9 @@
+pub mod Orders
+pub mod Sorting
+pub mod Merges
+pub mod Leasts
+pub mod Tournaments
+pub mod Seeks
+pub mod Refused
+pub mod OneMerge
+pub mod Unions

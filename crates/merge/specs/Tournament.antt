@@ -1,0 +1,57 @@
+-- A tournament of lists: each match is won by the list whose first entry comes first.
+use Rattle.std.specs.Prelude.{◌≡◌, ◌⊎◌, ℕ, zero, suc, ◌+◌, ◌*◌, ◌/◌, ◌<◌, ◌≤◌, List, [], ◌∷◌, length, slice_index, slice_index_or, set}
+use Rattle.std.specs.List.{AllByRecursion}
+use Rattle.std.specs.declared.cmp.Ordering.{Ordering}
+use Rattle.std.specs.declared.cmp.Ordering.TheVariants.{Less, Equal}
+use Rattle.block.specs.Piece.{Entry}
+use Rattle.ikey.specs.Order.{internal_cmp}
+use Rattle.table.specs.ReadingCursors.{NeverFalls}
+
+-- The first of two lists with their places isn't behind the other: its first key is below the other's, or the same at a
+-- place that isn't behind. A list without an entry is behind all others.
+abbrev pub IsAhead : (List ℕ → List ℕ → Ordering) → ℕ → List Entry → ℕ → List Entry → Type 0
+IsAhead cmp place list other [] = Unit {0}
+IsAhead cmp place [] other (f ∷ fs) = ⊥
+IsAhead cmp place (e ∷ es) other (f ∷ fs) = (internal_cmp cmp e.key f.key ≡ Less) ⊎ ((internal_cmp cmp e.key f.key ≡ Equal) × (place ≤ other))
+
+-- the list at one place isn't behind that at another
+abbrev pub Beats : (List ℕ → List ℕ → Ordering) → List (List Entry) → ℕ → ℕ → Type 0
+Beats cmp lists place other = IsAhead cmp place (slice_index_or lists place []) other (slice_index_or lists other [])
+
+-- the winner of two places
+pub record IsWinner (cmp : List ℕ → List ℕ → Ordering) (lists : List (List Entry)) (one other winner : ℕ) : Type 0 where
+  pub either : (winner ≡ one) ⊎ (winner ≡ other)
+  pub over_one : Beats cmp lists winner one
+  pub over_other : Beats cmp lists winner other
+
+-- The winners of a tournament of so many places, a node each. Node 1 is the root, the nodes below node n are 2n and
+-- 2n + 1, and the last nodes are the places themselves. Node 0 stands for nothing.
+pub record IsBracket (number : ℕ) (winners : List ℕ) : Type 0 where
+  pub size : length winners ≡ number + number
+  pub within : (node : ℕ) → node < length winners → slice_index winners node < number
+  pub leaves : (place : ℕ) → place < number → slice_index winners (number + place) ≡ place
+
+-- each node has the winner of the two below it, but some that are left to be played
+pub record IsPlayed (cmp : List ℕ → List ℕ → Ordering) (lists : List (List Entry)) (winners : List ℕ) (IsLeft : ℕ → Type 0) : Type 0 where
+  pub played : (node : ℕ) → 0 < node → node < length lists → IsLeft node ⊎ IsWinner cmp lists (slice_index winners (2 * node)) (slice_index winners (2 * node + 1)) (slice_index winners node)
+
+-- what playing the match at a node does
+pub record IsMatch (cmp : List ℕ → List ℕ → Ordering) (lists : List (List Entry)) (old : List ℕ) (node : ℕ) (new : List ℕ) : Type 0 where
+  pub winner : ℕ
+  pub wins : IsWinner cmp lists (slice_index old (2 * node)) (slice_index old (2 * node + 1)) winner
+  pub noted : new ≡ set old node winner
+
+-- a node is above another, by at most so many halvings
+abbrev pub IsAboveBy : ℕ → ℕ → ℕ → Type 0
+IsAboveBy zero above node = ⊥
+IsAboveBy (suc steps) above node = (above ≡ node / 2) ⊎ IsAboveBy steps above (node / 2)
+
+-- a node is above another
+abbrev pub IsAbove : ℕ → ℕ → Type 0
+IsAbove above node = (steps : ℕ) × IsAboveBy steps above node
+
+-- no list falls, and all matches between them are played
+pub record IsTournament (cmp : List ℕ → List ℕ → Ordering) (lists : List (List Entry)) (winners : List ℕ) : Type 0 where
+  pub ordered : AllByRecursion (NeverFalls cmp) lists
+  pub bracket : IsBracket (length lists) winners
+  pub matches : IsPlayed cmp lists winners (λ node. ⊥)

@@ -1,0 +1,153 @@
+//! A tournament of cursors by their first entries, kept as the winners of its matches.
+
+ghost use Rattle.std.specs.Prelude.{◌≡◌, ◌+◌, ◌<◌, ◌≤◌, ◌⊎◌, map, length, slice_get, IfOk, IsOkUnless};
+ghost use Rattle.std.specs.List.{AllByRecursion};
+ghost use Rattle.coding.specs.Answers.{fault};
+ghost use Rattle.coding.specs.declared.fault.FaultName.TheVariants.{Memory};
+ghost use Rattle.table.specs.ReadingCursors.{NeverFalls};
+ghost use Rattle.merge.specs.Least.{IsMerging};
+ghost use Rattle.merge.specs.Merged.{merged};
+ghost use Rattle.merge.specs.Tournament.{IsWinner, IsBracket, IsPlayed, IsMatch, IsAbove, IsTournament};
+
+use coding::Fault;
+use ikey::Comparator;
+use std::alloc::Global;
+use std::cmp::Ordering;
+use table::{Cursor, Entries};
+
+/// Room for the winners of a tournament of so many places, with the places themselves as its last nodes. Refused for want
+/// of memory alone.
+pub(crate) fn bracket(alloc: Global, number: usize) -> Result<Vec<usize>, Fault>
+    ensures ok { IfOk result (λ winners. IsBracket number winners.items) }
+    ensures memory { IsOkUnless result (fault Memory) }
+{
+    let mut winners = Vec::from_elem(alloc, 0, number)?;
+    winners.reserve(number)?;
+    for place in 0..number {
+        winners.push(place)?;
+    }
+    Ok(winners)
+}
+
+/// The lower of two places.
+fn lower(one: usize, other: usize) -> usize
+    ensures either { (result ≡ one) ⊎ (result ≡ other) }
+    ensures one { result ≤ one }
+    ensures other { result ≤ other }
+{
+    if one < other { one } else { other }
+}
+
+/// The place that wins of two. A cursor at its end loses, and of two that begin with one key the one behind.
+fn winner<'c, C: Comparator, S: Cursor<'c, C>>(cursors: &[S], one: usize, other: usize) -> usize
+    requires one { one < length cursors.now }
+    requires other { other < length cursors.now }
+    ensures { IsWinner C.cmp (map S.remaining cursors.now) one other result }
+{
+    let (left, right) = (&cursors[one], &cursors[other]);
+    let right_has = right.valid();
+    if !right_has {
+        return one;
+    }
+    let left_has = left.valid();
+    if !left_has {
+        return other;
+    }
+    let (left_key, right_key) = (left.key(), right.key());
+    match left_key.compare::<C>(&right_key) {
+        Ordering::Less => one,
+        Ordering::Greater => other,
+        Ordering::Equal => lower(one, other),
+    }
+}
+
+/// Plays the match at a node, between the winners of the two nodes below it.
+#[tactic(auto, using(crate::proofs::Tournaments::left_within, crate::proofs::Tournaments::right_within))]
+fn play<'c, C: Comparator, S: Cursor<'c, C>>(cursors: &[S], winners: &mut [usize], node: usize)
+    requires some { 0 < node }
+    requires within { node < length cursors.now }
+    requires bracket { IsBracket (length cursors.now) winners.old }
+    ensures bracket { IsBracket (length cursors.now) winners.new }
+    ensures played { IsMatch C.cmp (map S.remaining cursors.now) winners.old node winners.new }
+{
+    winners[node] = winner::<C, S>(cursors, winners[2 * node], winners[2 * node + 1]);
+}
+
+/// Plays the matches above a place again, where all others are played.
+pub(crate) fn play_path<'c, C: Comparator, S: Cursor<'c, C>>(
+    cursors: &[S],
+    winners: &mut [usize],
+    place: usize,
+)
+    requires within { place < length cursors.now }
+    requires bracket { IsBracket (length cursors.now) winners.old }
+    requires others { IsPlayed C.cmp (map S.remaining cursors.now) winners.old (λ node. IsAbove node (length cursors.now + place)) }
+    ensures bracket { IsBracket (length cursors.now) winners.new }
+    ensures played { IsPlayed C.cmp (map S.remaining cursors.now) winners.new (λ node. ⊥) }
+{
+    let mut node = cursors.len() + place;
+    while node > 1 {
+        node /= 2;
+        play::<C, S>(cursors, winners, node);
+    }
+}
+
+/// Plays all matches.
+fn play_matches<'c, C: Comparator, S: Cursor<'c, C>>(cursors: &[S], winners: &mut [usize])
+    requires { IsBracket (length cursors.now) winners.old }
+    ensures bracket { IsBracket (length cursors.now) winners.new }
+    ensures played { IsPlayed C.cmp (map S.remaining cursors.now) winners.new (λ node. ⊥) }
+{
+    let mut node = cursors.len();
+    while node > 1 {
+        node -= 1;
+        play::<C, S>(cursors, winners, node);
+    }
+}
+
+/// Asks each cursor whether it has an entry, since with that answer comes that its keys never fall.
+fn ask_all<'c, C: Comparator, S: Cursor<'c, C>>(cursors: &[S])
+    ensures { AllByRecursion (NeverFalls C.cmp) (map S.remaining cursors.now) }
+{
+    for cursor in cursors {
+        let _valid = cursor.valid();
+    }
+}
+
+/// Plays a whole tournament of these cursors.
+pub(crate) fn play_all<'c, C: Comparator, S: Cursor<'c, C>>(cursors: &[S], winners: &mut [usize])
+    requires { IsBracket (length cursors.now) winners.old }
+    ensures { IsTournament C.cmp (map S.remaining cursors.now) winners.new }
+{
+    ask_all::<C, S>(cursors);
+    play_matches::<C, S>(cursors, winners);
+}
+
+/// The place of the cursor whose first entry comes next, where one has an entry. Takes no memory.
+pub(crate) fn next_place<'c, C: Comparator, S: Cursor<'c, C>>(
+    cursors: &[S],
+    winners: &[usize],
+) -> Option<usize>
+    requires { IsTournament C.cmp (map S.remaining cursors.now) winners.now }
+    ensures { IsMerging C.cmp (map S.remaining cursors.now) result }
+{
+    let place = *winners.get(1)?;
+    if cursors[place].valid() {
+        Some(place)
+    } else {
+        None
+    }
+}
+
+/// The cursor whose first entry comes next. Takes no memory.
+pub(crate) fn next_cursor<'a, C: Comparator, S: Entries>(
+    cursors: &'a [S],
+    winners: &[usize],
+) -> &'a S
+    requires tournament { IsTournament C.cmp (map S.remaining cursors.now) winners.now }
+    requires some { 0 < length (merged C.cmp (map S.remaining cursors.now)) }
+    ensures some { 0 < length (S.remaining result.now) }
+    ensures first { slice_get (S.remaining result.now) 0 ≡ slice_get (merged C.cmp (map S.remaining cursors.now)) 0 }
+{
+    &cursors[winners[1]]
+}

@@ -1,6 +1,0 @@
-use Rattle.std.proofs.Common.{map, take}
-use Rattle.merging.specs.Least.{IsMerging}
-use Rattle.merging.proofs.least.least_place.Given as goal
-
-abbrev pub invariant-loop-place : goal.invariant-loop-place
-invariant-loop-place g l = IsMerging g.C.Comparator.cmp (take l.place (map g.S.Entries.to_come l.cursors)) l.least

@@ -1,4 +1,0 @@
-pub mod Merged
-pub mod Union
-pub mod Least
-pub mod Seeking

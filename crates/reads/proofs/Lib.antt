@@ -1,0 +1,16 @@
+pub mod Members
+pub mod Orders
+pub mod Sought
+pub mod ByteTests
+pub mod Answers
+pub mod Levels
+pub mod Versions
+pub mod Got
+pub mod FallingEntries
+pub mod Newer
+pub mod Gathering
+pub mod Pairs
+pub mod SoundFiles
+pub mod OrderedFiles
+pub mod LawfulVersions
+pub mod Listed

@@ -1,0 +1,8 @@
+-- what contracts rest on
+pub mod Tables
+pub mod Gets
+pub mod Lawful
+pub mod NewestFirst
+-- serves proofs alone
+pub mod Visible
+pub mod Checking

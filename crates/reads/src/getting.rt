@@ -1,0 +1,128 @@
+//! What a version answers of a user key.
+
+ghost use Rattle.std.specs.Prelude.{◌≡◌, ◌≤◌, ◌&&◌, true, map, Ok, IfOk, IfErr};
+ghost use Rattle.std.specs.List.{list_all, All, flat_map};
+ghost use Rattle.std.specs.Option.{option_map, is_some};
+ghost use Rattle.std.specs.Ordering.{is_le};
+ghost use Rattle.coding.specs.Answers.{EqualOrMemory, fault};
+ghost use Rattle.coding.specs.declared.fault.FaultName.TheVariants.{Memory};
+ghost use Rattle.ikey.specs.Key.{user_of, sequence_of, kind_of};
+ghost use Rattle.ikey.specs.declared.kind.Kind.TheVariants.{Put};
+ghost use Rattle.reads.specs.Tables.{table_of, table_entries, all_entries, tables_test};
+ghost use Rattle.reads.specs.Visible.{visible_in, newer_visible, IsAnswer};
+ghost use Rattle.reads.specs.Gets.{get_of};
+ghost use Rattle.reads.specs.Lawful.{IsFileOf, IsLawful};
+
+use crate::finding::{LEVELS, newest_in_table, table_of, tables_test};
+use crate::found::Found;
+use crate::numbered_table::NumberedTable;
+use coding::Fault;
+use edit::{FileMeta, Version};
+use ikey::{Comparator, InternalKey, KeyBuf, Kind, MAX_SEQUENCE, MAX_USER_KEY};
+use std::alloc::Global;
+
+/// The value of a user key at a sequence: of all entries of the user key with a sequence of at most `at` in the version's
+/// tables, the value of the one of the greatest sequence. None where that is a deletion, or where there is no such entry.
+///
+/// The table of a file is the first in the list that has its number. `Missing` where a file of the version has no table;
+/// else refused only for want of memory. In a version that isn't lawful the answer may be another.
+///
+/// It goes from level to level, looks into the tables whose range of user keys holds the key, and stops at the first level
+/// that has an entry. It copies no value, and takes the memory of one key, of a level's list of files, and of a cursor.
+pub fn get<'a, C: Comparator>(
+    alloc: Global,
+    version: &Version,
+    tables: &[NumberedTable<'a, C>],
+    key: &[u8],
+    at: u64,
+) -> Result<Option<&'a [u8]>, Fault>
+    ensures missing { EqualOrMemory (λ value. tt) result (tables_test tables.now version.now.files) }
+    ensures lawful { IsLawful C.cmp version.now tables.now →
+        EqualOrMemory (option_map (λ value. value.now)) result (Ok (get_of version.now tables.now key.now at)) }
+{
+    tables_test(alloc, version, tables)?;
+    if key.len() > MAX_USER_KEY {
+        return Ok(None);
+    }
+    let target = KeyBuf::new(alloc, key, at.min(MAX_SEQUENCE), Kind::Put)?;
+    let Some(found) = newest_in_version(alloc, version, tables, target.as_key())? else {
+        return Ok(None);
+    };
+    Ok(found.held())
+}
+
+/// The newest entry of a user key that a sequence sees, at the first level that has one.
+///
+/// Refused only for want of memory.
+fn newest_in_version<'a, C: Comparator>(
+    alloc: Global,
+    version: &Version,
+    tables: &[NumberedTable<'a, C>],
+    target: InternalKey<'_>,
+) -> Result<Option<Found<'a>>, Fault>
+    requires kind { kind_of target.bytes.now ≡ Put }
+    requires there { tables_test tables.now version.now.files ≡ Ok tt }
+    ensures found { IsLawful C.cmp version.now tables.now → IfOk result (λ found.
+        IsAnswer (all_entries tables.now version.now.files)
+        (user_of target.entry.bytes.now) (sequence_of target.entry.bytes.now) (option_map visible_in found)) }
+    ensures memory { IfErr result (λ e. e ≡ fault Memory) }
+{
+    for level in 0..LEVELS {
+        let files = version.files::<C>(alloc, level)?;
+        let newest = newest_at_level(alloc, &files, tables, target)?;
+        if newest.is_some() {
+            return Ok(newest);
+        }
+    }
+    Ok(None)
+}
+
+/// The newest entry of a user key that a sequence sees, among the files of a level.
+///
+/// It looks into the tables whose range of user keys holds the key. Refused only for want of memory.
+fn newest_at_level<'a, C: Comparator>(
+    alloc: Global,
+    files: &[&FileMeta],
+    tables: &[NumberedTable<'a, C>],
+    target: InternalKey<'_>,
+) -> Result<Option<Found<'a>>, Fault>
+    requires kind { kind_of target.bytes.now ≡ Put }
+    requires there { All (λ f. is_some (table_of tables.now f.now.number) ≡ true) files.now }
+    ensures found { All (λ f. IsFileOf C.cmp tables.now f.now) files.now → IfOk result (λ found.
+        IsAnswer (flat_map (λ f. table_entries tables.now f.now.number) files.now)
+        (user_of target.entry.bytes.now) (sequence_of target.entry.bytes.now) (option_map visible_in found)) }
+    ensures memory { IfErr result (λ e. e ≡ fault Memory) }
+{
+    let mut newest = None;
+    for file in files {
+        if !may_hold::<C>(file, target.user()) {
+            continue;
+        }
+        let Some(table) = table_of(tables, file.number) else {
+            unreachable!();
+        };
+        newest = newer(newest, newest_in_table(alloc, table, target)?);
+    }
+    Ok(newest)
+}
+
+/// The entry of the greater sequence, the first where they are equal.
+fn newer<'a>(one: Option<Found<'a>>, other: Option<Found<'a>>) -> Option<Found<'a>>
+    ensures { option_map visible_in result
+        ≡ newer_visible (option_map visible_in one.entry) (option_map visible_in other.entry) }
+{
+    match (one, other) {
+        (Some(first), Some(second)) if first.sequence < second.sequence => Some(second),
+        (None, _) => other,
+        _ => one,
+    }
+}
+
+/// Whether a user key lies in the file's range of user keys.
+fn may_hold<C: Comparator>(file: &FileMeta, user: &[u8]) -> bool
+    ensures { result ≡ (is_le (C.cmp (user_of file.now.smallest) user.now)
+        && is_le (C.cmp user.now (user_of file.now.largest))) }
+{
+    C::compare(file.smallest.as_key().user(), user).is_le()
+        && C::compare(user, file.largest.as_key().user()).is_le()
+}

@@ -1,0 +1,22 @@
+//! What a version answers, and whether it is lawful.
+//!
+//! A version with its tables answers the value of a user key at a sequence. It is lawful where its tables are what it
+//! states of them, and the newer entries of each user key stand above the older ones.
+#![tactic(auto)]
+
+mod finding;
+mod found;
+mod getting;
+mod lawfulness;
+mod laws;
+mod level_file;
+mod numbered_table;
+mod walking;
+
+pub use getting::get;
+pub use lawfulness::lawful;
+pub use laws::answers_newest_first;
+pub use numbered_table::NumberedTable;
+
+#[cfg(test)]
+mod tests;

@@ -1,0 +1,45 @@
+//! A table and the number of its file.
+
+ghost use Rattle.std.specs.Prelude.{◌≡◌};
+
+use ikey::Comparator;
+use std::marker::Model;
+use table::SoundTable;
+
+/// A table that was checked, and the number of the file that it is. Contracts see the number and what the table holds.
+#[derive(Drop)]
+pub struct NumberedTable<'a, C: Comparator> {
+    number: u64,
+    table: SoundTable<'a, C>,
+}
+
+impl<'a, C: Comparator> Model for NumberedTable<'a, C> {
+    ghost use Rattle.reads.specs.Tables.{Numbered};
+
+    ghost Value = { Numbered };
+
+    ghost view = { λ t. record { number = t.number; contents = t.table } };
+}
+
+impl<'a, C: Comparator> NumberedTable<'a, C> {
+    /// The table of a number.
+    pub fn of(number: u64, table: SoundTable<'a, C>) -> NumberedTable<'a, C>
+        ensures { result ≡ record { number = number; contents = table.entry } }
+    {
+        NumberedTable { number, table }
+    }
+
+    /// The number in the table's name.
+    pub fn number(&self) -> u64
+        ensures { result ≡ self.now.number }
+    {
+        self.number
+    }
+
+    /// The table.
+    pub fn table(&self) -> &SoundTable<'a, C>
+        ensures { result.now ≡ self.now.contents }
+    {
+        &self.table
+    }
+}

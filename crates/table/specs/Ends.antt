@@ -1,0 +1,24 @@
+-- The first and the last key of what is read.
+use Rattle.std.specs.Prelude.{ℕ, List, [], Option, Result, Ok}
+use Rattle.std.specs.declared.cmp.Ordering.{Ordering}
+use Rattle.coding.specs.Answers.{◌>>=◌}
+use Rattle.coding.specs.declared.fault.Fault.{Fault}
+use Rattle.block.specs.Piece.{Entry}
+use Rattle.block.specs.Building.{last_key}
+use Rattle.table.specs.ReadingEntries.{first_key, data_test}
+use Rattle.table.specs.Reading.{DataBlock, entries_of}
+
+-- the first and the last key of entries
+pub record Ends : Type 0 where
+  pub smallest : List ℕ
+  pub largest : List ℕ
+
+-- the first and the last key of a data block after this key, where its entries pass their tests
+abbrev pub ends_reading : (List ℕ → List ℕ → Ordering) → Option (List ℕ) → List Entry → Result Ends Fault
+ends_reading cmp before entries = do
+  _ ← data_test cmp before entries
+  Ok (record { smallest = first_key entries; largest = last_key [] entries })
+
+-- the first and the last key of data blocks
+abbrev pub ends_of : List DataBlock → Ends
+ends_of blocks = record { smallest = first_key (entries_of blocks); largest = last_key [] (entries_of blocks) }

@@ -1,0 +1,15 @@
+//! A data block that an index names.
+
+ghost use Rattle.std.specs.Prelude.{◌≤◌, length};
+
+use ikey::KeyBuf;
+
+/// What an entry of the index stands for.
+#[derive(Drop)]
+pub(crate) struct IndexedBlock<'a> {
+    /// A key at or above those of the data block, and below those of the next.
+    pub key: KeyBuf,
+    /// The block's contents, and the 5 bytes of their trailer.
+    pub stored: &'a [u8],
+    ghost long: { 5 ≤ length stored.now },
+}

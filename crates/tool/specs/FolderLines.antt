@@ -1,0 +1,58 @@
+-- The lines of the commands that read the tables of a folder.
+use Rattle.std.specs.Prelude.{◌≡◌, ℕ, List, ◌++◌, codes, decimal, length, Option, Some, None, unwrap_or, Result, Ok, Err}
+use Rattle.std.specs.declared.cmp.Ordering.{Ordering}
+use Rattle.coding.specs.Answers.{IsThen}
+use Rattle.coding.specs.declared.fault.Fault.{Fault}
+use Rattle.edit.specs.Version.{State}
+use Rattle.folder.specs.Levels.{file_numbers}
+use Rattle.folder.specs.Loading.{IsLoaded}
+use Rattle.folder.specs.Opening.{IsOpened}
+use Rattle.reads.specs.Gets.{get_of}
+use Rattle.reads.specs.Lawful.{IsLawful, IsUnlawful}
+use Rattle.reads.specs.Tables.{Numbered}
+use Rattle.tool.specs.Checked.{entry_count, tables_reading}
+use Rattle.tool.specs.Lines.{order_cmp}
+use Rattle.tool.specs.Text.{text_of_bytes}
+
+-- what the test of a version answers for tables: these, where the version is lawful with them
+abbrev pub IsLawfulAnswer : (List ℕ → List ℕ → Ordering) → State → List Numbered → Result (List Numbered) Fault → Type 0
+IsLawfulAnswer cmp v tables (Ok same) = (same ≡ tables) × IsLawful cmp v tables
+IsLawfulAnswer cmp v tables (Err e) = IsUnlawful cmp v tables e
+
+-- The tables of a version, of which the bytes were read: each is checked, in order, and then the version is lawful with
+-- them.
+abbrev pub IsLawfulTables : (List ℕ → List ℕ → Ordering) → State → List (ℕ × List ℕ) → Result (List Numbered) Fault → Type 0
+IsLawfulTables cmp v loaded = IsThen (λ checked. tables_reading cmp loaded ≡ checked) (IsLawfulAnswer cmp v)
+
+-- the line of the tables of a lawful version
+abbrev pub IsLineOfLoaded : (List ℕ → List ℕ → Ordering) → State → List (ℕ × List ℕ) → (List Numbered → List ℕ) → Result (List ℕ) Fault → Type 0
+IsLineOfLoaded cmp v loaded line_of = IsThen (IsLawfulTables cmp v loaded) (λ tables answer. answer ≡ Ok (line_of tables))
+
+-- the same, where the tables are in a folder: all of them are read first, by level and in version order
+abbrev pub IsLineOfVersion : (List ℕ → Option (List ℕ) → Type 0) → (List ℕ → List ℕ → Ordering) → State → (List Numbered → List ℕ) → Result (List ℕ) Fault → Type 0
+IsLineOfVersion tells cmp v line_of = IsThen (IsLoaded tells (file_numbers cmp v)) (λ loaded. IsLineOfLoaded cmp v loaded line_of)
+
+-- the same of the version that a folder opens as
+abbrev pub IsLineOfFolder : (List ℕ → Option (List ℕ) → Type 0) → (State → List Numbered → List ℕ) → Result (List ℕ) Fault → Type 0
+IsLineOfFolder tells line_of = IsThen (IsOpened tells) (λ opened. IsLineOfVersion tells (order_cmp opened.0) opened.1 (line_of opened.1))
+
+-- `lawful: F files, E entries`
+abbrev pub lawful_line : ℕ → ℕ → List ℕ
+lawful_line files entries = codes "lawful: " ++ decimal files ++ codes " files, " ++ decimal entries ++ codes " entries\n"
+
+-- the same of tables, one for each file of a version
+abbrev pub verified_line : List Numbered → List ℕ
+verified_line tables = lawful_line (length tables) (entry_count tables)
+
+-- the line of a value, and of none
+abbrev pub value_line : Option (List ℕ) → List ℕ
+value_line None = codes "none\n"
+value_line (Some value) = text_of_bytes value ++ codes "\n"
+
+-- this sequence, or else the version's last one
+abbrev pub sequence_at : State → Option ℕ → ℕ
+sequence_at v at = unwrap_or at (unwrap_or v.last_sequence 0)
+
+-- the line of the value of a user key at a sequence
+abbrev pub got_line : List ℕ → Option ℕ → State → List Numbered → List ℕ
+got_line key at v tables = value_line (get_of v tables key (sequence_at v at))

@@ -1,0 +1,291 @@
+ghost use Rattle.std.specs.Prelude.{◌≡◌};
+ghost use Rattle.folder.specs.Folder.{failures_after};
+
+use crate::tests::TWO_ENTRIES;
+use crate::*;
+use coding::{Fault, FaultName};
+use folder::{Attempt, Trail, WriteCall};
+use std::alloc::Global;
+use std::test::Fail;
+
+/// A folder of lent files, whose device takes so many calls. It tells contracts nothing of what it holds.
+#[derive(Drop)]
+struct LentFiles<'a> {
+    alloc: Global,
+    files: &'a [(&'a str, &'a [u8])],
+    calls: u64,
+    failures: u64,
+    trail: Trail,
+}
+
+impl<'a> LentFiles<'a> {
+    fn new(alloc: Global, files: &'a [(&'a str, &'a [u8])], calls: u64) -> LentFiles<'a> {
+        LentFiles {
+            alloc,
+            files,
+            calls,
+            failures: 0,
+            trail: Trail::new(),
+        }
+    }
+
+    /// Takes a call, or fails.
+    fn called(&mut self) -> Result<(), FolderFault>
+        ensures failures { self.new.failures ≡ failures_after self.old.failures result }
+        ensures trail { self.new.trail ≡ self.old.trail }
+    {
+        if self.calls == 0 {
+            self.failures = self.failures.saturating_add(1);
+            return Err(FolderFault::Device);
+        }
+        self.calls = self.calls.saturating_sub(1);
+        Ok(())
+    }
+}
+
+impl<'a> Folder for LentFiles<'a> {
+    ghost tells = { λ _ _ _. Unit {0} };
+
+    ghost calls = { λ folder. folder.trail.steps };
+
+    ghost failed = { λ folder. folder.failures };
+
+    fn read(&mut self, name: &str) -> Result<Option<Vec<u8>>, FolderFault> {
+        self.called()?;
+        for (file, bytes) in self.files {
+            if *file == name {
+                return Ok(Some(Vec::from_slice(self.alloc, bytes)?));
+            }
+        }
+        Ok(None)
+    }
+
+    fn create(&mut self, name: &str, bytes: &[u8]) -> Result<(), FolderFault> {
+        let answer = self.called();
+        let is_done = answer.is_ok();
+        self.trail = self.trail.then(&Attempt {
+            call: WriteCall::Create(name, bytes),
+            is_done,
+        });
+        answer
+    }
+
+    fn sync(&mut self, name: &str) -> Result<(), FolderFault> {
+        let answer = self.called();
+        let is_done = answer.is_ok();
+        self.trail = self.trail.then(&Attempt {
+            call: WriteCall::Sync(name),
+            is_done,
+        });
+        answer
+    }
+
+    fn rename(&mut self, from: &str, to: &str) -> Result<(), FolderFault> {
+        let answer = self.called();
+        let is_done = answer.is_ok();
+        self.trail = self.trail.then(&Attempt {
+            call: WriteCall::Rename(from, to),
+            is_done,
+        });
+        answer
+    }
+
+    fn sync_folder(&mut self) -> Result<(), FolderFault> {
+        let answer = self.called();
+        let is_done = answer.is_ok();
+        self.trail = self.trail.then(&Attempt {
+            call: WriteCall::SyncFolder,
+            is_done,
+        });
+        answer
+    }
+
+    fn failures(&self) -> u64 {
+        self.failures
+    }
+}
+
+/// A log of one record: the comparator, the numbers, and file 7 of 125 bytes at level 1, whose keys are all of `u`.
+const ONE_FILE: &[u8] =
+    b"\x23\x1f\x47\xbe\x3c\0\x01\x01\x1aleveldb.BytewiseComparator\x02\x03\x09\0\x03\x09\x04\x04\x07\x01\x07\x7d\x09u\0\x04\0\0\0\0\0\0\x09u\x01\x02\0\0\0\0\0\0";
+
+/// The same, but that file 7 is said to have 126 bytes.
+const LONGER_FILE: &[u8] =
+    b"\x4e\x05\x2d\xba\x3c\0\x01\x01\x1aleveldb.BytewiseComparator\x02\x03\x09\0\x03\x09\x04\x04\x07\x01\x07\x7e\x09u\0\x04\0\0\0\0\0\0\x09u\x01\x02\0\0\0\0\0\0";
+
+/// The first, and file 8 of 113 bytes at level 0, whose one key is of `a` at sequence 3.
+const TWO_FILES: &[u8] =
+    b"\xf7\x6e\x80\x84\x54\0\x01\x01\x1aleveldb.BytewiseComparator\x02\x03\x09\0\x03\x09\x04\x04\x07\0\x08\x71\x09a\x01\x03\0\0\0\0\0\0\x09a\x01\x03\0\0\0\0\0\0\x07\x01\x07\x7d\x09u\0\x04\0\0\0\0\0\0\x09u\x01\x02\0\0\0\0\0\0";
+
+/// The table of an empty value of `a` at sequence 3.
+const ONE_ENTRY: &[u8] =
+    b"\0\x09\0a\x01\x03\0\0\0\0\0\0\0\0\0\0\x01\0\0\0\0\x45\xed\x3a\x01\0\0\0\0\x01\0\0\0\0\xc0\xf2\xa1\xb0\0\x09\x02a\x01\x03\0\0\0\0\0\0\0\x14\0\0\0\0\x01\0\0\0\0\x2e\xe0\xc8\x85\x19\x08\x26\x16\0\0\0\0\0\0\0\0\0\0\0\0\0\0\0\0\0\0\0\0\0\0\0\0\0\0\0\0\0\0\0\0\0\0\0\0\x57\xfb\x80\x8b\x24\x75\x47\xdb";
+
+const CURRENT: (&str, &[u8]) = ("CURRENT", b"MANIFEST-000005\n");
+
+/// The lines of an answer, or the refusal as the program prints it.
+fn printed(alloc: Global, answer: Result<Vec<u8>, Fault>) -> Result<String, Fail> {
+    match answer {
+        Ok(lines) => Ok(String::from_str(alloc, str::from_utf8(&lines)?)?),
+        Err(fault) => Ok(format!(in alloc; "refused: {fault}")?),
+    }
+}
+
+/// What `verify` tells of a folder with this manifest, and with tables of these bytes as files 7 and 8.
+fn verified<'x>(
+    alloc: Global,
+    manifest: &'x [u8],
+    tables: &'x [(&'x str, &'x [u8])],
+) -> Result<String, Fail> {
+    let mut files = vec![in alloc; CURRENT, ("MANIFEST-000005", manifest)]?;
+    files.extend_from_slice(tables)?;
+    printed(alloc, verify(alloc, &mut LentFiles::new(alloc, &files, 9)))
+}
+
+/// What `get` tells of a key in the folder of two files.
+fn got(alloc: Global, key: &[u8], at: Option<u64>) -> Result<String, Fail> {
+    let files = [
+        CURRENT,
+        ("MANIFEST-000005", TWO_FILES),
+        ("000007.ldb", TWO_ENTRIES.as_slice()),
+        ("000008.sst", ONE_ENTRY),
+    ];
+    let mut folder = LentFiles::new(alloc, &files, 9);
+    printed(alloc, get_dir(alloc, &mut folder, key, at))
+}
+
+#[test]
+fn lawful_folders(rt: HostRuntime) -> Result<(), Fail> {
+    let alloc = rt.alloc();
+    let seven = ("000007.ldb", TWO_ENTRIES.as_slice());
+    let one = verified(alloc, ONE_FILE, &[seven])?;
+    assert_eq!(rt; one.as_str(), "lawful: 1 files, 2 entries\n");
+    let two = verified(alloc, TWO_FILES, &[seven, ("000008.ldb", ONE_ENTRY)])?;
+    assert_eq!(rt; two.as_str(), "lawful: 2 files, 3 entries\n");
+    Ok(())
+}
+
+#[test]
+fn folders_that_are_refused(rt: HostRuntime) -> Result<(), Fail> {
+    let alloc = rt.alloc();
+    let seven = ("000007.ldb", TWO_ENTRIES.as_slice());
+    let lawless = verified(alloc, LONGER_FILE, &[seven])?;
+    assert_eq!(rt; lawless.as_str(), "refused: Lawless");
+    let missing = verified(alloc, TWO_FILES, &[("000007.ldb", b"damaged")])?;
+    assert_eq!(rt; missing.as_str(), "refused: Missing");
+    // By level, not by number.
+    let damaged = [
+        ("000007.ldb", b"damaged".as_slice()),
+        ("000008.ldb", &[0; 48]),
+    ];
+    let first = verified(alloc, TWO_FILES, &damaged)?;
+    assert_eq!(rt; first.as_str(), "refused: Magic");
+    // A damaged table comes before a version that isn't lawful.
+    let short = verified(alloc, LONGER_FILE, &[("000007.ldb", b"damaged")])?;
+    assert_eq!(rt; short.as_str(), "refused: Short");
+    Ok(())
+}
+
+#[test]
+fn values_of_keys(rt: HostRuntime) -> Result<(), Fail> {
+    let alloc = rt.alloc();
+    let cases = [
+        (None, "none\n"),
+        (Some(u64::MAX), "none\n"),
+        (Some(4), "none\n"),
+        (Some(3), "78\n"),
+        (Some(2), "78\n"),
+        (Some(1), "none\n"),
+    ];
+    for (at, wanted) in cases {
+        assert_eq!(rt; got(alloc, b"u", at)?.as_str(), wanted, "{at:?}");
+    }
+    assert_eq!(rt; got(alloc, b"a", None)?.as_str(), "-\n");
+    assert_eq!(rt; got(alloc, b"", None)?.as_str(), "none\n");
+    Ok(())
+}
+
+#[test]
+fn commands_over_a_device_that_fails(rt: HostRuntime) -> Result<(), Fail> {
+    let alloc = rt.alloc();
+    let files = [
+        CURRENT,
+        ("MANIFEST-000005", ONE_FILE),
+        ("000007.ldb", TWO_ENTRIES.as_slice()),
+    ];
+    for calls in 0..3 {
+        let mut folder = LentFiles::new(alloc, &files, calls);
+        let lines = printed(alloc, verify(alloc, &mut folder))?;
+        assert_eq!(rt; lines.as_str(), "refused: Device");
+        let mut folder = LentFiles::new(alloc, &files, calls);
+        let line = printed(alloc, get_dir(alloc, &mut folder, b"u", None))?;
+        assert_eq!(rt; line.as_str(), "refused: Device");
+        assert_eq!(rt; folder.failures(), 1);
+    }
+    Ok(())
+}
+
+/// What the compaction of file 7 appends: the numbers, a compact pointer, and the deletion of the file.
+const COMPACTED: &[u8] =
+    b"\x64\xcd\xa2\xed\x17\0\x01\x02\x03\x09\0\x03\x0a\x04\x04\x05\x01\x09u\x01\x02\0\0\0\0\0\0\x06\x01\x07";
+
+/// The lines of `ONE_FILE`.
+const ONE_FILE_LINES: &[u8] =
+    b"comparator leveldb.BytewiseComparator\nlog 3\nprevious 0\nnext 9\nlast 4\nfile 1 7 125\n";
+
+/// The lines of `ONE_FILE` and `COMPACTED`.
+const COMPACTED_LINES: &[u8] =
+    b"comparator leveldb.BytewiseComparator\nlog 3\nprevious 0\nnext 10\nlast 4\npointer 1 75 2 1\n";
+
+/// The lines of a folder with this manifest.
+fn shown(alloc: Global, bytes: &[u8]) -> Result<Vec<u8>, Fault> {
+    let files = [CURRENT, ("MANIFEST-000005", bytes)];
+    manifest(alloc, &mut LentFiles::new(alloc, &files, 2))
+}
+
+/// Which refusal it is, where it is one.
+fn refusal(answer: Result<Vec<u8>, Fault>) -> Option<FaultName> {
+    match answer {
+        Ok(_) => None,
+        Err(fault) => Some(fault.name),
+    }
+}
+
+#[test]
+fn a_folder_as_lines(rt: HostRuntime) -> Result<(), Fail> {
+    let alloc = rt.alloc();
+    assert_eq!(rt; shown(alloc, ONE_FILE)?.as_slice(), ONE_FILE_LINES);
+    let mut both = Vec::from_slice(alloc, ONE_FILE)?;
+    both.extend_from_slice(COMPACTED)?;
+    assert_eq!(rt; shown(alloc, &both)?.as_slice(), COMPACTED_LINES);
+    both.pop();
+    assert_eq!(rt; refusal(shown(alloc, &both)), Some(FaultName::LogShape));
+    assert_eq!(rt; refusal(shown(alloc, b"")), Some(FaultName::Comparator));
+    Ok(())
+}
+
+#[test]
+fn calls_that_fail(rt: HostRuntime) {
+    let alloc = rt.alloc();
+    let files = [CURRENT, ("MANIFEST-000005", ONE_FILE)];
+    for calls in 0..2 {
+        let mut folder = LentFiles::new(alloc, &files, calls);
+        assert_eq!(rt;
+            refusal(manifest(alloc, &mut folder)),
+            Some(FaultName::Device)
+        );
+        assert_eq!(rt; folder.failures(), 1);
+    }
+    let mut folder = LentFiles::new(alloc, &files, 2);
+    assert_eq!(rt; refusal(manifest(alloc, &mut folder)), None);
+    assert_eq!(rt; folder.failures(), 0);
+}
+
+// With `rt try --test --fail-alloc N` the Nth growth is refused; without it, none is.
+#[test]
+fn a_refused_growth_is_the_only_other_refusal(rt: HostRuntime) {
+    match shown(rt.alloc(), ONE_FILE) {
+        Ok(lines) => assert_eq!(rt; lines.as_slice(), ONE_FILE_LINES),
+        Err(fault) => assert_eq!(rt; fault.name, FaultName::Memory),
+    }
+}

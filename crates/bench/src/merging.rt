@@ -42,19 +42,34 @@ pub fn measure(
     Ok(())
 }
 
-/// So many tables, whose entries have rising keys and these values, each dealt out by the first byte of its value.
+/// At most so many tables, whose entries have rising keys and these values, each dealt out by the first byte of its value. A table
+/// that is dealt no entry is left out.
 fn dealt(alloc: Global, values: &[[u8; VALUE_LEN]], number: usize) -> Result<Vec<Vec<u8>>> {
     let mut tables = Vec::new(alloc);
     for place in 0..number {
-        let mut builder = begun(alloc, values.len().saturating_mul(ENTRY_LEN) as u64)?;
-        for (i, value) in values.iter().enumerate() {
-            if usize::from(value[0]) % number == place {
-                add(&mut builder, i, value)?;
-            }
+        if let Some(written) = dealt_to(alloc, values, number, place)? {
+            tables.push(written)?;
         }
-        tables.push(builder.finish()?)?;
     }
     Ok(tables)
+}
+
+/// The table at this place of so many, where an entry is dealt to it.
+fn dealt_to(
+    alloc: Global,
+    values: &[[u8; VALUE_LEN]],
+    number: usize,
+    place: usize,
+) -> Result<Option<Vec<u8>>> {
+    let mut builder = begun(alloc, values.len().saturating_mul(ENTRY_LEN) as u64)?;
+    let mut is_empty = true;
+    for (i, value) in values.iter().enumerate() {
+        if usize::from(value[0]) % number == place {
+            add(&mut builder, i, value)?;
+            is_empty = false;
+        }
+    }
+    Ok(if is_empty { None } else { Some(builder.finish()?) })
 }
 
 /// These tables, checked.

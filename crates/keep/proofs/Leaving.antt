@@ -11,7 +11,7 @@ use Rattle.std.proofs.lemmas.Option.{same_Some, none-some}
 use Rattle.block.specs.Piece.{Entry}
 use Rattle.ikey.specs.Order.{internal_cmp}
 use Rattle.table.specs.ReadingCursors.{entries_from, LeavesFrom}
-use Rattle.merge.specs.Merged.{with_entry, sorted, joined, merged}
+use Rattle.merge.specs.Merged.{inserted, sorted, joined, merged}
 use Rattle.merge.specs.Least.{IsAdvanced}
 use Rattle.merge.specs.Seeking.{each_from, EachLeavesFrom}
 use Rattle.merge.proofs.Orders.{less_is}
@@ -151,12 +151,12 @@ module _ (test : Entry → Bool) where
   fails-append [] ys = omega arith
   fails-append (x ∷ xs) ys = omega (arith, fails-append xs ys)
 
-  fails-with : (cmp : List ℕ → List ℕ → Ordering) (e : Entry) (es : List Entry) → fails test (with_entry cmp e es) ≡ cond (test e) 0 1 + fails test es
+  fails-with : (cmp : List ℕ → List ℕ → Ordering) (e : Entry) (es : List Entry) → fails test (inserted cmp e es) ≡ cond (test e) 0 1 + fails test es
   unfolding fails
   fails-with cmp e [] = refl
   fails-with cmp e (f ∷ fs) = by_test (is_lt (internal_cmp cmp f.key e.key)) (fails-with cmp e fs)
     where
-      by_test : (b : Bool) → fails test (with_entry cmp e fs) ≡ cond (test e) 0 1 + fails test fs → fails test (cond b (f ∷ with_entry cmp e fs) (e ∷ (f ∷ fs))) ≡ cond (test e) 0 1 + (cond (test f) 0 1 + fails test fs)
+      by_test : (b : Bool) → fails test (inserted cmp e fs) ≡ cond (test e) 0 1 + fails test fs → fails test (cond b (f ∷ inserted cmp e fs) (e ∷ (f ∷ fs))) ≡ cond (test e) 0 1 + (cond (test f) 0 1 + fails test fs)
       by_test true more = omega (arith, more)
       by_test false more = refl
 
@@ -213,11 +213,11 @@ leaves_next test olds (e ∷ es) news h is passes = leaves_more test olds (e ∷
 
 -- ---- what holds of all that is merged
 
-all_with_back : (P : Entry → Type 0) (cmp : List ℕ → List ℕ → Ordering) (e : Entry) (es : List Entry) → AllByRecursion P (with_entry cmp e es) → P e × AllByRecursion P es
+all_with_back : (P : Entry → Type 0) (cmp : List ℕ → List ℕ → Ordering) (e : Entry) (es : List Entry) → AllByRecursion P (inserted cmp e es) → P e × AllByRecursion P es
 all_with_back P cmp e [] h = (h.0, tt)
 all_with_back P cmp e (f ∷ fs) h = by_test (is_lt (internal_cmp cmp f.key e.key)) (all_with_back P cmp e fs) h
   where
-    by_test : (b : Bool) → (AllByRecursion P (with_entry cmp e fs) → P e × AllByRecursion P fs) → AllByRecursion P (cond b (f ∷ with_entry cmp e fs) (e ∷ (f ∷ fs))) → P e × AllByRecursion P (f ∷ fs)
+    by_test : (b : Bool) → (AllByRecursion P (inserted cmp e fs) → P e × AllByRecursion P fs) → AllByRecursion P (cond b (f ∷ inserted cmp e fs) (e ∷ (f ∷ fs))) → P e × AllByRecursion P (f ∷ fs)
     by_test true more h = let both = more h.1 in (both.0, (h.0, both.1))
     by_test false more h = (h.0, h.1)
 

@@ -10,7 +10,7 @@ use Rattle.block.specs.Piece.{Entry}
 use Rattle.ikey.specs.Order.{internal_cmp}
 use Rattle.ikey.proofs.Ordered.{internal_cmp-total}
 use Rattle.table.specs.ReadingCursors.{NeverFalls}
-use Rattle.merge.specs.Merged.{with_entry, sorted, joined, merged, has_key, IsMerge}
+use Rattle.merge.specs.Merged.{inserted, sorted, joined, merged, has_key, IsMerge}
 use Rattle.merge.proofs.Orders.{Above, From, all_weaker, above_first}
 use Rattle.merge.proofs.Sorting.{with_first, sorted_never_falls, filter-sorted}
 
@@ -38,7 +38,7 @@ all_of_key cmp key (e ∷ es) = by_test (is_eq (internal_cmp cmp e.key key)) ref
 sorted_of_key : (cmp : List ℕ → List ℕ → Ordering) → IsTotalOrder cmp → (key : List ℕ) (es : List Entry) → AllByRecursion (HasKey cmp key) es → sorted cmp es ≡ es
 sorted_of_key cmp total key [] h = refl
 sorted_of_key cmp total key (e ∷ es) h =
-    ap (with_entry cmp e) (sorted_of_key cmp total key es h.1)
+    ap (inserted cmp e) (sorted_of_key cmp total key es h.1)
     ∙ with_first cmp total e es (all_weaker (HasKey cmp key) (From cmp e.key) from es h.1)
   where
     laws : IsTotalOrder (internal_cmp cmp)

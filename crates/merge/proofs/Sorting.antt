@@ -9,16 +9,16 @@ use Rattle.std.specs.declared.cmp.Ordering.TheVariants.{Less}
 use Rattle.block.specs.Piece.{Entry}
 use Rattle.ikey.specs.Order.{internal_cmp}
 use Rattle.table.specs.ReadingCursors.{NeverFalls, entries_from, LeavesFrom}
-use Rattle.merge.specs.Merged.{with_entry, sorted}
+use Rattle.merge.specs.Merged.{inserted, sorted}
 use Rattle.merge.proofs.Orders.{Above, From, less_is, not_below, at_most, from_first}
 
 -- ---- what holds of all entries
 
-pub all_with : (P : Entry → Type 0) (cmp : List ℕ → List ℕ → Ordering) (e : Entry) (es : List Entry) → P e → AllByRecursion P es → AllByRecursion P (with_entry cmp e es)
+pub all_with : (P : Entry → Type 0) (cmp : List ℕ → List ℕ → Ordering) (e : Entry) (es : List Entry) → P e → AllByRecursion P es → AllByRecursion P (inserted cmp e es)
 all_with P cmp e [] p h = (p, tt)
 all_with P cmp e (f ∷ fs) p h = by_test (is_lt (internal_cmp cmp f.key e.key)) (all_with P cmp e fs p h.1)
   where
-    by_test : (b : Bool) → AllByRecursion P (with_entry cmp e fs) → AllByRecursion P (cond b (f ∷ with_entry cmp e fs) (e ∷ (f ∷ fs)))
+    by_test : (b : Bool) → AllByRecursion P (inserted cmp e fs) → AllByRecursion P (cond b (f ∷ inserted cmp e fs) (e ∷ (f ∷ fs)))
     by_test true more = (h.0, more)
     by_test false more = (p, h)
 
@@ -29,26 +29,26 @@ all_sorted P cmp (e ∷ es) h = all_with P cmp e (sorted cmp es) h.0 (all_sorted
 -- ---- which entry is the first
 
 -- an entry goes in front of those that aren't below it
-pub with_first : (cmp : List ℕ → List ℕ → Ordering) → IsTotalOrder cmp → (e : Entry) (es : List Entry) → AllByRecursion (From cmp e.key) es → with_entry cmp e es ≡ e ∷ es
+pub with_first : (cmp : List ℕ → List ℕ → Ordering) → IsTotalOrder cmp → (e : Entry) (es : List Entry) → AllByRecursion (From cmp e.key) es → inserted cmp e es ≡ e ∷ es
 with_first cmp total e [] h = refl
-with_first cmp total e (f ∷ fs) h = ap (λ b. cond b (f ∷ with_entry cmp e fs) (e ∷ (f ∷ fs))) (not_below cmp total e.key f.key h.0)
+with_first cmp total e (f ∷ fs) h = ap (λ b. cond b (f ∷ inserted cmp e fs) (e ∷ (f ∷ fs))) (not_below cmp total e.key f.key h.0)
 
 -- an entry goes behind one that is below it
-pub with_behind : (cmp : List ℕ → List ℕ → Ordering) (e f : Entry) (es : List Entry) → Above cmp f.key e → with_entry cmp e (f ∷ es) ≡ f ∷ with_entry cmp e es
-with_behind cmp e f es h = ap (λ (o : Ordering). cond (is_lt o) (f ∷ with_entry cmp e es) (e ∷ (f ∷ es))) h
+pub with_behind : (cmp : List ℕ → List ℕ → Ordering) (e f : Entry) (es : List Entry) → Above cmp f.key e → inserted cmp e (f ∷ es) ≡ f ∷ inserted cmp e es
+with_behind cmp e f es h = ap (λ (o : Ordering). cond (is_lt o) (f ∷ inserted cmp e es) (e ∷ (f ∷ es))) h
 
 -- an entry that is below all before it, and not above any behind it, is the first of the sorted list
 pub sorted_first : (cmp : List ℕ → List ℕ → Ordering) → IsTotalOrder cmp → (xs : List Entry) (e : Entry) (ys : List Entry) → AllByRecursion (Above cmp e.key) xs → AllByRecursion (From cmp e.key) ys → sorted cmp (xs ++ e ∷ ys) ≡ e ∷ sorted cmp (xs ++ ys)
 sorted_first cmp total [] e ys h k = with_first cmp total e (sorted cmp ys) (all_sorted (From cmp e.key) cmp ys k)
-sorted_first cmp total (x ∷ xs) e ys h k = ap (with_entry cmp x) (sorted_first cmp total xs e ys h.1 k) ∙ with_behind cmp x e (sorted cmp (xs ++ ys)) h.0
+sorted_first cmp total (x ∷ xs) e ys h k = ap (inserted cmp x) (sorted_first cmp total xs e ys h.1 k) ∙ with_behind cmp x e (sorted cmp (xs ++ ys)) h.0
 
 -- ---- a sorted list never falls
 
-pub with_never_falls : (cmp : List ℕ → List ℕ → Ordering) → IsTotalOrder cmp → (e : Entry) (es : List Entry) → NeverFalls cmp es → NeverFalls cmp (with_entry cmp e es)
+pub with_never_falls : (cmp : List ℕ → List ℕ → Ordering) → IsTotalOrder cmp → (e : Entry) (es : List Entry) → NeverFalls cmp es → NeverFalls cmp (inserted cmp e es)
 with_never_falls cmp total e [] h = (tt, tt)
 with_never_falls cmp total e (f ∷ fs) h = by_test (is_lt (internal_cmp cmp f.key e.key)) refl (with_never_falls cmp total e fs h.1)
   where
-    by_test : (b : Bool) → is_lt (internal_cmp cmp f.key e.key) ≡ b → NeverFalls cmp (with_entry cmp e fs) → NeverFalls cmp (cond b (f ∷ with_entry cmp e fs) (e ∷ (f ∷ fs)))
+    by_test : (b : Bool) → is_lt (internal_cmp cmp f.key e.key) ≡ b → NeverFalls cmp (inserted cmp e fs) → NeverFalls cmp (cond b (f ∷ inserted cmp e fs) (e ∷ (f ∷ fs)))
     by_test true is more = (all_with (From cmp f.key) cmp e fs (ap is_le (less_is (internal_cmp cmp f.key e.key) is)) h.0, more)
     by_test false is more =
         let le = at_most cmp total e.key f.key is in
@@ -69,21 +69,21 @@ all_filter P test (e ∷ es) h = by_test (test e) (all_filter P test es h.1)
     by_test false more = more
 
 pub filter-with : (cmp : List ℕ → List ℕ → Ordering) → IsTotalOrder cmp → (test : Entry → Bool) (e : Entry) (es : List Entry) → NeverFalls cmp es
-    → filter test (with_entry cmp e es) ≡ cond (test e) (with_entry cmp e (filter test es)) (filter test es)
+    → filter test (inserted cmp e es) ≡ cond (test e) (inserted cmp e (filter test es)) (filter test es)
 filter-with cmp total test e [] h = refl
 filter-with cmp total test e (f ∷ fs) h = by_test (is_lt (internal_cmp cmp f.key e.key)) refl (filter-with cmp total test e fs h.1)
   where
     others : List Entry
     others = filter test fs
 
-    passed : (b c : Bool) → Above cmp f.key e → cond b (f ∷ cond c (with_entry cmp e others) others) (cond c (with_entry cmp e others) others) ≡ cond c (with_entry cmp e (cond b (f ∷ others) others)) (cond b (f ∷ others) others)
+    passed : (b c : Bool) → Above cmp f.key e → cond b (f ∷ cond c (inserted cmp e others) others) (cond c (inserted cmp e others) others) ≡ cond c (inserted cmp e (cond b (f ∷ others) others)) (cond b (f ∷ others) others)
     passed true true below = sym (with_behind cmp e f others below)
     passed true false below = refl
     passed false true below = refl
     passed false false below = refl
 
-    by_test : (b : Bool) → is_lt (internal_cmp cmp f.key e.key) ≡ b → filter test (with_entry cmp e fs) ≡ cond (test e) (with_entry cmp e others) others
-        → filter test (cond b (f ∷ with_entry cmp e fs) (e ∷ (f ∷ fs))) ≡ cond (test e) (with_entry cmp e (cond (test f) (f ∷ others) others)) (cond (test f) (f ∷ others) others)
+    by_test : (b : Bool) → is_lt (internal_cmp cmp f.key e.key) ≡ b → filter test (inserted cmp e fs) ≡ cond (test e) (inserted cmp e others) others
+        → filter test (cond b (f ∷ inserted cmp e fs) (e ∷ (f ∷ fs))) ≡ cond (test e) (inserted cmp e (cond (test f) (f ∷ others) others)) (cond (test f) (f ∷ others) others)
     by_test true is more =
         ap (λ (es : List Entry). cond (test f) (f ∷ es) es) more
         ∙ passed (test f) (test e) (less_is (internal_cmp cmp f.key e.key) is)
@@ -97,10 +97,10 @@ pub filter-sorted : (cmp : List ℕ → List ℕ → Ordering) → IsTotalOrder 
 filter-sorted cmp total test [] = refl
 filter-sorted cmp total test (e ∷ es) =
     filter-with cmp total test e (sorted cmp es) (sorted_never_falls cmp total es)
-    ∙ ap (λ (fs : List Entry). cond (test e) (with_entry cmp e fs) fs) (filter-sorted cmp total test es)
+    ∙ ap (λ (fs : List Entry). cond (test e) (inserted cmp e fs) fs) (filter-sorted cmp total test es)
     ∙ by_test (test e)
   where
-    by_test : (b : Bool) → cond b (with_entry cmp e (sorted cmp (filter test es))) (sorted cmp (filter test es)) ≡ sorted cmp (cond b (e ∷ filter test es) (filter test es))
+    by_test : (b : Bool) → cond b (inserted cmp e (sorted cmp (filter test es))) (sorted cmp (filter test es)) ≡ sorted cmp (cond b (e ∷ filter test es) (filter test es))
     by_test true = refl
     by_test false = refl
 
@@ -135,15 +135,15 @@ leaves_those P cmp target (e ∷ es) fs h all =
     h
 
 -- an entry that stays
-leaves_with : (cmp : List ℕ → List ℕ → Ordering) → IsTotalOrder cmp → (target : List ℕ) (e : Entry) (es fs : List Entry) → NeverFalls cmp es → LeavesFrom cmp target es fs → LeavesFrom cmp target (with_entry cmp e es) (with_entry cmp e fs)
-leaves_with cmp total target e [] fs falls h = inr ([], (ap (with_entry cmp e) h, refl))
+leaves_with : (cmp : List ℕ → List ℕ → Ordering) → IsTotalOrder cmp → (target : List ℕ) (e : Entry) (es fs : List Entry) → NeverFalls cmp es → LeavesFrom cmp target es fs → LeavesFrom cmp target (inserted cmp e es) (inserted cmp e fs)
+leaves_with cmp total target e [] fs falls h = inr ([], (ap (inserted cmp e) h, refl))
 leaves_with cmp total target e (f ∷ es) fs falls h = by_test (is_lt (internal_cmp cmp f.key e.key)) refl (λ gs k. leaves_with cmp total target e es gs falls.1 k) h
   where
     Goal : Bool → Type 0
-    Goal b = LeavesFrom cmp target (cond b (f ∷ with_entry cmp e es) (e ∷ (f ∷ es))) (with_entry cmp e fs)
+    Goal b = LeavesFrom cmp target (cond b (f ∷ inserted cmp e es) (e ∷ (f ∷ es))) (inserted cmp e fs)
 
     More : Type 0
-    More = (gs : List Entry) → LeavesFrom cmp target es gs → LeavesFrom cmp target (with_entry cmp e es) (with_entry cmp e gs)
+    More = (gs : List Entry) → LeavesFrom cmp target es gs → LeavesFrom cmp target (inserted cmp e es) (inserted cmp e gs)
 
     gone_or_not : (b : Bool) → is_lt (internal_cmp cmp f.key e.key) ≡ b → More → (internal_cmp cmp f.key target ≡ Less) × LeavesFrom cmp target es fs → Goal b
     gone_or_not true is more gone = inl (gone.0, more fs gone.1)
@@ -154,19 +154,19 @@ leaves_with cmp total target e (f ∷ es) fs falls h = by_test (is_lt (internal_
 
     stays_or_not : (b : Bool) → is_lt (internal_cmp cmp f.key e.key) ≡ b → More → (left : List Entry) → fs ≡ f ∷ left → LeavesFrom cmp target es left → Goal b
     stays_or_not true is more left same k =
-        inr (with_entry cmp e left, (ap (with_entry cmp e) same ∙ ap (λ b. cond b (f ∷ with_entry cmp e left) (e ∷ (f ∷ left))) is, more left k))
+        inr (inserted cmp e left, (ap (inserted cmp e) same ∙ ap (λ b. cond b (f ∷ inserted cmp e left) (e ∷ (f ∷ left))) is, more left k))
     stays_or_not false is more left same k =
-        inr (f ∷ left, (ap (with_entry cmp e) same ∙ ap (λ b. cond b (f ∷ with_entry cmp e left) (e ∷ (f ∷ left))) is, inr (left, (refl, k))))
+        inr (f ∷ left, (ap (inserted cmp e) same ∙ ap (λ b. cond b (f ∷ inserted cmp e left) (e ∷ (f ∷ left))) is, inr (left, (refl, k))))
 
     by_test : (b : Bool) → is_lt (internal_cmp cmp f.key e.key) ≡ b → More → LeavesFrom cmp target (f ∷ es) fs → Goal b
     by_test b is more k = ⊎_elim (λ gone. gone_or_not b is more gone) (λ stays. stays_or_not b is more stays.0 stays.1.0 stays.1.1) k
 
 -- an entry that is gone
-leaves_without : (cmp : List ℕ → List ℕ → Ordering) (target : List ℕ) (e : Entry) (es fs : List Entry) → internal_cmp cmp e.key target ≡ Less → LeavesFrom cmp target es fs → LeavesFrom cmp target (with_entry cmp e es) fs
+leaves_without : (cmp : List ℕ → List ℕ → Ordering) (target : List ℕ) (e : Entry) (es fs : List Entry) → internal_cmp cmp e.key target ≡ Less → LeavesFrom cmp target es fs → LeavesFrom cmp target (inserted cmp e es) fs
 leaves_without cmp target e [] fs below h = inl (below, h)
 leaves_without cmp target e (f ∷ es) fs below h = by_test (is_lt (internal_cmp cmp f.key e.key)) (λ gs k. leaves_without cmp target e es gs below k)
   where
-    by_test : (b : Bool) → ((gs : List Entry) → LeavesFrom cmp target es gs → LeavesFrom cmp target (with_entry cmp e es) gs) → LeavesFrom cmp target (cond b (f ∷ with_entry cmp e es) (e ∷ (f ∷ es))) fs
+    by_test : (b : Bool) → ((gs : List Entry) → LeavesFrom cmp target es gs → LeavesFrom cmp target (inserted cmp e es) gs) → LeavesFrom cmp target (cond b (f ∷ inserted cmp e es) (e ∷ (f ∷ es))) fs
     by_test true more = ⊎_elim (λ gone. inl (gone.0, more fs gone.1)) (λ stays. inr (stays.0, (stays.1.0, more stays.0 stays.1.1))) h
     by_test false more = inl (below, h)
 
@@ -175,7 +175,7 @@ leaves_sorted cmp total target [] fs h = ap (sorted cmp) h
 leaves_sorted cmp total target (e ∷ es) fs h =
     ⊎_elim (λ gone. leaves_without cmp target e (sorted cmp es) (sorted cmp fs) gone.0 (leaves_sorted cmp total target es fs gone.1))
     (λ stays.
-    subst (λ (gs : List Entry). LeavesFrom cmp target (with_entry cmp e (sorted cmp es)) (sorted cmp gs)) (sym stays.1.0)
+    subst (λ (gs : List Entry). LeavesFrom cmp target (inserted cmp e (sorted cmp es)) (sorted cmp gs)) (sym stays.1.0)
     (leaves_with cmp total target e (sorted cmp es) (sorted cmp stays.0) (sorted_never_falls cmp total es) (leaves_sorted cmp total target es stays.0 stays.1.1))
     )
     h

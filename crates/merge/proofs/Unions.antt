@@ -14,7 +14,7 @@ use Rattle.ikey.specs.Order.{internal_cmp}
 use Rattle.ikey.proofs.Ordered.{internal_cmp-total}
 use Rattle.table.specs.ReadingCursors.{IsRising}
 use Rattle.table.proofs.Orders.{rising_never_falls}
-use Rattle.merge.specs.Merged.{with_entry, sorted, joined, merged, has_key, IsMerge}
+use Rattle.merge.specs.Merged.{inserted, sorted, joined, merged, has_key, IsMerge}
 use Rattle.merge.specs.Union.{version_cmp, VersionsRise, IsUnion}
 use Rattle.merge.proofs.Orders.{Above, all_weaker}
 use Rattle.merge.proofs.OneMerge.{equal_is, none_above, one_merge}
@@ -102,19 +102,19 @@ key_once cmp total key (e ∷ es) h = by_test (is_eq (internal_cmp cmp e.key key
 
 -- ---- sorting moves entries only
 
-with_moved : (cmp : List ℕ → List ℕ → Ordering) (e : Entry) (es : List Entry) → IsPermutation (e ∷ es) (with_entry cmp e es)
+with_moved : (cmp : List ℕ → List ℕ → Ordering) (e : Entry) (es : List Entry) → IsPermutation (e ∷ es) (inserted cmp e es)
 with_moved cmp e [] = IsPermutation-refl (e ∷ [])
 with_moved cmp e (f ∷ fs) = by_test (is_lt (internal_cmp cmp f.key e.key)) (with_moved cmp e fs)
   where
-    by_test : (b : Bool) → IsPermutation (e ∷ fs) (with_entry cmp e fs) → IsPermutation (e ∷ (f ∷ fs)) (cond b (f ∷ with_entry cmp e fs) (e ∷ (f ∷ fs)))
+    by_test : (b : Bool) → IsPermutation (e ∷ fs) (inserted cmp e fs) → IsPermutation (e ∷ (f ∷ fs)) (cond b (f ∷ inserted cmp e fs) (e ∷ (f ∷ fs)))
     by_test true more =
-        IsPermutation-trans (e ∷ (f ∷ fs)) (f ∷ (e ∷ fs)) (f ∷ with_entry cmp e fs) (IsPermutation-middle (e ∷ []) f fs) (IsPermutation-cons f (e ∷ fs) (with_entry cmp e fs) more)
+        IsPermutation-trans (e ∷ (f ∷ fs)) (f ∷ (e ∷ fs)) (f ∷ inserted cmp e fs) (IsPermutation-middle (e ∷ []) f fs) (IsPermutation-cons f (e ∷ fs) (inserted cmp e fs) more)
     by_test false more = IsPermutation-refl (e ∷ (f ∷ fs))
 
 sorted_moved : (cmp : List ℕ → List ℕ → Ordering) (es : List Entry) → IsPermutation es (sorted cmp es)
 sorted_moved cmp [] = IsPermutation-refl []
 sorted_moved cmp (e ∷ es) =
-    IsPermutation-trans (e ∷ es) (e ∷ sorted cmp es) (with_entry cmp e (sorted cmp es)) (IsPermutation-cons e es (sorted cmp es) (sorted_moved cmp es)) (with_moved cmp e (sorted cmp es))
+    IsPermutation-trans (e ∷ es) (e ∷ sorted cmp es) (inserted cmp e (sorted cmp es)) (IsPermutation-cons e es (sorted cmp es) (sorted_moved cmp es)) (with_moved cmp e (sorted cmp es))
 
 -- ---- the law
 

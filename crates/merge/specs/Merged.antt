@@ -8,14 +8,14 @@ use Rattle.ikey.specs.Order.{internal_cmp}
 use Rattle.table.specs.ReadingCursors.{NeverFalls}
 
 -- a list in order, and an entry before the first of it that isn't below the entry
-abbrev pub with_entry : (List ℕ → List ℕ → Ordering) → Entry → List Entry → List Entry
-with_entry cmp e [] = e ∷ []
-with_entry cmp e (f ∷ fs) = if is_lt (internal_cmp cmp f.key e.key) then f ∷ with_entry cmp e fs else e ∷ (f ∷ fs)
+abbrev pub inserted : (List ℕ → List ℕ → Ordering) → Entry → List Entry → List Entry
+inserted cmp e [] = e ∷ []
+inserted cmp e (f ∷ fs) = if is_lt (internal_cmp cmp f.key e.key) then f ∷ inserted cmp e fs else e ∷ (f ∷ fs)
 
 -- entries in the order of their internal keys, those of one key as they stood
 abbrev pub sorted : (List ℕ → List ℕ → Ordering) → List Entry → List Entry
 sorted cmp [] = []
-sorted cmp (e ∷ es) = with_entry cmp e (sorted cmp es)
+sorted cmp (e ∷ es) = inserted cmp e (sorted cmp es)
 
 -- the entries of all lists, one list behind the other
 abbrev pub joined : List (List Entry) → List Entry

@@ -1,7 +1,10 @@
+-- lemmas
 pub mod Elements
 pub mod Stopping
 pub mod Outputting
 pub mod Joining
+pub mod Metering
 pub mod Whole
 pub mod Apart
-pub mod Metering
+pub mod VarintLengths
+pub mod Stopped

@@ -3,3 +3,6 @@ pub mod Stops
 pub mod Outputs
 pub mod Plan
 pub mod Lengths
+pub mod Sizes
+-- serves proofs alone
+pub mod Stopping

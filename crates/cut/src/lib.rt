@@ -5,6 +5,8 @@
 #![tactic(auto)]
 
 mod laws;
+mod lengths;
+mod stops;
 
 pub use laws::{lengths_law, outputs_law, pieces_law, ranges_cut, stops_law, whole_law};
 

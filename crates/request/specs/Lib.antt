@@ -1,0 +1,5 @@
+-- what contracts rest on
+pub mod Request
+pub mod Inputs
+pub mod EditOf
+pub mod OneThread

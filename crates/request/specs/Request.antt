@@ -1,0 +1,103 @@
+-- What a compaction is asked for, and the tests of that.
+use Rattle.std.specs.Prelude.{ℕ, ◌+◌, ◌-◌, ◌^◌, nat_eq, nat_lt, nat_le, Bool, true, ◌&&◌, ◌||◌, List, [], ◌∷◌, length, map, Result}
+use Rattle.std.specs.List.{list_all}
+use Rattle.std.specs.Ordering.{is_lt}
+use Rattle.std.specs.declared.cmp.Ordering.{Ordering}
+use Rattle.coding.specs.Answers.{◌>>=◌}
+use Rattle.coding.specs.declared.fault.Fault.{Fault}
+use Rattle.coding.specs.declared.fault.FaultName.TheVariants.{NoInput, Level, Options, Snapshot, SnapshotList}
+use Rattle.ikey.specs.Order.{internal_cmp}
+use Rattle.table.specs.declared.options.Options as declared
+use Rattle.table.specs.ReadingSteps.{pass}
+use Rattle.table.specs.ReadingEntries.{is_some_list}
+use Rattle.edit.specs.declared.meta.FileMeta.{FileMeta}
+use Rattle.pick.specs.Picked.{Picked, picked_in}
+use Rattle.pick.specs.declared.picked.InputFile.{InputFile}
+use Rattle.keep.specs.Readable.{readable_of}
+use Rattle.keep.specs.Marks.{Below}
+use Rattle.keep.specs.declared.snapshots.Snapshots.{Snapshots}
+use Rattle.keep.specs.declared.snapshots.Snapshots.TheVariants.{From, Listed}
+use Rattle.request.specs.declared.request.Request.{Request}
+
+-- a request, without where its inputs and tables lie in memory
+pub record Asked : Type 0 where
+  pub picked : Picked
+  pub tables : List (List ℕ)
+  pub snapshots : Snapshots
+  pub first_number : ℕ
+  pub log_number : ℕ
+  pub previous_log : ℕ
+  pub last_sequence : ℕ
+  pub options : declared.Options
+
+-- a request of the code
+abbrev pub asked : Request → Asked
+asked r = record {
+  picked = picked_in r.picked.now;
+  tables = map (λ t. t.now) r.tables.now;
+  snapshots = r.snapshots;
+  first_number = r.first_number;
+  log_number = r.log_number;
+  previous_log = r.previous_log;
+  last_sequence = r.last_sequence;
+  options = r.options;
+}
+
+-- what merging has to know of a request: which sequences stay readable, the deeper files, and the grandparents
+abbrev pub below_asked : Asked → Below
+below_asked r = record {
+  readable = readable_of r.snapshots r.last_sequence;
+  deeper = r.picked.deeper;
+  grandparents = r.picked.grandparents;
+}
+
+-- whether the level is one from 0 to 5, and each input is of it or of the next
+abbrev pub has_levels : Picked → Bool
+has_levels p = nat_le p.level 5 && list_all (λ (i : InputFile). nat_eq i.level p.level || nat_eq i.level (p.level + 1)) p.files
+
+-- whether each option is within its limits
+abbrev pub are_in_limits : declared.Options → Bool
+are_in_limits o =
+    nat_le 1 o.block_size && nat_le o.block_size 4194304
+    && nat_le 1 o.restart_interval && nat_le o.restart_interval 1024
+    && nat_le 1 o.file_size && nat_le o.file_size (2 ^ 30)
+
+-- whether each element of a list is below the next one
+abbrev pub rises_by : {A : Type 0} → (A → A → Bool) → List A → Bool
+rises_by is_below (x ∷ y ∷ more) = is_below x y && rises_by is_below (y ∷ more)
+rises_by is_below _ = true
+
+-- whether the largest keys of files rise strictly
+abbrev pub largest_rise : (List ℕ → List ℕ → Ordering) → List FileMeta → Bool
+largest_rise cmp files = rises_by (λ (f g : FileMeta). is_lt (internal_cmp cmp f.largest g.largest)) files
+
+-- whether the options are within their limits, the inputs are 256 at most with a table each, and the largest keys of the
+-- grandparents rise
+abbrev pub has_options : (List ℕ → List ℕ → Ordering) → Asked → Bool
+has_options cmp r =
+    are_in_limits r.options && nat_le (length r.picked.files) 256 && nat_eq (length r.tables) (length r.picked.files)
+    && largest_rise cmp r.picked.grandparents
+
+-- the snapshots that a request names
+abbrev pub named_by : Snapshots → List ℕ
+named_by (From oldest) = oldest ∷ []
+named_by (Listed list) = list.now
+
+-- Whether the snapshots and the last sequence are below 2 ^ 56 - 1. LevelDB starts its last sequence of a user key there, so
+-- that a snapshot of that sequence would drop every entry.
+abbrev pub has_snapshots : Asked → Bool
+has_snapshots r = list_all (λ n. nat_lt n (2 ^ 56 - 1)) (r.last_sequence ∷ named_by r.snapshots)
+
+-- whether listed snapshots are 4,096 at most, rise strictly, and none is above the last sequence
+abbrev pub is_snapshot_list : Snapshots → ℕ → Bool
+is_snapshot_list (From oldest) last = true
+is_snapshot_list (Listed list) last = nat_le (length list.now) 4096 && rises_by nat_lt list.now && list_all (λ n. nat_le n last) list.now
+
+-- the tests of a request in their order
+abbrev pub request_test : (List ℕ → List ℕ → Ordering) → Asked → Result (Unit {0}) Fault
+request_test cmp r = do
+  _ ← pass (is_some_list r.picked.files) NoInput
+  _ ← pass (has_levels r.picked) Level
+  _ ← pass (has_options cmp r) Options
+  _ ← pass (has_snapshots r) Snapshot
+  pass (is_snapshot_list r.snapshots r.last_sequence) SnapshotList

@@ -1,0 +1,4 @@
+-- what contracts rest on
+pub mod Slices
+-- serves proofs alone
+pub mod Standing

@@ -8,3 +8,7 @@ pub mod Whole
 pub mod Apart
 pub mod VarintLengths
 pub mod Stopped
+pub mod Metered
+pub mod Opened
+pub mod Cuts
+pub mod TableLengths

@@ -6,3 +6,7 @@ pub mod Lengths
 pub mod Sizes
 -- serves proofs alone
 pub mod Stopping
+pub mod Metered
+pub mod Opened
+pub mod Cutting
+pub mod TableLength

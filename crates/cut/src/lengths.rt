@@ -9,7 +9,7 @@ ghost use Rattle.cut.specs.Sizes.{saturated, piece_size};
 const WORD_LEN: usize = 8;
 
 /// How many bytes the spelling of a number takes.
-fn varint_len(number: u64) -> u64
+pub(crate) fn varint_len(number: u64) -> u64
     ensures value { result ≡ length (varint number) }
     ensures within { result ≤ 10 }
 {

@@ -4,9 +4,14 @@
 //! every output, every data block and every table's length before one byte is written.
 #![tactic(auto)]
 
+mod cutting;
 mod laws;
 mod lengths;
+mod open_block;
+mod open_output;
+mod planned_block;
 mod stops;
+mod table_len;
 
 pub use laws::{lengths_law, outputs_law, pieces_law, ranges_cut, stops_law, whole_law};
 

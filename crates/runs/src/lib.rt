@@ -9,3 +9,6 @@ mod slice;
 
 pub use cursor::RunsCursor;
 pub use slice::RunsSlice;
+
+#[cfg(test)]
+mod tests;

@@ -1,0 +1,114 @@
+-- How outputs are cut, entry by entry and stop by stop.
+use Rattle.std.proofs.Common.{◌≡◌, ℕ, zero, suc, ◌+◌, ◌-◌, ◌<◌, Bool, true, false, List, [], ◌∷◌, ◌++◌, length, map, take, drop, refl, sym, ap, subst, ◌∙◌, append_assoc, append-nil, arith}
+use Rattle.std.specs.Prelude.{if◌then◌else◌}
+use Rattle.std.specs.List.{AllByRecursion, flat_map}
+use Rattle.std.proofs.lemmas.Bool.{false≢true}
+use Rattle.std.proofs.lemmas.List.{drop-drop, nil_from_length}
+use Rattle.std.proofs.Math.Seq.{take-add}
+use Rattle.block.specs.Piece.{Entry}
+use Rattle.table.specs.declared.options.Options.{Options}
+use Rattle.table.specs.DataBlocks.{is_full, open_block, blocks_behind, data_blocks}
+use Rattle.cut.specs.declared.planned_block.PlannedBlock.{PlannedBlock}
+use Rattle.cut.specs.Cutting.{Cut, outputs_left}
+use Rattle.cut.specs.Opened.{parts_of, entries_of, HasLen, ArePlanned, ends_by}
+use Rattle.cut.specs.Outputs.{all_of, ends_before, outputs_behind, outputs_in, segments}
+
+module _ (o : Options) where
+  -- ---- the entries of data blocks
+
+  open_all : (latest : List Entry) → all_of (open_block latest) ≡ latest
+  open_all [] = refl
+  open_all (e ∷ es) = append-nil (e ∷ es)
+
+  behind_by : (full : Bool) (latest : List Entry) (e : Entry) (es : List Entry) → all_of (blocks_behind o (e ∷ []) es) ≡ e ∷ es → all_of (blocks_behind o (latest ++ e ∷ []) es) ≡ (latest ++ e ∷ []) ++ es
+      → all_of (if full then latest ∷ blocks_behind o (e ∷ []) es else blocks_behind o (latest ++ e ∷ []) es) ≡ latest ++ e ∷ es
+  behind_by true latest e es flushed grown = ap (λ (xs : List Entry). latest ++ xs) flushed
+  behind_by false latest e es flushed grown = grown ∙ append_assoc latest (e ∷ []) es
+
+  behind_all : (latest es : List Entry) → all_of (blocks_behind o latest es) ≡ latest ++ es
+  behind_all latest [] = open_all latest ∙ sym (append-nil latest)
+  behind_all latest (e ∷ es) = behind_by (is_full o latest) latest e es (behind_all (e ∷ []) es) (behind_all (latest ++ e ∷ []) es)
+
+  pub data_blocks_all : (q : List Entry) → all_of (data_blocks o q) ≡ q
+  unfolding data_blocks
+  data_blocks_all q = behind_all [] q
+
+  -- planned blocks have the entries of which they are the data blocks
+  pub entries_are : (q : List Entry) (blocks : List PlannedBlock) → parts_of blocks ≡ data_blocks o q → entries_of blocks ≡ q
+  entries_are q blocks are = ap all_of are ∙ data_blocks_all q
+
+  pub planned_are : (q : List Entry) (blocks : List PlannedBlock) → parts_of blocks ≡ data_blocks o q → AllByRecursion (HasLen o) blocks → ArePlanned o blocks
+  planned_are q blocks are lens = record { cut = are ∙ ap (data_blocks o) (sym (entries_are q blocks are)); lens = lens }
+
+  -- ---- an output ends
+
+  pub ended_none : (outputs : List (List Entry)) (q : List Entry) (blocks : List PlannedBlock) → parts_of blocks ≡ data_blocks o q → blocks ≡ [] → outputs ≡ outputs ++ outputs_behind o q []
+  ended_none outputs q blocks are none =
+      let no : q ≡ [] = sym (entries_are q blocks are) ∙ ap entries_of none in
+      sym (ap (λ (xs : List Entry). outputs ++ open_block xs) no ∙ append-nil outputs)
+
+  some_open : (q : List Entry) (blocks : List PlannedBlock) → parts_of blocks ≡ data_blocks o q → (blocks ≡ [] → ⊥) → open_block q ≡ q ∷ []
+  unfolding data_blocks
+  some_open [] [] are some = absurd (some refl)
+  some_open [] (b ∷ bs) are some = absurd (let no : parts_of (b ∷ bs) ≡ [] = are in cc)
+  some_open (e ∷ es) blocks are some = refl
+
+  pub ended_some : (outputs : List (List Entry)) (q : List Entry) (blocks : List PlannedBlock) → parts_of blocks ≡ data_blocks o q → (blocks ≡ [] → ⊥) → outputs ++ entries_of blocks ∷ [] ≡ outputs ++ outputs_behind o q []
+  ended_some outputs q blocks are some =
+      ap (λ (xs : List Entry). outputs ++ xs ∷ []) (entries_are q blocks are) ∙ sym (ap (λ (ps : List (List Entry)). outputs ++ ps) (some_open q blocks are some))
+
+  -- the outputs that are ended, with the same options
+  pub same_options : {X : Type 0} (blocks_of : X → List PlannedBlock) (after : Options) (xs : List X) → after ≡ o → AllByRecursion (λ x. ArePlanned o (blocks_of x)) xs → AllByRecursion (λ x. ArePlanned after (blocks_of x)) xs
+  same_options blocks_of after xs is h = subst (λ (p : Options). AllByRecursion (λ x. ArePlanned p (blocks_of x)) xs) (sym is) h
+
+  pub planned_push : {X : Type 0} (blocks_of : X → List PlannedBlock) (xs : List X) (x : X) → AllByRecursion (λ y. ArePlanned o (blocks_of y)) xs → ArePlanned o (blocks_of x) → AllByRecursion (λ y. ArePlanned o (blocks_of y)) (xs ++ x ∷ [])
+  planned_push blocks_of [] x h p = (p, tt)
+  planned_push blocks_of (y ∷ ys) x h p = (h.0, planned_push blocks_of ys x h.1 p)
+
+  -- ---- one entry more
+
+  pub goes_on : (outputs : List (List Entry)) (latest behind : List Entry) → 0 < length behind → ends_by o latest behind ≡ false → (rest : List Entry)
+      → outputs ++ outputs_behind o (latest ++ take 1 behind) rest ≡ outputs ++ outputs_behind o latest (take 1 behind ++ rest)
+  goes_on outputs latest [] some ends rest = absurd (omega arith)
+  goes_on outputs latest (e ∷ es) some ends rest = rw ends refl
+
+  ends_open : (latest : List Entry) (e : Entry) → ends_before o latest e ≡ true → open_block latest ≡ latest ∷ []
+  ends_open [] e ends = absurd (false≢true ends)
+  ends_open (x ∷ xs) e ends = refl
+
+  pub ends_first : (outputs : List (List Entry)) (latest behind : List Entry) → 0 < length behind → ends_by o latest behind ≡ true → (rest : List Entry)
+      → (outputs ++ outputs_behind o latest []) ++ outputs_behind o (take 1 behind) rest ≡ outputs ++ outputs_behind o latest (take 1 behind ++ rest)
+  ends_first outputs latest [] some ends rest = absurd (omega arith)
+  ends_first outputs latest (e ∷ es) some ends rest =
+      ap (λ (ps : List (List Entry)). (outputs ++ ps) ++ outputs_behind o (e ∷ []) rest) (ends_open latest e ends)
+      ∙ append_assoc outputs (latest ∷ []) (outputs_behind o (e ∷ []) rest)
+      ∙ rw ends refl
+
+  -- ---- one segment more
+
+  pub segment_more : (outputs after : List (List Entry)) (from stop : ℕ) (stops : List ℕ) (behind : List Entry) → after ≡ outputs ++ outputs_behind o [] (take (stop - from) behind)
+      → after ++ flat_map (outputs_in o) (segments stop stops (drop (stop - from) behind)) ≡ outputs ++ flat_map (outputs_in o) (segments from (stop ∷ stops) behind)
+  segment_more outputs after from stop stops behind is =
+      ap (λ (ps : List (List Entry)). ps ++ flat_map (outputs_in o) (segments stop stops (drop (stop - from) behind))) is
+      ∙ append_assoc outputs (outputs_in o (take (stop - from) behind)) (flat_map (outputs_in o) (segments stop stops (drop (stop - from) behind)))
+
+  pub segment_last : (outputs : List (List Entry)) (from : ℕ) (behind : List Entry) → outputs ++ outputs_behind o [] behind ≡ outputs ++ flat_map (outputs_in o) (segments from [] behind)
+  segment_last outputs from behind = ap (λ (ps : List (List Entry)). outputs ++ ps) (sym (append-nil (outputs_in o behind)))
+
+-- ---- so many of a list
+
+pub take_one : (count : ℕ) (xs : List Entry) → 0 < count → take 1 xs ++ take (count - 1) (drop 1 xs) ≡ take count xs
+take_one count xs some = let sum : 1 + (count - 1) ≡ count = omega arith in sym (take-add 1 (count - 1) xs) ∙ ap (λ (n : ℕ). take n xs) sum
+
+pub drop_one : (count : ℕ) (xs : List Entry) → 0 < count → drop (count - 1) (drop 1 xs) ≡ drop count xs
+drop_one count xs some = drop-drop (count - 1) 1 xs ∙ (let sum : 1 + (count - 1) ≡ count = omega arith in ap (λ (n : ℕ). drop n xs) sum)
+
+pub take_none : (count : ℕ) (xs : List Entry) → (0 < count → 0 < length xs → ⊥) → take count xs ≡ []
+take_none zero xs none = refl
+take_none (suc n) [] none = refl
+take_none (suc n) (x ∷ xs) none = absurd (none (omega arith) (omega arith))
+
+pub drop_none : (count : ℕ) (xs : List Entry) → (0 < count → 0 < length xs → ⊥) → xs ≡ drop count xs
+drop_none zero xs none = refl
+drop_none (suc n) [] none = refl
+drop_none (suc n) (x ∷ xs) none = absurd (none (omega arith) (omega arith))

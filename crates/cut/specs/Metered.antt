@@ -1,0 +1,39 @@
+-- A data block that is measured entry by entry, with none of its bytes at hand.
+use Rattle.std.specs.Prelude.{◌≡◌, ℕ, ◌+◌, ◌-◌, ◌%◌, ◌≤◌, nat_eq, ◌==◌, ◌&&◌, if◌then◌else◌, List, length, Option, Some, None}
+use Rattle.std.specs.List.{common_prefix_len, last_or}
+use Rattle.std.specs.Option.{is_some, option_map}
+use Rattle.block.specs.Piece.{Entry}
+use Rattle.block.specs.Writing.{block}
+use Rattle.cut.specs.Sizes.{saturated, piece_size}
+
+-- a block that takes the next entry: its restart interval, its entries so far, and the entries behind them
+pub record Metered : Type 0 where
+  pub interval : ℕ
+  pub entries : List Entry
+  pub behind : List Entry
+
+-- what is kept of the block of these entries: its length, and how many of them stand behind the last whole interval
+pub record IsMetered (interval : ℕ) (entries : List Entry) (len since : ℕ) : Type 0 where
+  pub positive : 1 ≤ interval
+  pub limited : interval ≤ 1024
+  pub len_is : len ≡ saturated (length (block interval entries))
+  pub since_is : since ≡ length entries % interval
+
+-- the key of the last of some entries, where there is one
+abbrev pub ended : List Entry → Option (List ℕ)
+ended q = option_map (λ (e : Entry). e.key) (last_or None q)
+
+-- how many bytes a key shares with the one before it, where there is one
+abbrev pub shared_with : Option (List ℕ) → List ℕ → ℕ
+shared_with None key = 0
+shared_with (Some before) key = common_prefix_len nat_eq before key
+
+-- how many bytes it leaves out in a block: none where a restart points at it
+abbrev pub left_out : ℕ → Option (List ℕ) → List ℕ → ℕ
+left_out since before key = if since == 0 then 0 else shared_with before key
+
+-- how many bytes an entry adds to a block: those of its piece, and those of its restart, where it is not the first
+abbrev pub added_size : ℕ → Option (List ℕ) → List ℕ → ℕ → ℕ
+added_size since before key value =
+    piece_size (left_out since before key) (length key - left_out since before key) value
+    + (if since == 0 && is_some before then 4 else 0)

@@ -1,0 +1,57 @@
+-- An output that takes the next entry of a plan.
+use Rattle.std.specs.Prelude.{◌≡◌, ℕ, Bool, false, true, List, [], ◌∷◌, ◌++◌, length, map, Option}
+use Rattle.std.specs.List.{AllByRecursion}
+use Rattle.block.specs.Piece.{Entry}
+use Rattle.block.specs.Writing.{block}
+use Rattle.table.specs.declared.options.Options.{Options}
+use Rattle.table.specs.Options.{AreInLimits}
+use Rattle.table.specs.DataBlocks.{is_full, blocks_behind, data_blocks}
+use Rattle.cut.specs.declared.planned_block.PlannedBlock.{PlannedBlock}
+use Rattle.cut.specs.Metered.{Metered, ended}
+use Rattle.cut.specs.Outputs.{all_of, ends_before}
+use Rattle.cut.specs.Plan.{stored_len}
+use Rattle.cut.specs.Sizes.{saturated}
+
+-- what an output is cut by, its entries so far, and the entries behind them
+pub record Opened : Type 0 where
+  pub options : Options
+  pub entries : List Entry
+  pub behind : List Entry
+
+-- the entries of each planned block
+abbrev pub parts_of : List PlannedBlock → List (List Entry)
+parts_of blocks = map (λ (b : PlannedBlock). b.entries.entries) blocks
+
+-- the entries of planned blocks, one behind the other
+abbrev pub entries_of : List PlannedBlock → List Entry
+entries_of blocks = all_of (parts_of blocks)
+
+-- the length of a planned block is that of the block of its entries
+abbrev pub HasLen : Options → PlannedBlock → Type 0
+HasLen o b = b.len ≡ saturated (length (block o.restart_interval b.entries.entries))
+
+-- a planned block is full
+abbrev pub IsFlushed : Options → PlannedBlock → Type 0
+IsFlushed o b = is_full o b.entries.entries ≡ true
+
+-- the blocks are the data blocks of their entries
+pub record ArePlanned (o : Options) (blocks : List PlannedBlock) : Type 0 where
+  pub cut : parts_of blocks ≡ data_blocks o (entries_of blocks)
+  pub lens : AllByRecursion (HasLen o) blocks
+
+-- whether an output of these entries ends before the first of those behind them
+abbrev pub ends_by : Options → List Entry → List Entry → Bool
+ends_by o q [] = false
+ends_by o q (e ∷ es) = ends_before o q e
+
+-- What is kept of an output: its full data blocks, how many bytes they take, and the open block. However many entries come
+-- behind, the data blocks begin with the full ones.
+pub record IsOpen (o : Options) (blocks : List PlannedBlock) (flushed : ℕ) (last : Option (List ℕ)) (open_one : Metered) : Type 0 where
+  pub limits : AreInLimits o
+  pub interval : open_one.interval ≡ o.restart_interval
+  pub part : is_full o open_one.entries ≡ false
+  pub full : AllByRecursion (IsFlushed o) blocks
+  pub lens : AllByRecursion (HasLen o) blocks
+  pub cuts : (rest : List Entry) → blocks_behind o [] ((entries_of blocks ++ open_one.entries) ++ rest) ≡ parts_of blocks ++ blocks_behind o open_one.entries rest
+  pub flushed_is : flushed ≡ saturated (stored_len o.restart_interval (parts_of blocks))
+  pub last_is : last ≡ ended (entries_of blocks ++ open_one.entries)

@@ -1,0 +1,181 @@
+//! Cutting the kept entries of runs into outputs.
+
+ghost use Rattle.std.specs.Prelude.{◌≡◌, ◌<◌, ◌↔◌, List, [], ◌++◌, length, take, drop, map, flat_map, IsTrue, OnOk, IfOk, IfErr, IsOkUnless};
+ghost use Rattle.std.specs.List.{AllByRecursion};
+ghost use Rattle.coding.specs.Answers.{fault};
+ghost use Rattle.coding.specs.declared.fault.FaultName.TheVariants.{Memory};
+ghost use Rattle.block.specs.Piece.{Entry};
+ghost use Rattle.table.specs.Options.{AreInLimits};
+ghost use Rattle.keep.specs.Runs.{joined_run};
+ghost use Rattle.cut.specs.Cutting.{outputs_left};
+ghost use Rattle.cut.specs.Opened.{ArePlanned, entries_of};
+ghost use Rattle.cut.specs.Outputs.{segments, outputs_in, outputs_of};
+
+use crate::open_output::OpenOutput;
+use crate::planned_block::PlannedBlock;
+use crate::stops::stops;
+use coding::Fault;
+use edit::FileMeta;
+use keep::RangeRun;
+use runs::RunsCursor;
+use std::alloc::Global;
+use std::marker::Model;
+use table::Options;
+
+/// Outputs that are being cut, seen as their options, the entries of those that are ended, those of the one that takes the
+/// next entry, and those behind.
+#[derive(Drop)]
+struct Cutting<'r, 'a> {
+    alloc: Global,
+    /// The data blocks of each output that is ended.
+    ended: Vec<Vec<PlannedBlock<'r, 'a>>>,
+    latest: OpenOutput<'r, 'a>,
+}
+
+impl<'r, 'a> Model for Cutting<'r, 'a> {
+    ghost use Rattle.std.specs.Prelude.{map};
+    ghost use Rattle.std.specs.List.{AllByRecursion};
+    ghost use Rattle.cut.specs.Opened.{ArePlanned, entries_of};
+    ghost use Rattle.cut.specs.Cutting.{Cut};
+
+    ghost Value = { Cut };
+
+    ghost view = { λ c. record {
+      options = c.latest.options;
+      outputs = map (λ blocks. entries_of blocks.items) c.ended.items;
+      latest = c.latest.entries;
+      behind = c.latest.behind;
+    } };
+
+    ghost invariant = { λ c. AllByRecursion (λ blocks. ArePlanned c.latest.options blocks.items) c.ended.items };
+}
+
+impl<'r, 'a> Cutting<'r, 'a> {
+    /// No outputs, before the entries from a place on. Takes no memory.
+    fn new(alloc: Global, options: Options, place: RunsCursor<'r, 'a>) -> Cutting<'r, 'a>
+        requires { AreInLimits options }
+        ensures { result ≡ record { options = options; outputs = []; latest = []; behind = place.entry } }
+    {
+        Cutting {
+            alloc,
+            ended: Vec::new(alloc),
+            latest: OpenOutput::new(alloc, options, place),
+        }
+    }
+
+    /// Whether an entry stands behind.
+    fn has_next(&self) -> bool
+        ensures { IsTrue result ↔ (0 < length self.now.behind) }
+    {
+        self.latest.has_next()
+    }
+
+    /// Ends the output that takes the next entry, where it has one. Refused for want of memory alone.
+    fn end_output(&mut self) -> Result<(), Fault>
+        ensures ended { OnOk result (self.new ≡ record {
+          options = self.old.options;
+          outputs = outputs_left self.old [];
+          latest = [];
+          behind = self.old.behind;
+        }) }
+        ensures memory { IsOkUnless result (fault Memory) }
+    {
+        let blocks = self.latest.end(self.alloc)?;
+        if !blocks.is_empty() {
+            self.ended.push(blocks)?;
+        }
+        Ok(())
+    }
+
+    /// Takes in the first entry behind. Refused for want of memory alone.
+    fn step(&mut self) -> Result<(), Fault>
+        requires { 0 < length self.old.behind }
+        ensures left { OnOk result ((rest : List Entry) →
+            outputs_left self.new rest ≡ outputs_left self.old (take 1 self.old.behind ++ rest)) }
+        ensures behind { OnOk result (self.new.behind ≡ drop 1 self.old.behind) }
+        ensures options { OnOk result (self.new.options ≡ self.old.options) }
+        ensures memory { IsOkUnless result (fault Memory) }
+    {
+        if self.latest.ends_before_next() {
+            self.end_output()?;
+        }
+        self.latest.push()
+    }
+
+    /// Takes in so many entries, or all where there are fewer, and ends the last output. Refused for want of memory alone.
+    fn take_in(&mut self, count: u128) -> Result<(), Fault>
+        ensures ok { OnOk result (self.new ≡ record {
+          options = self.old.options;
+          outputs = outputs_left self.old (take count self.old.behind);
+          latest = [];
+          behind = drop count self.old.behind;
+        }) }
+        ensures memory { IsOkUnless result (fault Memory) }
+    {
+        let mut left = count;
+        while left > 0 && self.has_next() {
+            self.step()?;
+            left -= 1;
+        }
+        self.end_output()
+    }
+
+    /// Takes in all entries, and ends the last output. Refused for want of memory alone.
+    fn take_all(&mut self) -> Result<(), Fault>
+        ensures ok { OnOk result (self.new ≡ record {
+          options = self.old.options;
+          outputs = outputs_left self.old self.old.behind;
+          latest = [];
+          behind = [];
+        }) }
+        ensures memory { IsOkUnless result (fault Memory) }
+    {
+        while self.has_next() {
+            self.step()?;
+        }
+        self.end_output()
+    }
+
+    /// Takes in all entries, and ends an output at each stop. Refused for want of memory alone.
+    fn cut(&mut self, stops: &[u128]) -> Result<(), Fault>
+        requires { self.old.latest ≡ [] }
+        ensures outputs { OnOk result (self.new.outputs
+            ≡ self.old.outputs ++ flat_map (outputs_in self.old.options) (segments 0 stops.now self.old.behind)) }
+        ensures options { OnOk result (self.new.options ≡ self.old.options) }
+        ensures memory { IsOkUnless result (fault Memory) }
+    {
+        let mut from = 0;
+        for stop in stops {
+            self.take_in(stop.saturating_sub(from))?;
+            from = *stop;
+        }
+        self.take_all()
+    }
+
+    /// The data blocks of the outputs that are ended.
+    fn into_ended(self) -> Vec<Vec<PlannedBlock<'r, 'a>>>
+        ensures entries { map (λ blocks. entries_of blocks.items) result.items ≡ self.entry.outputs }
+        ensures planned { AllByRecursion (λ blocks. ArePlanned self.entry.options blocks.items) result.items }
+    {
+        self.ended
+    }
+}
+
+/// The data blocks of each output of runs, one behind the other. Refused for want of memory alone.
+pub(crate) fn outputs<'r, 'a>(
+    alloc: Global,
+    runs: &'r [RangeRun<'a>],
+    grandparents: &[FileMeta],
+    options: Options,
+) -> Result<Vec<Vec<PlannedBlock<'r, 'a>>>, Fault>
+    requires { AreInLimits options }
+    ensures entries { IfOk result (λ outputs.
+        map (λ blocks. entries_of blocks.items) outputs.items ≡ outputs_of grandparents.now options (joined_run runs.now)) }
+    ensures planned { IfOk result (λ outputs. AllByRecursion (λ blocks. ArePlanned options blocks.items) outputs.items) }
+    ensures memory { IfErr result (λ e. e ≡ fault Memory) }
+{
+    let stops = stops(alloc, runs, grandparents, options.file_size)?;
+    let mut cutting = Cutting::new(alloc, options, RunsCursor::new(runs));
+    cutting.cut(&stops)?;
+    Ok(cutting.into_ended())
+}

@@ -1,0 +1,128 @@
+//! The output that takes the next entry of a plan.
+
+ghost use Rattle.std.specs.Prelude.{◌≡◌, ℕ, ◌↔◌, ◌<◌, [], ◌++◌, length, take, drop, IsTrue, OnOk, IfOk, IfErr, IsOkUnless};
+ghost use Rattle.std.specs.List.{AllByRecursion};
+ghost use Rattle.coding.specs.Answers.{fault};
+ghost use Rattle.coding.specs.declared.fault.FaultName.TheVariants.{Memory};
+ghost use Rattle.table.specs.Options.{AreInLimits};
+ghost use Rattle.table.specs.DataBlocks.{data_blocks};
+ghost use Rattle.cut.specs.Opened.{parts_of, HasLen, ends_by};
+
+use crate::open_block::OpenBlock;
+use crate::planned_block::PlannedBlock;
+use coding::Fault;
+use frame::TRAILER_LEN;
+use ikey::InternalKey;
+use runs::RunsCursor;
+use std::alloc::Global;
+use std::marker::Model;
+use std::mem;
+use table::Options;
+
+/// An output that takes the next entry, seen as its options, its entries and those behind them.
+#[derive(Drop)]
+pub(crate) struct OpenOutput<'r, 'a> {
+    options: Options,
+    /// The data blocks that are full.
+    blocks: Vec<PlannedBlock<'r, 'a>>,
+    /// How many bytes they take with their trailers; 2^64 - 1 where that is more.
+    flushed: u64,
+    /// The key of the last entry, where there is one.
+    last: Option<InternalKey<'r>>,
+    /// The data block that is not full.
+    current: OpenBlock<'r, 'a>,
+}
+
+impl<'r, 'a> Model for OpenOutput<'r, 'a> {
+    ghost use Rattle.std.specs.Prelude.{◌++◌};
+    ghost use Rattle.std.specs.Option.{option_map};
+    ghost use Rattle.cut.specs.Opened.{Opened, entries_of, IsOpen};
+
+    ghost Value = { Opened };
+
+    ghost view = { λ w. record {
+      options = w.options;
+      entries = entries_of w.blocks.items ++ w.current.entries;
+      behind = w.current.behind;
+    } };
+
+    ghost invariant = { λ w. IsOpen w.options w.blocks.items w.flushed (option_map (λ key. key.bytes.now) w.last) w.current };
+}
+
+impl<'r, 'a> OpenOutput<'r, 'a> {
+    /// No entries, before those from a place on. Takes no memory.
+    pub fn new(alloc: Global, options: Options, place: RunsCursor<'r, 'a>) -> OpenOutput<'r, 'a>
+        requires { AreInLimits options }
+        ensures { result ≡ record { options = options; entries = []; behind = place.entry } }
+    {
+        OpenOutput {
+            options,
+            blocks: Vec::new(alloc),
+            flushed: 0,
+            last: None,
+            current: OpenBlock::new(options.restart_interval, place),
+        }
+    }
+
+    /// Whether an entry stands behind.
+    pub fn has_next(&self) -> bool
+        ensures { IsTrue result ↔ (0 < length self.now.behind) }
+    {
+        self.current.behind().valid()
+    }
+
+    /// Takes in the first entry behind. Refused for want of memory alone.
+    pub fn push(&mut self) -> Result<(), Fault>
+        requires { 0 < length self.old.behind }
+        ensures ok { OnOk result (self.new ≡ record {
+          options = self.old.options;
+          entries = self.old.entries ++ take 1 self.old.behind;
+          behind = drop 1 self.old.behind;
+        }) }
+        ensures options { self.new.options ≡ self.old.options }
+        ensures memory { IsOkUnless result (fault Memory) }
+    {
+        self.blocks.reserve(1)?;
+        self.last = Some(self.current.push());
+        if self.current.is_full(self.options) {
+            let block = self.current.end();
+            let flushed = self.flushed.saturating_add(block.len);
+            self.flushed = flushed.saturating_add(TRAILER_LEN as u64);
+            self.blocks.push(block).unwrap();
+        }
+        Ok(())
+    }
+
+    /// Whether the output ends before the first entry behind.
+    pub fn ends_before_next(&self) -> bool
+        requires { 0 < length self.now.behind }
+        ensures { result ≡ ends_by self.now.options self.now.entries self.now.behind }
+    {
+        match self.last {
+            None => false,
+            Some(last) => {
+                let next = self.current.behind();
+                self.flushed >= self.options.file_size && last.user() != next.key().user()
+            }
+        }
+    }
+
+    /// Ends the output and answers its data blocks, of which there are none where it has no entry; and begins another one
+    /// behind it. Refused for want of memory alone.
+    pub fn end(&mut self, alloc: Global) -> Result<Vec<PlannedBlock<'r, 'a>>, Fault>
+        ensures blocks { IfOk result (λ blocks. parts_of blocks.items ≡ data_blocks self.old.options self.old.entries) }
+        ensures lens { IfOk result (λ blocks. AllByRecursion (HasLen self.old.options) blocks.items) }
+        ensures new { OnOk result (self.new ≡ record { options = self.old.options; entries = []; behind = self.old.behind }) }
+        ensures options { self.new.options ≡ self.old.options }
+        ensures memory { IfErr result (λ e. e ≡ fault Memory) }
+    {
+        self.blocks.reserve(1)?;
+        if !self.current.is_empty() {
+            let block = self.current.end();
+            self.blocks.push(block).unwrap();
+        }
+        self.flushed = 0;
+        self.last = None;
+        Ok(mem::replace(&mut self.blocks, Vec::new(alloc)))
+    }
+}

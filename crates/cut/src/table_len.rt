@@ -1,0 +1,99 @@
+//! The exact length of a table, from the lengths of its data blocks.
+
+ghost use Rattle.std.specs.Prelude.{◌≡◌, ◌≢◌, ◌^◌, ◌≤◌, ◌<◌, [], length, drop, Ok};
+ghost use Rattle.std.specs.List.{AllByRecursion};
+ghost use Rattle.coding.specs.Answers.{EqualOrMemory};
+ghost use Rattle.block.specs.Writing.{block};
+ghost use Rattle.table.specs.Table.{index_keys};
+ghost use Rattle.cut.specs.Sizes.{saturated};
+ghost use Rattle.cut.specs.TableLength.{index_of, key_at, lens_of, table_size};
+
+use crate::lengths::{piece_len, varint_len};
+use crate::planned_block::PlannedBlock;
+use coding::Fault;
+use frame::TRAILER_LEN;
+use ikey::{Comparator, KeyBuf, internal_separator, internal_successor};
+use std::alloc::Global;
+use table::MAX_TABLE_LEN;
+
+/// The length of a restart, and of the number of restarts.
+const RESTART_LEN: u64 = 4;
+
+/// How many bytes of a table are neither of data blocks nor of the index block: the metaindex, its trailer and that of the
+/// index, and the footer.
+const CLOSING_LEN: u64 = 66;
+
+/// How many bytes data blocks take with their trailers; 2^64 - 1 where that is more.
+fn stored_len(blocks: &[PlannedBlock<'_, '_>]) -> u64
+    ensures { result ≡ saturated (lens_of blocks.now) }
+{
+    let mut len: u64 = 0;
+    for block in blocks {
+        len = len
+            .saturating_add(block.len)
+            .saturating_add(TRAILER_LEN as u64);
+    }
+    len
+}
+
+/// The key in the index of the data block at a place. Refused for want of memory alone.
+fn index_key<C: Comparator>(
+    alloc: Global,
+    blocks: &[PlannedBlock<'_, '_>],
+    place: usize,
+) -> Result<KeyBuf, Fault>
+    requires within { place < length blocks.now }
+    requires some { AllByRecursion (λ b. b.entries.entries ≢ []) blocks.now }
+    ensures { EqualOrMemory (λ key. key) result
+        (Ok (key_at (index_keys C.cmp C.separator_of C.successor_of) (drop place blocks.now))) }
+{
+    let Some(last) = blocks[place].entries.last_key() else {
+        unreachable!()
+    };
+    if place + 1 == blocks.len() {
+        return internal_successor::<C>(alloc, last);
+    }
+    let next = blocks[place + 1].entries.first();
+    internal_separator::<C>(alloc, last, next.key())
+}
+
+/// How many bytes the index block of data blocks has; 2^64 - 1 where there are more. Refused for want of memory alone.
+fn index_len<C: Comparator>(alloc: Global, blocks: &[PlannedBlock<'_, '_>]) -> Result<u64, Fault>
+    requires any { blocks.now ≢ [] }
+    requires some { AllByRecursion (λ b. b.entries.entries ≢ []) blocks.now }
+    requires short { lens_of blocks.now ≤ 2 ^ 30 }
+    ensures { EqualOrMemory (λ len. len) result
+        (Ok (saturated (length (block 1 (index_of (index_keys C.cmp C.separator_of C.successor_of) 0 blocks.now))))) }
+{
+    let mut len = RESTART_LEN;
+    let mut offset = 0;
+    for place in 0..blocks.len() {
+        let key = index_key::<C>(alloc, blocks, place)?;
+        let size = blocks[place].len;
+        let handle = varint_len(offset) + varint_len(size);
+        let piece = piece_len(0, key.as_key().bytes().len(), handle as usize);
+        len = len.saturating_add(piece).saturating_add(RESTART_LEN);
+        offset += size + TRAILER_LEN as u64;
+    }
+    Ok(len)
+}
+
+/// How many bytes the table of these data blocks has, or 2^30 + 1 where there are more than 2^30. Refused for want of memory
+/// alone.
+pub(crate) fn table_len<C: Comparator>(
+    alloc: Global,
+    blocks: &[PlannedBlock<'_, '_>],
+) -> Result<u64, Fault>
+    requires any { blocks.now ≢ [] }
+    requires some { AllByRecursion (λ b. b.entries.entries ≢ []) blocks.now }
+    ensures { EqualOrMemory (λ len. len) result
+        (Ok (table_size (index_keys C.cmp C.separator_of C.successor_of) blocks.now)) }
+{
+    let limit = MAX_TABLE_LEN as u64;
+    let stored = stored_len(blocks);
+    if stored > limit {
+        return Ok(limit + 1);
+    }
+    let index = index_len::<C>(alloc, blocks)?;
+    Ok((stored + CLOSING_LEN).saturating_add(index).min(limit + 1))
+}

@@ -1,0 +1,396 @@
+-- What an answer is made of.
+use Rattle.std.proofs.Common.{◌≡◌, ◌≢◌, ℕ, suc, ◌+◌, ◌<◌, ◌≤◌, ◌^◌, Bool, true, false, ◌&&◌, List, [], ◌∷◌, ◌++◌, length, map, refl, sym, ap, subst, ◌∙◌, inl, inr, Some, None, Option, Result, Ok, Err, arith}
+use Rattle.std.specs.Prelude.{Contains, nat_lt, nat_le, if◌then◌else◌}
+use Rattle.std.specs.List.{AllByRecursion, list_all}
+use Rattle.std.specs.Option.{option_map}
+use Rattle.std.specs.Ordering.{nat_cmp, ordering_then}
+use Rattle.std.specs.Cmp.{IsTotalOrder}
+use Rattle.std.specs.declared.cmp.Ordering.{Ordering}
+use Rattle.std.specs.declared.cmp.Ordering.TheVariants.{Less, Equal, Greater}
+use Rattle.std.proofs.lemmas.Bool.Decides.{nat_tests}
+use Rattle.std.proofs.lemmas.List.Sorted.{Contains-permutation, IsPermutation-sym}
+use Rattle.std.proofs.lemmas.List.Elements.{All-from_recursion, All-contains}
+use Rattle.coding.specs.Answers.{fault, ◌>>=◌}
+use Rattle.coding.specs.declared.fault.Fault.{Fault}
+use Rattle.coding.specs.declared.fault.FaultName.TheVariants.{Bounds, Duplicate, Numbers, TooLarge}
+use Rattle.ikey.specs.Comparator.{IsExact}
+use Rattle.ikey.specs.Key.{IsInternalKey, user_of, sequence_of, kind_of, kind_number}
+use Rattle.ikey.specs.Order.{internal_cmp}
+use Rattle.block.specs.Piece.{Entry}
+use Rattle.table.specs.Reading.{Contents, DataBlock, blocks_of, contents_of, contents_reading, data_reading, entries_of, index_in}
+use Rattle.table.specs.ReadingEntries.{entries_test}
+use Rattle.table.specs.ReadingIndex.{index_reading}
+use Rattle.table.specs.ReadingBack.{IsWritable, ReadBackLaw}
+use Rattle.table.specs.ReadingCursors.{IsRising}
+use Rattle.table.specs.ReadingSteps.{pass}
+use Rattle.table.specs.ReadingTables.{IsTable}
+use Rattle.table.specs.Table.{table}
+use Rattle.table.specs.declared.options.Options.{Options}
+use Rattle.table.proofs.CheckedTables.{blocks_by, contents_are, contents_read, read_data}
+use Rattle.table.proofs.EntryTests.{all_tests, passed, passes}
+use Rattle.table.proofs.Tables.{reads_tables}
+use Rattle.edit.specs.Edit.{edit_bytes}
+use Rattle.edit.specs.Version.{State}
+use Rattle.edit.specs.declared.meta.FileMeta.{FileMeta}
+use Rattle.edit.specs.declared.meta.NewFile.{NewFile}
+use Rattle.merge.specs.Merged.{joined, merged}
+use Rattle.merge.specs.Union.{version_cmp, VersionsRise, IsUnion}
+use Rattle.pick.specs.Picked.{IsPicked}
+use Rattle.pick.specs.declared.picked.InputFile.{InputFile}
+use Rattle.pick.proofs.Lists.{and_first, and_second}
+use Rattle.reads.specs.Lawful.{IsLawful, IsFileOf}
+use Rattle.reads.specs.Tables.{Numbered, table_of, table_entries}
+use Rattle.reads.proofs.Answers.{entries_are}
+use Rattle.reads.proofs.FallingEntries.{each_of, of_each}
+use Rattle.reads.proofs.Members.{first_or_later, later_in, first_in, none_in, in_flat_map, from_flat_map, in_map, from_map}
+use Rattle.keep.specs.Keeping.{keeps, kept_behind, kept}
+use Rattle.keep.specs.Readable.{Readable, readable_of}
+use Rattle.keep.specs.Marks.{heads}
+use Rattle.keep.specs.Runs.{are_distinct}
+use Rattle.keep.proofs.Distinct.{distinct_holds}
+use Rattle.cut.specs.Outputs.{all_of, outputs, UsersRise}
+use Rattle.cut.specs.Plan.{Planned, planned_from, plan_of, parts, assembled}
+use Rattle.cut.proofs.Apart.{whole_law}
+use Rattle.request.specs.Request.{Asked, below_asked, request_test}
+use Rattle.request.specs.Inputs.{about, input_reading, inputs_reading, is_stated, union_reading}
+use Rattle.request.specs.EditOf.{edit_of}
+use Rattle.request.specs.OneThread.{Answer, one_thread, table_for}
+use Rattle.survival.specs.GetsAfter.{entries_of_inputs}
+use Rattle.survival.specs.EditAfter.{AreNumbered}
+use Rattle.survival.specs.Over.{bytes_of, IsOver, AreWritten, planned_entries, HoldOutputs, OutputsHold}
+use Rattle.survival.proofs.Gets.{kept_part}
+use Rattle.survival.proofs.Inputs.{input_file}
+
+-- ---- steps that may be refused
+
+-- a step that was taken, and the next one
+pub record Stepped {A B : Type 0} (step : Result A Fault) (next : A → Result B Fault) (b : B) : Type 0 where
+  pub value : A
+  pub is : step ≡ Ok value
+  pub goes_on : next value ≡ Ok b
+
+pub stepped : {A B : Type 0} (step : Result A Fault) (next : A → Result B Fault) (b : B) → (step >>= next) ≡ Ok b → Stepped step next b
+stepped (Ok a) next b h = record { value = a; is = refl; goes_on = h }
+stepped (Err e) next b h = absurd cc
+
+abbrev ok : {A : Type 0} → A → Result A Fault
+ok a = Ok a
+
+abbrev value_in : {A : Type 0} → A → Result A Fault → A
+value_in d (Ok x) = x
+value_in d (Err e) = d
+
+ok_is : {A : Type 0} (a b : A) → ok a ≡ ok b → a ≡ b
+ok_is a b h = ap (value_in a) h
+
+placed : {A : Type 0} (place : ℕ) (step : Result A Fault) (a : A) → about place step ≡ Ok a → step ≡ Ok a
+placed place (Ok x) a h = h
+placed place (Err e) a h = absurd cc
+
+below_told : (m n : ℕ) → nat_lt m n ≡ true → m < n
+below_told m n h = grind (arith, nat_tests)
+
+most_told : (m n : ℕ) → nat_le m n ≡ true → m ≤ n
+most_told m n h = grind (arith, nat_tests)
+
+all_told : {X : Type 0} (p : X → Bool) (xs : List X) → list_all p xs ≡ true → (x : X) → Contains xs x → p x ≡ true
+all_told p [] h x at = absurd (none_in x at)
+all_told p (y ∷ ys) h x at =
+    elim (first_or_later y ys x at) [
+      | inl same ↦ ap p same ∙ and_first (p y) (list_all p ys) h
+      | inr later ↦ all_told p ys (and_second (p y) (list_all p ys) h) x later
+    ]
+
+-- ---- the inputs
+
+-- what an input's bytes hold is what the version's table holds
+input_is : (cmp : List ℕ → List ℕ → Ordering) (f : FileMeta) (bytes : List ℕ) (table : Contents) (entries : List Entry) → contents_reading cmp bytes ≡ Ok table → input_reading cmp f bytes ≡ Ok entries → entries ≡ table.entries
+input_is cmp f bytes table entries is h =
+    let first = stepped (contents_reading cmp bytes) (λ (t : Contents). pass (is_stated f t) Bounds >>= λ _. Ok t.entries) entries h in
+    let second = stepped (pass (is_stated f first.value) Bounds) (λ _. Ok first.value.entries) entries first.goes_on in
+    let same : table ≡ first.value = ok_is table first.value (sym is ∙ first.is) in
+    sym (ok_is first.value.entries entries second.goes_on) ∙ sym (ap (λ (t : Contents). t.entries) same)
+
+abbrev some_of : {A : Type 0} → A → Option A → A
+some_of d (Some x) = x
+some_of d None = d
+
+some_is : {A : Type 0} (a b : A) → Some a ≡ Some b → a ≡ b
+some_is a b h = ap (some_of a) h
+
+abbrev head_of : {A : Type 0} → A → List A → A
+head_of d [] = d
+head_of d (x ∷ xs) = x
+
+abbrev tail_of : {A : Type 0} → List A → List A
+tail_of [] = []
+tail_of (x ∷ xs) = xs
+
+head_is : {A : Type 0} (a b : A) (xs ys : List A) → a ∷ xs ≡ b ∷ ys → a ≡ b
+head_is a b xs ys h = ap (head_of a) h
+
+tail_is : {A : Type 0} (a b : A) (xs ys : List A) → a ∷ xs ≡ b ∷ ys → xs ≡ ys
+tail_is a b xs ys h = ap tail_of h
+
+inputs_are : (cmp : List ℕ → List ℕ → Ordering) (tables : List Numbered) (files : List InputFile) (given : List (List ℕ)) (place : ℕ) (inputs : List (List Entry)) → ((i : InputFile) → Contains files i → IsFileOf cmp tables i.meta)
+    → map (bytes_of tables) files ≡ map (λ b. Some b) given → inputs_reading cmp place files given ≡ Ok inputs → inputs ≡ map (λ (i : InputFile). table_entries tables i.meta.number) files
+inputs_are cmp tables [] [] place inputs are bytes h = sym (ok_is [] inputs h)
+inputs_are cmp tables [] (b ∷ given) place inputs are bytes h = absurd cc
+inputs_are cmp tables (i ∷ files) [] place inputs are bytes h = absurd cc
+inputs_are cmp tables (i ∷ files) (b ∷ given) place inputs are bytes h =
+    let own = are i (first_in i files) in
+    let first = stepped (about place (input_reading cmp i.meta b)) (λ (entries : List Entry). inputs_reading cmp (place + 1) files given >>= λ rest. Ok (entries ∷ rest)) inputs h in
+    let second = stepped (inputs_reading cmp (place + 1) files given) (λ (rest : List (List Entry)). Ok (first.value ∷ rest)) inputs first.goes_on in
+    let there : bytes_of tables i ≡ Some own.table.bytes = ap (λ (o : Option Contents). option_map (λ (t : Contents). t.bytes) o) own.there in
+    let bytes_are : b ≡ own.table.bytes = some_is b own.table.bytes (sym (head_is (bytes_of tables i) (Some b) (map (bytes_of tables) files) (map (λ x. Some x) given) bytes) ∙ there) in
+    let reads : contents_reading cmp b ≡ Ok own.table = ap (contents_reading cmp) bytes_are ∙ own.accepted in
+    let entries : first.value ≡ table_entries tables i.meta.number = input_is cmp i.meta b own.table first.value reads (placed place (input_reading cmp i.meta b) first.value first.is) ∙ sym (entries_are tables i.meta.number own.table own.there) in
+    let rest = inputs_are cmp tables files given (place + 1) second.value (λ x at. are x (later_in i files x at)) (tail_is (bytes_of tables i) (Some b) (map (bytes_of tables) files) (map (λ x. Some x) given) bytes) second.is in
+    sym (ok_is (first.value ∷ second.value) inputs second.goes_on) ∙ (ap (λ (e : List Entry). e ∷ second.value) entries ∙ ap (λ (es : List (List Entry)). table_entries tables i.meta.number ∷ es) rest)
+
+-- ---- the plan
+
+module _ (table_of : List Entry → List ℕ) (o : Options) where
+  plan_numbered : (number : ℕ) (qs : List (List Entry)) → AreNumbered number (planned_from table_of o number qs)
+  plan_numbered number [] = tt
+  plan_numbered number (q ∷ qs) = (refl, plan_numbered (number + 1) qs)
+
+  plan_entries : (number : ℕ) (qs : List (List Entry)) → planned_entries (planned_from table_of o number qs) ≡ qs
+  plan_entries number [] = refl
+  plan_entries number (q ∷ qs) = ap (λ (rest : List (List Entry)). q ∷ rest) (plan_entries (number + 1) qs)
+
+  plan_length : (number : ℕ) (qs : List (List Entry)) → length (planned_from table_of o number qs) ≡ length qs
+  plan_length number [] = refl
+  plan_length number (q ∷ qs) = ap suc (plan_length (number + 1) qs)
+
+  plan_lengths : (number : ℕ) (qs : List (List Entry)) → AllByRecursion (λ (p : Planned). p.length ≡ length (table_of p.entries)) (planned_from table_of o number qs)
+  plan_lengths number [] = tt
+  plan_lengths number (q ∷ qs) = (refl, plan_lengths (number + 1) qs)
+
+-- ---- entries in order
+
+module _ (cmp : List ℕ → List ℕ → Ordering) where
+  keys_rise_by : (o p q : Ordering) → ordering_then o p ≡ Less → ordering_then o (ordering_then p q) ≡ Less
+  keys_rise_by Less p q h = refl
+  keys_rise_by Equal p q h = ap (λ x. ordering_then x q) h
+  keys_rise_by Greater p q h = h
+
+  keys_rise : (a b : List ℕ) → version_cmp cmp a b ≡ Less → internal_cmp cmp a b ≡ Less
+  unfolding internal_cmp
+  keys_rise a b h =
+      keys_rise_by (cmp (user_of a) (user_of b)) (nat_cmp (sequence_of b) (sequence_of a)) (nat_cmp (kind_number (kind_of b)) (kind_number (kind_of a))) h
+
+  pub union_rises : (es : List Entry) → VersionsRise cmp es → IsRising cmp es
+  union_rises [] h = tt
+  union_rises (e ∷ es) h = (
+    of_each (λ (f : Entry). internal_cmp cmp e.key f.key ≡ Less) es (λ f at. keys_rise e.key f.key (each_of (λ (g : Entry). version_cmp cmp e.key g.key ≡ Less) es h.0 f at)),
+    union_rises es h.1,
+  )
+
+  kept_rises : (r : Readable) (deeper : List FileMeta) (before : Option Entry) (es : List Entry) → IsRising cmp es → IsRising cmp (kept_behind cmp r deeper before es)
+  kept_rises r deeper before [] h = tt
+  kept_rises r deeper before (e ∷ es) h = around (keeps cmp r deeper before e) (kept_rises r deeper (Some e) es h.1)
+    where
+      around : (b : Bool) → IsRising cmp (kept_behind cmp r deeper (Some e) es) → IsRising cmp ((if b then e ∷ [] else []) ++ kept_behind cmp r deeper (Some e) es)
+      around true rest = (
+        of_each (λ (f : Entry). internal_cmp cmp e.key f.key ≡ Less) (kept_behind cmp r deeper (Some e) es)
+            (λ f at. each_of (λ (g : Entry). internal_cmp cmp e.key g.key ≡ Less) es h.0 f (kept_part cmp r deeper (Some e) es f at)),
+        rest,
+      )
+      around false rest = rest
+
+  rises_front : (xs ys : List Entry) → IsRising cmp (xs ++ ys) → IsRising cmp xs
+  rises_front [] ys h = tt
+  rises_front (x ∷ xs) ys h = (front xs h.0, rises_front xs ys h.1)
+    where
+      front : (zs : List Entry) → AllByRecursion (λ f. internal_cmp cmp x.key f.key ≡ Less) (zs ++ ys) → AllByRecursion (λ f. internal_cmp cmp x.key f.key ≡ Less) zs
+      front [] k = tt
+      front (z ∷ zs) k = (k.0, front zs k.1)
+
+  rises_behind : (xs ys : List Entry) → IsRising cmp (xs ++ ys) → IsRising cmp ys
+  rises_behind [] ys h = h
+  rises_behind (x ∷ xs) ys h = rises_behind xs ys h.1
+
+  pub part_rises : (qs : List (List Entry)) → IsRising cmp (all_of qs) → (q : List Entry) → Contains qs q → IsRising cmp q
+  part_rises [] h q at = absurd (none_in q at)
+  part_rises (x ∷ xs) h q at =
+      elim (first_or_later x xs q at) [
+        | inl same ↦ subst (IsRising cmp) (sym same) (rises_front x (all_of xs) h)
+        | inr later ↦ part_rises xs (rises_behind x (all_of xs) h) q later
+      ]
+
+  -- ---- what is read of a table
+
+  values_tested : (before : Option (List ℕ)) (es : List Entry) → entries_test cmp before es ≡ Ok tt → AllByRecursion (λ e. length e.value ≤ 16777215) es
+  values_tested before [] h = tt
+  values_tested before (e ∷ es) h = let p = passes cmp before e es h in (p.first.value, values_tested (Some e.key) es p.behind)
+
+  -- the values of a table that was read are within their limit
+  values_read : (bytes : List ℕ) (t : Contents) → contents_reading cmp bytes ≡ Ok t → AllByRecursion (λ e. length e.value ≤ 16777215) t.entries
+  values_read bytes t h =
+      let first = stepped (blocks_of cmp bytes) (λ (blocks : List DataBlock). Ok (contents_of bytes blocks)) t h in
+      let named = stepped (index_in bytes) (λ (entries : List Entry). index_reading bytes entries >>= λ index. data_reading cmp index) first.value (sym (blocks_by cmp bytes) ∙ first.is) in
+      let index = stepped (index_reading bytes named.value) (λ index. data_reading cmp index) first.value named.goes_on in
+      let read = read_data cmp index.value first.value index.goes_on in
+      subst (λ (es : List Entry). AllByRecursion (λ e. length e.value ≤ 16777215) es) (ap (λ (c : Contents). c.entries) (ok_is (contents_of bytes first.value) t first.goes_on))
+      (values_tested None (entries_of first.value) (all_tests cmp None index.value first.value read.read))
+
+  -- bytes that are a table of a writable list are written
+  table_written : IsTotalOrder cmp → (bytes : List ℕ) (q : List Entry) → IsWritable cmp q → length bytes ≤ 2 ^ 30 → IsTable cmp bytes q → AreWritten cmp bytes q
+  table_written total bytes q writable small is =
+      let first = stepped (blocks_of cmp bytes) (λ (blocks : List DataBlock). Ok (entries_of blocks)) q ((reads_tables cmp total).only bytes q is) in
+      let contents = contents_are cmp bytes first.value first.is in
+      record {
+        some = writable.some;
+        keys = writable.keys;
+        rising = writable.rising;
+        small = small;
+        reads = contents_read cmp bytes first.value first.is;
+        same = ap (λ (c : Contents). c.bytes) contents;
+        holds = ap (λ (c : Contents). c.entries) contents ∙ ok_is (entries_of first.value) q first.goes_on;
+      }
+
+united : (b : Bool) (u union : List Entry) → (if b then Ok u else Err (fault Duplicate)) ≡ Ok union → (b ≡ true) × (u ≡ union)
+united true u union h = (refl, ok_is u union h)
+united false u union h = absurd cc
+
+-- what a plan that is there says
+record HasPlan (table_of : List Entry → List ℕ) (o : Options) (first : ℕ) (qs : List (List Entry)) (plan : List Planned) : Type 0 where
+  few : first + length qs < 2 ^ 64
+  small : (q : List Entry) → Contains qs q → length (table_of q) ≤ 2 ^ 30
+  is : planned_from table_of o first qs ≡ plan
+
+has_plan : (table_of : List Entry → List ℕ) (o : Options) (first : ℕ) (qs : List (List Entry)) (plan : List Planned) → plan_of table_of o first qs ≡ Ok plan → HasPlan table_of o first qs plan
+has_plan table_of o first qs plan h =
+    let in_limits : Bool = list_all (λ q. nat_le (length (table_of q)) (2 ^ 30)) qs && nat_le (length (parts o qs)) (2 ^ 40) in
+    let numbers = stepped (pass (nat_lt (first + length qs) (2 ^ 64)) Numbers) (λ _. pass in_limits TooLarge >>= λ _. Ok (planned_from table_of o first qs)) plan h in
+    let sizes = stepped (pass in_limits TooLarge) (λ _. Ok (planned_from table_of o first qs)) plan numbers.goes_on in
+    let each = and_first (list_all (λ q. nat_le (length (table_of q)) (2 ^ 30)) qs) (nat_le (length (parts o qs)) (2 ^ 40)) (passed in_limits TooLarge sizes.value sizes.is) in
+    record {
+      few = below_told (first + length qs) (2 ^ 64) (passed (nat_lt (first + length qs) (2 ^ 64)) Numbers numbers.value numbers.is);
+      small = λ q at. most_told (length (table_of q)) (2 ^ 30) (all_told (λ q. nat_le (length (table_of q)) (2 ^ 30)) qs each q at);
+      is = ok_is (planned_from table_of o first qs) plan sizes.goes_on;
+    }
+
+module _ (cmp : List ℕ → List ℕ → Ordering) (total : IsTotalOrder cmp) (exact : IsExact cmp) (separator_of : List ℕ → List ℕ → List ℕ) (successor_of : List ℕ → List ℕ) (reads_back : ReadBackLaw cmp separator_of successor_of)
+    (v : State) (tables : List Numbered) (level : ℕ) (r : Asked) (answer : Answer)
+    (lawful : IsLawful cmp v tables) (picked : IsPicked cmp v level r.picked) (over : IsOver v tables r) (answers : one_thread cmp separator_of successor_of r ≡ Ok answer) where
+  abbrev written_by : List Entry → List ℕ
+  written_by = table_for cmp separator_of successor_of r
+
+  abbrev cut : List Entry → List (List Entry)
+  cut union = outputs cmp (below_asked r) r.options union
+
+  abbrev answer_of : List Planned → Answer
+  answer_of plan = record { tables = assembled written_by plan; edit = edit_bytes (edit_of r plan) }
+
+  abbrev planned_by : List Entry → Result Answer Fault
+  planned_by union = plan_of written_by r.options r.first_number (cut union) >>= λ plan. Ok (answer_of plan)
+
+  tested : Stepped (request_test cmp r) (λ _. inputs_reading cmp 0 r.picked.files r.tables >>= λ inputs. union_reading cmp inputs >>= planned_by) answer
+  tested = stepped (request_test cmp r) (λ _. inputs_reading cmp 0 r.picked.files r.tables >>= λ inputs. union_reading cmp inputs >>= planned_by) answer answers
+
+  read : Stepped (inputs_reading cmp 0 r.picked.files r.tables) (λ inputs. union_reading cmp inputs >>= planned_by) answer
+  read = stepped (inputs_reading cmp 0 r.picked.files r.tables) (λ inputs. union_reading cmp inputs >>= planned_by) answer tested.goes_on
+
+  joined_up : Stepped (union_reading cmp read.value) planned_by answer
+  joined_up = stepped (union_reading cmp read.value) planned_by answer read.goes_on
+
+  abbrev union : List Entry
+  union = joined_up.value
+
+  planned : Stepped (plan_of written_by r.options r.first_number (cut union)) (λ plan. Ok (answer_of plan)) answer
+  planned = stepped (plan_of written_by r.options r.first_number (cut union)) (λ plan. Ok (answer_of plan)) answer joined_up.goes_on
+
+  abbrev plan : List Planned
+  plan = planned.value
+
+  of_input : (i : InputFile) → Contains r.picked.files i → IsFileOf cmp tables i.meta
+  of_input i at =
+      let f = input_file cmp total v tables lawful level r.picked picked i at in
+      subst (IsFileOf cmp tables) f.is (All-contains (λ (x : NewFile). IsFileOf cmp tables x.meta) v.files f.file lawful.files f.there)
+
+  is_union : IsUnion cmp (entries_of_inputs tables r.picked) union
+  is_union =
+      let both = united (are_distinct (merged cmp read.value)) (merged cmp read.value) union joined_up.is in
+      let inputs = inputs_are cmp tables r.picked.files r.tables 0 read.value of_input over.bytes read.is in
+      let of_merged : IsUnion cmp read.value (merged cmp read.value) = (distinct_holds cmp total exact read.value (merged cmp read.value)).1 (refl, both.0) in
+      subst (λ (l : List (List Entry)). IsUnion cmp l union) inputs (subst (IsUnion cmp read.value) both.1 of_merged)
+
+  -- what holds of the entries of the inputs' tables holds of the union
+  in_union : (P : Entry → Type 0) → ((i : InputFile) → Contains r.picked.files i → (e : Entry) → Contains (table_entries tables i.meta.number) e → P e) → (e : Entry) → Contains union e → P e
+  in_union P each e at =
+      let lists = entries_of_inputs tables r.picked in
+      let all = Contains-permutation union (joined lists) e (IsPermutation-sym (joined lists) union is_union.same) at in
+      let from = from_flat_map (λ (list : List Entry). list) lists e all in
+      let of = from_map (λ (x : InputFile). table_entries tables x.meta.number) r.picked.files from.source from.there in
+      each of.source of.there e (subst (λ (l : List Entry). Contains l e) (sym of.is) from.held)
+
+  key_of : (e : Entry) → Contains union e → IsInternalKey e.key
+  key_of =
+      in_union (λ (e : Entry). IsInternalKey e.key)
+      (λ i at e own.
+      let is = of_input i at in
+      All-contains (λ (x : Entry). IsInternalKey x.key) is.table.entries e is.keys (subst (λ (l : List Entry). Contains l e) (entries_are tables i.meta.number is.table is.there) own))
+
+  value_of : (e : Entry) → Contains union e → length e.value ≤ 16777215
+  value_of =
+      in_union (λ (e : Entry). length e.value ≤ 16777215)
+      (λ i at e own.
+      let is = of_input i at in
+      each_of (λ (x : Entry). length x.value ≤ 16777215) is.table.entries (values_read cmp is.table.bytes is.table is.accepted) e (subst (λ (l : List Entry). Contains l e) (entries_are tables i.meta.number is.table is.there) own))
+
+  abbrev readable : Readable
+  readable = readable_of r.snapshots r.last_sequence
+
+  cut_all : all_of (cut union) ≡ kept cmp readable r.picked.deeper union
+  cut_all = (whole_law cmp total exact).all r.picked.grandparents r.options (record { kept = kept cmp readable r.picked.deeper union; marks = heads cmp (below_asked r) union })
+
+  cut_some : AllByRecursion (λ (q : List Entry). q ≢ []) (cut union)
+  cut_some = (whole_law cmp total exact).some r.picked.grandparents r.options (record { kept = kept cmp readable r.picked.deeper union; marks = heads cmp (below_asked r) union })
+
+  from_cut : (q : List Entry) → Contains (cut union) q → (e : Entry) → Contains q e → Contains union e
+  from_cut q at e i = kept_part cmp readable r.picked.deeper None union e (subst (λ (l : List Entry). Contains l e) cut_all (in_flat_map (λ (x : List Entry). x) (cut union) q e at i))
+
+  writable : (q : List Entry) → Contains (cut union) q → IsWritable cmp q
+  writable q at = record {
+    some = each_of (λ (x : List Entry). x ≢ []) (cut union) cut_some q at;
+    keys = of_each (λ (e : Entry). IsInternalKey e.key) q (λ e i. key_of e (from_cut q at e i));
+    values = of_each (λ (e : Entry). length e.value ≤ 16777215) q (λ e i. value_of e (from_cut q at e i));
+    rising = part_rises cmp (cut union) (subst (IsRising cmp) (sym cut_all) (kept_rises cmp readable r.picked.deeper None union (union_rises cmp union is_union.rising))) q at;
+  }
+
+  of_plan : HasPlan written_by r.options r.first_number (cut union) plan
+  of_plan = has_plan written_by r.options r.first_number (cut union) plan planned.is
+
+  entries_planned : planned_entries plan ≡ cut union
+  entries_planned = sym (ap planned_entries of_plan.is) ∙ plan_entries written_by r.options r.first_number (cut union)
+
+  written : (p : Planned) → Contains plan p → AreWritten cmp (written_by p.entries) p.entries
+  written p at =
+      let in_cut : Contains (cut union) p.entries = subst (λ (l : List (List Entry)). Contains l p.entries) entries_planned (in_map (λ (x : Planned). x.entries) plan p at) in
+      let small = of_plan.small p.entries in_cut in
+      table_written cmp total (written_by p.entries) p.entries (writable p.entries in_cut) small (reads_back r.options p.entries (writable p.entries in_cut) small)
+
+  pub hold_outputs : HoldOutputs cmp separator_of successor_of tables r answer
+  hold_outputs =
+      let few : r.first_number + length plan < 2 ^ 64 = subst (λ (n : ℕ). r.first_number + n < 2 ^ 64) (sym (plan_length written_by r.options r.first_number (cut union)) ∙ ap length of_plan.is) of_plan.few in
+      record {
+        tested = tested.is;
+        union = union;
+        plan = plan;
+        is_union = is_union;
+        numbered = subst (AreNumbered r.first_number) of_plan.is (plan_numbered written_by r.options r.first_number (cut union));
+        few = few;
+        holds_kept = ap all_of entries_planned ∙ cut_all;
+        users = subst (UsersRise cmp) (sym entries_planned) ((whole_law cmp total exact).users (below_asked r) r.options union is_union.rising);
+        lengths = All-from_recursion (λ (p : Planned). p.length ≡ length (written_by p.entries)) plan
+            (subst (λ (l : List Planned). AllByRecursion (λ (p : Planned). p.length ≡ length (written_by p.entries)) l) of_plan.is (plan_lengths written_by r.options r.first_number (cut union)));
+        written = All-from_recursion (λ (p : Planned). AreWritten cmp (written_by p.entries) p.entries) plan (of_each (λ (p : Planned). AreWritten cmp (written_by p.entries) p.entries) plan written);
+        answer_tables = sym (ap (λ (a : Answer). a.tables) (ok_is (answer_of plan) answer planned.goes_on));
+        answer_edit = sym (ap (λ (a : Answer). a.edit) (ok_is (answer_of plan) answer planned.goes_on));
+      }
+
+pub outputs_hold : (cmp : List ℕ → List ℕ → Ordering) → IsTotalOrder cmp → IsExact cmp → (separator_of : List ℕ → List ℕ → List ℕ) (successor_of : List ℕ → List ℕ) → ReadBackLaw cmp separator_of successor_of → OutputsHold cmp separator_of successor_of
+outputs_hold cmp total exact separator_of successor_of reads_back v tables level r answer lawful picked over answers =
+    hold_outputs cmp total exact separator_of successor_of reads_back v tables level r answer lawful picked over answers

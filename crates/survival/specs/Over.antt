@@ -1,0 +1,77 @@
+-- A request over a version, and what a compaction's outputs hold.
+use Rattle.std.specs.Prelude.{◌≡◌, ◌≢◌, ℕ, ◌+◌, ◌<◌, ◌≤◌, ◌^◌, List, [], length, map, Option, Some, Ok}
+use Rattle.std.specs.List.{All, AllByRecursion}
+use Rattle.std.specs.Option.{option_map, ForSome}
+use Rattle.std.specs.declared.cmp.Ordering.{Ordering}
+use Rattle.ikey.specs.Key.{IsInternalKey}
+use Rattle.block.specs.Piece.{Entry}
+use Rattle.table.specs.Checked.{contents_in}
+use Rattle.table.specs.Reading.{Contents, contents_reading}
+use Rattle.table.specs.ReadingCursors.{IsRising}
+use Rattle.edit.specs.Edit.{edit_bytes}
+use Rattle.edit.specs.Version.{State}
+use Rattle.merge.specs.Union.{IsUnion}
+use Rattle.pick.specs.Picked.{IsPicked}
+use Rattle.pick.specs.declared.picked.InputFile.{InputFile}
+use Rattle.reads.specs.Lawful.{IsLawful}
+use Rattle.reads.specs.Tables.{Numbered, table_of}
+use Rattle.keep.specs.Keeping.{kept}
+use Rattle.keep.specs.Readable.{readable_of}
+use Rattle.cut.specs.Outputs.{all_of, UsersRise}
+use Rattle.cut.specs.Plan.{Planned, assembled}
+use Rattle.request.specs.Request.{Asked, request_test}
+use Rattle.request.specs.EditOf.{edit_of}
+use Rattle.request.specs.OneThread.{Answer, one_thread, table_for}
+use Rattle.survival.specs.GetsAfter.{entries_of_inputs}
+use Rattle.survival.specs.EditAfter.{AreNumbered}
+
+-- the bytes of the table of an input, where the version's tables have one
+abbrev pub bytes_of : List Numbered → InputFile → Option (List ℕ)
+bytes_of tables i = option_map (λ (t : Contents). t.bytes) (table_of tables i.meta.number)
+
+-- A request over a version with its tables: it has the bytes of the inputs' tables, in order, and numbers for its outputs
+-- from the version's next file on; and the numbers of its logs are of 64 bits, as those of each version are.
+pub record IsOver (v : State) (tables : List Numbered) (r : Asked) : Type 0 where
+  pub bytes : map (bytes_of tables) r.picked.files ≡ map (λ b. Some b) r.tables
+  pub numbers : ForSome v.next_file (λ next. next ≤ r.first_number)
+  pub log_number : r.log_number < 2 ^ 64
+  pub previous_log : r.previous_log < 2 ^ 64
+
+-- The bytes are a table of entries: there is one, their internal keys rise, and the bytes are within their limit and read as
+-- just these entries.
+pub record AreWritten (cmp : List ℕ → List ℕ → Ordering) (bytes : List ℕ) (entries : List Entry) : Type 0 where
+  pub some : entries ≢ []
+  pub keys : AllByRecursion (λ e. IsInternalKey e.key) entries
+  pub rising : IsRising cmp entries
+  pub small : length bytes ≤ 2 ^ 30
+  pub reads : contents_reading cmp bytes ≡ Ok (contents_in cmp bytes)
+  pub same : (contents_in cmp bytes).bytes ≡ bytes
+  pub holds : (contents_in cmp bytes).entries ≡ entries
+
+-- the entries of outputs
+abbrev pub planned_entries : List Planned → List (List Entry)
+planned_entries plan = map (λ (p : Planned). p.entries) plan
+
+-- What an answer is made of: the request passes its tests, the inputs' tables have a union, the outputs are numbered from the first number on, and hold
+-- what is kept of the union, no user key in two of them; each is written as a table, and the edit is that of the outputs.
+pub record HoldOutputs (cmp : List ℕ → List ℕ → Ordering) (separator_of : List ℕ → List ℕ → List ℕ) (successor_of : List ℕ → List ℕ)
+    (tables : List Numbered) (r : Asked) (answer : Answer) : Type 0 where
+  pub tested : request_test cmp r ≡ Ok tt
+  pub union : List Entry
+  pub plan : List Planned
+  pub is_union : IsUnion cmp (entries_of_inputs tables r.picked) union
+  pub numbered : AreNumbered r.first_number plan
+  pub few : r.first_number + length plan < 2 ^ 64
+  pub holds_kept : all_of (planned_entries plan) ≡ kept cmp (readable_of r.snapshots r.last_sequence) r.picked.deeper union
+  pub users : UsersRise cmp (planned_entries plan)
+  pub lengths : All (λ (p : Planned). p.length ≡ length (table_for cmp separator_of successor_of r p.entries)) plan
+  pub written : All (λ (p : Planned). AreWritten cmp (table_for cmp separator_of successor_of r p.entries) p.entries) plan
+  pub answer_tables : answer.tables ≡ assembled (table_for cmp separator_of successor_of r) plan
+  pub answer_edit : answer.edit ≡ edit_bytes (edit_of r plan)
+
+-- so they do, where the inputs were picked from a lawful version and the request is over it
+abbrev pub OutputsHold : (List ℕ → List ℕ → Ordering) → (List ℕ → List ℕ → List ℕ) → (List ℕ → List ℕ) → Type 0
+OutputsHold cmp separator_of successor_of =
+    (v : State) (tables : List Numbered) (level : ℕ) (r : Asked) (answer : Answer) →
+    IsLawful cmp v tables → IsPicked cmp v level r.picked → IsOver v tables r → one_thread cmp separator_of successor_of r ≡ Ok answer →
+    HoldOutputs cmp separator_of successor_of tables r answer

@@ -1,0 +1,59 @@
+-- Reads survive: the version after a compaction is lawful, and answers at each readable sequence as before.
+use Rattle.std.specs.Prelude.{◌≡◌, ℕ, ◌≤◌, true, not, List, ◌++◌, map, filter, Some, Ok}
+use Rattle.std.specs.List.{All}
+use Rattle.std.specs.declared.cmp.Ordering.{Ordering}
+use Rattle.table.specs.Checked.{contents_in}
+use Rattle.edit.specs.Edit.{Edit, IsEdit}
+use Rattle.edit.specs.Version.{State, applied}
+use Rattle.edit.specs.declared.meta.NewFile.{NewFile}
+use Rattle.pick.specs.Picked.{Picked, IsPicked}
+use Rattle.reads.specs.Gets.{get_of}
+use Rattle.reads.specs.Lawful.{IsLawful}
+use Rattle.reads.specs.Tables.{Numbered}
+use Rattle.closure.specs.Closed.{is_input}
+use Rattle.keep.specs.Readable.{readable_of, is_read}
+use Rattle.request.specs.Request.{Asked}
+use Rattle.request.specs.OneThread.{Answer, one_thread}
+use Rattle.survival.specs.GetsAfter.{HoldKept}
+use Rattle.survival.specs.EditAfter.{version_after}
+use Rattle.survival.specs.Over.{IsOver, HoldOutputs}
+
+-- an output's number, and what its bytes hold
+abbrev pub output_table : (List ℕ → List ℕ → Ordering) → ℕ × List ℕ → Numbered
+output_table cmp output = record { number = output.0; contents = contents_in cmp output.1 }
+
+-- the tables after a compaction: the outputs, and the others but those of the inputs
+abbrev pub tables_after : (List ℕ → List ℕ → Ordering) → Picked → Answer → List Numbered → List Numbered
+tables_after cmp p answer tables =
+    map (output_table cmp) answer.tables ++ filter (λ (t : Numbered). not (is_input p t.number)) tables
+
+-- Where the inputs were picked from a lawful version, whose files stand at levels up to 6, and an answer's outputs hold what
+-- they should, the version after is lawful with the tables after, and its files hold the entries of the files that stay and
+-- what is kept of the inputs' union.
+pub record StandsAfter (cmp : List ℕ → List ℕ → Ordering) (separator_of : List ℕ → List ℕ → List ℕ) (successor_of : List ℕ → List ℕ) : Type 0 where
+  pub lawful : (v : State) (tables : List Numbered) (level : ℕ) (r : Asked) (answer : Answer) →
+      IsLawful cmp v tables → All (λ (f : NewFile). f.level ≤ 6) v.files → IsPicked cmp v level r.picked → IsOver v tables r →
+      (held : HoldOutputs cmp separator_of successor_of tables r answer) →
+      IsLawful cmp (version_after v r held.plan) (tables_after cmp r.picked answer tables)
+  pub holds : (v : State) (tables : List Numbered) (level : ℕ) (r : Asked) (answer : Answer) →
+      IsLawful cmp v tables → All (λ (f : NewFile). f.level ≤ 6) v.files → IsPicked cmp v level r.picked → IsOver v tables r →
+      (held : HoldOutputs cmp separator_of successor_of tables r answer) →
+      HoldKept cmp v tables r.picked (readable_of r.snapshots r.last_sequence) held.union (version_after v r held.plan) (tables_after cmp r.picked answer tables)
+
+-- The version after the edit is there and lawful, and each get at a sequence that stays readable answers as before.
+pub record Survives (cmp : List ℕ → List ℕ → Ordering) (v : State) (tables : List Numbered) (r : Asked) (answer : Answer) (e : Edit) : Type 0 where
+  pub after : State
+  pub is_after : applied v e ≡ Some after
+  pub lawful_after : IsLawful cmp after (tables_after cmp r.picked answer tables)
+  pub gets_after : (user : List ℕ) (at : ℕ) → is_read (readable_of r.snapshots r.last_sequence) at ≡ true →
+      get_of after (tables_after cmp r.picked answer tables) user at ≡ get_of v tables user at
+
+-- Where the inputs were picked from a lawful version, whose files stand at levels up to 6, the bytes of the edit of each
+-- answer read as an edit, and each that they read as leaves a version that reads survive in.
+pub record ReadsSurvive (cmp : List ℕ → List ℕ → Ordering) (separator_of : List ℕ → List ℕ → List ℕ) (successor_of : List ℕ → List ℕ) : Type 0 where
+  pub reads : (v : State) (tables : List Numbered) (level : ℕ) (r : Asked) (answer : Answer) →
+      IsLawful cmp v tables → All (λ (f : NewFile). f.level ≤ 6) v.files → IsPicked cmp v level r.picked → IsOver v tables r →
+      one_thread cmp separator_of successor_of r ≡ Ok answer → (e : Edit) × IsEdit answer.edit e
+  pub survives : (v : State) (tables : List Numbered) (level : ℕ) (r : Asked) (answer : Answer) (e : Edit) →
+      IsLawful cmp v tables → All (λ (f : NewFile). f.level ≤ 6) v.files → IsPicked cmp v level r.picked → IsOver v tables r →
+      one_thread cmp separator_of successor_of r ≡ Ok answer → IsEdit answer.edit e → Survives cmp v tables r answer e

@@ -12,3 +12,4 @@ pub mod Metered
 pub mod Opened
 pub mod Cuts
 pub mod TableLengths
+pub mod Planned

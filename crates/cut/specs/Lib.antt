@@ -10,3 +10,4 @@ pub mod Metered
 pub mod Opened
 pub mod Cutting
 pub mod TableLength
+pub mod Planning

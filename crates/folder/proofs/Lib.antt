@@ -12,3 +12,4 @@ pub mod NameEnds
 pub mod WrittenLemmas
 mod AloneLemmas
 pub mod CountLemmas
+mod ShelfLemmas

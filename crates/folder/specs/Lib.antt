@@ -12,3 +12,5 @@ pub mod Runs
 -- serves proofs alone
 pub mod Attempts
 pub mod Free
+pub mod Shelf
+pub mod Source

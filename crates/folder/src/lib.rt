@@ -10,6 +10,8 @@ mod loading;
 mod names;
 mod opening;
 mod order;
+mod shelf;
+mod shelf_step;
 mod trail;
 
 pub use disk::Disk;
@@ -19,12 +21,14 @@ pub use loading::load;
 pub use names::{CURRENT, current_text, manifest_name, table_name, temporary_name};
 pub use opening::open;
 pub use order::Order;
+pub use shelf::{Failing, Shelf};
+pub use shelf_step::{ShelfCall, ShelfStep};
 pub use trail::{Attempt, Trail, WriteCall};
 
 #[cfg(test)]
-mod lent_folder;
-#[cfg(test)]
 mod loading_tests;
+#[cfg(test)]
+mod manifests;
 #[cfg(test)]
 mod opening_tests;
 #[cfg(test)]

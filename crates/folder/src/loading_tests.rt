@@ -1,4 +1,5 @@
-use crate::lent_folder::*;
+use crate::manifests::*;
+use crate::tests::fails;
 use crate::*;
 use coding::{Fault, FaultName};
 use edit::Version;
@@ -14,7 +15,7 @@ const THREE_FILES: &[u8] =
 fn three_files(alloc: Global) -> Result<Version, Fault> {
     let manifest = log_of(alloc, &[BYTEWISE, NUMBERS, THREE_FILES])?;
     let files = [("CURRENT", FIVE_CURRENT), (FIVE, manifest.as_slice())];
-    let (_order, version) = open(alloc, &mut LentFolder::new(alloc, &files))?;
+    let (_order, version) = open(alloc, &mut Shelf::new(alloc, &files))?;
     Ok(version)
 }
 
@@ -28,8 +29,8 @@ const TABLES: [(&str, &[u8]); 5] = [
 ];
 
 /// How the tables of a version are refused.
-fn refused(alloc: Global, folder: &mut LentFolder<'_>, version: &Version) -> Option<FaultName> {
-    match load::<Bytewise, LentFolder<'_>>(alloc, folder, version) {
+fn refused(alloc: Global, folder: &mut Shelf<'_>, version: &Version) -> Option<FaultName> {
+    match load::<Bytewise, Shelf<'_>>(alloc, folder, version) {
         Ok(_) => None,
         Err(fault) => Some(fault.name),
     }
@@ -39,8 +40,8 @@ fn refused(alloc: Global, folder: &mut LentFolder<'_>, version: &Version) -> Opt
 fn tables_are_loaded(rt: HostRuntime) -> Result<(), Fail> {
     let alloc = rt.alloc();
     let version = three_files(alloc)?;
-    let mut folder = LentFolder::new(alloc, &TABLES);
-    let tables = load::<Bytewise, LentFolder<'_>>(alloc, &mut folder, &version)?;
+    let mut folder = Shelf::new(alloc, &TABLES);
+    let tables = load::<Bytewise, Shelf<'_>>(alloc, &mut folder, &version)?;
     let want = [
         (8, b"eight".as_slice()),
         (3, b"three".as_slice()),
@@ -57,9 +58,9 @@ fn tables_are_loaded(rt: HostRuntime) -> Result<(), Fail> {
 #[test]
 fn a_version_without_files_has_no_table(rt: HostRuntime) -> Result<(), Fail> {
     let alloc = rt.alloc();
-    let mut folder = LentFolder::new(alloc, &[]);
+    let mut folder = Shelf::new(alloc, &[]);
     let version = Version::empty(alloc);
-    let tables = load::<Bytewise, LentFolder<'_>>(alloc, &mut folder, &version)?;
+    let tables = load::<Bytewise, Shelf<'_>>(alloc, &mut folder, &version)?;
     assert!(rt; tables.is_empty());
     assert_eq!(rt; folder.calls(), 0);
     Ok(())
@@ -77,7 +78,7 @@ fn tables_that_are_missing(rt: HostRuntime) -> Result<(), Fail> {
             }
         }
         assert_eq!(rt;
-            refused(alloc, &mut LentFolder::new(alloc, &files), &version),
+            refused(alloc, &mut Shelf::new(alloc, &files), &version),
             Some(FaultName::Missing),
             "{without}"
         );
@@ -91,24 +92,24 @@ fn calls_that_fail(rt: HostRuntime) -> Result<(), Fail> {
     let version = three_files(alloc)?;
     // One call for number 8, two for number 3 and one for number 5.
     for call in 1..5 {
-        let mut folder = LentFolder::new(alloc, &TABLES).failing(call, FolderFault::Device);
+        let mut folder = Shelf::new(alloc, &TABLES).failing(fails(call, FolderFault::Device));
         assert_eq!(rt;
             refused(alloc, &mut folder, &version),
             Some(FaultName::Device)
         );
         assert_eq!(rt; folder.failures(), 1);
         assert_eq!(rt; folder.calls(), call);
-        let mut folder = LentFolder::new(alloc, &TABLES).failing(call, FolderFault::Memory);
+        let mut folder = Shelf::new(alloc, &TABLES).failing(fails(call, FolderFault::Memory));
         assert_eq!(rt;
             refused(alloc, &mut folder, &version),
             Some(FaultName::Memory)
         );
         assert_eq!(rt; folder.failures(), 0);
     }
-    let mut folder = LentFolder::new(alloc, &TABLES).failing(5, FolderFault::Device);
+    let mut folder = Shelf::new(alloc, &TABLES).failing(fails(5, FolderFault::Device));
     assert_eq!(rt; refused(alloc, &mut folder, &version), None);
     // The first table that isn't there comes before a later call.
-    let mut folder = LentFolder::new(alloc, &[]).failing(3, FolderFault::Device);
+    let mut folder = Shelf::new(alloc, &[]).failing(fails(3, FolderFault::Device));
     assert_eq!(rt;
         refused(alloc, &mut folder, &version),
         Some(FaultName::Missing)
@@ -120,7 +121,7 @@ fn calls_that_fail(rt: HostRuntime) -> Result<(), Fail> {
 /// Loads the three tables.
 fn round(alloc: Global) -> Result<Vec<(u64, Vec<u8>)>, Fault> {
     let version = three_files(alloc)?;
-    load::<Bytewise, LentFolder<'_>>(alloc, &mut LentFolder::new(alloc, &TABLES), &version)
+    load::<Bytewise, Shelf<'_>>(alloc, &mut Shelf::new(alloc, &TABLES), &version)
 }
 
 // With `rt try --test --fail-alloc N` the Nth growth is refused; without it, none is.

@@ -1,5 +1,5 @@
-use crate::lent_folder::*;
-use crate::tests::NO_NAMES;
+use crate::manifests::*;
+use crate::tests::{NO_NAMES, fails};
 use crate::*;
 use coding::{Fault, FaultName};
 use edit::Version;
@@ -17,7 +17,7 @@ fn refusal(answer: Result<(Order, Version), Fault>) -> Option<FaultName> {
 
 /// How a folder of these files is refused.
 fn refused(alloc: Global, files: &[(&str, &[u8])]) -> Option<FaultName> {
-    refusal(open(alloc, &mut LentFolder::new(alloc, files)))
+    refusal(open(alloc, &mut Shelf::new(alloc, files)))
 }
 
 /// How a folder is refused whose CURRENT names manifest 5, which holds these bytes.
@@ -30,7 +30,7 @@ fn a_folder_is_opened(rt: HostRuntime) -> Result<(), Fail> {
     let alloc = rt.alloc();
     let manifest = log_of(alloc, &[BYTEWISE, NUMBERS, SEVEN])?;
     let files = [("CURRENT", FIVE_CURRENT), (FIVE, manifest.as_slice())];
-    let (order, version) = open(alloc, &mut LentFolder::new(alloc, &files))?;
+    let (order, version) = open(alloc, &mut Shelf::new(alloc, &files))?;
     assert_eq!(rt; order, Order::Bytewise);
     assert_eq!(rt; version.log_number(), Some(3));
     assert_eq!(rt; version.previous_log(), Some(0));
@@ -53,7 +53,7 @@ fn a_previous_log_number_may_be_left_out(rt: HostRuntime) -> Result<(), Fail> {
     // The manifest's number is just below next file, which is 6.
     let manifest = log_of(alloc, &[SHORTLEX, b"\x02\x03\x03\x06\x04\x04"])?;
     let files = [("CURRENT", FIVE_CURRENT), (FIVE, manifest.as_slice())];
-    let (order, version) = open(alloc, &mut LentFolder::new(alloc, &files))?;
+    let (order, version) = open(alloc, &mut Shelf::new(alloc, &files))?;
     assert_eq!(rt; order, Order::Shortlex);
     assert_eq!(rt; version.previous_log(), None);
     assert_eq!(rt; version.next_file(), Some(6));
@@ -163,26 +163,26 @@ fn calls_that_fail(rt: HostRuntime) -> Result<(), Fail> {
     let manifest = log_of(alloc, &[BYTEWISE, NUMBERS])?;
     let files = [("CURRENT", FIVE_CURRENT), (FIVE, manifest.as_slice())];
     for call in 1..3 {
-        let mut folder = LentFolder::new(alloc, &files).failing(call, FolderFault::Device);
+        let mut folder = Shelf::new(alloc, &files).failing(fails(call, FolderFault::Device));
         assert_eq!(rt; refusal(open(alloc, &mut folder)), Some(FaultName::Device));
         assert_eq!(rt; folder.failures(), 1);
         assert_eq!(rt; folder.calls(), call);
-        let mut folder = LentFolder::new(alloc, &files).failing(call, FolderFault::Memory);
+        let mut folder = Shelf::new(alloc, &files).failing(fails(call, FolderFault::Memory));
         assert_eq!(rt; refusal(open(alloc, &mut folder)), Some(FaultName::Memory));
         assert_eq!(rt; folder.failures(), 0);
     }
-    let mut folder = LentFolder::new(alloc, &files).failing(3, FolderFault::Device);
+    let mut folder = Shelf::new(alloc, &files).failing(fails(3, FolderFault::Device));
     assert_eq!(rt; refusal(open(alloc, &mut folder)), None);
     assert_eq!(rt; folder.failures(), 0);
     // Where a call fails, nothing is known of what is missing.
-    let mut folder = LentFolder::new(alloc, &[]).failing(1, FolderFault::Device);
+    let mut folder = Shelf::new(alloc, &[]).failing(fails(1, FolderFault::Device));
     assert_eq!(rt; refusal(open(alloc, &mut folder)), Some(FaultName::Device));
     Ok(())
 }
 
 #[test]
 fn the_laws_are_called(rt: HostRuntime) {
-    let folder = LentFolder::new(rt.alloc(), &[]);
+    let folder = Shelf::new(rt.alloc(), &[]);
     folder_laws(&folder);
     reading_laws(&folder);
     crash_laws();
@@ -192,7 +192,7 @@ fn the_laws_are_called(rt: HostRuntime) {
 fn round(alloc: Global) -> Result<(Order, Version), Fault> {
     let manifest = log_of(alloc, &[BYTEWISE, NUMBERS, SEVEN])?;
     let files = [("CURRENT", FIVE_CURRENT), (FIVE, manifest.as_slice())];
-    open(alloc, &mut LentFolder::new(alloc, &files))
+    open(alloc, &mut Shelf::new(alloc, &files))
 }
 
 // With `rt try --test --fail-alloc N` the Nth growth is refused; without it, none is.

@@ -24,6 +24,15 @@ pub(crate) const NO_NAMES: [&str; 15] = [
     "MANIFEST-000009/\n",
 ];
 
+/// The call of this number fails in this way, and nothing of it is done.
+pub(crate) fn fails(call: u64, fault: FolderFault) -> Failing {
+    Failing {
+        call,
+        fault,
+        is_half_done: false,
+    }
+}
+
 /// The number of the manifest that CURRENT names by this text, or the refusal.
 fn named(alloc: Global, text: &str) -> Result<u64, FaultName> {
     number_in_current(alloc, text.as_bytes()).map_err(|fault| fault.name)
@@ -118,5 +127,66 @@ fn no_folder_has_the_empty_path(rt: HostRuntime) -> Result<(), Fail> {
     let mut disk = Disk::new(&rt, "");
     assert!(rt; disk.read("tmp")?.is_none());
     assert_eq!(rt; disk.failures(), 0);
+    Ok(())
+}
+
+/// Whether a folder in memory holds this under a name.
+fn holds(shelf: &Shelf<'_>, name: &str, wanted: Option<&[u8]>) -> bool {
+    shelf.held(name) == wanted
+}
+
+#[test]
+fn a_shelf_holds_what_was_written(rt: HostRuntime) -> Result<(), Fail> {
+    let files: [(&str, &[u8]); 3] = [("1", b"one"), ("2", b"two"), ("1", b"another")];
+    let mut shelf = Shelf::new(rt.alloc(), &files);
+    assert!(rt; holds(&shelf, "1", Some(b"one")));
+    assert!(rt; holds(&shelf, "3", None));
+    shelf.create("3", b"three")?;
+    shelf.rename("3", "1")?;
+    assert!(rt; holds(&shelf, "1", Some(b"three")));
+    assert!(rt; holds(&shelf, "3", None));
+    // A file that isn't there takes the other name's file away.
+    shelf.rename("3", "2")?;
+    assert!(rt; holds(&shelf, "2", None));
+    shelf.create("1", b"")?;
+    assert!(rt; holds(&shelf, "1", Some(b"")));
+    shelf.sync("1")?;
+    shelf.sync_folder()?;
+    assert_eq!(rt; shelf.calls(), 6);
+    assert_eq!(rt; shelf.steps().len(), 6);
+    assert_eq!(rt; shelf.failures(), 0);
+    Ok(())
+}
+
+#[test]
+fn a_call_of_a_shelf_fails(rt: HostRuntime) -> Result<(), Fail> {
+    let files: [(&str, &[u8]); 1] = [("1", b"one")];
+    for is_half_done in [false, true] {
+        let failing = Failing {
+            call: 2,
+            fault: FolderFault::Device,
+            is_half_done,
+        };
+        let mut shelf = Shelf::new(rt.alloc(), &files).failing(failing);
+        shelf.sync("1")?;
+        assert_eq!(rt; shelf.create("1", b"three"), Err(FolderFault::Device));
+        assert_eq!(rt; shelf.failures(), 1);
+        let held = if is_half_done {
+            b"th".as_slice()
+        } else {
+            b"one".as_slice()
+        };
+        assert_eq!(rt; shelf.held("1"), Some(held));
+        // The call behind it is done.
+        shelf.create("1", b"four")?;
+        assert_eq!(rt; shelf.held("1"), Some(b"four".as_slice()));
+        assert_eq!(rt; shelf.failures(), 1);
+        let mut kinds = Vec::new(rt.alloc());
+        for step in shelf.steps() {
+            kinds.push((step.is_done, step.is_shown))?;
+        }
+        let wanted = [(true, true), (false, is_half_done), (true, true)];
+        assert_eq!(rt; kinds.as_slice(), wanted.as_slice());
+    }
     Ok(())
 }

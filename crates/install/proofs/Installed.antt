@@ -1,5 +1,5 @@
 -- The promises of an installation, from the calls that it made.
-use Rattle.std.proofs.Common.{◌<◌, ◌^◌, ℕ, List, Option, Result, OnOk, subst}
+use Rattle.std.proofs.Common.{◌<◌, ◌^◌, ℕ, List, Option, Result, Ok, Err, IsErrAnd, OnOk, inl, subst}
 use Rattle.std.specs.Cmp.{IsTotalOrder}
 use Rattle.std.specs.declared.cmp.Ordering.{Ordering}
 use Rattle.edit.specs.Edit.{IsEdit, edit_bytes}
@@ -11,10 +11,10 @@ use Rattle.folder.specs.Crash.{Leads, LeavesOnly, World}
 use Rattle.folder.specs.ReadsAs.{ReadsAs, StandsAs}
 use Rattle.folder.specs.declared.order.Order.{Order}
 use Rattle.folder.specs.Manifest.{order_name}
-use Rattle.install.specs.Install.{IsBeforeOrAfter, IsEditedBy, install_calls, manifest_bytes, tables_after}
+use Rattle.install.specs.Install.{IsBeforeOrAfter, IsEditedBy, Survives, install_calls, manifest_bytes, tables_after}
 use Rattle.edit.proofs.Remade.{remade}
 use Rattle.install.proofs.Edited.{apart_of, setting_of}
-use Rattle.install.proofs.Moments.{any_moment, reads_then, stands_installed}
+use Rattle.install.proofs.Moments.{any_moment, nothing_done, reads_then, stands_installed}
 use Rattle.install.proofs.Switch.{Setting}
 
 -- what is asked of the version before and of the snapshot
@@ -31,7 +31,7 @@ module _ (cmp : List ℕ → List ℕ → Ordering) (order : Order) (v next : St
   setting : IsEditedBy (order_name order) cmp order v number outputs bytes next → ReadsBack (order_name order) cmp v → (w : World) → StandsAs cmp order v tables w → Setting cmp order v next tables outputs number (manifest_bytes (order_name order) cmp v bytes)
   setting h back w stands = setting_of cmp order v next number outputs bytes h small tables state (remade total (order_name order) v state) back
 
-  pub moments : {T E : Type 0} (name : List ℕ) → IsEditedBy name cmp order v number outputs bytes next → ReadsBack name cmp v → (start : World) (before now : List Step) (old new : List ℕ → Option (List ℕ) → Type 0) (r : Result T E)
+  moments : {T E : Type 0} (name : List ℕ) → IsEditedBy name cmp order v number outputs bytes next → ReadsBack name cmp v → (start : World) (before now : List Step) (old new : List ℕ → Option (List ℕ) → Type 0) (r : Result T E)
       → ((w : World) → Leads start before w → StandsAs cmp order v tables w) → Runs (calls name) before now old new r → LeavesOnly start before now (IsBeforeOrAfter cmp order v tables next after)
   moments {T = T} {E = E} name h = subst
       (λ (n : List ℕ). IsEditedBy n cmp order v number outputs bytes next → ReadsBack n cmp v → (start : World) (before now : List Step) (old new : List ℕ → Option (List ℕ) → Type 0) (r : Result T E)
@@ -41,7 +41,7 @@ module _ (cmp : List ℕ → List ℕ → Ordering) (order : Order) (v next : St
       any_moment cmp order v next tables outputs number (manifest_bytes (order_name order) cmp v bytes) (setting h back) (apart_of cmp order v next number outputs bytes h small (manifest_bytes (order_name order) cmp v bytes)) start before now old new r stands runs)
       h
 
-  pub installed : {T E : Type 0} (name : List ℕ) → IsEditedBy name cmp order v number outputs bytes next → ReadsBack name cmp v → (start : World) (before now : List Step) (old new : List ℕ → Option (List ℕ) → Type 0) (r : Result T E)
+  installed : {T E : Type 0} (name : List ℕ) → IsEditedBy name cmp order v number outputs bytes next → ReadsBack name cmp v → (start : World) (before now : List Step) (old new : List ℕ → Option (List ℕ) → Type 0) (r : Result T E)
       → ((w : World) → Leads start before w → StandsAs cmp order v tables w) → Runs (calls name) before now old new r → OnOk r ((w : World) → Leads start now w → StandsAs cmp order next after w)
   installed {T = T} {E = E} name h = subst
       (λ (n : List ℕ). IsEditedBy n cmp order v number outputs bytes next → ReadsBack n cmp v → (start : World) (before now : List Step) (old new : List ℕ → Option (List ℕ) → Type 0) (r : Result T E)
@@ -51,7 +51,7 @@ module _ (cmp : List ℕ → List ℕ → Ordering) (order : Order) (v next : St
       stands_installed cmp order v next tables outputs number (manifest_bytes (order_name order) cmp v bytes) (setting h back) (apart_of cmp order v next number outputs bytes h small (manifest_bytes (order_name order) cmp v bytes)) start before now old new r stands runs)
       h
 
-  pub reads : {T E : Type 0} (name : List ℕ) → IsEditedBy name cmp order v number outputs bytes next → ReadsBack name cmp v → (before now : List Step) (old new : List ℕ → Option (List ℕ) → Type 0) (r : Result T E) → Runs (calls name) before now old new r
+  reads : {T E : Type 0} (name : List ℕ) → IsEditedBy name cmp order v number outputs bytes next → ReadsBack name cmp v → (before now : List Step) (old new : List ℕ → Option (List ℕ) → Type 0) (r : Result T E) → Runs (calls name) before now old new r
       → (files : Files) → Tells old files → ReadsAs cmp order v tables files → (files' : Files) × Tells new files' × IsBeforeOrAfter cmp order v tables next after files' × OnOk r (ReadsAs cmp order next after files')
   reads {T = T} {E = E} name h = subst
       (λ (n : List ℕ). IsEditedBy n cmp order v number outputs bytes next → ReadsBack n cmp v → (before now : List Step) (old new : List ℕ → Option (List ℕ) → Type 0) (r : Result T E) → Runs (calls n) before now old new r
@@ -60,3 +60,22 @@ module _ (cmp : List ℕ → List ℕ → Ordering) (order : Order) (v next : St
       (λ h back before now old new r runs files tells read.
       reads_then cmp order v next tables outputs number (manifest_bytes (order_name order) cmp v bytes) (setting h back) (apart_of cmp order v next number outputs bytes h small (manifest_bytes (order_name order) cmp v bytes)) before now old new r runs files tells read)
       h
+
+  -- all three
+  pub survives : {T E : Type 0} (name : List ℕ) → IsEditedBy name cmp order v number outputs bytes next → ReadsBack name cmp v → (before now : List Step) (old new : List ℕ → Option (List ℕ) → Type 0) (r : Result T E)
+      → Runs (calls name) before now old new r → Survives cmp order v tables next after before now old new r
+  survives name h back before now old new r runs = record {
+    any_moment = λ start stands. moments name h back start before now old new r stands runs;
+    installed = λ start stands. installed name h back start before now old new r stands runs;
+    read = reads name h back before now old new r runs;
+  }
+
+-- what failed before the first call
+pub undone : {T E : Type 0} (P : E → Type 0) (cmp : List ℕ → List ℕ → Ordering) (order : Order) (v next : State) (tables tables' : List (ℕ × List ℕ)) (calls : List Step) (tells : List ℕ → Option (List ℕ) → Type 0) (r : Result T E) → IsErrAnd r P
+    → Survives cmp order v tables next tables' calls calls tells tells r
+undone P cmp order v next tables tables' calls tells (Ok x) h = absurd h
+undone P cmp order v next tables tables' calls tells (Err e) h = record {
+  any_moment = λ start stands. nothing_done cmp order v next tables tables' start calls stands;
+  installed = λ start stands. tt;
+  read = λ files told read. (files, told, inl read, tt);
+}

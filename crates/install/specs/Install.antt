@@ -1,5 +1,5 @@
 -- The calls of an installation, and what it makes of a version.
-use Rattle.std.specs.Prelude.{◌≡◌, ◌⊎◌, ◌<◌, ◌≤◌, ℕ, nat_eq, List, [], ◌∷◌, ◌++◌, map, unwrap_or, codes, Some, None, is_some, true}
+use Rattle.std.specs.Prelude.{◌≡◌, ◌⊎◌, ◌<◌, ◌≤◌, ℕ, nat_eq, List, [], ◌∷◌, ◌++◌, map, unwrap_or, codes, Some, None, is_some, true, Option, Result, OnOk}
 use Rattle.std.specs.Global.{Vec}
 use Rattle.std.specs.Map.{lookup}
 use Rattle.std.specs.declared.cmp.Ordering.{Ordering}
@@ -8,8 +8,8 @@ use Rattle.edit.specs.Edit.{Edit, IsEdit, edit_bytes}
 use Rattle.edit.specs.Version.{State, applied}
 use Rattle.edit.specs.VersionOrder.{snapshot_of}
 use Rattle.edit.specs.declared.meta.NewFile.{NewFile}
-use Rattle.folder.specs.Calls.{Call, Created, Files, FolderSynced, Renamed, Step, Synced}
-use Rattle.folder.specs.Crash.{Leads, World}
+use Rattle.folder.specs.Calls.{Call, Created, Files, FolderSynced, Renamed, Step, Synced, Tells}
+use Rattle.folder.specs.Crash.{Leads, LeavesOnly, World}
 use Rattle.folder.specs.Levels.{file_numbers}
 use Rattle.folder.specs.Manifest.{order_name}
 use Rattle.folder.specs.Names.{current_text, manifest_name, table_name, temporary_name}
@@ -88,3 +88,14 @@ IsBeforeOrAfter cmp order v tables next tables' files = ReadsAs cmp order v tabl
 -- Wherever these calls lead from a start, the folder stands for the version and its tables.
 abbrev pub StandsAfter : (List ℕ → List ℕ → Ordering) → Order → State → List (ℕ × List ℕ) → World → List Step → Type 0
 StandsAfter cmp order v tables start calls = (w : World) → Leads start calls w → StandsAs cmp order v tables w
+
+-- What an installation promises that makes the next version of this one, of the calls and of what may be read before it and
+-- after it.
+pub record Survives {T E : Type 0} (cmp : List ℕ → List ℕ → Ordering) (order : Order) (v : State) (tables : List (ℕ × List ℕ)) (next : State) (tables' : List (ℕ × List ℕ)) (before after : List Step) (old new : List ℕ → Option (List ℕ) → Type 0) (result : Result T E) : Type 0 where
+  -- where the folder stands for the version, a crash at any moment leaves it or the next version
+  pub any_moment : (start : World) → StandsAfter cmp order v tables start before → LeavesOnly start before after (IsBeforeOrAfter cmp order v tables next tables')
+  -- and at Ok the folder stands for the next version
+  pub installed : (start : World) → StandsAfter cmp order v tables start before → OnOk result (StandsAfter cmp order next tables' start after)
+  -- without a crash the folder reads as one of the two, and at Ok as the next version
+  pub read : (files : Files) → Tells old files → ReadsAs cmp order v tables files
+      → (now : Files) × Tells new now × IsBeforeOrAfter cmp order v tables next tables' now × OnOk result (ReadsAs cmp order next tables' now)

@@ -1,15 +1,12 @@
 //! Installing the outcome of a compaction.
 
-ghost use Rattle.std.specs.Prelude.{◌≡◌, ◌<◌, ◌≤◌, ◌^◌, ◌⊎◌, ℕ, List, length, IfErr, OnOk};
+ghost use Rattle.std.specs.Prelude.{◌<◌, ◌≤◌, ◌^◌, ℕ, List, length, IfErr};
 ghost use Rattle.coding.specs.Answers.{UnlessMemory};
 ghost use Rattle.edit.specs.Version.{State};
-ghost use Rattle.folder.specs.Calls.{Files, Tells};
 ghost use Rattle.folder.specs.Runs.{Runs};
-ghost use Rattle.folder.specs.Crash.{LeavesOnly, World};
 ghost use Rattle.folder.specs.Opening.{IsStopped, StopsAtDevice};
-ghost use Rattle.folder.specs.ReadsAs.{ReadsAs};
 ghost use Rattle.folder.specs.declared.order.Order.{Order};
-ghost use Rattle.install.specs.Install.{IsBeforeOrAfter, IsEditedBy, StandsAfter, install_calls, manifest_bytes, tables_after, tables_in};
+ghost use Rattle.install.specs.Install.{IsEditedBy, Survives, install_calls, manifest_bytes, tables_after, tables_in};
 
 use crate::manifest::manifest_bytes;
 use crate::writing::{name_current, write, write_tables, write_temporary};
@@ -37,26 +34,12 @@ pub fn install<C: Comparator, F: Folder>(
         (install_calls manifest_number (tables_in outcome.now.tables.items) (manifest_bytes C.name_bytes C.cmp version.now outcome.now.edit.items))
         (F.calls folder.old) (F.calls folder.new) (F.tells folder.old) (F.tells folder.new) result }
 
-    // Where the folder stands for the version, a crash at any moment leaves it or the edited version.
-    ensures any_moment { (order : Order) (next : State) (tables : List (ℕ × List ℕ))
+    // Where the folder stands for the version, a crash at any moment leaves it or the edited version, and at Ok the folder
+    // stands for the edited one. Without a crash it reads as one of the two.
+    ensures survives { (order : Order) (next : State) (tables : List (ℕ × List ℕ))
         → IsEditedBy C.name_bytes C.cmp order version.now manifest_number (tables_in outcome.now.tables.items) outcome.now.edit.items next
-        → (start : World) → StandsAfter C.cmp order version.now tables start (F.calls folder.old)
-        → LeavesOnly start (F.calls folder.old) (F.calls folder.new)
-        (IsBeforeOrAfter C.cmp order version.now tables next (tables_after C.cmp next (tables_in outcome.now.tables.items) tables)) }
-
-    // At Ok it stands for the edited version.
-    ensures installed { (order : Order) (next : State) (tables : List (ℕ × List ℕ))
-        → IsEditedBy C.name_bytes C.cmp order version.now manifest_number (tables_in outcome.now.tables.items) outcome.now.edit.items next
-        → (start : World) → StandsAfter C.cmp order version.now tables start (F.calls folder.old)
-        → OnOk result (StandsAfter C.cmp order next (tables_after C.cmp next (tables_in outcome.now.tables.items) tables) start (F.calls folder.new)) }
-
-    // Without a crash the folder reads as one of the two, and at Ok as the edited version.
-    ensures read { (order : Order) (next : State) (tables : List (ℕ × List ℕ))
-        → IsEditedBy C.name_bytes C.cmp order version.now manifest_number (tables_in outcome.now.tables.items) outcome.now.edit.items next
-        → (files : Files) → Tells (F.tells folder.old) files → ReadsAs C.cmp order version.now tables files
-        → (now : Files) × Tells (F.tells folder.new) now
-        × IsBeforeOrAfter C.cmp order version.now tables next (tables_after C.cmp next (tables_in outcome.now.tables.items) tables) now
-        × OnOk result (ReadsAs C.cmp order next (tables_after C.cmp next (tables_in outcome.now.tables.items) tables) now) }
+        → Survives C.cmp order version.now tables next (tables_after C.cmp next (tables_in outcome.now.tables.items) tables)
+        (F.calls folder.old) (F.calls folder.new) (F.tells folder.old) (F.tells folder.new) result }
 
     // Device is answered only where the device failed, and at once; nothing else but want of memory is.
     ensures refused { IfErr result (λ e. UnlessMemory e (IsStopped (F.failed folder.old) (F.failed folder.new) e)) }

@@ -7,3 +7,8 @@ mod manifest;
 mod writing;
 
 pub use installation::install;
+
+#[cfg(test)]
+mod crashes;
+#[cfg(test)]
+mod tests;

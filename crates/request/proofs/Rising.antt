@@ -1,12 +1,11 @@
 -- Tests of neighbours and of limits, and what they say.
-use Rattle.std.proofs.Common.{◌≡◌, ℕ, zero, suc, ◌+◌, ◌<◌, ◌≤◌, Bool, true, false, List, [], ◌∷◌, length, get_or, refl, sym, ap, subst, arith}
-use Rattle.std.specs.Prelude.{◌↔◌, ◌&&◌, ◌^◌, nat_lt, nat_le, IsTrue, AllPairs}
+use Rattle.std.proofs.Common.{◌≡◌, ℕ, zero, suc, ◌+◌, ◌<◌, ◌≤◌, Bool, true, false, List, [], ◌∷◌, length, get_or, refl, sym, subst, arith}
+use Rattle.std.specs.Prelude.{◌↔◌, ◌&&◌, ◌^◌, nat_lt, nat_le, IsTrue}
 use Rattle.std.specs.List.{IsAllAdjacentAnswer}
 use Rattle.std.specs.List.Sorted.{IsStrictlyIncreasing}
 use Rattle.std.specs.Ordering.{is_lt}
 use Rattle.std.specs.Cmp.{IsTotalOrder}
 use Rattle.std.specs.declared.cmp.Ordering.{Ordering}
-use Rattle.std.proofs.lemmas.Bool.{and_parts, and_from}
 use Rattle.std.proofs.lemmas.Bool.Decides.{nat_tests}
 use Rattle.ikey.specs.Order.{internal_cmp}
 use Rattle.ikey.proofs.Ordered.{internal_cmp-total}

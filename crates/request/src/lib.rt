@@ -5,6 +5,7 @@
 //! refusal, or the outputs' tables and the bytes of the edit. It knows neither ranges nor workers.
 #![tactic(auto)]
 
+mod editing;
 mod request;
 mod testing;
 

@@ -1,6 +1,6 @@
 use super::*;
 use coding::{Fault, FaultName};
-use edit::{CompactPointer, FileMeta};
+use edit::{CompactPointer, DeletedFile, FileMeta, NewFile};
 use ikey::{Bytewise, KeyBuf, Kind};
 use keep::Snapshots;
 use pick::{InputFile, Inputs};
@@ -262,6 +262,40 @@ fn options_and_the_first_refusal(rt: HostRuntime) -> Result<(), Fail> {
             ..request(&picked, &tables, Snapshots::From(4), 4)
         };
         assert_eq!(rt; refusal(asked), refused);
+    }
+    Ok(())
+}
+
+#[test]
+fn the_edit_of_one_output(rt: HostRuntime) -> Result<(), Fail> {
+    let picked = inputs(rt.alloc(), 1, 1, 1, &[])?;
+    let tables = tables(rt.alloc(), 1)?;
+    let asked = request(&picked, &tables, Snapshots::From(4), 4);
+    let mut outputs = Vec::new(rt.alloc());
+    outputs.push(NewFile {
+        level: 2,
+        meta: file(rt.alloc(), 9, b'u', 4)?,
+    })?;
+    assert!(rt; asked.first_number < 10 && outputs.len() < 10);
+    let edit = asked.edit(rt.alloc(), outputs)?;
+    assert!(rt; edit.comparator.is_none());
+    assert_eq!(rt; edit.log_number, Some(3));
+    assert_eq!(rt; edit.previous_log, Some(0));
+    assert_eq!(rt; edit.next_file, Some(10));
+    assert_eq!(rt; edit.last_sequence, Some(4));
+    assert_eq!(rt; edit.pointers.len(), 1);
+    for pointer in &edit.pointers {
+        assert_eq!(rt; (pointer.level, pointer.key.as_key().sequence()), (1, 2));
+    }
+    let deleted = DeletedFile {
+        level: 1,
+        number: 0,
+    };
+    assert_eq!(rt; edit.deleted.len(), 1);
+    assert!(rt; edit.deleted.contains(&deleted));
+    assert_eq!(rt; edit.added.len(), 1);
+    for file in &edit.added {
+        assert_eq!(rt; (file.level, file.meta.number), (2, 9));
     }
     Ok(())
 }

@@ -184,9 +184,9 @@ module _ (cmp : List ℕ → List ℕ → Ordering) (total : IsTotalOrder cmp) (
       }
 
 pub reads_survive : (cmp : List ℕ → List ℕ → Ordering) → IsTotalOrder cmp → IsExact cmp → (separator_of : List ℕ → List ℕ → List ℕ) (successor_of : List ℕ → List ℕ) → ReadBackLaw cmp separator_of successor_of → ReadsSurvive cmp separator_of successor_of
-reads_survive cmp total exact separator_of successor_of reads_back = record {
-  reads = λ v tables level r answer lawful low picked over answers.
+reads_survive cmp total exact separator_of successor_of reads_back r answer answers = record {
+  reads = λ v tables level lawful low picked over.
       edit_reads cmp total exact separator_of successor_of v tables level r answer lawful low picked over (outputs_hold cmp total exact separator_of successor_of reads_back v tables level r answer lawful picked over answers);
-  survives = λ v tables level r answer e lawful low picked over answers is.
+  survives = λ v tables level e lawful low picked over is.
       survive cmp total exact separator_of successor_of v tables level r answer lawful low picked over (outputs_hold cmp total exact separator_of successor_of reads_back v tables level r answer lawful picked over answers) e is;
 }

@@ -48,12 +48,17 @@ pub record Survives (cmp : List ℕ → List ℕ → Ordering) (v : State) (tabl
   pub gets_after : (user : List ℕ) (at : ℕ) → is_read (readable_of r.snapshots r.last_sequence) at ≡ true →
       get_of after (tables_after cmp r.picked answer tables) user at ≡ get_of v tables user at
 
--- Where the inputs were picked from a lawful version, whose files stand at levels up to 6, the bytes of the edit of each
--- answer read as an edit, and each that they read as leaves a version that reads survive in.
-pub record ReadsSurvive (cmp : List ℕ → List ℕ → Ordering) (separator_of : List ℕ → List ℕ → List ℕ) (successor_of : List ℕ → List ℕ) : Type 0 where
-  pub reads : (v : State) (tables : List Numbered) (level : ℕ) (r : Asked) (answer : Answer) →
+-- What an answer leaves of each lawful version, whose files stand at levels up to 6, from which the request's inputs were
+-- picked: the bytes of the edit read as an edit, and each that they read as leaves a version that reads survive in.
+pub record LeavesReads (cmp : List ℕ → List ℕ → Ordering) (r : Asked) (answer : Answer) : Type 0 where
+  pub reads : (v : State) (tables : List Numbered) (level : ℕ) →
       IsLawful cmp v tables → All (λ (f : NewFile). f.level ≤ 6) v.files → IsPicked cmp v level r.picked → IsOver v tables r →
-      one_thread cmp separator_of successor_of r ≡ Ok answer → (e : Edit) × IsEdit answer.edit e
-  pub survives : (v : State) (tables : List Numbered) (level : ℕ) (r : Asked) (answer : Answer) (e : Edit) →
+      (e : Edit) × IsEdit answer.edit e
+  pub survives : (v : State) (tables : List Numbered) (level : ℕ) (e : Edit) →
       IsLawful cmp v tables → All (λ (f : NewFile). f.level ≤ 6) v.files → IsPicked cmp v level r.picked → IsOver v tables r →
-      one_thread cmp separator_of successor_of r ≡ Ok answer → IsEdit answer.edit e → Survives cmp v tables r answer e
+      IsEdit answer.edit e → Survives cmp v tables r answer e
+
+-- so each answer of one thread does
+abbrev pub ReadsSurvive : (List ℕ → List ℕ → Ordering) → (List ℕ → List ℕ → List ℕ) → (List ℕ → List ℕ) → Type 0
+ReadsSurvive cmp separator_of successor_of =
+    (r : Asked) (answer : Answer) → one_thread cmp separator_of successor_of r ≡ Ok answer → LeavesReads cmp r answer

@@ -1,7 +1,6 @@
 use Rattle.std.proofs.Common.{◌≡◌, ◌<◌, ◌^◌, ℕ, List, ap, ◌∙◌, arith}
 use Rattle.install.specs.Install.{install_calls, manifest_bytes, tables_after, tables_in}
-use Rattle.install.proofs.Installed.{installed, moments, reads}
-use Rattle.install.proofs.Moments.{nothing_done}
+use Rattle.install.proofs.Installed.{survives, undone}
 use Rattle.install.proofs.Parts.{hands_none, runs_same}
 use Rattle.install.proofs.installation.install.Goals as goal
 
@@ -10,12 +9,12 @@ returns-in_err-manifest-clause-runs g c =
     hands_none _ (install_calls c.args.manifest_number (tables_in c.args.outcome.now.tables.items) (manifest_bytes g.C.Comparator.name_bytes g.C.Comparator.cmp c.args.version.now c.args.outcome.now.edit.items))
     (g.F.Folder.calls c.args.folder.now) (g.F.Folder.tells c.args.folder.now) c.from_residual.result c.from_residual.ensures.1
 
-pub returns-in_err-manifest-clause-any_moment : goal.returns-in_err-manifest-clause-any_moment
-returns-in_err-manifest-clause-any_moment g c order next tables h start stands =
-    nothing_done g.C.Comparator.cmp order c.args.version.now next tables (tables_after g.C.Comparator.cmp next (tables_in c.args.outcome.now.tables.items) tables) start (g.F.Folder.calls c.args.folder.now) stands
+pub returns-in_err-manifest-clause-survives : goal.returns-in_err-manifest-clause-survives
+returns-in_err-manifest-clause-survives g c order next tables h =
+    undone _ g.C.Comparator.cmp order c.args.version.now next tables (tables_after g.C.Comparator.cmp next (tables_in c.args.outcome.now.tables.items) tables) (g.F.Folder.calls c.args.folder.now) (g.F.Folder.tells c.args.folder.now) c.from_residual.result c.from_residual.ensures.1
 
-pub returns-clause-any_moment : goal.returns-clause-any_moment
-returns-clause-any_moment g c order next tables h start stands =
+pub returns-clause-survives : goal.returns-clause-survives
+returns-clause-survives g c order next tables h =
     let calls = g.F.Folder.calls in
     let tells' = g.F.Folder.tells in
     let name = g.C.Comparator.name_bytes in
@@ -31,42 +30,4 @@ returns-clause-any_moment g c order next tables h start stands =
     let two : c.deref-3.result.now ≡ manifest_bytes name cmp v edit = c.deref-3.ensures.value ∙ (c.in_ok-manifest.ensures.bytes ∙ ap (manifest_bytes name cmp v) c.deref.ensures.value) in
     let runs = runs_same (install_calls n (tables_in c.deref-2.result.now) c.deref-3.result.now) (install_calls n outputs (manifest_bytes name cmp v edit)) (calls before) (calls now) (tells' before) (tells' now) c.make_calls.result
     (ap (λ (t : List (ℕ × List ℕ)). install_calls n t c.deref-3.result.now) one ∙ ap (install_calls n outputs) two) c.make_calls.ensures.runs in
-    moments cmp order v next tables outputs n edit small g.met.C.Comparator.total c.in_ok-manifest.ensures.state name h c.in_ok-manifest.ensures.reads_back start (calls before) (calls now) (tells' before) (tells' now) c.make_calls.result stands runs
-
-pub returns-clause-installed : goal.returns-clause-installed
-returns-clause-installed g c order next tables h start stands =
-    let calls = g.F.Folder.calls in
-    let tells' = g.F.Folder.tells in
-    let name = g.C.Comparator.name_bytes in
-    let cmp = g.C.Comparator.cmp in
-    let v = c.args.version.now in
-    let n = c.args.manifest_number in
-    let outputs = tables_in c.args.outcome.now.tables.items in
-    let edit = c.args.outcome.now.edit.items in
-    let before = c.args.folder.now in
-    let now = c.make_calls.new.folder in
-    let small : n < 2 ^ 64 = omega arith in
-    let one : tables_in c.deref-2.result.now ≡ outputs = ap tables_in c.deref-2.ensures.value in
-    let two : c.deref-3.result.now ≡ manifest_bytes name cmp v edit = c.deref-3.ensures.value ∙ (c.in_ok-manifest.ensures.bytes ∙ ap (manifest_bytes name cmp v) c.deref.ensures.value) in
-    let runs = runs_same (install_calls n (tables_in c.deref-2.result.now) c.deref-3.result.now) (install_calls n outputs (manifest_bytes name cmp v edit)) (calls before) (calls now) (tells' before) (tells' now) c.make_calls.result
-    (ap (λ (t : List (ℕ × List ℕ)). install_calls n t c.deref-3.result.now) one ∙ ap (install_calls n outputs) two) c.make_calls.ensures.runs in
-    installed cmp order v next tables outputs n edit small g.met.C.Comparator.total c.in_ok-manifest.ensures.state name h c.in_ok-manifest.ensures.reads_back start (calls before) (calls now) (tells' before) (tells' now) c.make_calls.result stands runs
-
-pub returns-clause-read : goal.returns-clause-read
-returns-clause-read g c order next tables h files tells read =
-    let calls = g.F.Folder.calls in
-    let tells' = g.F.Folder.tells in
-    let name = g.C.Comparator.name_bytes in
-    let cmp = g.C.Comparator.cmp in
-    let v = c.args.version.now in
-    let n = c.args.manifest_number in
-    let outputs = tables_in c.args.outcome.now.tables.items in
-    let edit = c.args.outcome.now.edit.items in
-    let before = c.args.folder.now in
-    let now = c.make_calls.new.folder in
-    let small : n < 2 ^ 64 = omega arith in
-    let one : tables_in c.deref-2.result.now ≡ outputs = ap tables_in c.deref-2.ensures.value in
-    let two : c.deref-3.result.now ≡ manifest_bytes name cmp v edit = c.deref-3.ensures.value ∙ (c.in_ok-manifest.ensures.bytes ∙ ap (manifest_bytes name cmp v) c.deref.ensures.value) in
-    let runs = runs_same (install_calls n (tables_in c.deref-2.result.now) c.deref-3.result.now) (install_calls n outputs (manifest_bytes name cmp v edit)) (calls before) (calls now) (tells' before) (tells' now) c.make_calls.result
-    (ap (λ (t : List (ℕ × List ℕ)). install_calls n t c.deref-3.result.now) one ∙ ap (install_calls n outputs) two) c.make_calls.ensures.runs in
-    reads cmp order v next tables outputs n edit small g.met.C.Comparator.total c.in_ok-manifest.ensures.state name h c.in_ok-manifest.ensures.reads_back (calls before) (calls now) (tells' before) (tells' now) c.make_calls.result runs files tells read
+    survives cmp order v next tables outputs n edit small g.met.C.Comparator.total c.in_ok-manifest.ensures.state name h c.in_ok-manifest.ensures.reads_back (calls before) (calls now) (tells' before) (tells' now) c.make_calls.result runs

@@ -1,0 +1,53 @@
+-- A plan that is made.
+use Rattle.std.specs.Prelude.{◌≡◌, ◌≢◌, ℕ, ◌+◌, ◌^◌, ◌≤◌, List, [], ◌∷◌, length}
+use Rattle.std.specs.Global.{Vec}
+use Rattle.std.specs.List.{AllByRecursion, sum_by}
+use Rattle.block.specs.Piece.{Entry}
+use Rattle.table.specs.declared.options.Options.{Options}
+use Rattle.table.specs.Options.{AreInLimits}
+use Rattle.cut.specs.declared.planned_block.PlannedBlock.{PlannedBlock}
+use Rattle.cut.specs.declared.planned_output.PlannedOutput.{PlannedOutput}
+use Rattle.cut.specs.Opened.{parts_of, entries_of, ArePlanned}
+use Rattle.cut.specs.Plan.{Planned, ends_from}
+
+-- the options of a plan, and its outputs
+pub record PlanSeen : Type 0 where
+  pub options : Options
+  pub outputs : List Planned
+
+-- an output as it is seen: its number, its entries, the places after the last entries of its blocks, and its length
+abbrev pub planned_of : PlannedOutput → Planned
+planned_of p = record {
+  number = p.number;
+  entries = entries_of p.blocks.items;
+  blocks = ends_from 0 (parts_of p.blocks.items);
+  length = p.len;
+}
+
+-- there are blocks, and each has an entry
+pub record HaveEntries (blocks : List PlannedBlock) : Type 0 where
+  pub any : blocks ≢ []
+  pub some : AllByRecursion (λ (b : PlannedBlock). b.entries.entries ≢ []) blocks
+
+-- outputs of these blocks, numbered from here on, each of the length that is told of its blocks
+abbrev pub numbered_from : (List PlannedBlock → ℕ) → ℕ → List (Vec PlannedBlock) → List PlannedOutput
+numbered_from size_of number [] = []
+numbered_from size_of number (b ∷ bs) = record { number = number; blocks = b; len = size_of b.items } ∷ numbered_from size_of (number + 1) bs
+
+-- how many data blocks outputs have
+abbrev pub block_count : List PlannedOutput → ℕ
+block_count outputs = sum_by (λ (p : PlannedOutput). length p.blocks.items) outputs
+
+-- an output of a plan: its blocks are the data blocks of their entries, and its length is that of its table, of at most
+-- 2 ^ 30 bytes
+pub record IsPlannedOutput (table_of : List Entry → List ℕ) (o : Options) (p : PlannedOutput) : Type 0 where
+  pub planned : ArePlanned o p.blocks.items
+  pub some : HaveEntries p.blocks.items
+  pub len_is : p.len ≡ length (table_of (entries_of p.blocks.items))
+  pub len_le : p.len ≤ 2 ^ 30
+
+-- what is kept of a plan
+pub record IsPlan (table_of : List Entry → List ℕ) (o : Options) (outputs : List PlannedOutput) : Type 0 where
+  pub limits : AreInLimits o
+  pub each : AllByRecursion (IsPlannedOutput table_of o) outputs
+  pub few : block_count outputs ≤ 2 ^ 40

@@ -1,0 +1,116 @@
+//! Planning the outputs of a compaction.
+
+ghost use Rattle.std.specs.Prelude.{◌≡◌, ◌≢◌, ◌+◌, ◌^◌, ◌<◌, ◌≤◌, ◌&&◌, nat_le, [], length, IfOk, IfErr};
+ghost use Rattle.std.specs.List.{AllByRecursion, list_all};
+ghost use Rattle.coding.specs.Answers.{EqualOrMemory, fault};
+ghost use Rattle.coding.specs.declared.fault.FaultName.TheVariants.{Memory};
+ghost use Rattle.table.specs.Options.{AreInLimits};
+ghost use Rattle.table.specs.Table.{index_keys, table};
+ghost use Rattle.keep.specs.Runs.{joined_run};
+ghost use Rattle.cut.specs.Outputs.{outputs_of};
+ghost use Rattle.cut.specs.Plan.{plan_of};
+ghost use Rattle.cut.specs.Planning.{HaveEntries, block_count, numbered_from};
+ghost use Rattle.cut.specs.Sizes.{saturated};
+ghost use Rattle.cut.specs.TableLength.{table_size};
+
+use crate::cutting::outputs;
+use crate::planned_block::PlannedBlock;
+use crate::planned_output::PlannedOutput;
+use crate::table_len::table_len;
+use crate::whole_plan::Plan;
+use coding::{Fault, FaultName};
+use edit::FileMeta;
+use ikey::Comparator;
+use keep::RangeRun;
+use std::alloc::Global;
+use std::marker::PhantomData;
+use table::{MAX_TABLE_LEN, Options};
+
+/// The most data blocks that all outputs of a plan may have together, 2^40.
+pub const MAX_BLOCKS: u64 = 1 << 40;
+
+/// The outputs of these data blocks, numbered from here on. Where a table has more than 2^30 bytes, its length is 2^30 + 1.
+/// Refused for want of memory alone.
+fn numbered<'r, 'a, C: Comparator>(
+    alloc: Global,
+    ended: Vec<Vec<PlannedBlock<'r, 'a>>>,
+    first_number: u64,
+) -> Result<Vec<PlannedOutput<'r, 'a>>, Fault>
+    requires fits { first_number + length ended.items < 2 ^ 64 }
+    requires some { AllByRecursion (λ blocks. HaveEntries blocks.items) ended.items }
+    ensures ok { IfOk result (λ outputs. outputs.items
+        ≡ numbered_from (table_size (index_keys C.cmp C.separator_of C.successor_of)) first_number ended.entry.items) }
+    ensures memory { IfErr result (λ e. e ≡ fault Memory) }
+{
+    let mut outputs = Vec::new(alloc);
+    let mut number = first_number;
+    for blocks in ended {
+        let len = table_len::<C>(alloc, &blocks)?;
+        outputs.push(PlannedOutput {
+            number,
+            blocks,
+            len,
+        })?;
+        number += 1;
+    }
+    Ok(outputs)
+}
+
+/// How many data blocks outputs have together; 2^64 - 1 where there are more.
+fn count_blocks(outputs: &[PlannedOutput<'_, '_>]) -> u64
+    ensures { result ≡ saturated (block_count outputs.now) }
+{
+    let mut count: u64 = 0;
+    for output in outputs {
+        count = count.saturating_add(output.blocks.len() as u64);
+    }
+    count
+}
+
+/// Whether no output has more than 2^30 bytes.
+fn are_short(outputs: &[PlannedOutput<'_, '_>]) -> bool
+    ensures { result ≡ list_all (λ p. nat_le p.len (2 ^ 30)) outputs.now }
+{
+    let limit = MAX_TABLE_LEN as u64;
+    outputs.iter().all(|output| output.len <= limit)
+}
+
+/// Whether no output has more than 2^30 bytes, and there are at most 2^40 data blocks.
+fn are_small(outputs: &[PlannedOutput<'_, '_>]) -> bool
+    ensures { result ≡ (list_all (λ p. nat_le p.len (2 ^ 30)) outputs.now && nat_le (block_count outputs.now) (2 ^ 40)) }
+{
+    are_short(outputs) && count_blocks(outputs) <= MAX_BLOCKS
+}
+
+/// The plan of the outputs of a compaction, from the runs of all ranges in order. It does not depend on how the entries were
+/// dealt out to ranges. Grandparents are the files that the marks of the runs count.
+///
+/// Outputs are numbered from the first number on. `Numbers` where the number behind the last would pass 2^64 - 1; else
+/// `TooLarge` where an output has more than 2^30 bytes, or all together have more than 2^40 data blocks; else refused for
+/// want of memory alone.
+pub fn plan<'r, 'a, C: Comparator>(
+    alloc: Global,
+    runs: &'r [RangeRun<'a>],
+    grandparents: &[FileMeta],
+    options: Options,
+    first_number: u64,
+) -> Result<Plan<'r, 'a, C>, Fault>
+    requires { AreInLimits options }
+    ensures { EqualOrMemory (λ p. p.outputs) result
+        (plan_of (table C.cmp C.separator_of C.successor_of options) options first_number
+        (outputs_of grandparents.now options (joined_run runs.now))) }
+{
+    let ended = outputs(alloc, runs, grandparents, options)?;
+    if ended.len() as u64 > u64::MAX - first_number {
+        return Err(Fault::of(FaultName::Numbers));
+    }
+    let outputs = numbered::<C>(alloc, ended, first_number)?;
+    if !are_small(&outputs) {
+        return Err(Fault::of(FaultName::TooLarge));
+    }
+    Ok(Plan {
+        options,
+        outputs,
+        order: PhantomData,
+    })
+}

@@ -1,0 +1,236 @@
+//! A folder in memory, for tests.
+
+ghost use Rattle.std.specs.Prelude.{◌≡◌, [], ◌∷◌, ◌++◌, map, Err, IfOk};
+ghost use Rattle.std.specs.Option.{option_map};
+ghost use Rattle.folder.specs.Attempts.{call_in};
+ghost use Rattle.folder.specs.Calls.{Files, Tells, step_of};
+ghost use Rattle.folder.specs.Folder.{TellsSame, failures_after};
+ghost use Rattle.folder.specs.Shelf.{Alters, after_steps, files_in, made_by, tried_if};
+ghost use Rattle.folder.specs.declared.folder.FolderFault.TheVariants.{Memory};
+
+use crate::folder::{Folder, FolderFault};
+use crate::shelf_step::{ShelfCall, ShelfStep, Source};
+use crate::trail::{Attempt, Trail, WriteCall};
+use std::alloc::{AllocError, Global};
+
+/// A call that is to fail.
+#[derive(Clone, Copy, Drop)]
+pub struct Failing {
+    /// Its number among all calls, from 1.
+    pub call: u64,
+    /// How it fails.
+    pub fault: FolderFault,
+    /// Whether it makes a file all the same, of the first half of its bytes, or gives a file its other name.
+    pub is_half_done: bool,
+}
+
+/// A folder in memory, of lent files, of whose calls one may fail. It keeps a record of the calls that wrote.
+///
+/// Where a growth is refused, the call is `Memory` and changes nothing.
+#[derive(Drop)]
+pub struct Shelf<'a> {
+    alloc: Global,
+    start: &'a [(&'a str, &'a [u8])],
+    // The newest is first.
+    steps: Vec<ShelfStep>,
+    failing: Option<Failing>,
+    calls: u64,
+    failures: u64,
+    trail: Trail,
+}
+
+impl<'a> Shelf<'a> {
+    /// The folder of these files by their names, of which the first of a name counts. None of its calls fails.
+    pub fn new(alloc: Global, files: &'a [(&'a str, &'a [u8])]) -> Shelf<'a>
+        ensures tells { Tells (⟦<Shelf<'a> as Folder>⟧.tells result) (files_in (map (λ f. (f.0.now, f.1.now)) files.now)) }
+        ensures calls { ⟦<Shelf<'a> as Folder>⟧.calls result ≡ [] }
+        ensures failed { ⟦<Shelf<'a> as Folder>⟧.failed result ≡ 0 }
+    {
+        Shelf {
+            alloc,
+            start: files,
+            steps: Vec::new(alloc),
+            failing: None,
+            calls: 0,
+            failures: 0,
+            trail: Trail::new(),
+        }
+    }
+
+    /// The same folder, but that a call fails.
+    pub fn failing(self, failing: Failing) -> Shelf<'a>
+        ensures tells { TellsSame (⟦<Shelf<'a> as Folder>⟧.tells self.entry) (⟦<Shelf<'a> as Folder>⟧.tells result) }
+        ensures calls { ⟦<Shelf<'a> as Folder>⟧.calls result ≡ ⟦<Shelf<'a> as Folder>⟧.calls self.entry }
+        ensures failed { ⟦<Shelf<'a> as Folder>⟧.failed result ≡ ⟦<Shelf<'a> as Folder>⟧.failed self.entry }
+    {
+        Shelf {
+            failing: Some(failing),
+            ..self
+        }
+    }
+
+    /// How many calls were made, up to 2^64 - 1.
+    pub fn calls(&self) -> u64
+        ensures { result ≡ self.now.calls }
+    {
+        self.calls
+    }
+
+    /// The calls that wrote, the newest first, but for those of which a growth was refused.
+    pub fn steps(&self) -> &[ShelfStep]
+        ensures { result.now ≡ self.now.steps.items }
+    {
+        &self.steps
+    }
+
+    /// What is held under a name.
+    pub fn held<'x>(&'x self, name: &'x str) -> Option<&'x [u8]>
+        ensures { ⟦<Shelf<'a> as Folder>⟧.tells self.now name.now (option_map (λ bytes. bytes.now) result) }
+    {
+        let mut sought = name;
+        for step in &self.steps {
+            match step.source(sought) {
+                Source::Bytes(bytes) => return Some(bytes),
+                Source::Nothing => return None,
+                Source::Name(other) => sought = other,
+            }
+        }
+        file_of(self.start, sought)
+    }
+
+    /// Counts a call. How it fails, where it is the one that fails.
+    fn called(&mut self) -> Option<Failing>
+        ensures start { self.new.start ≡ self.old.start }
+        ensures steps { self.new.steps ≡ self.old.steps }
+        ensures failures { self.new.failures ≡ self.old.failures }
+        ensures trail { self.new.trail ≡ self.old.trail }
+    {
+        self.calls = self.calls.saturating_add(1);
+        match self.failing {
+            Some(failing) if failing.call == self.calls => Some(failing),
+            _ => None,
+        }
+    }
+
+    /// Fails, and counts what the device failed.
+    fn fail<T>(&mut self, fault: FolderFault) -> Result<T, FolderFault>
+        ensures answer { result ≡ Err fault }
+        ensures start { self.new.start ≡ self.old.start }
+        ensures steps { self.new.steps ≡ self.old.steps }
+        ensures failures { self.new.failures ≡ failures_after self.old.failures result }
+        ensures trail { self.new.trail ≡ self.old.trail }
+    {
+        if fault == FolderFault::Device {
+            self.failures = self.failures.saturating_add(1);
+        }
+        Err(fault)
+    }
+
+    /// Makes a call that writes, and adds it to the trail.
+    fn write(&mut self, call: WriteCall<'_>) -> Result<(), FolderFault>
+        ensures calls { self.new.trail.steps ≡ self.old.trail.steps ++ step_of (call_in call.entry) result ∷ [] }
+        ensures change { (files : Files) → Alters (step_of (call_in call.entry) result) (after_steps self.old.steps.items files) (after_steps self.new.steps.items files) }
+        ensures start { self.new.start ≡ self.old.start }
+        ensures failures { self.new.failures ≡ failures_after self.old.failures result }
+    {
+        let answer = self.record(call);
+        let is_done = answer.is_ok();
+        self.trail = self.trail.then(&Attempt { call, is_done });
+        answer
+    }
+
+    /// Adds a call that writes to the record.
+    fn record(&mut self, call: WriteCall<'_>) -> Result<(), FolderFault>
+        ensures change { (files : Files) → Alters (step_of (call_in call.entry) result) (after_steps self.old.steps.items files) (after_steps self.new.steps.items files) }
+        ensures start { self.new.start ≡ self.old.start }
+        ensures failures { self.new.failures ≡ failures_after self.old.failures result }
+        ensures trail { self.new.trail ≡ self.old.trail }
+    {
+        let failing = self.called();
+        let step = ShelfStep {
+            call: copied(self.alloc, call, failing.is_some())?,
+            is_done: failing.is_none(),
+            is_shown: failing.is_none_or(|failing| failing.is_half_done),
+        };
+        self.steps.insert(0, step)?;
+        match failing {
+            Some(failing) => self.fail(failing.fault),
+            None => Ok(()),
+        }
+    }
+}
+
+/// The bytes of the first file of a name.
+fn file_of<'x>(files: &'x [(&'x str, &'x [u8])], name: &str) -> Option<&'x [u8]>
+    ensures { option_map (λ bytes. bytes.now) result ≡ files_in (map (λ f. (f.0.now, f.1.now)) files.now) name.now }
+{
+    for (file, bytes) in files {
+        if name == *file {
+            return Some(bytes);
+        }
+    }
+    None
+}
+
+/// A copy of a call. Of one that is half done, a file has the first half of its bytes.
+fn copied(alloc: Global, call: WriteCall<'_>, is_half: bool) -> Result<ShelfCall, AllocError>
+    ensures { IfOk result (λ copy. (files : Files) → Alters (tried_if is_half (call_in call.entry)) files (made_by copy files)) }
+{
+    Ok(match call {
+        WriteCall::Create(name, bytes) => {
+            let len = if is_half {
+                bytes.len() / 2
+            } else {
+                bytes.len()
+            };
+            ShelfCall::Create(
+                String::from_str(alloc, name)?,
+                Vec::from_slice(alloc, &bytes[..len])?,
+            )
+        }
+        WriteCall::Sync(name) => ShelfCall::Sync(String::from_str(alloc, name)?),
+        WriteCall::Rename(from, to) => ShelfCall::Rename(
+            String::from_str(alloc, from)?,
+            String::from_str(alloc, to)?,
+        ),
+        WriteCall::SyncFolder => ShelfCall::SyncFolder,
+    })
+}
+
+impl<'a> Folder for Shelf<'a> {
+    ghost tells = { λ shelf name held. after_steps shelf.steps.items (files_in (map (λ f. (f.0.now, f.1.now)) shelf.start.now)) name ≡ held };
+
+    ghost calls = { λ shelf. shelf.trail.steps };
+
+    ghost failed = { λ shelf. shelf.failures };
+
+    fn read(&mut self, name: &str) -> Result<Option<Vec<u8>>, FolderFault> {
+        if let Some(failing) = self.called() {
+            return self.fail(failing.fault);
+        }
+        match self.held(name) {
+            Some(bytes) => Ok(Some(Vec::from_slice(self.alloc, bytes)?)),
+            None => Ok(None),
+        }
+    }
+
+    fn create(&mut self, name: &str, bytes: &[u8]) -> Result<(), FolderFault> {
+        self.write(WriteCall::Create(name, bytes))
+    }
+
+    fn sync(&mut self, name: &str) -> Result<(), FolderFault> {
+        self.write(WriteCall::Sync(name))
+    }
+
+    fn rename(&mut self, from: &str, to: &str) -> Result<(), FolderFault> {
+        self.write(WriteCall::Rename(from, to))
+    }
+
+    fn sync_folder(&mut self) -> Result<(), FolderFault> {
+        self.write(WriteCall::SyncFolder)
+    }
+
+    fn failures(&self) -> u64 {
+        self.failures
+    }
+}

@@ -1,0 +1,53 @@
+//! The calls that wrote to a folder in memory.
+
+ghost use Rattle.std.specs.Prelude.{◌≡◌};
+ghost use Rattle.folder.specs.Calls.{Files};
+ghost use Rattle.folder.specs.Shelf.{after_step};
+ghost use Rattle.folder.specs.Source.{from_source};
+
+/// A call that writes.
+#[derive(Drop)]
+pub enum ShelfCall {
+    /// A file was made of these bytes. Of a call that failed these are the first half of those that it was given.
+    Create(String, Vec<u8>),
+    Sync(String),
+    Rename(String, String),
+    SyncFolder,
+}
+
+/// A call that wrote, and what became of it.
+#[derive(Drop)]
+pub struct ShelfStep {
+    pub call: ShelfCall,
+    /// Whether it answered Ok.
+    pub is_done: bool,
+    /// Whether what it writes may be read, as it may also be of a call that failed.
+    pub is_shown: bool,
+}
+
+/// Where what is held under a name after a step comes from.
+pub(crate) enum Source<'a> {
+    /// The step made the file of these bytes.
+    Bytes(&'a [u8]),
+    /// The step took the file away.
+    Nothing,
+    /// It is what was held under this name before the step.
+    Name(&'a str),
+}
+
+impl ShelfStep {
+    /// Where what is held under a name after this step comes from.
+    pub(crate) fn source<'a>(&'a self, name: &'a str) -> Source<'a>
+        ensures { (files : Files) → after_step self.now files name.now ≡ from_source files result }
+    {
+        if !self.is_shown {
+            return Source::Name(name);
+        }
+        match &self.call {
+            ShelfCall::Create(made, bytes) if made.as_str() == name => Source::Bytes(bytes),
+            ShelfCall::Rename(from, to) if to.as_str() == name => Source::Name(from.as_str()),
+            ShelfCall::Rename(from, _) if from.as_str() == name => Source::Nothing,
+            _ => Source::Name(name),
+        }
+    }
+}

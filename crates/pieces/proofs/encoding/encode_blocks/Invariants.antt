@@ -1,0 +1,11 @@
+use Rattle.std.proofs.Common.{◌≡◌, take}
+use Rattle.std.specs.Prelude.{flat_map}
+use Rattle.block.specs.Writing.{block}
+use Rattle.frame.specs.Trailer.{stored}
+use Rattle.pieces.specs.declared.planned_block.PlannedBlock.{PlannedBlock}
+use Rattle.pieces.proofs.encoding.encode_blocks.Given as goal
+
+abbrev pub invariant-loop-block : goal.invariant-loop-block
+invariant-loop-block l =
+    (l.builder.interval ≡ l.fn.interval)
+    × (l.out.items ≡ flat_map (λ (b : PlannedBlock). stored (block l.fn.interval b.entries.entries)) (take l.block-index l.blocks))

@@ -1,0 +1,76 @@
+//! The edit of a request's outputs.
+
+ghost use Rattle.std.specs.Prelude.{◌≡◌, ◌+◌, ◌<◌, ◌≤◌, ◌^◌, true, List, map, length, IfOk, Ok};
+ghost use Rattle.std.specs.List.{All};
+ghost use Rattle.coding.specs.Answers.{EqualOrMemory};
+ghost use Rattle.edit.specs.Edit.{HasLevels, HasShortName, edit_in};
+ghost use Rattle.edit.specs.declared.meta.NewFile.{NewFile};
+ghost use Rattle.cut.specs.Plan.{Planned};
+ghost use Rattle.pick.specs.Picked.{picked_in};
+ghost use Rattle.request.specs.Request.{asked, has_levels};
+ghost use Rattle.request.specs.EditOf.{deletions_of, edit_of, new_file};
+
+use crate::request::Request;
+use coding::Fault;
+use edit::{CompactPointer, DeletedFile, NewFile, VersionEdit};
+use ikey::KeyBuf;
+use pick::{InputFile, Inputs};
+use std::alloc::Global;
+use std::collections::BTreeSet;
+
+/// The deletions of inputs by level and number, each once. Refused for want of memory alone.
+fn deletions_of(alloc: Global, files: &[InputFile]) -> Result<BTreeSet<DeletedFile>, Fault>
+    ensures { EqualOrMemory (λ set. set.keys) result (Ok (deletions_of files.now)) }
+{
+    let mut deleted = BTreeSet::new(alloc);
+    for input in files {
+        let file = DeletedFile {
+            level: input.level,
+            number: input.meta.number,
+        };
+        deleted.insert(file)?;
+    }
+    Ok(deleted)
+}
+
+/// The compact pointer of the compaction's level. Refused for want of memory alone.
+fn pointer_of(alloc: Global, picked: &Inputs) -> Result<CompactPointer, Fault>
+    ensures { EqualOrMemory (λ pointer. pointer) result (Ok (record { level = picked.now.level; key = picked.now.pointer.key })) }
+{
+    Ok(CompactPointer {
+        level: picked.level,
+        key: KeyBuf::of(alloc, picked.pointer.key.as_key())?,
+    })
+}
+
+impl<'a> Request<'a> {
+    /// The edit of a compaction of which these are the outputs, in order, as new files: the request's counters, the next file
+    /// behind the outputs, the compact pointer of the level, the deletions of the inputs, and the new files. It names no
+    /// comparator.
+    ///
+    /// The number behind the last output is at most 2^64 - 1. Refused for want of memory alone. Where the request passes its
+    /// tests, the edit can be encoded and applied.
+    pub fn edit(&self, alloc: Global, outputs: Vec<NewFile>) -> Result<VersionEdit, Fault>
+        requires { self.now.first_number + length outputs.items < 2 ^ 64 }
+        ensures edit { (plan : List Planned) → outputs.items ≡ map (new_file (self.now.picked.now.level + 1)) plan →
+            EqualOrMemory edit_in result (Ok (edit_of (asked self.now) plan)) }
+        ensures levels { has_levels (picked_in self.now.picked.now) ≡ true → All (λ (f : NewFile). f.level ≤ 6) outputs.items →
+            IfOk result (λ e. HasLevels (edit_in e)) }
+        ensures name { IfOk result (λ e. HasShortName (edit_in e)) }
+    {
+        let deleted = deletions_of(alloc, &self.picked.files)?;
+        let mut pointers = Vec::new(alloc);
+        pointers.push(pointer_of(alloc, self.picked)?)?;
+        let next_file = self.first_number + outputs.len() as u64;
+        Ok(VersionEdit {
+            comparator: None,
+            log_number: Some(self.log_number),
+            previous_log: Some(self.previous_log),
+            next_file: Some(next_file),
+            last_sequence: Some(self.last_sequence),
+            pointers,
+            deleted,
+            added: outputs,
+        })
+    }
+}

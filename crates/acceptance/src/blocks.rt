@@ -3,6 +3,7 @@
 use crate::file;
 use anyhow::{Result, bail};
 use std::rt::Files;
+use std::thread::Threads;
 
 /// Two files, `NAME.a` and `NAME.b`, the key at which their ranges part, and what comes of them.
 pub(crate) struct Case {
@@ -45,13 +46,16 @@ pub(crate) const CASES: [Case; 6] = [
 ];
 
 /// What comes of a case, as the program prints it.
-pub(crate) fn outcome<R: Files + AllocGlobal>(rt: &R, case: &Case) -> Result<String> {
+pub(crate) fn outcome<R: Files + AllocGlobal + Threads + Sync>(
+    rt: &R,
+    case: &Case,
+) -> Result<String> {
     let alloc = rt.alloc();
     let (a, b) = (file(rt, case.name, "a")?, file(rt, case.name, "b")?);
     let Some(at) = tool::key_of(alloc, case.at)? else {
         bail!("{} is no key", case.at);
     };
-    match tool::blocks(alloc, &a, &b, &at) {
+    match tool::blocks(rt, alloc, &a, &b, &at) {
         Ok((entries, block)) => {
             if !case.accepted || block.as_slice() != file(rt, case.name, "out")?.as_slice() {
                 bail!("{}: another block was wanted", case.name);

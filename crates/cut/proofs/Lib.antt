@@ -13,3 +13,4 @@ pub mod Opened
 pub mod Cuts
 pub mod TableLengths
 pub mod Planned
+pub mod BlockSums

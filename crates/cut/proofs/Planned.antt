@@ -16,7 +16,7 @@ use Rattle.table.specs.Options.{AreInLimits}
 use Rattle.table.specs.DataBlocks.{data_blocks, AreDataBlocks}
 use Rattle.table.specs.Table.{index_keys, table}
 use Rattle.table.proofs.Cuts.{are_data_blocks}
-use Rattle.cut.specs.declared.planned_block.PlannedBlock.{PlannedBlock}
+use Rattle.pieces.specs.declared.planned_block.PlannedBlock.{PlannedBlock}
 use Rattle.cut.specs.declared.planned_output.PlannedOutput.{PlannedOutput}
 use Rattle.cut.specs.Opened.{parts_of, entries_of, ArePlanned}
 use Rattle.cut.specs.Plan.{Planned, ends_from, planned_from, parts, plan_of}

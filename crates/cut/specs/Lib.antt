@@ -11,3 +11,4 @@ pub mod Opened
 pub mod Cutting
 pub mod TableLength
 pub mod Planning
+pub mod OutputMeta

@@ -12,7 +12,7 @@ ghost use Rattle.cut.specs.Opened.{ArePlanned, entries_of};
 ghost use Rattle.cut.specs.Outputs.{segments, outputs_in, outputs_of};
 
 use crate::open_output::OpenOutput;
-use crate::planned_block::PlannedBlock;
+use pieces::PlannedBlock;
 use crate::stops::stops;
 use coding::Fault;
 use edit::FileMeta;

@@ -9,14 +9,16 @@ mod laws;
 mod lengths;
 mod open_block;
 mod open_output;
-mod planned_block;
+mod output_meta;
 mod planned_output;
 mod planning;
 mod stops;
+mod summing;
 mod table_len;
 mod whole_plan;
 
 pub use laws::{lengths_law, outputs_law, pieces_law, ranges_cut, stops_law, whole_law};
+pub use output_meta::OutputMeta;
 pub use planning::{MAX_BLOCKS, plan};
 pub use whole_plan::Plan;
 

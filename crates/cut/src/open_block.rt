@@ -8,7 +8,7 @@ ghost use Rattle.cut.specs.Sizes.{saturated};
 ghost use Rattle.cut.specs.Metered.{left_out, added_size};
 
 use crate::lengths::{common_len, piece_len};
-use crate::planned_block::PlannedBlock;
+use pieces::PlannedBlock;
 use ikey::InternalKey;
 use runs::{RunsCursor, RunsSlice};
 use std::marker::Model;

@@ -9,7 +9,7 @@ ghost use Rattle.table.specs.DataBlocks.{data_blocks};
 ghost use Rattle.cut.specs.Opened.{parts_of, HasLen, ends_by};
 
 use crate::open_block::OpenBlock;
-use crate::planned_block::PlannedBlock;
+use pieces::PlannedBlock;
 use coding::Fault;
 use frame::TRAILER_LEN;
 use ikey::InternalKey;

@@ -1,6 +1,6 @@
 //! An output of a plan.
 
-use crate::planned_block::PlannedBlock;
+use pieces::PlannedBlock;
 
 /// A table that is to be written.
 #[derive(Drop)]

@@ -14,7 +14,7 @@ ghost use Rattle.cut.specs.Sizes.{saturated};
 ghost use Rattle.cut.specs.TableLength.{table_size};
 
 use crate::cutting::outputs;
-use crate::planned_block::PlannedBlock;
+use pieces::PlannedBlock;
 use crate::planned_output::PlannedOutput;
 use crate::table_len::table_len;
 use crate::whole_plan::Plan;

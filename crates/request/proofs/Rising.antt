@@ -55,6 +55,15 @@ largest_is cmp total files b h =
     same_answer b (largest_rise cmp files) h
     (rising_if (internal_cmp cmp) (λ (f : FileMeta). f.largest) (internal_cmp-total total) files (largest_rise cmp files) (answers (λ (f g : FileMeta). is_lt (internal_cmp cmp f.largest g.largest)) files))
 
+-- numbers that pass the test rise
+pub rise_told : (ns : List ℕ) → rises_by nat_lt ns ≡ true → IsStrictlyIncreasing ns
+rise_told ns h = (increasing_if ns (rises_by nat_lt ns) (answers nat_lt ns)).0 h
+
+-- files that pass the test have largest keys that rise
+pub largest_told : (cmp : List ℕ → List ℕ → Ordering) → IsTotalOrder cmp → (files : List FileMeta) → largest_rise cmp files ≡ true → LargestRise cmp files
+largest_told cmp total files h =
+    (rising_if (internal_cmp cmp) (λ (f : FileMeta). f.largest) (internal_cmp-total total) files (largest_rise cmp files) (answers (λ (f g : FileMeta). is_lt (internal_cmp cmp f.largest g.largest)) files)).0 h
+
 low : (m n : ℕ) → nat_le m n ≡ true → m ≤ n
 low m n h = grind (arith, nat_tests)
 
@@ -70,15 +79,14 @@ six true true true false e f = (λ h. absurd cc, λ h. h.3)
 six true true true true false f = (λ h. absurd cc, λ h. h.4)
 six true true true true true false = (λ h. absurd cc, λ h. h.5)
 
--- the test of options, as another test of them answers
-pub limits_are : (o : Options) (b : Bool) → IsTrue b ↔ AreInLimits o → b ≡ are_in_limits o
-limits_are o b h = same_answer b (are_in_limits o) h (to, back)
-  where
-    tests : (are_in_limits o ≡ true) ↔ ((nat_le 1 o.block_size ≡ true) × (nat_le o.block_size 4194304 ≡ true) × (nat_le 1 o.restart_interval ≡ true) × (nat_le o.restart_interval 1024 ≡ true) × (nat_le 1 o.file_size ≡ true) × (nat_le o.file_size (2 ^ 30) ≡ true))
-    tests = six (nat_le 1 o.block_size) (nat_le o.block_size 4194304) (nat_le 1 o.restart_interval) (nat_le o.restart_interval 1024) (nat_le 1 o.file_size) (nat_le o.file_size (2 ^ 30))
+limit_tests : (o : Options) → (are_in_limits o ≡ true) ↔ ((nat_le 1 o.block_size ≡ true) × (nat_le o.block_size 4194304 ≡ true) × (nat_le 1 o.restart_interval ≡ true) × (nat_le o.restart_interval 1024 ≡ true) × (nat_le 1 o.file_size ≡ true) × (nat_le o.file_size (2 ^ 30) ≡ true))
+limit_tests o = six (nat_le 1 o.block_size) (nat_le o.block_size 4194304) (nat_le 1 o.restart_interval) (nat_le o.restart_interval 1024) (nat_le 1 o.file_size) (nat_le o.file_size (2 ^ 30))
 
-    to : are_in_limits o ≡ true → AreInLimits o
-    to e = let t = tests.0 e in record {
+-- options that pass the test are within their limits
+pub limits_told : (o : Options) → are_in_limits o ≡ true → AreInLimits o
+limits_told o e =
+    let t = (limit_tests o).0 e in
+    record {
       block_size_some = low 1 o.block_size t.0;
       block_size_le = low o.block_size 4194304 t.1;
       interval_some = low 1 o.restart_interval t.2;
@@ -87,8 +95,9 @@ limits_are o b h = same_answer b (are_in_limits o) h (to, back)
       file_size_le = low o.file_size (2 ^ 30) t.5;
     }
 
-    back : AreInLimits o → are_in_limits o ≡ true
-    back l = tests.1 (
+limits_back : (o : Options) → AreInLimits o → are_in_limits o ≡ true
+limits_back o l =
+    (limit_tests o).1 (
       low_told 1 o.block_size l.block_size_some,
       low_told o.block_size 4194304 l.block_size_le,
       low_told 1 o.restart_interval l.interval_some,
@@ -96,3 +105,7 @@ limits_are o b h = same_answer b (are_in_limits o) h (to, back)
       low_told 1 o.file_size l.file_size_some,
       low_told o.file_size (2 ^ 30) l.file_size_le,
     )
+
+-- the test of options, as another test of them answers
+pub limits_are : (o : Options) (b : Bool) → IsTrue b ↔ AreInLimits o → b ≡ are_in_limits o
+limits_are o b h = same_answer b (are_in_limits o) h (limits_told o, limits_back o)

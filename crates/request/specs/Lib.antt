@@ -3,3 +3,4 @@ pub mod Request
 pub mod Inputs
 pub mod EditOf
 pub mod OneThread
+pub mod Passed

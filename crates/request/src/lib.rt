@@ -6,9 +6,11 @@
 #![tactic(auto)]
 
 mod editing;
+mod laws;
 mod request;
 mod testing;
 
+pub use laws::passed_law;
 pub use request::Request;
 pub use testing::{MAX_INPUTS, MAX_SNAPSHOTS};
 

@@ -1,7 +1,7 @@
 use super::*;
 use coding::{Fault, FaultName};
 use edit::{CompactPointer, DeletedFile, FileMeta, NewFile};
-use ikey::{Bytewise, KeyBuf, Kind};
+use ikey::{Bytewise, KeyBuf, Kind, Shortlex};
 use keep::Snapshots;
 use pick::{InputFile, Inputs};
 use std::alloc::Global;
@@ -298,4 +298,11 @@ fn the_edit_of_one_output(rt: HostRuntime) -> Result<(), Fail> {
         assert_eq!(rt; (file.level, file.meta.number), (2, 9));
     }
     Ok(())
+}
+
+#[test]
+fn the_law_is_called(rt: HostRuntime) {
+    passed_law::<Bytewise>();
+    passed_law::<Shortlex>();
+    assert!(rt; true);
 }

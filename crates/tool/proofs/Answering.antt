@@ -1,57 +1,70 @@
 -- What two files answer, step by step.
 use Rattle.std.proofs.Common.{◌≡◌, ℕ, ◌++◌, List, [], ◌∷◌, length, Result, Ok, Err, None, refl, sym, ap, subst, ◌∙◌, inl}
-use Rattle.std.specs.Global.{Global}
-use Rattle.std.specs.declared.collections.VecDeque.{VecDeque}
-use Rattle.coding.specs.Answers.{UnlessMemory, EqualOrMemory, fault, ◌>>=◌, HoldsOrMemory}
+use Rattle.std.specs.Global.{Vec}
+use Rattle.coding.specs.Answers.{UnlessMemory, EqualOrMemory, FailsOrMemory, ◌>>=◌, HoldsOrMemory}
 use Rattle.coding.specs.declared.fault.Fault.{Fault}
-use Rattle.coding.specs.declared.fault.FaultName.TheVariants.{Duplicate}
 use Rattle.coding.proofs.Refusals.{unless_from}
 use Rattle.block.specs.Piece.{Entry, IsBlock}
 use Rattle.block.specs.Writing.{block}
 use Rattle.ikey.specs.Bytewise.{bytewise_cmp}
-use Rattle.tool.specs.Merging.{tested_entries}
+use Rattle.tool.specs.Merging.{tested_entries, union_of, unions_of}
 use Rattle.tool.specs.Testing.{tested_after}
-use Rattle.ikey.specs.Order.{internal_cmp}
+use Rattle.merge.specs.Merged.{joined}
 use Rattle.merge.specs.Union.{IsUnion}
-use Rattle.tool.specs.Rising.{IsRising}
-use Rattle.tool.specs.Repeats.{HasRepeat, IsOrdered}
+use Rattle.board.specs.Collected.{collected}
+use Rattle.std.proofs.lemmas.List.{append-nil}
+use Rattle.tool.specs.Repeats.{HasRepeat}
 use Rattle.tool.specs.Blocks.{IsFileAnswer, IsUnionAnswer, IsBlocksAnswer, block_within}
 use Rattle.tool.specs.declared.tested.TestedEntry.{TestedEntry}
-use Rattle.tool.specs.declared.range.Range.{Range}
-use Rattle.tool.proofs.Repeats.{no_union, repeat_in_parts, repeat_in_rests, rising_ordered, ordered_parts}
+use Rattle.tool.proofs.Repeats.{no_union, repeat_in_parts, repeat_in_rests}
+use Rattle.tool.proofs.Unions.{Cut, union_of_runs}
+use Rattle.tool.proofs.RangeUnions.{union_found, union_refused_for}
 
 -- the tests of a block's entries answer for the file
-pub file_answer : (bytes : List ℕ) (q : List Entry) (r : Result (VecDeque TestedEntry Global) Fault) → IsBlock bytes q → EqualOrMemory (λ v. tested_entries v.items) r (tested_after None q) → HoldsOrMemory (λ v. tested_entries v.items) r (IsFileAnswer bytes)
+pub file_answer : (bytes : List ℕ) (q : List Entry) (r : Result (Vec TestedEntry) Fault) → IsBlock bytes q → EqualOrMemory (λ v. tested_entries v.items) r (tested_after None q) → HoldsOrMemory (λ v. tested_entries v.items) r (IsFileAnswer bytes)
 file_answer bytes q (Ok v) block given = inl (q, (block, sym given))
 file_answer bytes q (Err e) block given = unless_from e (tested_after None q ≡ Err e) (IsFileAnswer bytes (Err e)) (λ same. inl (q, (block, sym same))) given
-
--- a version that stands twice leaves no union
-pub twice : (a b : List Entry) (e : Fault) → UnlessMemory e ((e ≡ fault Duplicate) × HasRepeat (a ++ b)) → UnlessMemory e (IsUnionAnswer a b (Err e))
-twice a b e h = unless_from e ((e ≡ fault Duplicate) × HasRepeat (a ++ b)) (IsUnionAnswer a b (Err e)) (λ found. (λ union is. no_union a b union found.1 is, found.0)) h
 
 cut_twice : (a1 a2 b1 b2 qa qb : List Entry) → qa ≡ a1 ++ a2 → qb ≡ b1 ++ b2 → HasRepeat ((a1 ++ a2) ++ (b1 ++ b2)) → HasRepeat (qa ++ qb)
 cut_twice a1 a2 b1 b2 qa qb a b h = subst HasRepeat (ap (λ (t : List Entry). t ++ (b1 ++ b2)) (sym a) ∙ ap (λ (t : List Entry). qa ++ t) (sym b)) h
 
--- a version stands twice before the cut
-pub twice_before : (a1 a2 b1 b2 qa qb : List Entry) (e : Fault) → qa ≡ a1 ++ a2 → qb ≡ b1 ++ b2 → UnlessMemory e ((e ≡ fault Duplicate) × HasRepeat (a1 ++ b1)) → UnlessMemory e (IsUnionAnswer qa qb (Err e))
-twice_before a1 a2 b1 b2 qa qb e a b h =
-    twice qa qb e (unless_from e ((e ≡ fault Duplicate) × HasRepeat (a1 ++ b1)) ((e ≡ fault Duplicate) × HasRepeat (qa ++ qb)) (λ f. (f.0, cut_twice a1 a2 b1 b2 qa qb a b (repeat_in_parts a1 a2 b1 b2 f.1))) h)
+-- the runs of two ranges, one behind the other, are the union, and where one is refused there is none
+union_answer : (at : List ℕ) (qa qb a1 a2 b1 b2 : List Entry) → Cut at qa a1 a2 → Cut at qb b1 b2 → IsUnionAnswer qa qb (collected (union_of (a1 ∷ b1 ∷ []) ∷ union_of (a2 ∷ b2 ∷ []) ∷ []) >>= λ runs. Ok (joined runs))
+union_answer at qa qb a1 a2 b1 b2 a b = by_runs (union_of (a1 ∷ b1 ∷ [])) (union_of (a2 ∷ b2 ∷ [])) refl refl
+  where
+    by_runs : (x y : Result (List Entry) Fault) → union_of (a1 ∷ b1 ∷ []) ≡ x → union_of (a2 ∷ b2 ∷ []) ≡ y → IsUnionAnswer qa qb (collected (x ∷ y ∷ []) >>= λ runs. Ok (joined runs))
+    by_runs (Ok u) (Ok v) p q =
+        let first = union_found a1 b1 u p in
+        let second = union_found a2 b2 v q in
+        subst (λ (t : List Entry). IsUnion bytewise_cmp (qa ∷ qb ∷ []) (u ++ t)) (sym (append-nil v)) (union_of_runs at qa qb a1 a2 b1 b2 u v a b first.0 first.1 second.0 second.1)
+    by_runs (Err e) y p q =
+        let found = union_refused_for a1 b1 e p in
+        (λ union is. no_union qa qb union (cut_twice a1 a2 b1 b2 qa qb a.parts b.parts (repeat_in_parts a1 a2 b1 b2 found.1)) is, found.0)
+    by_runs (Ok u) (Err e) p q =
+        let found = union_refused_for a2 b2 e q in
+        (λ union is. no_union qa qb union (cut_twice a1 a2 b1 b2 qa qb a.parts b.parts (repeat_in_rests a1 a2 b1 b2 found.1)) is, found.0)
 
--- a version stands twice from the cut on
-pub twice_from : (a1 a2 b1 b2 qa qb : List Entry) (e : Fault) → qa ≡ a1 ++ a2 → qb ≡ b1 ++ b2 → UnlessMemory e ((e ≡ fault Duplicate) × HasRepeat (a2 ++ b2)) → UnlessMemory e (IsUnionAnswer qa qb (Err e))
-twice_from a1 a2 b1 b2 qa qb e a b h =
-    twice qa qb e (unless_from e ((e ≡ fault Duplicate) × HasRepeat (a2 ++ b2)) ((e ≡ fault Duplicate) × HasRepeat (qa ++ qb)) (λ f. (f.0, cut_twice a1 a2 b1 b2 qa qb a b (repeat_in_rests a1 a2 b1 b2 f.1))) h)
+-- the same of two ranges as they stand in the code
+pub ranges_answer : (at : List ℕ) (qa qb a1 a2 b1 b2 : List Entry) (before from : List (List Entry)) → Cut at qa a1 a2 → Cut at qb b1 b2 → before ≡ a1 ∷ b1 ∷ [] → from ≡ a2 ∷ b2 ∷ []
+    → IsUnionAnswer qa qb (collected (unions_of before from) >>= λ runs. Ok (joined runs))
+ranges_answer at qa qb a1 a2 b1 b2 before from a b first second =
+    subst (λ (t : List (List Entry)). IsUnionAnswer qa qb (collected (unions_of t from) >>= λ runs. Ok (joined runs))) (sym first)
+    (subst (λ (t : List (List Entry)). IsUnionAnswer qa qb (collected (unions_of (a1 ∷ b1 ∷ []) t) >>= λ runs. Ok (joined runs))) (sym second) (union_answer at qa qb a1 a2 b1 b2 a b))
 
--- two jobs, one after the other
-pub two_jobs : (none one two : List Range) (x y : Range) → none ≡ [] → one ≡ none ++ x ∷ [] → two ≡ one ++ y ∷ [] → two ≡ x ∷ y ∷ []
-two_jobs none one two x y p q r = r ∙ ap (λ (t : List Range). t ++ y ∷ []) (q ∙ ap (λ (t : List Range). t ++ x ∷ []) p)
+-- what holds of an answer holds of what a call gives that answers it
+holds_from : {X Y : Type 0} (view : X → Y) (r : Result X Fault) (answer : Result Y Fault) (IsAnswer : Result Y Fault → Type 0) → EqualOrMemory view r answer → IsAnswer answer → HoldsOrMemory view r IsAnswer
+holds_from view (Ok x) answer IsAnswer is h = subst IsAnswer is h
+holds_from view (Err e) answer IsAnswer is h = unless_from e (answer ≡ Err e) (IsAnswer (Err e)) (λ same. subst IsAnswer same h) is
 
--- what both files have in a range is ordered
-pub ordered_before : (a1 a2 b1 b2 qa qb : List Entry) → qa ≡ a1 ++ a2 → qb ≡ b1 ++ b2 → IsRising (internal_cmp bytewise_cmp) qa → IsRising (internal_cmp bytewise_cmp) qb → IsOrdered a1 × IsOrdered b1
-ordered_before a1 a2 b1 b2 qa qb a b p q = ((ordered_parts qa a1 a2 a (rising_ordered qa p)).0, (ordered_parts qb b1 b2 b (rising_ordered qb q)).0)
+-- the refusal of a run of the jobs, and what comes of their results
+pub refused_answer : (qa qb : List Entry) (answers : List (Result (List Entry) Fault)) (e : Fault) → IsUnionAnswer qa qb (collected answers >>= λ runs. Ok (joined runs)) → FailsOrMemory e (collected answers) → UnlessMemory e (IsUnionAnswer qa qb (Err e))
+refused_answer qa qb answers e holds failed =
+    unless_from e (collected answers ≡ Err e) (IsUnionAnswer qa qb (Err e)) (λ same. subst (IsUnionAnswer qa qb) (ap (λ (r : Result (List (List Entry)) Fault). r >>= λ runs. Ok (joined runs)) same) holds) failed
 
-pub ordered_from : (a1 a2 b1 b2 qa qb : List Entry) → qa ≡ a1 ++ a2 → qb ≡ b1 ++ b2 → IsRising (internal_cmp bytewise_cmp) qa → IsRising (internal_cmp bytewise_cmp) qb → IsOrdered a2 × IsOrdered b2
-ordered_from a1 a2 b1 b2 qa qb a b p q = ((ordered_parts qa a1 a2 a (rising_ordered qa p)).1, (ordered_parts qb b1 b2 b (rising_ordered qb q)).1)
+pub joined_answer : (qa qb : List Entry) (answers : List (Result (List Entry) Fault)) (runs : List (List Entry)) (r : Result (Vec TestedEntry) Fault) → IsUnionAnswer qa qb (collected answers >>= λ runs. Ok (joined runs)) → collected answers ≡ Ok runs
+    → EqualOrMemory (λ v. tested_entries v.items) r (Ok (joined runs)) → HoldsOrMemory (λ v. tested_entries v.items) r (IsUnionAnswer qa qb)
+joined_answer qa qb answers runs r holds same given =
+    holds_from (λ v. tested_entries v.items) r (Ok (joined runs)) (IsUnionAnswer qa qb) given (subst (IsUnionAnswer qa qb) (ap (λ (r : Result (List (List Entry)) Fault). r >>= λ runs. Ok (joined runs)) same) holds)
 
 -- the first file is refused
 pub first_refused : (a b : List ℕ) (e : Fault) → UnlessMemory e (IsFileAnswer a (Err e)) → UnlessMemory e (IsBlocksAnswer a b (Err e))

@@ -6,7 +6,6 @@ use Rattle.std.specs.declared.cmp.Ordering.{Ordering}
 use Rattle.coding.proofs.Refusals.{unless_from, unless_device}
 use Rattle.coding.specs.Answers.{HoldsOrMemory, EqualOrMemory, UnlessMemory, fault}
 use Rattle.coding.specs.declared.fault.Fault.{Fault}
-use Rattle.coding.specs.declared.fault.FaultName.{FaultName}
 use Rattle.coding.specs.declared.fault.FaultName.TheVariants.{Device, Lawless, Missing}
 use Rattle.edit.specs.Version.{State}
 use Rattle.folder.proofs.CountLemmas.{steady}

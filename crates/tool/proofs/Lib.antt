@@ -1,6 +1,7 @@
 mod TestedLists
 mod Unions
 mod Repeats
+mod RangeUnions
 mod Answering
 mod DigitLemmas
 mod LineLemmas

@@ -1,17 +1,16 @@
 -- Testing entries one after the other, as a loop does.
-use Rattle.std.proofs.Common.{◌≡◌, ℕ, suc, ◌+◌, ◌%◌, Bool, true, false, cond, nat_lt, List, [], ◌∷◌, ◌++◌, ◌<◌, ◌-◌, length, get_or, drop, Option, Some, None, Result, Ok, Err, refl, sym, ap, subst, ◌∙◌, append_assoc, arith}
+use Rattle.std.proofs.Common.{◌≡◌, ℕ, suc, ◌+◌, ◌%◌, Bool, true, false, cond, nat_lt, List, [], ◌∷◌, ◌++◌, ◌<◌, ◌-◌, length, get_or, drop, Option, Some, None, Result, Ok, Err, refl, sym, ap, subst, ◌∙◌, append_assoc, drop-cons, arith}
 use Rattle.std.proofs.lemmas.List.{append-nil}
 use Rattle.std.specs.List.{slice_get}
 use Rattle.std.specs.Option.{option_map}
-use Rattle.std.proofs.lemmas.Option.{same_Some, none-some}
+use Rattle.std.proofs.lemmas.Option.{same_Some, none-some, slice_get_within, get_or_from_slice_get}
 use Rattle.coding.proofs.Binds.{bind_ok, done, ok_is}
 use Rattle.coding.specs.Answers.{EqualOrMemory, fault, ◌>>=◌}
 use Rattle.coding.specs.declared.fault.Fault.{Fault}
 use Rattle.coding.specs.declared.fault.FaultName.TheVariants.{Key, TooLarge, Order}
 use Rattle.ikey.specs.Key.{tag_of, internal_key_reading}
 use Rattle.std.specs.Prelude.{IfOk}
-use Rattle.std.specs.Global.{Global}
-use Rattle.std.specs.declared.collections.VecDeque.{VecDeque}
+use Rattle.std.specs.Global.{Vec}
 use Rattle.block.specs.Piece.{Entry, IsBlock}
 use Rattle.tool.specs.Merging.{tested_entries}
 use Rattle.tool.specs.declared.tested.TestedEntry.{TestedEntry}
@@ -25,7 +24,7 @@ pub last_key-push : (before : Option (List ℕ)) (es : List Entry) (e : Entry) �
 last_key-push before [] e = refl
 last_key-push before (x ∷ es) e = last_key-push (Some x.key) es e
 
-regroup : (front : List Entry) (e : Entry) (tested : Result (List Entry) Fault) → with_front front (tested >>= λ es. Ok (e ∷ es)) ≡ with_front (front ++ e ∷ []) tested
+pub regroup : (front : List Entry) (e : Entry) (tested : Result (List Entry) Fault) → with_front front (tested >>= λ es. Ok (e ∷ es)) ≡ with_front (front ++ e ∷ []) tested
 regroup front e (Ok es) = ap (λ (xs : List Entry). Ok xs) (sym (append_assoc front (e ∷ []) es))
 regroup front e (Err f) = refl
 
@@ -69,6 +68,12 @@ last_key-tested_entries before (t ∷ []) d some = refl
 last_key-tested_entries before (t ∷ u ∷ ts) d some =
     last_key-tested_entries (Some t.key) (u ∷ ts) d (omega arith) ∙ ap (λ (x : TestedEntry). Some x.key) (sym (get_or-cons t (u ∷ ts) d (omega arith)))
 
+-- the same of the last one as a slice gives it
+pub last_key_read : (ts : List TestedEntry) (t : TestedEntry) → Some t ≡ slice_get ts (length ts - 1) → last_key None (tested_entries ts) ≡ Some t.key
+last_key_read ts t is =
+    let within = slice_get_within ts (length ts - 1) t (sym is) in
+    last_key-tested_entries None ts t (omega (arith, within)) ∙ ap (λ (x : TestedEntry). Some x.key) (get_or_from_slice_get ts (length ts - 1) t t (sym is))
+
 -- what is accepted are the entries themselves
 pub tested_same : (before : Option (List ℕ)) (q es : List Entry) → tested_after before q ≡ Ok es → q ≡ es
 tested_same before [] es h = ok_is [] es h
@@ -97,6 +102,19 @@ entry_test_same before key value internal h =
     ∙ two (nat_lt 16777215 (length value)) (is_above before key) (fault TooLarge) (fault Order) a.0 internal a.2
 
 -- the entries that were tested are those of the block
-pub found_tested : (bytes : List ℕ) (q : List Entry) (r : Result (VecDeque TestedEntry Global) Fault) → IsBlock bytes q → EqualOrMemory (λ v. tested_entries v.items) r (tested_after None q) → IfOk r (λ v. IsBlock bytes (tested_entries v.items))
+pub found_tested : (bytes : List ℕ) (q : List Entry) (r : Result (Vec TestedEntry) Fault) → IsBlock bytes q → EqualOrMemory (λ v. tested_entries v.items) r (tested_after None q) → IfOk r (λ v. IsBlock bytes (tested_entries v.items))
 found_tested bytes q (Ok v) block given = subst (IsBlock bytes) (tested_same None q (tested_entries v.items) given) block
 found_tested bytes q (Err e) block given = tt
+
+drop_at : (ts : List TestedEntry) (i : ℕ) (t : TestedEntry) → i < length ts → drop i ts ≡ get_or ts i t ∷ drop (i + 1) ts
+drop_at ts i t within = let n : suc i ≡ i + 1 = omega arith in drop-cons ts i t within ∙ ap (λ (k : ℕ). get_or ts i t ∷ drop k ts) n
+
+-- the entry at a place goes behind those that are done
+pub one_more : (done : List Entry) (ts : List TestedEntry) (i : ℕ) (t : TestedEntry) (key : List ℕ) (whole : List Entry) → i < length ts → t ≡ get_or ts i t → key ≡ t.key → done ++ tested_entries (drop i ts) ≡ whole
+    → (done ++ record { key = key; value = t.value.now } ∷ []) ++ tested_entries (drop (i + 1) ts) ≡ whole
+one_more done ts i t key whole within is same so_far =
+    append_assoc done (record { key = key; value = t.value.now } ∷ []) (tested_entries (drop (i + 1) ts))
+    ∙ ap (λ (k : List ℕ). done ++ record { key = k; value = t.value.now } ∷ tested_entries (drop (i + 1) ts)) same
+    ∙ ap (λ (x : TestedEntry). done ++ tested_entries (x ∷ drop (i + 1) ts)) is
+    ∙ ap (λ (q : List TestedEntry). done ++ tested_entries q) (sym (drop_at ts i t within))
+    ∙ so_far

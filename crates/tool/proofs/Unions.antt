@@ -1,10 +1,9 @@
 -- Rising lists, cut at a key, merged and joined.
-use Rattle.std.proofs.Common.{◌≡◌, ◌≢◌, ℕ, zero, suc, Bool, true, false, cond, nat_lt, Some, None, Result, Ok, Err, ◌+◌, ◌-◌, ◌^◌, ◌<◌, ◌≤◌, nat_le, List, [], ◌∷◌, ◌++◌, length, get_or, take, drop, refl, sym, ap, subst, ◌∙◌, append_assoc, arith, inl, inr, ◌⊎◌}
+use Rattle.std.proofs.Common.{◌≡◌, ◌≢◌, ℕ, zero, suc, Bool, true, false, cond, nat_lt, Some, None, Result, Ok, Err, ◌+◌, ◌^◌, ◌<◌, ◌≤◌, nat_le, List, [], ◌∷◌, ◌++◌, length, get_or, take, drop, refl, sym, ap, subst, ◌∙◌, append_assoc, arith}
 use Rattle.std.specs.List.{AllByRecursion, flat_map}
 use Rattle.std.specs.List.Sorted.{IsPermutation}
 use Rattle.std.specs.Prelude.{IfOk}
-use Rattle.std.specs.Global.{Global}
-use Rattle.std.specs.declared.collections.VecDeque.{VecDeque}
+use Rattle.std.specs.Global.{Vec}
 use Rattle.std.specs.Cmp.{IsTotalOrder}
 use Rattle.std.specs.Ordering.{nat_cmp, ordering_then, ordering_reverse, is_lt}
 use Rattle.std.specs.declared.cmp.Ordering.{Ordering}
@@ -12,7 +11,7 @@ use Rattle.std.specs.declared.cmp.Ordering.TheVariants.{Less, Equal, Greater}
 use Rattle.std.proofs.lemmas.Cmp.{nat_cmp_total, nat_list_cmp_total, on_total, then_total, back_total}
 use Rattle.std.proofs.lemmas.List.{append-nil, drop-map, drop_all}
 use Rattle.std.proofs.lemmas.List.Elements.{recursion_from_All, All-from_recursion}
-use Rattle.std.proofs.lemmas.List.Sorted.{IsPermutation-refl, IsPermutation-trans, IsPermutation-append, IsPermutation-append_comm, IsPermutation-append_right, IsPermutation-append_left, IsPermutation-middle, IsPermutation-pop_more, All-permutation}
+use Rattle.std.proofs.lemmas.List.Sorted.{IsPermutation-trans, IsPermutation-append, IsPermutation-append_comm, IsPermutation-append_right, IsPermutation-append_left, All-permutation}
 use Rattle.std.proofs.lemmas.Bool.{lt-leb}
 use Rattle.block.specs.Piece.{Entry}
 use Rattle.block.specs.Writing.{block}
@@ -27,60 +26,44 @@ use Rattle.coding.specs.declared.fault.FaultName.TheVariants.{TooLarge, Order}
 use Rattle.ikey.specs.Order.{internal_cmp}
 use Rattle.ikey.proofs.Ordered.{internal_cmp-total}
 use Rattle.merge.specs.Union.{version_cmp, IsUnion, VersionsRise}
-use Rattle.tool.specs.Rising.{IsRising, IsBehind}
+use Rattle.table.specs.ReadingCursors.{IsRising, NeverFalls}
+use Rattle.table.proofs.Orders.{rising_never_falls}
 use Rattle.tool.specs.Ranges.{IsBefore, IsFrom}
 use Rattle.tool.specs.Merging.{tested_entry, tested_entries}
 use Rattle.tool.specs.declared.tested.TestedEntry.{TestedEntry}
 use Rattle.tool.specs.Testing.{entry_test, is_above, tested_after}
 use Rattle.coding.proofs.Binds.{bind_ok}
-use Rattle.tool.proofs.TestedLists.{tested_same, get_or-cons}
+use Rattle.tool.proofs.TestedLists.{tested_same}
 
 -- versions are totally ordered
 pub version_total : IsTotalOrder (version_cmp bytewise_cmp)
 version_total = then_total (on_total user_of nat_list_cmp_total) (on_total sequence_of (back_total nat_cmp_total))
 
-abbrev Below : (List ℕ → List ℕ → Ordering) → List ℕ → Entry → Type 0
+abbrev pub Below : (List ℕ → List ℕ → Ordering) → List ℕ → Entry → Type 0
 Below cmp key f = cmp key f.key ≡ Less
 
-all_append : (P : Entry → Type 0) (xs ys : List Entry) → AllByRecursion P xs → AllByRecursion P ys → AllByRecursion P (xs ++ ys)
+pub all_append : (P : Entry → Type 0) (xs ys : List Entry) → AllByRecursion P xs → AllByRecursion P ys → AllByRecursion P (xs ++ ys)
 all_append P [] ys h q = q
 all_append P (x ∷ xs) ys h q = (h.0, all_append P xs ys h.1 q)
 
-all_weaker : (P Q : Entry → Type 0) → ((x : Entry) → P x → Q x) → (xs : List Entry) → AllByRecursion P xs → AllByRecursion Q xs
+all_left : (P : Entry → Type 0) (xs ys : List Entry) → AllByRecursion P (xs ++ ys) → AllByRecursion P xs
+all_left P [] ys each = tt
+all_left P (x ∷ xs) ys each = (each.0, all_left P xs ys each.1)
+
+pub all_weaker : (P Q : Entry → Type 0) → ((x : Entry) → P x → Q x) → (xs : List Entry) → AllByRecursion P xs → AllByRecursion Q xs
 all_weaker P Q f [] h = tt
 all_weaker P Q f (x ∷ xs) h = (f x h.0, all_weaker P Q f xs h.1)
 
--- what is below the first of a rising list is below all of it
-below_all : (cmp : List ℕ → List ℕ → Ordering) → IsTotalOrder cmp → (key : List ℕ) (e : Entry) (es : List Entry) → cmp key e.key ≡ Less → IsRising cmp (e ∷ es) → AllByRecursion (Below cmp key) (e ∷ es)
-below_all cmp total key e es h rising = (h, all_weaker (Below cmp e.key) (Below cmp key) (λ f g. total.trans key e.key f.key h g) es rising.0)
-
-pub rising_append : (cmp : List ℕ → List ℕ → Ordering) (xs ys : List Entry) → IsRising cmp xs → IsRising cmp ys → AllByRecursion (λ e. AllByRecursion (λ f. cmp e.key f.key ≡ Less) ys) xs → IsRising cmp (xs ++ ys)
-rising_append cmp [] ys h q each = q
-rising_append cmp (x ∷ xs) ys h q each = (all_append (Below cmp x.key) xs ys h.0 each.0, rising_append cmp xs ys h.1 q each.1)
-
--- one more behind the last
-pub rising_push : (xs : List Entry) (e : Entry) → IsRising (version_cmp bytewise_cmp) xs → IsBehind xs e.key → IsRising (version_cmp bytewise_cmp) (xs ++ e ∷ [])
-rising_push [] e h b = (tt, tt)
-rising_push (x ∷ []) e h b = ((b, tt), (tt, tt))
-rising_push (x ∷ y ∷ xs) e h b =
-    let rest = rising_push (y ∷ xs) e h.1 b in
-    (below_all (version_cmp bytewise_cmp) version_total x.key y (xs ++ e ∷ []) h.0.0 rest, rest)
-
--- a step of the merge: the first entry of one list moves to the end of the run
-pub merge_more : (all run a b a' b' : List Entry) (e : Entry) → IsPermutation all (run ++ (a ++ b)) → ((a ≡ e ∷ a') × (b' ≡ b)) ⊎ ((b ≡ e ∷ b') × (a' ≡ a)) → IsPermutation all ((run ++ e ∷ []) ++ (a' ++ b'))
-merge_more all run a b a' b' e h (inl s) =
-    let same : a ++ b ≡ e ∷ (a' ++ b') = ap (λ (t : List Entry). t ++ b) s.0 ∙ ap (λ (t : List Entry). e ∷ (a' ++ t)) (sym s.1) in
-    IsPermutation-pop_more all run (a ++ b) (a' ++ b') e h (subst (IsPermutation (a ++ b)) same (IsPermutation-refl (a ++ b)))
-merge_more all run a b a' b' e h (inr s) =
-    let same : a ++ b ≡ a' ++ e ∷ b' = ap (λ (t : List Entry). t ++ b) (sym s.1) ∙ ap (λ (t : List Entry). a' ++ t) s.0 in
-    IsPermutation-pop_more all run (a ++ b) (a' ++ b') e h (subst (λ (t : List Entry). IsPermutation t (e ∷ (a' ++ b'))) (sym same) (IsPermutation-middle a' e b'))
+rising_append : (xs ys : List Entry) → VersionsRise bytewise_cmp xs → VersionsRise bytewise_cmp ys → AllByRecursion (λ e. AllByRecursion (λ f. version_cmp bytewise_cmp e.key f.key ≡ Less) ys) xs → VersionsRise bytewise_cmp (xs ++ ys)
+rising_append [] ys h q each = q
+rising_append (x ∷ xs) ys h q each = (all_append (Below (version_cmp bytewise_cmp) x.key) xs ys h.0 each.0, rising_append xs ys h.1 q each.1)
 
 -- ---- what passed its tests rises
 
 abbrev accepted : List ℕ → Result (List ℕ) Fault
 accepted key = Ok key
 
-guard : (b : Ordering) → is_lt b ≡ true → b ≡ Less
+pub guard : (b : Ordering) → is_lt b ≡ true → b ≡ Less
 guard Less h = refl
 guard Equal h = absurd cc
 guard Greater h = absurd cc
@@ -96,7 +79,7 @@ above_before before key value internal h =
     let a = bind_ok (internal_key_reading key) _ internal h in
     guard (internal_cmp bytewise_cmp before key) (passed_above (nat_lt 16777215 (length value)) (is_above (Some before) key) (fault TooLarge) (fault Order) a.0 internal a.2)
 
-rising_after : (before : List ℕ) (q es : List Entry) → tested_after (Some before) q ≡ Ok es → AllByRecursion (Below (internal_cmp bytewise_cmp) before) q × IsRising (internal_cmp bytewise_cmp) q
+rising_after : (before : List ℕ) (q es : List Entry) → tested_after (Some before) q ≡ Ok es → AllByRecursion (Below (internal_cmp bytewise_cmp) before) q × IsRising bytewise_cmp q
 rising_after before [] es h = (tt, tt)
 rising_after before (e ∷ q) es h =
     let a = bind_ok (entry_test (Some before) e.key e.value) (λ k. tested_after (Some e.key) q >>= λ xs. Ok (e ∷ xs)) es h in
@@ -105,7 +88,7 @@ rising_after before (e ∷ q) es h =
     let up = above_before before e.key e.value a.0 a.1 in
     ((up, all_weaker (Below (internal_cmp bytewise_cmp) e.key) (Below (internal_cmp bytewise_cmp) before) (λ f g. (internal_cmp-total nat_list_cmp_total).trans before e.key f.key up g) q rest.0), (rest.0, rest.1))
 
-pub tested_rising : (q es : List Entry) → tested_after None q ≡ Ok es → IsRising (internal_cmp bytewise_cmp) q
+pub tested_rising : (q es : List Entry) → tested_after None q ≡ Ok es → IsRising bytewise_cmp q
 tested_rising [] es h = tt
 tested_rising (e ∷ q) es h =
     let a = bind_ok (entry_test None e.key e.value) (λ k. tested_after (Some e.key) q >>= λ xs. Ok (e ∷ xs)) es h in
@@ -114,38 +97,9 @@ tested_rising (e ∷ q) es h =
     (rest.0, rest.1)
 
 -- what was tested and accepted rises
-pub rising_tested : (q : List Entry) (r : Result (VecDeque TestedEntry Global) Fault) → EqualOrMemory (λ v. tested_entries v.items) r (tested_after None q) → IfOk r (λ v. IsRising (internal_cmp bytewise_cmp) (tested_entries v.items))
-rising_tested q (Ok v) given = subst (IsRising (internal_cmp bytewise_cmp)) (tested_same None q (tested_entries v.items) given) (tested_rising q (tested_entries v.items) given)
+pub rising_tested : (q : List Entry) (r : Result (Vec TestedEntry) Fault) → EqualOrMemory (λ v. tested_entries v.items) r (tested_after None q) → IfOk r (λ v. IsRising bytewise_cmp (tested_entries v.items))
+rising_tested q (Ok v) given = subst (IsRising bytewise_cmp) (tested_same None q (tested_entries v.items) given) (tested_rising q (tested_entries v.items) given)
 rising_tested q (Err e) given = tt
-
--- ---- the last of a run
-
-lt_is : (o : Ordering) → (is_lt o ≡ true → o ≡ Less) × (o ≡ Less → is_lt o ≡ true)
-lt_is Less = (λ h. refl, λ h. refl)
-lt_is Equal = (λ h. absurd cc, λ h. absurd cc)
-lt_is Greater = (λ h. absurd cc, λ h. absurd cc)
-
-pub record Iff (P Q : Type 0) : Type 0 where
-  pub there : P → Q
-  pub back : Q → P
-
-pub behind_last : (ts : List TestedEntry) (key : List ℕ) (d : TestedEntry) → 0 < length ts → Iff (IsBehind (tested_entries ts) key) (version_cmp bytewise_cmp (get_or ts (length ts - 1) d).key key ≡ Less)
-behind_last [] key d some = absurd (omega arith)
-behind_last (t ∷ []) key d some = record { there = λ h. h; back = λ h. h }
-behind_last (t ∷ u ∷ ts) key d some =
-    let rest = behind_last (u ∷ ts) key d (omega arith) in
-    let same : get_or (t ∷ u ∷ ts) (length (t ∷ u ∷ ts) - 1) d ≡ get_or (u ∷ ts) (length (u ∷ ts) - 1) d = get_or-cons t (u ∷ ts) d (omega arith) in
-    record {
-      there = λ h. subst (λ (x : TestedEntry). version_cmp bytewise_cmp x.key key ≡ Less) (sym same) (rest.there h);
-      back = λ h. rest.back (subst (λ (x : TestedEntry). version_cmp bytewise_cmp x.key key ≡ Less) same h);
-    }
-
-pub behind_test : (ts : List TestedEntry) (key : List ℕ) (d : TestedEntry) (o : Ordering) → 0 < length ts → d ≡ get_or ts (length ts - 1) d → o ≡ version_cmp bytewise_cmp d.key key → (is_lt o ≡ true → IsBehind (tested_entries ts) key) × (IsBehind (tested_entries ts) key → is_lt o ≡ true)
-behind_test ts key d o some last order =
-    let both = behind_last ts key d some in (
-      λ h. both.back (ap (λ (x : TestedEntry). version_cmp bytewise_cmp x.key key) (sym last) ∙ sym order ∙ (lt_is o).0 h),
-      λ h. (lt_is o).1 (order ∙ ap (λ (x : TestedEntry). version_cmp bytewise_cmp x.key key) last ∙ both.there h),
-    )
 
 -- ---- a list cut at a key
 
@@ -180,13 +134,13 @@ from_after at x y from below before =
     by_order Equal e other = from (nat_list_cmp_total.congr (user_of x.key) (user_of y.key) at e ∙ before)
     by_order Greater e other = other refl
 
-from_rest : (at : List ℕ) (q : List Entry) → IsRising (internal_cmp bytewise_cmp) q → ((e : Entry) (es : List Entry) → q ≡ e ∷ es → IsFrom at e) → AllByRecursion (IsFrom at) q
+from_rest : (at : List ℕ) (q : List Entry) → IsRising bytewise_cmp q → ((e : Entry) (es : List Entry) → q ≡ e ∷ es → IsFrom at e) → AllByRecursion (IsFrom at) q
 from_rest at [] rising first = tt
 from_rest at (e ∷ q) rising first =
     let here = first e q refl in
     (here, all_weaker (Below (internal_cmp bytewise_cmp) e.key) (IsFrom at) (λ f g. from_after at e f here g) q rising.0)
 
-rising_drop : (n : ℕ) (q : List Entry) → IsRising (internal_cmp bytewise_cmp) q → IsRising (internal_cmp bytewise_cmp) (drop n q)
+rising_drop : (n : ℕ) (q : List Entry) → IsRising bytewise_cmp q → IsRising bytewise_cmp (drop n q)
 rising_drop zero q h = h
 rising_drop (suc n) [] h = tt
 rising_drop (suc n) (e ∷ q) h = rising_drop n q h.1
@@ -197,11 +151,26 @@ head_of_drop zero (t ∷ ts) e es d h = (omega arith, cc)
 head_of_drop (suc n) [] e es d h = absurd cc
 head_of_drop (suc n) (t ∷ ts) e es d h = let rest = head_of_drop n ts e es d h in (omega (arith, rest.0), rest.1)
 
-pub from_cut : (at : List ℕ) (n : ℕ) (ts : List TestedEntry) → IsRising (internal_cmp bytewise_cmp) (tested_entries ts) → ((d : TestedEntry) → n < length ts → IsFrom at (tested_entry (get_or ts n d))) → AllByRecursion (IsFrom at) (tested_entries (drop n ts))
+pub from_cut : (at : List ℕ) (n : ℕ) (ts : List TestedEntry) → IsRising bytewise_cmp (tested_entries ts) → ((d : TestedEntry) → n < length ts → IsFrom at (tested_entry (get_or ts n d))) → AllByRecursion (IsFrom at) (tested_entries (drop n ts))
 from_cut at n [] rising first = subst (λ (ts : List TestedEntry). AllByRecursion (IsFrom at) (tested_entries ts)) (sym (drop_all n [] (omega arith))) tt
 from_cut at n (t ∷ ts) rising first =
     from_rest at (tested_entries (drop n (t ∷ ts))) (rw (← drop-map tested_entry n (t ∷ ts)) (rising_drop n (tested_entries (t ∷ ts)) rising))
     (λ e es h. let at_place = head_of_drop n (t ∷ ts) e es t h in subst (IsFrom at) at_place.1 (first t at_place.0))
+
+-- both parts of rising entries never fall
+rising_left : (xs ys : List Entry) → IsRising bytewise_cmp (xs ++ ys) → IsRising bytewise_cmp xs
+rising_left [] ys h = tt
+rising_left (x ∷ xs) ys h = (all_left (Below (internal_cmp bytewise_cmp) x.key) xs ys h.0, rising_left xs ys h.1)
+
+rising_right : (xs ys : List Entry) → IsRising bytewise_cmp (xs ++ ys) → IsRising bytewise_cmp ys
+rising_right [] ys h = h
+rising_right (x ∷ xs) ys h = rising_right xs ys h.1
+
+pub left_never_falls : (q xs ys : List Entry) → q ≡ xs ++ ys → IsRising bytewise_cmp q → NeverFalls bytewise_cmp xs
+left_never_falls q xs ys parts h = rising_never_falls bytewise_cmp xs (rising_left xs ys (subst (IsRising bytewise_cmp) parts h))
+
+pub right_never_falls : (q xs ys : List Entry) → q ≡ xs ++ ys → IsRising bytewise_cmp q → NeverFalls bytewise_cmp ys
+right_never_falls q xs ys parts h = rising_never_falls bytewise_cmp ys (rising_right xs ys (subst (IsRising bytewise_cmp) parts h))
 
 -- ---- two runs joined
 
@@ -236,29 +205,18 @@ middle_four a b c d =
     subst (λ (t : List Entry). IsPermutation t ((a ++ c) ++ (b ++ d))) (sym left)
     (subst (IsPermutation (a ++ ((b ++ c) ++ d))) right (IsPermutation-append_right a ((b ++ c) ++ d) ((c ++ b) ++ d) (IsPermutation-append_left d (b ++ c) (c ++ b) (IsPermutation-append_comm b c))))
 
--- versions that rise, and keys that rise by their versions
-versions_rise : (cmp : List ℕ → List ℕ → Ordering) (es : List Entry) → IsRising (version_cmp cmp) es → VersionsRise cmp es
-versions_rise cmp [] h = tt
-versions_rise cmp (e ∷ es) h = (h.0, versions_rise cmp es h.1)
-
 pub union_of_runs : (at : List ℕ) (qa qb a1 a2 b1 b2 run behind : List Entry) → Cut at qa a1 a2 → Cut at qb b1 b2
-    → IsRising (version_cmp bytewise_cmp) run → IsPermutation (a1 ++ b1) run → IsRising (version_cmp bytewise_cmp) behind → IsPermutation (a2 ++ b2) behind → IsUnion bytewise_cmp (qa ∷ qb ∷ []) (run ++ behind)
+    → VersionsRise bytewise_cmp run → IsPermutation (a1 ++ b1) run → VersionsRise bytewise_cmp behind → IsPermutation (a2 ++ b2) behind → IsUnion bytewise_cmp (qa ∷ qb ∷ []) (run ++ behind)
 union_of_runs at qa qb a1 a2 b1 b2 run behind a b rising same rising' same' =
     let before = All-of (IsBefore at) (a1 ++ b1) run same (all_append (IsBefore at) a1 b1 a.before b.before) in
     let from = All-of (IsFrom at) (a2 ++ b2) behind same' (all_append (IsFrom at) a2 b2 a.from b.from) in
     let whole : flat_map (λ (input : List Entry). input) (qa ∷ qb ∷ []) ≡ (a1 ++ a2) ++ (b1 ++ b2) =
     ap (λ (t : List Entry). qa ++ t) (append-nil qb) ∙ ap (λ (t : List Entry). t ++ qb) a.parts ∙ ap (λ (t : List Entry). (a1 ++ a2) ++ t) b.parts in
     record {
-      rising = versions_rise bytewise_cmp (run ++ behind) (rising_append (version_cmp bytewise_cmp) run behind rising rising' (all_across at run behind before from));
+      rising = rising_append run behind rising rising' (all_across at run behind before from);
       same = subst (λ (t : List Entry). IsPermutation t (run ++ behind)) (sym whole)
           (IsPermutation-trans ((a1 ++ a2) ++ (b1 ++ b2)) ((a1 ++ b1) ++ (a2 ++ b2)) (run ++ behind) (middle_four a1 a2 b1 b2) (IsPermutation-append (a1 ++ b1) run (a2 ++ b2) behind same same'));
     }
-
--- the same step over tested entries
-pub merge_more_tested : (all : List Entry) (run a b a' b' : List TestedEntry) (e : TestedEntry) → IsPermutation all (tested_entries run ++ (tested_entries a ++ tested_entries b)) → ((a ≡ e ∷ a') × (b' ≡ b)) ⊎ ((b ≡ e ∷ b') × (a' ≡ a))
-    → IsPermutation all ((tested_entries run ++ tested_entry e ∷ []) ++ (tested_entries a' ++ tested_entries b'))
-merge_more_tested all run a b a' b' e h (inl s) = merge_more all (tested_entries run) (tested_entries a) (tested_entries b) (tested_entries a') (tested_entries b') (tested_entry e) h (inl (ap tested_entries s.0, ap tested_entries s.1))
-merge_more_tested all run a b a' b' e h (inr s) = merge_more all (tested_entries run) (tested_entries a) (tested_entries b) (tested_entries a') (tested_entries b') (tested_entry e) h (inr (ap tested_entries s.0, ap tested_entries s.1))
 
 -- ---- the block that is written
 

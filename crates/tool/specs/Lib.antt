@@ -12,7 +12,6 @@ pub mod FolderLines
 -- serves proofs alone
 pub mod LineParts
 pub mod Questions
-pub mod Rising
 pub mod Merging
 pub mod Ranges
 pub mod Repeats

@@ -12,6 +12,7 @@ use folder::Disk;
 use std::env::Env;
 use std::io::{ErrorKind, Write};
 use std::rt::Files;
+use std::thread::Threads;
 use std::{env, io};
 
 /// The status of work that is done, and of help or a version that was asked for.
@@ -24,7 +25,7 @@ const USAGE: u8 = 2;
 ///
 /// Results, and help and a version that were asked for, go to the standard output, all else to the standard error. That
 /// nothing can be written to the standard error changes no status.
-pub fn run<R: Env + Files + Print + Eprint + AllocGlobal>(rt: &R) -> u8 {
+pub fn run<R: Env + Files + Print + Eprint + AllocGlobal + Threads + Sync>(rt: &R) -> u8 {
     let words = match words_given(rt) {
         Ok(words) => words,
         Err(error) if error.kind() == ErrorKind::InvalidData => {
@@ -48,12 +49,21 @@ fn words_given<R: Env + AllocGlobal>(rt: &R) -> io::Result<Vec<String>> {
 }
 
 /// Does what a command line asks for.
-fn carry_out<R: Files + Print + AllocGlobal>(rt: &R, line: Line<'_>) -> Result<(), Fault> {
+fn carry_out<R: Files + Print + AllocGlobal + Threads + Sync>(
+    rt: &R,
+    line: Line<'_>,
+) -> Result<(), Fault> {
     match line {
         Line::Blocks { a, b, at, out } => {
             let a = files::read(rt, a)?;
             let b = files::read(rt, b)?;
-            let (entries, block) = blocks(rt.alloc(), a.as_slice(), b.as_slice(), at.as_slice())?;
+            let (entries, block) = blocks(
+                rt,
+                rt.alloc(),
+                a.as_slice(),
+                b.as_slice(),
+                at.as_slice(),
+            )?;
             files::replace(rt, out, block.as_slice())?;
             let length = block.len();
             println!(rt; "{entries} entries, {length} bytes").map_err(|error| files::failed(&error))

@@ -8,8 +8,7 @@ ghost use Rattle.coding.specs.Answers.{EqualOrMemory, HoldsOrMemory};
 ghost use Rattle.tool.specs.Blocks.{IsFileAnswer};
 ghost use Rattle.tool.specs.Merging.{tested_entries};
 ghost use Rattle.ikey.specs.Bytewise.{bytewise_cmp};
-ghost use Rattle.ikey.specs.Order.{internal_cmp};
-ghost use Rattle.tool.specs.Rising.{IsRising};
+ghost use Rattle.table.specs.ReadingCursors.{IsRising};
 ghost use Rattle.tool.specs.Testing.{entry_test, last_key, tested_after};
 
 use crate::tested::TestedEntry;
@@ -18,7 +17,6 @@ use coding::{Fault, FaultName};
 use ikey::{Bytewise, InternalKey, KeyBuf};
 use std::alloc::Global;
 use std::cmp::Ordering;
-use std::collections::VecDeque;
 
 /// The most bytes of a value.
 const MAX_VALUE: usize = 16_777_215;
@@ -26,9 +24,9 @@ const MAX_VALUE: usize = 16_777_215;
 /// The entries of a file, where each passes its tests.
 ///
 /// Refused as Block where the bytes are no block, and else by the first test that fails.
-pub(crate) fn tested(alloc: Global, bytes: &[u8]) -> Result<VecDeque<TestedEntry<'_>>, Fault>
+pub(crate) fn tested(alloc: Global, bytes: &[u8]) -> Result<Vec<TestedEntry<'_>>, Fault>
     ensures found { IfOk result (λ v. IsBlock bytes.now (tested_entries v.items)) }
-    ensures rising { IfOk result (λ v. IsRising (internal_cmp bytewise_cmp) (tested_entries v.items)) }
+    ensures rising { IfOk result (λ v. IsRising bytewise_cmp (tested_entries v.items)) }
     ensures answer { HoldsOrMemory (λ v. tested_entries v.items) result (IsFileAnswer bytes.now) }
 {
     let block = check(bytes)?;
@@ -56,26 +54,23 @@ fn test_entry<'k>(
 }
 
 /// The key of the last entry.
-fn last_of<'r>(entries: &'r VecDeque<TestedEntry<'_>>) -> Option<InternalKey<'r>>
-    ensures { option_map (λ key. key.bytes.now) result ≡ last_key None (tested_entries entries.now.items) }
+pub(crate) fn last_of<'r>(entries: &'r [TestedEntry<'_>]) -> Option<InternalKey<'r>>
+    ensures { option_map (λ key. key.bytes.now) result ≡ last_key None (tested_entries entries.now) }
 {
-    let last = entries.back()?;
+    let last = entries.last()?;
     Some(last.key.as_key())
 }
 
 /// The entries that are still to come, where each passes its tests after the one before it.
-fn tested_all<'a>(
-    alloc: Global,
-    mut cursor: BlockCursor<'a>,
-) -> Result<VecDeque<TestedEntry<'a>>, Fault>
+fn tested_all<'a>(alloc: Global, mut cursor: BlockCursor<'a>) -> Result<Vec<TestedEntry<'a>>, Fault>
     ensures { EqualOrMemory (λ v. tested_entries v.items) result (tested_after None cursor.entry) }
 {
-    let mut entries: VecDeque<TestedEntry<'a>> = VecDeque::new(alloc);
+    let mut entries: Vec<TestedEntry<'a>> = Vec::new(alloc);
     while cursor.valid() {
         let value = cursor.value();
         let tested = test_entry(last_of(&entries), cursor.key(), value)?;
         let key = KeyBuf::of(alloc, tested)?;
-        entries.push_back(TestedEntry { key, value })?;
+        entries.push(TestedEntry { key, value })?;
         cursor.advance()?;
     }
     Ok(entries)

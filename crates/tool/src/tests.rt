@@ -2,6 +2,7 @@ use super::*;
 use coding::{Fault, FaultName};
 use std::alloc::Global;
 use std::test::Fail;
+use std::thread::Threads;
 
 #[test]
 fn bytes_as_text(rt: HostRuntime) -> Result<(), Fail> {
@@ -32,8 +33,14 @@ fn statuses(rt: HostRuntime) {
 }
 
 /// What the merge of two files answers, as the program would print it, with the block as text.
-fn merged(alloc: Global, a: &[u8], b: &[u8], at: &[u8]) -> Result<String, Fail> {
-    match blocks(alloc, a, b, at) {
+fn merged(
+    rt: &(impl Threads + Sync + AllocGlobal),
+    a: &[u8],
+    b: &[u8],
+    at: &[u8],
+) -> Result<String, Fail> {
+    let alloc = rt.alloc();
+    match blocks(rt, alloc, a, b, at) {
         Ok((entries, block)) => {
             let text = text_of(alloc, &block)?;
             let length = block.len();
@@ -64,28 +71,31 @@ fn two_blocks_into_one(rt: HostRuntime) -> Result<(), Fail> {
         b"c".as_slice(),
     ] {
         let (a, b) = (hex::decode(alloc, A)?, hex::decode(alloc, B)?);
-        assert_eq!(rt; merged(alloc, &a, &b, at)?.as_str(), both);
-        assert_eq!(rt; merged(alloc, &b, &a, at)?.as_str(), both);
+        assert_eq!(rt; merged(&rt, &a, &b, at)?.as_str(), both);
+        assert_eq!(rt; merged(&rt, &b, &a, at)?.as_str(), both);
     }
     let empty = hex::decode(alloc, EMPTY)?;
     let none = "0 entries, 8 bytes: 0000000001000000";
-    assert_eq!(rt; merged(alloc, &empty, &empty, b"")?.as_str(), none);
+    assert_eq!(rt; merged(&rt, &empty, &empty, b"")?.as_str(), none);
     Ok(())
 }
 
 /// A file of this hexadecimal text before the block of no entries, and behind it.
-fn refusals(alloc: Global, text: &str) -> Result<(String, String), Fail> {
+fn refusals(
+    rt: &(impl Threads + Sync + AllocGlobal),
+    text: &str,
+) -> Result<(String, String), Fail> {
+    let alloc = rt.alloc();
     let file = hex::decode(alloc, text)?;
     let empty = hex::decode(alloc, EMPTY)?;
     Ok((
-        merged(alloc, &file, &empty, b"m")?,
-        merged(alloc, &empty, &file, b"m")?,
+        merged(rt, &file, &empty, b"m")?,
+        merged(rt, &empty, &file, b"m")?,
     ))
 }
 
 #[test]
 fn refused_files(rt: HostRuntime) -> Result<(), Fail> {
-    let alloc = rt.alloc();
     let cases = [
         ("", "refused: Block"),
         ("00000000", "refused: Block"),
@@ -108,7 +118,7 @@ fn refused_files(rt: HostRuntime) -> Result<(), Fail> {
         ),
     ];
     for (text, wanted) in cases {
-        let (first, second) = refusals(alloc, text)?;
+        let (first, second) = refusals(&rt, text)?;
         assert_eq!(rt; first.as_str(), wanted, "{text}");
         assert_eq!(rt; second.as_str(), wanted, "{text}");
     }
@@ -120,11 +130,11 @@ fn first_refusal(rt: HostRuntime) -> Result<(), Fail> {
     let alloc = rt.alloc();
     let a = hex::decode(alloc, A)?;
     let key = hex::decode(alloc, "000901610201000000000000780000000001000000")?;
-    assert_eq!(rt; merged(alloc, &a, &a, b"a")?.as_str(), "refused: Duplicate");
-    assert_eq!(rt; merged(alloc, &a, b"", b"a")?.as_str(), "refused: Block");
+    assert_eq!(rt; merged(&rt, &a, &a, b"a")?.as_str(), "refused: Duplicate");
+    assert_eq!(rt; merged(&rt, &a, b"", b"a")?.as_str(), "refused: Block");
     // The first file is tested whole before the second.
-    assert_eq!(rt; merged(alloc, &key, b"", b"a")?.as_str(), "refused: Key");
-    assert_eq!(rt; merged(alloc, b"", &key, b"a")?.as_str(), "refused: Block");
+    assert_eq!(rt; merged(&rt, &key, b"", b"a")?.as_str(), "refused: Key");
+    assert_eq!(rt; merged(&rt, b"", &key, b"a")?.as_str(), "refused: Block");
     Ok(())
 }
 
@@ -143,12 +153,12 @@ fn longest_user_key(rt: HostRuntime) -> Result<(), Fail> {
     let alloc = rt.alloc();
     let empty = hex::decode(alloc, EMPTY)?;
     let longest = block_of_key(alloc, 65_535)?;
-    let (entries, block) = blocks(alloc, &longest, &empty, b"")?;
+    let (entries, block) = blocks(&rt, alloc, &longest, &empty, b"")?;
     assert_eq!(rt; entries, 1);
     assert_eq!(rt; block.as_slice(), longest.as_slice());
     let longer = block_of_key(alloc, 65_536)?;
     assert_eq!(rt;
-        merged(alloc, &longer, &empty, b"")?.as_str(),
+        merged(&rt, &longer, &empty, b"")?.as_str(),
         "refused: TooLarge"
     );
     Ok(())

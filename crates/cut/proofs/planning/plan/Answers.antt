@@ -4,7 +4,7 @@ use Rattle.coding.proofs.Refusals.{FailsOrMemory-from}
 use Rattle.block.specs.Piece.{Entry}
 use Rattle.table.specs.Table.{index_keys, table}
 use Rattle.keep.specs.Runs.{Run, joined_run}
-use Rattle.cut.specs.declared.planned_block.PlannedBlock.{PlannedBlock}
+use Rattle.pieces.specs.declared.planned_block.PlannedBlock.{PlannedBlock}
 use Rattle.cut.specs.declared.planned_output.PlannedOutput.{PlannedOutput}
 use Rattle.cut.specs.Outputs.{outputs_of}
 use Rattle.cut.specs.Planning.{IsPlan, numbered_from, planned_of}

@@ -5,4 +5,4 @@ use Rattle.tool.specs.declared.tested.TestedEntry.{TestedEntry}
 use Rattle.tool.proofs.cut.first_from.Given as goal
 
 abbrev pub invariant-loop-place : goal.invariant-loop-place
-invariant-loop-place l = (k : ℕ) (d : TestedEntry) → k < l.place → IsBefore l.at (tested_entry (get_or l.entries.items k d))
+invariant-loop-place l = (k : ℕ) (d : TestedEntry) → k < l.place → IsBefore l.at (tested_entry (get_or l.entries k d))

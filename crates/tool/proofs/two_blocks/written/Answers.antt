@@ -1,37 +1,46 @@
-use Rattle.std.proofs.Common.{◌≡◌, ◌++◌, ◌∷◌, ◌≤◌, ◌+◌, [], List, ℕ, length, sym, ap, ◌∙◌, append_assoc, arith}
+use Rattle.std.proofs.Common.{◌≡◌, ◌++◌, ◌≤◌, ◌+◌, List, ℕ, length, drop, sym, ap, ◌∙◌, arith}
 use Rattle.block.specs.Piece.{Entry}
 use Rattle.block.specs.Writing.{block}
 use Rattle.block.specs.Building.{Building, with_entry}
 use Rattle.block.proofs.Sizes.{length-block-nil}
 use Rattle.tool.specs.Blocks.{block_within}
 use Rattle.tool.specs.Merging.{tested_entries}
-use Rattle.tool.specs.declared.tested.TestedEntry.{TestedEntry}
 use Rattle.tool.proofs.Unions.{room, too_large}
+use Rattle.tool.proofs.TestedLists.{one_more}
 use Rattle.tool.proofs.two_blocks.written.Goals as goal
 
 pub loop-entry-init : goal.loop-entry-init
 loop-entry-init c = record {
   interval = ap (λ (b : Building). b.interval) c.new-builder.ensures;
-  entries = ap (λ (b : Building). b.entries ++ tested_entries c.args.entries.items) c.new-builder.ensures;
+  entries = ap (λ (b : Building). b.entries ++ tested_entries c.args.entries.now) c.new-builder.ensures;
   small = omega (arith, ap (λ (b : Building). length (block 16 b.entries)) c.new-builder.ensures, length-block-nil 16);
 }
 
 pub add-requires : goal.add-requires
 add-requires c =
     let key : length c.bytes.result.now ≤ 65535 + 8 = omega (arith, ap length c.bytes.ensures, c.as_key-key.result.lawful.fits) in
-    room c.loop-entry.builder c.bytes.result.now c.in-Some.entry.value.now c.loop-entry.invariant.interval c.loop-entry.invariant.small key c.in-Some.entry.limited
+    room c.loop-entry.builder c.bytes.result.now c.entry-item.result.value.now c.loop-entry.invariant.interval c.loop-entry.invariant.small key c.entry-item.result.limited
 
 pub returns-then-estimate-gt-MAX_BLOCK : goal.returns-then-estimate-gt-MAX_BLOCK
 returns-then-estimate-gt-MAX_BLOCK c =
-    let q : List Entry = c.loop-entry.builder.entries in
-    let rest : List Entry = tested_entries c.pop_front.new.self.items in
-    let longer : List Entry = with_entry c.loop-entry.builder.entries c.bytes.result.now c.in-Some.entry.value.now in
+    let i = c.loop-entry.entry-index in
+    let rest : List Entry = tested_entries (drop (i + 1) c.args.entries.now) in
+    let longer : List Entry = with_entry c.loop-entry.builder.entries c.bytes.result.now c.entry-item.result.value.now in
     let size : c.estimate.result ≡ length (block 16 longer) =
     c.estimate.ensures ∙ ap (λ (b : Building). length (block b.interval b.entries)) c.in_ok-add.ensures.ok ∙ ap (λ (n : ℕ). length (block n longer)) c.loop-entry.invariant.interval in
-    let key : c.bytes.result.now ≡ c.in-Some.entry.key = c.bytes.ensures ∙ c.as_key-key.ensures in
-    let same : longer ++ rest ≡ tested_entries c.args.entries.items =
-    append_assoc q (record { key = c.bytes.result.now; value = c.in-Some.entry.value.now } ∷ []) rest
-    ∙ ap (λ (k : List ℕ). q ++ record { key = k; value = c.in-Some.entry.value.now } ∷ rest) key
-    ∙ ap (λ (ts : List TestedEntry). q ++ tested_entries ts) (sym c.in-Some.ensures.items)
-    ∙ c.loop-entry.invariant.entries in
+    let same : longer ++ rest ≡ tested_entries c.args.entries.now =
+    one_more c.loop-entry.builder.entries c.args.entries.now i c.entry-item.result c.bytes.result.now (tested_entries c.args.entries.now) c.loop-entry-test.true c.entry-item.is (c.bytes.ensures ∙ c.as_key-key.ensures) c.loop-entry.invariant.entries in
     rw c.of.ensures (ap block_within (sym same) ∙ too_large longer rest (omega (arith, size, c.if-estimate-gt-MAX_BLOCK.true)))
+
+pub loop-entry-preserved : goal.loop-entry-preserved
+loop-entry-preserved c =
+    let i = c.loop-entry.entry-index in
+    let longer : List Entry = with_entry c.loop-entry.builder.entries c.bytes.result.now c.entry-item.result.value.now in
+    let size : c.estimate.result ≡ length (block 16 longer) =
+    c.estimate.ensures ∙ ap (λ (b : Building). length (block b.interval b.entries)) c.in_ok-add.ensures.ok ∙ ap (λ (n : ℕ). length (block n longer)) c.loop-entry.invariant.interval in
+    record {
+      interval = ap (λ (b : Building). b.interval) c.in_ok-add.ensures.ok ∙ c.loop-entry.invariant.interval;
+      entries = ap (λ (b : Building). b.entries ++ tested_entries (drop (i + 1) c.args.entries.now)) c.in_ok-add.ensures.ok
+          ∙ one_more c.loop-entry.builder.entries c.args.entries.now i c.entry-item.result c.bytes.result.now (tested_entries c.args.entries.now) c.loop-entry-test.true c.entry-item.is (c.bytes.ensures ∙ c.as_key-key.ensures) c.loop-entry.invariant.entries;
+      small = omega (arith, size, ap (λ (b : Building). length (block 16 b.entries)) c.in_ok-add.ensures.ok, c.if-estimate-gt-MAX_BLOCK.false);
+    }

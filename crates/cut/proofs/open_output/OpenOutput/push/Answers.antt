@@ -1,7 +1,7 @@
 use Rattle.std.proofs.Common.{◌≡◌, ◌<◌, ◌+◌, ◌-◌, ◌^◌, List, ℕ, [], ◌∷◌, ◌++◌, true, length, min, sym, ap, subst, ◌∙◌, rules}
 use Rattle.std.specs.Prelude.{Some}
 use Rattle.std.specs.Option.{option_map}
-use Rattle.cut.specs.declared.planned_block.PlannedBlock.{PlannedBlock}
+use Rattle.pieces.specs.declared.planned_block.PlannedBlock.{PlannedBlock}
 use Rattle.cut.specs.Opened.{Opened, IsOpen}
 use Rattle.cut.proofs.Opened.{push_grown, push_flushed}
 use Rattle.cut.proofs.open_output.OpenOutput.push.Goals as goal

@@ -1,0 +1,10 @@
+//! The law of the tests of a request.
+
+ghost use Rattle.request.specs.Passed.{PassedLaw};
+
+use ikey::Comparator;
+
+/// The law of what a request has that passes its tests. A call does nothing.
+pub fn passed_law<C: Comparator>()
+    ensures { PassedLaw C.cmp }
+{}

@@ -9,8 +9,8 @@ pub mod Loading
 pub mod Crash
 pub mod ReadsAs
 pub mod Runs
+pub mod Shelf
 -- serves proofs alone
 pub mod Attempts
 pub mod Free
-pub mod Shelf
 pub mod Source

@@ -11,6 +11,7 @@ mod jobs;
 mod manifests;
 mod merging;
 mod random;
+mod ranges;
 mod tables;
 
 use anyhow::Result;
@@ -46,6 +47,7 @@ fn main(rt: HostRuntime) -> Result<()> {
     blocks::measure(&rt, alloc, &bytes, &mut figures)?;
     tables::measure(&rt, alloc, &bytes, &mut figures)?;
     merging::measure(&rt, alloc, &bytes, &mut figures)?;
+    ranges::measure(&rt, alloc, &bytes, &mut figures)?;
     manifests::measure(&rt, alloc, files, &mut figures)?;
     jobs::measure(&rt, alloc, jobs, &mut figures)?;
     if full {

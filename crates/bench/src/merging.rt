@@ -1,5 +1,7 @@
 //! Figures of cursors that are walked as one: by a tournament, and by a pass over all for each entry.
 
+ghost use Rattle.std.specs.Prelude.{◌<◌};
+
 use crate::figures::{Call, Figures, Work};
 use crate::tables::{ENTRY_LEN, VALUE_LEN, add, begun, last_of};
 use anyhow::Result;
@@ -44,7 +46,7 @@ pub fn measure(
 
 /// At most so many tables, whose entries have rising keys and these values, each dealt out by the first byte of its value. A table
 /// that is dealt no entry is left out.
-fn dealt(alloc: Global, values: &[[u8; VALUE_LEN]], number: usize) -> Result<Vec<Vec<u8>>> {
+pub fn dealt(alloc: Global, values: &[[u8; VALUE_LEN]], number: usize) -> Result<Vec<Vec<u8>>> {
     let mut tables = Vec::new(alloc);
     for place in 0..number {
         if let Some(written) = dealt_to(alloc, values, number, place)? {
@@ -60,7 +62,9 @@ fn dealt_to(
     values: &[[u8; VALUE_LEN]],
     number: usize,
     place: usize,
-) -> Result<Option<Vec<u8>>> {
+) -> Result<Option<Vec<u8>>>
+    requires { place < number }
+{
     let mut builder = begun(alloc, values.len().saturating_mul(ENTRY_LEN) as u64)?;
     let mut is_empty = true;
     for (i, value) in values.iter().enumerate() {
@@ -69,11 +73,15 @@ fn dealt_to(
             is_empty = false;
         }
     }
-    Ok(if is_empty { None } else { Some(builder.finish()?) })
+    Ok(if is_empty {
+        None
+    } else {
+        Some(builder.finish()?)
+    })
 }
 
 /// These tables, checked.
-fn sound<'a>(alloc: Global, written: &'a [Vec<u8>]) -> Result<Vec<SoundTable<'a, Bytewise>>> {
+pub fn sound<'a>(alloc: Global, written: &'a [Vec<u8>]) -> Result<Vec<SoundTable<'a, Bytewise>>> {
     let mut tables = Vec::new(alloc);
     for bytes in written {
         tables.push(check::<Bytewise>(alloc, bytes)?)?;
@@ -82,7 +90,7 @@ fn sound<'a>(alloc: Global, written: &'a [Vec<u8>]) -> Result<Vec<SoundTable<'a,
 }
 
 /// A cursor over each of these tables.
-fn cursors<'a>(
+pub fn cursors<'a>(
     alloc: Global,
     tables: &[SoundTable<'a, Bytewise>],
 ) -> Result<Vec<TableCursor<'a, Bytewise>>> {

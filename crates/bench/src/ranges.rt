@@ -1,0 +1,85 @@
+//! The figure of merging in a range.
+
+use crate::figures::{Call, Figures, Work};
+use crate::merging::{cursors, dealt, sound};
+use crate::tables::{ENTRY_LEN, VALUE_LEN, last_of};
+use anyhow::{Result, ensure};
+use edit::CompactPointer;
+use ikey::{Bytewise, KeyBuf, Kind, MAX_SEQUENCE};
+use keep::{RangeRun, largest_rise, merge_range};
+use pick::Inputs;
+use split::Split;
+use std::alloc::Global;
+use std::rt::Clock;
+use table::SoundTable;
+
+/// How many cursors there are.
+const CURSORS: usize = 9;
+
+/// Takes the figure of entries that are dealt out to nine tables, together about as long as the bytes, in the one range of a
+/// split without boundaries. All of them stay.
+pub fn measure(
+    clock: &impl Clock,
+    alloc: Global,
+    bytes: &[u8],
+    figures: &mut Figures,
+) -> Result<()> {
+    let (values, _) = bytes.split_at(bytes.len() / ENTRY_LEN * VALUE_LEN);
+    let (values, _) = values.as_chunks::<VALUE_LEN>();
+    let written = dealt(alloc, values, CURSORS)?;
+    let tables = sound(alloc, &written)?;
+    let split = Split::<Bytewise>::from_keys(Vec::new(alloc))?;
+    let inputs = no_files(alloc)?;
+    let work = Work {
+        call: Call::MergeRange,
+        bytes: values.len().saturating_mul(ENTRY_LEN),
+        entries: values.len(),
+    };
+    figures.take_made(clock, work, || merged(alloc, &tables, &split, &inputs))
+}
+
+/// Inputs that have no files beside or below them.
+fn no_files(alloc: Global) -> Result<Inputs> {
+    Ok(Inputs {
+        level: 0,
+        files: Vec::new(alloc),
+        grandparents: Vec::new(alloc),
+        deeper: Vec::new(alloc),
+        pointer: CompactPointer {
+            level: 0,
+            key: KeyBuf::new(alloc, &[], MAX_SEQUENCE, Kind::Put)?,
+        },
+    })
+}
+
+/// The run of the first range of a split, over cursors of these tables, and what its last entry ends with.
+fn merged<'a>(
+    alloc: Global,
+    tables: &[SoundTable<'a, Bytewise>],
+    split: &Split<Bytewise>,
+    inputs: &Inputs,
+) -> Result<(u32, RangeRun<'a>)> {
+    ensure!(
+        largest_rise::<Bytewise>(&inputs.grandparents),
+        "grandparents that don't rise"
+    );
+    let mut cursors = cursors(alloc, tables)?;
+    let run = merge_range::<Bytewise, _>(
+        alloc,
+        &mut cursors,
+        split.range(0),
+        &[],
+        MAX_SEQUENCE,
+        inputs,
+    )?;
+    Ok((folded(&run), run))
+}
+
+/// The sum of the last bytes of a run's last key and value.
+fn folded(run: &RangeRun<'_>) -> u32 {
+    let len = run.len();
+    if len == 0 {
+        return 0;
+    }
+    last_of(run.key(len - 1).bytes()).wrapping_add(last_of(run.value(len - 1)))
+}

@@ -1,0 +1,5 @@
+pub mod Working
+pub mod InputAnswers
+pub mod RangeAnswers
+pub mod TableBytes
+pub mod Cursors

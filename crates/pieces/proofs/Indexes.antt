@@ -16,7 +16,7 @@ use Rattle.pieces.specs.Planned.{parts_of, IsPlanned, place_key}
 use Rattle.pieces.proofs.Lists.{suc_is}
 use Rattle.pieces.proofs.Keys.{planned_at, part_at}
 
-length_stored : (r : ℕ) (p : List Entry) (ps : List (List Entry)) → length (stored_blocks r (p ∷ ps)) ≡ length (block r p) + 5 + length (stored_blocks r ps)
+pub length_stored : (r : ℕ) (p : List Entry) (ps : List (List Entry)) → length (stored_blocks r (p ∷ ps)) ≡ length (block r p) + 5 + length (stored_blocks r ps)
 length_stored r p ps = omega (arith, length-append (stored (block r p)) (stored_blocks r ps), length-stored (block r p))
 
 -- one more entry of the index

@@ -48,3 +48,11 @@ pub front_fits : (r : ℕ) (q : List Entry) (n : ℕ) → length (block r q) ≤
 front_fits r q n h =
     let parts : take n q ++ drop n q ≡ q = take-append-drop n q in
     omega (arith, h, length-block-append r (take n q) (drop n q), ap (λ (x : List Entry). length (block r x)) parts)
+
+-- the first of some entries, by its key and value
+pub first_is : (es : List Entry) (key value : List ℕ) → option_map (λ (e : Entry). e.key) (slice_get es 0) ≡ Some key → option_map (λ (e : Entry). e.value) (slice_get es 0) ≡ Some value
+    → with_entry [] key value ≡ take 1 es
+first_is [] key value k v = absurd (none-some key k)
+first_is (e ∷ es) key value k v =
+    ap (λ (x : List ℕ). record { key = x; value = value } ∷ []) (sym (same_Some e.key key k))
+    ∙ ap (λ (x : List ℕ). record { key = e.key; value = x } ∷ []) (sym (same_Some e.value value v))

@@ -13,3 +13,6 @@ mod storing;
 pub use assembling::assemble_table;
 pub use encoding::encode_blocks;
 pub use planned_block::PlannedBlock;
+
+#[cfg(test)]
+mod tests;

@@ -14,3 +14,5 @@ pub mod Cuts
 pub mod TableLengths
 pub mod Planned
 pub mod BlockSums
+pub mod PiecePlaces
+pub mod PlanPieces

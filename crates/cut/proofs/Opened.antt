@@ -45,7 +45,7 @@ all_push : {X : Type 0} (P : X → Type 0) (xs : List X) (x : X) → AllByRecurs
 all_push P [] x h p = (p, tt)
 all_push P (y ∷ ys) x h p = (h.0, all_push P ys x h.1 p)
 
-parts_push : (blocks : List PlannedBlock) (b : PlannedBlock) → parts_of (blocks ++ b ∷ []) ≡ parts_of blocks ++ b.entries.entries ∷ []
+pub parts_push : (blocks : List PlannedBlock) (b : PlannedBlock) → parts_of (blocks ++ b ∷ []) ≡ parts_of blocks ++ b.entries.entries ∷ []
 parts_push [] b = refl
 parts_push (x ∷ xs) b = ap (λ (ps : List (List Entry)). x.entries.entries ∷ ps) (parts_push xs b)
 

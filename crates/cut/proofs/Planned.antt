@@ -17,7 +17,9 @@ use Rattle.table.specs.DataBlocks.{data_blocks, AreDataBlocks}
 use Rattle.table.specs.Table.{index_keys, table}
 use Rattle.table.proofs.Cuts.{are_data_blocks}
 use Rattle.pieces.specs.declared.planned_block.PlannedBlock.{PlannedBlock}
+use Rattle.cut.specs.declared.piece.Piece.{Piece}
 use Rattle.cut.specs.declared.planned_output.PlannedOutput.{PlannedOutput}
+use Rattle.cut.specs.Divided.{places_all, piece_limit}
 use Rattle.cut.specs.Opened.{parts_of, entries_of, ArePlanned}
 use Rattle.cut.specs.Plan.{Planned, ends_from, planned_from, parts, plan_of}
 use Rattle.cut.specs.Planning.{planned_of, HaveEntries, numbered_from, block_count, IsPlannedOutput, IsPlan}
@@ -158,13 +160,22 @@ module _ (cmp : List ℕ → List ℕ → Ordering) (separator_of : List ℕ →
       let all : map planned_of (numbered_from size number ended) ≡ planned_from T o number outputs = planned_is number ended h.planned both.0 ∙ ap (planned_from T o number) h.entries in
       rw (lt-ltb (number + length outputs) (2 ^ 64) (omega arith), sym (tests number ended outputs h) ∙ small) (ap Ok (sym all))
 
-  pub plan_kept : (number : ℕ) (ended : List (Vec PlannedBlock)) (outputs : List (List Entry)) → AreInLimits o → IsMade o ended outputs → AllByRecursion (λ q. q ≢ []) outputs
+  pub plan_each : (number : ℕ) (ended : List (Vec PlannedBlock)) (outputs : List (List Entry)) → IsMade o ended outputs → AllByRecursion (λ q. q ≢ []) outputs
       → (list_all (λ (p : PlannedOutput). nat_le p.len (2 ^ 30)) (numbered_from size number ended) && nat_le (block_count (numbered_from size number ended)) (2 ^ 40)) ≡ true
-      → IsPlan T o (numbered_from size number ended)
-  plan_kept number ended outputs limits h some small =
+      → AllByRecursion (IsPlannedOutput T o) (numbered_from size number ended)
+  plan_each number ended outputs h some small =
+      let both = and_parts (list_all (λ (p : PlannedOutput). nat_le p.len (2 ^ 30)) (numbered_from size number ended)) (nat_le (block_count (numbered_from size number ended)) (2 ^ 40)) small in
+      each_is number ended h.planned (have_entries o ended h.planned (subst (AllByRecursion (λ q. q ≢ [])) (sym h.entries) some)) both.0
+
+  pub plan_kept : (number : ℕ) (ended : List (Vec PlannedBlock)) (outputs : List (List Entry)) (places : List Piece) → AreInLimits o → IsMade o ended outputs → AllByRecursion (λ q. q ≢ []) outputs
+      → (list_all (λ (p : PlannedOutput). nat_le p.len (2 ^ 30)) (numbered_from size number ended) && nat_le (block_count (numbered_from size number ended)) (2 ^ 40)) ≡ true
+      → places ≡ places_all (piece_limit (block_count (numbered_from size number ended))) 0 (numbered_from size number ended)
+      → IsPlan T o (numbered_from size number ended) places
+  plan_kept number ended outputs places limits h some small are =
       let both = and_parts (list_all (λ (p : PlannedOutput). nat_le p.len (2 ^ 30)) (numbered_from size number ended)) (nat_le (block_count (numbered_from size number ended)) (2 ^ 40)) small in
       record {
         limits = limits;
         each = each_is number ended h.planned (have_entries o ended h.planned (subst (AllByRecursion (λ q. q ≢ [])) (sym h.entries) some)) both.0;
         few = leb-true (block_count (numbered_from size number ended)) (2 ^ 40) both.1;
+        places = are;
       }

@@ -163,7 +163,7 @@ module _ (cmp : List ℕ → List ℕ → Ordering) (separator_of : List ℕ →
 
 -- ---- where no length is so great that another one stands for it
 
-exact_one : (o : Options) (b : PlannedBlock) → HasLen o b → b.len ≤ 2 ^ 30 → b.len ≡ length (block o.restart_interval b.entries.entries)
+pub exact_one : (o : Options) (b : PlannedBlock) → HasLen o b → b.len ≤ 2 ^ 30 → b.len ≡ length (block o.restart_interval b.entries.entries)
 exact_one o b h le = omega arith
 
 module _ (o : Options) where

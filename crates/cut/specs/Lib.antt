@@ -12,3 +12,4 @@ pub mod Cutting
 pub mod TableLength
 pub mod Planning
 pub mod OutputMeta
+pub mod Divided

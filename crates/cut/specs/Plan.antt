@@ -79,6 +79,10 @@ pieces o outputs = flat_map (pieces_in o (length (parts o outputs))) outputs
 abbrev pub jobs : Options → List (List Entry) → ℕ
 jobs o outputs = length (pieces o outputs)
 
+-- the bytes of each piece: its data blocks, each with its trailer
+abbrev pub encoded : Options → List (List Entry) → List (List ℕ)
+encoded o outputs = map (stored_blocks o.restart_interval) (pieces o outputs)
+
 -- The bytes of a piece are those of its blocks, each with its trailer. Those of an output's pieces, one behind the other,
 -- and what closes its table are its table.
 abbrev pub PiecesLaw : Type 0

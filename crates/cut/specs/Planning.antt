@@ -1,12 +1,14 @@
 -- A plan that is made.
-use Rattle.std.specs.Prelude.{◌≡◌, ◌≢◌, ℕ, ◌+◌, ◌^◌, ◌≤◌, List, [], ◌∷◌, length}
+use Rattle.std.specs.Prelude.{◌≡◌, ◌≢◌, ℕ, ◌+◌, ◌^◌, ◌≤◌, List, [], ◌∷◌, length, map}
 use Rattle.std.specs.Global.{Vec}
 use Rattle.std.specs.List.{AllByRecursion, sum_by}
 use Rattle.block.specs.Piece.{Entry}
 use Rattle.table.specs.declared.options.Options.{Options}
 use Rattle.table.specs.Options.{AreInLimits}
 use Rattle.pieces.specs.declared.planned_block.PlannedBlock.{PlannedBlock}
+use Rattle.cut.specs.declared.piece.Piece.{Piece}
 use Rattle.cut.specs.declared.planned_output.PlannedOutput.{PlannedOutput}
+use Rattle.cut.specs.Divided.{places_all, piece_limit}
 use Rattle.cut.specs.Opened.{parts_of, entries_of, ArePlanned}
 use Rattle.cut.specs.Plan.{Planned, ends_from}
 
@@ -46,8 +48,13 @@ pub record IsPlannedOutput (table_of : List Entry → List ℕ) (o : Options) (p
   pub len_is : p.len ≡ length (table_of (entries_of p.blocks.items))
   pub len_le : p.len ≤ 2 ^ 30
 
+-- the entries of each output
+abbrev pub lists_in : List Planned → List (List Entry)
+lists_in outputs = map (λ (p : Planned). p.entries) outputs
+
 -- what is kept of a plan
-pub record IsPlan (table_of : List Entry → List ℕ) (o : Options) (outputs : List PlannedOutput) : Type 0 where
+pub record IsPlan (table_of : List Entry → List ℕ) (o : Options) (outputs : List PlannedOutput) (pieces : List Piece) : Type 0 where
   pub limits : AreInLimits o
   pub each : AllByRecursion (IsPlannedOutput table_of o) outputs
   pub few : block_count outputs ≤ 2 ^ 40
+  pub places : pieces ≡ places_all (piece_limit (block_count outputs)) 0 outputs

@@ -12,11 +12,11 @@ ghost use Rattle.cut.specs.Opened.{ArePlanned, entries_of};
 ghost use Rattle.cut.specs.Outputs.{segments, outputs_in, outputs_of};
 
 use crate::open_output::OpenOutput;
-use pieces::PlannedBlock;
 use crate::stops::stops;
 use coding::Fault;
 use edit::FileMeta;
 use keep::RangeRun;
+use pieces::PlannedBlock;
 use runs::RunsCursor;
 use std::alloc::Global;
 use std::marker::Model;

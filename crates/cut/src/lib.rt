@@ -5,11 +5,13 @@
 #![tactic(auto)]
 
 mod cutting;
+mod dividing;
 mod laws;
 mod lengths;
 mod open_block;
 mod open_output;
 mod output_meta;
+mod piece;
 mod planned_output;
 mod planning;
 mod stops;

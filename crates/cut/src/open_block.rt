@@ -8,8 +8,8 @@ ghost use Rattle.cut.specs.Sizes.{saturated};
 ghost use Rattle.cut.specs.Metered.{left_out, added_size};
 
 use crate::lengths::{common_len, piece_len};
-use pieces::PlannedBlock;
 use ikey::InternalKey;
+use pieces::PlannedBlock;
 use runs::{RunsCursor, RunsSlice};
 use std::marker::Model;
 use std::mem;

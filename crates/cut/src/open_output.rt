@@ -9,10 +9,10 @@ ghost use Rattle.table.specs.DataBlocks.{data_blocks};
 ghost use Rattle.cut.specs.Opened.{parts_of, HasLen, ends_by};
 
 use crate::open_block::OpenBlock;
-use pieces::PlannedBlock;
 use coding::Fault;
 use frame::TRAILER_LEN;
 use ikey::InternalKey;
+use pieces::PlannedBlock;
 use runs::RunsCursor;
 use std::alloc::Global;
 use std::marker::Model;

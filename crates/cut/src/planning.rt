@@ -7,14 +7,16 @@ ghost use Rattle.coding.specs.declared.fault.FaultName.TheVariants.{Memory};
 ghost use Rattle.table.specs.Options.{AreInLimits};
 ghost use Rattle.table.specs.Table.{index_keys, table};
 ghost use Rattle.keep.specs.Runs.{joined_run};
+ghost use Rattle.cut.specs.Divided.{places_all, piece_limit};
 ghost use Rattle.cut.specs.Outputs.{outputs_of};
 ghost use Rattle.cut.specs.Plan.{plan_of};
 ghost use Rattle.cut.specs.Planning.{HaveEntries, block_count, numbered_from};
 ghost use Rattle.cut.specs.Sizes.{saturated};
-ghost use Rattle.cut.specs.TableLength.{table_size};
+ghost use Rattle.cut.specs.TableLength.{lens_of, table_size};
 
 use crate::cutting::outputs;
-use pieces::PlannedBlock;
+use crate::dividing::pieces_of;
+use crate::piece::Piece;
 use crate::planned_output::PlannedOutput;
 use crate::table_len::table_len;
 use crate::whole_plan::Plan;
@@ -22,12 +24,19 @@ use coding::{Fault, FaultName};
 use edit::FileMeta;
 use ikey::Comparator;
 use keep::RangeRun;
+use pieces::PlannedBlock;
 use std::alloc::Global;
 use std::marker::PhantomData;
 use table::{MAX_TABLE_LEN, Options};
 
 /// The most data blocks that all outputs of a plan may have together, 2^40.
 pub const MAX_BLOCKS: u64 = 1 << 40;
+
+/// Where there are fewer data blocks than this, each is a piece.
+const FEW_BLOCKS: u64 = 64;
+
+/// A piece ends with the block at which its bytes reach this many, where there are more blocks.
+const PIECE_LEN: u64 = 1 << 22;
 
 /// The outputs of these data blocks, numbered from here on. Where a table has more than 2^30 bytes, its length is 2^30 + 1.
 /// Refused for want of memory alone.
@@ -82,6 +91,21 @@ fn are_small(outputs: &[PlannedOutput<'_, '_>]) -> bool
     are_short(outputs) && count_blocks(outputs) <= MAX_BLOCKS
 }
 
+/// The pieces of outputs, in order. Refused for want of memory alone.
+fn divided(alloc: Global, outputs: &[PlannedOutput<'_, '_>]) -> Result<Vec<Piece>, Fault>
+    requires { AllByRecursion (λ p. lens_of p.blocks.items ≤ 2 ^ 30) outputs.now }
+    ensures ok { IfOk result (λ pieces. pieces.items
+        ≡ places_all (piece_limit (block_count outputs.now)) 0 outputs.now) }
+    ensures memory { IfErr result (λ e. e ≡ fault Memory) }
+{
+    let limit = if count_blocks(outputs) < FEW_BLOCKS {
+        0
+    } else {
+        PIECE_LEN
+    };
+    pieces_of(alloc, outputs, limit)
+}
+
 /// The plan of the outputs of a compaction, from the runs of all ranges in order. It does not depend on how the entries were
 /// dealt out to ranges. Grandparents are the files that the marks of the runs count.
 ///
@@ -108,9 +132,11 @@ pub fn plan<'r, 'a, C: Comparator>(
     if !are_small(&outputs) {
         return Err(Fault::of(FaultName::TooLarge));
     }
+    let pieces = divided(alloc, &outputs)?;
     Ok(Plan {
         options,
         outputs,
+        pieces,
         order: PhantomData,
     })
 }

@@ -9,9 +9,9 @@ ghost use Rattle.cut.specs.Planning.{HaveEntries, planned_of};
 ghost use Rattle.cut.specs.Sizes.{saturated};
 
 use crate::output_meta::OutputMeta;
-use pieces::PlannedBlock;
 use crate::planned_output::PlannedOutput;
 use ikey::InternalKey;
+use pieces::PlannedBlock;
 
 /// How many entries data blocks have together, or 2^64 - 1 where there are more.
 fn count_entries(blocks: &[PlannedBlock<'_, '_>]) -> u64

@@ -1,14 +1,25 @@
 //! A plan that is made.
 
-ghost use Rattle.std.specs.Prelude.{◌≡◌, ◌<◌, ◌↔◌, [], length, slice_get, IfSome, IsTrue};
+ghost use Rattle.std.specs.Prelude.{◌≡◌, ◌<◌, ◌≤◌, ◌↔◌, [], length, slice_get, slice_range, IfSome, IfOk, IfErr, IsTrue, Some};
+ghost use Rattle.coding.specs.Answers.{fault};
+ghost use Rattle.coding.specs.declared.fault.FaultName.TheVariants.{Memory};
 ghost use Rattle.cut.specs.OutputMeta.{IsMetaOf};
+ghost use Rattle.cut.specs.Plan.{jobs, encoded};
+ghost use Rattle.cut.specs.Planning.{lists_in};
 
 use crate::output_meta::OutputMeta;
+use crate::piece::Piece;
 use crate::planned_output::PlannedOutput;
 use crate::summing::meta_of;
+use coding::Fault;
 use ikey::Comparator;
+use pieces::{PlannedBlock, encode_blocks};
+use std::alloc::Global;
 use std::marker::{Model, PhantomData};
 use table::Options;
+
+/// How many bytes a piece behind the first of an output has room for from its start.
+const PIECE_ROOM: u64 = 1 << 22;
 
 /// The outputs of a compaction before a byte of them is written, seen as its options and these outputs: their numbers, their
 /// entries, the ends of their data blocks and the exact lengths of their tables.
@@ -18,6 +29,8 @@ use table::Options;
 pub struct Plan<'r, 'a, C: Comparator> {
     pub(crate) options: Options,
     pub(crate) outputs: Vec<PlannedOutput<'r, 'a>>,
+    /// What is encoded by itself.
+    pub(crate) pieces: Vec<Piece>,
     pub(crate) order: PhantomData<C>,
 }
 
@@ -30,7 +43,20 @@ impl<'r, 'a, C: Comparator> Model for Plan<'r, 'a, C> {
 
     ghost view = { λ p. record { options = p.options; outputs = map planned_of p.outputs.items } };
 
-    ghost invariant = { λ p. IsPlan (table C.cmp C.separator_of C.successor_of p.options) p.options p.outputs.items };
+    ghost invariant = { λ p. IsPlan (table C.cmp C.separator_of C.successor_of p.options) p.options p.outputs.items p.pieces.items };
+}
+
+/// The blocks from one place to before another.
+fn range_of<'p, 'r, 'a>(
+    blocks: &'p [PlannedBlock<'r, 'a>],
+    from: usize,
+    to: usize,
+) -> &'p [PlannedBlock<'r, 'a>]
+    requires rises { from ≤ to }
+    requires within { to ≤ length blocks.now }
+    ensures { result.now ≡ slice_range blocks.now from to }
+{
+    &blocks[from..to]
 }
 
 impl<'r, 'a, C: Comparator> Plan<'r, 'a, C> {
@@ -46,6 +72,34 @@ impl<'r, 'a, C: Comparator> Plan<'r, 'a, C> {
         ensures { IsTrue result ↔ (self.now.outputs ≡ []) }
     {
         self.outputs.is_empty()
+    }
+
+    /// How many pieces are to be encoded. Takes no memory.
+    ///
+    /// A piece is consecutive data blocks of one output, each with its trailer. Where all outputs together have fewer than 64
+    /// data blocks each is a piece; else a piece ends with the block at which its bytes reach 2^22.
+    pub fn jobs(&self) -> u64
+        ensures { result ≡ jobs self.now.options (lists_in self.now.outputs) }
+    {
+        self.pieces.len() as u64
+    }
+
+    /// The bytes of a piece. The first of an output has room for the whole table. Refused for want of memory alone.
+    pub fn encode(&self, alloc: Global, job: u64) -> Result<Vec<u8>, Fault>
+        requires { job < jobs self.now.options (lists_in self.now.outputs) }
+        ensures ok { IfOk result (λ bytes.
+            slice_get (encoded self.now.options (lists_in self.now.outputs)) job ≡ Some bytes.items) }
+        ensures memory { IfErr result (λ e. e ≡ fault Memory) }
+    {
+        let piece = self.pieces[job as usize];
+        let output = &self.outputs[piece.output];
+        let blocks = range_of(&output.blocks, piece.from, piece.to);
+        let room = if piece.from == 0 {
+            output.len
+        } else {
+            PIECE_ROOM
+        };
+        encode_blocks(alloc, blocks, self.options.restart_interval, room as usize)
     }
 
     /// What is known of the output at a place. Takes no memory.

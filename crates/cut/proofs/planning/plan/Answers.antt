@@ -1,4 +1,4 @@
-use Rattle.std.proofs.Common.{◌≡◌, ◌≢◌, ◌+◌, ◌^◌, ◌<◌, ℕ, List, [], true, false, length, map, Ok, Err, sym, ap, subst, ◌∙◌, arith}
+use Rattle.std.proofs.Common.{◌≡◌, ◌≢◌, ◌+◌, ◌^◌, ◌<◌, ◌≤◌, ℕ, List, [], true, false, length, map, Ok, Err, sym, ap, subst, ◌∙◌, arith}
 use Rattle.std.specs.List.{AllByRecursion}
 use Rattle.coding.proofs.Refusals.{FailsOrMemory-from}
 use Rattle.block.specs.Piece.{Entry}
@@ -7,10 +7,12 @@ use Rattle.keep.specs.Runs.{Run, joined_run}
 use Rattle.pieces.specs.declared.planned_block.PlannedBlock.{PlannedBlock}
 use Rattle.cut.specs.declared.planned_output.PlannedOutput.{PlannedOutput}
 use Rattle.cut.specs.Outputs.{outputs_of}
-use Rattle.cut.specs.Planning.{IsPlan, numbered_from, planned_of}
+use Rattle.cut.specs.Divided.{places_all, piece_limit}
+use Rattle.cut.specs.Planning.{IsPlan, block_count, numbered_from, planned_of}
 use Rattle.cut.specs.Stops.{stops}
-use Rattle.cut.specs.TableLength.{table_size}
-use Rattle.cut.proofs.Planned.{IsMade, are_small, have_entries, plan_large, plan_made, plan_kept}
+use Rattle.cut.specs.TableLength.{lens_of, table_size}
+use Rattle.cut.proofs.Planned.{IsMade, are_small, have_entries, plan_each, plan_large, plan_made, plan_kept}
+use Rattle.cut.proofs.PlanPieces.{short_lens}
 use Rattle.cut.proofs.Whole.{some_segments}
 use Rattle.cut.proofs.planning.plan.Goals as goal
 
@@ -47,8 +49,25 @@ invariant_of-result g c =
     let made : IsMade o c.in_ok-ended.ended.items lists = record { entries = c.in_ok-ended.ensures.entries; planned = c.in_ok-ended.ensures.planned } in
     let small : are_small (numbered_from (table_size (index_keys cmp separator_of successor_of)) c.args.first_number c.in_ok-ended.ended.items) ≡ true =
     sym (ap are_small (c.deref.ensures.value ∙ c.in_ok-outputs.ensures.ok)) ∙ sym c.are_small.ensures ∙ c.if-not-are_small.false in
-    subst (IsPlan (table cmp separator_of successor_of o) o) (sym c.in_ok-outputs.ensures.ok)
-    (plan_kept cmp separator_of successor_of o c.args.first_number c.in_ok-ended.ended.items lists c.requires made some small)
+    let places = c.in_ok-pieces.ensures.ok ∙ ap (λ (ps : List PlannedOutput). places_all (piece_limit (block_count ps)) 0 ps) (c.deref-2.ensures.value ∙ c.in_ok-outputs.ensures.ok) in
+    subst (λ (ps : List PlannedOutput). IsPlan (table cmp separator_of successor_of o) o ps c.in_ok-pieces.pieces.items) (sym c.in_ok-outputs.ensures.ok)
+    (plan_kept cmp separator_of successor_of o c.args.first_number c.in_ok-ended.ended.items lists c.in_ok-pieces.pieces.items c.requires made some small places)
+
+pub divided-requires : goal.divided-requires
+divided-requires g c =
+    let o = c.args.options in
+    let cmp = g.C.Comparator.cmp in
+    let separator_of = g.C.Comparator.separator_of in
+    let successor_of = g.C.Comparator.successor_of in
+    let run : Run = joined_run c.args.runs.now in
+    let lists : List (List Entry) = outputs_of c.args.grandparents.now o run in
+    let some : AllByRecursion (λ q. q ≢ []) lists = some_segments o 0 (stops c.args.grandparents.now o.file_size run.marks) run.kept in
+    let made : IsMade o c.in_ok-ended.ended.items lists = record { entries = c.in_ok-ended.ensures.entries; planned = c.in_ok-ended.ensures.planned } in
+    let small : are_small (numbered_from (table_size (index_keys cmp separator_of successor_of)) c.args.first_number c.in_ok-ended.ended.items) ≡ true =
+    sym (ap are_small (c.deref.ensures.value ∙ c.in_ok-outputs.ensures.ok)) ∙ sym c.are_small.ensures ∙ c.if-not-are_small.false in
+    subst (AllByRecursion (λ (p : PlannedOutput). lens_of p.blocks.items ≤ 2 ^ 30)) (sym (c.deref-2.ensures.value ∙ c.in_ok-outputs.ensures.ok))
+    (short_lens cmp separator_of successor_of o (numbered_from (table_size (index_keys cmp separator_of successor_of)) c.args.first_number c.in_ok-ended.ended.items)
+    (plan_each cmp separator_of successor_of o c.args.first_number c.in_ok-ended.ended.items lists made some small))
 
 pub returns : goal.returns
 returns g c =

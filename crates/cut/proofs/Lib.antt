@@ -16,3 +16,4 @@ pub mod Planned
 pub mod BlockSums
 pub mod PiecePlaces
 pub mod PlanPieces
+pub mod ReadyPieces

@@ -107,10 +107,10 @@ places_stand limit front (p ∷ ps) all i whole e =
 -- ---- the pieces of a plan
 
 module _ (cmp : List ℕ → List ℕ → Ordering) (separator_of : List ℕ → List ℕ → List ℕ) (successor_of : List ℕ → List ℕ) (o : Options) where
-  abbrev T : List Entry → List ℕ
+  abbrev pub T : List Entry → List ℕ
   T q = table cmp separator_of successor_of o q
 
-  short_one : (p : PlannedOutput) → IsPlannedOutput T o p → IsShort o p
+  pub short_one : (p : PlannedOutput) → IsPlannedOutput T o p → IsShort o p
   short_one p h = record {
     planned = h.planned;
     short = omega (arith, h.len_is, h.len_le, length-table cmp separator_of successor_of o p.blocks.items h.planned, stored_more o p.blocks.items h.planned.lens);
@@ -123,14 +123,14 @@ module _ (cmp : List ℕ → List ℕ → Ordering) (separator_of : List ℕ →
   short_lens outputs h = each (IsShort o) (λ (p : PlannedOutput). lens_of p.blocks.items ≤ 2 ^ 30) outputs (λ p s. s.short) (shorts outputs h)
 
   -- the entries of each output
-  abbrev lists : List PlannedOutput → List (List Entry)
+  abbrev pub lists : List PlannedOutput → List (List Entry)
   lists outputs = map (λ (p : PlannedOutput). entries_of p.blocks.items) outputs
 
-  lists_seen : (outputs : List PlannedOutput) → lists_in (map planned_of outputs) ≡ lists outputs
+  pub lists_seen : (outputs : List PlannedOutput) → lists_in (map planned_of outputs) ≡ lists outputs
   lists_seen [] = refl
   lists_seen (p ∷ ps) = ap (λ (qs : List (List Entry)). entries_of p.blocks.items ∷ qs) (lists_seen ps)
 
-  count_seen : (outputs : List PlannedOutput) → AllByRecursion (IsPlannedOutput T o) outputs → block_count outputs ≡ length (parts o (lists outputs))
+  pub count_seen : (outputs : List PlannedOutput) → AllByRecursion (IsPlannedOutput T o) outputs → block_count outputs ≡ length (parts o (lists outputs))
   count_seen [] h = refl
   count_seen (p ∷ ps) h =
       let one : length p.blocks.items ≡ length (data_blocks o (entries_of p.blocks.items)) = sym (length-map p.blocks.items (λ (x : PlannedBlock). x.entries.entries)) ∙ ap length h.0.planned.cut in
@@ -138,8 +138,8 @@ module _ (cmp : List ℕ → List ℕ → Ordering) (separator_of : List ℕ →
       ∙ omega (arith, one, count_seen ps h.1, length-append (data_blocks o (entries_of p.blocks.items)) (parts o (lists ps)))
 
   -- what is kept of a plan has the pieces of the definition
-  pub plan_pieces : (outputs : List PlannedOutput) (places : List Piece) → IsPlan T o outputs places → map (λ (p : Piece). parts_of (piece_blocks outputs p)) places ≡ pieces o (lists_in (map planned_of outputs))
-  plan_pieces outputs places h =
+  pub plan_pieces : (outputs : List PlannedOutput) (places : List Piece) (counts : List ℕ) → IsPlan T o outputs places counts → map (λ (p : Piece). parts_of (piece_blocks outputs p)) places ≡ pieces o (lists_in (map planned_of outputs))
+  plan_pieces outputs places counts h =
       let limit = piece_limit (block_count outputs) in
       ap (map (λ (p : Piece). parts_of (piece_blocks outputs p))) h.places
       ∙ map_twice (piece_blocks outputs) (places_all limit 0 outputs)
@@ -152,18 +152,18 @@ module _ (cmp : List ℕ → List ℕ → Ordering) (separator_of : List ℕ →
       map_twice f [] = refl
       map_twice f (p ∷ ps) = ap (λ (qs : List (List (List Entry))). parts_of (f p) ∷ qs) (map_twice f ps)
 
-  pub plan_jobs : (outputs : List PlannedOutput) (places : List Piece) → IsPlan T o outputs places → length places ≡ length (pieces o (lists_in (map planned_of outputs)))
-  plan_jobs outputs places h = sym (length-map places (λ (p : Piece). parts_of (piece_blocks outputs p))) ∙ ap length (plan_pieces outputs places h)
+  pub plan_jobs : (outputs : List PlannedOutput) (places : List Piece) (counts : List ℕ) → IsPlan T o outputs places counts → length places ≡ length (pieces o (lists_in (map planned_of outputs)))
+  plan_jobs outputs places counts h = sym (length-map places (λ (p : Piece). parts_of (piece_blocks outputs p))) ∙ ap length (plan_pieces outputs places counts h)
 
-  pub plan_place : (outputs : List PlannedOutput) (places : List Piece) (i : ℕ) (p : Piece) → IsPlan T o outputs places → i < length places → get_or places i p ≡ p → IsPlace outputs p
-  plan_place outputs places i p h lt is =
+  pub plan_place : (outputs : List PlannedOutput) (places : List Piece) (counts : List ℕ) (i : ℕ) (p : Piece) → IsPlan T o outputs places counts → i < length places → get_or places i p ≡ p → IsPlace outputs p
+  plan_place outputs places counts i p h lt is =
       at (IsPlace outputs) places i p lt (subst (AllByRecursion (IsPlace outputs)) (sym h.places) (places_stand (piece_limit (block_count outputs)) [] outputs outputs 0 refl refl)) is
 
   -- the bytes of the piece at a place
-  pub piece_at : (outputs : List PlannedOutput) (places : List Piece) (i : ℕ) (p : Piece) → IsPlan T o outputs places → i < length places → get_or places i p ≡ p
+  pub piece_at : (outputs : List PlannedOutput) (places : List Piece) (counts : List ℕ) (i : ℕ) (p : Piece) → IsPlan T o outputs places counts → i < length places → get_or places i p ≡ p
       → slice_get (map (stored_blocks o.restart_interval) (pieces o (lists_in (map planned_of outputs)))) i ≡ Some (stored_blocks o.restart_interval (parts_of (piece_blocks outputs p)))
-  piece_at outputs places i p h lt is =
-      sym (ap (λ (qs : List (List (List Entry))). slice_get (map (stored_blocks o.restart_interval) qs) i) (plan_pieces outputs places h)) ∙ found places i lt is
+  piece_at outputs places counts i p h lt is =
+      sym (ap (λ (qs : List (List (List Entry))). slice_get (map (stored_blocks o.restart_interval) qs) i) (plan_pieces outputs places counts h)) ∙ found places i lt is
     where
       found : (ps : List Piece) (i : ℕ) → i < length ps → get_or ps i p ≡ p
           → slice_get (map (stored_blocks o.restart_interval) (map (λ (x : Piece). parts_of (piece_blocks outputs x)) ps)) i ≡ Some (stored_blocks o.restart_interval (parts_of (piece_blocks outputs p)))

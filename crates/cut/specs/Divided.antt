@@ -28,6 +28,11 @@ abbrev pub places_all : ℕ → ℕ → List PlannedOutput → List Piece
 places_all limit output [] = []
 places_all limit output (p ∷ ps) = places_from output limit 0 0 0 p.blocks.items ++ places_all limit (output + 1) ps
 
+-- how many pieces each output has
+abbrev pub counts_all : ℕ → ℕ → List PlannedOutput → List ℕ
+counts_all limit output [] = []
+counts_all limit output (p ∷ ps) = length (places_from output limit 0 0 0 p.blocks.items) ∷ counts_all limit (output + 1) ps
+
 -- the size of a piece, where there are so many blocks in all
 abbrev pub piece_limit : ℕ → ℕ
 piece_limit blocks = if nat_lt blocks 64 then 0 else 2 ^ 22

@@ -13,3 +13,4 @@ pub mod TableLength
 pub mod Planning
 pub mod OutputMeta
 pub mod Divided
+pub mod Assembling

@@ -8,7 +8,7 @@ use Rattle.table.specs.Options.{AreInLimits}
 use Rattle.pieces.specs.declared.planned_block.PlannedBlock.{PlannedBlock}
 use Rattle.cut.specs.declared.piece.Piece.{Piece}
 use Rattle.cut.specs.declared.planned_output.PlannedOutput.{PlannedOutput}
-use Rattle.cut.specs.Divided.{places_all, piece_limit}
+use Rattle.cut.specs.Divided.{places_all, counts_all, piece_limit}
 use Rattle.cut.specs.Opened.{parts_of, entries_of, ArePlanned}
 use Rattle.cut.specs.Plan.{Planned, ends_from}
 
@@ -53,8 +53,9 @@ abbrev pub lists_in : List Planned → List (List Entry)
 lists_in outputs = map (λ (p : Planned). p.entries) outputs
 
 -- what is kept of a plan
-pub record IsPlan (table_of : List Entry → List ℕ) (o : Options) (outputs : List PlannedOutput) (pieces : List Piece) : Type 0 where
+pub record IsPlan (table_of : List Entry → List ℕ) (o : Options) (outputs : List PlannedOutput) (pieces : List Piece) (counts : List ℕ) : Type 0 where
   pub limits : AreInLimits o
   pub each : AllByRecursion (IsPlannedOutput table_of o) outputs
   pub few : block_count outputs ≤ 2 ^ 40
   pub places : pieces ≡ places_all (piece_limit (block_count outputs)) 0 outputs
+  pub counts_are : counts ≡ counts_all (piece_limit (block_count outputs)) 0 outputs

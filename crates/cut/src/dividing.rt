@@ -1,10 +1,10 @@
 //! Dealing out the data blocks of outputs to pieces.
 
-ghost use Rattle.std.specs.Prelude.{◌≡◌, ◌≤◌, ◌<◌, ◌^◌, ◌++◌, OnOk, IfOk, IfErr, IsOkUnless};
+ghost use Rattle.std.specs.Prelude.{◌≡◌, ◌≤◌, ◌<◌, ◌^◌, ◌++◌, OnOk, length, IfOk, IfErr};
 ghost use Rattle.std.specs.List.{AllByRecursion};
 ghost use Rattle.coding.specs.Answers.{fault};
 ghost use Rattle.coding.specs.declared.fault.FaultName.TheVariants.{Memory};
-ghost use Rattle.cut.specs.Divided.{places_from, places_all};
+ghost use Rattle.cut.specs.Divided.{places_from, places_all, counts_all};
 ghost use Rattle.cut.specs.TableLength.{lens_of};
 
 use crate::piece::Piece;
@@ -14,18 +14,20 @@ use frame::TRAILER_LEN;
 use pieces::PlannedBlock;
 use std::alloc::Global;
 
-/// Adds the pieces of the data blocks of an output. A piece ends with the block at which its bytes reach this many. Refused
+/// Adds the pieces of the data blocks of an output, and answers how many they are. A piece ends with the block at which its bytes reach this many. Refused
 /// for want of memory alone.
 fn push_pieces(
     pieces: &mut Vec<Piece>,
     output: usize,
     blocks: &[PlannedBlock<'_, '_>],
     limit: u64,
-) -> Result<(), Fault>
+) -> Result<usize, Fault>
     requires { lens_of blocks.now ≤ 2 ^ 30 }
     ensures ok { OnOk result (pieces.new.items ≡ pieces.old.items ++ places_from output limit 0 0 0 blocks.now) }
-    ensures memory { IsOkUnless result (fault Memory) }
+    ensures count { IfOk result (λ count. count ≡ length (places_from output limit 0 0 0 blocks.now)) }
+    ensures memory { IfErr result (λ e. e ≡ fault Memory) }
 {
+    let mut count = 0;
     let mut from = 0;
     let mut size = 0;
     for (place, block) in blocks.iter().enumerate() {
@@ -33,6 +35,7 @@ fn push_pieces(
         if size >= limit {
             let to = place + 1;
             pieces.push(Piece { output, from, to })?;
+            count += 1;
             from = to;
             size = 0;
         }
@@ -40,23 +43,34 @@ fn push_pieces(
     if from < blocks.len() {
         let to = blocks.len();
         pieces.push(Piece { output, from, to })?;
+        count += 1;
     }
-    Ok(())
+    Ok(count)
 }
 
-/// The pieces of outputs, in order. Refused for want of memory alone.
+/// The pieces of outputs in order, and how many each output has.
+#[derive(Drop)]
+pub(crate) struct Division {
+    pub pieces: Vec<Piece>,
+    pub counts: Vec<usize>,
+}
+
+/// The pieces of outputs. Refused for want of memory alone.
 pub(crate) fn pieces_of(
     alloc: Global,
     outputs: &[PlannedOutput<'_, '_>],
     limit: u64,
-) -> Result<Vec<Piece>, Fault>
+) -> Result<Division, Fault>
     requires { AllByRecursion (λ p. lens_of p.blocks.items ≤ 2 ^ 30) outputs.now }
-    ensures ok { IfOk result (λ pieces. pieces.items ≡ places_all limit 0 outputs.now) }
+    ensures pieces { IfOk result (λ division. division.pieces.items ≡ places_all limit 0 outputs.now) }
+    ensures counts { IfOk result (λ division. division.counts.items ≡ counts_all limit 0 outputs.now) }
     ensures memory { IfErr result (λ e. e ≡ fault Memory) }
 {
     let mut pieces = Vec::new(alloc);
+    let mut counts = Vec::new(alloc);
     for (place, output) in outputs.iter().enumerate() {
-        push_pieces(&mut pieces, place, &output.blocks, limit)?;
+        let count = push_pieces(&mut pieces, place, &output.blocks, limit)?;
+        counts.push(count)?;
     }
-    Ok(pieces)
+    Ok(Division { pieces, counts })
 }

@@ -4,6 +4,7 @@
 //! every output, every data block and every table's length before one byte is written.
 #![tactic(auto)]
 
+mod assembling;
 mod cutting;
 mod dividing;
 mod laws;

@@ -7,7 +7,7 @@ ghost use Rattle.coding.specs.declared.fault.FaultName.TheVariants.{Memory};
 ghost use Rattle.table.specs.Options.{AreInLimits};
 ghost use Rattle.table.specs.Table.{index_keys, table};
 ghost use Rattle.keep.specs.Runs.{joined_run};
-ghost use Rattle.cut.specs.Divided.{places_all, piece_limit};
+ghost use Rattle.cut.specs.Divided.{places_all, counts_all, piece_limit};
 ghost use Rattle.cut.specs.Outputs.{outputs_of};
 ghost use Rattle.cut.specs.Plan.{plan_of};
 ghost use Rattle.cut.specs.Planning.{HaveEntries, block_count, numbered_from};
@@ -15,8 +15,7 @@ ghost use Rattle.cut.specs.Sizes.{saturated};
 ghost use Rattle.cut.specs.TableLength.{lens_of, table_size};
 
 use crate::cutting::outputs;
-use crate::dividing::pieces_of;
-use crate::piece::Piece;
+use crate::dividing::{Division, pieces_of};
 use crate::planned_output::PlannedOutput;
 use crate::table_len::table_len;
 use crate::whole_plan::Plan;
@@ -92,10 +91,12 @@ fn are_small(outputs: &[PlannedOutput<'_, '_>]) -> bool
 }
 
 /// The pieces of outputs, in order. Refused for want of memory alone.
-fn divided(alloc: Global, outputs: &[PlannedOutput<'_, '_>]) -> Result<Vec<Piece>, Fault>
+fn divided(alloc: Global, outputs: &[PlannedOutput<'_, '_>]) -> Result<Division, Fault>
     requires { AllByRecursion (λ p. lens_of p.blocks.items ≤ 2 ^ 30) outputs.now }
-    ensures ok { IfOk result (λ pieces. pieces.items
+    ensures pieces { IfOk result (λ division. division.pieces.items
         ≡ places_all (piece_limit (block_count outputs.now)) 0 outputs.now) }
+    ensures counts { IfOk result (λ division. division.counts.items
+        ≡ counts_all (piece_limit (block_count outputs.now)) 0 outputs.now) }
     ensures memory { IfErr result (λ e. e ≡ fault Memory) }
 {
     let limit = if count_blocks(outputs) < FEW_BLOCKS {
@@ -132,11 +133,12 @@ pub fn plan<'r, 'a, C: Comparator>(
     if !are_small(&outputs) {
         return Err(Fault::of(FaultName::TooLarge));
     }
-    let pieces = divided(alloc, &outputs)?;
+    let division = divided(alloc, &outputs)?;
     Ok(Plan {
         options,
         outputs,
-        pieces,
+        pieces: division.pieces,
+        counts: division.counts,
         order: PhantomData,
     })
 }

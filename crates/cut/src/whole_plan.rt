@@ -1,12 +1,14 @@
 //! A plan that is made.
 
-ghost use Rattle.std.specs.Prelude.{◌≡◌, ◌<◌, ◌≤◌, ◌↔◌, [], length, slice_get, slice_range, IfSome, IfOk, IfErr, IsTrue, Some};
-ghost use Rattle.coding.specs.Answers.{fault};
+ghost use Rattle.std.specs.Prelude.{◌≡◌, ◌<◌, ◌≤◌, ◌↔◌, [], length, slice_get, slice_range, IfSome, IfOk, IfErr, IsTrue, Ok, Some, map};
+ghost use Rattle.coding.specs.Answers.{EqualOrMemory, fault};
 ghost use Rattle.coding.specs.declared.fault.FaultName.TheVariants.{Memory};
+ghost use Rattle.table.specs.Table.{table};
 ghost use Rattle.cut.specs.OutputMeta.{IsMetaOf};
-ghost use Rattle.cut.specs.Plan.{jobs, encoded};
+ghost use Rattle.cut.specs.Plan.{jobs, assembled, encoded};
 ghost use Rattle.cut.specs.Planning.{lists_in};
 
+use crate::assembling::assemble_all;
 use crate::output_meta::OutputMeta;
 use crate::piece::Piece;
 use crate::planned_output::PlannedOutput;
@@ -31,6 +33,8 @@ pub struct Plan<'r, 'a, C: Comparator> {
     pub(crate) outputs: Vec<PlannedOutput<'r, 'a>>,
     /// What is encoded by itself.
     pub(crate) pieces: Vec<Piece>,
+    /// How many pieces each output has.
+    pub(crate) counts: Vec<usize>,
     pub(crate) order: PhantomData<C>,
 }
 
@@ -43,7 +47,7 @@ impl<'r, 'a, C: Comparator> Model for Plan<'r, 'a, C> {
 
     ghost view = { λ p. record { options = p.options; outputs = map planned_of p.outputs.items } };
 
-    ghost invariant = { λ p. IsPlan (table C.cmp C.separator_of C.successor_of p.options) p.options p.outputs.items p.pieces.items };
+    ghost invariant = { λ p. IsPlan (table C.cmp C.separator_of C.successor_of p.options) p.options p.outputs.items p.pieces.items p.counts.items };
 }
 
 /// The blocks from one place to before another.
@@ -100,6 +104,21 @@ impl<'r, 'a, C: Comparator> Plan<'r, 'a, C> {
             PIECE_ROOM
         };
         encode_blocks(alloc, blocks, self.options.restart_interval, room as usize)
+    }
+
+    /// The number and the table of each output, of the pieces that [`Plan::encode`] gives, in the order of their jobs. Where an
+    /// output has one piece, none of its bytes is copied. Refused for want of memory alone.
+    pub fn assemble(
+        &self,
+        alloc: Global,
+        pieces: Vec<Vec<u8>>,
+    ) -> Result<Vec<(u64, Vec<u8>)>, Fault>
+        requires { map (λ p. p.items) pieces.items ≡ encoded self.now.options (lists_in self.now.outputs) }
+        ensures { EqualOrMemory (λ tables. map (λ t. (t.0, t.1.items)) tables.items) result
+            (Ok (assembled (table C.cmp C.separator_of C.successor_of self.now.options) self.now.outputs)) }
+    {
+        let interval = self.options.restart_interval;
+        assemble_all::<C>(alloc, &self.outputs, &self.counts, interval, pieces)
     }
 
     /// What is known of the output at a place. Takes no memory.

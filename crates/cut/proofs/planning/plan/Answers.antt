@@ -7,7 +7,7 @@ use Rattle.keep.specs.Runs.{Run, joined_run}
 use Rattle.pieces.specs.declared.planned_block.PlannedBlock.{PlannedBlock}
 use Rattle.cut.specs.declared.planned_output.PlannedOutput.{PlannedOutput}
 use Rattle.cut.specs.Outputs.{outputs_of}
-use Rattle.cut.specs.Divided.{places_all, piece_limit}
+use Rattle.cut.specs.Divided.{places_all, counts_all, piece_limit}
 use Rattle.cut.specs.Planning.{IsPlan, block_count, numbered_from, planned_of}
 use Rattle.cut.specs.Stops.{stops}
 use Rattle.cut.specs.TableLength.{lens_of, table_size}
@@ -49,9 +49,10 @@ invariant_of-result g c =
     let made : IsMade o c.in_ok-ended.ended.items lists = record { entries = c.in_ok-ended.ensures.entries; planned = c.in_ok-ended.ensures.planned } in
     let small : are_small (numbered_from (table_size (index_keys cmp separator_of successor_of)) c.args.first_number c.in_ok-ended.ended.items) ≡ true =
     sym (ap are_small (c.deref.ensures.value ∙ c.in_ok-outputs.ensures.ok)) ∙ sym c.are_small.ensures ∙ c.if-not-are_small.false in
-    let places = c.in_ok-pieces.ensures.ok ∙ ap (λ (ps : List PlannedOutput). places_all (piece_limit (block_count ps)) 0 ps) (c.deref-2.ensures.value ∙ c.in_ok-outputs.ensures.ok) in
-    subst (λ (ps : List PlannedOutput). IsPlan (table cmp separator_of successor_of o) o ps c.in_ok-pieces.pieces.items) (sym c.in_ok-outputs.ensures.ok)
-    (plan_kept cmp separator_of successor_of o c.args.first_number c.in_ok-ended.ended.items lists c.in_ok-pieces.pieces.items c.requires made some small places)
+    let places = c.in_ok-division.ensures.pieces ∙ ap (λ (ps : List PlannedOutput). places_all (piece_limit (block_count ps)) 0 ps) (c.deref-2.ensures.value ∙ c.in_ok-outputs.ensures.ok) in
+    let counts = c.in_ok-division.ensures.counts ∙ ap (λ (ps : List PlannedOutput). counts_all (piece_limit (block_count ps)) 0 ps) (c.deref-2.ensures.value ∙ c.in_ok-outputs.ensures.ok) in
+    subst (λ (ps : List PlannedOutput). IsPlan (table cmp separator_of successor_of o) o ps c.in_ok-division.division.pieces.items c.in_ok-division.division.counts.items) (sym c.in_ok-outputs.ensures.ok)
+    (plan_kept cmp separator_of successor_of o c.args.first_number c.in_ok-ended.ended.items lists c.in_ok-division.division.pieces.items c.in_ok-division.division.counts.items c.requires made some small places counts)
 
 pub divided-requires : goal.divided-requires
 divided-requires g c =

@@ -1,0 +1,160 @@
+-- The pieces of a plan make its tables.
+use Rattle.std.proofs.Common.{◌≡◌, ◌≢◌, ℕ, zero, suc, ◌+◌, ◌-◌, ◌^◌, ◌<◌, ◌≤◌, List, [], ◌∷◌, ◌++◌, length, map, take, drop, get_or, refl, sym, ap, subst, ◌∙◌, append-nil, arith}
+use Rattle.std.specs.Prelude.{flat_map}
+use Rattle.std.specs.List.{AllByRecursion}
+use Rattle.std.specs.declared.cmp.Ordering.{Ordering}
+use Rattle.std.proofs.lemmas.List.{length-append, length-map, map-append, take_at, drop_at, drop_more, take-append-le}
+use Rattle.block.specs.Piece.{Entry}
+use Rattle.table.specs.declared.options.Options.{Options}
+use Rattle.table.specs.DataBlocks.{data_blocks}
+use Rattle.table.specs.Table.{IndexKeys, index_keys, stored_blocks, table, table_of}
+use Rattle.pieces.specs.declared.planned_block.PlannedBlock.{PlannedBlock}
+use Rattle.pieces.specs.Planned.{IsPlanned}
+use Rattle.cut.specs.declared.piece.Piece.{Piece}
+use Rattle.cut.specs.declared.planned_output.PlannedOutput.{PlannedOutput}
+use Rattle.cut.specs.Assembling.{IsReady, AreReady, tables_of}
+use Rattle.cut.specs.Divided.{places_from, counts_all, piece_limit}
+use Rattle.cut.specs.Opened.{parts_of, entries_of, HasLen, ArePlanned}
+use Rattle.cut.specs.Plan.{Planned, assembled, encoded, parts, pieces, pieces_in}
+use Rattle.cut.specs.Planning.{planned_of, block_count, IsPlannedOutput, IsPlan, lists_in}
+use Rattle.std.specs.Prelude.{slice_range}
+use Rattle.cut.proofs.Joining.{pieces_join}
+use Rattle.cut.proofs.PiecePlaces.{divided_behind, places_are, one_are}
+use Rattle.cut.proofs.PlanPieces.{short_one, lists_seen, count_seen}
+
+-- ---- pieces are taken off
+
+-- so many are taken of a list, and it has no more
+pub all_taken : {X : Type 0} (own rest old : List X) (count : ℕ) → own ++ rest ≡ old → length own ≡ count → own ≡ take count old
+all_taken own rest old count whole len = sym (ap (take count) (sym whole) ∙ take_at own rest count len)
+
+pub all_left : {X : Type 0} (own rest old : List X) (count : ℕ) → own ++ rest ≡ old → length own ≡ count → rest ≡ drop count old
+all_left own rest old count whole len = sym (ap (drop count) (sym whole) ∙ drop_at own rest count len)
+
+take_short : {X : Type 0} (xs : List X) (n : ℕ) → length xs ≤ n → take n xs ≡ xs
+take_short [] zero le = refl
+take_short [] (suc n) le = refl
+take_short (x ∷ xs) zero le = absurd (omega arith)
+take_short {X} (x ∷ xs) (suc n) le = ap (λ (ys : List X). x ∷ ys) (take_short xs n (omega arith))
+
+drop_short : {X : Type 0} (xs : List X) (n : ℕ) → length xs ≤ n → drop n xs ≡ []
+drop_short [] zero le = refl
+drop_short [] (suc n) le = refl
+drop_short (x ∷ xs) zero le = absurd (omega arith)
+drop_short (x ∷ xs) (suc n) le = drop_short xs n (omega arith)
+
+pub few_taken : {X : Type 0} (own rest old : List X) (count : ℕ) → own ++ rest ≡ old → rest ≡ [] → length own ≤ count → own ≡ take count old
+few_taken {X} own rest old count whole none le =
+    let same : own ≡ old = sym (append-nil own) ∙ ap (λ (xs : List X). own ++ xs) (sym none) ∙ whole in
+    sym (take_short own count le) ∙ ap (take count) same
+
+pub few_left : {X : Type 0} (own rest old : List X) (count : ℕ) → own ++ rest ≡ old → rest ≡ [] → length own ≤ count → drop count old ≡ []
+few_left {X} own rest old count whole none le =
+    let same : own ≡ old = sym (append-nil own) ∙ ap (λ (xs : List X). own ++ xs) (sym none) ∙ whole in
+    sym (ap (drop count) same) ∙ drop_short own count le
+
+map-drop : {X Y : Type 0} (f : X → Y) (n : ℕ) (xs : List X) → drop n (map f xs) ≡ map f (drop n xs)
+map-drop f zero xs = refl
+map-drop f (suc n) [] = refl
+map-drop f (suc n) (x ∷ xs) = map-drop f n xs
+
+map-take : {X Y : Type 0} (f : X → Y) (n : ℕ) (xs : List X) → take n (map f xs) ≡ map f (take n xs)
+map-take f zero xs = refl
+map-take f (suc n) [] = refl
+map-take {Y = Y} f (suc n) (x ∷ xs) = ap (λ (ys : List Y). f x ∷ ys) (map-take f n xs)
+
+flat_of : {X : Type 0} (f : X → List ℕ) (xs : List X) → flat_map (λ (bytes : List ℕ). bytes) (map f xs) ≡ flat_map f xs
+flat_of f [] = refl
+flat_of f (x ∷ xs) = ap (λ (bytes : List ℕ). f x ++ bytes) (flat_of f xs)
+
+-- ---- one output more
+
+module _ (keys : IndexKeys) (interval : ℕ) where
+  -- the output at a place is ready, and so are those behind it
+  pub ready_at : {X : Type 0} (bytes_of : X → List ℕ) (outputs : List PlannedOutput) (counts : List ℕ) (old own rest : List X) (i n : ℕ) (p : PlannedOutput) → i < length outputs → i < length counts → get_or outputs i p ≡ p → get_or counts i 0 ≡ n
+      → AreReady keys interval (drop i outputs) (drop i counts) (map bytes_of old) → own ≡ take n old → rest ≡ drop n old
+      → IsReady keys interval p (map bytes_of own) × AreReady keys interval (drop (i + 1) outputs) (drop (i + 1) counts) (map bytes_of rest)
+  ready_at bytes_of outputs counts old own rest i n p lt lt_counts is count ready own_is rest_is =
+      let front : drop i outputs ≡ p ∷ drop (i + 1) outputs = drop_more outputs i p lt ∙ ap (λ (x : PlannedOutput). x ∷ drop (i + 1) outputs) is in
+      let number : drop i counts ≡ n ∷ drop (i + 1) counts = drop_more counts i 0 lt_counts ∙ ap (λ (k : ℕ). k ∷ drop (i + 1) counts) count in
+      let both : AreReady keys interval (p ∷ drop (i + 1) outputs) (n ∷ drop (i + 1) counts) (map bytes_of old) =
+      subst (λ (ns : List ℕ). AreReady keys interval (p ∷ drop (i + 1) outputs) ns (map bytes_of old)) number (subst (λ (ps : List PlannedOutput). AreReady keys interval ps (drop i counts) (map bytes_of old)) front ready) in (
+        subst (IsReady keys interval p) (map-take bytes_of n old ∙ ap (map bytes_of) (sym own_is)) both.0,
+        subst (AreReady keys interval (drop (i + 1) outputs) (drop (i + 1) counts)) (map-drop bytes_of n old ∙ ap (map bytes_of) (sym rest_is)) both.1,
+      )
+
+  pub ready_bytes : {X : Type 0} (bytes_of : X → List ℕ) (p : PlannedOutput) (own : List X) → IsReady keys interval p (map bytes_of own) → flat_map bytes_of own ≡ stored_blocks interval (parts_of p.blocks.items)
+  ready_bytes bytes_of p own h = sym (flat_of bytes_of own) ∙ h.bytes
+
+-- ---- the pieces of a plan are ready
+
+each_planned : (o : Options) (blocks : List PlannedBlock) → AllByRecursion (HasLen o) blocks → AllByRecursion (λ (b : PlannedBlock). b.entries.entries ≢ []) blocks → AllByRecursion (IsPlanned o.restart_interval) blocks
+each_planned o [] h some = tt
+each_planned o (b ∷ bs) h some = (record { some = some.0; len_is = h.0 }, each_planned o bs h.1 some.1)
+
+table_is : (cmp : List ℕ → List ℕ → Ordering) (separator_of : List ℕ → List ℕ → List ℕ) (successor_of : List ℕ → List ℕ) (o : Options) (blocks : List PlannedBlock) → ArePlanned o blocks
+    → table cmp separator_of successor_of o (entries_of blocks) ≡ table_of (index_keys cmp separator_of successor_of) o.restart_interval (parts_of blocks)
+unfolding table
+table_is cmp separator_of successor_of o blocks h = ap (table_of (index_keys cmp separator_of successor_of) o.restart_interval) (sym h.cut)
+
+pub counts_len : (limit i : ℕ) (outputs : List PlannedOutput) → length (counts_all limit i outputs) ≡ length outputs
+counts_len limit i [] = refl
+counts_len limit i (p ∷ ps) = let rest = counts_len limit (i + 1) ps in omega (arith, rest)
+
+module _ (cmp : List ℕ → List ℕ → Ordering) (separator_of : List ℕ → List ℕ → List ℕ) (successor_of : List ℕ → List ℕ) (o : Options) where
+  abbrev T : List Entry → List ℕ
+  T q = table cmp separator_of successor_of o q
+
+  abbrev keys : IndexKeys
+  keys = index_keys cmp separator_of successor_of
+
+  abbrev lists : List PlannedOutput → List (List Entry)
+  lists outputs = map (λ (p : PlannedOutput). entries_of p.blocks.items) outputs
+
+  abbrev bytes : List (List (List Entry)) → List (List ℕ)
+  bytes ps = map (stored_blocks o.restart_interval) ps
+
+  ready_all : (n i : ℕ) (outputs : List PlannedOutput) → AllByRecursion (IsPlannedOutput T o) outputs → AreReady keys o.restart_interval outputs (counts_all (piece_limit n) i outputs) (bytes (flat_map (pieces_in o n) (lists outputs)))
+  ready_all n i [] h = tt
+  ready_all n i (p ∷ ps) h =
+      let blocks : List PlannedBlock = p.blocks.items in
+      let q : List Entry = entries_of blocks in
+      let short = short_one cmp separator_of successor_of o p h.0 in
+      let own : List (List ℕ) = bytes (pieces_in o n q) in
+      let rest : List (List ℕ) = bytes (flat_map (pieces_in o n) (lists ps)) in
+      let places : List Piece = places_from i (piece_limit n) 0 0 0 blocks in
+      let split : bytes (pieces_in o n q ++ flat_map (pieces_in o n) (lists ps)) ≡ own ++ rest = map-append (stored_blocks o.restart_interval) (pieces_in o n q) (flat_map (pieces_in o n) (lists ps)) in
+      let count : length own ≡ length places =
+      length-map (pieces_in o n q) (stored_blocks o.restart_interval)
+      ∙ ap length (sym (one_are o n blocks short.planned short.short))
+      ∙ length-map (divided_behind (piece_limit n) [] blocks) parts_of
+      ∙ ap length (sym (places_are (piece_limit n) i [] [] blocks blocks 0 0 0 refl refl refl refl))
+      ∙ length-map places (λ (x : Piece). slice_range blocks x.from x.to) in
+      let front : own ≡ take (length places) (bytes (flat_map (pieces_in o n) (lists (p ∷ ps)))) = all_taken own rest (bytes (flat_map (pieces_in o n) (lists (p ∷ ps)))) (length places) (sym split) count in
+      let behind : rest ≡ drop (length places) (bytes (flat_map (pieces_in o n) (lists (p ∷ ps)))) = all_left own rest (bytes (flat_map (pieces_in o n) (lists (p ∷ ps)))) (length places) (sym split) count in
+      let table_eq : T q ≡ table_of keys o.restart_interval (parts_of blocks) = table_is cmp separator_of successor_of o blocks h.0.planned in
+      let joined : flat_map (λ (piece : List ℕ). piece) own ≡ stored_blocks o.restart_interval (parts_of blocks) =
+      flat_of (stored_blocks o.restart_interval) (pieces_in o n q) ∙ pieces_join o n q ∙ ap (stored_blocks o.restart_interval) (sym h.0.planned.cut) in
+      let is_ready : IsReady keys o.restart_interval p own = record {
+        planned = each_planned o blocks h.0.planned.lens h.0.some.some;
+        fits = omega (arith, h.0.len_is, h.0.len_le, ap length table_eq);
+        bytes = joined;
+      } in (
+        subst (IsReady keys o.restart_interval p) front is_ready,
+        subst (AreReady keys o.restart_interval ps (counts_all (piece_limit n) (i + 1) ps)) behind (ready_all n (i + 1) ps h.1),
+      )
+
+  pub plan_ready : (outputs : List PlannedOutput) (places : List Piece) (counts : List ℕ) → IsPlan T o outputs places counts → AreReady keys o.restart_interval outputs counts (encoded o (lists_in (map planned_of outputs)))
+  plan_ready outputs places counts h =
+      let n = block_count outputs in
+      let whole : bytes (flat_map (pieces_in o n) (lists outputs)) ≡ encoded o (lists_in (map planned_of outputs)) =
+      ap (λ (k : ℕ). bytes (flat_map (pieces_in o k) (lists outputs))) (count_seen cmp separator_of successor_of o outputs h.each)
+      ∙ sym (ap (encoded o) (lists_seen cmp separator_of successor_of o outputs)) in
+      subst (λ (ns : List ℕ). AreReady keys o.restart_interval outputs ns (encoded o (lists_in (map planned_of outputs)))) (sym h.counts_are)
+      (subst (AreReady keys o.restart_interval outputs (counts_all (piece_limit n) 0 outputs)) whole (ready_all n 0 outputs h.each))
+
+  pub tables_are : (outputs : List PlannedOutput) → AllByRecursion (IsPlannedOutput T o) outputs → tables_of keys o.restart_interval outputs ≡ assembled T (map planned_of outputs)
+  tables_are [] h = refl
+  tables_are (p ∷ ps) h =
+      ap (λ (bs : List ℕ). (p.number, bs) ∷ tables_of keys o.restart_interval ps) (sym (table_is cmp separator_of successor_of o p.blocks.items h.0.planned))
+      ∙ ap (λ (ts : List (ℕ × List ℕ)). (p.number, T (entries_of p.blocks.items)) ∷ ts) (tables_are ps h.1)

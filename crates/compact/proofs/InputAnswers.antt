@@ -20,7 +20,7 @@ use Rattle.table.proofs.CheckedTables.{last_is}
 use Rattle.edit.specs.declared.meta.FileMeta.{FileMeta}
 use Rattle.pick.specs.declared.picked.InputFile.{InputFile}
 use Rattle.board.specs.Collected.{collected}
-use Rattle.compact.specs.Inputs.{about, is_stated, input_reading, inputs_reading}
+use Rattle.request.specs.Inputs.{about, is_stated, input_reading, inputs_reading}
 use Rattle.compact.specs.Runs.{input_answers}
 
 -- ---- what a version states

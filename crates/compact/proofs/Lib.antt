@@ -3,3 +3,4 @@ pub mod InputAnswers
 pub mod RangeAnswers
 pub mod TableBytes
 pub mod Cursors
+pub mod Accepted

@@ -1,3 +1,2 @@
 -- what contracts rest on
-pub mod Inputs
 pub mod Runs

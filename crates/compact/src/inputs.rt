@@ -4,7 +4,7 @@ ghost use Rattle.std.specs.Prelude.{◌≡◌, ◌<◌, ◌≤◌, nat_eq, ◌&&
 ghost use Rattle.std.specs.Str.{bytes_eq};
 ghost use Rattle.coding.specs.Answers.{EqualOrMemory, FailsOrMemory};
 ghost use Rattle.block.specs.Piece.{Entry};
-ghost use Rattle.compact.specs.Inputs.{about, is_stated, input_reading, inputs_reading};
+ghost use Rattle.request.specs.Inputs.{about, is_stated, input_reading, inputs_reading};
 ghost use Rattle.compact.specs.Runs.{by_workers, input_answers};
 
 use board::{Gate, Labour, run};

@@ -1,12 +1,13 @@
 //! Rows over threads: what no clause says is that calls succeed, and that the order in which workers come changes nothing.
 
-use crate::{check_inputs, merge_ranges};
+use crate::{check_inputs, merge_ranges, merge_request};
 use board::{Gate, Open};
 use coding::{Fault, FaultName};
 use edit::{CompactPointer, FileMeta};
 use ikey::{Bytewise, KeyBuf, Kind};
-use keep::{RangeRun, is_rising, largest_rise};
+use keep::{RangeRun, Snapshots, is_rising, largest_rise};
 use pick::{InputFile, Inputs};
+use request::Request;
 use split::Split;
 use std::alloc::Global;
 use std::process::Abort;
@@ -385,5 +386,69 @@ fn one_user_key_and_sequence_twice(rt: HostRuntime) -> Result<(), Fail> {
     }
     let workers = Fault::of(FaultName::Workers);
     assert!(rt; fails(&merged(&rt, &[A, again], b"u", 1, 65, &Open)?, workers));
+    Ok(())
+}
+
+/// What a request for these inputs gives, or its refusal.
+fn requested<R: Abort + AllocGlobal + Threads + Sync>(
+    rt: &R,
+    inputs: &[Input<'_>],
+    snapshots: Snapshots<'_>,
+    last_sequence: u64,
+    workers: u64,
+) -> Result<Result<Vec<u8>, Fault>, Fail> {
+    let bytes = tables(rt, inputs)?;
+    let lent = lent(rt.alloc(), &bytes)?;
+    let mut picked = below(rt.alloc())?;
+    picked.files = files(rt, inputs, &bytes)?;
+    let split = split_at(rt.alloc(), b"u")?;
+    let request = Request {
+        picked: &picked,
+        tables: &lent,
+        snapshots,
+        first_number: 9,
+        log_number: 3,
+        previous_log: 0,
+        last_sequence,
+        options: Options::default(),
+    };
+    match merge_request(rt, rt.alloc(), &request, &split, workers, &Open) {
+        Ok(runs) => Ok(Ok(shown(rt.alloc(), &runs)?)),
+        Err(fault) => Ok(Err(fault)),
+    }
+}
+
+#[test]
+fn a_request_and_its_first_refusal(rt: HostRuntime) -> Result<(), Fail> {
+    let all = requested(&rt, &[A, B], Snapshots::From(1), 9, 2)?;
+    assert!(rt; gives(&all, b"a1c3|u9u5z2|"));
+    let newest = requested(&rt, &[A, B], Snapshots::Listed(&[]), 9, 2)?;
+    assert!(rt; gives(&newest, b"a1c3|u9z2|"));
+    let block = Input {
+        spoilt: Spoilt::Block,
+        rows: A.rows,
+    };
+    let none: [Input<'_>; 0] = [];
+    let (one, two) = ([block], [A, A]);
+    let too_high = Snapshots::From(72_057_594_037_927_935);
+    let from = Snapshots::From(1);
+    let repeated = Snapshots::Listed(&[6, 6]);
+    let rows = [
+        (none.as_slice(), from, 0, FaultName::Workers),
+        (none.as_slice(), from, 1, FaultName::NoInput),
+        (one.as_slice(), too_high, 1, FaultName::Snapshot),
+        (two.as_slice(), repeated, 1, FaultName::SnapshotList),
+        (two.as_slice(), from, 64, FaultName::Duplicate),
+    ];
+    for (inputs, snapshots, workers, name) in rows {
+        let refused = requested(&rt, inputs, snapshots, 9, workers)?;
+        assert!(rt; fails(&refused, Fault::of(name)));
+    }
+    let trailer = Fault {
+        name: FaultName::Trailer,
+        input: Some(1),
+    };
+    let refused = requested(&rt, &[A, block], Snapshots::From(1), 9, 2)?;
+    assert!(rt; fails(&refused, trailer));
     Ok(())
 }

@@ -193,3 +193,38 @@ blocks_here (x ∷ xs) (suc i) p lt is = blocks_here xs i p (omega arith) is
 pub bytes_are : (r : Result (Vec ℕ) Fault) (bytes : List ℕ) (found : Option (List ℕ)) → EqualOrMemory (λ (v : Vec ℕ). v.items) r (Ok bytes) → found ≡ Some bytes → IfOk r (λ (v : Vec ℕ). found ≡ Some v.items)
 bytes_are (Ok v) bytes found answer is = (let same : bytes ≡ v.items = cc in is ∙ ap Some same)
 bytes_are (Err e) bytes found answer is = tt
+
+-- ---- how many pieces there are
+
+module _ (output limit : ℕ) where
+  end_le : (some : Bool) (from place size : ℕ) → nat_lt from place ≡ some → length (places_from output limit from place size []) ≤ 1
+  end_le true from place size is = rw is (omega arith)
+  end_le false from place size is = rw is (omega arith)
+
+  step_le : (full : Bool) (b : PlannedBlock) (bs : List PlannedBlock) (from place size most : ℕ) → nat_le limit (size + (b.len + 5)) ≡ full → 1 + length (places_from output limit (place + 1) (place + 1) 0 bs) ≤ most
+      → length (places_from output limit from (place + 1) (size + (b.len + 5)) bs) ≤ most → length (places_from output limit from place size (b ∷ bs)) ≤ most
+  step_le true b bs from place size most full ended grown = rw full (omega (arith, ended))
+  step_le false b bs from place size most full ended grown = rw full grown
+
+  open_le : (bs : List PlannedBlock) (from place size : ℕ) → length (places_from output limit from place size bs) ≤ length bs + 1
+  open_le [] from place size = let one = end_le (nat_lt from place) from place size refl in omega (arith, one)
+  open_le (b ∷ bs) from place size =
+      let ended = open_le bs (place + 1) (place + 1) 0 in
+      let grown = open_le bs from (place + 1) (size + (b.len + 5)) in
+      step_le (nat_le limit (size + (b.len + 5))) b bs from place size (length (b ∷ bs) + 1) refl (omega (arith, ended)) (omega (arith, grown))
+
+  closed_le : (bs : List PlannedBlock) (place size : ℕ) → length (places_from output limit place place size bs) ≤ length bs
+  closed_le [] place size = rw (le-ltb place place (omega arith)) (omega arith)
+  closed_le (b ∷ bs) place size =
+      let ended = closed_le bs (place + 1) 0 in
+      let grown = open_le bs place (place + 1) (size + (b.len + 5)) in
+      step_le (nat_le limit (size + (b.len + 5))) b bs place place size (length (b ∷ bs)) refl (omega (arith, ended)) (omega (arith, grown))
+
+-- there are at most as many pieces as data blocks
+pub places_few : (limit i : ℕ) (outputs : List PlannedOutput) → length (places_all limit i outputs) ≤ block_count outputs
+places_few limit i [] = omega arith
+places_few limit i (p ∷ ps) =
+    let here = closed_le i limit p.blocks.items 0 0 in
+    let behind = places_few limit (i + 1) ps in
+    let sum = sum_by-cons (λ (x : PlannedOutput). length x.blocks.items) p ps in
+    omega (arith, length-append (places_from i limit 0 0 0 p.blocks.items) (places_all limit (i + 1) ps), here, behind, sum)

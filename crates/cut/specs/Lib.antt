@@ -2,6 +2,8 @@
 pub mod Stops
 pub mod Outputs
 pub mod Plan
+pub mod Planning
+pub mod OutputMeta
 pub mod Lengths
 pub mod Sizes
 -- serves proofs alone
@@ -10,7 +12,5 @@ pub mod Metered
 pub mod Opened
 pub mod Cutting
 pub mod TableLength
-pub mod Planning
-pub mod OutputMeta
 pub mod Divided
 pub mod Assembling

@@ -1,6 +1,351 @@
 use super::*;
-use ikey::{Bytewise, Shortlex};
+use coding::{Fault, FaultName};
+use edit::{CompactPointer, FileMeta};
+use ikey::{Bytewise, KeyBuf, Kind, MAX_USER_KEY, Shortlex};
+use keep::{RangeRun, is_rising, largest_rise, merge_range};
+use pick::Inputs;
+use split::Range;
+use std::process::Abort;
 use std::test::*;
+use table::{Options, TableBuilder, TableCursor, check};
+
+/// An entry of a user key at a sequence.
+#[derive(Clone, Copy)]
+struct Row {
+    user: &'static [u8],
+    sequence: u8,
+    kind: Kind,
+}
+
+/// A value of a user key.
+fn put(user: &'static [u8], sequence: u8) -> Row {
+    Row {
+        user,
+        sequence,
+        kind: Kind::Put,
+    }
+}
+
+/// A deletion of a user key.
+fn del(user: &'static [u8], sequence: u8) -> Row {
+    Row {
+        user,
+        sequence,
+        kind: Kind::Delete,
+    }
+}
+
+/// A grandparent of one key, and its size.
+#[derive(Clone, Copy)]
+struct Grandparent {
+    key: Row,
+    size: u64,
+}
+
+/// A plan that is asked for: of these entries, which are merged in one range or in two.
+#[derive(Clone, Copy)]
+struct Case<'c> {
+    rows: &'c [Row],
+    grandparents: &'c [Grandparent],
+    boundary: Option<&'static [u8]>,
+    block_size: u64,
+    file_size: u64,
+    first_number: u64,
+}
+
+/// An output: its number, how many entries it has, and how many bytes.
+#[derive(Clone, Copy, Debug, PartialEq, Eq)]
+struct Output {
+    number: u64,
+    entries: u64,
+    len: u64,
+}
+
+/// The sequences that stay readable in all cases: 3, 4, 5 and all from 9 on.
+const LISTED: [u64; 3] = [3, 4, 5];
+
+const FLOOR: u64 = 9;
+
+/// The internal key of an entry.
+fn key_of(rt: &(impl Abort + AllocGlobal), row: Row) -> Result<KeyBuf, Fault> {
+    assert!(rt; row.user.len() <= MAX_USER_KEY);
+    KeyBuf::new(rt.alloc(), row.user, u64::from(row.sequence), row.kind)
+}
+
+/// The table of these entries, each with a value of one byte.
+fn written(rt: &(impl Abort + AllocGlobal), rows: &[Row]) -> Result<Vec<u8>, Fail> {
+    let options = Options::default();
+    assert!(rt; options.are_in_limits());
+    let mut table = TableBuilder::<Bytewise>::new(rt.alloc(), options);
+    for row in rows {
+        let key = key_of(rt, *row)?;
+        assert!(rt; table.is_above_last(&key.as_key()));
+        table.add(key.as_key(), b"x")?;
+    }
+    Ok(table.finish()?)
+}
+
+/// Inputs of which only the grandparents are told.
+fn inputs(rt: &(impl Abort + AllocGlobal), grandparents: &[Grandparent]) -> Result<Inputs, Fail> {
+    let alloc = rt.alloc();
+    let mut inputs = Inputs {
+        level: 1,
+        files: Vec::new(alloc),
+        grandparents: Vec::new(alloc),
+        deeper: Vec::new(alloc),
+        pointer: CompactPointer {
+            level: 1,
+            key: key_of(rt, put(b"z", 1))?,
+        },
+    };
+    for file in grandparents {
+        inputs.grandparents.push(FileMeta {
+            number: 3,
+            size: file.size,
+            smallest: key_of(rt, file.key)?,
+            largest: key_of(rt, file.key)?,
+        })?;
+    }
+    Ok(inputs)
+}
+
+/// The run of a range, after it is tested that the call may be made.
+fn merged<'a>(
+    rt: &(impl Abort + AllocGlobal),
+    cursors: &mut Vec<TableCursor<'a, Bytewise>>,
+    range: Range<'_>,
+    inputs: &Inputs,
+) -> Result<RangeRun<'a>, Fault> {
+    assert!(rt; is_rising(&LISTED));
+    assert!(rt; largest_rise::<Bytewise>(&inputs.grandparents));
+    merge_range::<Bytewise, _>(rt.alloc(), cursors, range, &LISTED, FLOOR, inputs)
+}
+
+/// The runs of a table, of one range or of two.
+fn runs_of<'a>(
+    rt: &(impl Abort + AllocGlobal),
+    bytes: &'a [u8],
+    boundary: Option<&[u8]>,
+    inputs: &Inputs,
+) -> Result<Vec<RangeRun<'a>>, Fail> {
+    let mut cursors = Vec::new(rt.alloc());
+    let table = check::<Bytewise>(rt.alloc(), bytes)?;
+    cursors.push(TableCursor::new(rt.alloc(), &table)?)?;
+    let mut runs = Vec::new(rt.alloc());
+    if boundary.is_some() {
+        let first = Range {
+            lower: None,
+            upper: boundary,
+        };
+        runs.push(merged(rt, &mut cursors, first, inputs)?)?;
+    }
+    let last = Range {
+        lower: boundary,
+        upper: None,
+    };
+    runs.push(merged(rt, &mut cursors, last, inputs)?)?;
+    Ok(runs)
+}
+
+/// The outputs of a case.
+fn outputs(rt: &(impl Abort + AllocGlobal), case: &Case<'_>) -> Result<Vec<Output>, Fail> {
+    let options = Options {
+        block_size: case.block_size,
+        restart_interval: 16,
+        file_size: case.file_size,
+    };
+    assert!(rt; options.are_in_limits());
+    let bytes = written(rt, case.rows)?;
+    let inputs = inputs(rt, case.grandparents)?;
+    let runs = runs_of(rt, &bytes, case.boundary, &inputs)?;
+    let plan = plan::<Bytewise>(
+        rt.alloc(),
+        &runs,
+        &inputs.grandparents,
+        options,
+        case.first_number,
+    )?;
+    let mut outputs = Vec::new(rt.alloc());
+    for place in 0..plan.len() {
+        let meta = plan.output(place);
+        outputs.push(Output {
+            number: meta.number,
+            entries: meta.entries,
+            len: meta.len,
+        })?;
+    }
+    Ok(outputs)
+}
+
+/// How many entries each output of a case has.
+fn entries(rt: &(impl Abort + AllocGlobal), case: &Case<'_>) -> Result<Vec<u64>, Fail> {
+    let mut counts = Vec::new(rt.alloc());
+    for output in outputs(rt, case)? {
+        counts.push(output.entries)?;
+    }
+    Ok(counts)
+}
+
+/// Three grandparents of one user key each, with the second and the third as large as the first.
+fn three() -> [Grandparent; 3] {
+    [
+        Grandparent {
+            key: put(b"bb", 1),
+            size: 120,
+        },
+        Grandparent {
+            key: put(b"d", 1),
+            size: 60,
+        },
+        Grandparent {
+            key: put(b"ff", 1),
+            size: 60,
+        },
+    ]
+}
+
+#[test]
+fn stops_are_asked_at_dropped_keys_too(rt: HostRuntime) -> Result<(), Fail> {
+    let rows = [
+        put(b"a", 1),
+        put(b"b", 2),
+        del(b"c", 3),
+        put(b"f", 4),
+        put(b"g", 5),
+    ];
+    let grandparents = three();
+    for boundary in [None, Some(b"c".as_slice()), Some(b"f".as_slice())] {
+        let case = Case {
+            rows: &rows,
+            grandparents: &grandparents,
+            boundary,
+            block_size: 4_096,
+            file_size: 10,
+            first_number: 5,
+        };
+        assert_eq!(rt; entries(&rt, &case)?.as_slice(), [2, 1, 1].as_slice());
+    }
+    Ok(())
+}
+
+#[test]
+fn a_stop_waits_for_the_next_user_key(rt: HostRuntime) -> Result<(), Fail> {
+    let rows = [put(b"a", 1), put(b"f", 9), put(b"f", 4), put(b"g", 5)];
+    let grandparents = [Grandparent {
+        key: put(b"f", 6),
+        size: 120,
+    }];
+    let case = Case {
+        rows: &rows,
+        grandparents: &grandparents,
+        boundary: None,
+        block_size: 4_096,
+        file_size: 10,
+        first_number: 5,
+    };
+    assert_eq!(rt; entries(&rt, &case)?.as_slice(), [3, 1].as_slice());
+    Ok(())
+}
+
+#[test]
+fn full_files_end_between_user_keys(rt: HostRuntime) -> Result<(), Fail> {
+    let each = [put(b"a", 1), put(b"b", 2), put(b"c", 3)];
+    let case = Case {
+        rows: &each,
+        grandparents: &[],
+        boundary: Some(b"b"),
+        block_size: 1,
+        file_size: 1,
+        first_number: 5,
+    };
+    let output = |number, entries, len| Output {
+        number,
+        entries,
+        len,
+    };
+    assert_eq!(rt;
+        outputs(&rt, &case)?.as_slice(),
+        [output(5, 1, 114), output(6, 1, 114), output(7, 1, 114)].as_slice()
+    );
+    let versions = [put(b"u", 9), put(b"u", 5), put(b"u", 3), put(b"v", 1)];
+    let case = Case {
+        rows: &versions,
+        ..case
+    };
+    assert_eq!(rt;
+        outputs(&rt, &case)?.as_slice(),
+        [output(5, 3, 202), output(6, 1, 114)].as_slice()
+    );
+    Ok(())
+}
+
+#[test]
+fn an_open_block_is_not_counted(rt: HostRuntime) -> Result<(), Fail> {
+    let rows = [put(b"a", 1), put(b"b", 2), put(b"c", 3)];
+    let case = Case {
+        rows: &rows,
+        grandparents: &[],
+        boundary: Some(b"b"),
+        block_size: 4_096,
+        file_size: 10,
+        first_number: 5,
+    };
+    assert_eq!(rt; entries(&rt, &case)?.as_slice(), [3].as_slice());
+    Ok(())
+}
+
+#[test]
+fn numbers_run_out(rt: HostRuntime) -> Result<(), Fail> {
+    let options = Options::default();
+    assert!(rt; options.are_in_limits());
+    let inputs = inputs(&rt, &[])?;
+    let bytes = written(&rt, &[put(b"a", 1)])?;
+    let runs = runs_of(&rt, &bytes, None, &inputs)?;
+    let refused = plan::<Bytewise>(rt.alloc(), &runs, &[], options, u64::MAX);
+    let named = match refused {
+        Ok(_) => false,
+        Err(fault) => fault.name == FaultName::Numbers,
+    };
+    assert!(rt; named);
+    let none = plan::<Bytewise>(rt.alloc(), &[], &[], options, u64::MAX)?;
+    assert!(rt; none.is_empty());
+    Ok(())
+}
+
+#[test]
+fn an_output_tells_its_bounds(rt: HostRuntime) -> Result<(), Fail> {
+    let options = Options::default();
+    assert!(rt; options.are_in_limits());
+    let inputs = inputs(&rt, &[])?;
+    let bytes = written(&rt, &[put(b"a", 1), put(b"b", 2), put(b"c", 3)])?;
+    let runs = runs_of(&rt, &bytes, Some(b"b"), &inputs)?;
+    let plan = plan::<Bytewise>(rt.alloc(), &runs, &[], options, 7)?;
+    assert_eq!(rt; plan.len(), 1);
+    let meta = plan.output(0);
+    assert!(rt; meta.smallest.user() == b"a".as_slice() && meta.largest.user() == b"c".as_slice());
+    assert_eq!(rt; meta.blocks, 1);
+    Ok(())
+}
+
+#[test]
+fn each_small_block_is_a_piece(rt: HostRuntime) -> Result<(), Fail> {
+    let options = Options {
+        block_size: 1,
+        restart_interval: 16,
+        file_size: 1,
+    };
+    assert!(rt; options.are_in_limits());
+    let inputs = inputs(&rt, &[])?;
+    let bytes = written(&rt, &[put(b"a", 1), put(b"b", 2), put(b"c", 3)])?;
+    let runs = runs_of(&rt, &bytes, Some(b"b"), &inputs)?;
+    let plan = plan::<Bytewise>(rt.alloc(), &runs, &[], options, 5)?;
+    assert_eq!(rt; plan.jobs(), 3);
+    for job in 0..plan.jobs() {
+        let piece = plan.encode(rt.alloc(), job)?;
+        assert_eq!(rt; piece.len(), 26);
+    }
+    Ok(())
+}
 
 #[test]
 fn the_laws_are_called(rt: HostRuntime) {

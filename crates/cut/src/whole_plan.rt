@@ -1,6 +1,6 @@
 //! A plan that is made.
 
-ghost use Rattle.std.specs.Prelude.{◌≡◌, ◌<◌, ◌≤◌, ◌↔◌, [], length, slice_get, slice_range, IfSome, IfOk, IfErr, IsTrue, Ok, Some, map};
+ghost use Rattle.std.specs.Prelude.{◌≡◌, ◌<◌, ◌≤◌, ◌^◌, ◌↔◌, [], length, slice_get, slice_range, IfSome, IfOk, IfErr, IsTrue, Ok, Some, map};
 ghost use Rattle.coding.specs.Answers.{EqualOrMemory, fault};
 ghost use Rattle.coding.specs.declared.fault.FaultName.TheVariants.{Memory};
 ghost use Rattle.table.specs.Table.{table};
@@ -78,12 +78,13 @@ impl<'r, 'a, C: Comparator> Plan<'r, 'a, C> {
         self.outputs.is_empty()
     }
 
-    /// How many pieces are to be encoded. Takes no memory.
+    /// How many pieces are to be encoded, at most 2^40. Takes no memory.
     ///
     /// A piece is consecutive data blocks of one output, each with its trailer. Where all outputs together have fewer than 64
     /// data blocks each is a piece; else a piece ends with the block at which its bytes reach 2^22.
     pub fn jobs(&self) -> u64
-        ensures { result ≡ jobs self.now.options (lists_in self.now.outputs) }
+        ensures number { result ≡ jobs self.now.options (lists_in self.now.outputs) }
+        ensures few { result ≤ 2 ^ 40 }
     {
         self.pieces.len() as u64
     }

@@ -4,3 +4,6 @@ pub mod RangeAnswers
 pub mod TableBytes
 pub mod Cursors
 pub mod Accepted
+mod PieceAnswers
+mod Joined
+mod NewFiles

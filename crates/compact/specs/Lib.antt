@@ -1,2 +1,4 @@
 -- what contracts rest on
 pub mod Runs
+pub mod Encoded
+pub mod Answered

@@ -5,10 +5,15 @@
 //! in which they came to their jobs.
 #![tactic(auto)]
 
+mod compaction;
+mod edit_bytes;
+mod encoding;
 mod inputs;
 mod merged;
 mod ranges;
+mod writing;
 
+pub use compaction::compact;
 pub use inputs::check_inputs;
 pub use merged::merge_request;
 pub use ranges::merge_ranges;

@@ -121,9 +121,10 @@ pub fn plan<'r, 'a, C: Comparator>(
     first_number: u64,
 ) -> Result<Plan<'r, 'a, C>, Fault>
     requires { AreInLimits options }
-    ensures { EqualOrMemory (λ p. p.outputs) result
+    ensures outputs { EqualOrMemory (λ p. p.outputs) result
         (plan_of (table C.cmp C.separator_of C.successor_of options) options first_number
         (outputs_of grandparents.now options (joined_run runs.now))) }
+    ensures options { IfOk result (λ p. p.options ≡ options) }
 {
     let ended = outputs(alloc, runs, grandparents, options)?;
     if ended.len() as u64 > u64::MAX - first_number {

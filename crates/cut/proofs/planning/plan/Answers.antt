@@ -1,4 +1,4 @@
-use Rattle.std.proofs.Common.{◌≡◌, ◌≢◌, ◌+◌, ◌^◌, ◌<◌, ◌≤◌, ℕ, List, [], true, false, length, map, Ok, Err, sym, ap, subst, ◌∙◌, arith}
+use Rattle.std.proofs.Common.{◌≡◌, ◌≢◌, ◌+◌, ◌^◌, ◌<◌, ◌≤◌, ℕ, List, [], true, false, length, map, Ok, Err, sym, ap, subst, ◌∙◌, arith, refl}
 use Rattle.std.specs.List.{AllByRecursion}
 use Rattle.coding.proofs.Refusals.{FailsOrMemory-from}
 use Rattle.block.specs.Piece.{Entry}
@@ -34,8 +34,11 @@ returns-then-not-are_small g c =
     let fits : c.args.first_number + length c.in_ok-ended.ended.items < 2 ^ 64 = omega arith in
     let large : are_small (numbered_from (table_size (index_keys cmp separator_of successor_of)) c.args.first_number c.in_ok-ended.ended.items) ≡ false =
     sym (ap are_small (c.deref.ensures.value ∙ c.in_ok-outputs.ensures.ok)) ∙ sym c.are_small.ensures ∙ c.if-not-are_small.true in
-    FailsOrMemory-from c.of-then-not-are_small.result _
-    (plan_large cmp separator_of successor_of o c.args.first_number c.in_ok-ended.ended.items lists made fits large ∙ ap Err (sym c.of-then-not-are_small.ensures))
+    record {
+      outputs = FailsOrMemory-from c.of-then-not-are_small.result _
+        (plan_large cmp separator_of successor_of o c.args.first_number c.in_ok-ended.ended.items lists made fits large ∙ ap Err (sym c.of-then-not-are_small.ensures));
+      options = tt;
+    }
 
 pub invariant_of-result : goal.invariant_of-result
 invariant_of-result g c =
@@ -81,5 +84,8 @@ returns g c =
     let fits : c.args.first_number + length c.in_ok-ended.ended.items < 2 ^ 64 = omega arith in
     let small : are_small (numbered_from (table_size (index_keys cmp separator_of successor_of)) c.args.first_number c.in_ok-ended.ended.items) ≡ true =
     sym (ap are_small (c.deref.ensures.value ∙ c.in_ok-outputs.ensures.ok)) ∙ sym c.are_small.ensures ∙ c.if-not-are_small.false in
-    plan_made cmp separator_of successor_of o c.args.first_number c.in_ok-ended.ended.items lists made fits small
-    ∙ ap (λ (ps : List PlannedOutput). Ok (map planned_of ps)) (sym c.in_ok-outputs.ensures.ok)
+    record {
+      outputs = plan_made cmp separator_of successor_of o c.args.first_number c.in_ok-ended.ended.items lists made fits small
+        ∙ ap (λ (ps : List PlannedOutput). Ok (map planned_of ps)) (sym c.in_ok-outputs.ensures.ok);
+      options = refl;
+    }

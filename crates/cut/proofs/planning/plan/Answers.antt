@@ -36,7 +36,7 @@ returns-then-not-are_small g c =
     sym (ap are_small (c.deref.ensures.value ∙ c.in_ok-outputs.ensures.ok)) ∙ sym c.are_small.ensures ∙ c.if-not-are_small.true in
     record {
       outputs = FailsOrMemory-from c.of-then-not-are_small.result _
-        (plan_large cmp separator_of successor_of o c.args.first_number c.in_ok-ended.ended.items lists made fits large ∙ ap Err (sym c.of-then-not-are_small.ensures));
+          (plan_large cmp separator_of successor_of o c.args.first_number c.in_ok-ended.ended.items lists made fits large ∙ ap Err (sym c.of-then-not-are_small.ensures));
       options = tt;
     }
 
@@ -86,6 +86,6 @@ returns g c =
     sym (ap are_small (c.deref.ensures.value ∙ c.in_ok-outputs.ensures.ok)) ∙ sym c.are_small.ensures ∙ c.if-not-are_small.false in
     record {
       outputs = plan_made cmp separator_of successor_of o c.args.first_number c.in_ok-ended.ended.items lists made fits small
-        ∙ ap (λ (ps : List PlannedOutput). Ok (map planned_of ps)) (sym c.in_ok-outputs.ensures.ok);
+          ∙ ap (λ (ps : List PlannedOutput). Ok (map planned_of ps)) (sym c.in_ok-outputs.ensures.ok);
       options = refl;
     }

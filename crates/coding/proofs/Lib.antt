@@ -9,3 +9,4 @@ pub mod CrcRegisterLemmas
 pub mod CrcTables
 pub mod Bytes
 pub mod Binds
+pub mod Beginnings

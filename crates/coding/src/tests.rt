@@ -68,6 +68,22 @@ fn slices_are_spelt(rt: HostRuntime) -> Result<(), Fail> {
 }
 
 #[test]
+fn beginnings_are_found(rt: HostRuntime) {
+    let rows = [
+        (b"".as_slice(), b"abc".as_slice(), 0),
+        (b"abc", b"abd", 2),
+        (b"abcdefgh", b"abcdefgh", 8),
+        (b"abcdefghij", b"abcdefghijkl", 10),
+        (b"abcdefghijkl", b"abcdefghijXl", 10),
+        (b"abcdeFghijklmnopqr", b"abcdefghijklmnopqr", 5),
+        (b"abcdefghijklmnopQr", b"abcdefghijklmnopqr", 16),
+    ];
+    for (a, b, want) in rows {
+        assert_eq!(rt; common_len(a, b), want);
+    }
+}
+
+#[test]
 fn faults_have_numbers(rt: HostRuntime) {
     let rows = [
         (FaultName::NoInput, 1),

@@ -2,3 +2,4 @@ pub mod Keys
 pub mod Ordered
 pub mod Shortened
 pub mod Answered
+pub mod Words

@@ -1,16 +1,20 @@
 //! The order of user keys as unsigned bytes.
 
-ghost use Rattle.std.specs.Prelude.{◌≡◌, ℕ, ◌+◌, ◌<◌, List, Ok, length, nat_eq, slice_index};
-ghost use Rattle.std.specs.List.{common_prefix_len};
+ghost use Rattle.std.specs.Prelude.{◌≡◌, ℕ, ◌+◌, ◌<◌, ◌≤◌, List, Ok, length, drop, slice_index};
+ghost use Rattle.byteorder.specs.Endian.{big_number};
 ghost use Rattle.coding.specs.Answers.{EqualOrMemory};
 ghost use Rattle.ikey.specs.Bytewise.{bytewise_name, bytewise_cmp, bytewise_separator, bytewise_successor, first_raisable, raised_at};
 ghost use Rattle.std.proofs.lemmas.Cmp.{nat_list_cmp_total};
 ghost use Rattle.ikey.specs.BytewiseLaws.{bytewise_exact, bytewise_between, bytewise_above};
 
 use crate::comparator::{Comparator, SharedComparator};
-use coding::Fault;
+use byteorder::{BigEndian, ByteOrder};
+use coding::{Fault, common_len};
 use std::alloc::Global;
 use std::cmp::Ordering;
+
+/// How many bytes of two keys are compared at once.
+const WORD_LEN: usize = 8;
 
 /// User keys as unsigned bytes, a proper prefix first. Its separator and its successor raise one byte
 /// by one and cut off the rest, where that serves.
@@ -38,12 +42,12 @@ impl Comparator for Bytewise {
     }
 
     fn compare(a: &[u8], b: &[u8]) -> Ordering {
-        a.cmp(b)
+        by_words(a, b)
     }
 
     #[tactic(auto, unfolding(crate::specs::Bytewise::bytewise_separator))]
     fn separator(alloc: Global, start: &[u8], limit: &[u8]) -> Result<Vec<u8>, Fault> {
-        let place = shared_length(start, limit);
+        let place = common_len(start, limit);
         if place < start.len()
             && place < limit.len()
             && start[place] < 0xff
@@ -66,17 +70,45 @@ impl Comparator for Bytewise {
 
 impl SharedComparator for Bytewise {}
 
-/// The number of bytes at the front of both.
-fn shared_length(a: &[u8], b: &[u8]) -> usize
-    ensures { result ≡ common_prefix_len nat_eq a.now b.now }
+/// How two keys are ordered, found by words of eight bytes, the most significant byte first.
+#[inline]
+fn by_words(a: &[u8], b: &[u8]) -> Ordering
+    ensures { result ≡ bytewise_cmp a.now b.now }
 {
     let shorter = a.len().min(b.len());
-    for place in 0..shorter {
-        if a[place] != b[place] {
-            return place;
+    if shorter < WORD_LEN {
+        return by_bytes(a, b);
+    }
+    for i in 0..shorter / WORD_LEN {
+        let word = word_at(a, WORD_LEN * i);
+        let other = word_at(b, WORD_LEN * i);
+        if word != other {
+            return word.cmp(&other);
         }
     }
-    shorter
+    // The last word of the shorter one may begin among bytes that were compared.
+    let last = word_at(a, shorter - WORD_LEN);
+    let other = word_at(b, shorter - WORD_LEN);
+    if last != other {
+        return last.cmp(&other);
+    }
+    a.len().cmp(&b.len())
+}
+
+/// How two keys are ordered, found byte by byte.
+fn by_bytes(a: &[u8], b: &[u8]) -> Ordering
+    ensures { result ≡ bytewise_cmp a.now b.now }
+{
+    a.cmp(b)
+}
+
+/// The number in the eight bytes from a place on, the most significant first.
+#[inline]
+fn word_at(bytes: &[u8], place: usize) -> u64
+    requires { place + 8 ≤ length bytes.now }
+    ensures { result ≡ big_number 8 (drop place bytes.now) }
+{
+    BigEndian::read_u64(&bytes[place..])
 }
 
 /// The place of the first byte that is not 0xff, or the length where there is none.

@@ -44,6 +44,16 @@ fn orders_of_user_keys(rt: HostRuntime) {
     assert_eq!(rt; Shortlex::name(), "subcompaction.ShortlexComparator");
     assert!(rt; Bytewise::compare(b"aa", b"b") == Ordering::Less);
     assert!(rt; Shortlex::compare(b"b", b"aa") == Ordering::Less);
+    for (lesser, greater) in [
+        (b"abcdefgh".as_slice(), b"abcdefghi".as_slice()),
+        (b"abcdefg\x01", b"abcdefg\xff"),
+        (b"\x01bcdefgh\xff", b"\xffbcdefgh\x01"),
+        (b"abcdefghijk\x01mnop", b"abcdefghijk\xffmnop"),
+    ] {
+        assert!(rt; Bytewise::compare(lesser, greater) == Ordering::Less);
+        assert!(rt; Bytewise::compare(greater, lesser) == Ordering::Greater);
+        assert!(rt; Bytewise::compare(lesser, lesser) == Ordering::Equal);
+    }
 }
 
 /// The name of a comparator that threads may share.

@@ -1,6 +1,6 @@
 use Rattle.std.proofs.Common.{◌≡◌, ◌+◌, drop, nat_eq}
 use Rattle.std.specs.List.{common_prefix_len}
-use Rattle.ikey.proofs.bytewise.shared_length.Given as goal
+use Rattle.coding.proofs.words.common_bytes.Given as goal
 
 abbrev pub invariant-loop-place : goal.invariant-loop-place
 invariant-loop-place l =

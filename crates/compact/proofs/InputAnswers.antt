@@ -25,11 +25,11 @@ use Rattle.compact.specs.Runs.{input_answers}
 
 -- ---- what a version states
 
-first_from : (es : List Entry) (key : List ℕ) → Some key ≡ option_map (λ e. e.key) (slice_get es 0) → key ≡ first_key es
+pub first_from : (es : List Entry) (key : List ℕ) → Some key ≡ option_map (λ e. e.key) (slice_get es 0) → key ≡ first_key es
 first_from [] key h = absurd cc
 first_from (e ∷ es) key h = same_Some key e.key h
 
-last_from : (es : List Entry) (key : List ℕ) → Some key ≡ option_map (λ e. e.key) (slice_get es (length es - 1)) → key ≡ last_key [] es
+pub last_from : (es : List Entry) (key : List ℕ) → Some key ≡ option_map (λ e. e.key) (slice_get es (length es - 1)) → key ≡ last_key [] es
 last_from [] key h = absurd cc
 last_from (e ∷ es) key h = same_Some key (last_key [] (e ∷ es)) (h ∙ last_is (e ∷ es) (record { first = e; others = es; same = refl }))
 

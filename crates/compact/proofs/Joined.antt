@@ -1,6 +1,6 @@
 -- The runs of a request, and what one thread answers: both go on from the union of the inputs.
 use Rattle.std.proofs.Common.{◌≡◌, ℕ, suc, ◌+◌, ◌<◌, ◌≤◌, ◌^◌, Bool, true, false, List, [], ◌∷◌, length, Result, Ok, Err, refl, sym, ap, subst, ◌∙◌}
-use Rattle.std.specs.Prelude.{nat_le, nat_lt, ◌&&◌, ◌↔◌, if◌then◌else◌}
+use Rattle.std.specs.Prelude.{nat_le, nat_lt, ◌&&◌, ◌↔◌, if◌then◌else◌, IfOk}
 use Rattle.std.specs.declared.cmp.Ordering.{Ordering}
 use Rattle.std.specs.List.{list_all}
 use Rattle.std.proofs.lemmas.Bool.{and_parts, leb-true, ltb-true}
@@ -8,7 +8,7 @@ use Rattle.table.specs.declared.options.Options.{Options}
 use Rattle.cut.specs.Plan.{Planned, plan_of, planned_from, parts}
 use Rattle.coding.specs.declared.fault.Fault.{Fault}
 use Rattle.coding.specs.declared.fault.FaultName.TheVariants.{Workers, Duplicate, Numbers, TooLarge}
-use Rattle.coding.specs.Answers.{fault, ◌>>=◌, FailsOrMemory}
+use Rattle.coding.specs.Answers.{fault, ◌>>=◌, EqualOrMemory, FailsOrMemory}
 use Rattle.coding.proofs.Refusals.{unless_from}
 use Rattle.block.specs.Piece.{Entry}
 use Rattle.table.specs.ReadingSteps.{pass}
@@ -20,21 +20,12 @@ use Rattle.keep.specs.Runs.{Run, are_distinct, joined_run, runs_of, DistinctLaw}
 use Rattle.cut.specs.Outputs.{outputs, outputs_of, RangesCutLaw}
 use Rattle.request.specs.Request.{Asked, below_asked, request_test}
 use Rattle.request.specs.Inputs.{inputs_reading, union_reading}
-use Rattle.request.specs.OneThread.{Answer, compacted}
-use Rattle.compact.specs.Runs.{by_workers, request_runs}
+use Rattle.request.specs.OneThread.{Answer, one_thread}
+use Rattle.compact.specs.Runs.{by_workers, runs_reading}
 use Rattle.compact.specs.Answered.{written_of}
+use Rattle.compact.proofs.Working.{within, within_limits}
 
 -- ---- steps
-
-chain : {A B D : Type 0} (t : Result (Unit {0}) Fault) (i : Result A Fault) (u : A → Result B Fault) (k : B → Result D Fault)
-    → (t >>= λ _. (i >>= λ x. (u x >>= k))) ≡ ((t >>= λ _. (i >>= u)) >>= k)
-chain (Ok a) (Ok x) u k = refl
-chain (Ok a) (Err e) u k = refl
-chain (Err e) i u k = refl
-
-behind : {A B : Type 0} (w : Result (Unit {0}) Fault) (f : Result A Fault) (k : A → Result B Fault) → (w >>= λ _. (f >>= k)) ≡ ((w >>= λ _. f) >>= k)
-behind (Ok a) f k = refl
-behind (Err e) f k = refl
 
 -- a step that was taken, and the next one
 pub record Taken {A B : Type 0} (step : Result A Fault) (next : A → Result B Fault) (b : B) : Type 0 where
@@ -54,10 +45,6 @@ fails_on {A} {B} {D} f r k e h = unless_from e _ _ (by f) h
     by (Ok u) is = absurd cc
     by (Err d) is = cc
 
-passed : (b : Bool) (a : Unit {0}) → pass b Workers ≡ Ok a → b ≡ true
-passed true a h = refl
-passed false a h = absurd cc
-
 abbrev if_distinct : Bool → List Entry → Result (List Entry) Fault
 if_distinct d m = if d then Ok m else Err (fault Duplicate)
 
@@ -74,66 +61,77 @@ same_ok a b h = cc
 -- ---- a request
 
 module _ (cmp : List ℕ → List ℕ → Ordering) (separator_of : List ℕ → List ℕ → List ℕ) (successor_of : List ℕ → List ℕ) (r : Asked) where
-  -- the union of the inputs, or the first refusal before it
-  abbrev pub front : ℕ → Result (List Entry) Fault
-  front workers = pass (nat_le 1 workers && nat_le workers 64) Workers >>= λ _. (request_test cmp r >>= λ _. (inputs_reading cmp 0 r.picked.files r.tables >>= union_reading cmp))
-
-  -- what one thread goes on with
-  abbrev pub ending : List Entry → Result Answer Fault
+  -- what one thread goes on with from the union of the inputs
+  abbrev ending : List Entry → Result Answer Fault
   ending union = written_of (table cmp separator_of successor_of r.options) r (outputs cmp (below_asked r) r.options union)
 
-  pub runs_are : (boundaries : List (List ℕ)) (workers : ℕ) → by_workers workers (request_runs cmp boundaries r) ≡ (front workers >>= λ union. Ok (runs_of cmp (below_asked r) boundaries union))
-  runs_are boundaries workers =
-      ap (λ (x : Result (List Run) Fault). pass (nat_le 1 workers && nat_le workers 64) Workers >>= λ _. x)
-      (chain (request_test cmp r) (inputs_reading cmp 0 r.picked.files r.tables) (union_reading cmp) (λ union. Ok (runs_of cmp (below_asked r) boundaries union)))
-      ∙ behind (pass (nat_le 1 workers && nat_le workers 64) Workers) _ (λ union. Ok (runs_of cmp (below_asked r) boundaries union))
+  pub refused_test : (e : Fault) → request_test cmp r ≡ Err e → one_thread cmp separator_of successor_of r ≡ Err e
+  refused_test e h = ap (λ (t : Result (Unit {0}) Fault). t >>= λ _. (inputs_reading cmp 0 r.picked.files r.tables >>= λ lists. (union_reading cmp lists >>= ending))) h
 
-  pub answer_is : (workers : ℕ) → compacted cmp separator_of successor_of workers r ≡ (front workers >>= ending)
-  answer_is workers =
-      ap (λ (x : Result Answer Fault). pass (nat_le 1 workers && nat_le workers 64) Workers >>= λ _. x)
-      (chain (request_test cmp r) (inputs_reading cmp 0 r.picked.files r.tables) (union_reading cmp) ending)
-      ∙ behind (pass (nat_le 1 workers && nat_le workers 64) Workers) _ ending
+  tested_is : request_test cmp r ≡ Ok tt → one_thread cmp separator_of successor_of r ≡ (inputs_reading cmp 0 r.picked.files r.tables >>= λ lists. (union_reading cmp lists >>= ending))
+  tested_is h = ap (λ (t : Result (Unit {0}) Fault). t >>= λ _. (inputs_reading cmp 0 r.picked.files r.tables >>= λ lists. (union_reading cmp lists >>= ending))) h
 
-  -- what is known behind the runs
-  pub record Merged (boundaries : List (List ℕ)) (workers : ℕ) (runs : List Run) : Type 0 where
-    pub some : 1 ≤ workers
-    pub limited : workers ≤ 64
-    pub tested : request_test cmp r ≡ Ok tt
-    pub union : List Entry
-    pub front_is : front workers ≡ Ok union
-    pub rising : VersionsRise cmp union
-    pub runs_is : runs_of cmp (below_asked r) boundaries union ≡ runs
+  pub refused_input : (e : Fault) → request_test cmp r ≡ Ok tt → FailsOrMemory e (inputs_reading cmp 0 r.picked.files r.tables) → FailsOrMemory e (one_thread cmp separator_of successor_of r)
+  refused_input e tested h =
+      unless_from e _ _
+      (λ is. tested_is tested ∙ ap (λ (i : Result (List (List Entry)) Fault). i >>= λ lists. (union_reading cmp lists >>= ending)) is) h
 
-  pub merged_from : DistinctLaw cmp → (boundaries : List (List ℕ)) (workers : ℕ) (runs : List Run) → by_workers workers (request_runs cmp boundaries r) ≡ Ok runs → Merged boundaries workers runs
-  merged_from law boundaries workers runs h =
-      let whole = taken (front workers) (λ union. Ok (runs_of cmp (below_asked r) boundaries union)) runs (sym (runs_are boundaries workers) ∙ h) in
-      let w = taken (pass (nat_le 1 workers && nat_le workers 64) Workers) (λ _. (request_test cmp r >>= λ _. (inputs_reading cmp 0 r.picked.files r.tables >>= union_reading cmp))) whole.value whole.is in
-      let t = taken (request_test cmp r) (λ _. (inputs_reading cmp 0 r.picked.files r.tables >>= union_reading cmp)) whole.value w.goes_on in
-      let i = taken (inputs_reading cmp 0 r.picked.files r.tables) (union_reading cmp) whole.value t.goes_on in
-      let within = and_parts (nat_le 1 workers) (nat_le workers 64) (passed (nat_le 1 workers && nat_le workers 64) w.value w.is) in
-      let both = united (are_distinct (merged cmp i.value)) (merged cmp i.value) whole.value i.goes_on in
-      record {
-        some = leb-true 1 workers within.0;
-        limited = leb-true workers 64 within.1;
-        tested = t.is;
-        union = whole.value;
-        front_is = whole.is;
-        rising = ((law i.value whole.value).1 (both.1, both.0)).rising;
-        runs_is = same_ok (runs_of cmp (below_asked r) boundaries whole.value) runs whole.goes_on;
-      }
+  thread_is : (inputs : List (List Entry)) → request_test cmp r ≡ Ok tt → inputs_reading cmp 0 r.picked.files r.tables ≡ Ok inputs → one_thread cmp separator_of successor_of r ≡ (union_reading cmp inputs >>= ending)
+  thread_is inputs tested read = tested_is tested ∙ ap (λ (i : Result (List (List Entry)) Fault). i >>= λ lists. (union_reading cmp lists >>= ending)) read
 
-  -- so the answer is what is written of the outputs of the runs
-  pub whole_answer : RangesCutLaw cmp → (boundaries : List (List ℕ)) → IsSplit cmp boundaries → (workers : ℕ) (runs : List Run) → Merged boundaries workers runs
-      → compacted cmp separator_of successor_of workers r ≡ written_of (table cmp separator_of successor_of r.options) r (outputs_of r.picked.grandparents r.options (joined_run runs))
-  whole_answer law boundaries split workers runs m =
-      answer_is workers ∙ ap (λ (f : Result (List Entry) Fault). f >>= ending) m.front_is
-      ∙ ap (λ (os : List (List Entry)). written_of (table cmp separator_of successor_of r.options) r os)
-      (sym (ap (λ (rs : List Run). outputs_of r.picked.grandparents r.options (joined_run rs)) (sym m.runs_is) ∙ law (below_asked r) r.options boundaries m.union split m.rising))
+  module _ (inputs : List (List Entry)) (workers : ℕ) (some : 1 ≤ workers) (limited : workers ≤ 64) (tested : request_test cmp r ≡ Ok tt) (read : inputs_reading cmp 0 r.picked.files r.tables ≡ Ok inputs)
+      (boundaries : List (List ℕ)) where
+    abbrev all_runs : Result (List Run) Fault
+    all_runs = runs_reading cmp (below_asked r) boundaries inputs
 
-  pub refused_answer : (boundaries : List (List ℕ)) (workers : ℕ) (e : Fault) → FailsOrMemory e (by_workers workers (request_runs cmp boundaries r)) → FailsOrMemory e (compacted cmp separator_of successor_of workers r)
-  refused_answer boundaries workers e h =
-      subst (FailsOrMemory e) (sym (answer_is workers))
-      (fails_on (front workers) (runs_of cmp (below_asked r) boundaries) ending e (subst (FailsOrMemory e) (runs_are boundaries workers) h))
+    runs_are : by_workers workers all_runs ≡ all_runs
+    runs_are = within workers all_runs (within_limits workers some limited)
+
+    -- what one thread answers is what is written of the outputs of the runs
+    pub whole_answer : DistinctLaw cmp → RangesCutLaw cmp → IsSplit cmp boundaries → (runs : List Run) → by_workers workers all_runs ≡ Ok runs
+        → one_thread cmp separator_of successor_of r ≡ written_of (table cmp separator_of successor_of r.options) r (outputs_of r.picked.grandparents r.options (joined_run runs))
+    whole_answer distinct cut split runs h =
+        let step = taken (union_reading cmp inputs) (λ union. Ok (runs_of cmp (below_asked r) boundaries union)) runs (sym runs_are ∙ h) in
+        let union : List Entry = step.value in
+        let both = united (are_distinct (merged cmp inputs)) (merged cmp inputs) union step.is in
+        let rising : VersionsRise cmp union = ((distinct inputs union).1 (both.1, both.0)).rising in
+        let runs_is : runs_of cmp (below_asked r) boundaries union ≡ runs = same_ok (runs_of cmp (below_asked r) boundaries union) runs step.goes_on in
+        thread_is inputs tested read ∙ ap (λ (u : Result (List Entry) Fault). u >>= ending) step.is
+        ∙ ap (λ (os : List (List Entry)). written_of (table cmp separator_of successor_of r.options) r os)
+        (sym (ap (λ (rs : List Run). outputs_of r.picked.grandparents r.options (joined_run rs)) (sym runs_is) ∙ cut (below_asked r) r.options boundaries union split rising))
+
+    pub refused_answer : (e : Fault) → FailsOrMemory e (by_workers workers all_runs) → FailsOrMemory e (one_thread cmp separator_of successor_of r)
+    refused_answer e h =
+        subst (FailsOrMemory e) (sym (thread_is inputs tested read))
+        (fails_on (union_reading cmp inputs) (runs_of cmp (below_asked r) boundaries) ending e (subst (FailsOrMemory e) runs_are h))
+
+-- ---- before one thread
+
+module _ (workers : ℕ) (passes : pass (nat_le 1 workers && nat_le workers 64) Workers ≡ Ok tt) where
+  passed_both : (nat_le 1 workers ≡ true) × (nat_le workers 64 ≡ true)
+  passed_both = and_parts (nat_le 1 workers) (nat_le workers 64) (passed (nat_le 1 workers && nat_le workers 64) passes)
+    where
+      passed : (b : Bool) → pass b Workers ≡ Ok tt → b ≡ true
+      passed true h = refl
+      passed false h = absurd cc
+
+  pub some_worker : 1 ≤ workers
+  some_worker = leb-true 1 workers passed_both.0
+
+  pub few_workers : workers ≤ 64
+  few_workers = leb-true workers 64 passed_both.1
+
+  pub inputs_are : (inputs : Result (List (List Entry)) Fault) → by_workers workers inputs ≡ inputs
+  inputs_are inputs = ap (λ (w : Result (Unit {0}) Fault). w >>= λ _. inputs) passes
+
+  pub answer_is : (answer : Result Answer Fault) → by_workers workers answer ≡ answer
+  answer_is answer = ap (λ (w : Result (Unit {0}) Fault). w >>= λ _. answer) passes
+
+-- what a law says of each answer holds of what a call answers
+pub if_answered : {X : Type 0} (view : X → Answer) (P : Answer → Type 0) (result : Result X Fault) (answer : Result Answer Fault)
+    → EqualOrMemory view result answer → ((a : Answer) → answer ≡ Ok a → P a) → IfOk result (λ x. P (view x))
+if_answered view P (Ok x) answer same law = law (view x) same
+if_answered view P (Err e) answer same law = tt
 
 -- ---- a plan
 

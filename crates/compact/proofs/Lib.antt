@@ -2,8 +2,8 @@ pub mod Working
 pub mod InputAnswers
 pub mod RangeAnswers
 pub mod TableBytes
-pub mod Cursors
-pub mod Accepted
+pub mod ReadInputs
+mod Reaching
 mod PieceAnswers
 mod Joined
 mod NewFiles

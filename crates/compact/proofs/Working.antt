@@ -14,7 +14,7 @@ use Rattle.board.proofs.Collecting.{results_collected, refused_collected}
 use Rattle.compact.specs.Runs.{by_workers}
 
 -- a number of workers outside 1 to 64
-abbrev IsOutside : ℕ → Type 0
+abbrev pub IsOutside : ℕ → Type 0
 IsOutside workers = (workers ≡ 0) ⊎ (64 < workers)
 
 test_within : (workers : ℕ) → (IsOutside workers → ⊥) → (nat_le 1 workers && nat_le workers 64) ≡ true
@@ -29,7 +29,11 @@ test_within workers never =
     few_of : (n : ℕ) → (64 < n → ⊥) → n ≤ 64
     few_of n never = omega arith
 
-within : {A : Type 0} (workers : ℕ) (answer : Result A Fault) → (IsOutside workers → ⊥) → by_workers workers answer ≡ answer
+pub within_limits : (workers : ℕ) → 1 ≤ workers → workers ≤ 64 → IsOutside workers → ⊥
+within_limits workers some few (inl none) = omega (arith, none, some)
+within_limits workers some few (inr many) = omega (arith, many, few)
+
+pub within : {A : Type 0} (workers : ℕ) (answer : Result A Fault) → (IsOutside workers → ⊥) → by_workers workers answer ≡ answer
 within {A} workers answer never = ap (λ (b : Bool). pass b NamedWorkers >>= λ _. answer) (test_within workers never)
 
 outside : {A : Type 0} (workers : ℕ) (answer : Result A Fault) → IsOutside workers → by_workers workers answer ≡ Err (fault NamedWorkers)

@@ -9,8 +9,7 @@ use Rattle.table.specs.ReadingSteps.{pass}
 use Rattle.pick.specs.declared.picked.InputFile.{InputFile}
 use Rattle.keep.specs.Marks.{Below}
 use Rattle.keep.specs.Runs.{Run, range_run, ranges_of, runs_of}
-use Rattle.request.specs.Request.{Asked, below_asked, request_test}
-use Rattle.request.specs.Inputs.{about, input_reading, inputs_reading, union_reading}
+use Rattle.request.specs.Inputs.{about, input_reading, union_reading}
 
 -- what a run by so many workers answers: Workers where they are not from 1 to 64, else this
 abbrev pub by_workers : {A : Type 0} → ℕ → Result A Fault → Result A Fault
@@ -34,10 +33,3 @@ pub record Merging : Type 0 where
   pub below : Below
   pub boundaries : List (List ℕ)
   pub inputs : List (List Entry)
-
--- the runs that a request gives in the ranges between boundaries, or the first refusal: of the request, of an input, or Duplicate
-abbrev pub request_runs : (List ℕ → List ℕ → Ordering) → List (List ℕ) → Asked → Result (List Run) Fault
-request_runs cmp boundaries r = do
-  _ ← request_test cmp r
-  inputs ← inputs_reading cmp 0 r.picked.files r.tables
-  runs_reading cmp (below_asked r) boundaries inputs

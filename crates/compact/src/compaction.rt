@@ -1,28 +1,42 @@
 //! The whole of a compaction.
 
-ghost use Rattle.std.specs.Prelude.{◌≡◌, ◌≤◌, true, length};
+ghost use Rattle.std.specs.Prelude.{◌≡◌, ◌≤◌, true, map, Ok, IfOk};
 ghost use Rattle.coding.specs.Answers.{EqualOrMemory};
 ghost use Rattle.table.specs.Options.{AreInLimits};
 ghost use Rattle.table.specs.Table.{table};
+ghost use Rattle.split.specs.Boundaries.{IsSplit};
 ghost use Rattle.keep.specs.Runs.{joined_run};
 ghost use Rattle.pick.specs.Picked.{picked_in};
 ghost use Rattle.cut.specs.Outputs.{outputs_of};
-ghost use Rattle.request.specs.OneThread.{compacted};
-ghost use Rattle.request.specs.Request.{asked, has_levels};
+ghost use Rattle.request.specs.Inputs.{inputs_reading};
+ghost use Rattle.request.specs.OneThread.{compacted, one_thread};
+ghost use Rattle.request.specs.Request.{asked, has_levels, request_test};
+ghost use Rattle.survival.specs.Survive.{LeavesReads};
 ghost use Rattle.compact.specs.Answered.{answer_in, written_of};
 
-use crate::merged::merge_request;
+use crate::inputs::check_inputs;
+use crate::ranges::merge_ranges;
+use crate::workers::check_workers;
 use crate::writing::write_plan;
 use board::Gate;
 use coding::Fault;
 use cut::{plan, ranges_cut};
 use edit::Outcome;
-use ikey::SharedComparator;
+use ikey::{Comparator, SharedComparator};
 use keep::{RangeRun, distinct_law};
 use request::{Request, passed_law};
 use split::Split;
 use std::alloc::Global;
 use std::thread::Threads;
+use survival::reads_survive;
+use table::SoundTable;
+
+/// The law that the boundaries of a split rise. A call changes nothing.
+fn split_law<C: Comparator>(split: &Split<C>)
+    ensures { IsSplit C.cmp split.now }
+{
+    let _ = split.len();
+}
 
 /// Plans the outputs of runs, and writes them by 1 to 64 workers.
 fn write_runs<'r, 'a, C: SharedComparator + 'static, G: Gate + Sync, R: Threads + Sync>(
@@ -52,8 +66,68 @@ fn write_runs<'r, 'a, C: SharedComparator + 'static, G: Gate + Sync, R: Threads 
     write_plan(rt, alloc, request, &plan, workers, gate)
 }
 
+/// Merges the tables of a request that passed its tests, and writes the outputs and the edit.
+fn compact_sound<'t, C: SharedComparator + 'static, G: Gate + Sync, R: Threads + Sync>(
+    rt: &R,
+    alloc: Global,
+    request: &Request<'_>,
+    tables: &[SoundTable<'t, C>],
+    split: &Split<C>,
+    workers: u64,
+    gate: &G,
+) -> Result<Outcome, Fault>
+    requires some { 1 ≤ workers }
+    requires limited { workers ≤ 64 }
+    requires tested { request_test C.cmp (asked request.now) ≡ Ok tt }
+    requires read { inputs_reading C.cmp 0 request.now.picked.now.files.items (map (λ t. t.now) request.now.tables.now)
+        ≡ Ok (map (λ t. t.entries) tables.now) }
+    ensures { EqualOrMemory answer_in result (one_thread C.cmp C.separator_of C.successor_of (asked request.now)) }
+{
+    distinct_law::<C>();
+    ranges_cut::<C>();
+    passed_law::<C>();
+    split_law(split);
+    let inputs = request.picked;
+    let listed = request.snapshots.listed();
+    let floor = request.snapshots.floor(request.last_sequence);
+    let runs = merge_ranges(
+        rt, alloc, tables, split, listed, floor, inputs, workers, gate,
+    )?;
+    write_runs::<C, G, R>(rt, alloc, request, &runs, workers, gate)
+}
+
+/// Carries out a compaction over tables that are checked already, those of the request's inputs in their order: just what
+/// [`compact`] answers. No table is checked again.
+///
+/// `Workers` where these are not from 1 to 64. Else the first refusal of the request, as `Request::check` has it; else
+/// `Duplicate` where the tables hold one user key and sequence twice; else `Numbers` or `TooLarge` of the outputs; else
+/// refused for want of memory alone.
+pub fn compact_tables<'t, C: SharedComparator + 'static, G: Gate + Sync, R: Threads + Sync>(
+    rt: &R,
+    alloc: Global,
+    request: &Request<'_>,
+    tables: &[SoundTable<'t, C>],
+    split: &Split<C>,
+    workers: u64,
+    gate: &G,
+) -> Result<Outcome, Fault>
+    requires read { inputs_reading C.cmp 0 request.now.picked.now.files.items (map (λ t. t.now) request.now.tables.now)
+        ≡ Ok (map (λ t. t.entries) tables.now) }
+    ensures same { EqualOrMemory answer_in result (compacted C.cmp C.separator_of C.successor_of workers (asked request.now)) }
+    ensures reads { IfOk result (λ outcome. LeavesReads C.cmp (asked request.now) (answer_in outcome)) }
+{
+    reads_survive::<C>();
+    check_workers(workers)?;
+    request.check::<C>()?;
+    compact_sound(rt, alloc, request, tables, split, workers, gate)
+}
+
 /// Carries out a compaction by 1 to 64 workers, and answers its tables and its edit: just what one thread answers, whatever
 /// the ranges of the split, the number of workers and the order in which they come to their jobs.
+///
+/// Reads survive: where the inputs were picked from a lawful version and the request has its tables' bytes, its counters and
+/// a first number at or above its next file, the edit applies, the version after it is lawful with the outputs, and each get
+/// at a sequence that stays readable answers as before.
 ///
 /// `Workers` where these are not from 1 to 64. Else the first refusal of the request, as `Request::check` has it; else that of
 /// the first input that has one, with its place; else `Duplicate` where the inputs hold one user key and sequence twice; else
@@ -67,11 +141,13 @@ pub fn compact<'a, C: SharedComparator + 'static, G: Gate + Sync, R: Threads + S
     gate: &G,
 ) -> Result<Outcome, Fault>
     ensures same { EqualOrMemory answer_in result (compacted C.cmp C.separator_of C.successor_of workers (asked request.now)) }
+    ensures reads { IfOk result (λ outcome. LeavesReads C.cmp (asked request.now) (answer_in outcome)) }
 {
-    distinct_law::<C>();
-    ranges_cut::<C>();
+    reads_survive::<C>();
     passed_law::<C>();
-    let _ranges = split.len();
-    let runs = merge_request(rt, alloc, request, split, workers, gate)?;
-    write_runs::<C, G, R>(rt, alloc, request, &runs, workers, gate)
+    check_workers(workers)?;
+    request.check::<C>()?;
+    let files = &request.picked.files;
+    let tables = check_inputs::<C, G, R>(rt, alloc, files, request.tables, workers, gate)?;
+    compact_sound(rt, alloc, request, &tables, split, workers, gate)
 }

@@ -1,19 +1,23 @@
 //! The second run: the ranges are merged.
 
-ghost use Rattle.std.specs.Prelude.{◌≡◌, false, map, IfOk, IfErr, IsOkUnless, Ok};
+ghost use Rattle.std.specs.Prelude.{◌≡◌, ◌++◌, [], true, map, IfOk, IfErr, OnOk, IsOkUnless, Ok};
 ghost use Rattle.std.specs.List.Sorted.{IsStrictlyIncreasing};
+ghost use Rattle.std.specs.Option.{option_map, option_map_or};
+ghost use Rattle.std.specs.Ordering.{is_lt};
 ghost use Rattle.coding.specs.Answers.{EqualOrMemory, fault};
 ghost use Rattle.coding.specs.declared.fault.FaultName.TheVariants.{Memory};
-ghost use Rattle.split.specs.Ranges.{key_range};
+ghost use Rattle.ikey.specs.Key.{user_of};
 ghost use Rattle.table.specs.Reading.{table_reading};
-ghost use Rattle.keep.specs.Left.{is_before, LosesOnly, EachLosesOnly};
+ghost use Rattle.merge.specs.Merged.{joined};
+ghost use Rattle.split.specs.Ranges.{key_range};
+ghost use Rattle.keep.specs.InRange.{entries_in};
 ghost use Rattle.keep.specs.Marks.{below_of, LargestRise};
 ghost use Rattle.keep.specs.Runs.{range_run};
 ghost use Rattle.compact.specs.Runs.{by_workers, runs_reading};
 
 use board::{Gate, Labour, run};
 use coding::Fault;
-use ikey::{Comparator, SharedComparator};
+use ikey::{Comparator, InternalKey, SharedComparator};
 use keep::{RangeRun, merge_range, ranges_compose, seek_range};
 use pick::Inputs;
 use split::{Range, Split};
@@ -94,21 +98,64 @@ fn merge_tables<'t, C: Comparator + 't>(
     merge_range::<C, _>(alloc, &mut cursors, range, listed, floor, inputs)
 }
 
-/// A cursor over each table, but for entries before a range. Refused for want of memory alone.
+/// A cursor over each table that reaches into a range, but for entries before it. Refused for want of memory alone.
 fn cursors_from<'t, C: Comparator + 't>(
     alloc: Global,
     tables: &[SoundTable<'t, C>],
     range: Range<'_>,
 ) -> Result<Vec<TableCursor<'t, C>>, Fault>
-    ensures left { IfOk result (λ v.
-        EachLosesOnly (is_before C.cmp (key_range range.entry).lower false) (map (λ t. t.entries) tables.now) v.items) }
+    ensures held { IfOk result (λ v. entries_in C.cmp (key_range range.entry) (joined v.items)
+        ≡ entries_in C.cmp (key_range range.entry) (joined (map (λ t. t.entries) tables.now))) }
     ensures memory { IfErr result (λ e. e ≡ fault Memory) }
 {
-    let mut cursors = Vec::with_capacity(alloc, tables.len())?;
+    let mut cursors = Vec::new(alloc);
     for table in tables {
-        cursors.push(cursor_from(alloc, table, range)?)?;
+        add_cursor(alloc, &mut cursors, table, range)?;
     }
     Ok(cursors)
+}
+
+/// Puts a cursor over a table behind the others, but for entries before a range, where the table reaches into it. Refused
+/// for want of memory alone.
+fn add_cursor<'t, C: Comparator + 't>(
+    alloc: Global,
+    cursors: &mut Vec<TableCursor<'t, C>>,
+    table: &SoundTable<'t, C>,
+    range: Range<'_>,
+) -> Result<(), Fault>
+    ensures held { OnOk result (entries_in C.cmp (key_range range.entry) (joined cursors.new.items)
+        ≡ entries_in C.cmp (key_range range.entry) (joined cursors.old.items) ++ entries_in C.cmp (key_range range.entry) table.now.entries) }
+    ensures memory { IsOkUnless result (fault Memory) }
+{
+    if misses(table, range) {
+        return Ok(());
+    }
+    let cursor = cursor_from(alloc, table, range)?;
+    cursors.push(cursor)?;
+    Ok(())
+}
+
+/// Whether a table ends before a range or begins behind it, so that none of its entries lies in it. Takes no memory.
+fn misses<C: Comparator>(table: &SoundTable<'_, C>, range: Range<'_>) -> bool
+    ensures { result ≡ true → entries_in C.cmp (key_range range.entry) table.now.entries ≡ [] }
+{
+    let _ = table.bytes();
+    let begins = is_before::<C>(table.smallest(), range.upper, true);
+    let ends = is_before::<C>(table.largest(), range.lower, false);
+    if ends {
+        return true;
+    }
+    !begins
+}
+
+/// Whether a key's user key is before a bound; where there is no bound, what is said. Takes no memory.
+fn is_before<C: Comparator>(key: InternalKey<'_>, bound: Option<&[u8]>, otherwise: bool) -> bool
+    ensures { result ≡ option_map_or (λ limit. is_lt (C.cmp (user_of key.entry.bytes.now) limit)) (option_map (λ limit. limit.now) bound.entry) otherwise }
+{
+    match bound {
+        Some(limit) => C::compare(key.user(), limit).is_lt(),
+        None => otherwise,
+    }
 }
 
 /// A cursor over a table, but for entries before a range. Refused for want of memory alone.
@@ -117,8 +164,8 @@ fn cursor_from<'t, C: Comparator + 't>(
     table: &SoundTable<'t, C>,
     range: Range<'_>,
 ) -> Result<TableCursor<'t, C>, Fault>
-    ensures left { IfOk result (λ cursor.
-        LosesOnly (is_before C.cmp (key_range range.entry).lower false) table.now.entries cursor) }
+    ensures held { IfOk result (λ cursor.
+        entries_in C.cmp (key_range range.entry) cursor ≡ entries_in C.cmp (key_range range.entry) table.now.entries) }
     ensures memory { IfErr result (λ e. e ≡ fault Memory) }
 {
     let mut cursor = TableCursor::new(alloc, table)?;
@@ -134,7 +181,7 @@ fn seek_table<'t, C: Comparator + 't>(
     range: Range<'_>,
 ) -> Result<(), Fault>
     requires { table_reading C.cmp bytes.now ≡ Ok cursor.old }
-    ensures left { LosesOnly (is_before C.cmp (key_range range.entry).lower false) cursor.old cursor.new }
+    ensures held { entries_in C.cmp (key_range range.entry) cursor.new ≡ entries_in C.cmp (key_range range.entry) cursor.old }
     ensures memory { IsOkUnless result (fault Memory) }
 {
     let _ = bytes;

@@ -1,13 +1,12 @@
 //! Rows over threads: what no clause says is that calls succeed, and that the order in which workers come changes nothing.
 
-use crate::{check_inputs, merge_ranges, merge_request};
+use crate::{check_inputs, merge_ranges};
 use board::{Gate, Open};
 use coding::{Fault, FaultName};
 use edit::{CompactPointer, FileMeta};
-use ikey::{Bytewise, KeyBuf, Kind};
-use keep::{RangeRun, Snapshots, is_rising, largest_rise};
+use ikey::{Bytewise, KeyBuf, Kind, MAX_USER_KEY};
+use keep::{RangeRun, is_rising, largest_rise};
 use pick::{InputFile, Inputs};
-use request::Request;
 use split::Split;
 use std::alloc::Global;
 use std::process::Abort;
@@ -20,18 +19,51 @@ use table::{Options, TableBuilder};
 /// How often a worker that is held looks whether it may go on.
 const TURNS: u64 = 1_000_000;
 
-/// A user key of one byte, and a sequence, at which it is put.
-type Row = (u8, u64);
+/// An entry of a user key at a sequence, whose value is `x` where it is put.
+#[derive(Clone, Copy)]
+pub(crate) struct Row {
+    pub user: &'static [u8],
+    pub sequence: u8,
+    pub kind: Kind,
+}
+
+impl Row {
+    /// The value.
+    pub(crate) fn value(self) -> &'static [u8] {
+        match self.kind {
+            Kind::Put => b"x",
+            Kind::Delete => b"",
+        }
+    }
+}
+
+/// A value of a user key.
+pub(crate) fn put(user: &'static [u8], sequence: u8) -> Row {
+    Row {
+        user,
+        sequence,
+        kind: Kind::Put,
+    }
+}
+
+/// A deletion of a user key.
+pub(crate) fn del(user: &'static [u8], sequence: u8) -> Row {
+    Row {
+        user,
+        sequence,
+        kind: Kind::Delete,
+    }
+}
 
 /// What an input is made of: its entries, and how its bytes and what is stated of them are spoilt.
 #[derive(Clone, Copy)]
-struct Input<'r> {
-    rows: &'r [Row],
-    spoilt: Spoilt,
+pub(crate) struct Input<'r> {
+    pub rows: &'r [Row],
+    pub spoilt: Spoilt,
 }
 
 #[derive(Clone, Copy, PartialEq, Eq)]
-enum Spoilt {
+pub(crate) enum Spoilt {
     /// Not at all.
     No,
     /// A byte of the first data block, so that its checksum fails.
@@ -45,22 +77,22 @@ enum Spoilt {
 }
 
 /// An input that is not spoilt.
-fn sound(rows: &[Row]) -> Input<'_> {
+pub(crate) fn sound(rows: &[Row]) -> Input<'_> {
     Input {
         rows,
         spoilt: Spoilt::No,
     }
 }
 
-fn key_of(alloc: Global, row: Row) -> Result<KeyBuf, Fault> {
-    let (user, sequence) = row;
-    if sequence > 100 {
+/// The internal key of an entry.
+pub(crate) fn key_of(alloc: Global, row: Row) -> Result<KeyBuf, Fault> {
+    if row.user.len() > MAX_USER_KEY {
         return Err(Fault::of(FaultName::Key));
     }
-    KeyBuf::new(alloc, &[user], sequence, Kind::Put)
+    KeyBuf::new(alloc, row.user, u64::from(row.sequence), row.kind)
 }
 
-/// The table of these entries, each with a value of one byte.
+/// The table of these entries.
 fn written(rt: &(impl Abort + AllocGlobal), rows: &[Row]) -> Result<Vec<u8>, Fail> {
     let options = Options::default();
     assert!(rt; options.are_in_limits());
@@ -68,13 +100,16 @@ fn written(rt: &(impl Abort + AllocGlobal), rows: &[Row]) -> Result<Vec<u8>, Fai
     for row in rows {
         let key = key_of(rt.alloc(), *row)?;
         assert!(rt; table.is_above_last(&key.as_key()));
-        table.add(key.as_key(), b"x")?;
+        table.add(key.as_key(), row.value())?;
     }
     Ok(table.finish()?)
 }
 
 /// The bytes of each input.
-fn tables(rt: &(impl Abort + AllocGlobal), inputs: &[Input<'_>]) -> Result<Vec<Vec<u8>>, Fail> {
+pub(crate) fn tables(
+    rt: &(impl Abort + AllocGlobal),
+    inputs: &[Input<'_>],
+) -> Result<Vec<Vec<u8>>, Fail> {
     let mut tables = Vec::new(rt.alloc());
     for input in inputs {
         let mut bytes = written(rt, input.rows)?;
@@ -91,7 +126,7 @@ fn tables(rt: &(impl Abort + AllocGlobal), inputs: &[Input<'_>]) -> Result<Vec<V
 }
 
 /// What a version states of each input.
-fn files(
+pub(crate) fn files(
     rt: &(impl Abort + AllocGlobal),
     inputs: &[Input<'_>],
     tables: &[Vec<u8>],
@@ -108,7 +143,7 @@ fn files(
         };
         match input.spoilt {
             Spoilt::Size => meta.size = 1,
-            Spoilt::Largest => meta.largest = key_of(rt.alloc(), (b'~', 1))?,
+            Spoilt::Largest => meta.largest = key_of(rt.alloc(), put(b"~", 1))?,
             _ => {}
         }
         files.push(InputFile { level: 1, meta })?;
@@ -118,7 +153,7 @@ fn files(
 }
 
 /// The bytes, lent.
-fn lent<'a>(alloc: Global, tables: &'a [Vec<u8>]) -> Result<Vec<&'a [u8]>, Fail> {
+pub(crate) fn lent<'a>(alloc: Global, tables: &'a [Vec<u8>]) -> Result<Vec<&'a [u8]>, Fail> {
     let mut all = Vec::new(alloc);
     for bytes in tables {
         all.push(bytes.as_slice())?;
@@ -187,12 +222,39 @@ fn late_gate() -> Late {
 }
 
 const A: Input<'static> = Input {
-    rows: &[(b'a', 1), (b'u', 5)],
+    rows: &[
+        Row {
+            user: b"a",
+            sequence: 1,
+            kind: Kind::Put,
+        },
+        Row {
+            user: b"u",
+            sequence: 5,
+            kind: Kind::Put,
+        },
+    ],
     spoilt: Spoilt::No,
 };
 
 const B: Input<'static> = Input {
-    rows: &[(b'c', 3), (b'u', 9), (b'z', 2)],
+    rows: &[
+        Row {
+            user: b"c",
+            sequence: 3,
+            kind: Kind::Put,
+        },
+        Row {
+            user: b"u",
+            sequence: 9,
+            kind: Kind::Put,
+        },
+        Row {
+            user: b"z",
+            sequence: 2,
+            kind: Kind::Put,
+        },
+    ],
     spoilt: Spoilt::No,
 };
 
@@ -270,20 +332,20 @@ fn below(alloc: Global) -> Result<Inputs, Fail> {
         deeper: Vec::new(alloc),
         pointer: CompactPointer {
             level: 1,
-            key: key_of(alloc, (b'z', 1))?,
+            key: key_of(alloc, put(b"z", 1))?,
         },
     };
     inputs.grandparents.push(FileMeta {
         number: 3,
         size: 1,
-        smallest: key_of(alloc, (b'm', 1))?,
-        largest: key_of(alloc, (b'm', 1))?,
+        smallest: key_of(alloc, put(b"m", 1))?,
+        largest: key_of(alloc, put(b"m", 1))?,
     })?;
     Ok(inputs)
 }
 
 /// The split at these boundaries of one byte each.
-fn split_at(alloc: Global, boundaries: &[u8]) -> Result<Split<Bytewise>, Fail> {
+pub(crate) fn split_at(alloc: Global, boundaries: &[u8]) -> Result<Split<Bytewise>, Fail> {
     let mut keys = Vec::new(alloc);
     for boundary in boundaries {
         keys.push(Vec::from_slice(alloc, &[*boundary])?)?;
@@ -378,7 +440,8 @@ fn fails(answer: &Result<Vec<u8>, Fault>, fault: Fault) -> bool {
 
 #[test]
 fn one_user_key_and_sequence_twice(rt: HostRuntime) -> Result<(), Fail> {
-    let again = sound(&[(b'u', 5)]);
+    let rows = [put(b"u", 5)];
+    let again = sound(&rows);
     let duplicate = Fault::of(FaultName::Duplicate);
     for boundaries in [b"".as_slice(), b"u", b"uz", b"bmv"] {
         let text = merged(&rt, &[A, B, again], boundaries, 1, 2, &late_gate())?;
@@ -386,69 +449,5 @@ fn one_user_key_and_sequence_twice(rt: HostRuntime) -> Result<(), Fail> {
     }
     let workers = Fault::of(FaultName::Workers);
     assert!(rt; fails(&merged(&rt, &[A, again], b"u", 1, 65, &Open)?, workers));
-    Ok(())
-}
-
-/// What a request for these inputs gives, or its refusal.
-fn requested<R: Abort + AllocGlobal + Threads + Sync>(
-    rt: &R,
-    inputs: &[Input<'_>],
-    snapshots: Snapshots<'_>,
-    last_sequence: u64,
-    workers: u64,
-) -> Result<Result<Vec<u8>, Fault>, Fail> {
-    let bytes = tables(rt, inputs)?;
-    let lent = lent(rt.alloc(), &bytes)?;
-    let mut picked = below(rt.alloc())?;
-    picked.files = files(rt, inputs, &bytes)?;
-    let split = split_at(rt.alloc(), b"u")?;
-    let request = Request {
-        picked: &picked,
-        tables: &lent,
-        snapshots,
-        first_number: 9,
-        log_number: 3,
-        previous_log: 0,
-        last_sequence,
-        options: Options::default(),
-    };
-    match merge_request(rt, rt.alloc(), &request, &split, workers, &Open) {
-        Ok(runs) => Ok(Ok(shown(rt.alloc(), &runs)?)),
-        Err(fault) => Ok(Err(fault)),
-    }
-}
-
-#[test]
-fn a_request_and_its_first_refusal(rt: HostRuntime) -> Result<(), Fail> {
-    let all = requested(&rt, &[A, B], Snapshots::From(1), 9, 2)?;
-    assert!(rt; gives(&all, b"a1c3|u9u5z2|"));
-    let newest = requested(&rt, &[A, B], Snapshots::Listed(&[]), 9, 2)?;
-    assert!(rt; gives(&newest, b"a1c3|u9z2|"));
-    let block = Input {
-        spoilt: Spoilt::Block,
-        rows: A.rows,
-    };
-    let none: [Input<'_>; 0] = [];
-    let (one, two) = ([block], [A, A]);
-    let too_high = Snapshots::From(72_057_594_037_927_935);
-    let from = Snapshots::From(1);
-    let repeated = Snapshots::Listed(&[6, 6]);
-    let rows = [
-        (none.as_slice(), from, 0, FaultName::Workers),
-        (none.as_slice(), from, 1, FaultName::NoInput),
-        (one.as_slice(), too_high, 1, FaultName::Snapshot),
-        (two.as_slice(), repeated, 1, FaultName::SnapshotList),
-        (two.as_slice(), from, 64, FaultName::Duplicate),
-    ];
-    for (inputs, snapshots, workers, name) in rows {
-        let refused = requested(&rt, inputs, snapshots, 9, workers)?;
-        assert!(rt; fails(&refused, Fault::of(name)));
-    }
-    let trailer = Fault {
-        name: FaultName::Trailer,
-        input: Some(1),
-    };
-    let refused = requested(&rt, &[A, block], Snapshots::From(1), 9, 2)?;
-    assert!(rt; fails(&refused, trailer));
     Ok(())
 }

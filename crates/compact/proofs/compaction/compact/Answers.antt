@@ -1,36 +1,89 @@
-use Rattle.std.proofs.Common.{◌≡◌, ℕ, List, sym, ap, subst, ◌∙◌, Result}
+use Rattle.std.proofs.Common.{◌≡◌, ◌≤◌, List, map, length, Result, Ok, sym, ap, subst, ◌∙◌}
 use Rattle.std.proofs.lemmas.Result.{err_from_is_err_and}
 use Rattle.coding.specs.declared.fault.Fault.{Fault}
-use Rattle.coding.specs.Answers.{EqualOrMemory}
-use Rattle.table.specs.Table.{table}
-use Rattle.keep.specs.Runs.{Run, joined_run}
-use Rattle.cut.specs.Outputs.{outputs_of}
-use Rattle.request.specs.OneThread.{Answer}
+use Rattle.coding.specs.Answers.{◌>>=◌, EqualOrMemory, FailsOrMemory}
+use Rattle.coding.proofs.Refusals.{FailsOrMemory-from}
+use Rattle.block.specs.Piece.{Entry}
+use Rattle.table.specs.Reading.{Contents}
+use Rattle.pick.specs.declared.picked.InputFile.{InputFile}
+use Rattle.request.specs.Inputs.{inputs_reading}
+use Rattle.request.specs.OneThread.{Answer, one_thread}
 use Rattle.request.specs.Request.{Asked, asked}
-use Rattle.compact.specs.Answered.{answer_in, written_of}
-use Rattle.compact.proofs.Joined.{merged_from, whole_answer, refused_answer}
+use Rattle.survival.specs.Survive.{LeavesReads}
+use Rattle.compact.specs.Answered.{answer_in}
+use Rattle.compact.specs.Runs.{by_workers}
+use Rattle.compact.proofs.Joined.{answer_is, few_workers, if_answered, inputs_are, refused_input, refused_test, some_worker}
 use Rattle.compact.proofs.compaction.compact.Goals as goal
 
-pub returns-in_err-runs : goal.returns-in_err-runs
-returns-in_err-runs g c =
+abbrev read_as : List (List Entry) → Result (List (List Entry)) Fault
+read_as inputs = Ok inputs
+
+pub returns-in_err-check_workers : goal.returns-in_err-check_workers
+returns-in_err-check_workers g c =
     let r : Asked = asked c.args.request.now in
+    let thread : Result Answer Fault = one_thread g.C.Comparator.cmp g.C.Comparator.separator_of g.C.Comparator.successor_of r in
     let p = err_from_is_err_and c.from_residual.result c.from_residual.ensures.1 in
     record {
-      same = rw (p.1, p.2) (refused_answer g.C.Comparator.cmp g.C.Comparator.separator_of g.C.Comparator.successor_of r c.args.split.now c.args.workers c.in_err-runs.field-0.0 c.in_err-runs.ensures);
+      same = rw (p.1, p.2)
+          (FailsOrMemory-from c.in_err-check_workers.field-0.0 _
+          (ap (λ (t : Result (Unit {0}) Fault). t >>= λ _. thread) (sym c.in_err-check_workers.ensures)));
+      reads = rw (p.1) tt;
     }
+
+pub returns-in_err-check : goal.returns-in_err-check
+returns-in_err-check g c =
+    let cmp = g.C.Comparator.cmp in
+    let r : Asked = asked c.args.request.now in
+    let p = err_from_is_err_and c.from_residual-in_err-check.result c.from_residual-in_err-check.ensures.1 in
+    record {
+      same = rw (p.1, p.2)
+          (FailsOrMemory-from c.in_err-check.field-0.0 _
+          (answer_is c.args.workers (sym c.in_ok-check_workers.ensures) (one_thread cmp g.C.Comparator.separator_of g.C.Comparator.successor_of r)
+          ∙ refused_test cmp g.C.Comparator.separator_of g.C.Comparator.successor_of r c.in_err-check.field-0.0 (sym c.in_err-check.ensures)));
+      reads = rw (p.1) tt;
+    }
+
+pub check_inputs-requires-clause-few : goal.check_inputs-requires-clause-few
+check_inputs-requires-clause-few g c κs within =
+    subst (λ (files : List InputFile). length files ≤ 256) (sym c.deref.ensures.value) (c.passed_law.ensures (asked c.args.request.now) (sym c.in_ok-check.ensures)).few
+
+pub returns-in_err-tables : goal.returns-in_err-tables
+returns-in_err-tables g c =
+    let cmp = g.C.Comparator.cmp in
+    let r : Asked = asked c.args.request.now in
+    let e : Fault = c.in_err-tables.field-0.0 in
+    let passes = sym c.in_ok-check_workers.ensures in
+    let thread : Result Answer Fault = one_thread cmp g.C.Comparator.separator_of g.C.Comparator.successor_of r in
+    let p = err_from_is_err_and c.from_residual-in_err-tables.result c.from_residual-in_err-tables.ensures.1 in
+    record {
+      same = rw (p.1, p.2)
+          (subst (FailsOrMemory e) (sym (answer_is c.args.workers passes thread))
+          (refused_input cmp g.C.Comparator.separator_of g.C.Comparator.successor_of r e (sym c.in_ok-check.ensures)
+          (subst (FailsOrMemory e) (inputs_are c.args.workers passes (inputs_reading cmp 0 r.picked.files r.tables))
+          (subst (λ (files : List InputFile). FailsOrMemory e (by_workers c.args.workers (inputs_reading cmp 0 files r.tables))) c.deref.ensures.value c.in_err-tables.ensures))));
+      reads = rw (p.1) tt;
+    }
+
+pub compact_sound-requires-clause-some : goal.compact_sound-requires-clause-some
+compact_sound-requires-clause-some g c κs within = some_worker c.args.workers (sym c.in_ok-check_workers.ensures)
+
+pub compact_sound-requires-clause-limited : goal.compact_sound-requires-clause-limited
+compact_sound-requires-clause-limited g c κs within = few_workers c.args.workers (sym c.in_ok-check_workers.ensures)
+
+pub compact_sound-requires-clause-read : goal.compact_sound-requires-clause-read
+compact_sound-requires-clause-read g c κs within =
+    let cmp = g.C.Comparator.cmp in
+    let r : Asked = asked c.args.request.now in
+    sym (inputs_are c.args.workers (sym c.in_ok-check_workers.ensures) (inputs_reading cmp 0 r.picked.files r.tables))
+    ∙ ap (λ (files : List InputFile). by_workers c.args.workers (inputs_reading cmp 0 files r.tables)) (sym c.deref.ensures.value)
+    ∙ c.in_ok-tables.ensures ∙ ap (λ (ts : List Contents). read_as (map (λ t. t.entries) ts)) (sym c.deref-2.ensures.value)
 
 pub returns : goal.returns
 returns g c =
     let cmp = g.C.Comparator.cmp in
-    let separator_of = g.C.Comparator.separator_of in
-    let successor_of = g.C.Comparator.successor_of in
     let r : Asked = asked c.args.request.now in
-    let runs : List Run = c.in_ok-runs.runs.items in
-    let m = merged_from cmp separator_of successor_of r c.distinct_law.ensures c.args.split.now c.args.workers runs c.in_ok-runs.ensures in
-    let whole = whole_answer cmp separator_of successor_of r c.ranges_cut.ensures c.args.split.now c.len-ranges.ensures.split c.args.workers runs m in
-    let lent : c.deref.result.now ≡ runs = c.deref.ensures.value in
+    let thread : Result Answer Fault = one_thread cmp g.C.Comparator.separator_of g.C.Comparator.successor_of r in
     record {
-      same = subst (λ (a : Result Answer Fault). EqualOrMemory answer_in c.write_runs.result a)
-          (ap (λ (rs : List Run). written_of (table cmp separator_of successor_of r.options) r (outputs_of r.picked.grandparents r.options (joined_run rs))) lent ∙ sym whole)
-          c.write_runs.ensures;
+      same = subst (λ (a : Result Answer Fault). EqualOrMemory answer_in c.compact_sound.result a) (sym (answer_is c.args.workers (sym c.in_ok-check_workers.ensures) thread)) c.compact_sound.ensures;
+      reads = if_answered answer_in (LeavesReads cmp r) c.compact_sound.result thread c.compact_sound.ensures (c.reads_survive.ensures r);
     }

@@ -2,20 +2,20 @@ use Rattle.std.proofs.Common.{◌≡◌, List, Result, map, ap, subst, ◌∙◌
 use Rattle.coding.specs.Answers.{EqualOrMemory}
 use Rattle.coding.specs.declared.fault.Fault.{Fault}
 use Rattle.block.specs.Piece.{Entry}
-use Rattle.split.specs.Ranges.{key_range}
-use Rattle.keep.specs.Marks.{below_of}
+use Rattle.split.specs.Ranges.{KeyRange, key_range}
+use Rattle.keep.specs.Marks.{Below, below_of}
 use Rattle.keep.specs.Runs.{Run, range_run}
-use Rattle.keep.proofs.RangeWalks.{begun_same}
 use Rattle.compact.proofs.RangeAnswers.{map_same}
+use Rattle.compact.proofs.Reaching.{run_same}
 use Rattle.compact.proofs.ranges.merge_tables.Goals as goal
 
 pub returns : goal.returns
 returns g c =
     let cmp = g.C.Comparator.cmp in
-    let below = below_of c.args.listed.now c.args.floor c.args.inputs.now in
-    let range = key_range c.args.range in
+    let below : Below = below_of c.args.listed.now c.args.floor c.args.inputs.now in
+    let range : KeyRange = key_range c.args.range in
     let cursors : List (List Entry) = c.in_ok-cursors.cursors.items in
     subst (λ (a : Result Run Fault). EqualOrMemory (λ (r : Run). r) c.merge_range.result a)
     (ap (λ (ls : List (List Entry)). range_run cmp below ls range) (map_same cursors)
-    ∙ begun_same cmp g.met.C.Comparator.total below range (map (λ t. t.entries) c.args.tables.now) cursors c.in_ok-cursors.ensures.left)
+    ∙ run_same cmp g.met.C.Comparator.total range below (map (λ t. t.entries) c.args.tables.now) cursors c.in_ok-cursors.ensures.held)
     c.merge_range.ensures.run

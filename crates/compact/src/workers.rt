@@ -1,0 +1,20 @@
+//! The test of a number of workers.
+
+ghost use Rattle.std.specs.Prelude.{◌≡◌, nat_le, ◌&&◌};
+ghost use Rattle.coding.specs.declared.fault.FaultName.TheVariants.{Workers};
+ghost use Rattle.table.specs.ReadingSteps.{pass};
+
+use coding::{Fault, FaultName};
+
+/// The most workers.
+const MAX_WORKERS: u64 = 64;
+
+/// Tests a number of workers: `Workers` where it is not from 1 to 64. Takes no memory.
+pub(crate) fn check_workers(workers: u64) -> Result<(), Fault>
+    ensures { result ≡ pass (nat_le 1 workers && nat_le workers 64) Workers }
+{
+    if workers < 1 || workers > MAX_WORKERS {
+        return Err(Fault::of(FaultName::Workers));
+    }
+    Ok(())
+}

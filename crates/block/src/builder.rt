@@ -1,6 +1,6 @@
 //! Writing a block, entry by entry.
 
-ghost use Rattle.std.specs.Prelude.{◌≡◌, ◌+◌, ◌^◌, ◌<◌, ◌≤◌, ◌↔◌, ◌==◌, if◌then◌else◌, [], ◌++◌, nat_eq, length, take, drop, false, IsTrue, IfOk, IfErr, OnOk, OnErr, IsOkUnless};
+ghost use Rattle.std.specs.Prelude.{◌≡◌, ◌+◌, ◌^◌, ◌<◌, ◌≤◌, ◌↔◌, ◌==◌, if◌then◌else◌, [], ◌++◌, nat_eq, length, take, false, IsTrue, IfOk, IfErr, OnOk, OnErr, IsOkUnless};
 ghost use Rattle.std.specs.List.{common_prefix_len};
 ghost use Rattle.coding.specs.Answers.{fault};
 ghost use Rattle.coding.specs.declared.fault.FaultName.TheVariants.{Memory};
@@ -9,12 +9,9 @@ ghost use Rattle.block.specs.Piece.{piece_bytes, restart_bytes};
 ghost use Rattle.block.specs.Writing.{block};
 ghost use Rattle.block.specs.Building.{with_entry, last_key};
 
-use coding::{Fault, push_varint};
+use coding::{Fault, common_len, push_varint};
 use std::alloc::Global;
 use std::marker::Model;
-
-/// How many bytes of two keys are held against each other at once.
-const WORD_LEN: usize = 8;
 
 /// A block that is being written, seen as its restart interval and its entries so far.
 ///
@@ -188,44 +185,6 @@ fn shared_len(since: u64, before: &[u8], key: &[u8]) -> usize
     } else {
         common_len(before, key)
     }
-}
-
-/// How many bytes two keys share at their beginnings.
-fn common_len(before: &[u8], key: &[u8]) -> usize
-    ensures { result ≡ common_prefix_len nat_eq before.now key.now }
-{
-    let whole = common_words(before, key);
-    whole + common_bytes(&before[whole..], &key[whole..])
-}
-
-/// How many bytes two keys share at their beginnings, up to the first eight that they don't share whole.
-fn common_words(before: &[u8], key: &[u8]) -> usize
-    ensures shared { common_prefix_len nat_eq before.now key.now
-        ≡ result + common_prefix_len nat_eq (drop result before.now) (drop result key.now) }
-    ensures within { (result ≤ length before.now) × (result ≤ length key.now) }
-{
-    let (before, _) = before.as_chunks::<WORD_LEN>();
-    let (key, _) = key.as_chunks::<WORD_LEN>();
-    let words = before.len().min(key.len());
-    for i in 0..words {
-        if before[i] != key[i] {
-            return WORD_LEN * i;
-        }
-    }
-    WORD_LEN * words
-}
-
-/// How many bytes two keys share at their beginnings, found byte by byte.
-fn common_bytes(before: &[u8], key: &[u8]) -> usize
-    ensures { result ≡ common_prefix_len nat_eq before.now key.now }
-{
-    let end = before.len().min(key.len());
-    for i in 0..end {
-        if before[i] != key[i] {
-            return i;
-        }
-    }
-    end
 }
 
 /// Appends the three lengths, the key's own bytes and the value. Refused for want of memory alone. A refusal leaves it as

@@ -5,7 +5,7 @@ ghost use Rattle.coding.specs.Answers.{EqualOrMemory, fault};
 ghost use Rattle.coding.specs.declared.fault.FaultName.TheVariants.{Memory};
 ghost use Rattle.table.specs.ReadingCursors.{entries_from, LeavesFrom};
 ghost use Rattle.merge.specs.Merged.{merged};
-ghost use Rattle.merge.specs.Least.{IsAdvanced};
+ghost use Rattle.merge.specs.Least.{IsAdvanced, IsMerging};
 ghost use Rattle.merge.specs.Seeking.{each_from, EachLeavesFrom};
 
 use crate::tournament::{bracket, next_cursor, next_place, play_all, play_path};
@@ -79,6 +79,14 @@ impl<'c, C: Comparator, S: Cursor<'c, C> + Drop> Merging<C, S> {
             order: _,
         } = self;
         cursors
+    }
+
+    /// The place of the cursor whose first entry comes next, among those that were handed in, where one has an entry. Takes no
+    /// memory.
+    pub fn place(&self) -> Option<usize>
+        ensures { IsMerging C.cmp self.now result }
+    {
+        next_place::<C, S>(&self.cursors, &self.winners)
     }
 }
 

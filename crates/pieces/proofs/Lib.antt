@@ -1,4 +1,5 @@
 pub mod Lists
+pub mod Appended
 pub mod Keys
 pub mod Indexes
 pub mod IndexKeys

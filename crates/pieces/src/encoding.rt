@@ -1,18 +1,16 @@
 //! The bytes of data blocks.
 
-ghost use Rattle.std.specs.Prelude.{◌≡◌, ◌≤◌, ◌^◌, [], length, OnOk, IsOkUnless, Ok};
+ghost use Rattle.std.specs.Prelude.{◌≤◌, ◌^◌, length, Ok};
 ghost use Rattle.std.specs.List.{AllByRecursion};
-ghost use Rattle.coding.specs.Answers.{EqualOrMemory, fault};
-ghost use Rattle.coding.specs.declared.fault.FaultName.TheVariants.{Memory};
+ghost use Rattle.coding.specs.Answers.{EqualOrMemory};
 ghost use Rattle.block.specs.Writing.{block};
 ghost use Rattle.table.specs.Table.{stored_blocks};
 ghost use Rattle.pieces.specs.Planned.{parts_of};
 
 use crate::planned_block::PlannedBlock;
-use crate::storing::push_stored;
-use block::BlockBuilder;
+use crate::writing::push_block;
 use coding::Fault;
-use runs::RunsSlice;
+use frame::Trailer;
 use std::alloc::Global;
 
 /// The bytes of consecutive data blocks, each with its trailer, at a restart interval from 1 to 1,024. Each block has at
@@ -31,29 +29,11 @@ pub fn encode_blocks(
     ensures { EqualOrMemory (λ v. v.items) result (Ok (stored_blocks interval (parts_of blocks.now))) }
 {
     let mut out = Vec::with_capacity(alloc, room)?;
-    let mut builder = BlockBuilder::new(alloc, interval);
+    let mut restarts = Vec::new(alloc);
     for block in blocks {
-        builder.clear();
-        add_entries(&mut builder, &block.entries)?;
-        push_stored(&mut out, &builder)?;
+        let start = out.len();
+        push_block(&mut out, &mut restarts, &block.entries, interval)?;
+        Trailer::of(&out[start..]).push(&mut out)?;
     }
     Ok(out)
-}
-
-/// Adds entries to a block that has none, or on a refused growth some of them.
-fn add_entries(builder: &mut BlockBuilder, entries: &RunsSlice<'_, '_>) -> Result<(), Fault>
-    requires none { builder.old.entries ≡ [] }
-    requires fits { length (block builder.old.interval entries.now.entries) ≤ 2 ^ 31 }
-    ensures ok { OnOk result (builder.new ≡ record {
-      interval = builder.old.interval;
-      entries = entries.now.entries;
-    }) }
-    ensures memory { IsOkUnless result (fault Memory) }
-{
-    let mut cursor = entries.first();
-    for _ in 0..entries.len() {
-        builder.add(cursor.key().bytes(), cursor.value())?;
-        cursor.advance();
-    }
-    Ok(())
 }

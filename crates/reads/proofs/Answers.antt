@@ -104,7 +104,7 @@ module _ (cmp : List ℕ → List ℕ → Ordering) (total : IsTotalOrder cmp) w
         | inr later ↦ inr (subst (λ (k : List ℕ). internal_cmp cmp k e.key ≡ Less) same (above_first cmp d es e rising later))
       ]
 
-  last_place : (es : List Entry) (key : List ℕ) (d : Entry) → 0 < length es → option_map (λ e. e.key) (slice_get es (length es - 1)) ≡ Some key → (get_or es (length es - 1) d).key ≡ key
+  pub last_place : (es : List Entry) (key : List ℕ) (d : Entry) → 0 < length es → option_map (λ e. e.key) (slice_get es (length es - 1)) ≡ Some key → (get_or es (length es - 1) d).key ≡ key
   last_place es key d some last =
       let there = slice_get-get_or es (length es - 1) d (omega arith) in
       let both : Some (get_or es (length es - 1) d).key ≡ Some key = sym (ap (option_map (λ e. e.key)) there) ∙ last in

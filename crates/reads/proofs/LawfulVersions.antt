@@ -1,63 +1,46 @@
--- A version is lawful exactly where each file is sound and each two files are in order.
-use Rattle.std.proofs.Common.{◌≡◌, ℕ, zero, suc, ◌<◌, ◌≤◌, Bool, true, false, not, eqb, List, [], ◌∷◌, length, get_or, refl, sym, ap, subst, ◌∙◌, inl, inr, arith, eq-or-lt_of_le}
-use Rattle.std.specs.Prelude.{◌≢◌, ◌⊎◌, Contains, AllPairs}
-use Rattle.std.specs.List.{All}
+-- A version is lawful exactly where each file is what it states, the files stand in turn, and their entries fall.
+use Rattle.std.proofs.Common.{◌≡◌, ℕ, zero, suc, ◌+◌, ◌<◌, ◌≤◌, Bool, true, false, List, [], ◌∷◌, length, map, get_or, refl, sym, ap, subst, ◌∙◌, inl, inr, arith, eq-or-lt_of_le}
+use Rattle.std.specs.Prelude.{◌≢◌, ◌⊎◌, Contains}
 use Rattle.std.specs.Cmp.{IsTotalOrder}
 use Rattle.std.specs.declared.cmp.Ordering.{Ordering}
 use Rattle.std.specs.declared.cmp.Ordering.TheVariants.{Less}
 use Rattle.std.proofs.lemmas.Bool.{cases_lt}
-use Rattle.std.proofs.lemmas.Bool.Decides.{Decides-eqb}
-use Rattle.std.proofs.lemmas.List.{get_or_default}
 use Rattle.std.proofs.lemmas.List.Elements.{All-contains, Contains-get_or}
-use Rattle.ikey.specs.Key.{user_of, sequence_of}
+use Rattle.ikey.specs.Key.{IsInternalKey, user_of, sequence_of}
 use Rattle.ikey.specs.Order.{internal_cmp}
 use Rattle.ikey.proofs.Ordered.{internal_cmp-total}
 use Rattle.block.specs.Piece.{Entry}
-use Rattle.edit.specs.Version.{State, has_number, are_apart}
+use Rattle.table.specs.ReadingCursors.{IsRising}
+use Rattle.edit.specs.Version.{State}
 use Rattle.edit.specs.declared.meta.NewFile.{NewFile}
-use Rattle.edit.proofs.Tested.{both_true, both_false, not_is_true}
+use Rattle.reads.specs.declared.level_file.LevelFile.{LevelFile}
 use Rattle.reads.specs.Tables.{Numbered, table_entries, all_entries}
 use Rattle.reads.specs.Lawful.{IsLawful, IsFileOf, IsBelowNext, AreDisjoint, AreDistinct, AreNewer, StandsAbove}
-use Rattle.reads.specs.Checking.{IsSoundFile, stands_before, ByTests, AreInOrder, AreAll}
-use Rattle.reads.proofs.Members.{first_or_later, none_in}
+use Rattle.reads.specs.Checking.{file_in, IsNewer, AreFalling, IsStatedFile, IsSoundFile, AreAll, AreListed, AreInTurn}
+use Rattle.reads.proofs.Members.{in_flat_map, from_flat_map, in_map}
 use Rattle.reads.proofs.Orders.{later_older}
 use Rattle.reads.proofs.Answers.{entries_are, first_or_above, last_or_below}
 use Rattle.reads.proofs.Newer.{newer_at, newer_of}
-use Rattle.reads.proofs.Pairs.{Pairs, pairs_from, pairs_to, pairs_part, pairs_of_two, pairs_joined}
+use Rattle.reads.proofs.FallingEntries.{each_of}
+use Rattle.reads.proofs.Pairs.{Pairs, pairs_from, pairs_to, pairs_right, pairs_across, pairs_part, pairs_of_two, pairs_joined, pairs_unmap, pairs_weaker, pairs_within, pairs_both, pairs_two}
 use Rattle.reads.proofs.OrderedFiles.{Before, before_decides, at_top, top_at, at_depth, depth_at}
+use Rattle.reads.proofs.Standing.{is_range, comes_before}
+pub use Rattle.reads.proofs.Apart.{one_number}
+use Rattle.reads.proofs.Apart.{apart_places, AreTwo, distinct_pairs}
 
--- ---- files of one number are one file
+-- what rises and has no version twice falls
+rising_newer : (cmp : List ℕ → List ℕ → Ordering) → IsTotalOrder cmp → (es : List Entry) → IsRising cmp es → Pairs AreDistinct es → Pairs IsNewer es
+rising_newer cmp total [] rising pairs = tt
+rising_newer cmp total (e ∷ es) rising pairs = (
+  λ f at same.
+      let below : internal_cmp cmp e.key f.key ≡ Less = each_of (λ (x : Entry). internal_cmp cmp e.key x.key ≡ Less) es rising.0 f at in
+      let le : sequence_of f.key ≤ sequence_of e.key = later_older cmp total e.key f.key below same in
+      elim (eq-or-lt_of_le le) [ inl tie ↦ absurd (pairs.0 f at same (sym tie)) | inr lt ↦ lt ],
+  rising_newer cmp total es rising.1 pairs.1,
+)
 
-has_it : (files : List NewFile) (n : ℕ) → has_number files n ≡ false → (f : NewFile) → Contains files f → n ≢ f.meta.number
-has_it [] n h f at same = absurd (none_in f at)
-has_it (g ∷ files) n h f at same =
-    let both = both_false (eqb n g.meta.number) (has_number files n) h in
-    elim (first_or_later g files f at) [
-      | inl is ↦ differs both.0 (same ∙ ap (λ (x : NewFile). x.meta.number) is)
-      | inr later ↦ has_it files n both.1 f later same
-    ]
-  where
-    differs : eqb n g.meta.number ≡ false → n ≡ g.meta.number → ⊥
-    differs e one = let both : true ≡ false = sym ((Decides-eqb n g.meta.number).1 one) ∙ e in absurd cc
-
-pub one_number : (files : List NewFile) → are_apart files ≡ true → (f g : NewFile) → Contains files f → Contains files g → f.meta.number ≡ g.meta.number → f ≡ g
-one_number [] h f g i j same = absurd (none_in f i)
-one_number (z ∷ files) h f g i j same = by_places (both_true (not (has_number files z.meta.number)) (are_apart files) h) (first_or_later z files f i) (first_or_later z files g j) (λ rest k l. one_number files rest f g k l same)
-  where
-    by_places : (not (has_number files z.meta.number) ≡ true) × (are_apart files ≡ true) → (f ≡ z) ⊎ Contains files f → (g ≡ z) ⊎ Contains files g → (are_apart files ≡ true → Contains files f → Contains files g → f ≡ g) → f ≡ g
-    by_places apart (inl e) (inl k) rest = e ∙ sym k
-    by_places apart (inl e) (inr l) rest = absurd (has_it files z.meta.number (not_is_true (has_number files z.meta.number) apart.0) g l (ap (λ (x : NewFile). x.meta.number) (sym e) ∙ same))
-    by_places apart (inr l) (inl k) rest = absurd (has_it files z.meta.number (not_is_true (has_number files z.meta.number) apart.0) f l (ap (λ (x : NewFile). x.meta.number) (sym k) ∙ sym same))
-    by_places apart (inr k) (inr l) rest = rest apart.1 k l
-
--- two places of one list of files hold two files
-apart_places : (files : List NewFile) → are_apart files ≡ true → (i j : ℕ) (d : NewFile) → i < j → j < length files → (get_or files i d).meta.number ≢ (get_or files j d).meta.number
-apart_places [] h i j d lt below same = absurd (omega arith)
-apart_places (z ∷ files) h i zero d lt below same = absurd (omega arith)
-apart_places (z ∷ files) h zero (suc j) d lt below same =
-    let apart = both_true (not (has_number files z.meta.number)) (are_apart files) h in
-    has_it files z.meta.number (not_is_true (has_number files z.meta.number) apart.0) (get_or files j d) (Contains-get_or files j d (omega arith)) same
-apart_places (z ∷ files) h (suc i) (suc j) d lt below same = apart_places files (both_true (not (has_number files z.meta.number)) (are_apart files) h).1 i j d (omega arith) (omega arith) same
+newer_distinct : (a b : Entry) → IsNewer a b → AreDistinct a b
+newer_distinct a b newer same tie = let lt : sequence_of b.key < sequence_of a.key = newer same in absurd (omega arith)
 
 module _ (cmp : List ℕ → List ℕ → Ordering) (total : IsTotalOrder cmp) (v : State) (tables : List Numbered) where
   abbrev held : NewFile → List Entry
@@ -67,42 +50,44 @@ module _ (cmp : List ℕ → List ℕ → Ordering) (total : IsTotalOrder cmp) (
   abbrev Ordered : NewFile → NewFile → Type 0
   Ordered f g = (Before cmp f g × AreNewer (held f) (held g)) ⊎ (Before cmp g f × AreNewer (held g) (held f))
 
-  ordered_by : (f g : NewFile) (a b : Bool) → stands_before cmp f g ≡ a → stands_before cmp g f ≡ b → ByTests a b (AreNewer (held f) (held g)) (AreNewer (held g) (held f)) → Ordered f g
-  ordered_by f g true b e k h = inl ((before_decides cmp f g).0 e, h)
-  ordered_by f g false true e k h = inr ((before_decides cmp g f).0 k, h)
-  ordered_by f g false false e k h = absurd h
-
-  ordered : (f g : NewFile) → f.meta.number ≢ g.meta.number → AreInOrder cmp tables f g → Ordered f g
-  ordered f g other h = ordered_by f g (stands_before cmp f g) (stands_before cmp g f) refl refl (h other)
-
-  turned : (f g : NewFile) → Ordered f g → Ordered g f
-  turned f g (inl h) = inr h
-  turned f g (inr h) = inl h
+  -- files whose entries fall, one behind the other
+  newer_pairs : (fs : List NewFile) → Pairs IsNewer (all_entries tables fs) → Pairs (λ f g. AreNewer (held f) (held g)) fs
+  newer_pairs [] pairs = tt
+  newer_pairs (f ∷ fs) pairs = (
+    λ g at. newer_of (held f) (held g) (λ a b i j same. pairs_across IsNewer (held f) (all_entries tables fs) pairs a b i (in_flat_map held fs g b at j) same),
+    newer_pairs fs (pairs_right IsNewer (held f) (all_entries tables fs) pairs),
+  )
 
   -- ---- what is lawful where all that is asked holds
 
-  module _ (listed : List NewFile) (all : AreAll v.files listed) (sound : All (λ f. IsSoundFile cmp tables v.next_file f.meta) listed) (order : AllPairs (λ f g. AreInOrder cmp tables f g) listed) where
+  module _ (listed : List NewFile) (all : AreAll v.files listed) (stated : (f : NewFile) → Contains listed f → IsStatedFile cmp tables v.next_file f.meta) (before : Pairs (Before cmp) listed) (falling : AreFalling (all_entries tables listed)) where
+    newer : Pairs IsNewer (all_entries tables listed)
+    newer = pairs_from IsNewer (all_entries tables listed) falling.newer
+
     sound_at : (f : NewFile) → Contains v.files f → IsSoundFile cmp tables v.next_file f.meta
-    sound_at f at = All-contains (λ (g : NewFile). IsSoundFile cmp tables v.next_file g.meta) listed f sound (all.all f at)
+    sound_at f at =
+        let is = stated f (all.all f at) in
+        let whole : held f ≡ is.table.entries = entries_are tables f.meta.number is.table is.there in
+        record {
+          file = record {
+            table = is.table;
+            there = is.there;
+            accepted = is.accepted;
+            keys = λ k d lt. All-contains (λ (e : Entry). IsInternalKey e.key) (all_entries tables listed) (get_or is.table.entries k d) falling.keys
+                (in_flat_map held listed f (get_or is.table.entries k d) (all.all f at) (subst (λ (es : List Entry). Contains es (get_or is.table.entries k d)) (sym whole) (Contains-get_or is.table.entries k d lt)));
+            rising = is.rising;
+            size = is.size;
+            smallest = is.smallest;
+            largest = is.largest;
+          };
+          below_next = is.below_next;
+          distinct = pairs_to AreDistinct (held f) (pairs_weaker IsNewer AreDistinct newer_distinct (held f) (pairs_part IsNewer held listed f newer (all.all f at)));
+        }
 
     order_at : (f g : NewFile) → Contains v.files f → Contains v.files g → f.meta.number ≢ g.meta.number → Ordered f g
-    order_at f g i j other = by_places (all.all f i) (all.all g j)
-      where
-        in_order : (x y : NewFile) → x ≡ f → y ≡ g → AreInOrder cmp tables x y → Ordered f g
-        in_order x y is also h = ordered f g other (subst (λ (a : NewFile). AreInOrder cmp tables a g) is (subst (λ (b : NewFile). AreInOrder cmp tables x b) also h))
-
-        in_order_back : (x y : NewFile) → x ≡ g → y ≡ f → AreInOrder cmp tables x y → Ordered f g
-        in_order_back x y is also h = turned g f (ordered g f (λ e. other (sym e)) (subst (λ (a : NewFile). AreInOrder cmp tables a f) is (subst (λ (b : NewFile). AreInOrder cmp tables x b) also h)))
-
-        by_order : (k : Contains listed f) (l : Contains listed g) → (k.0 < l.0) ⊎ ((k.0 ≡ l.0) ⊎ (l.0 < k.0)) → Ordered f g
-        by_order k l (inl lt) = in_order (get_or listed k.0 f) (get_or listed l.0 f) k.2 (get_or_default listed l.0 f g l.1 ∙ l.2) (order k.0 l.0 f lt l.1)
-        by_order k l (inr (inl e)) =
-            let same : f ≡ g = sym k.2 ∙ ap (λ (n : ℕ). get_or listed n f) e ∙ get_or_default listed l.0 f g l.1 ∙ l.2 in
-            absurd (other (ap (λ (x : NewFile). x.meta.number) same))
-        by_order k l (inr (inr lt)) = in_order_back (get_or listed l.0 g) (get_or listed k.0 g) l.2 (get_or_default listed k.0 g f k.1 ∙ k.2) (order l.0 k.0 g lt k.1)
-
-        by_places : Contains listed f → Contains listed g → Ordered f g
-        by_places k l = by_order k l (elim (cases_lt k.0 l.0) [ inl lt ↦ inl lt | inr le ↦ elim (eq-or-lt_of_le le) [ inl e ↦ inr (inl (sym e)) | inr lt ↦ inr (inr lt) ] ])
+    order_at f g i j other =
+        pairs_two (λ f g. Before cmp f g × AreNewer (held f) (held g)) listed f g (λ same. other (ap (λ (x : NewFile). x.meta.number) same))
+        (pairs_both (Before cmp) (λ f g. AreNewer (held f) (held g)) listed before (newer_pairs listed newer)) (all.all f i) (all.all g j)
 
     disjoint_by : (f g : NewFile) → f.level ≡ g.level → 0 < f.level → Ordered f g → AreDisjoint cmp f.meta g.meta
     disjoint_by f g same deep (inl (inl lt, newer)) = absurd (omega arith)
@@ -148,13 +133,6 @@ module _ (cmp : List ℕ → List ℕ → Ordering) (total : IsTotalOrder cmp) (
 
     pairs : Pairs AreDistinct (all_entries tables v.files)
     pairs = pairs_from AreDistinct (all_entries tables v.files) lawful.sequences_once
-
-    pub is_sound : (f : NewFile) → Contains v.files f → IsSoundFile cmp tables v.next_file f.meta
-    is_sound f at = record {
-      file = file_at f at;
-      below_next = All-contains (λ (g : NewFile). IsBelowNext v.next_file g.meta.number) v.files f lawful.below_next at;
-      distinct = pairs_to AreDistinct (held f) (pairs_part AreDistinct held v.files f pairs at);
-    }
 
     -- entries of one user key in two files have two sequences
     two_sequences : (f g : NewFile) → Contains v.files f → Contains v.files g → f.meta.number ≢ g.meta.number → (a b : Entry) → Contains (held f) a → Contains (held g) b → user_of a.key ≡ user_of b.key → sequence_of a.key ≢ sequence_of b.key
@@ -220,17 +198,65 @@ module _ (cmp : List ℕ → List ℕ → Ordering) (total : IsTotalOrder cmp) (
         by_levels (inl lt) = inl (inl lt)
         by_levels (inr le) = elim (eq-or-lt_of_le le) [ inl e ↦ at_one_level (sym e) | inr lt ↦ inr (inl lt) ]
 
-    in_order_by : (f g : NewFile) → Contains v.files f → Contains v.files g → f.meta.number ≢ g.meta.number → (a b : Bool) → stands_before cmp f g ≡ a → stands_before cmp g f ≡ b → ByTests a b (AreNewer (held f) (held g)) (AreNewer (held g) (held f))
-    in_order_by f g i j other true b e k = newer_if_before f g i j other ((before_decides cmp f g).0 e)
-    in_order_by f g i j other false true e k = newer_if_before g f j i (λ same. other (sym same)) ((before_decides cmp g f).0 k)
-    in_order_by f g i j other false false e k =
-        elim (one_before f g i j other) [
-          | inl before ↦ clash e ((before_decides cmp f g).1 before)
-          | inr before ↦ clash k ((before_decides cmp g f).1 before)
-        ]
-      where
-        clash : {b : Bool} → b ≡ false → b ≡ true → ⊥
-        clash {b = b} untrue test = let both : true ≡ false = sym test ∙ untrue in absurd cc
+    pub is_as_stated : (f : NewFile) → Contains v.files f → IsStatedFile cmp tables v.next_file f.meta
+    is_as_stated f at =
+        let is = file_at f at in
+        record {
+          table = is.table;
+          there = is.there;
+          accepted = is.accepted;
+          rising = is.rising;
+          size = is.size;
+          smallest = is.smallest;
+          largest = is.largest;
+          below_next = All-contains (λ (g : NewFile). IsBelowNext v.next_file g.meta.number) v.files f lawful.below_next at;
+        }
 
-    pub are_in_order : (f g : NewFile) → Contains v.files f → Contains v.files g → AreInOrder cmp tables f g
-    are_in_order f g i j other = in_order_by f g i j other (stands_before cmp f g) (stands_before cmp g f) refl refl
+    module _ (items : List LevelFile) (listing : AreListed cmp v.files items) where
+      there : (k : ℕ) (d : LevelFile) → k < length items → Contains v.files (file_in (get_or items k d))
+      there k d lt = listing.all.only (file_in (get_or items k d)) (in_map file_in items (get_or items k d) (Contains-get_or items k d lt))
+
+      two : Pairs AreTwo (map file_in items)
+      two = distinct_pairs (map file_in items) listing.all.distinct
+
+      pub stand_in_turn : AreInTurn cmp items
+      stand_in_turn k d lt =
+          let f = file_in (get_or items k d) in
+          let g = file_in (get_or items (k + 1) d) in
+          let at = there k d (omega arith) in
+          let next = there (k + 1) d lt in
+          let other : f.meta.number ≢ g.meta.number = pairs_to (λ x y. AreTwo (file_in x) (file_in y)) items (pairs_unmap AreTwo file_in items two) k (k + 1) d (omega arith) lt in
+          elim (one_before f g at next other) [
+            | inl before ↦ (before_decides cmp f g).1 before
+            | inr back ↦ absurd (clash (comes_before cmp total g f (is_range cmp total tables v.next_file g (is_as_stated g next)) back) (listing.sorted k d (omega arith) lt))
+          ]
+        where
+          clash : {b : Bool} → b ≡ true → b ≡ false → ⊥
+          clash {b = b} e k = let both : true ≡ false = sym e ∙ k in absurd cc
+
+      -- each entry of a file is newer than those of its user key in a file that it stands before
+      across : (f g : NewFile) → Contains (map file_in items) f → Contains (map file_in items) g → Before cmp f g × AreTwo f g → (a b : Entry) → Contains (held f) a → Contains (held g) b → IsNewer a b
+      across f g i j h a b k l same =
+          newer_at (held f) (held g) (newer_if_before f g (listing.all.only f i) (listing.all.only g j) h.1 h.0) a b k l same
+
+      own_newer : (f : NewFile) → Contains (map file_in items) f → Pairs IsNewer (held f)
+      own_newer f at =
+          let in_version = listing.all.only f at in
+          let is = file_at f in_version in
+          let whole : held f ≡ is.table.entries = entries_are tables f.meta.number is.table is.there in
+          subst (Pairs IsNewer) (sym whole) (rising_newer cmp total is.table.entries is.rising (subst (Pairs AreDistinct) whole (pairs_part AreDistinct held v.files f pairs in_version)))
+
+      own_keys : (e : Entry) → Contains (all_entries tables (map file_in items)) e → IsInternalKey e.key
+      own_keys e at =
+          let from = from_flat_map held (map file_in items) e at in
+          let is = file_at from.source (listing.all.only from.source from.there) in
+          All-contains (λ (x : Entry). IsInternalKey x.key) is.table.entries e is.keys (subst (λ (es : List Entry). Contains es e) (entries_are tables from.source.meta.number is.table is.there) from.held)
+
+      pub entries_fall : Pairs (Before cmp) (map file_in items) → AreFalling (all_entries tables (map file_in items))
+      entries_fall before = record {
+        keys = λ k d lt. own_keys (get_or (all_entries tables (map file_in items)) k d) (Contains-get_or (all_entries tables (map file_in items)) k d lt);
+        newer = pairs_to IsNewer (all_entries tables (map file_in items)) (pairs_joined IsNewer held (map file_in items) own_newer
+            (pairs_to (λ f g. (a b : Entry) → Contains (held f) a → Contains (held g) b → IsNewer a b) (map file_in items)
+            (pairs_within (λ f g. Before cmp f g × AreTwo f g) (λ f g. (a b : Entry) → Contains (held f) a → Contains (held g) b → IsNewer a b) (map file_in items) across
+            (pairs_both (Before cmp) AreTwo (map file_in items) before two))));
+      }

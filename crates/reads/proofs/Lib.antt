@@ -8,9 +8,12 @@ pub mod Versions
 pub mod Got
 pub mod FallingEntries
 pub mod Newer
-pub mod Gathering
 pub mod Pairs
+pub mod Apart
+pub mod Gathering
+pub mod Falling
 pub mod SoundFiles
 pub mod OrderedFiles
+pub mod Standing
 pub mod LawfulVersions
 pub mod Listed

@@ -38,7 +38,7 @@ module _ (cmp : List ℕ → List ℕ → Ordering) (total : IsTotalOrder cmp) w
   tied k m same = subst (λ (u : List ℕ). cmp (user_of k) u ≡ Equal) same (tied_itself total (user_of k))
 
   -- of one user key, sequence and type decide
-  of_one_user : (k m : List ℕ) → user_of k ≡ user_of m → internal_cmp cmp k m ≡ ordering_then (nat_cmp (sequence_of m) (sequence_of k)) (nat_cmp (kind_number (kind_of m)) (kind_number (kind_of k)))
+  pub of_one_user : (k m : List ℕ) → user_of k ≡ user_of m → internal_cmp cmp k m ≡ ordering_then (nat_cmp (sequence_of m) (sequence_of k)) (nat_cmp (kind_number (kind_of m)) (kind_number (kind_of k)))
   unfolding internal_cmp
   of_one_user k m same = ap (λ (o : Ordering). ordering_then o (ordering_then (nat_cmp (sequence_of m) (sequence_of k)) (nat_cmp (kind_number (kind_of m)) (kind_number (kind_of k))))) (tied k m same)
 

@@ -1,9 +1,9 @@
 -- What holds of each element and each later one.
-use Rattle.std.proofs.Common.{◌≡◌, zero, suc, List, [], ◌∷◌, ◌++◌, get_or, sym, subst, ◌∙◌, inl, inr, arith}
+use Rattle.std.proofs.Common.{◌≡◌, zero, suc, List, [], ◌∷◌, ◌++◌, map, get_or, sym, subst, ◌∙◌, inl, inr, arith}
 use Rattle.std.specs.Prelude.{◌⊎◌, Contains, AllPairs}
 use Rattle.std.specs.List.{flat_map}
 use Rattle.std.proofs.lemmas.List.Elements.{Contains-get_or, Contains-append_left, Contains-append_right, Contains-append_cases}
-use Rattle.reads.proofs.Members.{first_or_later, later_in, first_in, none_in, in_flat_map, from_flat_map}
+use Rattle.reads.proofs.Members.{first_or_later, later_in, first_in, none_in, in_flat_map, from_flat_map, in_map, from_map}
 
 module _ {X : Type 0} (R : X → X → Type 0) where
   -- the same by recursion
@@ -78,3 +78,38 @@ module _ {X : Type 0} (R : X → X → Type 0) where
         let place = from.there in
         let here : P from.source = subst P place.2 (across zero (suc place.0) from.source (omega arith) (omega (arith, place.1))) in
         here x y i from.held)
+
+-- ---- lists that are mapped, and facts of two that follow from others
+
+pub pairs_map : {X Y : Type 0} (R : Y → Y → Type 0) (h : X → Y) (xs : List X) → Pairs (λ x y. R (h x) (h y)) xs → Pairs R (map h xs)
+pairs_map R h [] pairs = tt
+pairs_map {X = X} R h (x ∷ xs) pairs =
+    (λ y at. let from = from_map h xs y at in subst (R (h x)) from.is (pairs.0 from.source from.there), pairs_map R h xs pairs.1)
+
+pub pairs_unmap : {X Y : Type 0} (R : Y → Y → Type 0) (h : X → Y) (xs : List X) → Pairs R (map h xs) → Pairs (λ x y. R (h x) (h y)) xs
+pairs_unmap R h [] pairs = tt
+pairs_unmap R h (x ∷ xs) pairs = (λ y at. pairs.0 (h y) (in_map h xs y at), pairs_unmap R h xs pairs.1)
+
+pub pairs_weaker : {X : Type 0} (R S : X → X → Type 0) → ((x y : X) → R x y → S x y) → (xs : List X) → Pairs R xs → Pairs S xs
+pairs_weaker R S f [] pairs = tt
+pairs_weaker R S f (x ∷ xs) pairs = (λ y at. f x y (pairs.0 y at), pairs_weaker R S f xs pairs.1)
+
+pub pairs_within : {X : Type 0} (R S : X → X → Type 0) (xs : List X) → ((x y : X) → Contains xs x → Contains xs y → R x y → S x y) → Pairs R xs → Pairs S xs
+pairs_within R S [] f pairs = tt
+pairs_within R S (x ∷ xs) f pairs =
+    (λ y at. f x y (first_in x xs) (later_in x xs y at) (pairs.0 y at), pairs_within R S xs (λ a b i j. f a b (later_in x xs a i) (later_in x xs b j)) pairs.1)
+
+pub pairs_both : {X : Type 0} (R S : X → X → Type 0) (xs : List X) → Pairs R xs → Pairs S xs → Pairs (λ x y. R x y × S x y) xs
+pairs_both R S [] r s = tt
+pairs_both R S (x ∷ xs) r s = (λ y at. (r.0 y at, s.0 y at), pairs_both R S xs r.1 s.1)
+
+-- of two different elements one stands before the other
+pub pairs_two : {X : Type 0} (R : X → X → Type 0) (xs : List X) (x y : X) → (x ≡ y → ⊥) → Pairs R xs → Contains xs x → Contains xs y → R x y ⊎ R y x
+pairs_two R [] x y other pairs i j = absurd (none_in x i)
+pairs_two {X = X} R (z ∷ xs) x y other pairs i j = by_places (first_or_later z xs x i) (first_or_later z xs y j) (pairs_two R xs x y other pairs.1)
+  where
+    by_places : (x ≡ z) ⊎ Contains xs x → (y ≡ z) ⊎ Contains xs y → (Contains xs x → Contains xs y → R x y ⊎ R y x) → R x y ⊎ R y x
+    by_places (inl e) (inl k) rest = absurd (other (e ∙ sym k))
+    by_places (inl e) (inr k) rest = inl (subst (λ (w : X). R w y) (sym e) (pairs.0 y k))
+    by_places (inr e) (inl k) rest = inr (subst (λ (w : X). R w x) (sym k) (pairs.0 x e))
+    by_places (inr e) (inr k) rest = rest e k

@@ -1,34 +1,40 @@
 -- What is tested of a version's files, one by one and two by two.
-use Rattle.std.specs.Prelude.{◌≡◌, ◌≢◌, ℕ, nat_lt, nat_eq, Bool, true, false, ◌&&◌, ◌||◌, if◌then◌else◌, List, [], ◌∷◌, Option, Some, None, AllPairs, Contains}
-use Rattle.std.specs.List.{All}
-use Rattle.std.specs.Ordering.{is_lt}
+use Rattle.std.specs.Prelude.{◌≡◌, ℕ, ◌+◌, ◌-◌, ◌<◌, nat_lt, nat_le, nat_eq, Bool, true, false, ◌&&◌, ◌||◌, if◌then◌else◌, List, length, map, slice_get, slice_index_or, Option, Some, None, Ok, AllPairs, Contains}
+use Rattle.std.specs.List.{All, IsDistinct}
+use Rattle.std.specs.Option.{option_map}
+use Rattle.std.specs.List.Sorted.{IsSortedBy}
+use Rattle.std.specs.Ordering.{nat_cmp, ordering_then, is_lt}
 use Rattle.std.specs.declared.cmp.Ordering.{Ordering}
 use Rattle.std.specs.Str.{bytes_eq}
 use Rattle.ikey.specs.Key.{IsInternalKey, user_of, sequence_of}
 use Rattle.ikey.specs.Order.{internal_cmp}
 use Rattle.block.specs.Piece.{Entry}
+use Rattle.table.specs.Reading.{Contents, contents_reading}
 use Rattle.table.specs.ReadingCursors.{IsRising}
 use Rattle.edit.specs.Version.{are_apart}
 use Rattle.edit.specs.declared.meta.FileMeta.{FileMeta}
 use Rattle.edit.specs.declared.meta.NewFile.{NewFile}
 use Rattle.reads.specs.declared.level_file.LevelFile.{LevelFile}
-use Rattle.reads.specs.Tables.{Numbered, table_entries}
-use Rattle.reads.specs.Lawful.{IsFileOf, IsBelowNext, AreDistinct, AreNewer}
+use Rattle.reads.specs.Tables.{Numbered, table_of, table_entries}
+use Rattle.reads.specs.Lawful.{IsFileOf, IsBelowNext, AreDistinct}
 
 -- a file and its level
 abbrev pub file_in : LevelFile → NewFile
 file_in f = record { level = f.level; meta = f.meta.now }
 
--- the entries of one table: their keys are internal keys that rise strictly, and no user key has one sequence twice
-pub record AreOwn (cmp : List ℕ → List ℕ → Ordering) (entries : List Entry) : Type 0 where
-  pub keys : All (λ e. IsInternalKey e.key) entries
-  pub rising : IsRising cmp entries
-  pub distinct : AllPairs AreDistinct entries
+-- an entry is of another user key than one behind it, or has a greater sequence
+abbrev pub IsNewer : Entry → Entry → Type 0
+IsNewer a b = user_of a.key ≡ user_of b.key → sequence_of b.key < sequence_of a.key
 
--- whether the first entry, where there is one, has the user key and the sequence of a key
-abbrev pub first_repeats : List ℕ → List Entry → Bool
-first_repeats key [] = false
-first_repeats key (e ∷ es) = bytes_eq (user_of e.key) (user_of key) && nat_eq (sequence_of e.key) (sequence_of key)
+-- the keys are internal keys, and of one user key each entry is newer than those behind it
+pub record AreFalling (entries : List Entry) : Type 0 where
+  pub keys : All (λ e. IsInternalKey e.key) entries
+  pub newer : AllPairs IsNewer entries
+
+-- Whether a key that comes next in the order of keys is of the user key of the one before it, and comes of a list before the one
+-- of that or has no lower sequence.
+abbrev pub steps_back : List ℕ → ℕ → List ℕ → ℕ → Bool
+steps_back last place key next = bytes_eq (user_of key) (user_of last) && (nat_lt next place || nat_le (sequence_of last) (sequence_of key))
 
 -- whether a number is below the next one, where there is one
 abbrev pub is_below : Option ℕ → ℕ → Bool
@@ -39,15 +45,22 @@ is_below (Some next) number = nat_lt number next
 abbrev pub is_stated : Option ℕ → FileMeta → ℕ → List ℕ → List ℕ → Bool
 is_stated next f size smallest largest = is_below next f.number && (nat_eq f.size size && (bytes_eq f.smallest smallest && bytes_eq f.largest largest))
 
+-- a file is what the version states of it, and its number is below the next one
+pub record IsStatedFile (cmp : List ℕ → List ℕ → Ordering) (tables : List Numbered) (next : Option ℕ) (f : FileMeta) : Type 0 where
+  pub table : Contents
+  pub there : table_of tables f.number ≡ Some table
+  pub accepted : contents_reading cmp table.bytes ≡ Ok table
+  pub rising : IsRising cmp table.entries
+  pub size : f.size ≡ length table.bytes
+  pub smallest : option_map (λ e. e.key) (slice_get table.entries 0) ≡ Some f.smallest
+  pub largest : option_map (λ e. e.key) (slice_get table.entries (length table.entries - 1)) ≡ Some f.largest
+  pub below_next : IsBelowNext next f.number
+
 -- what is asked of each file alone
 pub record IsSoundFile (cmp : List ℕ → List ℕ → Ordering) (tables : List Numbered) (next : Option ℕ) (f : FileMeta) : Type 0 where
   pub file : IsFileOf cmp tables f
   pub below_next : IsBelowNext next f.number
   pub distinct : AllPairs AreDistinct (table_entries tables f.number)
-
--- whether all user keys of one file are before all of another, by what the version states of them
-abbrev pub ranges_apart : (List ℕ → List ℕ → Ordering) → FileMeta → FileMeta → Bool
-ranges_apart cmp f g = is_lt (cmp (user_of f.largest) (user_of g.smallest)) || is_lt (cmp (user_of g.largest) (user_of f.smallest))
 
 -- whether a file stands before another: at a shallower level, or at level 0 with the higher number, or at one level from 1
 -- on with a range of internal keys below that of the other
@@ -56,22 +69,30 @@ stands_before cmp f g =
     nat_lt f.level g.level
     || (nat_eq f.level g.level && (if nat_eq f.level 0 then nat_lt g.meta.number f.meta.number else is_lt (internal_cmp cmp f.meta.largest g.meta.smallest)))
 
--- the first fact where the first test holds, else the second where the second test holds
-abbrev pub ByTests : Bool → Bool → Type 0 → Type 0 → Type 0
-ByTests true b P Q = P
-ByTests false true P Q = Q
-ByTests false false P Q = ⊥
+-- whether two files have one number
+abbrev pub same_file : NewFile → NewFile → Bool
+same_file f g = nat_eq f.meta.number g.meta.number
 
--- one of two files stands before the other, and its entries are newer
-abbrev pub AreInOrder : (List ℕ → List ℕ → Ordering) → List Numbered → NewFile → NewFile → Type 0
-AreInOrder cmp tables f g =
-    f.meta.number ≢ g.meta.number
-    → ByTests (stands_before cmp f g) (stands_before cmp g f)
-    (AreNewer (table_entries tables f.meta.number) (table_entries tables g.meta.number))
-    (AreNewer (table_entries tables g.meta.number) (table_entries tables f.meta.number))
-
--- these are all files of a version, whose numbers are apart
+-- these are all files of a version, whose numbers are apart, each once
 pub record AreAll (files listed : List NewFile) : Type 0 where
   pub apart : are_apart files ≡ true
+  pub distinct : IsDistinct same_file listed
   pub all : (f : NewFile) → Contains files f → Contains listed f
   pub only : (f : NewFile) → Contains listed f → Contains files f
+
+-- the number of a file of level 0; 0 for the others
+abbrev pub rank_of : NewFile → ℕ
+rank_of f = if nat_eq f.level 0 then f.meta.number else 0
+
+-- files as they stand one before the other: by level, those of level 0 by falling number, and those of the others by smallest key
+abbrev pub standing_cmp : (List ℕ → List ℕ → Ordering) → NewFile → NewFile → Ordering
+standing_cmp cmp f g = ordering_then (nat_cmp f.level g.level) (ordering_then (nat_cmp (rank_of g) (rank_of f)) (internal_cmp cmp f.meta.smallest g.meta.smallest))
+
+-- these are all files of a version, in that order
+pub record AreListed (cmp : List ℕ → List ℕ → Ordering) (files : List NewFile) (listed : List LevelFile) : Type 0 where
+  pub all : AreAll files (map file_in listed)
+  pub sorted : IsSortedBy (λ f g. is_lt (standing_cmp cmp (file_in f) (file_in g))) listed
+
+-- each file stands before the one behind it
+abbrev pub AreInTurn : (List ℕ → List ℕ → Ordering) → List LevelFile → Type 0
+AreInTurn cmp listed = (k : ℕ) (d : LevelFile) → k + 1 < length listed → stands_before cmp (file_in (slice_index_or listed k d)) (file_in (slice_index_or listed (k + 1) d)) ≡ true

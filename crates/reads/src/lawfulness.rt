@@ -1,6 +1,6 @@
 //! Whether a version is lawful.
 
-ghost use Rattle.std.specs.Prelude.{◌≡◌, ◌↔◌, ◌≤◌, true, map, Ok, IfOk, IfErr, OnOk, AllPairs, ◌++◌, length};
+ghost use Rattle.std.specs.Prelude.{◌≡◌, ◌↔◌, ◌≤◌, true, map, Ok, IsTrue, IfOk, IfErr, OnOk, ◌++◌, length};
 ghost use Rattle.std.specs.List.{All};
 ghost use Rattle.std.specs.Result.{MatchResult};
 ghost use Rattle.std.specs.Option.{is_some};
@@ -9,17 +9,19 @@ ghost use Rattle.coding.specs.declared.fault.FaultName.TheVariants.{Memory};
 ghost use Rattle.edit.specs.Version.{IsState};
 ghost use Rattle.edit.specs.VersionOrder.{at_level};
 ghost use Rattle.reads.specs.Tables.{table_of, table_entries, tables_test};
-ghost use Rattle.reads.specs.Lawful.{IsFileOf, AreNewer, IsLawful, IsUnlawful};
-ghost use Rattle.reads.specs.Checking.{file_in, is_below, is_stated, IsSoundFile, ranges_apart, stands_before, AreInOrder, AreAll};
+ghost use Rattle.reads.specs.Lawful.{IsLawful, IsUnlawful};
+ghost use Rattle.reads.specs.Checking.{file_in, is_below, is_stated, IsStatedFile, stands_before, AreAll, rank_of, standing_cmp, AreListed, AreInTurn};
 
 use crate::finding::{LEVELS, table_of, tables_test};
 use crate::level_file::LevelFile;
 use crate::numbered_table::NumberedTable;
-use crate::walking::{has_each_once, has_newer_entries};
+use crate::walking::never_steps_back;
 use coding::{Fault, FaultName};
 use edit::{FileMeta, Version};
 use ikey::{Comparator, InternalKey};
 use std::alloc::Global;
+use std::cmp::Ordering;
+use table::TableCursor;
 
 /// Whether a version is lawful with these tables:
 ///
@@ -33,7 +35,8 @@ use std::alloc::Global;
 /// The table of a file is the first in the list that has its number. `Missing` where a file of the version has no table,
 /// before all else; `Lawless` where the version isn't lawful; else refused only for want of memory.
 ///
-/// It walks over each table once, and once over the two tables of each two files whose ranges of user keys overlap.
+/// It walks over all tables once, in the order of their keys: an entry takes a time that grows with the logarithm of the number
+/// of files.
 pub fn lawful<C: Comparator>(
     alloc: Global,
     version: &Version,
@@ -43,11 +46,14 @@ pub fn lawful<C: Comparator>(
         (λ e. UnlessMemory e (IsUnlawful C.cmp version.now tables.now e)) }
 {
     tables_test(alloc, version, tables)?;
-    let files = all_files::<C>(alloc, version)?;
-    if !are_sound(alloc, &files, tables, version.next_file())? {
+    let files = listed_files::<C>(alloc, version)?;
+    if !are_as_stated(&files, tables, version.next_file()) {
         return Err(Fault::of(FaultName::Lawless));
     }
-    if !are_all_in_order(alloc, &files, tables)? {
+    if !are_in_turn::<C>(&files) {
+        return Err(Fault::of(FaultName::Lawless));
+    }
+    if !never_steps_back(alloc, cursors_of(alloc, &files, tables)?)? {
         return Err(Fault::of(FaultName::Lawless));
     }
     Ok(())
@@ -84,6 +90,37 @@ fn all_files<'v, C: Comparator>(
     Ok(all)
 }
 
+/// The number of a file of level 0; 0 for the others.
+fn rank_of(file: &LevelFile<'_>) -> u64
+    ensures { result ≡ rank_of (file_in file.now) }
+{
+    if file.level == 0 { file.meta.number } else { 0 }
+}
+
+/// How files stand one before the other: by level, those of level 0 by falling number, and those of the others by smallest key.
+fn standing_order<C: Comparator>(file: &LevelFile<'_>, other: &LevelFile<'_>) -> Ordering
+    ensures { result ≡ standing_cmp C.cmp (file_in file.now) (file_in other.now) }
+{
+    let levels = file.level.cmp(&other.level);
+    let ranks = rank_of(other).cmp(&rank_of(file));
+    let smallest = other.meta.smallest.as_key();
+    let keys = file.meta.smallest.as_key().compare::<C>(&smallest);
+    levels.then(ranks.then(keys))
+}
+
+/// All files of a version as they stand one before the other. Refused only for want of memory.
+fn listed_files<'v, C: Comparator>(
+    alloc: Global,
+    version: &'v Version,
+) -> Result<Vec<LevelFile<'v>>, Fault>
+    ensures listed { IfOk result (λ files. AreListed C.cmp version.now.files files.items) }
+    ensures memory { IfErr result (λ e. e ≡ fault Memory) }
+{
+    let mut files = all_files::<C>(alloc, version)?;
+    files.sort_unstable_by(|file, other| standing_order::<C>(file, other));
+    Ok(files)
+}
+
 /// Whether a number is below the next one, where there is one.
 fn is_below(next: Option<u64>, number: u64) -> bool
     ensures { result ≡ is_below next number }
@@ -111,56 +148,38 @@ fn is_stated(
         && file.largest.as_key().bytes() == largest.bytes()
 }
 
-/// Whether a file's table is what the version states, and has no user key with one sequence twice.
-///
-/// Refused only for want of memory.
-fn is_sound<C: Comparator>(
-    alloc: Global,
+/// Whether a file's table is what the version states.
+fn is_as_stated<C: Comparator>(
     file: &FileMeta,
     tables: &[NumberedTable<'_, C>],
     next: Option<u64>,
-) -> Result<bool, Fault>
+) -> bool
     requires { is_some (table_of tables.now file.now.number) ≡ true }
-    ensures sound { IfOk result (λ sound. (sound ≡ true) ↔ IsSoundFile C.cmp tables.now next file.now) }
-    ensures memory { IfErr result (λ e. e ≡ fault Memory) }
+    ensures { IsTrue result ↔ IsStatedFile C.cmp tables.now next file.now }
 {
     let Some(table) = table_of(tables, file.number) else {
         unreachable!();
     };
     let smallest = table.smallest();
     let largest = table.largest();
-    if !is_stated(next, file, table.bytes(), smallest, largest) {
-        return Ok(false);
-    }
-    has_each_once(alloc, table)
+    is_stated(next, file, table.bytes(), smallest, largest)
 }
 
-/// Whether that holds of each file. Refused only for want of memory.
-fn are_sound<C: Comparator>(
-    alloc: Global,
+/// Whether that holds of each file.
+fn are_as_stated<C: Comparator>(
     files: &[LevelFile<'_>],
     tables: &[NumberedTable<'_, C>],
     next: Option<u64>,
-) -> Result<bool, Fault>
+) -> bool
     requires { All (λ f. is_some (table_of tables.now f.meta.now.number) ≡ true) files.now }
-    ensures sound { IfOk result (λ all. (all ≡ true)
-        ↔ All (λ f. IsSoundFile C.cmp tables.now next f.meta.now) files.now) }
-    ensures memory { IfErr result (λ e. e ≡ fault Memory) }
+    ensures { IsTrue result ↔ All (λ f. IsStatedFile C.cmp tables.now next f.meta.now) files.now }
 {
     for file in files {
-        if !is_sound(alloc, file.meta, tables, next)? {
-            return Ok(false);
+        if !is_as_stated(file.meta, tables, next) {
+            return false;
         }
     }
-    Ok(true)
-}
-
-/// Whether all user keys of one file are before all of another.
-fn are_apart<C: Comparator>(file: &FileMeta, other: &FileMeta) -> bool
-    ensures { result ≡ ranges_apart C.cmp file.now other.now }
-{
-    C::compare(file.largest.as_key().user(), other.smallest.as_key().user()).is_lt()
-        || C::compare(other.largest.as_key().user(), file.smallest.as_key().user()).is_lt()
+    true
 }
 
 /// Whether a file stands before another, whose entries are then older: at a shallower level, at level 0 with the higher
@@ -179,96 +198,35 @@ fn stands_before<C: Comparator>(file: &LevelFile<'_>, other: &LevelFile<'_>) -> 
             })
 }
 
-/// Whether each entry of one file has a greater sequence than each entry of its user key in another.
-///
-/// It looks into the tables only where their ranges of user keys overlap. Refused only for want of memory.
-fn is_newer<C: Comparator>(
-    alloc: Global,
-    newer: &FileMeta,
-    older: &FileMeta,
-    tables: &[NumberedTable<'_, C>],
-) -> Result<bool, Fault>
-    requires newer { IsFileOf C.cmp tables.now newer.now }
-    requires older { IsFileOf C.cmp tables.now older.now }
-    ensures newer { IfOk result (λ is. (is ≡ true)
-        ↔ AreNewer (table_entries tables.now newer.now.number) (table_entries tables.now older.now.number)) }
-    ensures memory { IfErr result (λ e. e ≡ fault Memory) }
+/// Whether each file stands before the one behind it.
+fn are_in_turn<C: Comparator>(files: &[LevelFile<'_>]) -> bool
+    ensures { IsTrue result ↔ AreInTurn C.cmp files.now }
 {
-    if are_apart::<C>(newer, older) {
-        return Ok(true);
-    }
-    let Some(above) = table_of(tables, newer.number) else {
-        unreachable!();
-    };
-    let Some(below) = table_of(tables, older.number) else {
-        unreachable!();
-    };
-    has_newer_entries(alloc, above, below)
-}
-
-/// Whether one of two files stands before the other and has newer entries, or they are one file.
-///
-/// Refused only for want of memory.
-fn are_in_order<C: Comparator>(
-    alloc: Global,
-    file: &LevelFile<'_>,
-    other: &LevelFile<'_>,
-    tables: &[NumberedTable<'_, C>],
-) -> Result<bool, Fault>
-    requires file { IsFileOf C.cmp tables.now file.now.meta.now }
-    requires other { IsFileOf C.cmp tables.now other.now.meta.now }
-    ensures order { IfOk result (λ ordered. (ordered ≡ true)
-        ↔ AreInOrder C.cmp tables.now (file_in file.now) (file_in other.now)) }
-    ensures memory { IfErr result (λ e. e ≡ fault Memory) }
-{
-    if file.meta.number == other.meta.number {
-        return Ok(true);
-    }
-    if stands_before::<C>(file, other) {
-        return is_newer(alloc, file.meta, other.meta, tables);
-    }
-    if stands_before::<C>(other, file) {
-        return is_newer(alloc, other.meta, file.meta, tables);
-    }
-    Ok(false)
-}
-
-/// Whether that holds of a file and each of others. Refused only for want of memory.
-fn is_in_order_with<C: Comparator>(
-    alloc: Global,
-    file: &LevelFile<'_>,
-    others: &[LevelFile<'_>],
-    tables: &[NumberedTable<'_, C>],
-) -> Result<bool, Fault>
-    requires file { IsFileOf C.cmp tables.now file.now.meta.now }
-    requires others { All (λ f. IsFileOf C.cmp tables.now f.meta.now) others.now }
-    ensures order { IfOk result (λ all. (all ≡ true)
-        ↔ All (λ f. AreInOrder C.cmp tables.now (file_in file.now) (file_in f)) others.now) }
-    ensures memory { IfErr result (λ e. e ≡ fault Memory) }
-{
-    for other in others {
-        if !are_in_order(alloc, file, other, tables)? {
-            return Ok(false);
+    for place in 1..files.len() {
+        if !stands_before::<C>(&files[place - 1], &files[place]) {
+            return false;
         }
     }
-    Ok(true)
+    true
 }
 
-/// Whether that holds of each two files. Refused only for want of memory.
-fn are_all_in_order<C: Comparator>(
+/// A cursor over the table of each file. Refused only for want of memory.
+fn cursors_of<'a, C: Comparator>(
     alloc: Global,
     files: &[LevelFile<'_>],
-    tables: &[NumberedTable<'_, C>],
-) -> Result<bool, Fault>
-    requires { All (λ f. IsFileOf C.cmp tables.now f.meta.now) files.now }
-    ensures order { IfOk result (λ all. (all ≡ true)
-        ↔ AllPairs (λ f g. AreInOrder C.cmp tables.now (file_in f) (file_in g)) files.now) }
+    tables: &[NumberedTable<'a, C>],
+) -> Result<Vec<TableCursor<'a, C>>, Fault>
+    requires { All (λ f. is_some (table_of tables.now f.meta.now.number) ≡ true) files.now }
+    ensures cursors { IfOk result (λ cursors. cursors.items
+        ≡ map (λ f. table_entries tables.now f.meta.now.number) files.now) }
     ensures memory { IfErr result (λ e. e ≡ fault Memory) }
 {
-    for (place, file) in files.iter().enumerate() {
-        if !is_in_order_with(alloc, file, &files[place + 1..], tables)? {
-            return Ok(false);
-        }
+    let mut cursors = Vec::with_capacity(alloc, files.len())?;
+    for file in files {
+        let Some(table) = table_of(tables, file.meta.number) else {
+            unreachable!();
+        };
+        cursors.push(TableCursor::new(alloc, table)?)?;
     }
-    Ok(true)
+    Ok(cursors)
 }

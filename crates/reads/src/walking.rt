@@ -1,74 +1,47 @@
-//! Walks over the entries of one table, and of two.
+//! A walk over the entries of tables in the order of their keys.
 
-ghost use Rattle.std.specs.Prelude.{◌≡◌, ◌↔◌, ◌<◌, true, length, IfOk, IfErr};
+ghost use Rattle.std.specs.Prelude.{◌≡◌, ◌↔◌, true, IfOk, IfErr};
 ghost use Rattle.coding.specs.Answers.{fault};
 ghost use Rattle.coding.specs.declared.fault.FaultName.TheVariants.{Memory};
-ghost use Rattle.table.specs.ReadingCursors.{IsRising};
-ghost use Rattle.reads.specs.Lawful.{AreNewer};
-ghost use Rattle.reads.specs.Checking.{AreOwn, first_repeats};
+ghost use Rattle.merge.specs.Merged.{joined};
+ghost use Rattle.reads.specs.Checking.{AreFalling, steps_back};
 
 use coding::Fault;
-use ikey::{Comparator, InternalKey};
+use ikey::{Comparator, InternalKey, KeyBuf, Kind};
+use merge::Merging;
 use std::alloc::Global;
-use std::cmp::Ordering;
-use table::{Cursor, SoundTable, TableCursor};
+use table::{Cursor, TableCursor};
 
-/// Whether the first entry, where there is one, has the user key and the sequence of a key.
-fn repeats<C: Comparator>(entries: &TableCursor<'_, C>, key: InternalKey<'_>) -> bool
-    ensures { result ≡ first_repeats key.entry.bytes.now entries.now }
+/// Whether a key that comes next is of the user key of the last one, and comes of a cursor before the one of that or has no
+/// lower sequence.
+fn steps_back(last: InternalKey<'_>, place: usize, key: InternalKey<'_>, next: usize) -> bool
+    ensures { result ≡ steps_back last.entry.bytes.now place key.entry.bytes.now next }
 {
-    entries.valid()
-        && entries.key().user() == key.user()
-        && entries.key().sequence() == key.sequence()
+    key.user() == last.user() && (next < place || last.sequence() <= key.sequence())
 }
 
-/// Whether no user key has one sequence twice in a table.
+/// Whether of one user key each entry is newer than those behind it, where the entries of each cursor stand behind those of
+/// the cursors before it.
 ///
-/// It walks over the table with two cursors, one of which is an entry ahead. Refused only for want of memory.
-pub(crate) fn has_each_once<C: Comparator>(
+/// It walks over all of them once, in the order of their keys, and takes the memory of two keys and of the merge. An entry
+/// takes a time that grows with the logarithm of the number of cursors. Refused only for want of memory.
+pub(crate) fn never_steps_back<C: Comparator>(
     alloc: Global,
-    table: &SoundTable<'_, C>,
+    cursors: Vec<TableCursor<'_, C>>,
 ) -> Result<bool, Fault>
-    ensures once { IfOk result (λ once. (once ≡ true) ↔ AreOwn C.cmp table.now.entries) }
+    ensures newer { IfOk result (λ never. (never ≡ true) ↔ AreFalling (joined cursors.entry.items)) }
     ensures memory { IfErr result (λ e. e ≡ fault Memory) }
 {
-    let mut behind = TableCursor::new(alloc, table)?;
-    let mut ahead = TableCursor::new(alloc, table)?;
-    while behind.valid() {
-        ahead.advance()?;
-        if repeats(&ahead, behind.key()) {
+    let mut merging = Merging::<C, TableCursor<'_, C>>::new(alloc, cursors)?;
+    let mut last = KeyBuf::new(alloc, &[], 0, Kind::Put)?;
+    while let Some(place) = merging.place() {
+        last.set(merging.key())?;
+        merging.advance()?;
+        let Some(next) = merging.place() else {
+            return Ok(true);
+        };
+        if steps_back(last.as_key(), place, merging.key(), next) {
             return Ok(false);
-        }
-        behind.advance()?;
-    }
-    Ok(true)
-}
-
-/// Whether each entry of one table has a greater sequence than each entry of its user key in another.
-///
-/// It walks over both once. Refused only for want of memory.
-pub(crate) fn has_newer_entries<C: Comparator>(
-    alloc: Global,
-    newer: &SoundTable<'_, C>,
-    older: &SoundTable<'_, C>,
-) -> Result<bool, Fault>
-    ensures newer { IfOk result (λ is_newer. (is_newer ≡ true) ↔ AreNewer newer.now.entries older.now.entries) }
-    ensures memory { IfErr result (λ e. e ≡ fault Memory) }
-{
-    let mut above = TableCursor::new(alloc, newer)?;
-    let mut below = TableCursor::new(alloc, older)?;
-    while above.valid() && below.valid() {
-        let key = above.key();
-        let other = below.key();
-        match C::compare(key.user(), other.user()) {
-            Ordering::Less => above.advance()?,
-            Ordering::Greater => below.advance()?,
-            Ordering::Equal => {
-                if key.sequence() <= other.sequence() {
-                    return Ok(false);
-                }
-                above.advance()?;
-            }
         }
     }
     Ok(true)

@@ -1,12 +1,11 @@
 -- The lines of a folder's tables, step by step.
-use Rattle.std.proofs.Common.{◌≡◌, ◌≢◌, ◌⊎◌, ℕ, ◌≤◌, Bool, true, false, List, [], ◌∷◌, Option, Result, Ok, Err, IfErr, IsErrAnd, if◌then◌else◌, refl, sym, ap, subst, ◌∙◌, inl, inr}
-use Rattle.std.specs.List.{All, AllZip, list_all}
-use Rattle.std.specs.Option.{is_some}
+use Rattle.std.proofs.Common.{◌≡◌, ◌≢◌, ◌⊎◌, ℕ, ◌≤◌, List, [], ◌∷◌, Option, Result, Ok, Err, IfErr, IsErrAnd, refl, sym, ap, subst, ◌∙◌, inl, inr}
+use Rattle.std.specs.List.{All, AllZip}
 use Rattle.std.specs.declared.cmp.Ordering.{Ordering}
 use Rattle.coding.proofs.Refusals.{unless_from, unless_device}
 use Rattle.coding.specs.Answers.{HoldsOrMemory, EqualOrMemory, UnlessMemory, fault}
 use Rattle.coding.specs.declared.fault.Fault.{Fault}
-use Rattle.coding.specs.declared.fault.FaultName.TheVariants.{Device, Lawless, Missing}
+use Rattle.coding.specs.declared.fault.FaultName.TheVariants.{Device}
 use Rattle.edit.specs.Version.{State}
 use Rattle.folder.proofs.CountLemmas.{steady}
 use Rattle.folder.proofs.LoadingLemmas.{table_before}
@@ -16,16 +15,15 @@ use Rattle.folder.specs.Levels.{file_numbers}
 use Rattle.folder.specs.Loading.{IsLoaded, IsTableOf}
 use Rattle.folder.specs.Opening.{FolderAnswers, HasDeviceFailed, IsOpened, IsStopped, StopsAtDevice}
 use Rattle.folder.specs.declared.order.Order.{Order}
-use Rattle.reads.specs.Lawful.{IsLawful}
-use Rattle.reads.specs.Tables.{Numbered, table_of}
-use Rattle.tool.proofs.TableRefusals.{no_device}
+use Rattle.reads.specs.Tables.{Numbered}
+use Rattle.checks.proofs.LawfulLemmas.{handed_on, sound_other}
 use Rattle.tool.proofs.TableSizes.{IsFew, few_in_each}
-use Rattle.tool.specs.Checked.{tables_reading}
+use Rattle.checks.specs.LawfulTables.{IsLawfulTables}
 use Rattle.tool.specs.Lines.{order_cmp}
-use Rattle.tool.specs.FolderLines.{IsLawfulAnswer, IsLawfulTables, IsLineOfLoaded, IsLineOfVersion, got_line, verified_line}
+use Rattle.tool.specs.FolderLines.{IsLineOfLoaded, IsLineOfVersion, got_line, verified_line}
 use Rattle.tool.specs.Questions.{IsFolderAnswer, IsVersionAnswer}
 use Rattle.tool.specs.declared.question.Question.{Question}
-use Rattle.tool.specs.declared.question.Question.TheVariants.{Lines, Lawful, Value}
+use Rattle.tool.specs.declared.question.Question.TheVariants.{Lawful, Value}
 
 abbrev refusal : {Y : Type 0} → Fault → Result Y Fault
 refusal e = Err e
@@ -42,35 +40,12 @@ same_refusal e d h = cc
 ok_is : {Y : Type 0} (x y : Y) → answer x ≡ answer y → x ≡ y
 ok_is x y h = cc
 
--- a call's refusal that `?` hands on
-pub handed_on : {X Y Z : Type 0} (view : X → Y) (r : Result X Fault) (e : Fault) (IsFirst : Result Z Fault → Type 0) (IsAnswer : Result Y Fault → Type 0)
-    → IsErrAnd r (λ f. f ≡ e) → UnlessMemory e (IsFirst (Err e)) → (IsFirst (Err e) → IsAnswer (Err e)) → HoldsOrMemory view r IsAnswer
-handed_on view (Ok x) e IsFirst IsAnswer h given f = absurd h
-handed_on view (Err g) e IsFirst IsAnswer h given f =
-    subst (λ (x : Fault). UnlessMemory x (IsAnswer (Err x))) (sym h) (unless_from e (IsFirst (Err e)) (IsAnswer (Err e)) f given)
-
 -- the refusal of a call whose definition answers a value
 pub handed_memory : {X Y Z : Type 0} (view : X → Y) (r : Result X Fault) (e : Fault) (z : Z) (IsAnswer : Result Y Fault → Type 0)
     → IsErrAnd r (λ f. f ≡ e) → UnlessMemory e (answer z ≡ refusal e) → HoldsOrMemory view r IsAnswer
 handed_memory view r e z IsAnswer h given = handed_on view r e (λ a. answer z ≡ a) IsAnswer h given (λ same. absurd (no_refusal z e same))
 
 module _ (cmp : List ℕ → List ℕ → Ordering) (v : State) (loaded : List (ℕ × List ℕ)) where
-  -- a table is refused
-  pub not_checked : (e : Fault) → tables_reading cmp loaded ≡ Err e → IsLawfulTables cmp v loaded (Err e)
-  not_checked e h = (Err e, (h, refl))
-
-  -- the version isn't lawful
-  pub not_lawful : (tables : List Numbered) (e : Fault) → tables_reading cmp loaded ≡ Ok tables → IsLawfulAnswer cmp v tables (Err e) → IsLawfulTables cmp v loaded (Err e)
-  not_lawful tables e h l = (Ok tables, (h, l))
-
-  -- it is
-  pub sound : (tables : List Numbered) → tables_reading cmp loaded ≡ Ok tables → IsLawful cmp v tables → IsLawfulTables cmp v loaded (Ok tables)
-  sound tables h l = (Ok tables, (h, (refl, l)))
-
-  pub sound_lawful : (tables : List Numbered) → IsLawfulTables cmp v loaded (Ok tables) → IsLawful cmp v tables
-  sound_lawful tables (Ok first, h) = subst (IsLawful cmp v) (sym h.1.0) h.1.1
-  sound_lawful tables (Err e, h) = absurd (no_refusal tables e h.1)
-
   pub sound_few : (tables : List Numbered) → IsLawfulTables cmp v loaded (Ok tables) → All IsFew tables
   sound_few tables (Ok first, h) = subst (All IsFew) (sym h.1.0) (few_in_each cmp loaded first h.0)
   sound_few tables (Err e, h) = absurd (no_refusal tables e h.1)
@@ -85,23 +60,9 @@ module _ (cmp : List ℕ → List ℕ → Ordering) (v : State) (loaded : List (
   told_line view line_of tables (Ok x) h given = (Ok tables, (h, sym given))
   told_line view line_of tables (Err e) h given = unless_from e (answer (line_of tables) ≡ refusal e) (IsLineOfLoaded cmp v loaded line_of (Err e)) (λ same. absurd (no_refusal (line_of tables) e same)) given
 
-  missing_other : (b : Bool) (u : Unit {0}) (e : Fault) → (if b then answer u else Err (fault Missing)) ≡ refusal e → e.name ≢ Device
-  missing_other true u e h = absurd (no_refusal u e h)
-  missing_other false u e h = λ same. let is = ap (λ (f : Fault). f.name) (same_refusal {Y = Unit {0}} (fault Missing) e h) ∙ same in cc
-
-  lawless_other : (e : Fault) → e ≡ fault Lawless → e.name ≢ Device
-  lawless_other e h = λ same. let is = sym (ap (λ (f : Fault). f.name) h) ∙ same in cc
-
-  sound_other : (e : Fault) → IsLawfulTables cmp v loaded (Err e) → e.name ≢ Device
-  sound_other e (Ok tables, h) = elim h.1 [
-    | inl missing ↦ missing_other (list_all (λ f. is_some (table_of tables f.meta.number)) v.files) tt e missing
-    | inr lawless ↦ lawless_other e lawless.1
-  ]
-  sound_other e (Err d, h) = subst (λ (f : Fault). f.name ≢ Device) (sym (same_refusal {Y = List Numbered} e d h.1)) (no_device cmp loaded d h.0)
-
   told_other : (line_of : List Numbered → List ℕ) (e : Fault) → IsLineOfLoaded cmp v loaded line_of (Err e) → e.name ≢ Device
   told_other line_of e (Ok tables, h) = absurd (no_refusal (line_of tables) e (sym h.1))
-  told_other line_of e (Err d, h) = subst (λ (f : Fault). f.name ≢ Device) (sym (same_refusal {Y = List ℕ} e d h.1)) (sound_other d h.0)
+  told_other line_of e (Err d, h) = subst (λ (f : Fault). f.name ≢ Device) (sym (same_refusal {Y = List ℕ} e d h.1)) (sound_other cmp v loaded d h.0)
 
   -- the line of tables that were read isn't Device
   pub told_no_device : {X : Type 0} (view : X → List ℕ) (line_of : List Numbered → List ℕ) (before now : ℕ) (r : Result X Fault) → HoldsOrMemory view r (IsLineOfLoaded cmp v loaded line_of) → IfErr r (HasDeviceFailed before now)
@@ -146,22 +107,21 @@ module _ (old new : List ℕ → Option (List ℕ) → Type 0) (same : TellsSame
       → IsLineOfVersion new cmp v line_of a → IsLineOfVersion old cmp v line_of a
   line_before cmp v line_of a h = (h.0, (loaded_before old new (file_numbers cmp v) h.0 same h.1.0, h.1.1))
 
-  version_before : (order : Order) (cmp : List ℕ → List ℕ → Ordering) (v : State) (question : Question) (a : Result (List ℕ) Fault)
-      → IsVersionAnswer new order cmp v question a → IsVersionAnswer old order cmp v question a
-  version_before order cmp v Lines a h = h
-  version_before order cmp v Lawful a h = line_before cmp v verified_line a h
-  version_before order cmp v (Value key at) a h = line_before cmp v (got_line key.now at v) a h
+  version_before : (cmp : List ℕ → List ℕ → Ordering) (v : State) (question : Question) (a : Result (List ℕ) Fault)
+      → IsVersionAnswer new cmp v question a → IsVersionAnswer old cmp v question a
+  version_before cmp v Lawful a h = line_before cmp v verified_line a h
+  version_before cmp v (Value key at) a h = line_before cmp v (got_line key.now at v) a h
 
   module _ (order : Order) (v : State) (question : Question) (opened : IsOpened old (Ok (order, v))) where
-    folder_answer : (a : Result (List ℕ) Fault) → IsVersionAnswer new order (order_cmp order) v question a → IsFolderAnswer old question a
-    folder_answer a h = (Ok (order, v), (opened, version_before order (order_cmp order) v question a h))
+    folder_answer : (a : Result (List ℕ) Fault) → IsVersionAnswer new (order_cmp order) v question a → IsFolderAnswer old question a
+    folder_answer a h = (Ok (order, v), (opened, version_before (order_cmp order) v question a h))
 
     -- it is, and then the version answers
     pub opened_answer : {X : Type 0} (view : X → List ℕ) (before middle now : ℕ) (r : Result X Fault) → before ≤ middle → middle ≤ now
-        → FolderAnswers view middle now r (IsVersionAnswer new order (order_cmp order) v question) → FolderAnswers view before now r (IsFolderAnswer old question)
+        → FolderAnswers view middle now r (IsVersionAnswer new (order_cmp order) v question) → FolderAnswers view before now r (IsFolderAnswer old question)
     opened_answer view before middle now (Ok x) one two given = folder_answer (Ok (view x)) given
     opened_answer view before middle now (Err e) one two given =
-        unless_from e (IsStopped middle now e ⊎ IsVersionAnswer new order (order_cmp order) v question (Err e)) (IsStopped before now e ⊎ IsFolderAnswer old question (Err e)) (λ h. elim h [
+        unless_from e (IsStopped middle now e ⊎ IsVersionAnswer new (order_cmp order) v question (Err e)) (IsStopped before now e ⊎ IsFolderAnswer old question (Err e)) (λ h. elim h [
           | inl stopped ↦ inl (stopped.0, failed_since before middle now one two stopped.1)
           | inr found ↦ inr (folder_answer (Err e) found)
         ]) given

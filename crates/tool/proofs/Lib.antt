@@ -7,7 +7,5 @@ mod DigitLemmas
 mod LineLemmas
 mod TextLemmas
 mod ShowingLemmas
-mod CheckedTables
 mod TableSizes
-mod TableRefusals
 mod FolderLineLemmas

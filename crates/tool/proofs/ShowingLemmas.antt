@@ -1,11 +1,11 @@
 -- The lines of a version, step by step.
-use Rattle.std.proofs.Common.{◌≡◌, ◌⊎◌, ℕ, List, [], ◌∷◌, ◌++◌, map, Result, Ok, Err, IfErr, IsErrAnd, refl, sym, ap, subst, ◌∙◌, append_assoc}
+use Rattle.std.proofs.Common.{◌≡◌, ℕ, List, [], ◌∷◌, ◌++◌, map, Result, Ok, Err, IfErr, IsErrAnd, refl, sym, ap, subst, ◌∙◌, append_assoc}
 use Rattle.std.specs.List.{flat_map}
 use Rattle.coding.proofs.Refusals.{unless_from, only_memory}
-use Rattle.coding.specs.Answers.{fault, FailsOrMemory, EqualOrMemory, UnlessMemory}
+use Rattle.coding.specs.Answers.{fault, FailsOrMemory, EqualOrMemory, HoldsOrMemory, UnlessMemory}
 use Rattle.coding.specs.declared.fault.Fault.{Fault}
 use Rattle.coding.specs.declared.fault.FaultName.TheVariants.{Memory}
-use Rattle.folder.specs.Opening.{FolderAnswers, HasDeviceFailed, IsStopped}
+use Rattle.folder.specs.Opening.{HasDeviceFailed}
 
 -- the lines of what references point to
 pub flat_map_fused : {A B C : Type 0} (f : A → B) (h : B → List C) (xs : List A) → flat_map (λ x. h (f x)) xs ≡ flat_map h (map f xs)
@@ -32,11 +32,11 @@ pub memory_fails : {Y : Type 0} (e : Fault) (answer : Result Y Fault) → e ≡ 
 memory_fails e answer h = subst (λ (f : Fault). UnlessMemory f (answer ≡ Err e)) (sym h) tt
 
 -- the lines of a version are its answer
-pub lines_answer : {X : Type 0} (view : X → List ℕ) (before now : ℕ) (r : Result X Fault) (lines : List ℕ)
-    → EqualOrMemory view r (Ok lines) → FolderAnswers view before now r (λ answer. answer ≡ Ok lines)
-lines_answer view before now (Ok x) lines given = sym given
-lines_answer view before now (Err e) lines given =
-    unless_from e (Ok lines ≡ Err e) (IsStopped before now e ⊎ (Err e ≡ Ok lines)) (λ same. absurd (no_refusal lines e same)) given
+pub lines_hold : {X : Type 0} (view : X → List ℕ) (r : Result X Fault) (lines : List ℕ)
+    → EqualOrMemory view r (Ok lines) → HoldsOrMemory view r (λ answer. answer ≡ Ok lines)
+lines_hold view (Ok x) lines given = sym given
+lines_hold view (Err e) lines given =
+    unless_from e (Ok lines ≡ Err e) (Err e ≡ Ok lines) (λ same. absurd (no_refusal lines e same)) given
 
 -- they are refused for want of memory alone
 pub lines_device : {X : Type 0} (view : X → List ℕ) (before now : ℕ) (r : Result X Fault) (lines : List ℕ)

@@ -1,5 +1,6 @@
 -- The lines of the commands that read the tables of a folder.
-use Rattle.std.specs.Prelude.{◌≡◌, ℕ, List, ◌++◌, codes, decimal, length, Option, Some, None, unwrap_or, Result, Ok, Err}
+use Rattle.std.specs.Prelude.{◌≡◌, ℕ, List, ◌++◌, codes, decimal, length, Option, Some, None, unwrap_or, Result, Ok}
+use Rattle.std.specs.List.{flat_map}
 use Rattle.std.specs.declared.cmp.Ordering.{Ordering}
 use Rattle.coding.specs.Answers.{IsThen}
 use Rattle.coding.specs.declared.fault.Fault.{Fault}
@@ -8,21 +9,10 @@ use Rattle.folder.specs.Levels.{file_numbers}
 use Rattle.folder.specs.Loading.{IsLoaded}
 use Rattle.folder.specs.Opening.{IsOpened}
 use Rattle.reads.specs.Gets.{get_of}
-use Rattle.reads.specs.Lawful.{IsLawful, IsUnlawful}
 use Rattle.reads.specs.Tables.{Numbered}
-use Rattle.tool.specs.Checked.{entry_count, tables_reading}
+use Rattle.checks.specs.LawfulTables.{IsLawfulTables}
 use Rattle.tool.specs.Lines.{order_cmp}
 use Rattle.tool.specs.Text.{text_of_bytes}
-
--- what the test of a version answers for tables: these, where the version is lawful with them
-abbrev pub IsLawfulAnswer : (List ℕ → List ℕ → Ordering) → State → List Numbered → Result (List Numbered) Fault → Type 0
-IsLawfulAnswer cmp v tables (Ok same) = (same ≡ tables) × IsLawful cmp v tables
-IsLawfulAnswer cmp v tables (Err e) = IsUnlawful cmp v tables e
-
--- The tables of a version, of which the bytes were read: each is checked, in order, and then the version is lawful with
--- them.
-abbrev pub IsLawfulTables : (List ℕ → List ℕ → Ordering) → State → List (ℕ × List ℕ) → Result (List Numbered) Fault → Type 0
-IsLawfulTables cmp v loaded = IsThen (λ checked. tables_reading cmp loaded ≡ checked) (IsLawfulAnswer cmp v)
 
 -- the line of the tables of a lawful version
 abbrev pub IsLineOfLoaded : (List ℕ → List ℕ → Ordering) → State → List (ℕ × List ℕ) → (List Numbered → List ℕ) → Result (List ℕ) Fault → Type 0
@@ -35,6 +25,10 @@ IsLineOfVersion tells cmp v line_of = IsThen (IsLoaded tells (file_numbers cmp v
 -- the same of the version that a folder opens as
 abbrev pub IsLineOfFolder : (List ℕ → Option (List ℕ) → Type 0) → (State → List Numbered → List ℕ) → Result (List ℕ) Fault → Type 0
 IsLineOfFolder tells line_of = IsThen (IsOpened tells) (λ opened. IsLineOfVersion tells (order_cmp opened.0) opened.1 (line_of opened.1))
+
+-- how many entries tables have together
+abbrev pub entry_count : List Numbered → ℕ
+entry_count tables = length (flat_map (λ t. t.contents.entries) tables)
 
 -- `lawful: F files, E entries`
 abbrev pub lawful_line : ℕ → ℕ → List ℕ

@@ -7,7 +7,6 @@ pub mod Testing
 pub mod Blocks
 pub mod Dump
 pub mod Lines
-pub mod Checked
 pub mod FolderLines
 -- serves proofs alone
 pub mod LineParts

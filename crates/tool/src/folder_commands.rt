@@ -1,10 +1,11 @@
 //! The commands on a database folder: what each answers of the version that the folder holds.
 
-ghost use Rattle.std.specs.Prelude.{◌≡◌, ◌≤◌, IfErr};
+ghost use Rattle.std.specs.Prelude.{◌≡◌, ◌≤◌, Ok, IfErr};
+ghost use Rattle.coding.specs.Answers.{EqualOrMemory};
 ghost use Rattle.folder.specs.Folder.{TellsSame};
 ghost use Rattle.folder.specs.Opening.{FolderAnswers, HasDeviceFailed, StopsAtDevice};
 ghost use Rattle.tool.specs.FolderLines.{IsLineOfFolder, got_line, verified_line};
-ghost use Rattle.tool.specs.Lines.{IsShown, order_cmp};
+ghost use Rattle.tool.specs.Lines.{IsShown, order_cmp, version_lines};
 ghost use Rattle.tool.specs.Questions.{IsFolderAnswer, IsVersionAnswer};
 
 use crate::getting::got_in;
@@ -14,8 +15,9 @@ use crate::verifying::verified_in;
 use coding::Fault;
 use edit::Version;
 use folder::{Folder, Order, open};
-use ikey::{Bytewise, Comparator, Shortlex};
+use ikey::{Bytewise, SharedComparator, Shortlex};
 use std::alloc::Global;
+use std::thread::Threads;
 
 #[cfg(test)]
 mod tests;
@@ -34,7 +36,18 @@ pub fn manifest<F: Folder>(alloc: Global, folder: &mut F) -> Result<Vec<u8>, Fau
     ensures at_once { StopsAtDevice (F.failed folder.old) (F.failed folder.new) result }
     ensures later { F.failed folder.old ≤ F.failed folder.new }
 {
-    answered(alloc, folder, Question::Lines)
+    let (order, version) = open(alloc, folder)?;
+    lines_in_order(alloc, order, &version)
+}
+
+/// The lines of a version of an order.
+fn lines_in_order(alloc: Global, order: Order, version: &Version) -> Result<Vec<u8>, Fault>
+    ensures { EqualOrMemory (λ v. v.items) result (Ok (version_lines order version.now)) }
+{
+    match order {
+        Order::Bytewise => version_lines::<Bytewise>(alloc, order, version),
+        Order::Shortlex => version_lines::<Shortlex>(alloc, order, version),
+    }
 }
 
 /// Tests the version that a folder holds, and answers the line `lawful: F files, E entries`: how many files the version
@@ -42,8 +55,13 @@ pub fn manifest<F: Folder>(alloc: Global, folder: &mut F) -> Result<Vec<u8>, Fau
 ///
 /// Refused as opening the folder is; then Missing at the first table that isn't there, by level and in version order;
 /// then by the first of the tables that is none, as `table::check` refuses it; and then Lawless where the version isn't
-/// lawful. A call that the device fails is Device at once, and want of memory Memory. Only reads.
-pub fn verify<F: Folder>(alloc: Global, folder: &mut F) -> Result<Vec<u8>, Fault>
+/// lawful. A call that the device fails is Device at once, and want of memory Memory. Only reads. Four workers check the
+/// tables, and whichever comes first, the answer is the same.
+pub fn verify<F: Folder, R: Threads + Sync>(
+    rt: &R,
+    alloc: Global,
+    folder: &mut F,
+) -> Result<Vec<u8>, Fault>
     ensures answer { FolderAnswers (λ v. v.items) (F.failed folder.old) (F.failed folder.new) result
         (IsLineOfFolder (F.tells folder.old) (λ _. verified_line)) }
     ensures device { IfErr result (HasDeviceFailed (F.failed folder.old) (F.failed folder.new)) }
@@ -52,7 +70,7 @@ pub fn verify<F: Folder>(alloc: Global, folder: &mut F) -> Result<Vec<u8>, Fault
     ensures at_once { StopsAtDevice (F.failed folder.old) (F.failed folder.new) result }
     ensures later { F.failed folder.old ≤ F.failed folder.new }
 {
-    answered(alloc, folder, Question::Lawful)
+    answered(rt, alloc, folder, Question::Lawful)
 }
 
 /// The line of the value that a user key has at a sequence in the version that a folder holds, in lower-case hexadecimal
@@ -60,7 +78,8 @@ pub fn verify<F: Folder>(alloc: Global, folder: &mut F) -> Result<Vec<u8>, Fault
 /// given, it is the version's last one.
 ///
 /// Refused as `verify` is. Only reads.
-pub fn get_dir<F: Folder>(
+pub fn get_dir<F: Folder, R: Threads + Sync>(
+    rt: &R,
     alloc: Global,
     folder: &mut F,
     key: &[u8],
@@ -74,11 +93,12 @@ pub fn get_dir<F: Folder>(
     ensures at_once { StopsAtDevice (F.failed folder.old) (F.failed folder.new) result }
     ensures later { F.failed folder.old ≤ F.failed folder.new }
 {
-    answered(alloc, folder, Question::Value { key, at })
+    answered(rt, alloc, folder, Question::Value { key, at })
 }
 
 /// What the version that a folder holds answers.
-fn answered<F: Folder>(
+fn answered<F: Folder, R: Threads + Sync>(
+    rt: &R,
     alloc: Global,
     folder: &mut F,
     question: Question<'_>,
@@ -92,11 +112,12 @@ fn answered<F: Folder>(
     ensures later { F.failed folder.old ≤ F.failed folder.new }
 {
     let (order, version) = open(alloc, folder)?;
-    answered_in_order(alloc, folder, order, &version, question)
+    answered_in_order(rt, alloc, folder, order, &version, question)
 }
 
 /// What a version of an order answers, with the tables that the folder holds.
-fn answered_in_order<F: Folder>(
+fn answered_in_order<F: Folder, R: Threads + Sync>(
+    rt: &R,
     alloc: Global,
     folder: &mut F,
     order: Order,
@@ -104,7 +125,7 @@ fn answered_in_order<F: Folder>(
     question: Question<'_>,
 ) -> Result<Vec<u8>, Fault>
     ensures answer { FolderAnswers (λ v. v.items) (F.failed folder.old) (F.failed folder.new) result
-        (IsVersionAnswer (F.tells folder.old) order (order_cmp order) version.now question.entry) }
+        (IsVersionAnswer (F.tells folder.old) (order_cmp order) version.now question.entry) }
     ensures device { IfErr result (HasDeviceFailed (F.failed folder.old) (F.failed folder.new)) }
     ensures same { TellsSame (F.tells folder.old) (F.tells folder.new) }
     ensures calls { F.calls folder.new ≡ F.calls folder.old }
@@ -112,21 +133,21 @@ fn answered_in_order<F: Folder>(
     ensures later { F.failed folder.old ≤ F.failed folder.new }
 {
     match order {
-        Order::Bytewise => answered_by::<Bytewise, F>(alloc, folder, order, version, question),
-        Order::Shortlex => answered_by::<Shortlex, F>(alloc, folder, order, version, question),
+        Order::Bytewise => answered_by::<Bytewise, F, R>(rt, alloc, folder, version, question),
+        Order::Shortlex => answered_by::<Shortlex, F, R>(rt, alloc, folder, version, question),
     }
 }
 
 /// What a version answers by a comparator, with the tables that the folder holds.
-fn answered_by<C: Comparator, F: Folder>(
+fn answered_by<C: SharedComparator, F: Folder, R: Threads + Sync>(
+    rt: &R,
     alloc: Global,
     folder: &mut F,
-    order: Order,
     version: &Version,
     question: Question<'_>,
 ) -> Result<Vec<u8>, Fault>
     ensures answer { FolderAnswers (λ v. v.items) (F.failed folder.old) (F.failed folder.new) result
-        (IsVersionAnswer (F.tells folder.old) order C.cmp version.now question.entry) }
+        (IsVersionAnswer (F.tells folder.old) C.cmp version.now question.entry) }
     ensures device { IfErr result (HasDeviceFailed (F.failed folder.old) (F.failed folder.new)) }
     ensures same { TellsSame (F.tells folder.old) (F.tells folder.new) }
     ensures calls { F.calls folder.new ≡ F.calls folder.old }
@@ -134,8 +155,7 @@ fn answered_by<C: Comparator, F: Folder>(
     ensures later { F.failed folder.old ≤ F.failed folder.new }
 {
     match question {
-        Question::Lines => version_lines::<C>(alloc, order, version),
-        Question::Lawful => verified_in::<C, F>(alloc, folder, version),
-        Question::Value { key, at } => got_in::<C, F>(alloc, folder, version, key, at),
+        Question::Lawful => verified_in::<C, F, R>(rt, alloc, folder, version),
+        Question::Value { key, at } => got_in::<C, F, R>(rt, alloc, folder, version, key, at),
     }
 }

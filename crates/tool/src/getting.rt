@@ -8,16 +8,20 @@ ghost use Rattle.folder.specs.Opening.{FolderAnswers, HasDeviceFailed, StopsAtDe
 ghost use Rattle.tool.specs.FolderLines.{IsLineOfLoaded, IsLineOfVersion, got_line, sequence_at, value_line};
 
 use crate::text::text_of;
-use crate::verifying::lawful_tables;
+use crate::verifying::WORKERS;
+use board::Open;
+use checks::lawful_tables;
 use coding::Fault;
 use edit::Version;
 use folder::{Folder, load};
-use ikey::Comparator;
+use ikey::SharedComparator;
 use reads::get;
 use std::alloc::Global;
+use std::thread::Threads;
 
 /// The line of the value in a version, with the tables that the folder holds.
-pub(crate) fn got_in<C: Comparator, F: Folder>(
+pub(crate) fn got_in<C: SharedComparator, F: Folder, R: Threads + Sync>(
+    rt: &R,
     alloc: Global,
     folder: &mut F,
     version: &Version,
@@ -33,11 +37,12 @@ pub(crate) fn got_in<C: Comparator, F: Folder>(
     ensures later { F.failed folder.old ≤ F.failed folder.new }
 {
     let loaded = load::<C, F>(alloc, folder, version)?;
-    got::<C>(alloc, version, &loaded, key, at)
+    got::<C, R>(rt, alloc, version, &loaded, key, at)
 }
 
 /// The line of the value in a version, with the tables of these numbers and bytes.
-fn got<C: Comparator>(
+fn got<C: SharedComparator, R: Threads + Sync>(
+    rt: &R,
     alloc: Global,
     version: &Version,
     loaded: &[(u64, Vec<u8>)],
@@ -47,7 +52,7 @@ fn got<C: Comparator>(
     ensures { HoldsOrMemory (λ v. v.items) result
         (IsLineOfLoaded C.cmp version.now (map (λ t. (t.0, t.1.items)) loaded.now) (got_line key.now at version.now)) }
 {
-    let tables = lawful_tables::<C>(alloc, version, loaded)?;
+    let tables = lawful_tables::<C, Open, R>(rt, alloc, version, loaded, WORKERS, &Open)?;
     let sequence = sequence_at(version, at);
     let value = get(alloc, version, &tables, key, sequence)?;
     value_line(alloc, value)

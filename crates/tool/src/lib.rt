@@ -1,9 +1,9 @@
 //! What the program `sedvokt` does: its command line, its files and what it prints, and the calls behind its commands.
 #![tactic(auto)]
 
-mod checking;
 mod command_line;
 mod commands;
+mod counting;
 mod cut;
 mod dumping;
 mod exit_status;

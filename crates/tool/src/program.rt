@@ -78,11 +78,17 @@ fn carry_out<R: Files + Print + AllocGlobal + Threads + Sync>(
             print_lines(rt, lines.as_slice())
         }
         Line::Verify { folder } => {
-            let lines = verify(rt.alloc(), &mut Disk::new(rt, folder))?;
+            let lines = verify(rt, rt.alloc(), &mut Disk::new(rt, folder))?;
             print_lines(rt, lines.as_slice())
         }
         Line::Get { folder, key, at } => {
-            let lines = get_dir(rt.alloc(), &mut Disk::new(rt, folder), key.as_slice(), at)?;
+            let lines = get_dir(
+                rt,
+                rt.alloc(),
+                &mut Disk::new(rt, folder),
+                key.as_slice(),
+                at,
+            )?;
             print_lines(rt, lines.as_slice())
         }
     }

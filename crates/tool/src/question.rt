@@ -3,8 +3,6 @@
 /// A question to a version and its tables.
 #[derive(Clone, Copy)]
 pub(crate) enum Question<'k> {
-    /// The lines that show the version.
-    Lines,
     /// Whether the version is lawful, and how many files and entries it has.
     Lawful,
     /// The value of a user key at a sequence, or at the version's last one.

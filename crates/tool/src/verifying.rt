@@ -5,18 +5,24 @@ ghost use Rattle.coding.specs.Answers.{HoldsOrMemory, EqualOrMemory, fault};
 ghost use Rattle.coding.specs.declared.fault.FaultName.TheVariants.{Memory};
 ghost use Rattle.folder.specs.Folder.{TellsSame};
 ghost use Rattle.folder.specs.Opening.{FolderAnswers, HasDeviceFailed, StopsAtDevice};
-ghost use Rattle.tool.specs.FolderLines.{IsLawfulTables, IsLineOfLoaded, IsLineOfVersion, lawful_line, verified_line};
+ghost use Rattle.tool.specs.FolderLines.{IsLineOfLoaded, IsLineOfVersion, lawful_line, verified_line};
 
-use crate::checking::{checked, entry_count};
+use crate::counting::entry_count;
+use board::Open;
+use checks::lawful_tables;
 use coding::Fault;
 use edit::Version;
 use folder::{Folder, load};
-use ikey::Comparator;
-use reads::{NumberedTable, lawful};
+use ikey::SharedComparator;
 use std::alloc::Global;
+use std::thread::Threads;
+
+/// How many workers check the tables of a folder.
+pub(crate) const WORKERS: u64 = 4;
 
 /// The line of a version that is lawful with the tables that the folder holds.
-pub(crate) fn verified_in<C: Comparator, F: Folder>(
+pub(crate) fn verified_in<C: SharedComparator, F: Folder, R: Threads + Sync>(
+    rt: &R,
     alloc: Global,
     folder: &mut F,
     version: &Version,
@@ -30,11 +36,12 @@ pub(crate) fn verified_in<C: Comparator, F: Folder>(
     ensures later { F.failed folder.old ≤ F.failed folder.new }
 {
     let loaded = load::<C, F>(alloc, folder, version)?;
-    verified::<C>(alloc, version, &loaded)
+    verified::<C, R>(rt, alloc, version, &loaded)
 }
 
 /// Tests a version with the tables of these numbers and bytes.
-fn verified<C: Comparator>(
+fn verified<C: SharedComparator, R: Threads + Sync>(
+    rt: &R,
     alloc: Global,
     version: &Version,
     loaded: &[(u64, Vec<u8>)],
@@ -42,25 +49,9 @@ fn verified<C: Comparator>(
     ensures { HoldsOrMemory (λ v. v.items) result
         (IsLineOfLoaded C.cmp version.now (map (λ t. (t.0, t.1.items)) loaded.now) verified_line) }
 {
-    let tables = lawful_tables::<C>(alloc, version, loaded)?;
+    let tables = lawful_tables::<C, Open, R>(rt, alloc, version, loaded, WORKERS, &Open)?;
     let entries = entry_count(alloc, &tables)?;
     lawful_line(alloc, tables.len(), entries)
-}
-
-/// The tables of these numbers and bytes, with which a version is lawful.
-///
-/// Refused by the first of them that is no table, and then where the version isn't lawful with them.
-pub(crate) fn lawful_tables<'t, C: Comparator>(
-    alloc: Global,
-    version: &Version,
-    loaded: &'t [(u64, Vec<u8>)],
-) -> Result<Vec<NumberedTable<'t, C>>, Fault>
-    ensures { HoldsOrMemory (λ v. v.items) result
-        (IsLawfulTables C.cmp version.now (map (λ t. (t.0, t.1.items)) loaded.now)) }
-{
-    let tables = checked::<C>(alloc, loaded)?;
-    lawful(alloc, version, &tables)?;
-    Ok(tables)
 }
 
 /// The line of a lawful version of so many files and entries.

@@ -1,109 +1,10 @@
-ghost use Rattle.std.specs.Prelude.{◌≡◌};
-ghost use Rattle.folder.specs.Folder.{failures_after};
-
 use crate::tests::TWO_ENTRIES;
 use crate::*;
 use coding::{Fault, FaultName};
-use folder::{Attempt, Trail, WriteCall};
+use folder::{Failing, Shelf};
 use std::alloc::Global;
 use std::test::Fail;
-
-/// A folder of lent files, whose device takes so many calls. It tells contracts nothing of what it holds.
-#[derive(Drop)]
-struct LentFiles<'a> {
-    alloc: Global,
-    files: &'a [(&'a str, &'a [u8])],
-    calls: u64,
-    failures: u64,
-    trail: Trail,
-}
-
-impl<'a> LentFiles<'a> {
-    fn new(alloc: Global, files: &'a [(&'a str, &'a [u8])], calls: u64) -> LentFiles<'a> {
-        LentFiles {
-            alloc,
-            files,
-            calls,
-            failures: 0,
-            trail: Trail::new(),
-        }
-    }
-
-    /// Takes a call, or fails.
-    fn called(&mut self) -> Result<(), FolderFault>
-        ensures failures { self.new.failures ≡ failures_after self.old.failures result }
-        ensures trail { self.new.trail ≡ self.old.trail }
-    {
-        if self.calls == 0 {
-            self.failures = self.failures.saturating_add(1);
-            return Err(FolderFault::Device);
-        }
-        self.calls = self.calls.saturating_sub(1);
-        Ok(())
-    }
-}
-
-impl<'a> Folder for LentFiles<'a> {
-    ghost tells = { λ _ _ _. Unit {0} };
-
-    ghost calls = { λ folder. folder.trail.steps };
-
-    ghost failed = { λ folder. folder.failures };
-
-    fn read(&mut self, name: &str) -> Result<Option<Vec<u8>>, FolderFault> {
-        self.called()?;
-        for (file, bytes) in self.files {
-            if *file == name {
-                return Ok(Some(Vec::from_slice(self.alloc, bytes)?));
-            }
-        }
-        Ok(None)
-    }
-
-    fn create(&mut self, name: &str, bytes: &[u8]) -> Result<(), FolderFault> {
-        let answer = self.called();
-        let is_done = answer.is_ok();
-        self.trail = self.trail.then(&Attempt {
-            call: WriteCall::Create(name, bytes),
-            is_done,
-        });
-        answer
-    }
-
-    fn sync(&mut self, name: &str) -> Result<(), FolderFault> {
-        let answer = self.called();
-        let is_done = answer.is_ok();
-        self.trail = self.trail.then(&Attempt {
-            call: WriteCall::Sync(name),
-            is_done,
-        });
-        answer
-    }
-
-    fn rename(&mut self, from: &str, to: &str) -> Result<(), FolderFault> {
-        let answer = self.called();
-        let is_done = answer.is_ok();
-        self.trail = self.trail.then(&Attempt {
-            call: WriteCall::Rename(from, to),
-            is_done,
-        });
-        answer
-    }
-
-    fn sync_folder(&mut self) -> Result<(), FolderFault> {
-        let answer = self.called();
-        let is_done = answer.is_ok();
-        self.trail = self.trail.then(&Attempt {
-            call: WriteCall::SyncFolder,
-            is_done,
-        });
-        answer
-    }
-
-    fn failures(&self) -> u64 {
-        self.failures
-    }
-}
+use std::thread::Threads;
 
 /// A log of one record: the comparator, the numbers, and file 7 of 125 bytes at level 1, whose keys are all of `u`.
 const ONE_FILE: &[u8] =
@@ -133,62 +34,75 @@ fn printed(alloc: Global, answer: Result<Vec<u8>, Fault>) -> Result<String, Fail
 
 /// What `verify` tells of a folder with this manifest, and with tables of these bytes as files 7 and 8.
 fn verified<'x>(
-    alloc: Global,
+    rt: &(impl Threads + Sync + AllocGlobal),
     manifest: &'x [u8],
     tables: &'x [(&'x str, &'x [u8])],
 ) -> Result<String, Fail> {
+    let alloc = rt.alloc();
     let mut files = vec![in alloc; CURRENT, ("MANIFEST-000005", manifest)]?;
     files.extend_from_slice(tables)?;
-    printed(alloc, verify(alloc, &mut LentFiles::new(alloc, &files, 9)))
+    let answer = verify(rt, alloc, &mut Shelf::new(alloc, &files));
+    printed(alloc, answer)
 }
 
 /// What `get` tells of a key in the folder of two files.
-fn got(alloc: Global, key: &[u8], at: Option<u64>) -> Result<String, Fail> {
+fn got(
+    rt: &(impl Threads + Sync + AllocGlobal),
+    key: &[u8],
+    at: Option<u64>,
+) -> Result<String, Fail> {
+    let alloc = rt.alloc();
     let files = [
         CURRENT,
         ("MANIFEST-000005", TWO_FILES),
         ("000007.ldb", TWO_ENTRIES.as_slice()),
         ("000008.sst", ONE_ENTRY),
     ];
-    let mut folder = LentFiles::new(alloc, &files, 9);
-    printed(alloc, get_dir(alloc, &mut folder, key, at))
+    let answer = get_dir(rt, alloc, &mut Shelf::new(alloc, &files), key, at);
+    printed(alloc, answer)
+}
+
+/// A folder of these files, of which one call fails.
+fn failing<'x>(alloc: Global, files: &'x [(&'x str, &'x [u8])], call: u64) -> Shelf<'x> {
+    Shelf::new(alloc, files).failing(Failing {
+        call,
+        fault: FolderFault::Device,
+        is_half_done: false,
+    })
 }
 
 #[test]
 fn lawful_folders(rt: HostRuntime) -> Result<(), Fail> {
-    let alloc = rt.alloc();
     let seven = ("000007.ldb", TWO_ENTRIES.as_slice());
-    let one = verified(alloc, ONE_FILE, &[seven])?;
+    let one = verified(&rt, ONE_FILE, &[seven])?;
     assert_eq!(rt; one.as_str(), "lawful: 1 files, 2 entries\n");
-    let two = verified(alloc, TWO_FILES, &[seven, ("000008.ldb", ONE_ENTRY)])?;
+    let two = verified(&rt, TWO_FILES, &[seven, ("000008.ldb", ONE_ENTRY)])?;
     assert_eq!(rt; two.as_str(), "lawful: 2 files, 3 entries\n");
     Ok(())
 }
 
 #[test]
 fn folders_that_are_refused(rt: HostRuntime) -> Result<(), Fail> {
-    let alloc = rt.alloc();
     let seven = ("000007.ldb", TWO_ENTRIES.as_slice());
-    let lawless = verified(alloc, LONGER_FILE, &[seven])?;
+    let lawless = verified(&rt, LONGER_FILE, &[seven])?;
     assert_eq!(rt; lawless.as_str(), "refused: Lawless");
-    let missing = verified(alloc, TWO_FILES, &[("000007.ldb", b"damaged")])?;
+    let missing = verified(&rt, TWO_FILES, &[("000007.ldb", b"damaged")])?;
     assert_eq!(rt; missing.as_str(), "refused: Missing");
     // By level, not by number.
     let damaged = [
         ("000007.ldb", b"damaged".as_slice()),
         ("000008.ldb", &[0; 48]),
     ];
-    let first = verified(alloc, TWO_FILES, &damaged)?;
+    let first = verified(&rt, TWO_FILES, &damaged)?;
     assert_eq!(rt; first.as_str(), "refused: Magic");
     // A damaged table comes before a version that isn't lawful.
-    let short = verified(alloc, LONGER_FILE, &[("000007.ldb", b"damaged")])?;
+    let short = verified(&rt, LONGER_FILE, &[("000007.ldb", b"damaged")])?;
     assert_eq!(rt; short.as_str(), "refused: Short");
     Ok(())
 }
 
 #[test]
 fn values_of_keys(rt: HostRuntime) -> Result<(), Fail> {
-    let alloc = rt.alloc();
     let cases = [
         (None, "none\n"),
         (Some(u64::MAX), "none\n"),
@@ -198,10 +112,10 @@ fn values_of_keys(rt: HostRuntime) -> Result<(), Fail> {
         (Some(1), "none\n"),
     ];
     for (at, wanted) in cases {
-        assert_eq!(rt; got(alloc, b"u", at)?.as_str(), wanted, "{at:?}");
+        assert_eq!(rt; got(&rt, b"u", at)?.as_str(), wanted, "{at:?}");
     }
-    assert_eq!(rt; got(alloc, b"a", None)?.as_str(), "-\n");
-    assert_eq!(rt; got(alloc, b"", None)?.as_str(), "none\n");
+    assert_eq!(rt; got(&rt, b"a", None)?.as_str(), "-\n");
+    assert_eq!(rt; got(&rt, b"", None)?.as_str(), "none\n");
     Ok(())
 }
 
@@ -213,12 +127,13 @@ fn commands_over_a_device_that_fails(rt: HostRuntime) -> Result<(), Fail> {
         ("MANIFEST-000005", ONE_FILE),
         ("000007.ldb", TWO_ENTRIES.as_slice()),
     ];
-    for calls in 0..3 {
-        let mut folder = LentFiles::new(alloc, &files, calls);
-        let lines = printed(alloc, verify(alloc, &mut folder))?;
+    for call in 1..4 {
+        let mut folder = failing(alloc, &files, call);
+        let lines = printed(alloc, verify(&rt, alloc, &mut folder))?;
         assert_eq!(rt; lines.as_str(), "refused: Device");
-        let mut folder = LentFiles::new(alloc, &files, calls);
-        let line = printed(alloc, get_dir(alloc, &mut folder, b"u", None))?;
+        assert_eq!(rt; folder.calls(), call);
+        let mut folder = failing(alloc, &files, call);
+        let line = printed(alloc, get_dir(&rt, alloc, &mut folder, b"u", None))?;
         assert_eq!(rt; line.as_str(), "refused: Device");
         assert_eq!(rt; folder.failures(), 1);
     }
@@ -240,7 +155,7 @@ const COMPACTED_LINES: &[u8] =
 /// The lines of a folder with this manifest.
 fn shown(alloc: Global, bytes: &[u8]) -> Result<Vec<u8>, Fault> {
     let files = [CURRENT, ("MANIFEST-000005", bytes)];
-    manifest(alloc, &mut LentFiles::new(alloc, &files, 2))
+    manifest(alloc, &mut Shelf::new(alloc, &files))
 }
 
 /// Which refusal it is, where it is one.
@@ -268,15 +183,15 @@ fn a_folder_as_lines(rt: HostRuntime) -> Result<(), Fail> {
 fn calls_that_fail(rt: HostRuntime) {
     let alloc = rt.alloc();
     let files = [CURRENT, ("MANIFEST-000005", ONE_FILE)];
-    for calls in 0..2 {
-        let mut folder = LentFiles::new(alloc, &files, calls);
+    for call in 1..3 {
+        let mut folder = failing(alloc, &files, call);
         assert_eq!(rt;
             refusal(manifest(alloc, &mut folder)),
             Some(FaultName::Device)
         );
         assert_eq!(rt; folder.failures(), 1);
     }
-    let mut folder = LentFiles::new(alloc, &files, 2);
+    let mut folder = failing(alloc, &files, 3);
     assert_eq!(rt; refusal(manifest(alloc, &mut folder)), None);
     assert_eq!(rt; folder.failures(), 0);
 }

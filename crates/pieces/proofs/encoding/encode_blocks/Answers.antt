@@ -17,4 +17,4 @@ returns c =
     ap fine
     (flat_map-map (λ (p : List Entry). stored (block r p)) (λ (b : PlannedBlock). b.entries.entries) blocks
     ∙ ap (flat_map (λ (b : PlannedBlock). stored (block r b.entries.entries))) (sym (take_all c.loop-block.block-index blocks end))
-    ∙ sym c.loop-block.invariant.1)
+    ∙ sym c.loop-block.invariant)

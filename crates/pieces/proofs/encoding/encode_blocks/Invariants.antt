@@ -7,5 +7,4 @@ use Rattle.pieces.proofs.encoding.encode_blocks.Given as goal
 
 abbrev pub invariant-loop-block : goal.invariant-loop-block
 invariant-loop-block l =
-    (l.builder.interval ≡ l.fn.interval)
-    × (l.out.items ≡ flat_map (λ (b : PlannedBlock). stored (block l.fn.interval b.entries.entries)) (take l.block-index l.blocks))
+    l.out.items ≡ flat_map (λ (b : PlannedBlock). stored (block l.fn.interval b.entries.entries)) (take l.block-index l.blocks)

@@ -1,36 +1,50 @@
-use Rattle.std.proofs.Common.{ℕ, List, Option, map, sym, subst}
-use Rattle.std.specs.Prelude.{AllPairs}
+use Rattle.std.proofs.Common.{◌≡◌, ℕ, List, Option, map, sym, subst, ◌∙◌, ap}
 use Rattle.std.specs.List.{All}
+use Rattle.block.specs.Piece.{Entry}
+use Rattle.merge.specs.Merged.{joined}
 use Rattle.reads.specs.declared.level_file.LevelFile.{LevelFile}
-use Rattle.reads.specs.Checking.{file_in, IsSoundFile, AreInOrder, AreAll}
-use Rattle.reads.proofs.Listed.{each_there, listed_lawful, not_lawful, listed_sound, listed_in_order}
+use Rattle.reads.specs.Tables.{table_entries}
+use Rattle.reads.specs.Checking.{IsStatedFile, AreFalling, AreListed, AreInTurn}
+use Rattle.reads.proofs.Listed.{each_there, listed_lawful, not_lawful, listed_stated, listed_in_turn, listed_fall}
 use Rattle.reads.proofs.lawfulness.lawful.Goals as goal
 
-pub are_sound-requires : goal.are_sound-requires
-are_sound-requires g c =
-    let all = subst (λ (items : List LevelFile). AreAll c.args.version.now.files (map file_in items)) (sym c.deref.ensures.value) c.in_ok-files.ensures.all in
-    each_there g.C.Comparator.cmp g.met.C.Comparator.total c.args.version.now c.args.tables.now c.deref.result.now all c.in_ok-tables_test.ensures
+pub are_as_stated-requires : goal.are_as_stated-requires
+are_as_stated-requires g c =
+    let listing = subst (AreListed g.C.Comparator.cmp c.args.version.now.files) (sym c.deref.ensures.value) c.in_ok-files.ensures.listed in
+    each_there g.C.Comparator.cmp g.met.C.Comparator.total c.args.version.now c.args.tables.now c.deref.result.now listing c.in_ok-tables_test.ensures
+
+pub returns-then-not-are_as_stated : goal.returns-then-not-are_as_stated
+returns-then-not-are_as_stated g c =
+    let cmp = g.C.Comparator.cmp in
+    let v = c.args.version.now in
+    let tables = c.args.tables.now in
+    let items = c.deref.result.now in
+    let listing = subst (AreListed cmp v.files) (sym c.deref.ensures.value) c.in_ok-files.ensures.listed in
+    let Stated : Option ℕ → Type 0 = λ next. All (λ (f : LevelFile). IsStatedFile cmp tables next f.meta.now) items in
+    not_lawful cmp g.met.C.Comparator.total v tables items listing (Stated c.next_file.result) c.are_as_stated.result c.of.result c.in_ok-tables_test.ensures c.of.ensures c.are_as_stated.ensures.1 c.if-not-are_as_stated.true
+    (λ lawful. subst Stated (sym c.next_file.ensures) (listed_stated cmp g.met.C.Comparator.total v tables items listing lawful))
+
+pub returns-then-not-are_in_turn : goal.returns-then-not-are_in_turn
+returns-then-not-are_in_turn g c =
+    let cmp = g.C.Comparator.cmp in
+    let v = c.args.version.now in
+    let tables = c.args.tables.now in
+    let items = c.deref-2.result.now in
+    let listing = subst (AreListed cmp v.files) (sym c.deref-2.ensures.value) c.in_ok-files.ensures.listed in
+    not_lawful cmp g.met.C.Comparator.total v tables items listing (AreInTurn cmp items) c.are_in_turn.result c.of-then-not-are_in_turn.result c.in_ok-tables_test.ensures c.of-then-not-are_in_turn.ensures c.are_in_turn.ensures.1 c.if-not-are_in_turn.true
+    (λ lawful. listed_in_turn cmp g.met.C.Comparator.total v tables items listing lawful)
 
 pub returns-then-not-branch : goal.returns-then-not-branch
 returns-then-not-branch g c =
     let cmp = g.C.Comparator.cmp in
     let v = c.args.version.now in
     let tables = c.args.tables.now in
-    let items = c.deref.result.now in
-    let all = subst (λ (l : List LevelFile). AreAll v.files (map file_in l)) (sym c.deref.ensures.value) c.in_ok-files.ensures.all in
-    let Sound : Option ℕ → Type 0 = λ next. All (λ (f : LevelFile). IsSoundFile cmp tables next f.meta.now) items in
-    not_lawful cmp g.met.C.Comparator.total v tables items all (Sound c.next_file.result) c.in_ok-are_sound.field-0 c.of.result c.in_ok-tables_test.ensures c.of.ensures c.in_ok-are_sound.ensures.sound.1 c.if-not-branch.true
-    (λ lawful. subst Sound (sym c.next_file.ensures) (listed_sound cmp g.met.C.Comparator.total v tables items all lawful))
-
-pub returns-then-not-branch-2 : goal.returns-then-not-branch-2
-returns-then-not-branch-2 g c =
-    let cmp = g.C.Comparator.cmp in
-    let v = c.args.version.now in
-    let tables = c.args.tables.now in
-    let items = c.deref-2.result.now in
-    let all = subst (λ (l : List LevelFile). AreAll v.files (map file_in l)) (sym c.deref-2.ensures.value) c.in_ok-files.ensures.all in
-    not_lawful cmp g.met.C.Comparator.total v tables items all (AllPairs (λ f h. AreInOrder cmp tables (file_in f) (file_in h)) items) c.in_ok-are_all_in_order.field-0 c.of-then-not-branch-2.result c.in_ok-tables_test.ensures c.of-then-not-branch-2.ensures
-    c.in_ok-are_all_in_order.ensures.order.1 c.if-not-branch-2.true (λ lawful. listed_in_order cmp g.met.C.Comparator.total v tables items all lawful)
+    let items = c.in_ok-files.files.items in
+    let lists : List (List Entry) = c.in_ok-cursors_of.field-0.items in
+    let are : lists ≡ map (λ (f : LevelFile). table_entries tables f.meta.now.number) items = c.in_ok-cursors_of.ensures.cursors ∙ ap (map (λ (f : LevelFile). table_entries tables f.meta.now.number)) c.deref-3.ensures.value in
+    let turn : AreInTurn cmp items = subst (AreInTurn cmp) c.deref-2.ensures.value (c.are_in_turn.ensures.0 c.if-not-are_in_turn.false) in
+    not_lawful cmp g.met.C.Comparator.total v tables items c.in_ok-files.ensures.listed (AreFalling (joined lists)) c.in_ok-never_steps_back.field-0 c.of-then-not-branch.result c.in_ok-tables_test.ensures c.of-then-not-branch.ensures
+    c.in_ok-never_steps_back.ensures.newer.1 c.if-not-branch.true (λ lawful. listed_fall cmp g.met.C.Comparator.total v tables items c.in_ok-files.ensures.listed lawful turn lists are)
 
 pub returns : goal.returns
 returns g c =
@@ -38,7 +52,9 @@ returns g c =
     let v = c.args.version.now in
     let tables = c.args.tables.now in
     let items = c.in_ok-files.files.items in
-    let sound = subst (λ (l : List LevelFile). All (λ (f : LevelFile). IsSoundFile cmp tables c.next_file.result f.meta.now) l) c.deref.ensures.value (c.in_ok-are_sound.ensures.sound.0 c.if-not-branch.false) in
-    let stated = subst (λ (next : Option ℕ). All (λ (f : LevelFile). IsSoundFile cmp tables next f.meta.now) items) c.next_file.ensures sound in
-    let order = subst (λ (l : List LevelFile). AllPairs (λ f h. AreInOrder cmp tables (file_in f) (file_in h)) l) c.deref-2.ensures.value (c.in_ok-are_all_in_order.ensures.order.0 c.if-not-branch-2.false) in
-    listed_lawful cmp g.met.C.Comparator.total v tables items c.in_ok-files.ensures.all stated order
+    let lists : List (List Entry) = c.in_ok-cursors_of.field-0.items in
+    let are : lists ≡ map (λ (f : LevelFile). table_entries tables f.meta.now.number) items = c.in_ok-cursors_of.ensures.cursors ∙ ap (map (λ (f : LevelFile). table_entries tables f.meta.now.number)) c.deref-3.ensures.value in
+    let turn : AreInTurn cmp items = subst (AreInTurn cmp) c.deref-2.ensures.value (c.are_in_turn.ensures.0 c.if-not-are_in_turn.false) in
+    let stated = subst (λ (l : List LevelFile). All (λ (f : LevelFile). IsStatedFile cmp tables c.next_file.result f.meta.now) l) c.deref.ensures.value (c.are_as_stated.ensures.0 c.if-not-are_as_stated.false) in
+    let as_stated = subst (λ (next : Option ℕ). All (λ (f : LevelFile). IsStatedFile cmp tables next f.meta.now) items) c.next_file.ensures stated in
+    listed_lawful cmp g.met.C.Comparator.total v tables items c.in_ok-files.ensures.listed as_stated turn lists are (c.in_ok-never_steps_back.ensures.newer.0 c.if-not-branch.false)

@@ -1,34 +1,19 @@
 use Rattle.std.proofs.Common.{subst, sym}
 use Rattle.folder.specs.Opening.{FolderAnswers}
-use Rattle.tool.proofs.ShowingLemmas.{lines_answer, lines_device}
-use Rattle.tool.specs.Lines.{lines_by}
 use Rattle.tool.specs.Questions.{IsVersionAnswer}
 use Rattle.tool.specs.declared.question.Question.{Question}
 use Rattle.tool.proofs.folder_commands.answered_by.Goals as goal
-
-pub returns-in-Lines-clause-answer : goal.returns-in-Lines-clause-answer
-returns-in-Lines-clause-answer g c =
-    let cmp = g.C.Comparator.cmp in
-    let failed = g.F.Folder.failed in
-    let tells = g.F.Folder.tells c.args.folder.now in
-    subst (λ (question : Question). FolderAnswers (λ v. v.items) (failed c.args.folder.now) (failed c.args.folder.now) c.version_lines.result (IsVersionAnswer tells c.args.order cmp c.args.version.now question))
-    (sym c.in-Lines.is) (lines_answer (λ v. v.items) (failed c.args.folder.now) (failed c.args.folder.now) c.version_lines.result (lines_by c.args.order cmp c.args.version.now) c.version_lines.ensures)
-
-pub returns-in-Lines-clause-device : goal.returns-in-Lines-clause-device
-returns-in-Lines-clause-device g c =
-    let failed = g.F.Folder.failed in
-    lines_device (λ v. v.items) (failed c.args.folder.now) (failed c.args.folder.now) c.version_lines.result (lines_by c.args.order g.C.Comparator.cmp c.args.version.now) c.version_lines.ensures
 
 pub returns-in-Lawful-clause-answer : goal.returns-in-Lawful-clause-answer
 returns-in-Lawful-clause-answer g c =
     let failed = g.F.Folder.failed in
     let tells = g.F.Folder.tells c.args.folder.now in
-    subst (λ (question : Question). FolderAnswers (λ v. v.items) (failed c.args.folder.now) (failed c.verified_in.new.folder) c.verified_in.result (IsVersionAnswer tells c.args.order g.C.Comparator.cmp c.args.version.now question))
+    subst (λ (question : Question). FolderAnswers (λ v. v.items) (failed c.args.folder.now) (failed c.verified_in.new.folder) c.verified_in.result (IsVersionAnswer tells g.C.Comparator.cmp c.args.version.now question))
     (sym c.in-Lawful.is) c.verified_in.ensures.answer
 
 pub returns-in-Value-clause-answer : goal.returns-in-Value-clause-answer
 returns-in-Value-clause-answer g c =
     let failed = g.F.Folder.failed in
     let tells = g.F.Folder.tells c.args.folder.now in
-    subst (λ (question : Question). FolderAnswers (λ v. v.items) (failed c.args.folder.now) (failed c.got_in.new.folder) c.got_in.result (IsVersionAnswer tells c.args.order g.C.Comparator.cmp c.args.version.now question))
+    subst (λ (question : Question). FolderAnswers (λ v. v.items) (failed c.args.folder.now) (failed c.got_in.new.folder) c.got_in.result (IsVersionAnswer tells g.C.Comparator.cmp c.args.version.now question))
     (sym c.in-Value.is) c.got_in.ensures.answer

@@ -4,9 +4,11 @@ use Rattle.coding.specs.Answers.{EqualOrMemory}
 use Rattle.reads.specs.Gets.{get_of}
 use Rattle.reads.specs.Lawful.{IsLawful}
 use Rattle.reads.specs.Tables.{Numbered}
-use Rattle.tool.proofs.CheckedTables.{lent_table}
-use Rattle.tool.proofs.FolderLineLemmas.{handed_memory, handed_on, not_sound, sound_lawful, told_line}
-use Rattle.tool.specs.FolderLines.{IsLawfulTables, IsLineOfLoaded, got_line, value_line}
+use Rattle.checks.proofs.LawfulLemmas.{handed_on, sound_lawful}
+use Rattle.checks.proofs.Lent.{lent_table}
+use Rattle.checks.specs.LawfulTables.{IsLawfulTables}
+use Rattle.tool.proofs.FolderLineLemmas.{handed_memory, not_sound, told_line}
+use Rattle.tool.specs.FolderLines.{IsLineOfLoaded, got_line, value_line}
 use Rattle.tool.proofs.getting.got.Goals as goal
 
 pub returns-in_err-tables : goal.returns-in_err-tables

@@ -2,11 +2,12 @@ use Rattle.std.proofs.Common.{◌≡◌, List, ℕ, Ok, length, map, ap, ap₂, 
 use Rattle.coding.proofs.Binds.{ok_is}
 use Rattle.coding.specs.Answers.{EqualOrMemory}
 use Rattle.std.specs.List.{All}
-use Rattle.tool.proofs.CheckedTables.{lent_table}
+use Rattle.checks.proofs.LawfulLemmas.{handed_on}
+use Rattle.checks.proofs.Lent.{lent_table}
+use Rattle.checks.specs.LawfulTables.{IsLawfulTables}
 use Rattle.tool.proofs.TableSizes.{IsFew}
-use Rattle.tool.proofs.FolderLineLemmas.{handed_memory, handed_on, not_sound, sound_few, told_line}
-use Rattle.tool.specs.Checked.{entry_count}
-use Rattle.tool.specs.FolderLines.{IsLawfulTables, IsLineOfLoaded, lawful_line, verified_line}
+use Rattle.tool.proofs.FolderLineLemmas.{handed_memory, not_sound, sound_few, told_line}
+use Rattle.tool.specs.FolderLines.{IsLineOfLoaded, entry_count, lawful_line, verified_line}
 use Rattle.tool.proofs.verifying.verified.Goals as goal
 
 pub returns-in_err-tables : goal.returns-in_err-tables

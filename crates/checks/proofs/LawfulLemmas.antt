@@ -1,0 +1,70 @@
+-- The tables of a lawful version, step by step.
+use Rattle.std.proofs.Common.{◌≡◌, ◌≢◌, ℕ, Bool, true, false, List, Result, Ok, Err, IsErrAnd, if◌then◌else◌, refl, sym, ap, subst, ◌∙◌, inl, inr}
+use Rattle.std.specs.List.{list_all}
+use Rattle.std.specs.Option.{is_some}
+use Rattle.std.specs.declared.cmp.Ordering.{Ordering}
+use Rattle.coding.proofs.Refusals.{unless_from}
+use Rattle.coding.specs.Answers.{HoldsOrMemory, UnlessMemory, fault}
+use Rattle.coding.specs.declared.fault.Fault.{Fault}
+use Rattle.coding.specs.declared.fault.FaultName.TheVariants.{Device, Lawless, Missing}
+use Rattle.edit.specs.Version.{State}
+use Rattle.reads.specs.Lawful.{IsLawful}
+use Rattle.reads.specs.Tables.{Numbered, table_of}
+use Rattle.checks.specs.Checked.{tables_reading}
+use Rattle.checks.specs.LawfulTables.{IsLawfulAnswer, IsLawfulTables}
+use Rattle.checks.proofs.TableRefusals.{no_device}
+
+abbrev refusal : {Y : Type 0} → Fault → Result Y Fault
+refusal e = Err e
+
+abbrev answer : {Y : Type 0} → Y → Result Y Fault
+answer y = Ok y
+
+no_refusal : {Y : Type 0} (y : Y) (e : Fault) → answer y ≡ refusal e → ⊥
+no_refusal y e h = cc
+
+same_refusal : {Y : Type 0} (e d : Fault) → refusal {Y = Y} e ≡ refusal d → e ≡ d
+same_refusal e d h = cc
+
+-- a call's refusal that `?` hands on
+pub handed_on : {X Y Z : Type 0} (view : X → Y) (r : Result X Fault) (e : Fault) (IsFirst : Result Z Fault → Type 0) (IsAnswer : Result Y Fault → Type 0)
+    → IsErrAnd r (λ f. f ≡ e) → UnlessMemory e (IsFirst (Err e)) → (IsFirst (Err e) → IsAnswer (Err e)) → HoldsOrMemory view r IsAnswer
+handed_on view (Ok x) e IsFirst IsAnswer h given f = absurd h
+handed_on view (Err g) e IsFirst IsAnswer h given f =
+    subst (λ (x : Fault). UnlessMemory x (IsAnswer (Err x))) (sym h) (unless_from e (IsFirst (Err e)) (IsAnswer (Err e)) f given)
+
+module _ (cmp : List ℕ → List ℕ → Ordering) (v : State) (loaded : List (ℕ × List ℕ)) where
+  -- a table is refused
+  pub not_checked : (e : Fault) → tables_reading cmp loaded ≡ Err e → IsLawfulTables cmp v loaded (Err e)
+  not_checked e h = (Err e, (h, refl))
+
+  -- the version isn't lawful
+  pub not_lawful : (tables : List Numbered) (e : Fault) → tables_reading cmp loaded ≡ Ok tables → IsLawfulAnswer cmp v tables (Err e) → IsLawfulTables cmp v loaded (Err e)
+  not_lawful tables e h l = (Ok tables, (h, l))
+
+  -- it is
+  pub sound : (tables : List Numbered) → tables_reading cmp loaded ≡ Ok tables → IsLawful cmp v tables → IsLawfulTables cmp v loaded (Ok tables)
+  sound tables h l = (Ok tables, (h, (refl, l)))
+
+  pub sound_lawful : (tables : List Numbered) → IsLawfulTables cmp v loaded (Ok tables) → IsLawful cmp v tables
+  sound_lawful tables (Ok first, h) = subst (IsLawful cmp v) (sym h.1.0) h.1.1
+  sound_lawful tables (Err e, h) = absurd (no_refusal tables e h.1)
+
+  pub sound_checked : (tables : List Numbered) → IsLawfulTables cmp v loaded (Ok tables) → tables_reading cmp loaded ≡ Ok tables
+  sound_checked tables (Ok first, h) = h.0 ∙ ap (λ (ts : List Numbered). answer ts) (sym h.1.0)
+  sound_checked tables (Err e, h) = absurd (no_refusal tables e h.1)
+
+  missing_other : (b : Bool) (u : Unit {0}) (e : Fault) → (if b then answer u else Err (fault Missing)) ≡ refusal e → e.name ≢ Device
+  missing_other true u e h = absurd (no_refusal u e h)
+  missing_other false u e h = λ same. let is = ap (λ (f : Fault). f.name) (same_refusal {Y = Unit {0}} (fault Missing) e h) ∙ same in cc
+
+  lawless_other : (e : Fault) → e ≡ fault Lawless → e.name ≢ Device
+  lawless_other e h = λ same. let is = sym (ap (λ (f : Fault). f.name) h) ∙ same in cc
+
+  -- no refusal is Device
+  pub sound_other : (e : Fault) → IsLawfulTables cmp v loaded (Err e) → e.name ≢ Device
+  sound_other e (Ok tables, h) = elim h.1 [
+    | inl missing ↦ missing_other (list_all (λ f. is_some (table_of tables f.meta.number)) v.files) tt e missing
+    | inr lawless ↦ lawless_other e lawless.1
+  ]
+  sound_other e (Err d, h) = subst (λ (f : Fault). f.name ≢ Device) (sym (same_refusal {Y = List Numbered} e d h.1)) (no_device cmp loaded d h.0)

@@ -1,0 +1,4 @@
+pub mod Lent
+mod TableRounds
+pub mod TableRefusals
+pub mod LawfulLemmas

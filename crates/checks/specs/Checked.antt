@@ -1,0 +1,23 @@
+-- The tables of a version, each of them checked.
+use Rattle.std.specs.Prelude.{ℕ, List, [], ◌∷◌, map, Result, Ok}
+use Rattle.std.specs.declared.cmp.Ordering.{Ordering}
+use Rattle.coding.specs.Answers.{◌>>=◌}
+use Rattle.coding.specs.declared.fault.Fault.{Fault}
+use Rattle.table.specs.Reading.{contents_reading}
+use Rattle.reads.specs.Tables.{Numbered}
+
+-- the table of a number, or the first test that its bytes fail
+abbrev pub numbered_reading : (List ℕ → List ℕ → Ordering) → ℕ × List ℕ → Result Numbered Fault
+numbered_reading cmp table = contents_reading cmp table.1 >>= λ contents. Ok (record { number = table.0; contents = contents })
+
+-- each of the tables in order, or the refusal of the first of them that is refused
+abbrev pub tables_reading : (List ℕ → List ℕ → Ordering) → List (ℕ × List ℕ) → Result (List Numbered) Fault
+tables_reading cmp [] = Ok []
+tables_reading cmp (t ∷ ts) = do
+  first ← numbered_reading cmp t
+  others ← tables_reading cmp ts
+  Ok (first ∷ others)
+
+-- what is answered of each table by itself
+abbrev pub table_answers : (List ℕ → List ℕ → Ordering) → List (ℕ × List ℕ) → List (Result Numbered Fault)
+table_answers cmp tables = map (numbered_reading cmp) tables

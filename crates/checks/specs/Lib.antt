@@ -1,0 +1,3 @@
+-- what contracts rest on
+pub mod Checked
+pub mod LawfulTables

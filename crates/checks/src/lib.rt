@@ -1,0 +1,15 @@
+//! Tables that were read from a folder, checked by workers, a table a job.
+//!
+//! [`check_tables`] checks them, and [`lawful_tables`] asks then whether a version is lawful with them. What is answered says
+//! nothing of workers or the order in which they came to their jobs.
+#![tactic(auto)]
+
+mod checking;
+mod rounds;
+mod testing;
+
+pub use rounds::check_tables;
+pub use testing::lawful_tables;
+
+#[cfg(test)]
+mod tests;

@@ -1,0 +1,42 @@
+//! The check of all tables, in as many rounds as a board's number of jobs asks for.
+
+ghost use Rattle.std.specs.Prelude.{◌<◌, ◌≤◌, map};
+ghost use Rattle.coding.specs.Answers.{EqualOrMemory};
+ghost use Rattle.checks.specs.Checked.{tables_reading};
+
+use crate::checking::check_round;
+use board::Gate;
+use coding::Fault;
+use ikey::SharedComparator;
+use reads::NumberedTable;
+use std::alloc::Global;
+use std::thread::Threads;
+
+/// The most jobs of a board, 2^40.
+const MOST_JOBS: usize = 1_099_511_627_776;
+
+/// Checks the tables of these numbers and bytes by 1 to 64 workers, a table a job, and answers them in order.
+///
+/// Refused by the first of them that is no table, by the first test of `table::check` that it fails, whichever worker came
+/// first. Else refused for want of memory alone.
+pub fn check_tables<'t, C: SharedComparator, G: Gate + Sync, R: Threads + Sync>(
+    rt: &R,
+    alloc: Global,
+    loaded: &'t [(u64, Vec<u8>)],
+    workers: u64,
+    gate: &G,
+) -> Result<Vec<NumberedTable<'t, C>>, Fault>
+    requires some { 0 < workers }
+    requires few { workers ≤ 64 }
+    ensures { EqualOrMemory (λ v. v.items) result (tables_reading C.cmp (map (λ t. (t.0, t.1.items)) loaded.now)) }
+{
+    let mut tables = Vec::new(alloc);
+    let mut rest = loaded;
+    while !rest.is_empty() {
+        let (round, behind) = rest.split_at(rest.len().min(MOST_JOBS));
+        let mut checked = check_round::<C, G, R>(rt, alloc, round, workers, gate)?;
+        tables.append(&mut checked)?;
+        rest = behind;
+    }
+    Ok(tables)
+}

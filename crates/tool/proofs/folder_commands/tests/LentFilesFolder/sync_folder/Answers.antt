@@ -1,6 +1,0 @@
-use Rattle.folder.specs.Calls.{FolderSynced, step_of}
-use Rattle.folder.proofs.TellsLemmas.{tells_nothing}
-use Rattle.tool.proofs.folder_commands.tests.LentFilesFolder.sync_folder.Goals as goal
-
-pub returns-clause-change : goal.returns-clause-change
-returns-clause-change c = tells_nothing (step_of (FolderSynced) c.called-answer.result) (λ name held. Unit {0})

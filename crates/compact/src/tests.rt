@@ -4,7 +4,7 @@ use crate::{check_inputs, merge_ranges};
 use board::{Gate, Open};
 use coding::{Fault, FaultName};
 use edit::{CompactPointer, FileMeta};
-use ikey::{Bytewise, KeyBuf, Kind, MAX_USER_KEY};
+use ikey::{Bytewise, KeyBuf, Kind};
 use keep::{RangeRun, is_rising, largest_rise};
 use pick::{InputFile, Inputs};
 use split::Split;
@@ -19,51 +19,18 @@ use table::{Options, TableBuilder};
 /// How often a worker that is held looks whether it may go on.
 const TURNS: u64 = 1_000_000;
 
-/// An entry of a user key at a sequence, whose value is `x` where it is put.
-#[derive(Clone, Copy)]
-pub(crate) struct Row {
-    pub user: &'static [u8],
-    pub sequence: u8,
-    pub kind: Kind,
-}
-
-impl Row {
-    /// The value.
-    pub(crate) fn value(self) -> &'static [u8] {
-        match self.kind {
-            Kind::Put => b"x",
-            Kind::Delete => b"",
-        }
-    }
-}
-
-/// A value of a user key.
-pub(crate) fn put(user: &'static [u8], sequence: u8) -> Row {
-    Row {
-        user,
-        sequence,
-        kind: Kind::Put,
-    }
-}
-
-/// A deletion of a user key.
-pub(crate) fn del(user: &'static [u8], sequence: u8) -> Row {
-    Row {
-        user,
-        sequence,
-        kind: Kind::Delete,
-    }
-}
+/// A user key of one byte, and a sequence, at which it is put.
+type Row = (u8, u64);
 
 /// What an input is made of: its entries, and how its bytes and what is stated of them are spoilt.
 #[derive(Clone, Copy)]
-pub(crate) struct Input<'r> {
-    pub rows: &'r [Row],
-    pub spoilt: Spoilt,
+struct Input<'r> {
+    rows: &'r [Row],
+    spoilt: Spoilt,
 }
 
 #[derive(Clone, Copy, PartialEq, Eq)]
-pub(crate) enum Spoilt {
+enum Spoilt {
     /// Not at all.
     No,
     /// A byte of the first data block, so that its checksum fails.
@@ -77,22 +44,22 @@ pub(crate) enum Spoilt {
 }
 
 /// An input that is not spoilt.
-pub(crate) fn sound(rows: &[Row]) -> Input<'_> {
+fn sound(rows: &[Row]) -> Input<'_> {
     Input {
         rows,
         spoilt: Spoilt::No,
     }
 }
 
-/// The internal key of an entry.
-pub(crate) fn key_of(alloc: Global, row: Row) -> Result<KeyBuf, Fault> {
-    if row.user.len() > MAX_USER_KEY {
+fn key_of(alloc: Global, row: Row) -> Result<KeyBuf, Fault> {
+    let (user, sequence) = row;
+    if sequence > 100 {
         return Err(Fault::of(FaultName::Key));
     }
-    KeyBuf::new(alloc, row.user, u64::from(row.sequence), row.kind)
+    KeyBuf::new(alloc, &[user], sequence, Kind::Put)
 }
 
-/// The table of these entries.
+/// The table of these entries, each with a value of one byte.
 fn written(rt: &(impl Abort + AllocGlobal), rows: &[Row]) -> Result<Vec<u8>, Fail> {
     let options = Options::default();
     assert!(rt; options.are_in_limits());
@@ -100,16 +67,13 @@ fn written(rt: &(impl Abort + AllocGlobal), rows: &[Row]) -> Result<Vec<u8>, Fai
     for row in rows {
         let key = key_of(rt.alloc(), *row)?;
         assert!(rt; table.is_above_last(&key.as_key()));
-        table.add(key.as_key(), row.value())?;
+        table.add(key.as_key(), b"x")?;
     }
     Ok(table.finish()?)
 }
 
 /// The bytes of each input.
-pub(crate) fn tables(
-    rt: &(impl Abort + AllocGlobal),
-    inputs: &[Input<'_>],
-) -> Result<Vec<Vec<u8>>, Fail> {
+fn tables(rt: &(impl Abort + AllocGlobal), inputs: &[Input<'_>]) -> Result<Vec<Vec<u8>>, Fail> {
     let mut tables = Vec::new(rt.alloc());
     for input in inputs {
         let mut bytes = written(rt, input.rows)?;
@@ -126,7 +90,7 @@ pub(crate) fn tables(
 }
 
 /// What a version states of each input.
-pub(crate) fn files(
+fn files(
     rt: &(impl Abort + AllocGlobal),
     inputs: &[Input<'_>],
     tables: &[Vec<u8>],
@@ -143,7 +107,7 @@ pub(crate) fn files(
         };
         match input.spoilt {
             Spoilt::Size => meta.size = 1,
-            Spoilt::Largest => meta.largest = key_of(rt.alloc(), put(b"~", 1))?,
+            Spoilt::Largest => meta.largest = key_of(rt.alloc(), (b'~', 1))?,
             _ => {}
         }
         files.push(InputFile { level: 1, meta })?;
@@ -153,7 +117,7 @@ pub(crate) fn files(
 }
 
 /// The bytes, lent.
-pub(crate) fn lent<'a>(alloc: Global, tables: &'a [Vec<u8>]) -> Result<Vec<&'a [u8]>, Fail> {
+fn lent<'a>(alloc: Global, tables: &'a [Vec<u8>]) -> Result<Vec<&'a [u8]>, Fail> {
     let mut all = Vec::new(alloc);
     for bytes in tables {
         all.push(bytes.as_slice())?;
@@ -222,39 +186,12 @@ fn late_gate() -> Late {
 }
 
 const A: Input<'static> = Input {
-    rows: &[
-        Row {
-            user: b"a",
-            sequence: 1,
-            kind: Kind::Put,
-        },
-        Row {
-            user: b"u",
-            sequence: 5,
-            kind: Kind::Put,
-        },
-    ],
+    rows: &[(b'a', 1), (b'u', 5)],
     spoilt: Spoilt::No,
 };
 
 const B: Input<'static> = Input {
-    rows: &[
-        Row {
-            user: b"c",
-            sequence: 3,
-            kind: Kind::Put,
-        },
-        Row {
-            user: b"u",
-            sequence: 9,
-            kind: Kind::Put,
-        },
-        Row {
-            user: b"z",
-            sequence: 2,
-            kind: Kind::Put,
-        },
-    ],
+    rows: &[(b'c', 3), (b'u', 9), (b'z', 2)],
     spoilt: Spoilt::No,
 };
 
@@ -332,20 +269,20 @@ fn below(alloc: Global) -> Result<Inputs, Fail> {
         deeper: Vec::new(alloc),
         pointer: CompactPointer {
             level: 1,
-            key: key_of(alloc, put(b"z", 1))?,
+            key: key_of(alloc, (b'z', 1))?,
         },
     };
     inputs.grandparents.push(FileMeta {
         number: 3,
         size: 1,
-        smallest: key_of(alloc, put(b"m", 1))?,
-        largest: key_of(alloc, put(b"m", 1))?,
+        smallest: key_of(alloc, (b'm', 1))?,
+        largest: key_of(alloc, (b'm', 1))?,
     })?;
     Ok(inputs)
 }
 
 /// The split at these boundaries of one byte each.
-pub(crate) fn split_at(alloc: Global, boundaries: &[u8]) -> Result<Split<Bytewise>, Fail> {
+fn split_at(alloc: Global, boundaries: &[u8]) -> Result<Split<Bytewise>, Fail> {
     let mut keys = Vec::new(alloc);
     for boundary in boundaries {
         keys.push(Vec::from_slice(alloc, &[*boundary])?)?;
@@ -440,8 +377,7 @@ fn fails(answer: &Result<Vec<u8>, Fault>, fault: Fault) -> bool {
 
 #[test]
 fn one_user_key_and_sequence_twice(rt: HostRuntime) -> Result<(), Fail> {
-    let rows = [put(b"u", 5)];
-    let again = sound(&rows);
+    let again = sound(&[(b'u', 5)]);
     let duplicate = Fault::of(FaultName::Duplicate);
     for boundaries in [b"".as_slice(), b"u", b"uz", b"bmv"] {
         let text = merged(&rt, &[A, B, again], boundaries, 1, 2, &late_gate())?;

@@ -17,3 +17,4 @@ pub mod BlockSums
 pub mod PiecePlaces
 pub mod PlanPieces
 pub mod ReadyPieces
+pub mod Collected

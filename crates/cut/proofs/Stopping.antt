@@ -18,7 +18,7 @@ use Rattle.keep.specs.Marks.{heads, changes, changes_behind}
 use Rattle.cut.specs.Stops.{size_between, is_stop, stops_behind, stops, AreStops, StopsLaw}
 
 module _ (gs : List FileMeta) (size : ℕ) where
-  none_between : (n : ℕ) → size_between gs n n ≡ 0
+  pub none_between : (n : ℕ) → size_between gs n n ≡ 0
   none_between n = let e : n - n ≡ 0 = omega arith in ap (λ k. sum_by (λ (f : FileMeta). f.size) (take k (drop n gs))) e
 
   -- the grandparents from one number to before another are no stop
@@ -78,7 +78,7 @@ module _ (gs : List FileMeta) (size : ℕ) where
   are_stops_found [] since = tt
   are_stops_found (m ∷ ms) since = found_by since m ms (is_stop gs size since m) refl (are_stops_found ms)
 
-running : (gs : List FileMeta) (first middle last : ℕ) → first ≤ middle → middle ≤ last → size_between gs first last ≡ size_between gs first middle + size_between gs middle last
+pub running : (gs : List FileMeta) (first middle last : ℕ) → first ≤ middle → middle ≤ last → size_between gs first last ≡ size_between gs first middle + size_between gs middle last
 running gs first middle last h k =
     let size = λ (f : FileMeta). f.size in
     let whole : last - first ≡ (middle - first) + (last - middle) = omega (arith, h, k) in

@@ -7,9 +7,9 @@ ghost use Rattle.table.specs.DataBlocks.{is_full};
 ghost use Rattle.cut.specs.Sizes.{saturated};
 ghost use Rattle.cut.specs.Metered.{left_out, added_size};
 
-use crate::lengths::{common_len, piece_len};
+use crate::lengths::piece_len;
 use ikey::InternalKey;
-use pieces::PlannedBlock;
+use pieces::{PlannedBlock, common_len};
 use runs::{RunsCursor, RunsSlice};
 use std::marker::Model;
 use std::mem;

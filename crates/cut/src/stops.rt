@@ -1,14 +1,15 @@
 //! Where outputs end because they would overlap too much of the grandparents.
 
-ghost use Rattle.std.specs.Prelude.{◌≡◌, ◌+◌, ◌*◌, ◌^◌, ◌≤◌, nat_lt, List, ◌∷◌, ◌++◌, map, OnOk, IsOkUnless, Ok};
+ghost use Rattle.std.specs.Prelude.{◌≡◌, ◌+◌, ◌*◌, ◌^◌, ◌≤◌, max, List, ◌∷◌, ◌++◌, map, OnOk, IsOkUnless, Ok};
 ghost use Rattle.std.specs.List.{sum_by};
+ghost use Rattle.std.specs.Option.{option_map};
 ghost use Rattle.coding.specs.Answers.{EqualOrMemory, fault};
 ghost use Rattle.coding.specs.declared.fault.FaultName.TheVariants.{Memory};
 ghost use Rattle.edit.specs.declared.meta.FileMeta.{FileMeta};
 ghost use Rattle.keep.specs.declared.mark.Mark.{Mark};
 ghost use Rattle.keep.specs.Runs.{joined_marks, moved_mark};
 ghost use Rattle.cut.specs.Stops.{size_between, stops};
-ghost use Rattle.cut.specs.Stopping.{all_stops};
+ghost use Rattle.cut.specs.Stopping.{all_stops, room_left, AreCounted};
 
 use coding::Fault;
 use edit::FileMeta;
@@ -18,36 +19,74 @@ use std::alloc::Global;
 /// Stops are where more of the grandparents is passed than this many times the maximal file size.
 const MAX_OVERLAP: u64 = 10;
 
+/// How much of the grandparents is passed since a stop, or since the first mark.
+#[derive(Clone, Copy)]
+pub(crate) struct Overlap {
+    /// How many grandparents lie below the stop.
+    pub since: usize,
+    /// How many lie below the furthest mark behind it: those between the two are counted.
+    pub counted: usize,
+    /// How many bytes more may be passed without a stop.
+    pub room: u64,
+}
+
 /// The stops at the marks so far.
 #[derive(Drop)]
 pub(crate) struct Stopping {
-    /// How many grandparents lie below the last stop, or below the first mark where there is no stop yet.
-    pub since: Option<usize>,
+    /// What is passed since the last stop, or since the first mark where there is no stop yet.
+    pub overlap: Option<Overlap>,
     /// The number of kept entries before each stop.
     pub places: Vec<u128>,
 }
 
-/// Whether files have more bytes together than a limit.
-fn exceed(files: &[FileMeta], limit: u64) -> bool
-    ensures { result ≡ nat_lt limit (sum_by (λ (f : FileMeta). f.size) files.now) }
+/// The room that files leave, where they don't have more bytes together.
+fn room_behind(files: &[FileMeta], room: u64) -> Option<u64>
+    ensures { result ≡ room_left room (sum_by (λ (f : FileMeta). f.size) files.now) }
 {
-    let mut room = limit;
+    let mut left = room;
     for file in files {
-        if file.size > room {
-            return true;
+        if file.size > left {
+            return None;
         }
-        room -= file.size;
+        left -= file.size;
     }
-    false
+    Some(left)
 }
 
-/// Whether the grandparents from one number to before another have more bytes together than a limit.
-fn is_much(grandparents: &[FileMeta], from: usize, to: usize, limit: u64) -> bool
-    ensures { result ≡ nat_lt limit (size_between grandparents.now from to) }
+/// The room that the grandparents from one number to before another leave, where they don't have more bytes together.
+fn room_past(grandparents: &[FileMeta], from: usize, to: usize, room: u64) -> Option<u64>
+    ensures { result ≡ room_left room (size_between grandparents.now from to) }
 {
     let end = to.min(grandparents.len());
     let start = from.min(end);
-    exceed(&grandparents[start..end], limit)
+    room_behind(&grandparents[start..end], room)
+}
+
+impl Overlap {
+    /// Nothing is passed since a stop below which so many grandparents lie.
+    fn new(below: usize, limit: u64) -> Overlap
+        ensures { result ≡ record { since = below; counted = below; room = limit } }
+    {
+        Overlap {
+            since: below,
+            counted: below,
+            room: limit,
+        }
+    }
+
+    /// What is passed at a mark below which so many grandparents lie, where that is no stop.
+    fn at(self, grandparents: &[FileMeta], below: usize) -> Option<Overlap>
+        ensures { result
+            ≡ option_map (λ room. record { since = self.since; counted = max self.counted below; room = room })
+            (room_left self.room (size_between grandparents.now self.counted below)) }
+    {
+        let room = room_past(grandparents, self.counted, below, self.room)?;
+        Some(Overlap {
+            since: self.since,
+            counted: self.counted.max(below),
+            room,
+        })
+    }
 }
 
 impl Stopping {
@@ -61,19 +100,24 @@ impl Stopping {
     ) -> Result<(), Fault>
         requires fits { passed + 2 ^ 64 ≤ 2 ^ 128 }
         requires limited { file_size ≤ 2 ^ 30 }
+        requires counted { AreCounted grandparents.now file_size self.old }
         ensures ok { OnOk result ((rest : List Mark) →
             all_stops grandparents.now file_size self.new rest
             ≡ all_stops grandparents.now file_size self.old (moved_mark passed mark ∷ rest)) }
+        ensures counted { OnOk result (AreCounted grandparents.now file_size self.new) }
         ensures memory { IsOkUnless result (fault Memory) }
     {
-        let Some(since) = self.since else {
-            self.since = Some(mark.below);
+        let limit = MAX_OVERLAP * file_size;
+        let Some(overlap) = self.overlap else {
+            self.overlap = Some(Overlap::new(mark.below, limit));
             return Ok(());
         };
-        if is_much(grandparents, since, mark.below, MAX_OVERLAP * file_size) {
+        let Some(further) = overlap.at(grandparents, mark.below) else {
             self.places.push(passed + mark.kept as u128)?;
-            self.since = Some(mark.below);
-        }
+            self.overlap = Some(Overlap::new(mark.below, limit));
+            return Ok(());
+        };
+        self.overlap = Some(further);
         Ok(())
     }
 
@@ -87,9 +131,11 @@ impl Stopping {
     ) -> Result<(), Fault>
         requires fits { passed + 2 ^ 64 ≤ 2 ^ 128 }
         requires limited { file_size ≤ 2 ^ 30 }
+        requires counted { AreCounted grandparents.now file_size self.old }
         ensures ok { OnOk result ((rest : List Mark) →
             all_stops grandparents.now file_size self.new rest
             ≡ all_stops grandparents.now file_size self.old (map (moved_mark passed) marks.now ++ rest)) }
+        ensures counted { OnOk result (AreCounted grandparents.now file_size self.new) }
         ensures memory { IsOkUnless result (fault Memory) }
     {
         for mark in marks {
@@ -111,7 +157,7 @@ pub(crate) fn stops(
         (Ok (stops grandparents.now file_size (joined_marks 0 runs.now))) }
 {
     let mut found = Stopping {
-        since: None,
+        overlap: None,
         places: Vec::new(alloc),
     };
     let mut passed: u128 = 0;

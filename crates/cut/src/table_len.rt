@@ -24,7 +24,7 @@ const RESTART_LEN: u64 = 4;
 const CLOSING_LEN: u64 = 66;
 
 /// How many bytes data blocks take with their trailers; 2^64 - 1 where that is more.
-fn stored_len(blocks: &[PlannedBlock<'_, '_>]) -> u64
+pub(crate) fn stored_len(blocks: &[PlannedBlock<'_, '_>]) -> u64
     ensures { result ≡ saturated (lens_of blocks.now) }
 {
     let mut len: u64 = 0;

@@ -1,3 +1,7 @@
+ghost use Rattle.std.specs.Prelude.{◌≡◌, map, IfOk};
+ghost use Rattle.cut.specs.Plan.{encoded};
+ghost use Rattle.cut.specs.Planning.{lists_in};
+
 use super::*;
 use coding::{Fault, FaultName};
 use edit::{CompactPointer, FileMeta};
@@ -327,8 +331,35 @@ fn an_output_tells_its_bounds(rt: HostRuntime) -> Result<(), Fail> {
     Ok(())
 }
 
+/// The pieces of a plan, in the order of their jobs.
+fn encoded(
+    rt: &(impl Abort + AllocGlobal),
+    plan: &Plan<'_, '_, Bytewise>,
+) -> Result<Vec<Vec<u8>>, Fail>
+    ensures { IfOk result (λ pieces. map (λ p. p.items) pieces.items ≡ encoded plan.now.options (lists_in plan.now.outputs)) }
+{
+    let mut pieces = Vec::new(rt.alloc());
+    for job in 0..plan.jobs() {
+        let piece = plan.encode(rt.alloc(), job)?;
+        pieces.push(piece)?;
+    }
+    Ok(pieces)
+}
+
+/// The table of the value `x` of `a` at sequence 1. Its data block and that block's trailer are the first 26 bytes.
+const ONE_ENTRY: [u8; 114] = [
+    0x00, 0x09, 0x01, 0x61, 0x01, 0x01, 0x00, 0x00, 0x00, 0x00, 0x00, 0x00, 0x78, 0x00, 0x00, 0x00,
+    0x00, 0x01, 0x00, 0x00, 0x00, 0x00, 0x84, 0xdd, 0x88, 0x74, 0x00, 0x00, 0x00, 0x00, 0x01, 0x00,
+    0x00, 0x00, 0x00, 0xc0, 0xf2, 0xa1, 0xb0, 0x00, 0x09, 0x02, 0x61, 0x01, 0x01, 0x00, 0x00, 0x00,
+    0x00, 0x00, 0x00, 0x00, 0x15, 0x00, 0x00, 0x00, 0x00, 0x01, 0x00, 0x00, 0x00, 0x00, 0x36, 0x49,
+    0x25, 0xbf, 0x1a, 0x08, 0x27, 0x16, 0x00, 0x00, 0x00, 0x00, 0x00, 0x00, 0x00, 0x00, 0x00, 0x00,
+    0x00, 0x00, 0x00, 0x00, 0x00, 0x00, 0x00, 0x00, 0x00, 0x00, 0x00, 0x00, 0x00, 0x00, 0x00, 0x00,
+    0x00, 0x00, 0x00, 0x00, 0x00, 0x00, 0x00, 0x00, 0x00, 0x00, 0x57, 0xfb, 0x80, 0x8b, 0x24, 0x75,
+    0x47, 0xdb,
+];
+
 #[test]
-fn each_small_block_is_a_piece(rt: HostRuntime) -> Result<(), Fail> {
+fn pieces_make_the_tables(rt: HostRuntime) -> Result<(), Fail> {
     let options = Options {
         block_size: 1,
         restart_interval: 16,
@@ -340,10 +371,21 @@ fn each_small_block_is_a_piece(rt: HostRuntime) -> Result<(), Fail> {
     let runs = runs_of(&rt, &bytes, Some(b"b"), &inputs)?;
     let plan = plan::<Bytewise>(rt.alloc(), &runs, &[], options, 5)?;
     assert_eq!(rt; plan.jobs(), 3);
-    for job in 0..plan.jobs() {
-        let piece = plan.encode(rt.alloc(), job)?;
+    let pieces = encoded(&rt, &plan)?;
+    for piece in &pieces {
         assert_eq!(rt; piece.len(), 26);
     }
+    assert!(rt; pieces.len() == 3 && ONE_ENTRY.starts_with(&pieces[0]));
+    let tables = plan.assemble(rt.alloc(), pieces)?;
+    let mut next = 5;
+    for (number, table) in &tables {
+        assert_eq!(rt; *number, next);
+        assert_eq!(rt; table.len(), 114);
+        assert!(rt; check::<Bytewise>(rt.alloc(), table).is_ok() && next < 8);
+        next += 1;
+    }
+    assert_eq!(rt; next, 8);
+    assert!(rt; tables.len() == 3 && tables[0].1.as_slice() == ONE_ENTRY.as_slice());
     Ok(())
 }
 

@@ -13,15 +13,13 @@ use crate::output_meta::OutputMeta;
 use crate::piece::Piece;
 use crate::planned_output::PlannedOutput;
 use crate::summing::meta_of;
+use crate::table_len::stored_len;
 use coding::Fault;
 use ikey::Comparator;
 use pieces::{PlannedBlock, encode_blocks};
 use std::alloc::Global;
 use std::marker::{Model, PhantomData};
 use table::Options;
-
-/// How many bytes a piece behind the first of an output has room for from its start.
-const PIECE_ROOM: u64 = 1 << 22;
 
 /// The outputs of a compaction before a byte of them is written, seen as its options and these outputs: their numbers, their
 /// entries, the ends of their data blocks and the exact lengths of their tables.
@@ -89,7 +87,8 @@ impl<'r, 'a, C: Comparator> Plan<'r, 'a, C> {
         self.pieces.len() as u64
     }
 
-    /// The bytes of a piece. The first of an output has room for the whole table. Refused for want of memory alone.
+    /// The bytes of a piece, in memory that is asked for once: the first of an output has room for the whole table. Refused for
+    /// want of memory alone.
     pub fn encode(&self, alloc: Global, job: u64) -> Result<Vec<u8>, Fault>
         requires { job < jobs self.now.options (lists_in self.now.outputs) }
         ensures ok { IfOk result (λ bytes.
@@ -102,7 +101,7 @@ impl<'r, 'a, C: Comparator> Plan<'r, 'a, C> {
         let room = if piece.from == 0 {
             output.len
         } else {
-            PIECE_ROOM
+            stored_len(blocks)
         };
         encode_blocks(alloc, blocks, self.options.restart_interval, room as usize)
     }

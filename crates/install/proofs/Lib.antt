@@ -1,9 +1,9 @@
 mod Parts
 mod Outputs
 mod Switch
-mod Moments
+pub mod Moments
 mod Options
-mod Numbers
+pub mod Numbers
 mod Edited
 mod Installed
 mod Files

@@ -1,6 +1,6 @@
 -- A tournament: what a match and a change of one list do to it, and that its root is ahead of all places.
 use Rattle.std.proofs.Common.{◌≡◌, ◌≢◌, ◌⊎◌, ℕ, ◌+◌, ◌-◌, ◌*◌, ◌/◌, ◌<◌, ◌≤◌, List, [], ◌∷◌, ◌++◌, length, map, replicate, get_or, take, drop, set, suc, zero, Some, None, inl, inr, ⊎_elim, refl, sym, ap, subst, ◌∙◌, arith, length-set, get_or-set_same, get_or-set_other}
-use Rattle.std.specs.Prelude.{slice_get, Bool, true, false, Option, nat_lt, if◌then◌else◌}
+use Rattle.std.specs.Prelude.{slice_get}
 use Rattle.std.specs.Option.{option_map}
 use Rattle.std.specs.List.{AllByRecursion}
 use Rattle.std.specs.Cmp.{IsTotalOrder}
@@ -9,7 +9,7 @@ use Rattle.std.specs.declared.cmp.Ordering.{Ordering}
 use Rattle.std.specs.declared.cmp.Ordering.TheVariants.{Less, Equal, Greater}
 use Rattle.std.proofs.Math.ListN.{length-replicate, get_or-replicate, get_or-append}
 use Rattle.std.proofs.Math.Seq.{get_or-append_seam}
-use Rattle.std.proofs.lemmas.Bool.{cases_eq, cases_lt, ltb-true, ltb-false}
+use Rattle.std.proofs.lemmas.Bool.{cases_eq, cases_lt}
 use Rattle.std.proofs.lemmas.List.{get_or_default, nil_from_length, length_push, length-map, map-set}
 use Rattle.std.proofs.lemmas.Option.{same_Some, none-some, slice_get_read, slice_get_within, get_or_from_slice_get}
 use Rattle.block.specs.Piece.{Entry}
@@ -18,7 +18,7 @@ use Rattle.ikey.proofs.Ordered.{internal_cmp-total}
 use Rattle.table.specs.ReadingCursors.{NeverFalls}
 use Rattle.merge.specs.Merged.{merged}
 use Rattle.merge.specs.Least.{StartsAbove, StartsFrom, IsLeast, IsMerging}
-use Rattle.merge.specs.Tournament.{first_key, IsPlayer, loses_by, loses, IsAhead, Beats, IsWinner, IsBracket, IsPlayed, IsMatch, IsAboveBy, IsAbove, IsTournament}
+use Rattle.merge.specs.Tournament.{IsAhead, Beats, IsWinner, IsBracket, IsPlayed, IsMatch, IsAboveBy, IsAbove, IsTournament}
 use Rattle.merge.proofs.Orders.{lt_le_trans, never_falls_drop, all_append}
 use Rattle.merge.proofs.Merges.{one_of}
 use Rattle.merge.proofs.Leasts.{none_without_least, take_next}
@@ -61,7 +61,7 @@ winner_kept cmp old new one other winner p q wins = record { either = wins.eithe
     same : get_or new winner [] ≡ get_or old winner []
     same = ⊎_elim (moved one p) (moved other q) wins.either
 
-pub winner_at : (cmp : List ℕ → List ℕ → Ordering) (lists : List (List Entry)) (one one' other other' winner winner' : ℕ) → one' ≡ one → other' ≡ other → winner' ≡ winner → IsWinner cmp lists one other winner
+winner_at : (cmp : List ℕ → List ℕ → Ordering) (lists : List (List Entry)) (one one' other other' winner winner' : ℕ) → one' ≡ one → other' ≡ other → winner' ≡ winner → IsWinner cmp lists one other winner
     → IsWinner cmp lists one' other' winner'
 winner_at cmp lists one one' other other' winner winner' p q r wins =
     subst (λ n. IsWinner cmp lists n other' winner') (sym p) (subst (λ n. IsWinner cmp lists one n winner') (sym q) (subst (λ n. IsWinner cmp lists one other n) (sym r) wins))
@@ -120,41 +120,6 @@ module _ (cmp : List ℕ → List ℕ → Ordering) (total : IsTotalOrder cmp) (
     over_other = ⊎_elim (λ is. subst (λ n. Beats cmp lists n other) (sym is) (beats_by cmp lists one other list more key more_key here there first second (inr (same, omega arith))))
         (λ is. subst (λ n. Beats cmp lists n other) (sym is) (ahead_same cmp total other (get_or lists other []))) either;
   }
-
--- a list without a first key is empty
-none_first : (list : List Entry) → None ≡ first_key list → length list ≡ 0
-none_first [] h = refl
-none_first (e ∷ es) h = absurd (none-some e.key h)
-
-pub player_list : (lists : List (List Entry)) (place : ℕ) → place < length lists → slice_get lists place ≡ Some (get_or lists place [])
-player_list lists place within = slice_get_read lists (length lists) place (get_or lists place []) refl within (get_or_default lists place [] (get_or lists place []) within)
-
-module _ (cmp : List ℕ → List ℕ → Ordering) (total : IsTotalOrder cmp) (lists : List (List Entry)) (one other : ℕ) (list more : List Entry) (here : slice_get lists one ≡ Some list) (there : slice_get lists other ≡ Some more) where
-  by_test : (key rival : List ℕ) → Some key ≡ first_key list → Some rival ≡ first_key more → internal_cmp cmp key rival ≡ Equal → (behind : Bool) → nat_lt other one ≡ behind → IsWinner cmp lists one other (if behind then other else one)
-  by_test key rival first second same true is =
-      lower_wins cmp total lists one other list more key rival here there (sym first) (sym second) other same (inr refl) (omega (arith, ltb-true other one is)) (omega arith)
-  by_test key rival first second same false is =
-      lower_wins cmp total lists one other list more key rival here there (sym first) (sym second) one same (inl refl) (omega arith) (omega (arith, ltb-false other one is))
-
-  by_order : (key rival : List ℕ) → Some key ≡ first_key list → Some rival ≡ first_key more → (order : Ordering) → internal_cmp cmp key rival ≡ order → IsWinner cmp lists one other (if loses_by order one other then other else one)
-  by_order key rival first second Less is = lesser_wins cmp total lists one other list more key rival here there (sym first) (sym second) is
-  by_order key rival first second Equal is = by_test key rival first second is (nat_lt other one) refl
-  by_order key rival first second Greater is = greater_loses cmp total lists one other list more key rival here there (sym first) (sym second) is
-
-  by_keys : (key rival : Option (List ℕ)) → key ≡ first_key list → rival ≡ first_key more → IsWinner cmp lists one other (if loses cmp one key other rival then other else one)
-  by_keys key None first second = wins_of_none cmp total lists one other more there (none_first more second)
-  by_keys None (Some rival) first second = none_wins cmp total lists one other list here (none_first list first)
-  by_keys (Some key) (Some rival) first second = by_order key rival first second (internal_cmp cmp key rival) refl
-
--- the winner of two players
-pub winner_by : (cmp : List ℕ → List ℕ → Ordering) → IsTotalOrder cmp → (lists : List (List Entry)) (one other : ℕ) (key rival : Option (List ℕ)) (behind : Bool) (winner : ℕ) → IsPlayer lists one key → IsPlayer lists other rival → behind ≡ loses cmp one key other rival
-    → winner ≡ (if behind then other else one) → IsWinner cmp lists one other winner
-winner_by cmp total lists one other key rival behind winner this that is at =
-    subst (λ n. IsWinner cmp lists one other n) (sym (at ∙ ap (λ (b : Bool). if b then other else one) is))
-    (by_keys cmp total lists one other (get_or lists one []) (get_or lists other []) (player_list lists one this.within) (player_list lists other that.within) key rival this.first that.first)
-
-pub winner_swapped : (cmp : List ℕ → List ℕ → Ordering) (lists : List (List Entry)) (one other winner : ℕ) → IsWinner cmp lists one other winner → IsWinner cmp lists other one winner
-winner_swapped cmp lists one other winner wins = record { either = ⊎_elim (λ is. inr is) (λ is. inl is) wins.either; over_one = wins.over_other; over_other = wins.over_one }
 
 -- the places of the two below a node are places
 pub left_within : (number : ℕ) (winners : List ℕ) (node : ℕ) → IsBracket number winners → node < number → get_or winners (2 * node) 0 < number
@@ -474,70 +439,6 @@ pub record IsOnPath (cmp : List ℕ → List ℕ → Ordering) (lists : List (Li
   pub bracket : IsBracket number winners
   pub others : IsPlayed cmp lists winners (λ k. IsAbove k node)
   pub low : node < number + number
-
--- where only what is above a node is left to be played, and the winner there is known
-pub record IsCarried (cmp : List ℕ → List ℕ → Ordering) (lists : List (List Entry)) (number : ℕ) (winners : List ℕ) (node place : ℕ) (key : Option (List ℕ)) : Type 0 where
-  pub path : IsOnPath cmp lists number winners node
-  pub best : IsPlayer lists place key
-  pub here : get_or winners node 0 ≡ place
-
-pub chosen_player : (lists : List (List Entry)) (one other : ℕ) (key rival : Option (List ℕ)) (is_other : Bool) → IsPlayer lists one key → IsPlayer lists other rival → IsPlayer lists (if is_other then other else one) (if is_other then rival else key)
-chosen_player lists one other key rival true this that = that
-chosen_player lists one other key rival false this that = this
-
--- the two places of the match above a node, of which one is the node's
-match_at : (cmp : List ℕ → List ℕ → Ordering) (lists : List (List Entry)) (winners : List ℕ) (node beside place rival winner : ℕ) → get_or winners node 0 ≡ place → get_or winners beside 0 ≡ rival → (node ≡ 2 * (node / 2) → beside ≡ node + 1) → (node ≡ 2 * (node / 2) + 1 → beside + 1 ≡ node)
-    → (node ≡ 2 * (node / 2)) ⊎ (node ≢ 2 * (node / 2)) → IsWinner cmp lists place rival winner → IsWinner cmp lists (get_or winners (2 * (node / 2)) 0) (get_or winners (2 * (node / 2) + 1) 0) winner
-match_at cmp lists winners node beside place rival winner here there even odd (inl is) wins =
-    let next : 2 * (node / 2) + 1 ≡ beside = omega (arith, is, even is) in
-    winner_at cmp lists place _ rival _ winner winner (ap (λ n. get_or winners n 0) (sym is) ∙ here) (ap (λ n. get_or winners n 0) next ∙ there) refl wins
-match_at cmp lists winners node beside place rival winner here there even odd (inr isnt) wins =
-    let second : node ≡ 2 * (node / 2) + 1 = omega (arith, isnt) in
-    let first : 2 * (node / 2) ≡ beside = omega (arith, second, odd second) in
-    winner_at cmp lists rival _ place _ winner winner (ap (λ n. get_or winners n 0) first ∙ there) (ap (λ n. get_or winners n 0) (sym second) ∙ here) refl (winner_swapped cmp lists place rival winner wins)
-
-pub carried_up : (cmp : List ℕ → List ℕ → Ordering) → IsTotalOrder cmp → (lists : List (List Entry)) (number : ℕ) (winners : List ℕ) (node beside place rival : ℕ) (key rival_key : Option (List ℕ)) (behind : Bool) → length lists ≡ number → 1 < node → IsCarried cmp lists number winners node place key
-    → (node ≡ 2 * (node / 2) → beside ≡ node + 1) → (node ≡ 2 * (node / 2) + 1 → beside + 1 ≡ node) → get_or winners beside 0 ≡ rival → IsPlayer lists rival rival_key → behind ≡ loses cmp place key rival rival_key
-    → IsCarried cmp lists number (set winners (node / 2) (if behind then rival else place)) (node / 2) (if behind then rival else place) (if behind then rival_key else key)
-carried_up cmp total lists number winners node beside place rival key rival_key behind count some carried even odd there that is = record {
-  path = record {
-    bracket = bracket_next number winners (node / 2) winner carried.path.bracket up inner low;
-    others = played_up cmp lists number winners (set winners (node / 2) winner) node count carried.path.bracket carried.path.others up inner (record { winner = winner; wins = wins; noted = refl });
-    low = omega (arith, carried.path.low);
-  };
-  best = chosen_player lists place rival key rival_key behind carried.best that;
-  here = get_or-set_same winners (node / 2) winner 0 (let size = carried.path.bracket.size in omega (arith, size, inner));
-}
-  where
-    winner : ℕ
-    winner = if behind then rival else place
-
-    up : 0 < node / 2
-    up = omega (arith, some)
-
-    inner : node / 2 < number
-    inner = omega (arith, carried.path.low)
-
-    wins : IsWinner cmp lists (get_or winners (2 * (node / 2)) 0) (get_or winners (2 * (node / 2) + 1) 0) winner
-    wins = match_at cmp lists winners node beside place rival winner carried.here there even odd (cases_eq node (2 * (node / 2))) (winner_by cmp total lists place rival key rival_key behind winner carried.best that is refl)
-
-    low : winner < number
-    low = winner_within cmp lists (get_or winners (2 * (node / 2)) 0) (get_or winners (2 * (node / 2) + 1) 0) winner number wins (left_within number winners (node / 2) carried.path.bracket inner) (right_within number winners (node / 2) carried.path.bracket inner)
-
-pub carried_on : (cmp : List ℕ → List ℕ → Ordering) → IsTotalOrder cmp → (lists : List (List Entry)) (number : ℕ) (winners : List ℕ) (node beside place rival : ℕ) (key rival_key : Option (List ℕ)) (behind : Bool) → length lists ≡ number → 1 < node → IsCarried cmp lists number winners node place key
-    → (node ≡ 2 * (node / 2) → beside ≡ node + 1) → (node ≡ 2 * (node / 2) + 1 → beside + 1 ≡ node) → get_or winners beside 0 ≡ rival → IsPlayer lists rival rival_key → behind ≡ loses cmp place key rival rival_key → (winner : ℕ) (won : Option (List ℕ)) → winner ≡ (if behind then rival else place)
-    → won ≡ (if behind then rival_key else key) → IsCarried cmp lists number (set winners (node / 2) winner) (node / 2) winner won
-carried_on cmp total lists number winners node beside place rival key rival_key behind count some carried even odd there that is winner won at won_at =
-    subst (λ n. IsCarried cmp lists number (set winners (node / 2) n) (node / 2) n won) (sym at)
-    (subst (λ (k : Option (List ℕ)). IsCarried cmp lists number (set winners (node / 2) (if behind then rival else place)) (node / 2) (if behind then rival else place) k) (sym won_at)
-    (carried_up cmp total lists number winners node beside place rival key rival_key behind count some carried even odd there that is))
-
-pub beside_within : (number node beside : ℕ) → 1 < node → node < number + number → (node ≡ 2 * (node / 2) → beside ≡ node + 1) → (node ≡ 2 * (node / 2) + 1 → beside + 1 ≡ node) → beside < number + number
-beside_within number node beside some low even odd = at (cases_eq node (2 * (node / 2)))
-  where
-    at : (node ≡ 2 * (node / 2)) ⊎ (node ≢ 2 * (node / 2)) → beside < number + number
-    at (inl is) = omega (arith, is, even is, low)
-    at (inr isnt) = let second : node ≡ 2 * (node / 2) + 1 = omega (arith, isnt) in omega (arith, odd second, low)
 
 -- where all from a node on is played
 pub record IsPlayedFrom (cmp : List ℕ → List ℕ → Ordering) (lists : List (List Entry)) (number : ℕ) (winners : List ℕ) (node : ℕ) : Type 0 where

@@ -1,8 +1,6 @@
 -- A tournament of lists: each match is won by the list whose first entry comes first.
-use Rattle.std.specs.Prelude.{◌≡◌, ◌⊎◌, ℕ, zero, suc, ◌+◌, ◌*◌, ◌/◌, ◌<◌, ◌≤◌, nat_lt, ◌&&◌, ◌||◌, Bool, true, false, Option, Some, None, List, [], ◌∷◌, length, slice_get, slice_index, slice_index_or, set}
-use Rattle.std.specs.Option.{option_map}
+use Rattle.std.specs.Prelude.{◌≡◌, ◌⊎◌, ℕ, zero, suc, ◌+◌, ◌*◌, ◌/◌, ◌<◌, ◌≤◌, List, [], ◌∷◌, length, slice_index, slice_index_or, set}
 use Rattle.std.specs.List.{AllByRecursion}
-use Rattle.std.specs.Ordering.{is_gt, is_eq}
 use Rattle.std.specs.declared.cmp.Ordering.{Ordering}
 use Rattle.std.specs.declared.cmp.Ordering.TheVariants.{Less, Equal}
 use Rattle.block.specs.Piece.{Entry}
@@ -19,25 +17,6 @@ IsAhead cmp place (e ∷ es) other (f ∷ fs) = (internal_cmp cmp e.key f.key �
 -- the list at one place isn't behind that at another
 abbrev pub Beats : (List ℕ → List ℕ → Ordering) → List (List Entry) → ℕ → ℕ → Type 0
 Beats cmp lists place other = IsAhead cmp place (slice_index_or lists place []) other (slice_index_or lists other [])
-
--- the first key of a list, where it has an entry
-abbrev pub first_key : List Entry → Option (List ℕ)
-first_key list = option_map (λ e. e.key) (slice_get list 0)
-
--- a place of a list with its first key, where it has one
-pub record IsPlayer (lists : List (List Entry)) (place : ℕ) (key : Option (List ℕ)) : Type 0 where
-  pub within : place < length lists
-  pub first : key ≡ first_key (slice_index_or lists place [])
-
--- of two places with keys in this order, whether the first loses
-abbrev pub loses_by : Ordering → ℕ → ℕ → Bool
-loses_by order place other = is_gt order || (is_eq order && nat_lt other place)
-
--- whether the first of two places with their first keys loses
-abbrev pub loses : (List ℕ → List ℕ → Ordering) → ℕ → Option (List ℕ) → ℕ → Option (List ℕ) → Bool
-loses cmp place key other None = false
-loses cmp place None other (Some rival) = true
-loses cmp place (Some key) other (Some rival) = loses_by (internal_cmp cmp key rival) place other
 
 -- the winner of two places
 pub record IsWinner (cmp : List ℕ → List ℕ → Ordering) (lists : List (List Entry)) (one other winner : ℕ) : Type 0 where

@@ -1,18 +1,18 @@
 //! A tournament of cursors by their first entries, kept as the winners of its matches.
 
-ghost use Rattle.std.specs.Prelude.{◌≡◌, ◌+◌, ◌*◌, ◌/◌, ◌<◌, if◌then◌else◌, map, length, slice_get, IfOk, IsOkUnless};
-ghost use Rattle.std.specs.Option.{option_map};
+ghost use Rattle.std.specs.Prelude.{◌≡◌, ◌+◌, ◌<◌, ◌≤◌, ◌⊎◌, map, length, slice_get, IfOk, IsOkUnless};
 ghost use Rattle.std.specs.List.{AllByRecursion};
 ghost use Rattle.coding.specs.Answers.{fault};
 ghost use Rattle.coding.specs.declared.fault.FaultName.TheVariants.{Memory};
 ghost use Rattle.table.specs.ReadingCursors.{NeverFalls};
 ghost use Rattle.merge.specs.Least.{IsMerging};
 ghost use Rattle.merge.specs.Merged.{merged};
-ghost use Rattle.merge.specs.Tournament.{IsPlayer, loses, IsWinner, IsBracket, IsPlayed, IsMatch, IsAbove, IsTournament};
+ghost use Rattle.merge.specs.Tournament.{IsWinner, IsBracket, IsPlayed, IsMatch, IsAbove, IsTournament};
 
 use coding::Fault;
-use ikey::{Comparator, InternalKey};
+use ikey::Comparator;
 use std::alloc::Global;
+use std::cmp::Ordering;
 use table::{Cursor, Entries};
 
 /// Room for the winners of a tournament of so many places, with the places themselves as its last nodes. Refused for want
@@ -29,49 +29,13 @@ pub(crate) fn bracket(alloc: Global, number: usize) -> Result<Vec<usize>, Fault>
     Ok(winners)
 }
 
-/// A place with the internal key of its cursor's first entry, where that has one.
-#[derive(Clone, Copy)]
-struct Player<'k> {
-    place: usize,
-    key: Option<InternalKey<'k>>,
-}
-
-/// The player at a place.
-fn player_at<'k, 'c, C: Comparator, S: Cursor<'c, C>>(cursors: &'k [S], place: usize) -> Player<'k>
-    requires { place < length cursors.now }
-    ensures player { IsPlayer (map S.remaining cursors.now) result.place (option_map (λ key. key.bytes.now) result.key) }
-    ensures place { result.place ≡ place }
+/// The lower of two places.
+fn lower(one: usize, other: usize) -> usize
+    ensures either { (result ≡ one) ⊎ (result ≡ other) }
+    ensures one { result ≤ one }
+    ensures other { result ≤ other }
 {
-    let cursor = &cursors[place];
-    let key = if cursor.valid() {
-        Some(cursor.key())
-    } else {
-        None
-    };
-    Player { place, key }
-}
-
-/// Whether the first of two players loses against the other. A player without a key loses, and of two with one key the
-/// one behind. It takes no branch that depends on how the keys are ordered, since that can't be foretold.
-fn loses<C: Comparator>(one: &Player<'_>, other: &Player<'_>) -> bool
-    ensures { result ≡ loses C.cmp one.now.place (option_map (λ key. key.bytes.now) one.now.key) other.now.place (option_map (λ key. key.bytes.now) other.now.key) }
-{
-    let Some(other_key) = other.key else {
-        return false;
-    };
-    let Some(key) = one.key else {
-        return true;
-    };
-    let order = key.compare::<C>(&other_key);
-    order.is_gt() | (order.is_eq() & (other.place < one.place))
-}
-
-/// The first of two players, or the other one.
-fn chosen<'k>(one: Player<'k>, other: Player<'k>, is_other: bool) -> Player<'k>
-    ensures place { result.place ≡ (if is_other then other.entry.place else one.entry.place) }
-    ensures key { option_map (λ key. key.bytes.now) result.key ≡ (if is_other then option_map (λ key. key.bytes.now) other.entry.key else option_map (λ key. key.bytes.now) one.entry.key) }
-{
-    [one, other][usize::from(is_other)]
+    if one < other { one } else { other }
 }
 
 /// The place that wins of two. A cursor at its end loses, and of two that begin with one key the one behind.
@@ -80,10 +44,21 @@ fn winner<'c, C: Comparator, S: Cursor<'c, C>>(cursors: &[S], one: usize, other:
     requires other { other < length cursors.now }
     ensures { IsWinner C.cmp (map S.remaining cursors.now) one other result }
 {
-    let left = player_at::<C, S>(cursors, one);
-    let right = player_at::<C, S>(cursors, other);
-    let loses = loses::<C>(&left, &right);
-    chosen(left, right, loses).place
+    let (left, right) = (&cursors[one], &cursors[other]);
+    let right_has = right.valid();
+    if !right_has {
+        return one;
+    }
+    let left_has = left.valid();
+    if !left_has {
+        return other;
+    }
+    let (left_key, right_key) = (left.key(), right.key());
+    match left_key.compare::<C>(&right_key) {
+        Ordering::Less => one,
+        Ordering::Greater => other,
+        Ordering::Equal => lower(one, other),
+    }
 }
 
 /// Plays the match at a node, between the winners of the two nodes below it.
@@ -98,17 +73,7 @@ fn play<'c, C: Comparator, S: Cursor<'c, C>>(cursors: &[S], winners: &mut [usize
     winners[node] = winner::<C, S>(cursors, winners[2 * node], winners[2 * node + 1]);
 }
 
-/// The other of the two nodes below one.
-fn beside(node: usize) -> usize
-    requires { 1 < node }
-    ensures even { node ≡ 2 * (node / 2) → result ≡ node + 1 }
-    ensures odd { node ≡ 2 * (node / 2) + 1 → result + 1 ≡ node }
-{
-    if node % 2 == 0 { node + 1 } else { node - 1 }
-}
-
-/// Plays the matches above a place again, where all others are played. The winner so far is carried up, so that of each
-/// match only the other player has to be found, whoever won the match below.
+/// Plays the matches above a place again, where all others are played.
 pub(crate) fn play_path<'c, C: Comparator, S: Cursor<'c, C>>(
     cursors: &[S],
     winners: &mut [usize],
@@ -121,13 +86,9 @@ pub(crate) fn play_path<'c, C: Comparator, S: Cursor<'c, C>>(
     ensures played { IsPlayed C.cmp (map S.remaining cursors.now) winners.new (λ node. ⊥) }
 {
     let mut node = cursors.len() + place;
-    let mut best = player_at::<C, S>(cursors, place);
     while node > 1 {
-        let rival = player_at::<C, S>(cursors, winners[beside(node)]);
-        let loses = loses::<C>(&best, &rival);
-        best = chosen(best, rival, loses);
         node /= 2;
-        winners[node] = best.place;
+        play::<C, S>(cursors, winners, node);
     }
 }
 

@@ -25,13 +25,16 @@ pub(crate) fn index_users<C: Comparator>(
     Ok(users)
 }
 
-/// The keys in order, each once.
-pub(crate) fn each_once<C: Comparator>(mut keys: Vec<Vec<u8>>) -> Vec<Vec<u8>>
-    ensures { IsListOf C.cmp (Contains (map (λ key. key.items) keys.items)) (map (λ key. key.items) result.items) }
+/// The keys in order, each once. Refused for want of memory alone.
+///
+/// The keys of each table are in order already, and a stable sort only merges what is.
+pub(crate) fn each_once<C: Comparator>(mut keys: Vec<Vec<u8>>) -> Result<Vec<Vec<u8>>, Fault>
+    ensures once { IfOk result (λ once. IsListOf C.cmp (Contains (map (λ key. key.items) keys.items)) (map (λ key. key.items) once.items)) }
+    ensures memory { IsOkUnless result (fault Memory) }
 {
-    keys.sort_unstable_by(|key, other| C::compare(key, other));
+    keys.sort_by(|key, other| C::compare(key, other))?;
     keys.dedup();
-    keys
+    Ok(keys)
 }
 
 /// The keys at the places of the boundaries, each once. Refused for want of memory alone.

@@ -75,7 +75,7 @@ impl<C: Comparator> Split<C> {
         if want == 0 || want > MAX_RANGES {
             return Err(Fault::of(FaultName::SplitCount));
         }
-        let keys = each_once::<C>(index_users(alloc, tables)?);
+        let keys = each_once::<C>(index_users(alloc, tables)?)?;
         let boundaries = at_places::<C>(alloc, &keys, want)?;
         Ok(Split {
             boundaries,

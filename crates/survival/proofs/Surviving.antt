@@ -159,7 +159,7 @@ module _ (cmp : List ℕ → List ℕ → Ordering) (total : IsTotalOrder cmp) (
           let key : (e : Entry) → Contains q.entries e → IsInternalKey e.key = λ e i. each_of (λ (x : Entry). IsInternalKey x.key) q.entries w.keys e i in
           (omega (arith, five), omega (arith, lt, few), omega (arith, size, small), subst IsInternalKey ends.first_key_is (key ends.first ends.first_there), subst IsInternalKey ends.last_key_is (key ends.last ends.last_there))
 
-  is_edit : IsEdit answer.edit edit
+  pub is_edit : IsEdit answer.edit edit
   is_edit =
       let five = is_tested.level in
       let low_sequence = is_tested.last_sequence in

@@ -16,3 +16,4 @@ pub mod ReadBack
 pub mod StoredTables
 pub mod Tables
 pub mod NamedBlocks
+pub mod KeyLists

@@ -10,6 +10,7 @@ pub mod Reading
 pub mod ReadingTables
 pub mod ReadingBack
 pub mod ReadingCursors
+pub mod KeyLists
 -- serves proofs alone
 pub mod Flushed
 pub mod Kept

@@ -46,8 +46,10 @@ pub trait Cursor<'a, C: Comparator>: Entries {
     ///
     /// Refused for want of memory alone. A refusal may have taken off some of those entries, and no others.
     fn seek(&mut self, target: InternalKey<'_>) -> Result<(), Fault>
-        ensures ok { OnOk result (Self.remaining self.new ≡ entries_from C.cmp target.entry.bytes.now (Self.remaining self.old)) }
-        ensures err { OnErr result (LeavesFrom C.cmp target.entry.bytes.now (Self.remaining self.old) (Self.remaining self.new)) }
+        ensures ok { OnOk result
+            (Self.remaining self.new ≡ entries_from C.cmp target.entry.bytes.now (Self.remaining self.old)) }
+        ensures err { OnErr result
+            (LeavesFrom C.cmp target.entry.bytes.now (Self.remaining self.old) (Self.remaining self.new)) }
         ensures memory { IsOkUnless result (fault Memory) };
 }
 

@@ -5,6 +5,7 @@ ghost use Rattle.std.specs.Option.{option_map};
 ghost use Rattle.coding.specs.Answers.{EqualOrMemory};
 ghost use Rattle.table.specs.Reading.{contents_reading};
 
+use crate::key_list::KeyList;
 use crate::walking::first_key;
 use block::{BlockCursor, SoundBlock};
 use coding::Fault;
@@ -72,6 +73,21 @@ impl<'a, C: Comparator> SoundTable<'a, C> {
         let mut entries = BlockCursor::new(alloc, &self.index)?;
         while entries.valid() {
             users.push(Vec::from_slice(alloc, first_key(&entries).user())?)?;
+            entries.advance()?;
+        }
+        Ok(users)
+    }
+
+    /// The user keys that [`SoundTable::index_users`] gives, in one buffer.
+    ///
+    /// Refused for want of memory alone. It takes that of the keys' bytes, of a place for each, and of one key more.
+    pub fn index_keys(&self, alloc: Global) -> Result<KeyList, Fault>
+        ensures { EqualOrMemory (λ keys. keys) result (Ok self.now.index_users) }
+    {
+        let mut users = KeyList::new(alloc);
+        let mut entries = BlockCursor::new(alloc, &self.index)?;
+        while entries.valid() {
+            users.push(first_key(&entries).user())?;
             entries.advance()?;
         }
         Ok(users)

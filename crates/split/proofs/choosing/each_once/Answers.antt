@@ -5,11 +5,11 @@ use Rattle.std.proofs.lemmas.List.Sorted.{ranks_by, answers_always}
 use Rattle.split.proofs.Sorted.{each_once_is, same_keys}
 use Rattle.split.proofs.choosing.each_once.Goals as goal
 
-pub returns : goal.returns
-returns g c =
+pub returns-clause-once : goal.returns-clause-once
+returns-clause-once g c =
     let cmp = g.C.Comparator.cmp in
     let total = g.met.C.Comparator.total in
     let exact = g.met.C.Comparator.exact in
-    let order = c.sort_unstable_by.ensures.sorted (λ x y. is_lt (cmp x.items y.items)) (ranks_by total (λ key. key.items)) (answers_always _ _ _ (λ f a r f' called. search rules)) in
-    let is = dedup_is (same_keys cmp total exact (λ key. key.items)) c.sort_unstable_by.new.self.items c.dedup.new.self.items c.dedup.ensures.filtered in
-    each_once_is cmp total exact (λ key. key.items) c.args.keys.items c.sort_unstable_by.new.self.items c.dedup.new.self.items c.sort_unstable_by.ensures.permutation order is
+    let order = c.in_ok-sort_by.ensures.sorted (λ x y. is_lt (cmp x.items y.items)) (ranks_by total (λ key. key.items)) (answers_always _ _ _ (λ f a r f' called. search rules)) in
+    let is = dedup_is (same_keys cmp total exact (λ key. key.items)) c.sort_by.new.self.items c.dedup.new.self.items c.dedup.ensures.filtered in
+    each_once_is cmp total exact (λ key. key.items) c.args.keys.items c.sort_by.new.self.items c.dedup.new.self.items c.sort_by.ensures.permutation order is

@@ -1,0 +1,127 @@
+-- The edit of a compaction makes the edited version of an installation.
+use Rattle.std.proofs.Common.{◌≡◌, ◌≢◌, ℕ, ◌+◌, ◌<◌, ◌≤◌, ◌^◌, not, get_or, true, List, [], ◌∷◌, ◌++◌, length, map, Some, None, Option, Ok, refl, sym, ap, subst, ◌∙◌, inl, inr, arith}
+use Rattle.std.specs.Prelude.{◌⊎◌, Contains}
+use Rattle.std.specs.List.{All}
+use Rattle.std.specs.Cmp.{IsTotalOrder}
+use Rattle.std.specs.declared.cmp.Ordering.{Ordering}
+use Rattle.std.proofs.lemmas.List.Elements.{All-contains, Contains-append_cases, Contains-get_or}
+use Rattle.std.proofs.lemmas.List.Sorted.{Contains-permutation, IsPermutation-sym}
+use Rattle.ikey.specs.Comparator.{IsExact}
+use Rattle.block.specs.Piece.{Entry}
+use Rattle.edit.specs.Edit.{Edit, IsEdit}
+use Rattle.edit.specs.Version.{State, applied}
+use Rattle.edit.specs.declared.meta.NewFile.{NewFile}
+use Rattle.folder.specs.Levels.{file_numbers}
+use Rattle.folder.specs.Manifest.{order_name}
+use Rattle.folder.specs.ReadsAs.{IsOneOf}
+use Rattle.folder.specs.declared.order.Order.{Order}
+use Rattle.pick.specs.Picked.{IsPicked, Picked}
+use Rattle.pick.specs.declared.picked.InputFile.{InputFile}
+use Rattle.closure.specs.Closed.{is_input}
+use Rattle.reads.specs.Lawful.{IsBelowNext, IsLawful}
+use Rattle.reads.specs.Tables.{Numbered}
+use Rattle.reads.proofs.Members.{first_in, from_filter, from_map}
+use Rattle.cut.specs.Plan.{Planned, assembled}
+use Rattle.request.specs.EditOf.{edit_of, new_file}
+use Rattle.request.specs.OneThread.{Answer, table_for}
+use Rattle.request.specs.Passed.{IsPassed, PassedLaw}
+use Rattle.request.specs.Request.{Asked}
+use Rattle.install.specs.Install.{IsEditedBy, numbers_of}
+use Rattle.install.proofs.Numbers.{in_files}
+use Rattle.survival.specs.EditAfter.{AreNumbered, EditApplies, new_files, version_after}
+use Rattle.survival.specs.GetsAfter.{staying}
+use Rattle.survival.specs.Over.{HoldOutputs, IsOver}
+use Rattle.survival.proofs.Surviving.{is_edit}
+use Rattle.checks.specs.Checked.{tables_reading}
+use Rattle.store.specs.Asking.{manifest_of, request_of}
+use Rattle.store.specs.declared.settings.Settings.{Settings}
+use Rattle.store.proofs.Over.{has_next}
+use Rattle.store.proofs.TablesAfter.{HasNumber, number_of}
+
+-- the numbers of new files are those of the outputs
+new_numbers : (level : ℕ) (written_by : List Entry → List ℕ) (plan : List Planned) → map (λ (f : NewFile). f.meta.number) (map (new_file level) plan) ≡ numbers_of (assembled written_by plan)
+new_numbers level written_by [] = refl
+new_numbers level written_by (q ∷ plan) = ap (λ (ns : List ℕ). q.number ∷ ns) (new_numbers level written_by plan)
+
+-- and from the first number on
+numbered_above : (written_by : List Entry → List ℕ) (first : ℕ) (plan : List Planned) (n : ℕ) → AreNumbered first plan → IsOneOf (numbers_of (assembled written_by plan)) n → first ≤ n
+numbered_above written_by first [] n h m = absurd m
+numbered_above written_by first (q ∷ plan) n h (inl same) = let is : q.number ≡ first = h.0 in omega (arith, same, is)
+numbered_above written_by first (q ∷ plan) n h (inr m) = let le = numbered_above written_by (first + 1) plan n h.1 m in omega (arith, le)
+
+below_next : (next : Option ℕ) (m n : ℕ) → next ≡ Some m → IsBelowNext next n → n < m
+below_next next m n is h = subst (λ (o : Option ℕ). IsBelowNext o n) is h
+
+some_input : (files : List InputFile) → files ≢ [] → (i : InputFile) × Contains files i
+some_input [] h = absurd (h refl)
+some_input (i ∷ files) h = (i, first_in i files)
+
+module _ (cmp : List ℕ → List ℕ → Ordering) (total : IsTotalOrder cmp) (exact : IsExact cmp) (separator_of : List ℕ → List ℕ → List ℕ) (successor_of : List ℕ → List ℕ) (applies : EditApplies cmp) (passes : PassedLaw cmp)
+    (order : Order) (v : State) (loaded : List (ℕ × List ℕ)) (tables : List Numbered) (level : ℕ) (p : Picked) (s : Settings) (answer : Answer)
+    (checked : tables_reading cmp loaded ≡ Ok tables) (lawful : IsLawful cmp v tables) (low : All (λ (f : NewFile). f.level ≤ 6) v.files) (picked : IsPicked cmp v level p)
+    (over : IsOver v tables (request_of v loaded p s)) (held : HoldOutputs cmp separator_of successor_of tables (request_of v loaded p s) answer) where
+  abbrev r : Asked
+  r = request_of v loaded p s
+
+  abbrev pub next_version : State
+  next_version = version_after v r held.plan
+
+  passed : IsPassed cmp r
+  passed = passes r held.tested
+
+  next_there : v.next_file ≡ Some (manifest_of v)
+  next_there =
+      let i = some_input p.files passed.some in
+      has_next cmp total v loaded tables level p s checked lawful picked i.0 i.1
+
+  added_numbers : map (λ (f : NewFile). f.meta.number) (new_files r held.plan) ≡ numbers_of answer.tables
+  added_numbers = new_numbers (p.level + 1) (table_for cmp separator_of successor_of r) held.plan ∙ sym (ap numbers_of held.answer_tables)
+
+  file_below : (n : ℕ) → IsOneOf (file_numbers cmp v) n → n < manifest_of v
+  file_below n m =
+      let f : HasNumber v.files n = number_of v.files n (in_files cmp v n m) in
+      let below = All-contains (λ (x : NewFile). IsBelowNext v.next_file x.meta.number) v.files f.file lawful.below_next f.there in
+      below_next v.next_file (manifest_of v) n next_there (subst (IsBelowNext v.next_file) (sym f.is) below)
+
+  output_above : (n : ℕ) → IsOneOf (numbers_of answer.tables) n → manifest_of v ≤ n
+  output_above n m =
+      let le = numbered_above (table_for cmp separator_of successor_of r) (manifest_of v + 1) held.plan n held.numbered (subst (λ (ts : List (ℕ × List ℕ)). IsOneOf (numbers_of ts) n) held.answer_tables m) in
+      omega (arith, le)
+
+  pub edited_by : IsEditedBy (order_name order) cmp order v (manifest_of v) answer.tables answer.edit next_version
+  edited_by = record {
+    named = refl;
+    edit = edit_of r held.plan;
+    read = is_edit cmp total exact separator_of successor_of v tables level r answer lawful low picked over held;
+    no_name = refl;
+    log_number = refl;
+    previous_log = refl;
+    last_sequence = refl;
+    edited = applies.applies v tables level r held.plan lawful picked over.numbers held.numbered;
+    added = added_numbers;
+    least = manifest_of v;
+    first_free = next_there;
+    below = file_below;
+    above = output_above;
+    manifest_above = omega arith;
+    next_free = manifest_of v + 1 + length held.plan;
+    next_file = refl;
+    manifest_below = omega arith;
+  }
+
+  level_by : (f : NewFile) → Contains (staying v p) f ⊎ Contains (new_files r held.plan) f → f.level ≤ 6
+  level_by f (inl at) = let old = from_filter (λ (x : NewFile). not (is_input p x.meta.number)) v.files f at in All-contains (λ (x : NewFile). x.level ≤ 6) v.files f low old.0
+  level_by f (inr at) =
+      let q = from_map (new_file (p.level + 1)) held.plan f at in
+      let is : p.level + 1 ≡ f.level = ap (λ (x : NewFile). x.level) q.is in
+      let five = passed.level in
+      omega (arith, is, five)
+
+  -- the levels of the version after
+  pub low_next : All (λ (f : NewFile). f.level ≤ 6) next_version.files
+  low_next k d lt =
+      let at = Contains-get_or next_version.files k d lt in
+      let f = get_or next_version.files k d in
+      let permutes = applies.files v tables level r held.plan lawful picked over.numbers held.numbered in
+      level_by f (Contains-append_cases (staying v p) (new_files r held.plan) f
+      (Contains-permutation next_version.files (staying v p ++ new_files r held.plan) f (IsPermutation-sym (staying v p ++ new_files r held.plan) next_version.files permutes) at))

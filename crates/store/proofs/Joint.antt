@@ -1,0 +1,55 @@
+-- What a compaction answers is installed, and reads survive.
+use Rattle.std.proofs.Common.{◌≡◌, ℕ, ◌<◌, ◌≤◌, ◌^◌, true, List, map, Ok, sym, ap, subst, ◌∙◌}
+use Rattle.std.specs.List.{All}
+use Rattle.std.specs.Cmp.{IsTotalOrder}
+use Rattle.std.specs.declared.cmp.Ordering.{Ordering}
+use Rattle.ikey.specs.Comparator.{IsExact}
+use Rattle.edit.specs.Version.{State}
+use Rattle.edit.specs.declared.meta.NewFile.{NewFile}
+use Rattle.folder.specs.declared.order.Order.{Order}
+use Rattle.pick.specs.Picked.{IsPicked, Picked}
+use Rattle.reads.specs.Gets.{get_of}
+use Rattle.reads.specs.Lawful.{IsLawful}
+use Rattle.reads.specs.Tables.{Numbered}
+use Rattle.keep.specs.Readable.{is_read, readable_of}
+use Rattle.checks.specs.Checked.{tables_reading}
+use Rattle.checks.proofs.LawfulLemmas.{sound}
+use Rattle.request.specs.OneThread.{Answer, one_thread}
+use Rattle.request.specs.Passed.{PassedLaw}
+use Rattle.request.specs.Request.{Asked}
+use Rattle.install.specs.Install as install
+use Rattle.survival.specs.EditAfter.{EditApplies, version_after}
+use Rattle.survival.specs.GetsAfter.{GetsAfter}
+use Rattle.survival.specs.Over.{HoldOutputs, IsOver, OutputsHold}
+use Rattle.survival.specs.Survive.{StandsAfter, tables_after}
+use Rattle.store.specs.Asking.{last_of, request_of}
+use Rattle.store.specs.Compaction.{Edited}
+use Rattle.store.specs.Joint.{JointLaw}
+use Rattle.store.specs.declared.settings.Settings.{Settings}
+use Rattle.store.proofs.EditedBy.{edited_by, low_next}
+use Rattle.store.proofs.Over.{is_over}
+use Rattle.store.proofs.SameTables.{same_get, same_lawful}
+use Rattle.store.proofs.TablesAfter.{read_after, reads_after, same_after}
+
+pub joint : (cmp : List ℕ → List ℕ → Ordering) → IsTotalOrder cmp → IsExact cmp → (separator_of : List ℕ → List ℕ → List ℕ) (successor_of : List ℕ → List ℕ)
+    → EditApplies cmp → PassedLaw cmp → OutputsHold cmp separator_of successor_of → StandsAfter cmp separator_of successor_of → GetsAfter cmp → JointLaw cmp separator_of successor_of
+joint cmp total exact separator_of successor_of applies passes outputs stands gets order v loaded tables level p s answer checked lawful low picked log previous answered =
+    let r : Asked = request_of v loaded p s in
+    let over : IsOver v tables r = is_over cmp total v loaded tables level p s checked lawful picked log previous in
+    let held : HoldOutputs cmp separator_of successor_of tables r answer = outputs v tables level r answer lawful picked over answered in
+    let next : State = version_after v r held.plan in
+    let after : IsLawful cmp next (tables_after cmp p answer tables) = stands.lawful v tables level r answer lawful low picked over held in
+    let low_after = low_next cmp total exact separator_of successor_of applies passes order v loaded tables level p s answer checked lawful low picked over held in
+    let same = same_after cmp loaded tables p answer next checked low_after after in
+    let read : List Numbered = read_after cmp loaded tables p answer next checked low_after after in
+    record {
+      next = next;
+      edited = edited_by cmp total exact separator_of successor_of applies passes order v loaded tables level p s answer checked lawful low picked over held;
+      tables_next = read;
+      lawful = sound cmp next (install.tables_after cmp next answer.tables loaded) read (reads_after cmp loaded tables p answer next checked low_after after)
+          (same_lawful next read (tables_after cmp p answer tables) same cmp after);
+      gets = λ user at is.
+          same_get next read (tables_after cmp p answer tables) same user at
+          ∙ gets v tables level p (readable_of s.snapshots (last_of v)) held.union next (tables_after cmp p answer tables) lawful low picked held.is_union
+          (stands.holds v tables level r answer lawful low picked over held) user at is;
+    }

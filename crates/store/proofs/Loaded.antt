@@ -1,0 +1,92 @@
+-- Tables that were loaded, and the bytes under each number.
+use Rattle.std.proofs.Common.{◌≡◌, ℕ, Bool, true, false, cond, eqb, List, [], ◌∷◌, ◌++◌, map, Some, None, Option, Result, Ok, Err, refl, sym, ap, subst, ◌∙◌, inl, inr}
+use Rattle.std.specs.Prelude.{Contains, unwrap_or}
+use Rattle.std.specs.List.{find}
+use Rattle.std.specs.Map.{lookup}
+use Rattle.std.specs.Option.{option_map}
+use Rattle.std.specs.declared.cmp.Ordering.{Ordering}
+use Rattle.std.proofs.lemmas.Bool.{eqb-true, eq-eqb}
+use Rattle.std.proofs.lemmas.Option.{none-some, same_Some}
+use Rattle.coding.proofs.Binds.{bind_ok, ok_is}
+use Rattle.coding.specs.Answers.{◌>>=◌}
+use Rattle.coding.specs.declared.fault.Fault.{Fault}
+use Rattle.table.specs.Checked.{contents_in}
+use Rattle.table.specs.Reading.{Contents, DataBlock, blocks_of, contents_of, contents_reading}
+use Rattle.reads.specs.Tables.{Numbered, table_of}
+use Rattle.checks.specs.Checked.{numbered_reading, tables_reading}
+use Rattle.install.specs.Install.{bytes_of}
+
+not_equal : (m n : ℕ) → (m ≡ n → ⊥) → eqb m n ≡ false
+not_equal m n h = by (eqb m n) refl
+  where
+    by : (b : Bool) → eqb m n ≡ b → b ≡ false
+    by true e = absurd (h (eqb-true m n e))
+    by false e = refl
+
+-- a test of two numbers, turned
+pub turned : (m n : ℕ) → eqb m n ≡ eqb n m
+turned m n = by (eqb m n) refl
+  where
+    by : (b : Bool) → eqb m n ≡ b → b ≡ eqb n m
+    by true e = sym (eq-eqb n m (sym (eqb-true m n e)))
+    by false e = sym (not_equal n m (λ same. let both : true ≡ false = sym (eq-eqb m n (sym same)) ∙ e in cc both))
+
+-- what bytes hold as a table has these bytes
+pub own_bytes : (cmp : List ℕ → List ℕ → Ordering) (bytes : List ℕ) (t : Contents) → contents_reading cmp bytes ≡ Ok t → t.bytes ≡ bytes
+own_bytes cmp bytes t h =
+    let parts = bind_ok (blocks_of cmp bytes) (λ blocks. Ok (contents_of bytes blocks)) t h in
+    sym (ap (λ (c : Contents). c.bytes) (ok_is (contents_of bytes parts.0) t parts.2))
+
+-- what bytes hold that are a table
+pub held_by : (cmp : List ℕ → List ℕ → Ordering) (bytes : List ℕ) (t : Contents) → contents_reading cmp bytes ≡ Ok t → contents_in cmp bytes ≡ t
+held_by cmp bytes t h = rw h refl
+
+-- the bytes of a number are those that were found
+pub bytes_found : (loaded : List (ℕ × List ℕ)) (n : ℕ) (bytes : List ℕ) → lookup (eqb n) loaded ≡ Some bytes → bytes_of loaded n ≡ bytes
+bytes_found loaded n bytes h = ap (λ (o : Option (List ℕ)). unwrap_or o []) h
+
+-- the parts of tables that were checked
+pub record Checked (cmp : List ℕ → List ℕ → Ordering) (t : ℕ × List ℕ) (loaded : List (ℕ × List ℕ)) (tables : List Numbered) : Type 0 where
+  pub contents : Contents
+  pub behind : List Numbered
+  pub read : contents_reading cmp t.1 ≡ Ok contents
+  pub rest : tables_reading cmp loaded ≡ Ok behind
+  pub whole : tables ≡ record { number = t.0; contents = contents } ∷ behind
+
+pub checked : (cmp : List ℕ → List ℕ → Ordering) (t : ℕ × List ℕ) (loaded : List (ℕ × List ℕ)) (tables : List Numbered) → tables_reading cmp (t ∷ loaded) ≡ Ok tables → Checked cmp t loaded tables
+checked cmp t loaded tables h =
+    let one = bind_ok (numbered_reading cmp t) (λ (first : Numbered). tables_reading cmp loaded >>= λ others. Ok (first ∷ others)) tables h in
+    let two = bind_ok (tables_reading cmp loaded) (λ (others : List Numbered). Ok (one.0 ∷ others)) tables one.2 in
+    let three = bind_ok (contents_reading cmp t.1) (λ (c : Contents). Ok (record { number = t.0; contents = c })) one.0 one.1 in
+    let first : record { number = t.0; contents = three.0 } ≡ one.0 = ok_is (record { number = t.0; contents = three.0 }) one.0 three.2 in
+    record {
+      contents = three.0;
+      behind = two.0;
+      read = three.1;
+      rest = two.1;
+      whole = sym (ok_is (one.0 ∷ two.0) tables two.2) ∙ sym (ap (λ (x : Numbered). x ∷ two.0) first);
+    }
+
+-- the bytes of a table that was checked are those that were loaded under its number
+pub found_loaded : (cmp : List ℕ → List ℕ → Ordering) (loaded : List (ℕ × List ℕ)) (tables : List Numbered) (n : ℕ) (t : Contents)
+    → tables_reading cmp loaded ≡ Ok tables → table_of tables n ≡ Some t → lookup (eqb n) loaded ≡ Some t.bytes
+found_loaded cmp [] tables n t h found =
+    let none : tables ≡ [] = sym (ok_is [] tables h) in
+    absurd (none-some t (sym (ap (λ (ts : List Numbered). table_of ts n) none) ∙ found))
+found_loaded cmp (l ∷ loaded) tables n t h found =
+    by (eqb l.0 n) refl (λ is. found_loaded cmp loaded parts.behind n t parts.rest is) (sym (ap (λ (ts : List Numbered). table_of ts n) parts.whole) ∙ found)
+  where
+    parts : Checked cmp l loaded tables
+    parts = checked cmp l loaded tables h
+
+    by : (b : Bool) → eqb l.0 n ≡ b → (table_of parts.behind n ≡ Some t → lookup (eqb n) loaded ≡ Some t.bytes)
+        → option_map (λ (x : Numbered). x.contents) (cond b (Some (record { number = l.0; contents = parts.contents })) (find (λ (x : Numbered). eqb x.number n) parts.behind)) ≡ Some t
+        → cond (eqb n l.0) (Some l.1) (lookup (eqb n) loaded) ≡ Some t.bytes
+    by true e rest is =
+        let same : parts.contents ≡ t = same_Some parts.contents t is in
+        let bytes : l.1 ≡ t.bytes = sym (own_bytes cmp l.1 parts.contents parts.read) ∙ ap (λ (c : Contents). c.bytes) same in
+        let hit : eqb n l.0 ≡ true = turned n l.0 ∙ e in
+        rw hit (ap (λ (x : List ℕ). Some x) bytes)
+    by false e rest is =
+        let miss : eqb n l.0 ≡ false = turned n l.0 ∙ e in
+        rw miss (rest is)

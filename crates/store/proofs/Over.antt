@@ -1,0 +1,69 @@
+-- The request for picked inputs is one over the version that they were picked from.
+use Rattle.std.proofs.Common.{◌≡◌, ◌≢◌, ℕ, ◌+◌, ◌<◌, ◌≤◌, ◌^◌, Bool, true, false, eqb, List, [], ◌∷◌, length, map, Some, None, Option, Result, Ok, Err, refl, sym, ap, subst, ◌∙◌, arith}
+use Rattle.std.specs.Prelude.{Contains, unwrap_or}
+use Rattle.std.specs.List.{All}
+use Rattle.std.specs.Cmp.{IsTotalOrder}
+use Rattle.std.specs.Option.{option_map, ForSome}
+use Rattle.std.specs.declared.cmp.Ordering.{Ordering}
+use Rattle.std.proofs.lemmas.List.Elements.{All-contains}
+use Rattle.table.specs.Reading.{Contents}
+use Rattle.edit.specs.Version.{State}
+use Rattle.edit.specs.declared.meta.FileMeta.{FileMeta}
+use Rattle.edit.specs.declared.meta.NewFile.{NewFile}
+use Rattle.pick.specs.Picked.{IsPicked, Picked}
+use Rattle.pick.specs.declared.picked.InputFile.{InputFile}
+use Rattle.reads.specs.Lawful.{IsBelowNext, IsFileOf, IsLawful}
+use Rattle.reads.specs.Tables.{Numbered, table_of}
+use Rattle.reads.proofs.Members.{first_in, later_in}
+use Rattle.checks.specs.Checked.{tables_reading}
+use Rattle.install.specs.Install as install
+use Rattle.survival.specs.Over.{IsOver, bytes_of}
+use Rattle.survival.proofs.Inputs.{input_file}
+use Rattle.store.specs.Asking.{manifest_of, request_of}
+use Rattle.store.specs.declared.settings.Settings.{Settings}
+use Rattle.store.proofs.Loaded.{bytes_found, found_loaded}
+
+-- a number below the next one tells that there is one
+next_is : (next : Option ℕ) (number : ℕ) → IsBelowNext next number → next ≡ Some (unwrap_or next 0)
+next_is None number h = absurd h
+next_is (Some n) number h = refl
+
+next_below : (next : Option ℕ) → ForSome next (λ n. n ≤ unwrap_or next 0 + 1)
+next_below None = λ n is. absurd (cc is)
+next_below (Some m) = λ n is. let same : m ≡ n = cc is in omega (arith, same)
+
+same_map : {X Y : Type 0} (f g : X → Y) (xs : List X) → ((x : X) → Contains xs x → f x ≡ g x) → map f xs ≡ map g xs
+same_map f g [] h = refl
+same_map f g (x ∷ xs) h = ap (λ (y : _). y ∷ map f xs) (h x (first_in x xs)) ∙ ap (λ (ys : List _). g x ∷ ys) (same_map f g xs (λ y at. h y (later_in x xs y at)))
+
+some_mapped : {X : Type 0} (f : X → List ℕ) (xs : List X) → map (λ (x : X). Some (f x)) xs ≡ map (λ (b : List ℕ). Some b) (map f xs)
+some_mapped f [] = refl
+some_mapped f (x ∷ xs) = ap (λ (ys : List (Option (List ℕ))). Some (f x) ∷ ys) (some_mapped f xs)
+
+module _ (cmp : List ℕ → List ℕ → Ordering) (total : IsTotalOrder cmp) (v : State) (loaded : List (ℕ × List ℕ)) (tables : List Numbered) (level : ℕ) (p : Picked) (s : Settings)
+    (checked : tables_reading cmp loaded ≡ Ok tables) (lawful : IsLawful cmp v tables) (picked : IsPicked cmp v level p) where
+  pub file_of_input : (i : InputFile) → Contains p.files i → IsFileOf cmp tables i.meta
+  file_of_input i at =
+      let f = input_file cmp total v tables lawful level p picked i at in
+      subst (IsFileOf cmp tables) f.is (All-contains (λ (x : NewFile). IsFileOf cmp tables x.meta) v.files f.file lawful.files f.there)
+
+  -- the bytes that were loaded of an input are those of its table
+  input_bytes : (i : InputFile) → Contains p.files i → bytes_of tables i ≡ Some (install.bytes_of loaded i.meta.number)
+  input_bytes i at =
+      let f = file_of_input i at in
+      ap (option_map (λ (t : Contents). t.bytes)) f.there
+      ∙ ap (λ (b : List ℕ). Some b) (sym (bytes_found loaded i.meta.number f.table.bytes (found_loaded cmp loaded tables i.meta.number f.table checked f.there)))
+
+  pub is_over : (request_of v loaded p s).log_number < 2 ^ 64 → (request_of v loaded p s).previous_log < 2 ^ 64 → IsOver v tables (request_of v loaded p s)
+  is_over log previous = record {
+    bytes = same_map (bytes_of tables) (λ (i : InputFile). Some (install.bytes_of loaded i.meta.number)) p.files input_bytes ∙ some_mapped (λ (i : InputFile). install.bytes_of loaded i.meta.number) p.files;
+    numbers = next_below v.next_file;
+    log_number = log;
+    previous_log = previous;
+  }
+
+  -- where there is an input, the version has a next file
+  pub has_next : (i : InputFile) → Contains p.files i → v.next_file ≡ Some (manifest_of v)
+  has_next i at =
+      let f = input_file cmp total v tables lawful level p picked i at in
+      next_is v.next_file f.file.meta.number (All-contains (λ (x : NewFile). IsBelowNext v.next_file x.meta.number) v.files f.file lawful.below_next f.there)

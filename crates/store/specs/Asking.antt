@@ -1,0 +1,48 @@
+-- What is asked of a compaction, by the version and the tables that a folder holds.
+use Rattle.std.specs.Prelude.{ℕ, ◌+◌, ◌-◌, ◌^◌, nat_le, nat_lt, ◌&&◌, List, map, unwrap_or, Result, Ok}
+use Rattle.std.specs.declared.cmp.Ordering.{Ordering}
+use Rattle.coding.specs.Answers.{◌>>=◌}
+use Rattle.coding.specs.declared.fault.Fault.{Fault}
+use Rattle.coding.specs.declared.fault.FaultName.TheVariants.{Numbers, SplitCount}
+use Rattle.table.specs.ReadingSteps.{pass}
+use Rattle.edit.specs.Version.{State}
+use Rattle.pick.specs.Picked.{Picked}
+use Rattle.pick.specs.declared.picked.InputFile.{InputFile}
+use Rattle.install.specs.Install.{bytes_of}
+use Rattle.request.specs.OneThread.{Answer, compacted}
+use Rattle.request.specs.Request.{Asked}
+use Rattle.store.specs.declared.settings.Settings.{Settings}
+
+-- the number of the new manifest: the version's next file, which each version has that a folder opens as
+abbrev pub manifest_of : State → ℕ
+manifest_of v = unwrap_or v.next_file 0
+
+-- the version's last sequence
+abbrev pub last_of : State → ℕ
+last_of v = unwrap_or v.last_sequence 0
+
+-- The request for these inputs: the bytes that were loaded of each, the version's counters, and numbers for the outputs behind
+-- the manifest's. A previous log number that was never set is 0.
+abbrev pub request_of : State → List (ℕ × List ℕ) → Picked → Settings → Asked
+request_of v loaded p s = record {
+  picked = p;
+  tables = map (λ (i : InputFile). bytes_of loaded i.meta.number) p.files;
+  snapshots = s.snapshots;
+  first_number = manifest_of v + 1;
+  log_number = unwrap_or v.log_number 0;
+  previous_log = unwrap_or v.previous_log 0;
+  last_sequence = last_of v;
+  options = s.options;
+}
+
+-- that request, or Numbers where there is no number behind the manifest's
+abbrev pub asked_of : State → List (ℕ × List ℕ) → Picked → Settings → Result Asked Fault
+asked_of v loaded p s = pass (nat_lt (manifest_of v) (2 ^ 64 - 1)) Numbers >>= λ _. Ok (request_of v loaded p s)
+
+-- What a compaction of these inputs answers: SplitCount where the ranges are not from 1 to 4,096, then Numbers where there is
+-- no number behind the manifest's, and then what the request for them answers.
+abbrev pub compaction_of : (List ℕ → List ℕ → Ordering) → (List ℕ → List ℕ → List ℕ) → (List ℕ → List ℕ) → State → List (ℕ × List ℕ) → Picked → Settings → Result Answer Fault
+compaction_of cmp separator_of successor_of v loaded p s = do
+  _ ← pass (nat_le 1 s.ranges && nat_le s.ranges 4096) SplitCount
+  r ← asked_of v loaded p s
+  compacted cmp separator_of successor_of s.workers r

@@ -1,0 +1,104 @@
+-- What a compaction makes of a folder.
+use Rattle.std.specs.Prelude.{◌≡◌, ◌⊎◌, ℕ, true, List, [], ◌∷◌, ◌++◌, Option, Result, Ok, Err, IfErr, OnOk}
+use Rattle.std.specs.declared.cmp.Ordering.{Ordering}
+use Rattle.coding.specs.Answers.{UnlessMemory, fault}
+use Rattle.coding.specs.declared.fault.Fault.{Fault}
+use Rattle.coding.specs.declared.fault.FaultName.TheVariants.{Device}
+use Rattle.edit.specs.Version.{State}
+use Rattle.folder.specs.Calls.{Done, Files, FolderSynced, Step, Tells}
+use Rattle.folder.specs.Crash.{IsKept, Leads, World, call_of}
+use Rattle.folder.specs.Folder.{TellsSame}
+use Rattle.folder.specs.Manifest.{order_name}
+use Rattle.folder.specs.ReadsAs.{ReadsAs, RestsOn}
+use Rattle.folder.specs.declared.order.Order.{Order}
+use Rattle.pick.specs.Picked.{IsPicked, Picked}
+use Rattle.reads.specs.Gets.{get_of}
+use Rattle.reads.specs.Tables.{Numbered}
+use Rattle.keep.specs.Readable.{is_read, readable_of}
+use Rattle.checks.specs.LawfulTables.{IsLawfulTables}
+use Rattle.request.specs.OneThread.{Answer}
+use Rattle.install.specs.Install.{IsEditedBy, StandsAfter, Survives, tables_after}
+use Rattle.store.specs.Asking.{compaction_of, last_of, manifest_of}
+use Rattle.store.specs.Orders.{order_cmp, order_separator, order_successor}
+use Rattle.store.specs.declared.settings.Settings.{Settings}
+
+-- The edited version of a compaction's answer: the answer's edit makes it of the version, by the manifest of the next file's
+-- number. With the tables that an installation leaves it is lawful, and each get at a sequence that stays readable answers as
+-- before.
+pub record Edited (order : Order) (cmp : List ℕ → List ℕ → Ordering) (v : State) (loaded : List (ℕ × List ℕ)) (tables : List Numbered) (s : Settings) (answer : Answer) : Type 0 where
+  pub next : State
+  pub edited : IsEditedBy (order_name order) cmp order v (manifest_of v) answer.tables answer.edit next
+  pub tables_next : List Numbered
+  pub lawful : IsLawfulTables cmp next (tables_after cmp next answer.tables loaded) (Ok tables_next)
+  pub gets : (user : List ℕ) (at : ℕ) → is_read (readable_of s.snapshots (last_of v)) at ≡ true → get_of next tables_next user at ≡ get_of v tables user at
+
+-- A compaction of a level of a version with the bytes of its tables: the version is lawful, the inputs are picked, and this is
+-- what their compaction answers, and what it makes.
+pub record Compacted (order : Order) (cmp : List ℕ → List ℕ → Ordering) (separator_of : List ℕ → List ℕ → List ℕ) (successor_of : List ℕ → List ℕ) (v : State) (loaded : List (ℕ × List ℕ)) (level : ℕ) (s : Settings) (answer : Answer) : Type 0 where
+  pub tables : List Numbered
+  pub lawful : IsLawfulTables cmp v loaded (Ok tables)
+  pub picked : Picked
+  pub is_picked : IsPicked cmp v level picked
+  pub answered : compaction_of cmp separator_of successor_of v loaded picked s ≡ Ok answer
+  pub edited : Edited order cmp v loaded tables s answer
+
+-- A compaction of a level of the version that files read as.
+pub record Compaction (order : Order) (cmp : List ℕ → List ℕ → Ordering) (separator_of : List ℕ → List ℕ → List ℕ) (successor_of : List ℕ → List ℕ) (files : Files) (level : ℕ) (s : Settings) : Type 0 where
+  pub version : State
+  pub loaded : List (ℕ × List ℕ)
+  pub reads : ReadsAs cmp order version loaded files
+  pub answer : Answer
+  pub compacted : Compacted order cmp separator_of successor_of version loaded level s answer
+
+-- the edited version of a compaction
+abbrev pub next_of : {order : Order} {cmp : List ℕ → List ℕ → Ordering} {separator_of : List ℕ → List ℕ → List ℕ} {successor_of : List ℕ → List ℕ} {files : Files} {level : ℕ} {s : Settings} → Compaction order cmp separator_of successor_of files level s → State
+next_of c = c.compacted.edited.next
+
+-- Nothing that writes was called, and the folder holds what it held.
+pub record IsUnchanged {T : Type 0} (before after : List Step) (old new : List ℕ → Option (List ℕ) → Type 0) (result : Result T Fault) : Type 0 where
+  pub calls : after ≡ before
+  pub same : TellsSame old new
+  pub refused : OnOk result ⊥
+
+-- No more was called that writes than a sync of the folder, and it holds what it held.
+pub record IsSynced {T : Type 0} (before after : List Step) (old new : List ℕ → Option (List ℕ) → Type 0) (result : Result T Fault) : Type 0 where
+  pub step : Step
+  pub call : call_of step ≡ FolderSynced
+  pub calls : after ≡ before ++ step ∷ []
+  pub same : (files : Files) → Tells old files → Tells new files
+  pub refused : OnOk result ⊥
+
+-- A compaction was installed, from these calls on: a crash at any moment leaves the version before or the edited one, at Ok
+-- it is the edited one, and nothing else is answered but Device and Memory.
+pub record IsInstalled {T : Type 0} (order : Order) (cmp : List ℕ → List ℕ → Ordering) (separator_of : List ℕ → List ℕ → List ℕ) (successor_of : List ℕ → List ℕ) (files : Files) (level : ℕ) (s : Settings)
+    (before after : List Step) (old new : List ℕ → Option (List ℕ) → Type 0) (result : Result T Fault) : Type 0 where
+  pub compaction : Compaction order cmp separator_of successor_of files level s
+  pub survives : Survives cmp order compaction.version compaction.loaded (next_of compaction) (tables_after cmp (next_of compaction) compaction.answer.tables compaction.loaded) before after old new result
+  pub refused : IfErr result (λ e. UnlessMemory e (e ≡ fault Device))
+
+-- what is left of a folder whose version has this order: it is unchanged, or a compaction was installed
+abbrev pub IsVersionLeft : {T : Type 0} → Order → (List ℕ → List ℕ → Ordering) → (List ℕ → List ℕ → List ℕ) → (List ℕ → List ℕ) → Files → ℕ → Settings
+    → List Step → List Step → (List ℕ → Option (List ℕ) → Type 0) → (List ℕ → Option (List ℕ) → Type 0) → Result T Fault → Type 0
+IsVersionLeft order cmp separator_of successor_of files level s before after old new result =
+    IsUnchanged before after old new result ⊎ IsInstalled order cmp separator_of successor_of files level s before after old new result
+
+-- the same, in the order that it has
+abbrev pub IsOpenedLeft : {T : Type 0} → Files → ℕ → Settings → List Step → List Step → (List ℕ → Option (List ℕ) → Type 0) → (List ℕ → Option (List ℕ) → Type 0) → Result T Fault → Type 0
+IsOpenedLeft files level s before after old new result =
+    IsUnchanged before after old new result
+    ⊎ ((order : Order) × IsInstalled order (order_cmp order) (order_separator order) (order_successor order) files level s before after old new result)
+
+-- What is left of a folder that held these files: it holds what it held, or behind a sync of the folder a compaction was
+-- installed.
+abbrev pub IsLeft : {T : Type 0} → Files → ℕ → Settings → List Step → List Step → (List ℕ → Option (List ℕ) → Type 0) → (List ℕ → Option (List ℕ) → Type 0) → Result T Fault → Type 0
+IsLeft files level s before after old new result =
+    IsSynced before after old new result
+    ⊎ ((order : Order) × IsInstalled order (order_cmp order) (order_separator order) (order_successor order) files level s (before ++ Done FolderSynced ∷ []) after old new result)
+
+-- Where what a version rests on is kept by a sync of the folder, as each file is that was synced and each that is missing, the
+-- folder stands for the version behind it.
+abbrev pub SyncLaw : Type 0
+SyncLaw =
+    (cmp : List ℕ → List ℕ → Ordering) (order : Order) (v : State) (tables : List (ℕ × List ℕ)) (start : World) (calls : List Step) →
+    ((w : World) → Leads start calls w → ReadsAs cmp order v tables w.shown.files × ((name : List ℕ) → RestsOn cmp v w.shown.files name → IsKept w.shown name)) →
+    StandsAfter cmp order v tables start (calls ++ Done FolderSynced ∷ [])

@@ -1,0 +1,36 @@
+-- The joint of compaction and installation: what one answers is what the other installs.
+use Rattle.std.specs.Prelude.{◌≡◌, ℕ, ◌<◌, ◌≤◌, ◌^◌, List, Ok}
+use Rattle.std.specs.List.{All}
+use Rattle.std.specs.declared.cmp.Ordering.{Ordering}
+use Rattle.edit.specs.Version.{State}
+use Rattle.edit.specs.declared.meta.NewFile.{NewFile}
+use Rattle.folder.specs.declared.order.Order.{Order}
+use Rattle.pick.specs.Picked.{IsPicked, Picked}
+use Rattle.reads.specs.Lawful.{IsLawful}
+use Rattle.reads.specs.Tables.{Numbered}
+use Rattle.checks.specs.Checked.{tables_reading}
+use Rattle.request.specs.OneThread.{Answer, one_thread}
+use Rattle.survival.specs.Over.{IsOver}
+use Rattle.store.specs.Asking.{request_of}
+use Rattle.store.specs.Compaction.{Edited}
+use Rattle.store.specs.declared.settings.Settings.{Settings}
+
+-- Where inputs are picked from a lawful version, whose log numbers are of 64 bits, the request for them is one over the
+-- version: the bytes that were loaded of each input are those of its table, and its outputs' numbers are free.
+abbrev pub OverLaw : (List ℕ → List ℕ → Ordering) → Type 0
+OverLaw cmp =
+    (v : State) (loaded : List (ℕ × List ℕ)) (tables : List Numbered) (level : ℕ) (p : Picked) (s : Settings) →
+    tables_reading cmp loaded ≡ Ok tables → IsLawful cmp v tables → IsPicked cmp v level p →
+    (request_of v loaded p s).log_number < 2 ^ 64 → (request_of v loaded p s).previous_log < 2 ^ 64 →
+    IsOver v tables (request_of v loaded p s)
+
+-- Where moreover the files stand at levels up to 6, what one thread answers to that request makes an edited version by a
+-- manifest of the version's next file. The tables that its installation leaves are read as such that the edited version is
+-- lawful with, and each get at a sequence that stays readable answers as before.
+abbrev pub JointLaw : (List ℕ → List ℕ → Ordering) → (List ℕ → List ℕ → List ℕ) → (List ℕ → List ℕ) → Type 0
+JointLaw cmp separator_of successor_of =
+    (order : Order) (v : State) (loaded : List (ℕ × List ℕ)) (tables : List Numbered) (level : ℕ) (p : Picked) (s : Settings) (answer : Answer) →
+    tables_reading cmp loaded ≡ Ok tables → IsLawful cmp v tables → All (λ (f : NewFile). f.level ≤ 6) v.files → IsPicked cmp v level p →
+    (request_of v loaded p s).log_number < 2 ^ 64 → (request_of v loaded p s).previous_log < 2 ^ 64 →
+    one_thread cmp separator_of successor_of (request_of v loaded p s) ≡ Ok answer →
+    Edited order cmp v loaded tables s answer

@@ -1,0 +1,5 @@
+-- what contracts rest on
+pub mod Orders
+pub mod Asking
+pub mod Compaction
+pub mod Joint

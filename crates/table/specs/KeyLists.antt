@@ -1,0 +1,18 @@
+-- Keys that lie one behind the other.
+use Rattle.std.specs.Prelude.{◌≡◌, ℕ, zero, suc, ◌+◌, ◌-◌, ◌≤◌, List, [], ◌∷◌, length, take, drop}
+
+-- the bytes from this place on, cut at each of the places where a key ends
+abbrev pub cut_at : ℕ → List ℕ → List ℕ → List (List ℕ)
+cut_at from [] bytes = []
+cut_at from (end ∷ ends) bytes = take (end - from) bytes ∷ cut_at end ends (drop (end - from) bytes)
+
+-- these places are the ends of keys that are all of the bytes from this place on
+abbrev pub AreEnds : ℕ → List ℕ → List ℕ → Type 0
+AreEnds from [] bytes = bytes ≡ []
+AreEnds from (end ∷ ends) bytes = (from ≤ end) × (end ≤ from + length bytes) × AreEnds end ends (drop (end - from) bytes)
+
+-- where the key at a place begins
+abbrev pub start_of : ℕ → List ℕ → ℕ → ℕ
+start_of from ends zero = from
+start_of from [] (suc i) = from
+start_of from (end ∷ ends) (suc i) = start_of end ends i

@@ -190,8 +190,8 @@ fn seek_table<'t, C: Comparator + 't>(
 
 /// Merges tables in the ranges of a split by 1 to 64 workers, a range a job, and answers the runs of the ranges in order.
 ///
-/// `listed` and `floor` say which sequences stay readable, as in `keep::merge_range`. Each worker has cursors of its own
-/// over the tables, which all share. `Workers` where these are not from 1 to 64. `Duplicate` where the tables hold one user
+/// `listed` and `floor` say which sequences stay readable, as in `keep::merge_range`. For each range a worker makes cursors of
+/// its own over the tables that reach into it, and all share the tables. `Workers` where these are not from 1 to 64. `Duplicate` where the tables hold one user
 /// key and sequence twice, whichever range that lies in. Else refused for want of memory alone.
 pub fn merge_ranges<'t, C: SharedComparator + 'static, G: Gate + Sync, R: Threads + Sync>(
     rt: &R,

@@ -1,10 +1,13 @@
 //! Rows over threads: what no clause says is that calls succeed, and that the order in which workers come changes nothing.
 
+ghost use Rattle.std.specs.Prelude.{◌≤◌, length};
+
 use crate::{check_inputs, merge_ranges};
 use board::{Gate, Open};
 use coding::{Fault, FaultName};
 use edit::{CompactPointer, FileMeta};
-use ikey::{Bytewise, KeyBuf, Kind};
+use ikey::Kind::{Delete, Put};
+use ikey::{Bytewise, KeyBuf, Kind, MAX_USER_KEY};
 use keep::{RangeRun, is_rising, largest_rise};
 use pick::{InputFile, Inputs};
 use split::Split;
@@ -19,18 +22,29 @@ use table::{Options, TableBuilder};
 /// How often a worker that is held looks whether it may go on.
 const TURNS: u64 = 1_000_000;
 
-/// A user key of one byte, and a sequence, at which it is put.
-type Row = (u8, u64);
+/// An entry: its user key, its sequence and its kind. Its value is `x` where it is put.
+pub(crate) type Row = (&'static str, u8, Kind);
+
+/// The value of an entry.
+pub(crate) fn value_of(row: Row) -> &'static [u8]
+    ensures { length result.now ≤ 1 }
+{
+    let (_, _, kind) = row;
+    match kind {
+        Put => b"x",
+        Delete => b"",
+    }
+}
 
 /// What an input is made of: its entries, and how its bytes and what is stated of them are spoilt.
 #[derive(Clone, Copy)]
-struct Input<'r> {
-    rows: &'r [Row],
-    spoilt: Spoilt,
+pub(crate) struct Input {
+    pub rows: &'static [Row],
+    pub spoilt: Spoilt,
 }
 
 #[derive(Clone, Copy, PartialEq, Eq)]
-enum Spoilt {
+pub(crate) enum Spoilt {
     /// Not at all.
     No,
     /// A byte of the first data block, so that its checksum fails.
@@ -44,36 +58,40 @@ enum Spoilt {
 }
 
 /// An input that is not spoilt.
-fn sound(rows: &[Row]) -> Input<'_> {
+pub(crate) fn sound(rows: &'static [Row]) -> Input {
     Input {
         rows,
         spoilt: Spoilt::No,
     }
 }
 
-fn key_of(alloc: Global, row: Row) -> Result<KeyBuf, Fault> {
-    let (user, sequence) = row;
-    if sequence > 100 {
+/// The internal key of an entry.
+pub(crate) fn key_of(alloc: Global, row: Row) -> Result<KeyBuf, Fault> {
+    let (user, sequence, kind) = row;
+    if user.len() > MAX_USER_KEY {
         return Err(Fault::of(FaultName::Key));
     }
-    KeyBuf::new(alloc, &[user], sequence, Kind::Put)
+    KeyBuf::new(alloc, user.as_bytes(), u64::from(sequence), kind)
 }
 
-/// The table of these entries, each with a value of one byte.
-fn written(rt: &(impl Abort + AllocGlobal), rows: &[Row]) -> Result<Vec<u8>, Fail> {
+/// The table of these entries.
+fn written(rt: &(impl Abort + AllocGlobal), rows: &[Row]) -> Result<Vec<u8>, Fault> {
     let options = Options::default();
     assert!(rt; options.are_in_limits());
     let mut table = TableBuilder::<Bytewise>::new(rt.alloc(), options);
     for row in rows {
         let key = key_of(rt.alloc(), *row)?;
         assert!(rt; table.is_above_last(&key.as_key()));
-        table.add(key.as_key(), b"x")?;
+        table.add(key.as_key(), value_of(*row))?;
     }
     Ok(table.finish()?)
 }
 
 /// The bytes of each input.
-fn tables(rt: &(impl Abort + AllocGlobal), inputs: &[Input<'_>]) -> Result<Vec<Vec<u8>>, Fail> {
+pub(crate) fn tables(
+    rt: &(impl Abort + AllocGlobal),
+    inputs: &[Input],
+) -> Result<Vec<Vec<u8>>, Fault> {
     let mut tables = Vec::new(rt.alloc());
     for input in inputs {
         let mut bytes = written(rt, input.rows)?;
@@ -90,11 +108,11 @@ fn tables(rt: &(impl Abort + AllocGlobal), inputs: &[Input<'_>]) -> Result<Vec<V
 }
 
 /// What a version states of each input.
-fn files(
+pub(crate) fn files(
     rt: &(impl Abort + AllocGlobal),
-    inputs: &[Input<'_>],
+    inputs: &[Input],
     tables: &[Vec<u8>],
-) -> Result<Vec<InputFile>, Fail> {
+) -> Result<Vec<InputFile>, Fault> {
     let mut files = Vec::new(rt.alloc());
     for (input, bytes) in inputs.iter().zip(tables) {
         assert!(rt; input.rows.len() > 0);
@@ -107,7 +125,7 @@ fn files(
         };
         match input.spoilt {
             Spoilt::Size => meta.size = 1,
-            Spoilt::Largest => meta.largest = key_of(rt.alloc(), (b'~', 1))?,
+            Spoilt::Largest => meta.largest = key_of(rt.alloc(), ("~", 1, Put))?,
             _ => {}
         }
         files.push(InputFile { level: 1, meta })?;
@@ -117,7 +135,7 @@ fn files(
 }
 
 /// The bytes, lent.
-fn lent<'a>(alloc: Global, tables: &'a [Vec<u8>]) -> Result<Vec<&'a [u8]>, Fail> {
+pub(crate) fn lent<'a>(alloc: Global, tables: &'a [Vec<u8>]) -> Result<Vec<&'a [u8]>, Fault> {
     let mut all = Vec::new(alloc);
     for bytes in tables {
         all.push(bytes.as_slice())?;
@@ -128,7 +146,7 @@ fn lent<'a>(alloc: Global, tables: &'a [Vec<u8>]) -> Result<Vec<&'a [u8]>, Fail>
 /// The refusal of the inputs by so many workers.
 fn refusal<R: Abort + AllocGlobal + Threads + Sync, G: Gate + Sync>(
     rt: &R,
-    inputs: &[Input<'_>],
+    inputs: &[Input],
     workers: u64,
     gate: &G,
 ) -> Result<Option<Fault>, Fail> {
@@ -185,13 +203,13 @@ fn late_gate() -> Late {
     }
 }
 
-const A: Input<'static> = Input {
-    rows: &[(b'a', 1), (b'u', 5)],
+const A: Input = Input {
+    rows: &[("a", 1, Put), ("u", 5, Put)],
     spoilt: Spoilt::No,
 };
 
-const B: Input<'static> = Input {
-    rows: &[(b'c', 3), (b'u', 9), (b'z', 2)],
+const B: Input = Input {
+    rows: &[("c", 3, Put), ("u", 9, Put), ("z", 2, Put)],
     spoilt: Spoilt::No,
 };
 
@@ -261,7 +279,7 @@ fn workers_are_from_1_to_64(rt: HostRuntime) -> Result<(), Fail> {
 }
 
 /// Inputs of which only a grandparent is told.
-fn below(alloc: Global) -> Result<Inputs, Fail> {
+fn below(alloc: Global) -> Result<Inputs, Fault> {
     let mut inputs = Inputs {
         level: 1,
         files: Vec::new(alloc),
@@ -269,20 +287,20 @@ fn below(alloc: Global) -> Result<Inputs, Fail> {
         deeper: Vec::new(alloc),
         pointer: CompactPointer {
             level: 1,
-            key: key_of(alloc, (b'z', 1))?,
+            key: key_of(alloc, ("z", 1, Put))?,
         },
     };
     inputs.grandparents.push(FileMeta {
         number: 3,
         size: 1,
-        smallest: key_of(alloc, (b'm', 1))?,
-        largest: key_of(alloc, (b'm', 1))?,
+        smallest: key_of(alloc, ("m", 1, Put))?,
+        largest: key_of(alloc, ("m", 1, Put))?,
     })?;
     Ok(inputs)
 }
 
 /// The split at these boundaries of one byte each.
-fn split_at(alloc: Global, boundaries: &[u8]) -> Result<Split<Bytewise>, Fail> {
+pub(crate) fn split_at(alloc: Global, boundaries: &[u8]) -> Result<Split<Bytewise>, Fault> {
     let mut keys = Vec::new(alloc);
     for boundary in boundaries {
         keys.push(Vec::from_slice(alloc, &[*boundary])?)?;
@@ -307,7 +325,7 @@ fn shown(alloc: Global, runs: &[RangeRun<'_>]) -> Result<Vec<u8>, Fail> {
 /// What is kept from an oldest snapshot on, or the refusal.
 fn merged<R: Abort + AllocGlobal + Threads + Sync, G: Gate + Sync>(
     rt: &R,
-    inputs: &[Input<'_>],
+    inputs: &[Input],
     boundaries: &[u8],
     oldest: u64,
     workers: u64,
@@ -375,9 +393,11 @@ fn fails(answer: &Result<Vec<u8>, Fault>, fault: Fault) -> bool {
     }
 }
 
+const AGAIN: &[Row] = &[("u", 5, Put)];
+
 #[test]
 fn one_user_key_and_sequence_twice(rt: HostRuntime) -> Result<(), Fail> {
-    let again = sound(&[(b'u', 5)]);
+    let again = sound(AGAIN);
     let duplicate = Fault::of(FaultName::Duplicate);
     for boundaries in [b"".as_slice(), b"u", b"uz", b"bmv"] {
         let text = merged(&rt, &[A, B, again], boundaries, 1, 2, &late_gate())?;

@@ -19,6 +19,4 @@ pub use inputs::check_inputs;
 pub use ranges::merge_ranges;
 
 #[cfg(test)]
-mod compaction_tests;
-#[cfg(test)]
 mod tests;

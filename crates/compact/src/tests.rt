@@ -1,15 +1,16 @@
-//! Rows over threads: what no clause says is that calls succeed, and that the order in which workers come changes nothing.
+//! Rows of the whole: each is one answer, whatever the ranges, the number of workers and the order in which they come.
 
 ghost use Rattle.std.specs.Prelude.{◌≤◌, length};
 
-use crate::{check_inputs, merge_ranges};
+use crate::compact;
 use board::{Gate, Open};
 use coding::{Fault, FaultName};
-use edit::{CompactPointer, FileMeta};
+use edit::{CompactPointer, FileMeta, Outcome, VersionEdit};
 use ikey::Kind::{Delete, Put};
 use ikey::{Bytewise, KeyBuf, Kind, MAX_USER_KEY};
-use keep::{RangeRun, is_rising, largest_rise};
+use keep::Snapshots;
 use pick::{InputFile, Inputs};
+use request::Request;
 use split::Split;
 use std::alloc::Global;
 use std::process::Abort;
@@ -22,11 +23,14 @@ use table::{Options, TableBuilder};
 /// How often a worker that is held looks whether it may go on.
 const TURNS: u64 = 1_000_000;
 
+/// The oldest snapshot that is refused, 2^56 - 1.
+const NO_SNAPSHOT: u64 = 72_057_594_037_927_935;
+
 /// An entry: its user key, its sequence and its kind. Its value is `x` where it is put.
-pub(crate) type Row = (&'static str, u8, Kind);
+type Row = (&'static str, u8, Kind);
 
 /// The value of an entry.
-pub(crate) fn value_of(row: Row) -> &'static [u8]
+fn value_of(row: Row) -> &'static [u8]
     ensures { length result.now ≤ 1 }
 {
     let (_, _, kind) = row;
@@ -38,13 +42,13 @@ pub(crate) fn value_of(row: Row) -> &'static [u8]
 
 /// What an input is made of: its entries, and how its bytes and what is stated of them are spoilt.
 #[derive(Clone, Copy)]
-pub(crate) struct Input {
-    pub rows: &'static [Row],
-    pub spoilt: Spoilt,
+struct Input {
+    rows: &'static [Row],
+    spoilt: Spoilt,
 }
 
 #[derive(Clone, Copy, PartialEq, Eq)]
-pub(crate) enum Spoilt {
+enum Spoilt {
     /// Not at all.
     No,
     /// A byte of the first data block, so that its checksum fails.
@@ -58,7 +62,7 @@ pub(crate) enum Spoilt {
 }
 
 /// An input that is not spoilt.
-pub(crate) fn sound(rows: &'static [Row]) -> Input {
+fn sound(rows: &'static [Row]) -> Input {
     Input {
         rows,
         spoilt: Spoilt::No,
@@ -66,7 +70,7 @@ pub(crate) fn sound(rows: &'static [Row]) -> Input {
 }
 
 /// The internal key of an entry.
-pub(crate) fn key_of(alloc: Global, row: Row) -> Result<KeyBuf, Fault> {
+fn key_of(alloc: Global, row: Row) -> Result<KeyBuf, Fault> {
     let (user, sequence, kind) = row;
     if user.len() > MAX_USER_KEY {
         return Err(Fault::of(FaultName::Key));
@@ -74,9 +78,16 @@ pub(crate) fn key_of(alloc: Global, row: Row) -> Result<KeyBuf, Fault> {
     KeyBuf::new(alloc, user.as_bytes(), u64::from(sequence), kind)
 }
 
-/// The table of these entries.
-fn written(rt: &(impl Abort + AllocGlobal), rows: &[Row]) -> Result<Vec<u8>, Fault> {
-    let options = Options::default();
+/// The table of these entries, in blocks of this size.
+fn written(
+    rt: &(impl Abort + AllocGlobal),
+    rows: &[Row],
+    block_size: u64,
+) -> Result<Vec<u8>, Fault> {
+    let options = Options {
+        block_size,
+        ..Options::default()
+    };
     assert!(rt; options.are_in_limits());
     let mut table = TableBuilder::<Bytewise>::new(rt.alloc(), options);
     for row in rows {
@@ -84,17 +95,14 @@ fn written(rt: &(impl Abort + AllocGlobal), rows: &[Row]) -> Result<Vec<u8>, Fau
         assert!(rt; table.is_above_last(&key.as_key()));
         table.add(key.as_key(), value_of(*row))?;
     }
-    Ok(table.finish()?)
+    table.finish()
 }
 
 /// The bytes of each input.
-pub(crate) fn tables(
-    rt: &(impl Abort + AllocGlobal),
-    inputs: &[Input],
-) -> Result<Vec<Vec<u8>>, Fault> {
+fn tables(rt: &(impl Abort + AllocGlobal), inputs: &[Input]) -> Result<Vec<Vec<u8>>, Fault> {
     let mut tables = Vec::new(rt.alloc());
     for input in inputs {
-        let mut bytes = written(rt, input.rows)?;
+        let mut bytes = written(rt, input.rows, 4_096)?;
         let last = bytes.len().saturating_sub(1);
         assert!(rt; bytes.len() > 0);
         match input.spoilt {
@@ -107,35 +115,42 @@ pub(crate) fn tables(
     Ok(tables)
 }
 
+/// What a version states of an input.
+fn file_of(alloc: Global, input: &Input, len: usize) -> Result<InputFile, Fault> {
+    let Some(first) = input.rows.first() else {
+        return Err(Fault::of(FaultName::NoInput));
+    };
+    let Some(last) = input.rows.last() else {
+        return Err(Fault::of(FaultName::NoInput));
+    };
+    let size = match input.spoilt {
+        Spoilt::Size => 1,
+        _ => len as u64,
+    };
+    let largest = match input.spoilt {
+        Spoilt::Largest => ("~", 1, Put),
+        _ => *last,
+    };
+    let meta = FileMeta {
+        number: 7,
+        size,
+        smallest: key_of(alloc, *first)?,
+        largest: key_of(alloc, largest)?,
+    };
+    Ok(InputFile { level: 1, meta })
+}
+
 /// What a version states of each input.
-pub(crate) fn files(
-    rt: &(impl Abort + AllocGlobal),
-    inputs: &[Input],
-    tables: &[Vec<u8>],
-) -> Result<Vec<InputFile>, Fault> {
-    let mut files = Vec::new(rt.alloc());
+fn files(alloc: Global, inputs: &[Input], tables: &[Vec<u8>]) -> Result<Vec<InputFile>, Fault> {
+    let mut files = Vec::new(alloc);
     for (input, bytes) in inputs.iter().zip(tables) {
-        assert!(rt; input.rows.len() > 0);
-        let last = input.rows[input.rows.len() - 1];
-        let mut meta = FileMeta {
-            number: 7,
-            size: bytes.len() as u64,
-            smallest: key_of(rt.alloc(), input.rows[0])?,
-            largest: key_of(rt.alloc(), last)?,
-        };
-        match input.spoilt {
-            Spoilt::Size => meta.size = 1,
-            Spoilt::Largest => meta.largest = key_of(rt.alloc(), ("~", 1, Put))?,
-            _ => {}
-        }
-        files.push(InputFile { level: 1, meta })?;
+        files.push(file_of(alloc, input, bytes.len())?)?;
     }
-    assert!(rt; files.len() <= 256);
     Ok(files)
 }
 
 /// The bytes, lent.
-pub(crate) fn lent<'a>(alloc: Global, tables: &'a [Vec<u8>]) -> Result<Vec<&'a [u8]>, Fault> {
+fn lent<'a>(alloc: Global, tables: &'a [Vec<u8>]) -> Result<Vec<&'a [u8]>, Fault> {
     let mut all = Vec::new(alloc);
     for bytes in tables {
         all.push(bytes.as_slice())?;
@@ -143,164 +158,8 @@ pub(crate) fn lent<'a>(alloc: Global, tables: &'a [Vec<u8>]) -> Result<Vec<&'a [
     Ok(all)
 }
 
-/// The refusal of the inputs by so many workers.
-fn refusal<R: Abort + AllocGlobal + Threads + Sync, G: Gate + Sync>(
-    rt: &R,
-    inputs: &[Input],
-    workers: u64,
-    gate: &G,
-) -> Result<Option<Fault>, Fail> {
-    let tables = tables(rt, inputs)?;
-    let files = files(rt, inputs, &tables)?;
-    let lent = lent(rt.alloc(), &tables)?;
-    assert!(rt; files.len() <= 256);
-    let checked = check_inputs::<Bytewise, G, R>(rt, rt.alloc(), &files, &lent, workers, gate);
-    Ok(checked.err())
-}
-
-/// A refusal that is about an input.
-fn at(name: FaultName, place: u64) -> Option<Fault> {
-    Some(Fault {
-        name,
-        input: Some(place),
-    })
-}
-
-/// Holds one job until another has left.
-#[derive(Drop)]
-struct Late {
-    late: u64,
-    first: u64,
-    gone: AtomicU64,
-}
-
-impl Gate for Late {
-    fn pass(&self, _seat: u32, job: u64) {
-        if job != self.late {
-            return;
-        }
-        for _ in 0..TURNS {
-            if self.gone.load(Ordering::SeqCst) > 0 {
-                return;
-            }
-            thread::yield_now();
-        }
-    }
-
-    fn left(&self, _seat: u32, job: u64) {
-        if job == self.first {
-            self.gone.fetch_add(1, Ordering::SeqCst);
-        }
-    }
-}
-
-/// A gate that holds job 0 until job 2 has left.
-fn late_gate() -> Late {
-    Late {
-        late: 0,
-        first: 2,
-        gone: AtomicU64::new(0),
-    }
-}
-
-const A: Input = Input {
-    rows: &[("a", 1, Put), ("u", 5, Put)],
-    spoilt: Spoilt::No,
-};
-
-const B: Input = Input {
-    rows: &[("c", 3, Put), ("u", 9, Put), ("z", 2, Put)],
-    spoilt: Spoilt::No,
-};
-
-#[test]
-fn the_first_input_that_fails_is_answered(rt: HostRuntime) -> Result<(), Fail> {
-    let block = Input {
-        spoilt: Spoilt::Block,
-        rows: A.rows,
-    };
-    let magic = Input {
-        spoilt: Spoilt::Magic,
-        rows: A.rows,
-    };
-    let rows = [
-        ([block, A, block], at(FaultName::Trailer, 0)),
-        ([A, magic, A], at(FaultName::Magic, 1)),
-        ([block, block, B], at(FaultName::Trailer, 0)),
-        ([B, magic, block], at(FaultName::Magic, 1)),
-        ([A, B, block], at(FaultName::Trailer, 2)),
-    ];
-    for (inputs, fault) in rows {
-        assert_eq!(rt; refusal(&rt, &inputs, 2, &late_gate())?, fault);
-        assert_eq!(rt; refusal(&rt, &inputs, 1, &Open)?, fault);
-        assert_eq!(rt; refusal(&rt, &inputs, 64, &Open)?, fault);
-    }
-    Ok(())
-}
-
-#[test]
-fn what_a_version_states_of_an_input(rt: HostRuntime) -> Result<(), Fail> {
-    let size = Input {
-        spoilt: Spoilt::Size,
-        rows: B.rows,
-    };
-    let largest = Input {
-        spoilt: Spoilt::Largest,
-        rows: B.rows,
-    };
-    let block = Input {
-        spoilt: Spoilt::Block,
-        rows: B.rows,
-    };
-    assert_eq!(rt;
-        refusal(&rt, &[A, size], 2, &Open)?,
-        at(FaultName::Bounds, 1)
-    );
-    assert_eq!(rt;
-        refusal(&rt, &[largest, A], 2, &Open)?,
-        at(FaultName::Bounds, 0)
-    );
-    assert_eq!(rt;
-        refusal(&rt, &[size, block], 2, &Open)?,
-        at(FaultName::Bounds, 0)
-    );
-    assert_eq!(rt; refusal(&rt, &[A, B], 2, &Open)?, None);
-    assert_eq!(rt; refusal(&rt, &[], 2, &Open)?, None);
-    Ok(())
-}
-
-#[test]
-fn workers_are_from_1_to_64(rt: HostRuntime) -> Result<(), Fail> {
-    let workers = Some(Fault::of(FaultName::Workers));
-    for number in [0, 65, u64::MAX] {
-        assert_eq!(rt; refusal(&rt, &[A], number, &Open)?, workers);
-    }
-    Ok(())
-}
-
-/// Inputs of which only a grandparent is told.
-fn below(alloc: Global) -> Result<Inputs, Fault> {
-    let mut inputs = Inputs {
-        level: 1,
-        files: Vec::new(alloc),
-        grandparents: Vec::new(alloc),
-        deeper: Vec::new(alloc),
-        pointer: CompactPointer {
-            level: 1,
-            key: key_of(alloc, ("z", 1, Put))?,
-        },
-    };
-    inputs.grandparents.push(FileMeta {
-        number: 3,
-        size: 1,
-        smallest: key_of(alloc, ("m", 1, Put))?,
-        largest: key_of(alloc, ("m", 1, Put))?,
-    })?;
-    Ok(inputs)
-}
-
 /// The split at these boundaries of one byte each.
-pub(crate) fn split_at(alloc: Global, boundaries: &[u8]) -> Result<Split<Bytewise>, Fault> {
+fn split_at(alloc: Global, boundaries: &[u8]) -> Result<Split<Bytewise>, Fault> {
     let mut keys = Vec::new(alloc);
     for boundary in boundaries {
         keys.push(Vec::from_slice(alloc, &[*boundary])?)?;
@@ -308,102 +167,596 @@ pub(crate) fn split_at(alloc: Global, boundaries: &[u8]) -> Result<Split<Bytewis
     Ok(Split::from_keys(keys)?)
 }
 
-/// The user keys and sequences that are kept, one run behind the other, with a stroke behind each run.
-fn shown(alloc: Global, runs: &[RangeRun<'_>]) -> Result<Vec<u8>, Fail> {
-    let mut text = Vec::new(alloc);
-    for run in runs {
-        for place in 0..run.len() {
-            let key = run.key(place);
-            text.extend_from_slice(key.user())?;
-            text.push(b'0' + (key.sequence() % 10) as u8)?;
-        }
-        text.push(b'|')?;
-    }
-    Ok(text)
+/// A file of another level: its first and its last key, and its size.
+#[derive(Clone, Copy)]
+struct Other {
+    smallest: Row,
+    largest: Row,
+    size: u64,
 }
 
-/// What is kept from an oldest snapshot on, or the refusal.
-fn merged<R: Abort + AllocGlobal + Threads + Sync, G: Gate + Sync>(
+/// A compaction that is asked for. The inputs are files 7 of level 1, the last sequence also is the edit's.
+#[derive(Clone, Copy)]
+struct Case<'c> {
+    inputs: &'c [Input],
+    level: u64,
+    grandparents: &'c [Other],
+    deeper: &'c [Other],
+    snapshots: Snapshots<'c>,
+    last_sequence: u64,
+    first_number: u64,
+    block_size: u64,
+    file_size: u64,
+}
+
+/// An output: its number, its length and its entries.
+#[derive(Clone, Copy)]
+struct Output {
+    number: u64,
+    len: usize,
+    rows: &'static [Row],
+}
+
+/// A case of level 1 without other files, from sequence 1 on, of options that are the default.
+fn plain(inputs: &[Input]) -> Case<'_> {
+    Case {
+        inputs,
+        level: 1,
+        grandparents: &[],
+        deeper: &[],
+        snapshots: Snapshots::From(1),
+        last_sequence: 9,
+        first_number: 9,
+        block_size: 4_096,
+        file_size: 2_097_152,
+    }
+}
+
+/// The stated keys and lengths of other files.
+fn others(alloc: Global, files: &[Other]) -> Result<Vec<FileMeta>, Fault> {
+    let mut all = Vec::new(alloc);
+    for file in files {
+        all.push(FileMeta {
+            number: 3,
+            size: file.size,
+            smallest: key_of(alloc, file.smallest)?,
+            largest: key_of(alloc, file.largest)?,
+        })?;
+    }
+    Ok(all)
+}
+
+/// The inputs of a case, over these tables. The compact pointer is a put of u at 2.
+fn picked(alloc: Global, case: &Case<'_>, tables: &[Vec<u8>]) -> Result<Inputs, Fault> {
+    Ok(Inputs {
+        level: case.level,
+        files: files(alloc, case.inputs, tables)?,
+        grandparents: others(alloc, case.grandparents)?,
+        deeper: others(alloc, case.deeper)?,
+        pointer: CompactPointer {
+            level: case.level,
+            key: key_of(alloc, ("u", 2, Put))?,
+        },
+    })
+}
+
+/// What a compaction answers. A growth of the test itself may be refused too.
+fn answer<R: Abort + AllocGlobal + Threads + Sync, G: Gate + Sync>(
     rt: &R,
-    inputs: &[Input],
-    boundaries: &[u8],
-    oldest: u64,
+    case: &Case<'_>,
+    split: &Split<Bytewise>,
     workers: u64,
     gate: &G,
-) -> Result<Result<Vec<u8>, Fault>, Fail> {
-    let bytes = tables(rt, inputs)?;
-    let files = files(rt, inputs, &bytes)?;
+) -> Result<Outcome, Fault> {
+    let bytes = tables(rt, case.inputs)?;
     let lent = lent(rt.alloc(), &bytes)?;
-    assert!(rt; files.len() <= 256);
-    let checked = check_inputs::<Bytewise, G, R>(rt, rt.alloc(), &files, &lent, 2, gate)?;
-    let below = below(rt.alloc())?;
-    let split = split_at(rt.alloc(), boundaries)?;
-    assert!(rt; is_rising(&[]));
-    assert!(rt; largest_rise::<Bytewise>(&below.grandparents));
-    match merge_ranges(
-        rt,
-        rt.alloc(),
-        &checked,
-        &split,
-        &[],
-        oldest,
-        &below,
-        workers,
-        gate,
-    ) {
-        Ok(runs) => Ok(Ok(shown(rt.alloc(), &runs)?)),
-        Err(fault) => Ok(Err(fault)),
-    }
+    let picked = picked(rt.alloc(), case, &bytes)?;
+    let request = Request {
+        picked: &picked,
+        tables: &lent,
+        snapshots: case.snapshots,
+        first_number: case.first_number,
+        log_number: 3,
+        previous_log: 0,
+        last_sequence: case.last_sequence,
+        options: Options {
+            block_size: case.block_size,
+            restart_interval: 16,
+            file_size: case.file_size,
+        },
+    };
+    compact::<Bytewise, G, R>(rt, rt.alloc(), &request, split, workers, gate)
 }
 
-#[test]
-fn ranges_in_their_order(rt: HostRuntime) -> Result<(), Fail> {
-    let rows = [
-        (b"".as_slice(), b"a1c3u9u5z2|".as_slice()),
-        (b"u".as_slice(), b"a1c3|u9u5z2|".as_slice()),
-        (b"uz".as_slice(), b"a1c3|u9u5|z2|".as_slice()),
-        (b"bmv~".as_slice(), b"a1|c3|u9u5|z2||".as_slice()),
-    ];
-    for (boundaries, kept) in rows {
-        for workers in [1, 2, 64] {
-            let text = merged(&rt, &[A, B], boundaries, 1, workers, &Open)?;
-            assert!(rt; gives(&text, kept));
+/// Splits into 1, 3 and 4,096 ranges: without a boundary, at `c` and `f`, and at 4,095 keys of two bytes from `f` to
+/// before `v`.
+fn splits(alloc: Global) -> Result<Vec<Split<Bytewise>>, Fault> {
+    let mut many = Vec::new(alloc);
+    for place in 0..4_095u16 {
+        let key = 0x6600 + place;
+        many.push(Vec::from_slice(alloc, &key.to_be_bytes())?)?;
+    }
+    let mut splits = Vec::new(alloc);
+    splits.push(split_at(alloc, b"")?)?;
+    splits.push(split_at(alloc, b"cf")?)?;
+    splits.push(Split::from_keys(many)?)?;
+    Ok(splits)
+}
+
+/// Whether a compaction has these outputs, with the tables of their entries; whether the edit is this one, where one is
+/// named; and whether it names the number behind the last output as the next file.
+fn is_answer(
+    rt: &(impl Abort + AllocGlobal),
+    case: &Case<'_>,
+    outcome: &Outcome,
+    outputs: &[Output],
+    edit: &[u8],
+) -> Result<bool, Fault> {
+    if outcome.tables.len() != outputs.len() {
+        return Ok(false);
+    }
+    if !edit.is_empty() && outcome.edit.as_slice() != edit {
+        return Ok(false);
+    }
+    for ((number, bytes), output) in outcome.tables.iter().zip(outputs) {
+        let table = written(rt, output.rows, case.block_size)?;
+        let is_output = *number == output.number && bytes.len() == output.len;
+        if !is_output || bytes.as_slice() != table.as_slice() {
+            return Ok(false);
         }
-        let text = merged(&rt, &[A, B], boundaries, 1, 2, &late_gate())?;
-        assert!(rt; gives(&text, kept));
     }
-    let newest = merged(&rt, &[A, B], b"u", 9, 2, &Open)?;
-    assert!(rt; gives(&newest, b"a1c3|u9z2|"));
+    let edit = VersionEdit::decode(rt.alloc(), &outcome.edit)?;
+    let next = case.first_number.checked_add(outputs.len() as u64);
+    Ok(edit.next_file == next && edit.added.len() == outputs.len())
+}
+
+/// Tests that a case has this answer over all splits, by 1, 2 and 64 workers.
+fn gives<R: Abort + AllocGlobal + Threads + Sync>(
+    rt: &R,
+    case: &Case<'_>,
+    outputs: &[Output],
+    edit: &[u8],
+) -> Result<(), Fail> {
+    for split in &splits(rt.alloc())? {
+        for workers in [1, 2, 64] {
+            let outcome = answer(rt, case, split, workers, &Open)?;
+            assert!(rt; is_answer(rt, case, &outcome, outputs, edit)?);
+        }
+    }
     Ok(())
 }
 
-/// Whether this was kept.
-fn gives(answer: &Result<Vec<u8>, Fault>, kept: &[u8]) -> bool {
-    match answer {
-        Ok(text) => text.as_slice() == kept,
-        Err(_) => false,
+/// Tests that a case is refused over all splits.
+fn refuses<R: Abort + AllocGlobal + Threads + Sync, G: Gate + Sync>(
+    rt: &R,
+    case: &Case<'_>,
+    workers: u64,
+    gate: &G,
+    fault: Fault,
+) -> Result<(), Fail> {
+    for split in &splits(rt.alloc())? {
+        let found = answer(rt, case, split, workers, gate).err();
+        assert_eq!(rt; found, Some(fault));
+    }
+    Ok(())
+}
+
+/// A file of one user key.
+fn single(user: &'static str, sequence: u8, size: u64) -> Other {
+    Other {
+        smallest: (user, sequence, Put),
+        largest: (user, sequence, Put),
+        size,
     }
 }
 
-/// Whether this was refused.
-fn fails(answer: &Result<Vec<u8>, Fault>, fault: Fault) -> bool {
-    match answer {
-        Ok(_) => false,
-        Err(found) => *found == fault,
-    }
+/// An output of these entries.
+fn written_as(number: u64, len: usize, rows: &'static [Row]) -> Output {
+    Output { number, len, rows }
 }
 
-const AGAIN: &[Row] = &[("u", 5, Put)];
+const DELETED: &[Row] = &[("u", 4, Delete), ("u", 2, Put)];
+
+const DELETION: &[Row] = &[("u", 4, Delete)];
+
+/// Log 3, previous log 0, next file 9, last sequence 4, compact pointer u at 2, file 7 of level 1 deleted.
+const NOTHING_LEFT: &[u8] =
+    b"\x02\x03\x09\x00\x03\x09\x04\x04\x05\x01\x09\x75\x01\x02\0\0\0\0\0\0\x06\x01\x07";
+
+/// The same with next file 10, and file 9 of level 2 with 113 bytes, from u at 4 to u at 4.
+const DELETION_LEFT: &[u8] =
+    b"\x02\x03\x09\x00\x03\x0a\x04\x04\x05\x01\x09\x75\x01\x02\0\0\0\0\0\0\x06\x01\x07\x07\x02\x09\x71\x09\x75\x00\x04\0\0\0\0\0\0\x09\x75\x00\x04\0\0\0\0\0\0";
+
+/// A deletion of u over an older value, without a deeper file, and with one in whose range u lies.
+#[test]
+fn a_deletion_and_the_edit(rt: HostRuntime) -> Result<(), Fail> {
+    let inputs = [sound(DELETED)];
+    let alone = Case {
+        snapshots: Snapshots::From(4),
+        last_sequence: 4,
+        ..plain(&inputs)
+    };
+    gives(&rt, &alone, &[], NOTHING_LEFT)?;
+    let deeper = [Other {
+        smallest: ("t", 1, Put),
+        largest: ("v", 1, Put),
+        size: 1,
+    }];
+    let above = Case {
+        deeper: &deeper,
+        ..alone
+    };
+    gives(&rt, &above, &[written_as(9, 113, DELETION)], DELETION_LEFT)
+}
+
+const AF: &[Row] = &[("a", 1, Put), ("f", 4, Put)];
+
+const BG: &[Row] = &[("b", 2, Put), ("g", 5, Put)];
+
+const C_DELETED: &[Row] = &[("c", 3, Delete)];
+
+const AB: &[Row] = &[("a", 1, Put), ("b", 2, Put)];
+
+const ONLY_F: &[Row] = &[("f", 4, Put)];
+
+const ONLY_G: &[Row] = &[("g", 5, Put)];
+
+const A_FF: &[Row] = &[("a", 1, Put), ("f", 9, Put), ("f", 4, Put)];
+
+const A_FF_G: &[Row] = &[("a", 1, Put), ("f", 9, Put), ("f", 4, Put), ("g", 5, Put)];
 
 #[test]
-fn one_user_key_and_sequence_twice(rt: HostRuntime) -> Result<(), Fail> {
-    let again = sound(AGAIN);
-    let duplicate = Fault::of(FaultName::Duplicate);
-    for boundaries in [b"".as_slice(), b"u", b"uz", b"bmv"] {
-        let text = merged(&rt, &[A, B, again], boundaries, 1, 2, &late_gate())?;
-        assert!(rt; fails(&text, duplicate));
+fn outputs_end_at_grandparents(rt: HostRuntime) -> Result<(), Fail> {
+    let inputs = [sound(AF), sound(BG), sound(C_DELETED)];
+    let grandparents = [
+        single("bb", 1, 120),
+        single("d", 1, 60),
+        single("ff", 1, 60),
+    ];
+    let apart = Case {
+        level: 0,
+        grandparents: &grandparents,
+        snapshots: Snapshots::From(9),
+        first_number: 5,
+        file_size: 10,
+        ..plain(&inputs)
+    };
+    let three = [
+        written_as(5, 127, AB),
+        written_as(6, 114, ONLY_F),
+        written_as(7, 114, ONLY_G),
+    ];
+    gives(&rt, &apart, &three, b"")?;
+    let gate = Held::new();
+    let outcome = answer(&rt, &apart, &split_at(rt.alloc(), b"cf")?, 2, &gate)?;
+    assert!(rt; is_answer(&rt, &apart, &outcome, &three, b"")?);
+    assert_eq!(rt; gate.given_up.load(Ordering::SeqCst), 0);
+    // The stop lies between two versions of f, and waits for the next user key.
+    let one = [sound(A_FF_G)];
+    let between = [single("f", 6, 120)];
+    let waits = Case {
+        inputs: &one,
+        grandparents: &between,
+        snapshots: Snapshots::From(0),
+        ..apart
+    };
+    gives(
+        &rt,
+        &waits,
+        &[written_as(5, 138, A_FF), written_as(6, 114, ONLY_G)],
+        b"",
+    )
+}
+
+const ONLY_A: &[Row] = &[("a", 1, Put)];
+
+const ONLY_B: &[Row] = &[("b", 2, Put)];
+
+const ONLY_C: &[Row] = &[("c", 3, Put)];
+
+const ONLY_U: &[Row] = &[("u", 5, Put)];
+
+const U_THRICE: &[Row] = &[("u", 9, Put), ("u", 5, Put), ("u", 3, Put)];
+
+const ONLY_V: &[Row] = &[("v", 1, Put)];
+
+#[test]
+fn full_outputs_end_between_user_keys(rt: HostRuntime) -> Result<(), Fail> {
+    let each = [sound(ONLY_A), sound(ONLY_C), sound(ONLY_B)];
+    let small = Case {
+        first_number: 5,
+        block_size: 1,
+        file_size: 1,
+        ..plain(&each)
+    };
+    let three = [
+        written_as(5, 114, ONLY_A),
+        written_as(6, 114, ONLY_B),
+        written_as(7, 114, ONLY_C),
+    ];
+    gives(&rt, &small, &three, b"")?;
+    let versions = [sound(U_THRICE)];
+    let one = Case {
+        inputs: &versions,
+        ..small
+    };
+    gives(&rt, &one, &[written_as(5, 202, U_THRICE)], b"")?;
+    let both = [sound(U_THRICE), sound(ONLY_V)];
+    let two = Case {
+        inputs: &both,
+        ..small
+    };
+    gives(
+        &rt,
+        &two,
+        &[written_as(5, 202, U_THRICE), written_as(6, 114, ONLY_V)],
+        b"",
+    )
+}
+
+const NEWER: &[Row] = &[("u", 9, Put), ("u", 5, Put)];
+
+const OLDER: &[Row] = &[("u", 7, Put), ("u", 3, Put)];
+
+/// Lists of snapshots, with the length of the one output and its entries.
+const KEPT: &[(&[u64], usize, &[Row])] = &[
+    (&[], 114, &[("u", 9, Put)]),
+    (&[5], 125, &[("u", 9, Put), ("u", 5, Put)]),
+    (&[6], 125, &[("u", 9, Put), ("u", 5, Put)]),
+    (&[7], 125, &[("u", 9, Put), ("u", 7, Put)]),
+    (&[3, 6], 136, &[("u", 9, Put), ("u", 5, Put), ("u", 3, Put)]),
+];
+
+const ABOVE_LAST: &[Row] = &[("u", 12, Put), ("u", 9, Put)];
+
+#[test]
+fn listed_snapshots_see_what_they_saw(rt: HostRuntime) -> Result<(), Fail> {
+    let inputs = [sound(NEWER), sound(OLDER)];
+    for row in KEPT {
+        let (list, len, kept) = *row;
+        let listed = Case {
+            snapshots: Snapshots::Listed(list),
+            ..plain(&inputs)
+        };
+        gives(&rt, &listed, &[written_as(9, len, kept)], b"")?;
     }
-    let workers = Fault::of(FaultName::Workers);
-    assert!(rt; fails(&merged(&rt, &[A, again], b"u", 1, 65, &Open)?, workers));
+    let deleted = [sound(DELETED)];
+    let both = Case {
+        snapshots: Snapshots::Listed(&[2]),
+        last_sequence: 4,
+        ..plain(&deleted)
+    };
+    gives(&rt, &both, &[written_as(9, 125, DELETED)], b"")?;
+    let none = Case {
+        snapshots: Snapshots::Listed(&[]),
+        ..both
+    };
+    gives(&rt, &none, &[], b"")?;
+    let above = [sound(ABOVE_LAST)];
+    let later = Case {
+        snapshots: Snapshots::Listed(&[]),
+        ..plain(&above)
+    };
+    gives(&rt, &later, &[written_as(9, 125, ABOVE_LAST)], b"")
+}
+
+/// The input of a, whose block fails its checksum.
+const BAD_BLOCK: Input = Input {
+    rows: &[("a", 1, Put)],
+    spoilt: Spoilt::Block,
+};
+
+/// The input of a, whose magic is another.
+const BAD_MAGIC: Input = Input {
+    rows: &[("a", 1, Put)],
+    spoilt: Spoilt::Magic,
+};
+
+/// The input of a, of whose file another size is stated.
+const BAD_SIZE: Input = Input {
+    rows: &[("a", 1, Put)],
+    spoilt: Spoilt::Size,
+};
+
+/// The input of a, of whose file another largest key is stated.
+const BAD_LARGEST: Input = Input {
+    rows: &[("a", 1, Put)],
+    spoilt: Spoilt::Largest,
+};
+
+/// A refusal that is about an input.
+fn about(name: FaultName, place: u64) -> Fault {
+    Fault {
+        name,
+        input: Some(place),
+    }
+}
+
+/// Tests that these inputs are refused, of snapshots and a last sequence.
+fn refuses_snapshots<R: Abort + AllocGlobal + Threads + Sync>(
+    rt: &R,
+    snapshots: Snapshots<'_>,
+    last_sequence: u64,
+    name: FaultName,
+) -> Result<(), Fail> {
+    let inputs = [BAD_BLOCK, sound(ONLY_U)];
+    let case = Case {
+        snapshots,
+        last_sequence,
+        ..plain(&inputs)
+    };
+    refuses(rt, &case, 2, &Open, Fault::of(name))
+}
+
+#[test]
+fn the_first_refusal_of_a_request(rt: HostRuntime) -> Result<(), Fail> {
+    let none = plain(&[]);
+    let level = Case { level: 6, ..none };
+    refuses(&rt, &level, 0, &Open, Fault::of(FaultName::Workers))?;
+    refuses(&rt, &none, 65, &Open, Fault::of(FaultName::Workers))?;
+    refuses(&rt, &level, 2, &Open, Fault::of(FaultName::NoInput))?;
+    let high = Snapshots::From(NO_SNAPSHOT);
+    refuses_snapshots(&rt, high, 9, FaultName::Snapshot)?;
+    let high_last = Snapshots::From(1);
+    refuses_snapshots(&rt, high_last, NO_SNAPSHOT, FaultName::Snapshot)?;
+    let repeated = Snapshots::Listed(&[6, 6]);
+    refuses_snapshots(&rt, repeated, 9, FaultName::SnapshotList)?;
+    let above = Snapshots::Listed(&[10]);
+    refuses_snapshots(&rt, above, 9, FaultName::SnapshotList)
+}
+
+#[test]
+fn the_first_refusal_of_inputs(rt: HostRuntime) -> Result<(), Fail> {
+    let outer = [BAD_BLOCK, sound(ONLY_U), BAD_BLOCK];
+    let held = Held::new();
+    refuses(&rt, &plain(&outer), 2, &held, about(FaultName::Trailer, 0))?;
+    assert_eq!(rt; held.given_up.load(Ordering::SeqCst), 0);
+    let both = [BAD_BLOCK, BAD_BLOCK];
+    refuses(&rt, &plain(&both), 64, &Open, about(FaultName::Trailer, 0))?;
+    let middle = [sound(ONLY_U), BAD_MAGIC, sound(ONLY_U)];
+    refuses(&rt, &plain(&middle), 2, &Open, about(FaultName::Magic, 1))?;
+    let stated = [sound(ONLY_U), BAD_SIZE];
+    refuses(&rt, &plain(&stated), 2, &Open, about(FaultName::Bounds, 1))?;
+    let first = [BAD_LARGEST, BAD_BLOCK];
+    refuses(&rt, &plain(&first), 2, &Open, about(FaultName::Bounds, 0))?;
+    let twice = [sound(ONLY_U), sound(ONLY_U)];
+    let numbers = Case {
+        first_number: u64::MAX,
+        ..plain(&twice)
+    };
+    refuses(&rt, &numbers, 2, &Open, Fault::of(FaultName::Duplicate))?;
+    let once = [sound(ONLY_U)];
+    let run_out = Case {
+        inputs: &once,
+        ..numbers
+    };
+    refuses(&rt, &run_out, 2, &Open, Fault::of(FaultName::Numbers))
+}
+
+/// Holds job 0 until job 2 has left, as often as it comes.
+#[derive(Drop)]
+struct Held {
+    come: AtomicU64,
+    gone: AtomicU64,
+    given_up: AtomicU64,
+}
+
+impl Held {
+    fn new() -> Held {
+        Held {
+            come: AtomicU64::new(0),
+            gone: AtomicU64::new(0),
+            given_up: AtomicU64::new(0),
+        }
+    }
+}
+
+impl Gate for Held {
+    fn pass(&self, _seat: u32, job: u64) {
+        if job != 0 {
+            return;
+        }
+        let before = self.come.fetch_add(1, Ordering::SeqCst);
+        for _ in 0..TURNS {
+            if self.gone.load(Ordering::SeqCst) > before {
+                return;
+            }
+            thread::yield_now();
+        }
+        self.given_up.fetch_add(1, Ordering::SeqCst);
+    }
+
+    fn left(&self, _seat: u32, job: u64) {
+        if job == 2 {
+            self.gone.fetch_add(1, Ordering::SeqCst);
+        }
+    }
+}
+
+/// Holds each of two jobs until the other has come as often.
+#[derive(Drop)]
+struct Meeting {
+    come: [AtomicU64; 2],
+    given_up: AtomicU64,
+}
+
+impl Gate for Meeting {
+    fn pass(&self, _seat: u32, job: u64) {
+        if job > 1 {
+            self.given_up.fetch_add(1, Ordering::SeqCst);
+            return;
+        }
+        let place = job as usize;
+        let before = self.come[place].fetch_add(1, Ordering::SeqCst);
+        for _ in 0..TURNS {
+            if self.come[1 - place].load(Ordering::SeqCst) > before {
+                return;
+            }
+            thread::yield_now();
+        }
+        self.given_up.fetch_add(1, Ordering::SeqCst);
+    }
+
+    fn left(&self, _seat: u32, _job: u64) {}
+}
+
+/// A caller that does all jobs of a run itself would give up here.
+#[test]
+fn two_workers_meet_in_each_run(rt: HostRuntime) -> Result<(), Fail> {
+    let inputs = [sound(ONLY_A), sound(ONLY_U)];
+    let small = Case {
+        block_size: 1,
+        file_size: 1,
+        ..plain(&inputs)
+    };
+    let split = split_at(rt.alloc(), b"c")?;
+    let gate = Meeting {
+        come: [AtomicU64::new(0), AtomicU64::new(0)],
+        given_up: AtomicU64::new(0),
+    };
+    let outcome = answer(&rt, &small, &split, 2, &gate)?;
+    let two = [written_as(9, 114, ONLY_A), written_as(10, 114, ONLY_U)];
+    assert!(rt; is_answer(&rt, &small, &outcome, &two, b"")?);
+    assert_eq!(rt; gate.given_up.load(Ordering::SeqCst), 0);
+    assert_eq!(rt; gate.come[0].load(Ordering::SeqCst), 3);
+    assert_eq!(rt; gate.come[1].load(Ordering::SeqCst), 3);
     Ok(())
+}
+
+/// The answer over three ranges by two workers.
+fn by_two<R: Abort + AllocGlobal + Threads + Sync>(
+    rt: &R,
+    case: &Case<'_>,
+) -> Result<Outcome, Fault> {
+    let split = split_at(rt.alloc(), b"cf")?;
+    answer(rt, case, &split, 2, &Open)
+}
+
+// With `rt try --test --fail-alloc N` the Nth growth is refused; without it, none is.
+#[test]
+fn a_refused_growth_is_memory(rt: HostRuntime) {
+    let each = [sound(ONLY_A), sound(ONLY_C), sound(ONLY_B)];
+    let small = Case {
+        first_number: 5,
+        block_size: 1,
+        file_size: 1,
+        ..plain(&each)
+    };
+    let three = [
+        written_as(5, 114, ONLY_A),
+        written_as(6, 114, ONLY_B),
+        written_as(7, 114, ONLY_C),
+    ];
+    let memory = Fault::of(FaultName::Memory);
+    match by_two(&rt, &small) {
+        Err(fault) => assert_eq!(rt; fault, memory),
+        Ok(outcome) => match is_answer(&rt, &small, &outcome, &three, b"") {
+            Err(fault) => assert_eq!(rt; fault, memory),
+            Ok(is_same) => assert!(rt; is_same),
+        },
+    }
+    let outer = [BAD_BLOCK, sound(ONLY_B), BAD_BLOCK];
+    let trailer = about(FaultName::Trailer, 0);
+    let fault = by_two(&rt, &plain(&outer)).err();
+    assert!(rt; fault == Some(trailer) || fault == Some(memory));
 }

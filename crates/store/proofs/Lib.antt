@@ -5,4 +5,9 @@ mod Over
 mod TablesAfter
 mod EditedBy
 mod Joint
+mod NoDevice
 mod Synced
+mod Flow
+mod LineLemmas
+mod Compactions
+mod Installing

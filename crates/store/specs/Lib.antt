@@ -1,5 +1,7 @@
 -- what contracts rest on
 pub mod Orders
 pub mod Asking
+pub mod Lines
+pub mod Answers
 pub mod Compaction
 pub mod Joint

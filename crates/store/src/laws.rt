@@ -1,7 +1,7 @@
 //! Laws of a compaction that is installed.
 
 ghost use Rattle.store.specs.Compaction.{SyncLaw};
-ghost use Rattle.store.specs.Joint.{JointLaw, OverLaw};
+ghost use Rattle.store.specs.Joint.{InputsReadLaw, JointLaw, OverLaw};
 
 use ikey::Comparator;
 use request::passed_law;
@@ -10,6 +10,11 @@ use survival::{edit_applies, gets_after, outputs_hold, stands_after};
 /// The law that the request for inputs that were picked from a lawful version is one over that version. A call does nothing.
 pub fn request_is_over<C: Comparator>()
     ensures { OverLaw C.cmp }
+{}
+
+/// The law that the bytes that were loaded of each such input are a table. A call does nothing.
+pub fn inputs_are_tables<C: Comparator>()
+    ensures { InputsReadLaw C.cmp }
 {}
 
 /// The law that what one thread answers to that request is what an installation asks for, and that the version that it makes

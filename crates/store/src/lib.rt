@@ -1,10 +1,16 @@
-//! One compaction of a database folder: what is asked of it, and the laws that join a compaction's answer to its installation.
+//! One compaction of a database folder: it is opened, its tables are checked, inputs are chosen and compacted, and the outcome
+//! is installed.
 #![tactic(auto)]
 
+mod asking;
+mod compacting;
+mod folder_compaction;
 mod laws;
+mod lines;
 mod settings;
 
-pub use laws::{answer_is_installed, request_is_over, sync_stands};
+pub use folder_compaction::compact_dir;
+pub use laws::{answer_is_installed, inputs_are_tables, request_is_over, sync_stands};
 pub use settings::Settings;
 
 #[cfg(test)]

@@ -5,6 +5,7 @@ mod RangeUnions
 mod Answering
 mod DigitLemmas
 mod LineLemmas
+mod NumberLists
 mod TextLemmas
 mod ShowingLemmas
 mod TableSizes

@@ -1,9 +1,10 @@
 -- Facts on the texts of a command line.
 use Rattle.std.proofs.Common.{◌≡◌, ℕ, Bool, true, false, List, [], Option, Some, None, Result, Ok, Err, option_map, if◌then◌else◌, unwrap_or, codes, inl, inr, refl, subst, sym, ap, ap₂, ◌∙◌}
-use Rattle.std.specs.Prelude.{IsErr, IsErrAnd, MatchOption, Box}
+use Rattle.std.specs.Prelude.{◌||◌, IsErr, IsErrAnd, MatchOption, Box}
 use Rattle.std.specs.Borrow.{Bor}
 use Rattle.std.specs.Str.{bytes_eq}
 use Rattle.clap.specs.declared.builder.command.Command.{Command}
+use Rattle.clap.specs.declared.builder.command.Command.TheOpen.{Command-F}
 use Rattle.clap.specs.declared.builder.command.Command.TheViews.{out-Command}
 use Rattle.clap.specs.Words.{AddsSubcommand, App, app_of, IsAmong, Row, Text, fault_of, is_simple, is_simple_and_free, kind_of, subcommand_of, subcommand_rows, subcommand_rows_of, with_subcommand}
 use Rattle.clap.specs.Matches.{subcommand_name_of}
@@ -15,14 +16,17 @@ use Rattle.clap.specs.declared.parser.matches.SubCommand.{SubCommand}
 use Rattle.clap.proofs.OnLiterals.{clap_on_literals}
 use Rattle.std.proofs.lemmas.Slice.Eq.{bytes_eq-Decides}
 use Rattle.std.specs.Box.{box_value}
+use Rattle.tool.specs.CompactLine.{AreSettings, HasCompact, IsNoNumberList}
+use Rattle.tool.specs.CompactLineParts.{CompactLine}
 use Rattle.tool.specs.Line.{GivesRows, HasBlocks, HasGet, HasRows, LacksAll, LacksRows, LineGives, program_app, rows_under}
 use Rattle.tool.specs.LineParts.{BlocksLine, GetLine, GivesCommand, GivesTexts, TextsGiven}
 use Rattle.tool.specs.declared.command_line.Given.{Given}
+use Rattle.tool.specs.declared.compact_texts.CompactNumbers.{CompactNumbers}
 use Rattle.tool.specs.declared.requests.Line.{Line}
 use Rattle.tool.specs.declared.requests.Line.TheVariants as line
 use Rattle.tool.specs.Usage.{TurnsInto}
 use Rattle.tool.specs.declared.requests.Usage.{Usage}
-use Rattle.tool.specs.declared.requests.Usage.TheVariants.{Key, Memory, Clap}
+use Rattle.tool.specs.declared.requests.Usage.TheVariants.{Key, Snapshots, Memory, Clap}
 
 -- what an optional text is, by what it points to
 pub MatchOption-now : (o : Option (Bor Text)) (first : Option Text) → option_map (λ s. s.now) o ≡ first
@@ -34,6 +38,15 @@ MatchOption-now (Some s) first e = sym e
 pub with_one_more : (old sub new : Command) (app sub_app : App) → app_of old ≡ app → app_of sub ≡ sub_app → (out-Command sub).has_globals ≡ false → AddsSubcommand old sub new
     → app_of new ≡ with_subcommand app sub_app.top
 with_one_more old sub new app sub_app is sub_is local adds = adds.shape local ∙ ap₂ with_subcommand is (ap (λ (a : App). a.top) sub_is)
+
+-- whether a command has an argument of all its subcommands
+abbrev pub globals_of : Command-F Command → Bool
+globals_of c = c.has_globals
+
+-- a test that fails adds nothing
+pub or_false : (a b : Bool) → b ≡ false → (a || b) ≡ a
+or_false true b e = refl
+or_false false b e = e
 
 -- the program is a command of which `clap` states the matches
 pub is_simple-program : is_simple program_app ≡ true
@@ -85,6 +98,7 @@ MatchOption-rows given rows (Some texts) Lacks Has e h = (rows, (e, h))
 TurnsInto-refused : (words : List Text) (e : Error) (u : Usage) → HasKind (fault_of program_app words) e
     → TurnsInto e u → TextsGiven words (Err u)
 TurnsInto-refused words e Key kind h = absurd h
+TurnsInto-refused words e Snapshots kind h = absurd h
 TurnsInto-refused words e Memory kind h = tt
 TurnsInto-refused words e (Clap d) kind h =
     elim kind [
@@ -121,6 +135,7 @@ pub TextsGiven-lacking : {P : Type 0} (app : App) (words : List Text) (s : Optio
     → (is_simple app ≡ true → P × (s ≡ subcommand_of app words)) → LacksAll s → TurnsInto e u
     → TextsGiven words (Err u)
 TextsGiven-lacking app words s e Key same walked lacks h = absurd h
+TextsGiven-lacking app words s e Snapshots same walked lacks h = absurd h
 TextsGiven-lacking app words s e Memory same walked lacks h = tt
 TextsGiven-lacking app words s e (Clap d) same walked lacks h =
     inr (subst LacksAll (given_rows app words s same (walked (ap is_simple same ∙ is_simple-program)).1) lacks)
@@ -141,6 +156,8 @@ LineGives-blocks words a b at out (Ok (line.Manifest folder)) given h = absurd h
 LineGives-blocks words a b at out (Ok (line.Verify folder)) given h = absurd h
 LineGives-blocks words a b at out (Ok (line.Get folder key sequence)) given h = absurd h
 LineGives-blocks words a b at out (Err Key) given h = (at, (inl (a, b, out, given), h))
+LineGives-blocks words a b at out (Ok (line.Compact folder level settings)) given h = absurd h
+LineGives-blocks words a b at out (Err Snapshots) given h = absurd h
 LineGives-blocks words a b at out (Err Memory) given h = tt
 LineGives-blocks words a b at out (Err (Clap e)) given h = absurd h
 
@@ -159,8 +176,35 @@ LineGives-get words folder key at (Ok (line.Dump table)) given h = absurd h
 LineGives-get words folder key at (Ok (line.Manifest f)) given h = absurd h
 LineGives-get words folder key at (Ok (line.Verify f)) given h = absurd h
 LineGives-get words folder key at (Err Key) given h = (key, (inr (folder, at, given), h))
+LineGives-get words folder key at (Ok (line.Compact f level settings)) given h = absurd h
+LineGives-get words folder key at (Err Snapshots) given h = absurd h
 LineGives-get words folder key at (Err Memory) given h = tt
 LineGives-get words folder key at (Err (Clap e)) given h = absurd h
+
+-- the line of the texts of `compact`
+pub LineGives-compact : (words : List Text) (folder : Text) (level : ℕ) (numbers : CompactNumbers) (since : Option ℕ) (listed : Option Text) (r : Result Line Usage)
+    → GivesRows words (codes "compact") (HasCompact folder level numbers since listed) → CompactLine folder level numbers since listed r → LineGives words r
+LineGives-compact words folder level numbers since listed (Ok (line.Compact folder' level' settings)) given h = (
+  numbers,
+  since,
+  listed,
+  (
+    subst (λ (x : Text). GivesRows words (codes "compact") (HasCompact x level' numbers since listed)) (sym h.0)
+        (subst (λ (n : ℕ). GivesRows words (codes "compact") (HasCompact folder n numbers since listed)) (sym h.1.0) given),
+    h.1.1,
+  ),
+)
+LineGives-compact words folder level numbers since listed (Ok (line.Blocks a b k out)) given h = absurd h
+LineGives-compact words folder level numbers since listed (Ok (line.Dump table)) given h = absurd h
+LineGives-compact words folder level numbers since listed (Ok (line.Manifest f)) given h = absurd h
+LineGives-compact words folder level numbers since listed (Ok (line.Verify f)) given h = absurd h
+LineGives-compact words folder level numbers since listed (Ok (line.Get f key at)) given h = absurd h
+LineGives-compact words folder level numbers (Some sequence) listed (Err Snapshots) given h = absurd h
+LineGives-compact words folder level numbers None None (Err Snapshots) given h = absurd h
+LineGives-compact words folder level numbers None (Some text) (Err Snapshots) given h = (text, ((folder, level, numbers, given), h))
+LineGives-compact words folder level numbers since listed (Err Key) given h = absurd h
+LineGives-compact words folder level numbers since listed (Err Memory) given h = tt
+LineGives-compact words folder level numbers since listed (Err (Clap e)) given h = absurd h
 
 -- none of the commands has its texts
 pub MatchOption-lacking : (parsed : Option (Text × List Row)) (r : Option Given) → r ≡ None → LacksAll parsed → MatchOption r (LacksAll parsed) (GivesCommand parsed)

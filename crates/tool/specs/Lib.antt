@@ -1,6 +1,7 @@
 -- what contracts rest on
 pub mod Text
 pub mod Usage
+pub mod CompactLine
 pub mod Line
 pub mod Status
 pub mod Testing
@@ -10,6 +11,7 @@ pub mod Lines
 pub mod FolderLines
 -- serves proofs alone
 pub mod LineParts
+pub mod CompactLineParts
 pub mod Questions
 pub mod Merging
 pub mod Ranges

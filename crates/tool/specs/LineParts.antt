@@ -1,15 +1,17 @@
 -- What the steps of reading a command line answer.
 use Rattle.std.specs.Prelude.{◌≡◌, ℕ, List, [], Option, Some, None, Result, Ok, Err, codes}
+use Rattle.std.specs.Option.{option_map}
 use Rattle.std.specs.Global.{Vec}
 use Rattle.clap.specs.Words.{Row, Text, fault_of, subcommand_of}
+use Rattle.tool.specs.CompactLine.{HasCompact}
 use Rattle.tool.specs.Line.{HasBlocks, HasGet, HasPath, HasRows, RefusedWith, program_app, rows_under}
 use Rattle.tool.specs.Text.{bytes_of_text}
 use Rattle.tool.specs.declared.command_line.Given.{Given}
-use Rattle.tool.specs.declared.command_line.Given.TheVariants.{Blocks, Dump, Manifest, Verify, Get}
+use Rattle.tool.specs.declared.command_line.Given.TheVariants.{Blocks, Dump, Manifest, Verify, Get, Compact}
 use Rattle.tool.specs.declared.requests.Line.{Line}
 use Rattle.tool.specs.declared.requests.Line.TheVariants as line
 use Rattle.tool.specs.declared.requests.Usage.{Usage}
-use Rattle.tool.specs.declared.requests.Usage.TheVariants.{Key, Memory, Clap}
+use Rattle.tool.specs.declared.requests.Usage.TheVariants.{Key, Snapshots, Memory, Clap}
 
 -- what a parse gives is a command with these texts
 abbrev pub GivesCommand : Option (Text × List Row) → Given → Type 0
@@ -18,6 +20,9 @@ GivesCommand parsed (Dump table) = HasRows (HasPath (codes "TABLE") table.now) (
 GivesCommand parsed (Manifest folder) = HasRows (HasPath (codes "DIR") folder.now) (rows_under (codes "manifest") parsed)
 GivesCommand parsed (Verify folder) = HasRows (HasPath (codes "DIR") folder.now) (rows_under (codes "verify") parsed)
 GivesCommand parsed (Get texts) = HasRows (HasGet texts.folder.now texts.key.now texts.at) (rows_under (codes "get") parsed)
+GivesCommand parsed (Compact texts) =
+    HasRows (HasCompact texts.folder.now texts.level texts.numbers texts.readable.since (option_map (λ text. text.now) texts.readable.listed))
+    (rows_under (codes "compact") parsed)
 
 -- `clap` takes the words, and they give a command with these texts
 abbrev pub GivesTexts : List Text → Given → Type 0
@@ -27,6 +32,7 @@ GivesTexts words given = (fault_of program_app words ≡ []) × GivesCommand (su
 abbrev pub TextsGiven : List Text → Result Given Usage → Type 0
 TextsGiven words (Ok given) = GivesTexts words given
 TextsGiven words (Err Key) = ⊥
+TextsGiven words (Err Snapshots) = ⊥
 TextsGiven words (Err Memory) = Unit {0}
 TextsGiven words (Err (Clap e)) = RefusedWith words e
 
@@ -34,6 +40,7 @@ TextsGiven words (Err (Clap e)) = RefusedWith words e
 abbrev pub IsKeyAnswer : Text → Result (Vec ℕ) Usage → Type 0
 IsKeyAnswer text (Ok key) = bytes_of_text text ≡ Some key.items
 IsKeyAnswer text (Err Key) = bytes_of_text text ≡ None
+IsKeyAnswer text (Err Snapshots) = ⊥
 IsKeyAnswer text (Err Memory) = Unit {0}
 IsKeyAnswer text (Err (Clap e)) = ⊥
 
@@ -42,6 +49,7 @@ abbrev pub BlocksLine : Text → Text → Text → Text → Result Line Usage �
 BlocksLine a b at out (Ok (line.Blocks a' b' key out')) = (a'.now ≡ a) × ((b'.now ≡ b) × ((bytes_of_text at ≡ Some key.items) × (out'.now ≡ out)))
 BlocksLine a b at out (Ok _) = ⊥
 BlocksLine a b at out (Err Key) = bytes_of_text at ≡ None
+BlocksLine a b at out (Err Snapshots) = ⊥
 BlocksLine a b at out (Err Memory) = Unit {0}
 BlocksLine a b at out (Err (Clap e)) = ⊥
 
@@ -50,5 +58,6 @@ abbrev pub GetLine : Text → Text → Option ℕ → Result Line Usage → Type
 GetLine folder key at (Ok (line.Get folder' key' at')) = (folder'.now ≡ folder) × ((bytes_of_text key ≡ Some key'.items) × (at' ≡ at))
 GetLine folder key at (Ok _) = ⊥
 GetLine folder key at (Err Key) = bytes_of_text key ≡ None
+GetLine folder key at (Err Snapshots) = ⊥
 GetLine folder key at (Err Memory) = Unit {0}
 GetLine folder key at (Err (Clap e)) = ⊥

@@ -36,3 +36,18 @@ StandsFor text bytes = map to_ascii_lowercase text ≡ text_of_bytes bytes
 -- a text is a number of 64 bits: decimal digits alone
 abbrev pub IsNumberText : List ℕ → Type 0
 IsNumberText text = IsNumeral 10 text × (digits_value 10 text < 2 ^ 64)
+
+-- the number of an option's text, where it is given
+abbrev pub IsNumberOf : Option (List ℕ) → Option ℕ → Type 0
+IsNumberOf None number = number ≡ None
+IsNumberOf (Some text) number = IsNumberText text × (number ≡ Some (digits_value 10 text))
+
+-- an option is given a text that is no number
+abbrev pub IsNoNumber : Option (List ℕ) → Type 0
+IsNoNumber None = ⊥
+IsNoNumber (Some text) = IsNumberText text → ⊥
+
+-- an option is given no number
+abbrev pub LacksNumber : Option (List ℕ) → Type 0
+LacksNumber None = Unit {0}
+LacksNumber (Some text) = IsNumberText text → ⊥

@@ -1,13 +1,16 @@
 //! The command line, read.
 
-ghost use Rattle.std.specs.Prelude.{◌≡◌, MatchOption, MatchResult, codes, map};
-ghost use Rattle.clap.specs.Words.{first_of, found_of, rows_of, subcommand_rows_of};
-ghost use Rattle.tool.specs.Line.{HasBlocks, HasGet, HasPath, IsNoNumber, IsNumberOf, LacksAll, LacksBlocks, LacksGet, LacksPath, LacksRows, HasRows, LineGives, rows_under};
+ghost use Rattle.std.specs.Prelude.{MatchOption, codes, map};
+ghost use Rattle.clap.specs.Words.{found_of, rows_of, subcommand_rows_of};
+ghost use Rattle.tool.specs.Line.{HasBlocks, HasGet, HasPath, LacksAll, LacksBlocks, LacksGet, LacksPath, LacksRows, HasRows, LineGives, rows_under};
 ghost use Rattle.tool.specs.LineParts.{BlocksLine, GetLine, GivesCommand, IsKeyAnswer, TextsGiven};
 
+use crate::arguments::{first_number, first_text};
 use crate::commands::program_command;
+use crate::compact_line::compact_line;
+use crate::compact_texts::{CompactTexts, compact_texts};
 use crate::requests::{Line, Usage};
-use crate::text::{key_of, number_of};
+use crate::text::key_of;
 use clap::ArgMatches;
 use clap::error::ErrorKind;
 use std::alloc::Global;
@@ -18,7 +21,8 @@ mod tests;
 
 /// What the words of a command line ask for, the first of which is the program's name.
 ///
-/// Of several faults of usage `clap`'s comes before that of a number with a sign, and that before the one of a key.
+/// Of several faults of usage `clap`'s comes before that of a number with a sign and of both options on snapshots, and these
+/// before the one of a key or of a list.
 pub fn line<'a, S: AsStr>(alloc: Global, words: &'a [S]) -> Result<Line<'a>, Usage>
     ensures { LineGives (map S.text words.entry.now) result }
 {
@@ -28,6 +32,7 @@ pub fn line<'a, S: AsStr>(alloc: Global, words: &'a [S]) -> Result<Line<'a>, Usa
         Given::Manifest(folder) => Ok(Line::Manifest { folder }),
         Given::Verify(folder) => Ok(Line::Verify { folder }),
         Given::Get(texts) => get_line(alloc, texts),
+        Given::Compact(texts) => compact_line(alloc, texts),
     }
 }
 
@@ -39,6 +44,7 @@ enum Given<'a> {
     Manifest(&'a str),
     Verify(&'a str),
     Get(GetTexts<'a>),
+    Compact(CompactTexts<'a>),
 }
 
 /// The texts of the arguments of `blocks`.
@@ -97,12 +103,25 @@ fn texts_given<'a, S: AsStr>(alloc: Global, words: &'a [S]) -> Result<Given<'a>,
     match texts_in(&matches) {
         Some(given) => Ok(given),
         None => {
-            // `clap` takes a number with a plus sign, and asks for all else itself.
-            let kind = ErrorKind::ValueValidation;
-            let error = command.error(kind, "a number is written in decimal digits alone")?;
+            // `clap` takes a number with a plus sign and both options on snapshots, and asks for all else itself.
+            let (kind, text) = complaint(&matches);
+            let error = command.error(kind, text)?;
             Err(Usage::from(error))
         }
     }
+}
+
+/// What is wrong with words that `clap` takes.
+fn complaint(matches: &ArgMatches<'_>) -> (ErrorKind, &'static str) {
+    if let Some(values) = matches.subcommand_matches("compact")
+        && first_text(values, "snapshot").is_some()
+        && first_text(values, "snapshots").is_some()
+    {
+        let text = "the argument '--snapshot <S>' cannot be used with '--snapshots <S,S,..>'";
+        return (ErrorKind::ArgumentConflict, text);
+    }
+    let text = "a number is written in decimal digits alone";
+    (ErrorKind::ValueValidation, text)
 }
 
 /// The texts of the command, where it is one of the program's and its texts are there.
@@ -122,8 +141,11 @@ fn texts_in<'a>(matches: &ArgMatches<'a>) -> Option<Given<'a>>
     if let Some(folder) = path_text(matches, "verify", "DIR") {
         return Some(Given::Verify(folder));
     }
-    let texts = get_texts(matches)?;
-    Some(Given::Get(texts))
+    if let Some(texts) = get_texts(matches) {
+        return Some(Given::Get(texts));
+    }
+    let texts = compact_texts(matches)?;
+    Some(Given::Compact(texts))
 }
 
 /// The texts of `blocks`, where that is the command and all four are there.
@@ -150,32 +172,6 @@ fn path_text<'a>(matches: &ArgMatches<'a>, name: &str, id: &str) -> Option<&'a s
         MatchOption result (LacksRows (LacksPath id.now) given) (λ text. HasRows (HasPath id.now text.now) given) }
 {
     first_text(matches.subcommand_matches(name)?, id)
-}
-
-/// The text that an argument is given.
-fn first_text<'a>(values: &ArgMatches<'a>, id: &str) -> Option<&'a str>
-    ensures { let first = first_of id.now (rows_of (found_of values.now)) in
-        MatchOption result (first ≡ None) (λ text. first ≡ Some text.now) }
-{
-    values.get_str(id)
-}
-
-/// A text that is given for a number, and is none.
-#[derive(Drop)]
-struct NotDigits;
-
-/// The number that an option is given, where it is given one.
-fn first_number(values: &ArgMatches<'_>, id: &str) -> Result<Option<u64>, NotDigits>
-    ensures { let text = first_of id.now (rows_of (found_of values.now)) in
-        MatchResult result (IsNumberOf text) (λ _. IsNoNumber text) }
-{
-    match first_text(values, id) {
-        Some(text) => match number_of(text) {
-            Some(number) => Ok(Some(number)),
-            None => Err(NotDigits),
-        },
-        None => Ok(None),
-    }
 }
 
 /// The line of `blocks`, where the text of its key is a key's.

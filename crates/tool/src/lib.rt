@@ -1,15 +1,18 @@
 //! What the program `sedvokt` does: its command line, its files and what it prints, and the calls behind its commands.
 #![tactic(auto)]
 
+mod arguments;
 mod command_line;
 mod commands;
+mod compact_line;
+mod compact_texts;
 mod counting;
-mod cut;
 mod dumping;
 mod exit_status;
 mod files;
 mod folder_commands;
 mod getting;
+mod parting;
 mod parts;
 mod program;
 mod question;
@@ -29,7 +32,7 @@ pub use exit_status::status;
 pub use folder::{Disk, Folder, FolderFault, Order, load, open};
 pub use folder_commands::{get_dir, manifest, verify};
 pub use program::run;
-pub use requests::{Line, Usage};
+pub use requests::{CompactSettings, Line, Readable, Usage};
 pub use text::{key_of, text_of};
 pub use two_blocks::blocks;
 

@@ -5,15 +5,17 @@ use crate::dumping::dump;
 use crate::exit_status::status;
 use crate::files;
 use crate::folder_commands::{get_dir, manifest, verify};
-use crate::requests::{Line, Usage};
+use crate::requests::{CompactSettings, Line, Readable, Usage};
 use crate::two_blocks::blocks;
 use coding::{Fault, FaultName};
 use folder::Disk;
+use keep::Snapshots;
 use std::env::Env;
 use std::io::{ErrorKind, Write};
 use std::rt::Files;
 use std::thread::Threads;
 use std::{env, io};
+use store::{Settings, compact_dir};
 
 /// The status of work that is done, and of help or a version that was asked for.
 const DONE: u8 = 0;
@@ -81,6 +83,15 @@ fn carry_out<R: Files + Print + AllocGlobal + Threads + Sync>(
             let lines = verify(rt, rt.alloc(), &mut Disk::new(rt, folder))?;
             print_lines(rt, lines.as_slice())
         }
+        Line::Compact {
+            folder,
+            level,
+            settings,
+        } => {
+            let mut folder = Disk::new(rt, folder);
+            let lines = compact_dir(rt, rt.alloc(), &mut folder, level, &kept_to(&settings))?;
+            print_lines(rt, lines.as_slice())
+        }
         Line::Get { folder, key, at } => {
             let lines = get_dir(
                 rt,
@@ -91,6 +102,19 @@ fn carry_out<R: Files + Print + AllocGlobal + Threads + Sync>(
             )?;
             print_lines(rt, lines.as_slice())
         }
+    }
+}
+
+/// What a compaction keeps to, as its command line says.
+fn kept_to(settings: &CompactSettings) -> Settings<'_> {
+    Settings {
+        workers: settings.workers,
+        ranges: settings.ranges,
+        snapshots: match &settings.readable {
+            Readable::From(sequence) => Snapshots::From(*sequence),
+            Readable::Listed(sequences) => Snapshots::Listed(sequences.as_slice()),
+        },
+        options: settings.options,
     }
 }
 
@@ -117,6 +141,7 @@ fn report_misuse<R: Eprint>(rt: &R, text: &str) -> u8 {
 fn report_usage<R: Print + Eprint>(rt: &R, usage: Usage) -> u8 {
     match usage {
         Usage::Key => report_misuse(rt, "usage: key is not hexadecimal"),
+        Usage::Snapshots => report_misuse(rt, "usage: snapshots are not numbers"),
         Usage::Memory => report_refusal(rt, &Fault::of(FaultName::Memory)),
         Usage::Clap(error) if error.use_stderr() => {
             let _ = rt.eprint(&error);

@@ -6,6 +6,7 @@ ghost use Rattle.tool.specs.declared.requests.Usage.TheVariants.{Memory};
 
 use clap::error::ErrorKind;
 use std::alloc::AllocError;
+use table::Options;
 
 /// What a command line asks for.
 #[derive(Debug, Drop)]
@@ -45,6 +46,37 @@ pub enum Line<'a> {
         /// The sequence, of any size. The version's last sequence where it isn't given.
         at: Option<u64>,
     },
+    /// Compacts the files of a level of a database folder into the next level.
+    Compact {
+        /// The path of the folder.
+        folder: &'a str,
+        /// The level.
+        level: u64,
+        /// What the compaction keeps to.
+        settings: CompactSettings,
+    },
+}
+
+/// What a compaction keeps to.
+#[derive(Debug, Drop)]
+pub struct CompactSettings {
+    /// How many workers carry it out.
+    pub workers: u64,
+    /// Into at most how many ranges of user keys it is split.
+    pub ranges: u64,
+    /// Which sequences stay readable.
+    pub readable: Readable,
+    /// What the outputs keep to.
+    pub options: Options,
+}
+
+/// Which sequences stay readable after a compaction.
+#[derive(Debug, Drop)]
+pub enum Readable {
+    /// This sequence and every later one.
+    From(u64),
+    /// Each of these, the version's last sequence and every later one.
+    Listed(Vec<u64>),
 }
 
 /// Why a command line asks for nothing that can be done.
@@ -52,6 +84,8 @@ pub enum Line<'a> {
 pub enum Usage {
     /// A key is not hexadecimal.
     Key,
+    /// A list of snapshots is not numbers.
+    Snapshots,
     /// A growth of memory was refused.
     Memory,
     /// The words are not those of a command, or help or the version was asked for. The error says which, and has the

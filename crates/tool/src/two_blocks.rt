@@ -8,7 +8,7 @@ ghost use Rattle.merge.specs.Merged.{joined};
 ghost use Rattle.table.specs.ReadingCursors.{IsRising};
 ghost use Rattle.tool.specs.Merging.{tested_entries};
 
-use crate::cut::cut;
+use crate::parting::parted;
 use crate::parts::Parts;
 use crate::tested::TestedEntry;
 use crate::testing::tested;
@@ -84,8 +84,8 @@ fn united<'a, R: Threads + Sync>(
     requires rising_b { IsRising bytewise_cmp (tested_entries b.now) }
     ensures { HoldsOrMemory (λ v. tested_entries v.items) result (IsUnionAnswer (tested_entries a.now) (tested_entries b.now)) }
 {
-    let (before_a, from_a) = cut(a, at);
-    let (before_b, from_b) = cut(b, at);
+    let (before_a, from_a) = parted(a, at);
+    let (before_b, from_b) = parted(b, at);
     let ranges = TwoRanges {
         alloc,
         before: Parts::new(before_a, before_b),

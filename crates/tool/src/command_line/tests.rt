@@ -13,6 +13,7 @@ fn outcome(alloc: Global, words: &[&str]) -> Result<String, Fail> {
 fn reason(usage: Usage) -> &'static str {
     match usage {
         Usage::Key => "key",
+        Usage::Snapshots => "snapshots",
         Usage::Memory => "memory",
         Usage::Clap(error) => {
             if error.use_stderr() {
@@ -119,5 +120,126 @@ fn faults_of_usage(rt: HostRuntime) -> Result<(), Fail> {
     assert_eq!(rt; outcome(alloc, words.as_slice())?.as_str(), "text");
     let words = ["sedvokt", "--version"];
     assert_eq!(rt; outcome(alloc, words.as_slice())?.as_str(), "text");
+    Ok(())
+}
+
+#[test]
+fn lines_of_compact(rt: HostRuntime) -> Result<(), Fail> {
+    let alloc = rt.alloc();
+    let given = outcome(
+        alloc,
+        ["sedvokt", "compact", "one", "--level", "1"].as_slice(),
+    )?;
+    let wanted =
+        "Compact { folder: \"one\", level: 1, settings: CompactSettings { workers: 4, ranges: 8, readable: Listed([]), options: Options { block_size: 4096, restart_interval: 16, file_size: 2097152 } } }";
+    assert_eq!(rt; given.as_str(), wanted);
+    let words = [
+        "sedvokt",
+        "compact",
+        "--workers",
+        "0",
+        "--file-size=18446744073709551615",
+        "one",
+        "--ranges",
+        "4097",
+        "--block-size",
+        "007",
+        "--level",
+        "6",
+        "--snapshot",
+        "3",
+    ];
+    let given = outcome(alloc, words.as_slice())?;
+    let wanted =
+        "Compact { folder: \"one\", level: 6, settings: CompactSettings { workers: 0, ranges: 4097, readable: From(3), options: Options { block_size: 7, restart_interval: 16, file_size: 18446744073709551615 } } }";
+    assert_eq!(rt; given.as_str(), wanted);
+    Ok(())
+}
+
+/// What the program makes of a list of snapshots.
+fn listed(alloc: Global, text: &str) -> Result<String, Fail> {
+    let words = [
+        "sedvokt",
+        "compact",
+        "one",
+        "--level",
+        "1",
+        "--snapshots",
+        text,
+    ];
+    outcome(alloc, words.as_slice())
+}
+
+#[test]
+fn lists_of_snapshots(rt: HostRuntime) -> Result<(), Fail> {
+    let alloc = rt.alloc();
+    let lists = [
+        ("3", "[3]"),
+        ("9,0,9", "[9, 0, 9]"),
+        ("007,18446744073709551615", "[7, 18446744073709551615]"),
+    ];
+    for (text, numbers) in lists {
+        let wanted = format!(in alloc;
+            "Compact {{ folder: \"one\", level: 1, settings: CompactSettings {{ workers: 4, ranges: 8, readable: Listed({numbers}), options: Options {{ block_size: 4096, restart_interval: 16, file_size: 2097152 }} }} }}"
+        )?;
+        assert_eq!(rt; listed(alloc, text)?.as_str(), wanted.as_str());
+    }
+    for text in [
+        "",
+        ",",
+        "3,",
+        ",3",
+        "3,,7",
+        "3 ,7",
+        "3, 7",
+        "+3",
+        "3,+7",
+        "0x3",
+        "a",
+        "3;7",
+        "18446744073709551616",
+    ] {
+        assert_eq!(rt; listed(alloc, text)?.as_str(), "snapshots", "{text}");
+    }
+    Ok(())
+}
+
+#[test]
+fn faults_of_compact(rt: HostRuntime) -> Result<(), Fail> {
+    let alloc = rt.alloc();
+    let words = ["sedvokt", "compact", "one"];
+    assert_eq!(rt; outcome(alloc, words.as_slice())?.as_str(), "mistake");
+    let words = ["sedvokt", "compact", "--level", "1"];
+    assert_eq!(rt; outcome(alloc, words.as_slice())?.as_str(), "mistake");
+    // Both options on snapshots come before a list that is none.
+    let words = [
+        "sedvokt",
+        "compact",
+        "one",
+        "--level",
+        "1",
+        "--snapshot",
+        "3",
+        "--snapshots",
+        "x",
+    ];
+    assert_eq!(rt; outcome(alloc, words.as_slice())?.as_str(), "mistake");
+    for option in [
+        "--level",
+        "--workers",
+        "--ranges",
+        "--snapshot",
+        "--block-size",
+        "--file-size",
+    ] {
+        for number in ["", "x", "+3", "-3", "18446744073709551616"] {
+            let words = ["sedvokt", "compact", "one", option, number];
+            let given = outcome(alloc, words.as_slice())?;
+            assert_eq!(rt; given.as_str(), "mistake", "{option} {number}");
+        }
+        let words = ["sedvokt", "compact", "one", "--level", "1", option, "+3"];
+        let given = outcome(alloc, words.as_slice())?;
+        assert_eq!(rt; given.as_str(), "mistake", "{option}");
+    }
     Ok(())
 }

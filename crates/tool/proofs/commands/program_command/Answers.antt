@@ -22,4 +22,5 @@ returns c =
     let two = with_one_more _ _ c.in_ok-command-2.command _ _ one c.in_ok-dump.ensures.app c.in_ok-dump.ensures.local c.in_ok-command-2.ensures in
     let three = with_one_more _ _ c.in_ok-command-3.command _ _ two c.in_ok-manifest.ensures.app c.in_ok-manifest.ensures.local c.in_ok-command-3.ensures in
     let four = with_one_more _ _ c.in_ok-command-4.command _ _ three c.in_ok-verify.ensures.app c.in_ok-verify.ensures.local c.in_ok-command-4.ensures in
-    IfOk-weaker c.subcommand-5.result _ _ (λ command h. with_one_more _ _ command _ _ four c.in_ok-get.ensures.app c.in_ok-get.ensures.local h) c.subcommand-5.ensures
+    let five = with_one_more _ _ c.in_ok-command-5.command _ _ four c.in_ok-get.ensures.app c.in_ok-get.ensures.local c.in_ok-command-5.ensures in
+    IfOk-weaker c.subcommand-6.result _ _ (λ command h. with_one_more _ _ command _ _ five c.in_ok-compact.ensures.app c.in_ok-compact.ensures.local h) c.subcommand-6.ensures

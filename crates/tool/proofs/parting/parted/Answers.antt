@@ -4,7 +4,7 @@ use Rattle.tool.specs.Merging.{tested_entries}
 use Rattle.tool.specs.Ranges.{IsBefore, IsFrom}
 use Rattle.tool.specs.declared.tested.TestedEntry.{TestedEntry}
 use Rattle.tool.proofs.Unions.{before_cut, from_cut}
-use Rattle.tool.proofs.cut.cut.Goals as goal
+use Rattle.tool.proofs.parting.parted.Goals as goal
 
 pub returns-clause-before : goal.returns-clause-before
 returns-clause-before c =

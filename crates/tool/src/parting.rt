@@ -1,4 +1,4 @@
-//! The cut of a file's entries at a user key.
+//! The parting of a file's entries at a user key.
 
 ghost use Rattle.std.specs.Prelude.{◌≡◌, ◌++◌, ◌↔◌, ℕ, ◌<◌, ◌≤◌, length, IsTrue, slice_index_or};
 ghost use Rattle.std.specs.List.{AllByRecursion};
@@ -11,7 +11,7 @@ use crate::tested::TestedEntry;
 use ikey::{Bytewise, Comparator};
 
 /// The entries before a user key, and those from it on.
-pub(crate) fn cut<'r, 'a>(
+pub(crate) fn parted<'r, 'a>(
     entries: &'r [TestedEntry<'a>],
     at: &[u8],
 ) -> (&'r [TestedEntry<'a>], &'r [TestedEntry<'a>])

@@ -1,0 +1,134 @@
+-- No refusal of a compaction is Device.
+use Rattle.std.proofs.Common.{◌≡◌, ◌≢◌, ℕ, ◌+◌, ◌-◌, ◌^◌, Bool, true, false, List, [], ◌∷◌, length, Result, Ok, Err, if◌then◌else◌, refl, sym, ap, subst, ◌∙◌}
+use Rattle.std.specs.Prelude.{◌&&◌, MatchBool, Some, nat_le, nat_lt}
+use Rattle.std.specs.List.{list_all}
+use Rattle.std.specs.declared.cmp.Ordering.{Ordering}
+use Rattle.coding.specs.Answers.{◌>>=◌, fault}
+use Rattle.coding.specs.declared.fault.Fault.{Fault}
+use Rattle.coding.specs.declared.fault.FaultName.{FaultName}
+use Rattle.coding.specs.declared.fault.FaultName.TheVariants.{Bounds, Device, Duplicate, Level, NoInput, Numbers, Options, Snapshot, SnapshotList, SplitCount, TooLarge, Workers}
+use Rattle.block.specs.Piece.{Entry}
+use Rattle.table.specs.Reading.{Contents, contents_reading}
+use Rattle.table.specs.ReadingEntries.{is_some_list}
+use Rattle.table.specs.ReadingSteps.{pass}
+use Rattle.edit.specs.Version.{State}
+use Rattle.edit.specs.VersionOrder.{level_files}
+use Rattle.edit.specs.declared.meta.FileMeta.{FileMeta}
+use Rattle.merge.specs.Merged.{merged}
+use Rattle.pick.specs.Picked.{IsInputsAnswer, Picked}
+use Rattle.pick.specs.declared.picked.InputFile.{InputFile}
+use Rattle.keep.specs.Runs.{are_distinct}
+use Rattle.cut.specs.Outputs.{outputs}
+use Rattle.cut.specs.Plan.{Planned, parts, plan_of}
+use Rattle.reads.specs.Tables.{Numbered}
+use Rattle.checks.proofs.LawfulLemmas.{sound_other}
+use Rattle.checks.proofs.TableRefusals.{no_device}
+use Rattle.request.specs.Inputs.{about, input_reading, inputs_reading, is_stated, union_reading}
+use Rattle.request.specs.OneThread.{Answer, compacted, one_thread, table_for}
+use Rattle.request.specs.Request.{Asked, below_asked, has_levels, has_options, has_snapshots, is_snapshot_list, request_test}
+use Rattle.store.specs.Answers.{IsLoadedCompacted, lines_of}
+use Rattle.store.specs.Asking.{asked_of, compaction_of, manifest_of, request_of}
+use Rattle.store.specs.declared.settings.Settings.{Settings}
+
+abbrev refusal : {Y : Type 0} → Fault → Result Y Fault
+refusal e = Err e
+
+same_refusal : {Y : Type 0} (e d : Fault) → refusal {Y = Y} e ≡ refusal d → e ≡ d
+same_refusal e d h = cc
+
+-- each refusal of an answer has another name
+abbrev AllOther : {A : Type 0} → Result A Fault → Type 0
+AllOther r = (e : Fault) → r ≡ refusal e → e.name ≢ Device
+
+value : {A : Type 0} (x : A) → AllOther (Ok x)
+value x e h = absurd cc
+
+named : (A : Type 0) (n : FaultName) → n ≢ Device → AllOther {A = A} (Err (fault n))
+named A n h e is = subst (λ (f : Fault). f.name ≢ Device) (same_refusal {Y = A} (fault n) e is) h
+
+bound : {A B : Type 0} (r : Result A Fault) (f : A → Result B Fault) → AllOther r → ((x : A) → AllOther (f x)) → AllOther (r >>= f)
+bound (Ok x) f one two e h = two x e h
+bound {B = B} (Err d) f one two e h = one e (ap (λ (x : Fault). refusal x) (same_refusal {Y = B} d e h))
+
+tested : {A : Type 0} (b : Bool) (r s : Result A Fault) → AllOther r → AllOther s → AllOther (if b then r else s)
+tested true r s one two = one
+tested false r s one two = two
+
+passes : (b : Bool) (n : FaultName) → n ≢ Device → AllOther (pass b n)
+passes b n h = tested b _ _ (value tt) (named _ n h)
+
+-- ---- the inputs
+
+one_numbered : (cmp : List ℕ → List ℕ → Ordering) (bytes : List ℕ) (e : Fault) → contents_reading cmp bytes ≡ refusal e
+    → (contents_reading cmp bytes >>= λ c. Ok (record { number = 0; contents = c })) ≡ refusal {Y = Numbered} e
+one_numbered cmp bytes e h = ap (λ (r : Result Contents Fault). r >>= λ c. Ok (record { number = 0; contents = c })) h
+
+contents_other : (cmp : List ℕ → List ℕ → Ordering) (bytes : List ℕ) → AllOther (contents_reading cmp bytes)
+contents_other cmp bytes e h =
+    no_device cmp ((0, bytes) ∷ []) e
+    (ap (λ (r : Result Numbered Fault). r >>= λ first. (Ok []) >>= λ others. Ok (first ∷ others)) (one_numbered cmp bytes e h))
+
+input_other : (cmp : List ℕ → List ℕ → Ordering) (f : FileMeta) (bytes : List ℕ) → AllOther (input_reading cmp f bytes)
+input_other cmp f bytes = bound (contents_reading cmp bytes) _ (contents_other cmp bytes) (λ t. bound (pass (is_stated f t) Bounds) _ (passes (is_stated f t) Bounds (λ same. cc same)) (λ _. value t.entries))
+
+about_other : {A : Type 0} (place : ℕ) (r : Result A Fault) → AllOther r → AllOther (about place r)
+about_other place (Ok x) h e is = absurd cc
+about_other {A = A} place (Err d) h e is = subst (λ (f : Fault). f.name ≢ Device) (same_refusal {Y = A} (record d { input = Some place }) e is) (h d refl)
+
+inputs_other : (cmp : List ℕ → List ℕ → Ordering) (place : ℕ) (files : List InputFile) (given : List (List ℕ)) → AllOther (inputs_reading cmp place files given)
+inputs_other cmp place [] given = value []
+inputs_other cmp place (i ∷ files) [] = value []
+inputs_other cmp place (i ∷ files) (bytes ∷ given) =
+    bound (about place (input_reading cmp i.meta bytes)) _ (about_other place (input_reading cmp i.meta bytes) (input_other cmp i.meta bytes)) (λ entries.
+    bound (inputs_reading cmp (place + 1) files given) _ (inputs_other cmp (place + 1) files given) (λ rest. value (entries ∷ rest)))
+
+-- ---- the compaction
+
+test_other : (cmp : List ℕ → List ℕ → Ordering) (r : Asked) → AllOther (request_test cmp r)
+test_other cmp r =
+    bound (pass (is_some_list r.picked.files) NoInput) _ (passes (is_some_list r.picked.files) NoInput (λ same. cc same)) (λ _.
+    bound (pass (has_levels r.picked) Level) _ (passes (has_levels r.picked) Level (λ same. cc same)) (λ _.
+    bound (pass (has_options cmp r) Options) _ (passes (has_options cmp r) Options (λ same. cc same)) (λ _.
+    bound (pass (has_snapshots r) Snapshot) _ (passes (has_snapshots r) Snapshot (λ same. cc same)) (λ _.
+    passes (is_snapshot_list r.snapshots r.last_sequence) SnapshotList (λ same. cc same)))))
+
+module _ (cmp : List ℕ → List ℕ → Ordering) (separator_of : List ℕ → List ℕ → List ℕ) (successor_of : List ℕ → List ℕ) where
+  plan_other : (r : Asked) (outs : List (List Entry)) → AllOther (plan_of (table_for cmp separator_of successor_of r) r.options r.first_number outs)
+  plan_other r outs =
+      bound (pass (nat_lt (r.first_number + length outs) (2 ^ 64)) Numbers) _ (passes (nat_lt (r.first_number + length outs) (2 ^ 64)) Numbers (λ same. cc same)) (λ _.
+      bound _ _ (passes _ TooLarge (λ same. cc same)) (λ _. value _))
+
+  union_other : (inputs : List (List Entry)) → AllOther (union_reading cmp inputs)
+  union_other inputs = tested (are_distinct (merged cmp inputs)) _ _ (value (merged cmp inputs)) (named _ Duplicate (λ same. cc same))
+
+  thread_other : (r : Asked) → AllOther (one_thread cmp separator_of successor_of r)
+  thread_other r =
+      bound (request_test cmp r) _ (test_other cmp r) (λ _.
+      bound (inputs_reading cmp 0 r.picked.files r.tables) _ (inputs_other cmp 0 r.picked.files r.tables) (λ inputs.
+      bound (union_reading cmp inputs) _ (union_other inputs) (λ union.
+      bound _ _ (plan_other r (outputs cmp (below_asked r) r.options union)) (λ plan. value _))))
+
+  pub compaction_other : (v : State) (loaded : List (ℕ × List ℕ)) (p : Picked) (s : Settings) → AllOther (compaction_of cmp separator_of successor_of v loaded p s)
+  compaction_other v loaded p s =
+      bound (pass (nat_le 1 s.ranges && nat_le s.ranges 4096) SplitCount) _ (passes (nat_le 1 s.ranges && nat_le s.ranges 4096) SplitCount (λ same. cc same)) (λ _.
+      bound (asked_of v loaded p s) _ (bound (pass (nat_lt (manifest_of v) (2 ^ 64 - 1)) Numbers) _ (passes (nat_lt (manifest_of v) (2 ^ 64 - 1)) Numbers (λ same. cc same)) (λ _. value (request_of v loaded p s))) (λ r.
+      bound (pass (nat_le 1 s.workers && nat_le s.workers 64) Workers) _ (passes (nat_le 1 s.workers && nat_le s.workers 64) Workers (λ same. cc same)) (λ _.
+      thread_other r)))
+
+  lines_other : (v : State) (loaded : List (ℕ × List ℕ)) (p : Picked) (s : Settings) → AllOther (lines_of v p (compaction_of cmp separator_of successor_of v loaded p s))
+  lines_other v loaded p s = bound (compaction_of cmp separator_of successor_of v loaded p s) _ (compaction_other v loaded p s) (λ a. value _)
+
+inputs_answer_other : (cmp : List ℕ → List ℕ → Ordering) (v : State) (level : ℕ) (e : Fault) → IsInputsAnswer cmp v level (Err e) → e.name ≢ Device
+inputs_answer_other cmp v level e h = by (nat_lt 5 level) (nat_lt 0 (length (level_files cmp v level))) refl refl h
+  where
+    by : (a b : Bool) → nat_lt 5 level ≡ a → nat_lt 0 (length (level_files cmp v level)) ≡ b
+        → MatchBool a (refusal {Y = Picked} e ≡ refusal (fault Level)) (MatchBool b ⊥ (refusal {Y = Picked} e ≡ refusal (fault NoInput))) → e.name ≢ Device
+    by true b i j is = λ same. let both = sym (ap (λ (f : Fault). f.name) (same_refusal {Y = Picked} e (fault Level) is)) ∙ same in cc both
+    by false true i j is = absurd is
+    by false false i j is = λ same. let both = sym (ap (λ (f : Fault). f.name) (same_refusal {Y = Picked} e (fault NoInput) is)) ∙ same in cc both
+
+pub loaded_other : (cmp : List ℕ → List ℕ → Ordering) (separator_of : List ℕ → List ℕ → List ℕ) (successor_of : List ℕ → List ℕ) (v : State) (loaded : List (ℕ × List ℕ)) (level : ℕ) (s : Settings) (e : Fault)
+    → IsLoadedCompacted cmp separator_of successor_of v loaded level s (Err e) → e.name ≢ Device
+loaded_other cmp separator_of successor_of v loaded level s e (Err d, h) = subst (λ (f : Fault). f.name ≢ Device) (sym (same_refusal {Y = List ℕ} e d h.1)) (sound_other cmp v loaded d h.0)
+loaded_other cmp separator_of successor_of v loaded level s e (Ok tables, (h, (Err d, k))) = subst (λ (f : Fault). f.name ≢ Device) (sym (same_refusal {Y = List ℕ} e d k.1)) (inputs_answer_other cmp v level d k.0)
+loaded_other cmp separator_of successor_of v loaded level s e (Ok tables, (h, (Ok p, k))) = lines_other cmp separator_of successor_of v loaded p s e (sym k.1)

@@ -1,0 +1,41 @@
+-- What the compaction of a folder answers, by the files that the folder holds.
+use Rattle.std.specs.Prelude.{◌≡◌, ℕ, List, Result, Ok}
+use Rattle.std.specs.declared.cmp.Ordering.{Ordering}
+use Rattle.coding.specs.Answers.{IsThen, ◌>>=◌}
+use Rattle.coding.specs.declared.fault.Fault.{Fault}
+use Rattle.edit.specs.Version.{State}
+use Rattle.folder.specs.Calls.{Files}
+use Rattle.folder.specs.Levels.{file_numbers}
+use Rattle.folder.specs.Loading.{IsLoaded}
+use Rattle.folder.specs.Opening.{IsOpened}
+use Rattle.folder.specs.ReadsAs.{IsHeldIn}
+use Rattle.pick.specs.Picked.{IsInputsAnswer, Picked}
+use Rattle.checks.specs.LawfulTables.{IsLawfulTables}
+use Rattle.request.specs.OneThread.{Answer}
+use Rattle.store.specs.Asking.{compaction_of, manifest_of}
+use Rattle.store.specs.Lines.{compaction_lines}
+use Rattle.store.specs.Orders.{order_cmp, order_separator, order_successor}
+use Rattle.store.specs.declared.settings.Settings.{Settings}
+
+-- the lines of a compaction's answer, or its refusal
+abbrev pub lines_of : State → Picked → Result Answer Fault → Result (List ℕ) Fault
+lines_of v p answer = answer >>= λ (a : Answer). Ok (compaction_lines a.tables p.files (manifest_of v))
+
+-- The answer on a version with the bytes of its tables, by the first refusal: of a table, of the version, which has to be
+-- lawful, of the level, which has to have inputs, and of their compaction; then the lines.
+abbrev pub IsLoadedCompacted : (List ℕ → List ℕ → Ordering) → (List ℕ → List ℕ → List ℕ) → (List ℕ → List ℕ) → State → List (ℕ × List ℕ) → ℕ → Settings → Result (List ℕ) Fault → Type 0
+IsLoadedCompacted cmp separator_of successor_of v loaded level s =
+    IsThen (IsLawfulTables cmp v loaded) (λ tables.
+    IsThen (IsInputsAnswer cmp v level) (λ p answer.
+    answer ≡ lines_of v p (compaction_of cmp separator_of successor_of v loaded p s)))
+
+-- the same, where the tables are in a folder: all of them are read first, by level and in version order
+abbrev pub IsVersionCompacted : (List ℕ → List ℕ → Ordering) → (List ℕ → List ℕ → List ℕ) → (List ℕ → List ℕ) → Files → State → ℕ → Settings → Result (List ℕ) Fault → Type 0
+IsVersionCompacted cmp separator_of successor_of files v level s =
+    IsThen (IsLoaded (IsHeldIn files) (file_numbers cmp v)) (λ loaded. IsLoadedCompacted cmp separator_of successor_of v loaded level s)
+
+-- the same of the version that the folder opens as, in the order of its user keys
+abbrev pub IsFolderCompacted : Files → ℕ → Settings → Result (List ℕ) Fault → Type 0
+IsFolderCompacted files level s =
+    IsThen (IsOpened (IsHeldIn files)) (λ opened.
+    IsVersionCompacted (order_cmp opened.0) (order_separator opened.0) (order_successor opened.0) files opened.1 level s)

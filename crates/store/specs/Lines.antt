@@ -1,0 +1,24 @@
+-- The lines of a compaction.
+use Rattle.std.specs.Prelude.{ℕ, List, ◌++◌, codes, decimal, length}
+use Rattle.std.specs.List.{flat_map}
+use Rattle.edit.specs.declared.meta.DeletedFile.{DeletedFile}
+use Rattle.folder.specs.Names.{manifest_name}
+use Rattle.pick.specs.declared.picked.InputFile.{InputFile}
+use Rattle.request.specs.EditOf.{deletions_of}
+
+-- `output NUMBER SIZE`
+abbrev pub output_line : ℕ × List ℕ → List ℕ
+output_line table = codes "output " ++ decimal table.0 ++ codes " " ++ decimal (length table.1) ++ codes "\n"
+
+-- `deleted LEVEL NUMBER`
+abbrev pub deleted_line : DeletedFile → List ℕ
+deleted_line d = codes "deleted " ++ decimal d.level ++ codes " " ++ decimal d.number ++ codes "\n"
+
+-- `installed MANIFEST-NNNNNN`
+abbrev pub installed_line : ℕ → List ℕ
+installed_line number = codes "installed " ++ manifest_name number ++ codes "\n"
+
+-- the outputs in order, then the inputs by level and number, each once, and then the manifest's name
+abbrev pub compaction_lines : List (ℕ × List ℕ) → List InputFile → ℕ → List ℕ
+compaction_lines outputs inputs number =
+    flat_map output_line outputs ++ flat_map deleted_line (deletions_of inputs) ++ installed_line number

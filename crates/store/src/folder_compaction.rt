@@ -1,0 +1,133 @@
+//! The compaction of a database folder.
+
+ghost use Rattle.std.specs.Prelude.{◌≡◌, ◌≤◌, ◌<◌, ◌^◌, length, Ok, IfErr};
+ghost use Rattle.folder.specs.Calls.{Files, Tells};
+ghost use Rattle.folder.specs.Manifest.{order_name};
+ghost use Rattle.folder.specs.Opening.{FolderAnswers, HasDeviceFailed, IsOpened, StopsAtDevice};
+ghost use Rattle.folder.specs.ReadsAs.{IsHeldIn};
+ghost use Rattle.folder.specs.declared.order.Order.{Order};
+ghost use Rattle.store.specs.Answers.{IsFolderCompacted, IsVersionCompacted};
+ghost use Rattle.store.specs.Compaction.{IsLeft, IsOpenedLeft, IsVersionLeft};
+ghost use Rattle.store.specs.Orders.{order_cmp, order_separator, order_successor};
+
+use crate::asking::manifest_of;
+use crate::compacting::compact_loaded;
+use crate::settings::Settings;
+use coding::Fault;
+use edit::Version;
+use folder::{Folder, Order, load, open};
+use ikey::{Bytewise, SharedComparator, Shortlex};
+use install::install;
+use std::alloc::Global;
+use std::thread::Threads;
+
+/// Compacts a level of the version that a folder holds, and installs the outcome. Answers its lines, each with its newline:
+/// `output NUMBER SIZE` of each new table in order, `deleted LEVEL NUMBER` of each input by level and number, and
+/// `installed MANIFEST-NNNNNN`.
+///
+/// The folder is synced first, so that what is opened outlives a crash. The manifest has the version's next file as its
+/// number, the outputs have the numbers behind it.
+///
+/// Refused as opening the folder is; then Missing at the first table that isn't there, by level and in version order; then by
+/// the first of the tables that is none, as `table::check` refuses it; then Lawless where the version isn't lawful; then Level
+/// where the level is above 5, and NoInput where it has no file; then SplitCount where the ranges are not from 1 to 4,096;
+/// then Numbers where next file is 2^64 - 1; and then as `compact::compact` is, Workers first. A call that the device fails is
+/// Device at once, and want of memory Memory. Where it is refused by anything else than Device or Memory, the folder holds what
+/// it held; after these two it reads as the version before or as the edited one, and is opened again.
+pub fn compact_dir<F: Folder, R: Threads + Sync>(
+    rt: &R,
+    alloc: Global,
+    folder: &mut F,
+    level: u64,
+    settings: &Settings<'_>,
+) -> Result<Vec<u8>, Fault>
+    // Over a folder that tells these files: the lines, or the first refusal in this order.
+    ensures answer { (files : Files) → Tells (F.tells folder.old) files →
+        FolderAnswers (λ v. v.items) (F.failed folder.old) (F.failed folder.new) result (IsFolderCompacted files level settings.now) }
+    // What is left of it: what it held, or the edited version, which is lawful and answers each readable get as before.
+    ensures left { (files : Files) → Tells (F.tells folder.old) files →
+        IsLeft files level settings.now (F.calls folder.old) (F.calls folder.new) (F.tells folder.old) (F.tells folder.new) result }
+    ensures device { IfErr result (HasDeviceFailed (F.failed folder.old) (F.failed folder.new)) }
+    ensures at_once { StopsAtDevice (F.failed folder.old) (F.failed folder.new) result }
+    ensures later { F.failed folder.old ≤ F.failed folder.new }
+{
+    folder.sync_folder()?;
+    compact_opened(rt, alloc, folder, level, settings)
+}
+
+/// Opens a folder, compacts a level of its version, and installs the outcome.
+fn compact_opened<F: Folder, R: Threads + Sync>(
+    rt: &R,
+    alloc: Global,
+    folder: &mut F,
+    level: u64,
+    settings: &Settings<'_>,
+) -> Result<Vec<u8>, Fault>
+    ensures answer { (files : Files) → Tells (F.tells folder.old) files →
+        FolderAnswers (λ v. v.items) (F.failed folder.old) (F.failed folder.new) result (IsFolderCompacted files level settings.now) }
+    ensures left { (files : Files) → Tells (F.tells folder.old) files →
+        IsOpenedLeft files level settings.now (F.calls folder.old) (F.calls folder.new) (F.tells folder.old) (F.tells folder.new) result }
+    ensures device { IfErr result (HasDeviceFailed (F.failed folder.old) (F.failed folder.new)) }
+    ensures at_once { StopsAtDevice (F.failed folder.old) (F.failed folder.new) result }
+    ensures later { F.failed folder.old ≤ F.failed folder.new }
+{
+    let (order, version) = open(alloc, folder)?;
+    compact_in_order(rt, alloc, folder, order, &version, level, settings)
+}
+
+/// Compacts a level of a version of an order, and installs the outcome.
+fn compact_in_order<F: Folder, R: Threads + Sync>(
+    rt: &R,
+    alloc: Global,
+    folder: &mut F,
+    order: Order,
+    version: &Version,
+    level: u64,
+    settings: &Settings<'_>,
+) -> Result<Vec<u8>, Fault>
+    ensures answer { (files : Files) → Tells (F.tells folder.old) files →
+        FolderAnswers (λ v. v.items) (F.failed folder.old) (F.failed folder.new) result
+        (IsVersionCompacted (order_cmp order) (order_separator order) (order_successor order) files version.now level settings.now) }
+    ensures left { (files : Files) → Tells (F.tells folder.old) files → IsOpened (IsHeldIn files) (Ok (order, version.now)) →
+        IsVersionLeft order (order_cmp order) (order_separator order) (order_successor order) files level settings.now
+        (F.calls folder.old) (F.calls folder.new) (F.tells folder.old) (F.tells folder.new) result }
+    ensures device { IfErr result (HasDeviceFailed (F.failed folder.old) (F.failed folder.new)) }
+    ensures at_once { StopsAtDevice (F.failed folder.old) (F.failed folder.new) result }
+    ensures later { F.failed folder.old ≤ F.failed folder.new }
+{
+    match order {
+        Order::Bytewise => {
+            compact_version::<Bytewise, F, R>(rt, alloc, folder, version, level, settings)
+        }
+        Order::Shortlex => {
+            compact_version::<Shortlex, F, R>(rt, alloc, folder, version, level, settings)
+        }
+    }
+}
+
+/// Compacts a level of a version, and installs the outcome. The comparator's name has fewer than 2^32 bytes.
+fn compact_version<C: SharedComparator + 'static, F: Folder, R: Threads + Sync>(
+    rt: &R,
+    alloc: Global,
+    folder: &mut F,
+    version: &Version,
+    level: u64,
+    settings: &Settings<'_>,
+) -> Result<Vec<u8>, Fault>
+    requires { length C.name_bytes < 2 ^ 32 }
+    ensures answer { (files : Files) → Tells (F.tells folder.old) files →
+        FolderAnswers (λ v. v.items) (F.failed folder.old) (F.failed folder.new) result
+        (IsVersionCompacted C.cmp C.separator_of C.successor_of files version.now level settings.now) }
+    ensures left { (files : Files) (order : Order) → Tells (F.tells folder.old) files → order_name order ≡ C.name_bytes → IsOpened (IsHeldIn files) (Ok (order, version.now)) →
+        IsVersionLeft order C.cmp C.separator_of C.successor_of files level settings.now
+        (F.calls folder.old) (F.calls folder.new) (F.tells folder.old) (F.tells folder.new) result }
+    ensures device { IfErr result (HasDeviceFailed (F.failed folder.old) (F.failed folder.new)) }
+    ensures at_once { StopsAtDevice (F.failed folder.old) (F.failed folder.new) result }
+    ensures later { F.failed folder.old ≤ F.failed folder.new }
+{
+    let loaded = load::<C, F>(alloc, folder, version)?;
+    let compacted = compact_loaded::<C, R>(rt, alloc, version, &loaded, level, settings)?;
+    let outcome = &compacted.outcome;
+    install::<C, F>(alloc, folder, version, manifest_of(version), outcome)?;
+    Ok(compacted.lines)
+}

@@ -1,0 +1,105 @@
+//! The lines of a compaction.
+
+ghost use Rattle.std.specs.Prelude.{◌≡◌, ◌++◌, Ok, IfErr, OnOk, string_bytes};
+ghost use Rattle.std.specs.List.{flat_map};
+ghost use Rattle.coding.specs.Answers.{EqualOrMemory, fault};
+ghost use Rattle.coding.specs.declared.fault.FaultName.TheVariants.{Memory};
+ghost use Rattle.install.specs.Install.{tables_in};
+ghost use Rattle.request.specs.EditOf.{deletions_of};
+ghost use Rattle.store.specs.Lines.{compaction_lines, deleted_line, installed_line, output_line};
+
+use coding::Fault;
+use edit::{DeletedFile, Outcome};
+use folder::manifest_name;
+use pick::InputFile;
+use std::alloc::Global;
+use std::collections::BTreeSet;
+
+/// The lines of an outcome, each with its newline: `output NUMBER SIZE` of each table in order, `deleted LEVEL NUMBER` of each
+/// input by level and number, and `installed MANIFEST-NNNNNN`. Refused for want of memory alone.
+pub(crate) fn compaction_lines(
+    alloc: Global,
+    outcome: &Outcome,
+    inputs: &[InputFile],
+    manifest_number: u64,
+) -> Result<Vec<u8>, Fault>
+    ensures { EqualOrMemory (λ v. v.items) result
+        (Ok (compaction_lines (tables_in outcome.now.tables.items) inputs.now manifest_number)) }
+{
+    let deleted = deletions_of(alloc, inputs)?;
+    let mut text = String::new(alloc);
+    push_outputs(&mut text, &outcome.tables)?;
+    push_all_deleted(&mut text, &deleted)?;
+    push_installed(alloc, &mut text, manifest_number)?;
+    Ok(text.into_bytes())
+}
+
+/// The places of inputs by level and number, each once. Refused for want of memory alone.
+fn deletions_of(alloc: Global, inputs: &[InputFile]) -> Result<BTreeSet<DeletedFile>, Fault>
+    ensures { EqualOrMemory (λ set. set.keys) result (Ok (deletions_of inputs.now)) }
+{
+    let mut deleted = BTreeSet::new(alloc);
+    for input in inputs {
+        let file = DeletedFile {
+            level: input.level,
+            number: input.meta.number,
+        };
+        deleted.insert(file)?;
+    }
+    Ok(deleted)
+}
+
+/// Appends the lines of the outputs.
+fn push_outputs(text: &mut String, tables: &[(u64, Vec<u8>)]) -> Result<(), Fault>
+    ensures ok { OnOk result (string_bytes text.new ≡ string_bytes text.old ++ flat_map (λ t. output_line (t.0, t.1.items)) tables.now) }
+    ensures memory { IfErr result (λ e. e ≡ fault Memory) }
+{
+    for table in tables {
+        let (number, bytes) = table;
+        push_output(text, *number, bytes)?;
+    }
+    Ok(())
+}
+
+/// Appends the line of an output.
+fn push_output(text: &mut String, number: u64, bytes: &[u8]) -> Result<(), Fault>
+    ensures ok { OnOk result (string_bytes text.new ≡ string_bytes text.old ++ output_line (number, bytes.now)) }
+    ensures memory { IfErr result (λ e. e ≡ fault Memory) }
+{
+    let size = bytes.len();
+    writeln!(text, "output {number} {size}")?;
+    Ok(())
+}
+
+/// Appends the lines of the inputs.
+fn push_all_deleted(text: &mut String, deleted: &BTreeSet<DeletedFile>) -> Result<(), Fault>
+    ensures ok { OnOk result (string_bytes text.new ≡ string_bytes text.old ++ flat_map deleted_line deleted.now.keys) }
+    ensures memory { IfErr result (λ e. e ≡ fault Memory) }
+{
+    for file in deleted.iter() {
+        push_deleted(text, *file)?;
+    }
+    Ok(())
+}
+
+/// Appends the line of an input.
+fn push_deleted(text: &mut String, file: DeletedFile) -> Result<(), Fault>
+    ensures ok { OnOk result (string_bytes text.new ≡ string_bytes text.old ++ deleted_line file) }
+    ensures memory { IfErr result (λ e. e ≡ fault Memory) }
+{
+    let level = file.level;
+    let number = file.number;
+    writeln!(text, "deleted {level} {number}")?;
+    Ok(())
+}
+
+/// Appends the line of the manifest.
+fn push_installed(alloc: Global, text: &mut String, manifest_number: u64) -> Result<(), Fault>
+    ensures ok { OnOk result (string_bytes text.new ≡ string_bytes text.old ++ installed_line manifest_number) }
+    ensures memory { IfErr result (λ e. e ≡ fault Memory) }
+{
+    let name = manifest_name(alloc, manifest_number)?;
+    let name = name.as_str();
+    writeln!(text, "installed {name}")?;
+    Ok(())
+}

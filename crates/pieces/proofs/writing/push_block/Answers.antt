@@ -16,10 +16,10 @@ push_restarts-requires c =
     let written : restarts_of (pieces_from r 0 [] q) ≡ c.if-is_empty.restarts.items =
     elim c.if-is_empty.branch [
       | then-is_empty+in_ok-push w ↦
-        let none : kept ≡ [] = nil_from_length kept (omega (arith, eqb-true (vec_len c.push_entries.new.restarts) 0 (sym w.if-is_empty.ensures))) in
-        restarts_none r q kept c.in_ok-push_entries.ensures.restarts none ∙ ap (λ (xs : List ℕ). xs ++ 0 ∷ []) (sym none) ∙ sym w.in_ok-push.ensures.items ∙ ap (λ v. v.items) (sym w.restarts-is)
+          let none : kept ≡ [] = nil_from_length kept (omega (arith, eqb-true (vec_len c.push_entries.new.restarts) 0 (sym w.if-is_empty.ensures))) in
+          restarts_none r q kept c.in_ok-push_entries.ensures.restarts none ∙ ap (λ (xs : List ℕ). xs ++ 0 ∷ []) (sym none) ∙ sym w.in_ok-push.ensures.items ∙ ap (λ v. v.items) (sym w.restarts-is)
       | else-is_empty w ↦
-        restarts_some r q kept c.in_ok-push_entries.ensures.restarts (omega (arith, eqb-false (vec_len c.push_entries.new.restarts) 0 (sym w.if-is_empty.ensures))) ∙ ap (λ v. v.items) (sym w.restarts-is)
+          restarts_some r q kept c.in_ok-push_entries.ensures.restarts (omega (arith, eqb-false (vec_len c.push_entries.new.restarts) 0 (sym w.if-is_empty.ensures))) ∙ ap (λ v. v.items) (sym w.restarts-is)
     ] in
     subst (λ (xs : List ℕ). length xs < 4294967296) (sym c.deref.ensures.value) (restarts_fit r q c.if-is_empty.restarts.items c.requires.fits written)
 
@@ -31,13 +31,13 @@ returns-clause-ok c =
     let written : restarts_of (pieces_from r 0 [] q) ≡ c.if-is_empty.restarts.items =
     elim c.if-is_empty.branch [
       | then-is_empty+in_ok-push w ↦
-        let none : kept ≡ [] = nil_from_length kept (omega (arith, eqb-true (vec_len c.push_entries.new.restarts) 0 (sym w.if-is_empty.ensures))) in
-        restarts_none r q kept c.in_ok-push_entries.ensures.restarts none ∙ ap (λ (xs : List ℕ). xs ++ 0 ∷ []) (sym none) ∙ sym w.in_ok-push.ensures.items ∙ ap (λ v. v.items) (sym w.restarts-is)
+          let none : kept ≡ [] = nil_from_length kept (omega (arith, eqb-true (vec_len c.push_entries.new.restarts) 0 (sym w.if-is_empty.ensures))) in
+          restarts_none r q kept c.in_ok-push_entries.ensures.restarts none ∙ ap (λ (xs : List ℕ). xs ++ 0 ∷ []) (sym none) ∙ sym w.in_ok-push.ensures.items ∙ ap (λ v. v.items) (sym w.restarts-is)
       | else-is_empty w ↦
-        restarts_some r q kept c.in_ok-push_entries.ensures.restarts (omega (arith, eqb-false (vec_len c.push_entries.new.restarts) 0 (sym w.if-is_empty.ensures))) ∙ ap (λ v. v.items) (sym w.restarts-is)
+          restarts_some r q kept c.in_ok-push_entries.ensures.restarts (omega (arith, eqb-false (vec_len c.push_entries.new.restarts) 0 (sym w.if-is_empty.ensures))) ∙ ap (λ v. v.items) (sym w.restarts-is)
     ] in
     OnOk-map c.push_restarts.result _ _
     (λ e. e
-      ∙ ap (λ (xs : List ℕ). c.push_entries.new.out.items ++ restart_bytes xs) c.deref.ensures.value
-      ∙ whole_block r q c.args.out.now.items c.push_entries.new.out.items c.if-is_empty.restarts.items c.in_ok-push_entries.ensures.bytes written)
+    ∙ ap (λ (xs : List ℕ). c.push_entries.new.out.items ++ restart_bytes xs) c.deref.ensures.value
+    ∙ whole_block r q c.args.out.now.items c.push_entries.new.out.items c.if-is_empty.restarts.items c.in_ok-push_entries.ensures.bytes written)
     c.push_restarts.ensures.ok

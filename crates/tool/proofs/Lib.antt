@@ -1,8 +1,3 @@
-mod TestedLists
-mod Unions
-mod Repeats
-mod RangeUnions
-mod Answering
 mod DigitLemmas
 mod LineLemmas
 mod NumberLists

@@ -4,8 +4,6 @@ pub mod Usage
 pub mod CompactLine
 pub mod Line
 pub mod Status
-pub mod Testing
-pub mod Blocks
 pub mod Dump
 pub mod Lines
 pub mod FolderLines
@@ -13,6 +11,3 @@ pub mod FolderLines
 pub mod LineParts
 pub mod CompactLineParts
 pub mod Questions
-pub mod Merging
-pub mod Ranges
-pub mod Repeats

@@ -12,18 +12,11 @@ mod exit_status;
 mod files;
 mod folder_commands;
 mod getting;
-mod parting;
-mod parts;
 mod program;
 mod question;
 mod requests;
 mod showing;
-mod tested;
-mod tested_cursor;
-mod testing;
 mod text;
-mod two_blocks;
-mod two_ranges;
 mod verifying;
 
 pub use command_line::line;
@@ -31,10 +24,10 @@ pub use dumping::dump;
 pub use exit_status::status;
 pub use folder::{Disk, Folder, FolderFault, Order, load, open};
 pub use folder_commands::{get_dir, manifest, verify};
+pub use pairing::blocks;
 pub use program::run;
 pub use requests::{CompactSettings, Line, Readable, Usage};
 pub use text::{key_of, text_of};
-pub use two_blocks::blocks;
 
 #[cfg(test)]
 mod tests;

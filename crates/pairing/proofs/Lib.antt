@@ -1,0 +1,5 @@
+mod TestedLists
+mod Unions
+mod Repeats
+mod RangeUnions
+mod Answering

@@ -1,0 +1,54 @@
+-- What the merge of two blocks answers.
+use Rattle.std.specs.Prelude.{◌≡◌, ◌⊎◌, ℕ, ◌^◌, nat_le, if◌then◌else◌, List, [], ◌∷◌, length, None, Result, Ok, Err}
+use Rattle.coding.specs.Answers.{IsThen, fault, ◌>>=◌}
+use Rattle.coding.specs.declared.fault.Fault.{Fault}
+use Rattle.coding.specs.declared.fault.FaultName.TheVariants.{Block, Duplicate, TooLarge}
+use Rattle.block.specs.Piece.{Entry, IsBlock}
+use Rattle.block.specs.Writing.{block}
+use Rattle.ikey.specs.Bytewise.{bytewise_cmp}
+use Rattle.merge.specs.Union.{IsUnion}
+use Rattle.pairing.specs.Testing.{tested_after}
+
+-- the block of a list at interval 16, or TooLarge where that has more than 2 ^ 30 bytes
+abbrev pub block_within : List Entry → Result (List ℕ) Fault
+block_within entries = if nat_le (length (block 16 entries)) (2 ^ 30) then Ok (block 16 entries) else Err (fault TooLarge)
+
+-- a file of a block: its entries where each passes its tests, or the first test that fails
+abbrev pub IsTestedBlock : List ℕ → Result (List Entry) Fault → Type 0
+IsTestedBlock bytes answer = (entries : List Entry) × (IsBlock bytes entries × (answer ≡ tested_after None entries))
+
+-- a file that is no block
+abbrev pub IsNoBlock : List ℕ → Result (List Entry) Fault → Type 0
+IsNoBlock bytes answer = ((entries : List Entry) → IsBlock bytes entries → ⊥) × (answer ≡ Err (fault Block))
+
+-- what the tests of a file answer
+abbrev pub IsFileAnswer : List ℕ → Result (List Entry) Fault → Type 0
+IsFileAnswer bytes answer = IsTestedBlock bytes answer ⊎ IsNoBlock bytes answer
+
+-- the union of two files, or Duplicate where there is none
+abbrev pub IsUnionAnswer : List Entry → List Entry → Result (List Entry) Fault → Type 0
+IsUnionAnswer a b (Ok union) = IsUnion bytewise_cmp (a ∷ b ∷ []) union
+IsUnionAnswer a b (Err e) = ((union : List Entry) → IsUnion bytewise_cmp (a ∷ b ∷ []) union → ⊥) × (e ≡ fault Duplicate)
+
+-- the number of entries and their block, or TooLarge
+abbrev pub counted : List Entry → Result (ℕ × List ℕ) Fault
+counted union = block_within union >>= λ bytes. Ok (length union, bytes)
+
+-- What two files answer: A is tested, then B; then their union is taken, and its block.
+abbrev pub IsBlocksAnswer : List ℕ → List ℕ → Result (ℕ × List ℕ) Fault → Type 0
+IsBlocksAnswer a b =
+    IsThen (IsFileAnswer a) (λ entries_a.
+    IsThen (IsFileAnswer b) (λ entries_b.
+    IsThen (IsUnionAnswer entries_a entries_b) (λ union answer.
+    answer ≡ counted union)))
+
+-- Both files read as blocks, and the bytes are the block of the union of their entries, which has so many.
+pub record IsMerged (a b : List ℕ) (count : ℕ) (merged : List ℕ) : Type 0 where
+  pub entries_a : List Entry
+  pub entries_b : List Entry
+  pub block_a : IsBlock a entries_a
+  pub block_b : IsBlock b entries_b
+  pub union : List Entry
+  pub is_union : IsUnion bytewise_cmp (entries_a ∷ entries_b ∷ []) union
+  pub counted : count ≡ length union
+  pub written : merged ≡ block 16 union

@@ -1,0 +1,93 @@
+//! What two files have in a range of user keys.
+
+ghost use Rattle.std.specs.Prelude.{◌≡◌, [], ◌∷◌, IfOk, Ok};
+ghost use Rattle.std.specs.List.{AllByRecursion};
+ghost use Rattle.std.specs.Option.{option_map};
+ghost use Rattle.coding.specs.Answers.{EqualOrMemory};
+ghost use Rattle.ikey.specs.Bytewise.{bytewise_cmp};
+ghost use Rattle.table.specs.ReadingCursors.{NeverFalls};
+ghost use Rattle.merge.specs.Merged.{joined};
+ghost use Rattle.pairing.specs.Merging.{tested_entries, is_behind, union_of, IsLimited};
+
+use crate::tested::TestedEntry;
+use crate::tested_cursor::TestedCursor;
+use crate::testing::last_of;
+use coding::{Fault, FaultName};
+use ikey::{Bytewise, Comparator, InternalKey, KeyBuf};
+use merge::Merging;
+use std::alloc::Global;
+use std::marker::Model;
+use table::Cursor;
+
+/// The entries of two files in a range of user keys, seen as these two lists.
+#[derive(Drop)]
+pub(crate) struct Parts<'r, 'a> {
+    a: &'r [TestedEntry<'a>],
+    b: &'r [TestedEntry<'a>],
+}
+
+impl<'r, 'a> Model for Parts<'r, 'a> {
+    ghost use Rattle.std.specs.Prelude.{List, [], ◌∷◌};
+    ghost use Rattle.block.specs.Piece.{Entry};
+    ghost use Rattle.ikey.specs.Bytewise.{bytewise_cmp};
+    ghost use Rattle.table.specs.ReadingCursors.{NeverFalls};
+    ghost use Rattle.pairing.specs.Merging.{tested_entries};
+
+    ghost Value = { List (List Entry) };
+
+    ghost view = { λ p. tested_entries p.a.now ∷ tested_entries p.b.now ∷ [] };
+
+    ghost invariant = { λ p. NeverFalls bytewise_cmp (tested_entries p.a.now) × NeverFalls bytewise_cmp (tested_entries p.b.now) };
+}
+
+impl<'r, 'a> Parts<'r, 'a> {
+    /// These entries of the one file, and those of the other.
+    pub fn new(a: &'r [TestedEntry<'a>], b: &'r [TestedEntry<'a>]) -> Parts<'r, 'a>
+        requires ordered_a { NeverFalls bytewise_cmp (tested_entries a.now) }
+        requires ordered_b { NeverFalls bytewise_cmp (tested_entries b.now) }
+        ensures { result ≡ tested_entries a.now ∷ tested_entries b.now ∷ [] }
+    {
+        Parts { a, b }
+    }
+
+    /// A cursor over the entries of each.
+    fn cursors(&self, alloc: Global) -> Result<Vec<TestedCursor<'r, 'a>>, Fault>
+        ensures all { EqualOrMemory (λ v. v.items) result (Ok self.now) }
+        ensures limited { IfOk result (λ _. AllByRecursion IsLimited (joined self.now)) }
+    {
+        let mut cursors = Vec::new(alloc);
+        cursors.push(TestedCursor::new(self.a))?;
+        cursors.push(TestedCursor::new(self.b))?;
+        Ok(cursors)
+    }
+
+    /// The union of both. Refused as Duplicate where a version comes twice.
+    pub fn union(&self, alloc: Global) -> Result<Vec<TestedEntry<'a>>, Fault>
+        ensures { EqualOrMemory (λ v. tested_entries v.items) result (union_of self.now) }
+    {
+        let mut merging = Merging::<Bytewise, _>::new(alloc, self.cursors(alloc)?)?;
+        let mut union = Vec::new(alloc);
+        while merging.valid() {
+            if !is_behind(last_of(&union), &merging.key()) {
+                return Err(Fault::of(FaultName::Duplicate));
+            }
+            let value = merging.value();
+            let key = KeyBuf::of(alloc, merging.key())?;
+            union.push(TestedEntry { key, value })?;
+            merging.advance()?;
+        }
+        Ok(union)
+    }
+}
+
+/// Whether the version of a key is behind that of the key before it, where there is one.
+fn is_behind(before: Option<InternalKey<'_>>, key: &InternalKey<'_>) -> bool
+    ensures { result ≡ is_behind (option_map (λ key. key.bytes.now) before.entry) key.now.bytes.now }
+{
+    match before {
+        Some(before) => Bytewise::compare(before.user(), key.user())
+            .then(key.sequence().cmp(&before.sequence()))
+            .is_lt(),
+        None => true,
+    }
+}

@@ -1,0 +1,94 @@
+//! The cursor over tested entries.
+
+ghost use Rattle.std.specs.Prelude.{◌≡◌, ◌<◌, length, drop};
+ghost use Rattle.block.specs.Piece.{Entry};
+ghost use Rattle.ikey.specs.Bytewise.{bytewise_cmp};
+ghost use Rattle.table.specs.ReadingCursors.{NeverFalls};
+ghost use Rattle.table.specs.Seeking.{first_is_below};
+ghost use Rattle.pairing.specs.Merging.{tested_entries};
+
+use crate::tested::TestedEntry;
+use coding::Fault;
+use ikey::{Bytewise, Comparator, InternalKey};
+use std::marker::Model;
+use table::{Cursor, Entries};
+
+/// A place in a list of tested entries, seen as those that are still to come. It takes no memory.
+#[derive(Drop)]
+pub(crate) struct TestedCursor<'r, 'a> {
+    rest: &'r [TestedEntry<'a>],
+}
+
+impl<'r, 'a> Model for TestedCursor<'r, 'a> {
+    ghost use Rattle.std.specs.Prelude.{List};
+    ghost use Rattle.block.specs.Piece.{Entry};
+    ghost use Rattle.ikey.specs.Bytewise.{bytewise_cmp};
+    ghost use Rattle.table.specs.ReadingCursors.{NeverFalls};
+    ghost use Rattle.pairing.specs.Merging.{tested_entries};
+
+    ghost Value = { List Entry };
+
+    ghost view = { λ c. tested_entries c.rest.now };
+
+    ghost invariant = { λ c. NeverFalls bytewise_cmp (tested_entries c.rest.now) };
+}
+
+impl<'r, 'a> TestedCursor<'r, 'a> {
+    /// All of these entries.
+    pub fn new(entries: &'r [TestedEntry<'a>]) -> TestedCursor<'r, 'a>
+        requires { NeverFalls bytewise_cmp (tested_entries entries.now) }
+        ensures { result ≡ tested_entries entries.now }
+    {
+        TestedCursor { rest: entries }
+    }
+
+    /// Takes the first entry off.
+    fn skip(&mut self)
+        requires { 0 < length self.old }
+        ensures { self.new ≡ drop 1 self.old }
+    {
+        self.rest = &self.rest[1..];
+    }
+
+    /// Whether the first entry, where there is one, is below an internal key.
+    fn is_below(&self, target: InternalKey<'_>) -> bool
+        ensures { result ≡ first_is_below bytewise_cmp target.entry.bytes.now self.now }
+    {
+        match self.rest.first() {
+            Some(entry) => entry.key.as_key().compare::<Bytewise>(&target).is_lt(),
+            None => false,
+        }
+    }
+}
+
+impl<'r, 'a> Entries for TestedCursor<'r, 'a> {
+    ghost remaining = { λ c. c };
+}
+
+impl<'r, 'a> Cursor<'a, Bytewise> for TestedCursor<'r, 'a> {
+    fn valid(&self) -> bool {
+        !self.rest.is_empty()
+    }
+
+    fn key(&self) -> InternalKey<'_> {
+        self.rest[0].key.as_key()
+    }
+
+    fn value(&self) -> &'a [u8] {
+        self.rest[0].value
+    }
+
+    /// Takes the first entry off. It is never refused.
+    fn advance(&mut self) -> Result<(), Fault> {
+        self.skip();
+        Ok(())
+    }
+
+    /// Takes off the entries below an internal key, one by one. It is never refused.
+    fn seek(&mut self, target: InternalKey<'_>) -> Result<(), Fault> {
+        while self.is_below(target) {
+            self.skip();
+        }
+        Ok(())
+    }
+}

@@ -1,0 +1,77 @@
+//! The tests of a file of block contents.
+
+ghost use Rattle.std.specs.Prelude.{◌≡◌, IfOk, None};
+ghost use Rattle.std.specs.Option.{option_map};
+ghost use Rattle.std.specs.Result.{result_map_both};
+ghost use Rattle.block.specs.Piece.{IsBlock};
+ghost use Rattle.coding.specs.Answers.{EqualOrMemory, HoldsOrMemory};
+ghost use Rattle.pairing.specs.Blocks.{IsFileAnswer};
+ghost use Rattle.pairing.specs.Merging.{tested_entries};
+ghost use Rattle.ikey.specs.Bytewise.{bytewise_cmp};
+ghost use Rattle.table.specs.ReadingCursors.{IsRising};
+ghost use Rattle.pairing.specs.Testing.{entry_test, last_key, tested_after};
+
+use crate::tested::TestedEntry;
+use block::{BlockCursor, check};
+use coding::{Fault, FaultName};
+use ikey::{Bytewise, InternalKey, KeyBuf};
+use std::alloc::Global;
+use std::cmp::Ordering;
+
+/// The most bytes of a value.
+const MAX_VALUE: usize = 16_777_215;
+
+/// The entries of a file, where each passes its tests.
+///
+/// Refused as Block where the bytes are no block, and else by the first test that fails.
+pub(crate) fn tested(alloc: Global, bytes: &[u8]) -> Result<Vec<TestedEntry<'_>>, Fault>
+    ensures found { IfOk result (λ v. IsBlock bytes.now (tested_entries v.items)) }
+    ensures rising { IfOk result (λ v. IsRising bytewise_cmp (tested_entries v.items)) }
+    ensures answer { HoldsOrMemory (λ v. tested_entries v.items) result (IsFileAnswer bytes.now) }
+{
+    let block = check(bytes)?;
+    tested_all(alloc, BlockCursor::new(alloc, &block)?)
+}
+
+/// Tests an entry that stands after this key.
+fn test_entry<'k>(
+    before: Option<InternalKey<'_>>,
+    key: &'k [u8],
+    value: &[u8],
+) -> Result<InternalKey<'k>, Fault>
+    ensures { result_map_both (λ key. key.bytes.now) (λ e. e) result ≡ entry_test (option_map (λ key. key.bytes.now) before.entry) key.now value.now }
+{
+    let key = InternalKey::parse(key)?;
+    if value.len() > MAX_VALUE {
+        return Err(Fault::of(FaultName::TooLarge));
+    }
+    match before {
+        Some(before) if before.compare::<Bytewise>(&key) != Ordering::Less => Err(Fault::of(
+            FaultName::Order,
+        )),
+        _ => Ok(key),
+    }
+}
+
+/// The key of the last entry.
+pub(crate) fn last_of<'r>(entries: &'r [TestedEntry<'_>]) -> Option<InternalKey<'r>>
+    ensures { option_map (λ key. key.bytes.now) result ≡ last_key None (tested_entries entries.now) }
+{
+    let last = entries.last()?;
+    Some(last.key.as_key())
+}
+
+/// The entries that are still to come, where each passes its tests after the one before it.
+fn tested_all<'a>(alloc: Global, mut cursor: BlockCursor<'a>) -> Result<Vec<TestedEntry<'a>>, Fault>
+    ensures { EqualOrMemory (λ v. tested_entries v.items) result (tested_after None cursor.entry) }
+{
+    let mut entries: Vec<TestedEntry<'a>> = Vec::new(alloc);
+    while cursor.valid() {
+        let value = cursor.value();
+        let tested = test_entry(last_of(&entries), cursor.key(), value)?;
+        let key = KeyBuf::of(alloc, tested)?;
+        entries.push(TestedEntry { key, value })?;
+        cursor.advance()?;
+    }
+    Ok(entries)
+}

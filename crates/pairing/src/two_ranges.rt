@@ -1,0 +1,36 @@
+//! The jobs of a merge of two files.
+
+use crate::parts::Parts;
+use crate::tested::TestedEntry;
+use board::Labour;
+use coding::Fault;
+use std::alloc::Global;
+
+/// Two ranges of user keys, one behind the other. A job takes the union of what two files have in one of them.
+#[derive(Drop)]
+pub(crate) struct TwoRanges<'r, 'a> {
+    pub alloc: Global,
+    pub before: Parts<'r, 'a>,
+    pub from: Parts<'r, 'a>,
+}
+
+impl<'r, 'a> Labour for TwoRanges<'r, 'a> {
+    type Out = Vec<TestedEntry<'a>>;
+
+    ghost use Rattle.board.specs.Collected.{refusal_at, HasValue};
+    ghost use Rattle.pairing.specs.Merging.{tested_entries, unions_of};
+
+    ghost jobs = { λ _. 2 };
+
+    ghost refusal = { λ s job. refusal_at (unions_of s.before s.from) job };
+
+    ghost gives = { λ s job out. HasValue (unions_of s.before s.from) job (tested_entries out.items) };
+
+    fn work(&self, job: u64) -> Result<Vec<TestedEntry<'a>>, Fault> {
+        if job == 0 {
+            self.before.union(self.alloc)
+        } else {
+            self.from.union(self.alloc)
+        }
+    }
+}

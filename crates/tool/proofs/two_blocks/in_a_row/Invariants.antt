@@ -1,7 +1,0 @@
-use Rattle.std.proofs.Common.{◌≡◌, map}
-use Rattle.merge.specs.Merged.{joined}
-use Rattle.tool.specs.Merging.{tested_entries}
-use Rattle.tool.proofs.two_blocks.in_a_row.Given as goal
-
-abbrev pub invariant-loop-run : goal.invariant-loop-run
-invariant-loop-run l = tested_entries l.entries.items ≡ joined (map (λ run. tested_entries run.items) l.yielded)

@@ -2,12 +2,14 @@
 #![tactic(auto)]
 
 mod blocks;
+mod compactions;
 mod folders;
 mod tables;
 
 use anyhow::{Context, Result};
 use blocks::{CASES, outcome};
-use folders::{FOLDERS, folder_compared};
+use compactions::compacted;
+use folders::{FOLDERS, Kept, folder_compared};
 use std::fs;
 use std::rt::Files;
 use tables::{TABLES, compared};
@@ -32,6 +34,14 @@ fn main(rt: HostRuntime) -> Result<()> {
     for name in FOLDERS {
         let gets = folder_compared(&rt, name)?;
         println!(rt; "{name}: shown, verified, {gets} gets")?;
+    }
+    for name in FOLDERS {
+        let (steps, line) = compacted(&rt, name, Kept::Every)?;
+        print!(rt; "{name}: compacted in {steps} steps, all gets as before, {line}")?;
+        let (steps, line) = compacted(&rt, name, Kept::Last)?;
+        print!(rt;
+            "{name}: compacted in {steps} steps, gets at the last sequence as before, {line}"
+        )?;
     }
     Ok(())
 }

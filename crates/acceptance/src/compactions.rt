@@ -45,21 +45,25 @@ pub(crate) fn compacted<R: Files + AllocGlobal + Threads + Sync>(
 fn copy_folder<R: Files + AllocGlobal>(rt: &R, from: &str, to: &str) -> Result<()> {
     let alloc = rt.alloc();
     fs::create_dir(rt, to).context(format_args!("making {to}"))?;
-    let current = fs::read(rt, format!(in alloc; "{from}/CURRENT")?.as_str())?;
-    fs::write(rt, format!(in alloc; "{to}/CURRENT")?.as_str(), &current)?;
+    let current = copy_file(rt, from, to, "CURRENT")?;
     let manifest = str::from_utf8(&current)?.trim_end();
-    let bytes = fs::read(rt, format!(in alloc; "{from}/{manifest}")?.as_str())?;
-    fs::write(rt, format!(in alloc; "{to}/{manifest}")?.as_str(), &bytes)?;
+    copy_file(rt, from, to, manifest)?;
     let mut disk = Disk::new(rt, from);
     let (_, version) = open(alloc, &mut disk)?;
     for (number, bytes) in load::<Bytewise, _>(alloc, &mut disk, &version)? {
-        fs::write(
-            rt,
-            format!(in alloc; "{to}/{number:06}.ldb")?.as_str(),
-            &bytes,
-        )?;
+        let path = format!(in alloc; "{to}/{number:06}.ldb")?;
+        fs::write(rt, path.as_str(), bytes.as_slice())?;
     }
     Ok(())
+}
+
+/// Copies a file of a folder, and answers its bytes.
+fn copy_file<R: Files + AllocGlobal>(rt: &R, from: &str, to: &str, name: &str) -> Result<Vec<u8>> {
+    let source = format!(in rt.alloc(); "{from}/{name}")?;
+    let bytes = fs::read(rt, source.as_str())?;
+    let path = format!(in rt.alloc(); "{to}/{name}")?;
+    fs::write(rt, path.as_str(), bytes.as_slice())?;
+    Ok(bytes)
 }
 
 /// Compacts a level again and again until it has no file, and answers how often.
@@ -83,7 +87,7 @@ fn level_compacted<R: Files + AllocGlobal + Threads + Sync>(
         verify(rt, alloc, &mut Disk::new(rt, folder))?;
         compare_gets(rt, folder, gets, kept)?;
     }
-    bail!("{folder}: level {level} has files after {MOST_STEPS} steps")
+    bail!("{folder}: level {level} has files after all steps")
 }
 
 /// Whether the version that a folder holds has a file at a level.

@@ -142,7 +142,7 @@ pub(crate) fn compare_gets<R: Files + AllocGlobal>(
     }
     for get in gets {
         if kept.holds(get) {
-            compare(alloc, &version, &tables, get).context(folder)?;
+            compare(alloc, &version, &tables, get).context(format_args!("in {folder}"))?;
         }
     }
     Ok(())

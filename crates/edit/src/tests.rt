@@ -1,5 +1,4 @@
-ghost use Rattle.std.specs.Prelude.{IfOk};
-ghost use Rattle.edit.specs.Edit.{HasLevels, edit_in};
+ghost use Rattle.std.specs.Prelude.{◌≤◌};
 
 use super::*;
 use coding::{Fault, FaultName};
@@ -174,58 +173,85 @@ fn beginnings_of_edits(rt: HostRuntime) {
     }
 }
 
+/// The version of the second database, after both of its records.
+fn mixed_version(alloc: Global) -> Result<Version, Fault> {
+    let first = VersionEdit::decode(alloc, MIXED)?;
+    let next = VersionEdit::decode(alloc, MIXED_NEXT)?;
+    Version::empty(alloc)
+        .applied::<Bytewise>(first)?
+        .applied::<Bytewise>(next)
+}
+
 #[test]
-fn a_version_of_edits(rt: HostRuntime) -> Result<(), Fail> {
-    let mut version = Version::empty(rt.alloc());
-    for bytes in [MIXED, MIXED_NEXT] {
-        let edit = VersionEdit::decode(rt.alloc(), bytes)?;
-        version = version.applied::<Bytewise>(edit)?;
-    }
-    assert_eq!(rt; version.log_number(), Some(26));
-    assert_eq!(rt; version.previous_log(), Some(0));
-    assert_eq!(rt; version.next_file(), Some(27));
-    assert_eq!(rt; version.last_sequence(), Some(1200));
+fn numbers_of_a_version(rt: HostRuntime) -> Result<(), Fail> {
+    let version = mixed_version(rt.alloc())?;
+    let numbers = [
+        version.log_number(),
+        version.previous_log(),
+        version.next_file(),
+        version.last_sequence(),
+    ];
+    assert_eq!(rt; numbers, [Some(26), Some(0), Some(27), Some(1200)]);
+    Ok(())
+}
+
+#[test]
+fn pointers_of_a_version(rt: HostRuntime) -> Result<(), Fail> {
+    let version = mixed_version(rt.alloc())?;
     match version.pointer(0) {
         Some(key) => assert_eq!(rt; key.as_key().user(), b"k00399".as_slice()),
         None => assert!(rt; false),
     }
     assert!(rt; version.pointer(1).is_none());
-    let mut sizes = Vec::new(rt.alloc());
-    for level in 0..7 {
-        for file in &version.files::<Bytewise>(rt.alloc(), level)? {
-            sizes.push((level, file.number, file.size))?;
-        }
-    }
-    let want = [(0, 25, 3308), (0, 22, 3334), (0, 19, 3403), (1, 15, 11485)];
-    assert_eq!(rt; sizes.as_slice(), want.as_slice());
     Ok(())
+}
+
+/// The number and size of each file of a level, in version order.
+fn sizes_at(alloc: Global, version: &Version, level: u64) -> Result<Vec<(u64, u64)>, Fault>
+    requires { level ≤ 6 }
+{
+    let mut sizes = Vec::new(alloc);
+    for file in &version.files::<Bytewise>(alloc, level)? {
+        sizes.push((file.number, file.size))?;
+    }
+    Ok(sizes)
+}
+
+#[test]
+fn files_of_a_version(rt: HostRuntime) -> Result<(), Fail> {
+    let version = mixed_version(rt.alloc())?;
+    let newest = sizes_at(rt.alloc(), &version, 0)?;
+    assert_eq!(rt;
+        newest.as_slice(),
+        [(25, 3308), (22, 3334), (19, 3403)].as_slice()
+    );
+    let older = sizes_at(rt.alloc(), &version, 1)?;
+    assert_eq!(rt; older.as_slice(), [(15, 11485)].as_slice());
+    let deepest = sizes_at(rt.alloc(), &version, 6)?;
+    assert!(rt; deepest.is_empty());
+    Ok(())
+}
+
+/// The bytes of the snapshot edit of the version that the edit of these bytes makes of the empty one.
+fn snapshot_of(alloc: Global, bytes: &[u8]) -> Result<Vec<u8>, Fault> {
+    let edit = VersionEdit::decode(alloc, bytes)?;
+    let version = Version::empty(alloc).applied::<Bytewise>(edit)?;
+    version.snapshot_edit::<Bytewise>(alloc)?.encode(alloc)
 }
 
 #[test]
 fn a_snapshot_gives_the_version(rt: HostRuntime) -> Result<(), Fail> {
-    let empty = Version::empty(rt.alloc());
-    let snapshot = empty.snapshot_edit::<Bytewise>(rt.alloc())?;
-    let written = snapshot.encode(rt.alloc())?;
-    assert_eq!(rt;
-        written.as_slice(),
-        b"\x01\x1aleveldb.BytewiseComparator".as_slice()
-    );
-
+    let name = b"\x01\x1aleveldb.BytewiseComparator".as_slice();
     // The first record of a manifest is such an edit.
-    for bytes in [COMPACTED, MIXED] {
-        let edit = VersionEdit::decode(rt.alloc(), bytes)?;
-        let version = empty.apply::<Bytewise>(rt.alloc(), &edit)?;
-        let snapshot = version.snapshot_edit::<Bytewise>(rt.alloc())?;
-        assert_eq!(rt; snapshot.deleted.len(), 0);
-        assert_eq!(rt; snapshot.pointers.len(), 1);
-        assert_eq!(rt; snapshot.added.len(), edit.added.len());
+    for (bytes, want) in [
+        (b"".as_slice(), name),
+        (name, name),
+        (COMPACTED, COMPACTED),
+        (MIXED, MIXED),
+    ] {
+        let written = snapshot_of(rt.alloc(), bytes)?;
+        assert_eq!(rt; written.as_slice(), want);
     }
-    let edit = VersionEdit::decode(rt.alloc(), COMPACTED)?;
-    let version = empty.apply::<Bytewise>(rt.alloc(), &edit)?;
-    let written = version
-        .snapshot_edit::<Bytewise>(rt.alloc())?
-        .encode(rt.alloc())?;
-    assert_eq!(rt; written.as_slice(), COMPACTED);
     Ok(())
 }
 
@@ -291,38 +317,59 @@ const ODD: &[u8] = b"\x21\x1f\x1d\x1b\x19\x17\x15\x13\x11\x0f\x0d\x0b\x09\x07\x0
 
 const EVEN: &[u8] = b"\x22\x20\x1e\x1c\x1a\x18\x16\x14\x12\x10\x0e\x0c\x0a\x08\x06\x04\x02";
 
-/// The edit that puts in a file of level 1 for each of the numbers, which are below 128.
-fn new_files(alloc: Global, numbers: &[u8]) -> Result<VersionEdit, Fail>
-    ensures { IfOk result (λ e. HasLevels (edit_in e)) }
-{
+/// The bytes of an edit that puts in a file of level 1 for each of the numbers, which are below 128.
+fn new_files(alloc: Global, numbers: &[u8]) -> Result<Vec<u8>, Fault> {
     let mut bytes = Vec::new(alloc);
     for number in numbers {
         bytes.extend_from_slice(b"\x07\x01")?;
         bytes.push(*number)?;
         bytes.extend_from_slice(b"d\x09u\x01\x01\0\0\0\0\0\0\x09u\x01\x01\0\0\0\0\0\0")?;
     }
-    Ok(VersionEdit::decode(alloc, &bytes)?)
+    Ok(bytes)
+}
+
+/// The numbers of the files of level 1 of the version that edits of these bytes make of the empty one, one after the other.
+fn numbers_after(alloc: Global, edits: &[&[u8]]) -> Result<Vec<u64>, Fault> {
+    let mut version = Version::empty(alloc);
+    for bytes in edits {
+        version = version.applied::<Bytewise>(VersionEdit::decode(alloc, bytes)?)?;
+    }
+    let mut numbers = Vec::new(alloc);
+    for file in &version.files::<Bytewise>(alloc, 1)? {
+        numbers.push(file.number)?;
+    }
+    Ok(numbers)
 }
 
 #[test]
 fn many_files_go_in_together(rt: HostRuntime) -> Result<(), Fail> {
-    let alloc = rt.alloc();
-    let odd = Version::empty(alloc).applied::<Bytewise>(new_files(alloc, ODD)?)?;
-    let all = odd.apply::<Bytewise>(alloc, &new_files(alloc, EVEN)?)?;
-    let mut numbers = Vec::new(alloc);
-    for file in &all.files::<Bytewise>(alloc, 1)? {
-        numbers.push(file.number)?;
-    }
-    let want: Vec<u64> = (1..35).collect(alloc)?;
+    let odd = new_files(rt.alloc(), ODD)?;
+    let even = new_files(rt.alloc(), EVEN)?;
+    let numbers = numbers_after(rt.alloc(), &[&odd, &even])?;
+    let want: Vec<u64> = (1..35).collect(rt.alloc())?;
     assert_eq!(rt; numbers, want);
+    Ok(())
+}
 
-    // A number that is there, and one that comes twice.
-    let again = all.apply::<Bytewise>(alloc, &new_files(alloc, ODD)?);
-    assert_eq!(rt; refusal(again), Some(FaultName::Apply));
-    let mut twice = Vec::from_slice(alloc, EVEN)?;
-    twice.push(2)?;
-    let answer = odd.applied::<Bytewise>(new_files(alloc, &twice)?);
-    assert_eq!(rt; refusal(answer), Some(FaultName::Apply));
+#[test]
+fn numbers_that_are_there(rt: HostRuntime) -> Result<(), Fail> {
+    let odd = new_files(rt.alloc(), ODD)?;
+    assert_eq!(rt;
+        refusal(numbers_after(rt.alloc(), &[&odd, &odd])),
+        Some(FaultName::Apply)
+    );
+    Ok(())
+}
+
+#[test]
+fn numbers_that_come_twice(rt: HostRuntime) -> Result<(), Fail> {
+    let even = new_files(rt.alloc(), EVEN)?;
+    let mut twice = new_files(rt.alloc(), b"\x02")?;
+    twice.extend_from_slice(&even)?;
+    assert_eq!(rt;
+        refusal(numbers_after(rt.alloc(), &[&twice])),
+        Some(FaultName::Apply)
+    );
     Ok(())
 }
 
@@ -331,17 +378,11 @@ const THREE_DELETED: &[u8] = b"\x06\x01\x21\x06\x01\x11\x06\x01\x01";
 
 #[test]
 fn files_are_taken_out_of_many(rt: HostRuntime) -> Result<(), Fail> {
-    let alloc = rt.alloc();
-    let odd = Version::empty(alloc).applied::<Bytewise>(new_files(alloc, ODD)?)?;
-    let fewer = odd.applied::<Bytewise>(VersionEdit::decode(alloc, THREE_DELETED)?)?;
+    let odd = new_files(rt.alloc(), ODD)?;
     // Of those that were left last, one more.
-    let left = fewer.applied::<Bytewise>(VersionEdit::decode(alloc, b"\x06\x01\x03")?)?;
-    let mut numbers = Vec::new(alloc);
-    for file in &left.files::<Bytewise>(alloc, 1)? {
-        numbers.push(file.number)?;
-    }
+    let left = numbers_after(rt.alloc(), &[&odd, THREE_DELETED, b"\x06\x01\x03"])?;
     let want = [5, 7, 9, 11, 13, 15, 19, 21, 23, 25, 27, 29, 31];
-    assert_eq!(rt; numbers.as_slice(), want.as_slice());
+    assert_eq!(rt; left.as_slice(), want.as_slice());
     Ok(())
 }
 

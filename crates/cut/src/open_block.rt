@@ -8,8 +8,9 @@ ghost use Rattle.cut.specs.Sizes.{saturated};
 ghost use Rattle.cut.specs.Metered.{left_out, added_size};
 
 use crate::lengths::piece_len;
+use coding::common_len;
 use ikey::InternalKey;
-use pieces::{PlannedBlock, common_len};
+use pieces::PlannedBlock;
 use runs::{RunsCursor, RunsSlice};
 use std::marker::Model;
 use std::mem;

@@ -8,14 +8,12 @@ mod assembling;
 mod encoding;
 mod indexing;
 mod planned_block;
-mod sharing;
 mod storing;
 mod writing;
 
 pub use assembling::assemble_table;
 pub use encoding::encode_blocks;
 pub use planned_block::PlannedBlock;
-pub use sharing::common_len;
 
 #[cfg(test)]
 mod tests;

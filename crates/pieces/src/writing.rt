@@ -8,8 +8,7 @@ ghost use Rattle.coding.specs.declared.fault.FaultName.TheVariants.{Memory};
 ghost use Rattle.block.specs.Piece.{piece_bytes, restarts_from, restart_bytes};
 ghost use Rattle.block.specs.Writing.{pieces_from, block};
 
-use crate::sharing::common_len;
-use coding::{Fault, push_varint};
+use coding::{Fault, common_len, push_varint};
 use runs::RunsSlice;
 
 /// Appends the block of some entries, at a restart interval from 1 to 1,024, or on a refused growth some of it. What the list

@@ -11,7 +11,7 @@ use pick::Inputs;
 use split::Range;
 use std::process::Abort;
 use std::test::*;
-use table::{Options, TableBuilder, TableCursor, check};
+use table::{Options, SoundTable, TableBuilder, TableCursor, check};
 
 /// An entry of a user key at a sequence.
 #[derive(Clone, Copy)]
@@ -38,6 +38,40 @@ fn del(user: &'static [u8], sequence: u8) -> Row {
         kind: Kind::Delete,
     }
 }
+
+/// Values of six user keys.
+const SIX: [Row; 6] = [
+    Row {
+        user: b"a",
+        sequence: 1,
+        kind: Kind::Put,
+    },
+    Row {
+        user: b"b",
+        sequence: 2,
+        kind: Kind::Put,
+    },
+    Row {
+        user: b"c",
+        sequence: 3,
+        kind: Kind::Put,
+    },
+    Row {
+        user: b"d",
+        sequence: 4,
+        kind: Kind::Put,
+    },
+    Row {
+        user: b"e",
+        sequence: 5,
+        kind: Kind::Put,
+    },
+    Row {
+        user: b"f",
+        sequence: 6,
+        kind: Kind::Put,
+    },
+];
 
 /// A grandparent of one key, and its size.
 #[derive(Clone, Copy)]
@@ -76,15 +110,18 @@ fn key_of(rt: &(impl Abort + AllocGlobal), row: Row) -> Result<KeyBuf, Fault> {
     KeyBuf::new(rt.alloc(), row.user, u64::from(row.sequence), row.kind)
 }
 
-/// The table of these entries, each with a value of one byte.
-fn written(rt: &(impl Abort + AllocGlobal), rows: &[Row]) -> Result<Vec<u8>, Fail> {
+/// The most bytes of a value.
+const MAX_VALUE: usize = 1 << 20;
+
+/// The table of these entries, each with this value.
+fn written(rt: &(impl Abort + AllocGlobal), rows: &[Row], value: &[u8]) -> Result<Vec<u8>, Fail> {
     let options = Options::default();
-    assert!(rt; options.are_in_limits());
+    assert!(rt; options.are_in_limits() && value.len() <= MAX_VALUE);
     let mut table = TableBuilder::<Bytewise>::new(rt.alloc(), options);
     for row in rows {
         let key = key_of(rt, *row)?;
         assert!(rt; table.is_above_last(&key.as_key()));
-        table.add(key.as_key(), b"x")?;
+        table.add(key.as_key(), value)?;
     }
     Ok(table.finish()?)
 }
@@ -159,7 +196,7 @@ fn outputs(rt: &(impl Abort + AllocGlobal), case: &Case<'_>) -> Result<Vec<Outpu
         file_size: case.file_size,
     };
     assert!(rt; options.are_in_limits());
-    let bytes = written(rt, case.rows)?;
+    let bytes = written(rt, case.rows, b"x")?;
     let inputs = inputs(rt, case.grandparents)?;
     let runs = runs_of(rt, &bytes, case.boundary, &inputs)?;
     let plan = plan::<Bytewise>(
@@ -303,7 +340,7 @@ fn numbers_run_out(rt: HostRuntime) -> Result<(), Fail> {
     let options = Options::default();
     assert!(rt; options.are_in_limits());
     let inputs = inputs(&rt, &[])?;
-    let bytes = written(&rt, &[put(b"a", 1)])?;
+    let bytes = written(&rt, &[put(b"a", 1)], b"x")?;
     let runs = runs_of(&rt, &bytes, None, &inputs)?;
     let refused = plan::<Bytewise>(rt.alloc(), &runs, &[], options, u64::MAX);
     let named = match refused {
@@ -321,7 +358,7 @@ fn an_output_tells_its_bounds(rt: HostRuntime) -> Result<(), Fail> {
     let options = Options::default();
     assert!(rt; options.are_in_limits());
     let inputs = inputs(&rt, &[])?;
-    let bytes = written(&rt, &[put(b"a", 1), put(b"b", 2), put(b"c", 3)])?;
+    let bytes = written(&rt, &[put(b"a", 1), put(b"b", 2), put(b"c", 3)], b"x")?;
     let runs = runs_of(&rt, &bytes, Some(b"b"), &inputs)?;
     let plan = plan::<Bytewise>(rt.alloc(), &runs, &[], options, 7)?;
     assert_eq!(rt; plan.len(), 1);
@@ -335,7 +372,7 @@ fn an_output_tells_its_bounds(rt: HostRuntime) -> Result<(), Fail> {
 fn encoded(
     rt: &(impl Abort + AllocGlobal),
     plan: &Plan<'_, '_, Bytewise>,
-) -> Result<Vec<Vec<u8>>, Fail>
+) -> Result<Vec<Vec<u8>>, Fault>
     ensures { IfOk result (λ pieces. map (λ p. p.items) pieces.items ≡ encoded plan.now.options (lists_in plan.now.outputs)) }
 {
     let mut pieces = Vec::new(rt.alloc());
@@ -367,7 +404,7 @@ fn pieces_make_the_tables(rt: HostRuntime) -> Result<(), Fail> {
     };
     assert!(rt; options.are_in_limits());
     let inputs = inputs(&rt, &[])?;
-    let bytes = written(&rt, &[put(b"a", 1), put(b"b", 2), put(b"c", 3)])?;
+    let bytes = written(&rt, &[put(b"a", 1), put(b"b", 2), put(b"c", 3)], b"x")?;
     let runs = runs_of(&rt, &bytes, Some(b"b"), &inputs)?;
     let plan = plan::<Bytewise>(rt.alloc(), &runs, &[], options, 5)?;
     assert_eq!(rt; plan.jobs(), 3);
@@ -386,6 +423,131 @@ fn pieces_make_the_tables(rt: HostRuntime) -> Result<(), Fail> {
     }
     assert_eq!(rt; next, 8);
     assert!(rt; tables.len() == 3 && tables[0].1.as_slice() == ONE_ENTRY.as_slice());
+    Ok(())
+}
+
+/// The tables of runs, with a data block for each entry and outputs that end at 80 bytes of these.
+fn tables(
+    rt: &(impl Abort + AllocGlobal),
+    runs: &[RangeRun<'_>],
+    inputs: &Inputs,
+) -> Result<Vec<(u64, Vec<u8>)>, Fault> {
+    let options = Options {
+        block_size: 1,
+        restart_interval: 16,
+        file_size: 80,
+    };
+    assert!(rt; options.are_in_limits());
+    let plan = plan::<Bytewise>(rt.alloc(), runs, &inputs.grandparents, options, 5)?;
+    let pieces = encoded(rt, &plan)?;
+    plan.assemble(rt.alloc(), pieces)
+}
+
+/// Whether two answers are the same, or one of them is refused for want of memory.
+fn are_same(
+    first: Result<Vec<(u64, Vec<u8>)>, Fault>,
+    second: Result<Vec<(u64, Vec<u8>)>, Fault>,
+) -> bool {
+    match (first, second) {
+        (Ok(first), Ok(second)) => first == second,
+        (Err(fault), Ok(_)) | (Ok(_), Err(fault)) => fault.name == FaultName::Memory,
+        (Err(_), Err(_)) => false,
+    }
+}
+
+/// Whether the tables of a table's two runs are the same when they are asked for again, or one answer is refused for want of
+/// memory.
+fn are_same_again(
+    rt: &(impl Abort + AllocGlobal),
+    bytes: &[u8],
+    inputs: &Inputs,
+) -> Result<bool, Fail> {
+    let runs = runs_of(rt, bytes, Some(b"b"), inputs)?;
+    let first = tables(rt, &runs, inputs);
+    let second = tables(rt, &runs, inputs);
+    Ok(are_same(first, second))
+}
+
+// With `rt try --test --fail-alloc N` the Nth growth is refused; without it, none is.
+#[test]
+fn a_refused_growth_is_memory(rt: HostRuntime) -> Result<(), Fail> {
+    let inputs = inputs(&rt, &three())?;
+    let bytes = written(&rt, &SIX, b"x")?;
+    assert!(rt; are_same_again(&rt, &bytes, &inputs)?);
+    Ok(())
+}
+
+/// The run of a table, all in one range.
+fn run_of<'a>(
+    rt: &(impl Abort + AllocGlobal),
+    table: &SoundTable<'a, Bytewise>,
+    inputs: &Inputs,
+) -> Result<RangeRun<'a>, Fault> {
+    let mut cursors = Vec::new(rt.alloc());
+    cursors.push(TableCursor::new(rt.alloc(), table)?)?;
+    let all = Range {
+        lower: None,
+        upper: None,
+    };
+    merged(rt, &mut cursors, all, inputs)
+}
+
+/// The run of a table, so many times.
+fn repeated<'a>(
+    rt: &(impl Abort + AllocGlobal),
+    table: &SoundTable<'a, Bytewise>,
+    count: u32,
+    inputs: &Inputs,
+) -> Result<Vec<RangeRun<'a>>, Fault> {
+    let mut runs = Vec::new(rt.alloc());
+    for _ in 0..count {
+        runs.push(run_of(rt, table, inputs)?)?;
+    }
+    Ok(runs)
+}
+
+/// How many bytes the first output of runs has, where there is one.
+fn first_len(rt: &(impl Abort + AllocGlobal), runs: &[RangeRun<'_>]) -> Result<Option<u64>, Fault> {
+    let options = Options::default();
+    assert!(rt; options.are_in_limits());
+    let plan = plan::<Bytewise>(rt.alloc(), runs, &[], options, 5)?;
+    Ok(if plan.is_empty() {
+        None
+    } else {
+        Some(plan.output(0).len)
+    })
+}
+
+/// How many bytes the first output of a table's run has, where that is given so many times.
+fn repeated_len(
+    rt: &(impl Abort + AllocGlobal),
+    bytes: &[u8],
+    count: u32,
+    inputs: &Inputs,
+) -> Result<Option<u64>, Fault> {
+    let table = check::<Bytewise>(rt.alloc(), bytes)?;
+    let runs = repeated(rt, &table, count, inputs)?;
+    first_len(rt, &runs)
+}
+
+/// The table of a value of 2^20 bytes.
+fn long_table(rt: &(impl Abort + AllocGlobal)) -> Result<Vec<u8>, Fail> {
+    let value = vec![in rt.alloc(); 7u8; MAX_VALUE]?;
+    written(rt, &[put(b"a", 1)], &value)
+}
+
+// Each entry has a data block of 2^20 + 22 bytes, with its trailer 2^20 + 27. Of 1,023 the index has entries of 15 bytes and the
+// spelling of the offset: one byte for the first, three for the second, four for 254 and five for 767.
+#[test]
+fn an_output_has_at_most_2_to_30_bytes(rt: HostRuntime) -> Result<(), Fail> {
+    let inputs = inputs(&rt, &[])?;
+    let bytes = long_table(&rt)?;
+    for (count, len) in [
+        (1_023, Ok(Some(1_072_745_231))),
+        (1_024, Err(Fault::of(FaultName::TooLarge))),
+    ] {
+        assert_eq!(rt; repeated_len(&rt, &bytes, count, &inputs), len);
+    }
     Ok(())
 }
 

@@ -1,5 +1,6 @@
 use super::*;
-use coding::{Fault, FaultName};
+use byteorder::{ByteOrder, LittleEndian};
+use coding::{Fault, FaultName, crc32c, mask};
 use std::alloc::Global;
 use std::test::*;
 
@@ -131,6 +132,61 @@ fn bytes_that_are_no_log(rt: HostRuntime) {
     ];
     for (bytes, want) in rows {
         assert_eq!(rt; count_or_refusal(rt.alloc(), bytes), Err(want));
+    }
+}
+
+/// The log of an empty record and of `abc`.
+const TWO: [u8; 17] = [
+    0x05, 0x2b, 0x28, 0x43, 0, 0, 1, 0xf2, 0x70, 0xe8, 0x9d, 3, 0, 1, 0x61, 0x62, 0x63,
+];
+
+/// What one byte is changed to.
+const CHANGES: [u8; 5] = [0, 1, 127, 128, 255];
+
+/// What is answered of that log where the byte at a place is this one and no checksum is mended.
+fn answer_unmended(place: usize, byte: u8) -> Result<usize, FaultName> {
+    match (place, byte) {
+        _ if TWO.get(place) == Some(&byte) => Ok(2),
+        // A length that passes the bytes. One that is too short has another checksum.
+        (4 | 11, 127..) | (5 | 12, _) => Err(FaultName::LogShape),
+        _ => Err(FaultName::LogChecksum),
+    }
+}
+
+/// The same, where the second record has its checksum.
+fn answer_mended(place: usize, byte: u8) -> Result<usize, FaultName> {
+    match (place, byte) {
+        _ if TWO.get(place) == Some(&byte) => Ok(2),
+        // A length or a type that no writer leaves there. Behind a length that is too short too little is left.
+        (11..14, _) => Err(FaultName::LogShape),
+        _ => Ok(2),
+    }
+}
+
+#[test]
+fn a_byte_of_a_log_is_changed(rt: HostRuntime) {
+    for place in 0..17 {
+        for byte in CHANGES {
+            let mut log = TWO;
+            log[place] = byte;
+            let answer = count_or_refusal(rt.alloc(), &log);
+            assert_eq!(rt; answer, answer_unmended(place, byte), "{place} {byte}");
+        }
+    }
+}
+
+#[test]
+fn a_byte_is_changed_and_the_checksum_mended(rt: HostRuntime) {
+    for place in 7..17 {
+        for byte in CHANGES {
+            let mut log = TWO;
+            log[place] = byte;
+            let end = (14 + log[11] as usize).min(17);
+            let sum = mask(crc32c(&log[13..end]));
+            LittleEndian::write_u32(&mut log[7..11], sum);
+            let answer = count_or_refusal(rt.alloc(), &log);
+            assert_eq!(rt; answer, answer_mended(place, byte), "{place} {byte}");
+        }
     }
 }
 

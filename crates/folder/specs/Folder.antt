@@ -2,6 +2,7 @@
 use Rattle.std.specs.Prelude.{◌≡◌, ◌⊎◌, ◌↔◌, ℕ, ◌+◌, ◌<◌, ◌^◌, ◌-◌, nat_eq, if◌then◌else◌, List, Option, Result, Ok, Err}
 use Rattle.coding.specs.declared.fault.FaultName.{FaultName}
 use Rattle.coding.specs.declared.fault.FaultName.TheVariants as name
+use Rattle.folder.specs.Calls.{Step}
 use Rattle.folder.specs.declared.folder.FolderFault.{FolderFault}
 use Rattle.folder.specs.declared.folder.FolderFault.TheVariants.{Device, Memory}
 
@@ -27,3 +28,9 @@ DeviceFailed before now = (before < now) ⊎ (before ≡ 2 ^ 64 - 1)
 -- what may be read stays the same under each name
 abbrev pub TellsSame : (List ℕ → Option (List ℕ) → Type 0) → (List ℕ → Option (List ℕ) → Type 0) → Type 0
 TellsSame old new = (name : List ℕ) (held : Option (List ℕ)) → old name held ↔ new name held
+
+-- what is known of a folder that tells nothing: the calls that wrote to it, in their order, with those that failed, and how
+-- often the device has failed
+pub record Asked : Type 0 where
+  pub trail : List Step
+  pub failures : ℕ

@@ -41,3 +41,19 @@ Alters (Tried FolderSynced) old new = new ≡ old
 -- a call that was done, or that failed
 abbrev pub tried_if : Bool → Call → Step
 tried_if failed call = if failed then Tried call else Done call
+
+-- a folder in memory, as contracts see it
+pub record Shelved : Type 0 where
+  -- the files that were lent to it, of which the first of a name counts
+  pub start : List (List ℕ × List ℕ)
+  -- the calls that wrote, the newest first, but for those of which a growth was refused
+  pub steps : List ShelfStep
+  -- all calls that wrote, in their order
+  pub trail : List Step
+  -- how many calls were made and how often the device failed, each up to 2^64 - 1
+  pub calls : ℕ
+  pub failures : ℕ
+
+-- what it holds under each name
+abbrev pub held_by : Shelved → Files
+held_by shelf = after_steps shelf.steps (files_in shelf.start)

@@ -10,6 +10,7 @@ use crate::folder::{Folder, FolderFault};
 use crate::trail::{Attempt, Trail, WriteCall};
 use std::fs::{File, OpenFile, OpenOptions};
 use std::io::ErrorKind;
+use std::marker::Model;
 use std::rt::Files;
 use std::{fs, io};
 
@@ -22,6 +23,14 @@ pub struct Disk<'r, R> {
     path: &'r str,
     failures: u64,
     trail: Trail,
+}
+
+impl<'r, R> Model for Disk<'r, R> {
+    ghost use Rattle.folder.specs.Folder.{Asked};
+
+    ghost Value = { Asked };
+
+    ghost view = { λ d. record { trail = d.trail.steps; failures = d.failures } };
 }
 
 impl<'r, R: Files + AllocGlobal> Disk<'r, R> {
@@ -71,7 +80,7 @@ impl<'r, R: Files + AllocGlobal> Disk<'r, R> {
         answer: Result<(), FolderFault>,
     ) -> Result<(), FolderFault>
         ensures answer { result ≡ answer }
-        ensures trail { self.new.trail.steps ≡ self.old.trail.steps ++ step_of (call_in call.entry) answer ∷ [] }
+        ensures trail { self.new.trail ≡ self.old.trail ++ step_of (call_in call.entry) answer ∷ [] }
         ensures failures { self.new.failures ≡ self.old.failures }
     {
         let is_done = answer.is_ok();
@@ -121,7 +130,7 @@ impl<'r, R: Files + AllocGlobal> Disk<'r, R> {
 impl<'r, R: Files + AllocGlobal> Folder for Disk<'r, R> {
     ghost tells = { λ _ _ _. Unit {0} };
 
-    ghost calls = { λ disk. disk.trail.steps };
+    ghost calls = { λ disk. disk.trail };
 
     ghost failed = { λ disk. disk.failures };
 

@@ -4,14 +4,15 @@ ghost use Rattle.std.specs.Prelude.{◌≡◌, [], ◌∷◌, ◌++◌, map, Err
 ghost use Rattle.std.specs.Option.{option_map};
 ghost use Rattle.folder.specs.Attempts.{call_in};
 ghost use Rattle.folder.specs.Calls.{Files, Tells, step_of};
-ghost use Rattle.folder.specs.Folder.{TellsSame, failures_after};
-ghost use Rattle.folder.specs.Shelf.{Alters, after_steps, files_in, made_by, tried_if};
+ghost use Rattle.folder.specs.Folder.{failures_after};
+ghost use Rattle.folder.specs.Shelf.{Alters, after_steps, files_in, held_by, made_by, tried_if};
 ghost use Rattle.folder.specs.declared.folder.FolderFault.TheVariants.{Memory};
 
 use crate::folder::{Folder, FolderFault};
 use crate::shelf_step::{ShelfCall, ShelfStep, Source};
 use crate::trail::{Attempt, Trail, WriteCall};
 use std::alloc::{AllocError, Global};
+use std::marker::Model;
 
 /// A call that is to fail.
 #[derive(Clone, Copy, Drop)]
@@ -39,12 +40,22 @@ pub struct Shelf<'a> {
     trail: Trail,
 }
 
+impl<'a> Model for Shelf<'a> {
+    ghost use Rattle.std.specs.Prelude.{map};
+    ghost use Rattle.folder.specs.Shelf.{Shelved};
+
+    ghost Value = { Shelved };
+
+    ghost view = { λ s. record { start = map (λ f. (f.0.now, f.1.now)) s.start.now; steps = s.steps.items; trail = s.trail.steps; calls = s.calls; failures = s.failures } };
+}
+
 impl<'a> Shelf<'a> {
     /// The folder of these files by their names, of which the first of a name counts. None of its calls fails.
     pub fn new(alloc: Global, files: &'a [(&'a str, &'a [u8])]) -> Shelf<'a>
         ensures tells { Tells (⟦<Shelf<'a> as Folder>⟧.tells result) (files_in (map (λ f. (f.0.now, f.1.now)) files.now)) }
         ensures calls { ⟦<Shelf<'a> as Folder>⟧.calls result ≡ [] }
         ensures failed { ⟦<Shelf<'a> as Folder>⟧.failed result ≡ 0 }
+        ensures none { result ≡ record { start = map (λ f. (f.0.now, f.1.now)) files.now; steps = []; trail = []; calls = 0; failures = 0 } }
     {
         Shelf {
             alloc,
@@ -59,9 +70,7 @@ impl<'a> Shelf<'a> {
 
     /// The same folder, but that a call fails.
     pub fn failing(self, failing: Failing) -> Shelf<'a>
-        ensures tells { TellsSame (⟦<Shelf<'a> as Folder>⟧.tells self.entry) (⟦<Shelf<'a> as Folder>⟧.tells result) }
-        ensures calls { ⟦<Shelf<'a> as Folder>⟧.calls result ≡ ⟦<Shelf<'a> as Folder>⟧.calls self.entry }
-        ensures failed { ⟦<Shelf<'a> as Folder>⟧.failed result ≡ ⟦<Shelf<'a> as Folder>⟧.failed self.entry }
+        ensures { result ≡ self.entry }
     {
         Shelf {
             failing: Some(failing),
@@ -78,7 +87,7 @@ impl<'a> Shelf<'a> {
 
     /// The calls that wrote, the newest first, but for those of which a growth was refused.
     pub fn steps(&self) -> &[ShelfStep]
-        ensures { result.now ≡ self.now.steps.items }
+        ensures { result.now ≡ self.now.steps }
     {
         &self.steps
     }
@@ -128,8 +137,8 @@ impl<'a> Shelf<'a> {
 
     /// Makes a call that writes, and adds it to the trail.
     fn write(&mut self, call: WriteCall<'_>) -> Result<(), FolderFault>
-        ensures calls { self.new.trail.steps ≡ self.old.trail.steps ++ step_of (call_in call.entry) result ∷ [] }
-        ensures change { (files : Files) → Alters (step_of (call_in call.entry) result) (after_steps self.old.steps.items files) (after_steps self.new.steps.items files) }
+        ensures calls { self.new.trail ≡ self.old.trail ++ step_of (call_in call.entry) result ∷ [] }
+        ensures change { (files : Files) → Alters (step_of (call_in call.entry) result) (after_steps self.old.steps files) (after_steps self.new.steps files) }
         ensures start { self.new.start ≡ self.old.start }
         ensures failures { self.new.failures ≡ failures_after self.old.failures result }
     {
@@ -141,7 +150,7 @@ impl<'a> Shelf<'a> {
 
     /// Adds a call that writes to the record.
     fn record(&mut self, call: WriteCall<'_>) -> Result<(), FolderFault>
-        ensures change { (files : Files) → Alters (step_of (call_in call.entry) result) (after_steps self.old.steps.items files) (after_steps self.new.steps.items files) }
+        ensures change { (files : Files) → Alters (step_of (call_in call.entry) result) (after_steps self.old.steps files) (after_steps self.new.steps files) }
         ensures start { self.new.start ≡ self.old.start }
         ensures failures { self.new.failures ≡ failures_after self.old.failures result }
         ensures trail { self.new.trail ≡ self.old.trail }
@@ -198,9 +207,9 @@ fn copied(alloc: Global, call: WriteCall<'_>, is_half: bool) -> Result<ShelfCall
 }
 
 impl<'a> Folder for Shelf<'a> {
-    ghost tells = { λ shelf name held. after_steps shelf.steps.items (files_in (map (λ f. (f.0.now, f.1.now)) shelf.start.now)) name ≡ held };
+    ghost tells = { λ shelf name held. held_by shelf name ≡ held };
 
-    ghost calls = { λ shelf. shelf.trail.steps };
+    ghost calls = { λ shelf. shelf.trail };
 
     ghost failed = { λ shelf. shelf.failures };
 

@@ -9,5 +9,5 @@ use Rattle.folder.proofs.shelf.Shelf.held.Given as goal
 abbrev pub invariant-loop-step : goal.invariant-loop-step
 invariant-loop-step l = record {
   text : shadow (Utf8 l.sought);
-  same : (files : Files) → after_steps (drop l.step-index l.self.steps.items) files l.sought ≡ after_steps l.self.steps.items files l.name;
+  same : (files : Files) → after_steps (drop l.step-index l.self-inside.steps.items) files l.sought ≡ after_steps l.self-inside.steps.items files l.name;
 }

@@ -9,7 +9,7 @@ ghost use Rattle.folder.specs.declared.folder.FolderFault.TheVariants.{Memory};
 use crate::folder::{Folder, FolderFault};
 use crate::trail::{Attempt, Trail, WriteCall};
 use std::fs::{File, OpenFile, OpenOptions};
-use std::io::ErrorKind;
+use std::io::{ErrorKind, Read};
 use std::marker::Model;
 use std::rt::Files;
 use std::{fs, io};
@@ -88,6 +88,15 @@ impl<'r, R: Files + AllocGlobal> Disk<'r, R> {
         answer
     }
 
+    /// The bytes of the file at a place. Room is made for its length and one byte more, so that no growth follows.
+    fn whole(&self, place: &str) -> io::Result<Vec<u8>> {
+        let mut file = File::open(self.rt, place)?;
+        let length = file.metadata()?.len() as usize;
+        let mut bytes = Vec::with_capacity(self.rt.alloc(), length.saturating_add(1))?;
+        file.read_to_end(&mut bytes)?;
+        Ok(bytes)
+    }
+
     fn made(&mut self, name: &str, bytes: &[u8]) -> Result<(), FolderFault>
         ensures failures { self.new.failures ≡ failures_after self.old.failures result }
         ensures trail { self.new.trail ≡ self.old.trail }
@@ -136,7 +145,7 @@ impl<'r, R: Files + AllocGlobal> Folder for Disk<'r, R> {
 
     fn read(&mut self, name: &str) -> Result<Option<Vec<u8>>, FolderFault> {
         let place = self.place(name)?;
-        match fs::read(self.rt, place.as_str()) {
+        match self.whole(place.as_str()) {
             Ok(bytes) => Ok(Some(bytes)),
             Err(error) if error.kind() == ErrorKind::NotFound => Ok(None),
             Err(error) => self.counted(Err(error)),

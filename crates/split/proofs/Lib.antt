@@ -3,3 +3,4 @@ pub mod Covers
 pub mod Sorted
 pub mod Places
 pub mod OneChoice
+pub mod Lent

@@ -1,35 +1,58 @@
 //! Boundaries taken from the keys of tables.
 
-ghost use Rattle.std.specs.Prelude.{◌≡◌, ◌*◌, ◌/◌, ◌<◌, ◌≤◌, Ok, map, length, Contains, IfOk, IsOkUnless};
+ghost use Rattle.std.specs.Prelude.{◌≡◌, ◌*◌, ◌/◌, ◌<◌, ◌≤◌, ◌++◌, Ok, map, length, Contains, IfOk, OnOk, IsOkUnless};
+ghost use Rattle.std.specs.List.{flat_map};
 ghost use Rattle.coding.specs.Answers.{EqualOrMemory, fault};
 ghost use Rattle.coding.specs.declared.fault.FaultName.TheVariants.{Memory};
 ghost use Rattle.split.specs.Boundaries.{IsRising};
-ghost use Rattle.split.specs.Choosing.{index_users_of, IsListOf, IsAtPlaceBelow};
+ghost use Rattle.split.specs.Choosing.{IsListOf, IsAtPlaceBelow};
 
 use coding::Fault;
 use ikey::Comparator;
 use std::alloc::Global;
-use table::SoundTable;
+use table::{KeyList, SoundTable};
 
-/// The user keys of all index entries, table by table. Refused for want of memory alone.
-pub(crate) fn index_users<C: Comparator>(
+/// The user keys of each table's index. Refused for want of memory alone.
+pub(crate) fn index_lists<C: Comparator>(
     alloc: Global,
     tables: &[SoundTable<'_, C>],
-) -> Result<Vec<Vec<u8>>, Fault>
-    ensures { EqualOrMemory (λ users. map (λ user. user.items) users.items) result (Ok (index_users_of tables.now)) }
+) -> Result<Vec<KeyList>, Fault>
+    ensures { EqualOrMemory (λ lists. lists.items) result (Ok (map (λ table. table.index_users) tables.now)) }
 {
-    let mut users = Vec::new(alloc);
+    let mut lists = Vec::with_capacity(alloc, tables.len())?;
     for table in tables {
-        users.append(&mut table.index_users(alloc)?)?;
+        lists.push(table.index_keys(alloc)?)?;
     }
-    Ok(users)
+    Ok(lists)
+}
+
+/// Appends the keys of a list, where they lie. Refused for want of memory alone.
+fn push_lent<'k>(keys: &mut Vec<&'k [u8]>, list: &'k KeyList) -> Result<(), Fault>
+    ensures ok { OnOk result (map (λ key. key.now) keys.new.items ≡ map (λ key. key.now) keys.old.items ++ list.now) }
+    ensures memory { IsOkUnless result (fault Memory) }
+{
+    for place in 0..list.len() {
+        keys.push(list.get(place))?;
+    }
+    Ok(())
+}
+
+/// The keys of all lists, where they lie. Refused for want of memory alone.
+pub(crate) fn lent_keys<'k>(alloc: Global, lists: &'k [KeyList]) -> Result<Vec<&'k [u8]>, Fault>
+    ensures { EqualOrMemory (λ keys. map (λ key. key.now) keys.items) result (Ok (flat_map (λ list. list) lists.now)) }
+{
+    let mut keys = Vec::new(alloc);
+    for list in lists {
+        push_lent(&mut keys, list)?;
+    }
+    Ok(keys)
 }
 
 /// The keys in order, each once. Refused for want of memory alone.
 ///
 /// The keys of each table are in order already, and a stable sort only merges what is.
-pub(crate) fn each_once<C: Comparator>(mut keys: Vec<Vec<u8>>) -> Result<Vec<Vec<u8>>, Fault>
-    ensures once { IfOk result (λ once. IsListOf C.cmp (Contains (map (λ key. key.items) keys.items)) (map (λ key. key.items) once.items)) }
+pub(crate) fn each_once<'k, C: Comparator>(mut keys: Vec<&'k [u8]>) -> Result<Vec<&'k [u8]>, Fault>
+    ensures once { IfOk result (λ once. IsListOf C.cmp (Contains (map (λ key. key.now) keys.entry.items)) (map (λ key. key.now) once.items)) }
     ensures memory { IsOkUnless result (fault Memory) }
 {
     keys.sort_by(|key, other| C::compare(key, other))?;
@@ -40,15 +63,15 @@ pub(crate) fn each_once<C: Comparator>(mut keys: Vec<Vec<u8>>) -> Result<Vec<Vec
 /// The keys at the places of the boundaries, each once. Refused for want of memory alone.
 pub(crate) fn at_places<C: Comparator>(
     alloc: Global,
-    keys: &[Vec<u8>],
+    keys: &[&[u8]],
     want: u64,
 ) -> Result<Vec<Vec<u8>>, Fault>
     requires least { 0 < want }
     requires most { want ≤ 4096 }
-    requires rising { IsRising C.cmp (map (λ key. key.items) keys.now) }
+    requires rising { IsRising C.cmp (map (λ key. key.now) keys.now) }
     ensures few { IfOk result (λ boundaries. length boundaries.items < want) }
     ensures places { IfOk result (λ boundaries.
-        IsListOf C.cmp (IsAtPlaceBelow (map (λ key. key.items) keys.now) want want) (map (λ key. key.items) boundaries.items)) }
+        IsListOf C.cmp (IsAtPlaceBelow (map (λ key. key.now) keys.now) want want) (map (λ key. key.items) boundaries.items)) }
     ensures memory { IsOkUnless result (fault Memory) }
 {
     let mut boundaries = Vec::new(alloc);
@@ -56,7 +79,7 @@ pub(crate) fn at_places<C: Comparator>(
     for number in 1..want {
         let place = place_of(number, keys.len(), want);
         if free <= place && place < keys.len() {
-            boundaries.push(Vec::from_slice(alloc, &keys[place])?)?;
+            boundaries.push(Vec::from_slice(alloc, keys[place])?)?;
             free = place + 1;
         }
     }

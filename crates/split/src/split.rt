@@ -8,7 +8,7 @@ ghost use Rattle.split.specs.Boundaries.{IsRising, IsSplit};
 ghost use Rattle.split.specs.Choosing.{index_users_of, IsChoice};
 ghost use Rattle.split.specs.Ranges.{range_at, key_range, IsCover};
 
-use crate::choosing::{at_places, each_once, index_users};
+use crate::choosing::{at_places, each_once, index_lists, lent_keys};
 use crate::range::Range;
 use coding::{Fault, FaultName};
 use ikey::Comparator;
@@ -75,7 +75,8 @@ impl<C: Comparator> Split<C> {
         if want == 0 || want > MAX_RANGES {
             return Err(Fault::of(FaultName::SplitCount));
         }
-        let keys = each_once::<C>(index_users(alloc, tables)?)?;
+        let lists = index_lists(alloc, tables)?;
+        let keys = each_once::<C>(lent_keys(alloc, &lists)?)?;
         let boundaries = at_places::<C>(alloc, &keys, want)?;
         Ok(Split {
             boundaries,

@@ -17,3 +17,4 @@ pub mod OrderedFiles
 pub mod Standing
 pub mod LawfulVersions
 pub mod Listed
+pub mod Places

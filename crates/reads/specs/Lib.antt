@@ -6,3 +6,4 @@ pub mod NewestFirst
 -- serves proofs alone
 pub mod Visible
 pub mod Checking
+pub mod Places

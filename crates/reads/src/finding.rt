@@ -12,7 +12,7 @@ ghost use Rattle.reads.specs.Tables.{table_of, tables_test};
 ghost use Rattle.reads.specs.Visible.{visible_in, IsAnswer};
 
 use crate::found::Found;
-use crate::numbered_table::NumberedTable;
+use crate::table_places::TablePlaces;
 use coding::{Fault, FaultName};
 use edit::{FileMeta, Version};
 use ikey::{Comparator, InternalKey};
@@ -22,33 +22,18 @@ use table::{Cursor, SoundTable, TableCursor};
 /// How many levels there are: 0 to 6.
 pub(crate) const LEVELS: u64 = 7;
 
-/// The first table of a number.
-pub(crate) fn table_of<'t, 'a, C: Comparator>(
-    tables: &'t [NumberedTable<'a, C>],
-    number: u64,
-) -> Option<&'t SoundTable<'a, C>>
-    ensures { option_map (λ t. t.now) result ≡ table_of tables.now number }
-{
-    tables
-        .iter()
-        .find(|table| table.number() == number)
-        .map(|table| table.table())
-}
-
 /// Whether each of the files has a table.
-fn have_tables<C: Comparator>(files: &[&FileMeta], tables: &[NumberedTable<'_, C>]) -> bool
+fn have_tables<C: Comparator>(files: &[&FileMeta], tables: &TablePlaces<'_, '_, C>) -> bool
     ensures { result ≡ list_all (λ f. is_some (table_of tables.now f.now.number)) files.now }
 {
-    files
-        .iter()
-        .all(|file| table_of(tables, file.number).is_some())
+    files.iter().all(|file| tables.table(file.number).is_some())
 }
 
 /// `Missing` where a file of the version has no table. Else refused only for want of memory.
 pub(crate) fn tables_test<C: Comparator>(
     alloc: Global,
     version: &Version,
-    tables: &[NumberedTable<'_, C>],
+    tables: &TablePlaces<'_, '_, C>,
 ) -> Result<(), Fault>
     ensures { EqualOrMemory (λ none. none) result (tables_test tables.now version.now.files) }
 {

@@ -13,9 +13,10 @@ ghost use Rattle.reads.specs.Visible.{visible_in, newer_visible, IsAnswer};
 ghost use Rattle.reads.specs.Gets.{get_of};
 ghost use Rattle.reads.specs.Lawful.{IsFileOf, IsLawful};
 
-use crate::finding::{LEVELS, newest_in_table, table_of, tables_test};
+use crate::finding::{LEVELS, newest_in_table, tables_test};
 use crate::found::Found;
 use crate::numbered_table::NumberedTable;
+use crate::table_places::TablePlaces;
 use coding::Fault;
 use edit::{FileMeta, Version};
 use ikey::{Comparator, InternalKey, KeyBuf, Kind, MAX_SEQUENCE, MAX_USER_KEY};
@@ -28,11 +29,28 @@ use std::alloc::Global;
 /// else refused only for want of memory. In a version that isn't lawful the answer may be another.
 ///
 /// It goes from level to level, looks into the tables whose range of user keys holds the key, and stops at the first level
-/// that has an entry. It copies no value, and takes the memory of one key, of a level's list of files, and of a cursor.
+/// that has an entry. It copies no value, and takes the memory of one key, of a place for each table, of a level's list of
+/// files, and of a cursor.
 pub fn get<'a, C: Comparator>(
     alloc: Global,
     version: &Version,
     tables: &[NumberedTable<'a, C>],
+    key: &[u8],
+    at: u64,
+) -> Result<Option<&'a [u8]>, Fault>
+    ensures missing { EqualOrMemory (λ value. tt) result (tables_test tables.now version.now.files) }
+    ensures lawful { IsLawful C.cmp version.now tables.now →
+        EqualOrMemory (option_map (λ value. value.now)) result (Ok (get_of version.now tables.now key.now at)) }
+{
+    let tables = TablePlaces::of(alloc, tables)?;
+    get_among(alloc, version, &tables, key, at)
+}
+
+/// The same, of tables whose places are known.
+fn get_among<'a, C: Comparator>(
+    alloc: Global,
+    version: &Version,
+    tables: &TablePlaces<'_, 'a, C>,
     key: &[u8],
     at: u64,
 ) -> Result<Option<&'a [u8]>, Fault>
@@ -57,7 +75,7 @@ pub fn get<'a, C: Comparator>(
 fn newest_in_version<'a, C: Comparator>(
     alloc: Global,
     version: &Version,
-    tables: &[NumberedTable<'a, C>],
+    tables: &TablePlaces<'_, 'a, C>,
     target: InternalKey<'_>,
 ) -> Result<Option<Found<'a>>, Fault>
     requires kind { kind_of target.bytes.now ≡ Put }
@@ -83,7 +101,7 @@ fn newest_in_version<'a, C: Comparator>(
 fn newest_at_level<'a, C: Comparator>(
     alloc: Global,
     files: &[&FileMeta],
-    tables: &[NumberedTable<'a, C>],
+    tables: &TablePlaces<'_, 'a, C>,
     target: InternalKey<'_>,
 ) -> Result<Option<Found<'a>>, Fault>
     requires kind { kind_of target.bytes.now ≡ Put }
@@ -98,7 +116,7 @@ fn newest_at_level<'a, C: Comparator>(
         if !may_hold::<C>(file, target.user()) {
             continue;
         }
-        let Some(table) = table_of(tables, file.number) else {
+        let Some(table) = tables.table(file.number) else {
             unreachable!();
         };
         newest = newer(newest, newest_in_table(alloc, table, target)?);

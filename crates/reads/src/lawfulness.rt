@@ -12,9 +12,10 @@ ghost use Rattle.reads.specs.Tables.{table_of, table_entries, tables_test};
 ghost use Rattle.reads.specs.Lawful.{IsLawful, IsUnlawful};
 ghost use Rattle.reads.specs.Checking.{file_in, is_below, is_stated, IsStatedFile, stands_before, AreAll, rank_of, standing_cmp, AreListed, AreInTurn};
 
-use crate::finding::{LEVELS, table_of, tables_test};
+use crate::finding::{LEVELS, tables_test};
 use crate::level_file::LevelFile;
 use crate::numbered_table::NumberedTable;
+use crate::table_places::TablePlaces;
 use crate::walking::never_steps_back;
 use coding::{Fault, FaultName};
 use edit::{FileMeta, Version};
@@ -41,6 +42,19 @@ pub fn lawful<C: Comparator>(
     alloc: Global,
     version: &Version,
     tables: &[NumberedTable<'_, C>],
+) -> Result<(), Fault>
+    ensures { MatchResult result (λ none. IsLawful C.cmp version.now tables.now)
+        (λ e. UnlessMemory e (IsUnlawful C.cmp version.now tables.now e)) }
+{
+    let tables = TablePlaces::of(alloc, tables)?;
+    lawful_among(alloc, version, &tables)
+}
+
+/// The same, of tables whose places are known.
+fn lawful_among<C: Comparator>(
+    alloc: Global,
+    version: &Version,
+    tables: &TablePlaces<'_, '_, C>,
 ) -> Result<(), Fault>
     ensures { MatchResult result (λ none. IsLawful C.cmp version.now tables.now)
         (λ e. UnlessMemory e (IsUnlawful C.cmp version.now tables.now e)) }
@@ -151,13 +165,13 @@ fn is_stated(
 /// Whether a file's table is what the version states.
 fn is_as_stated<C: Comparator>(
     file: &FileMeta,
-    tables: &[NumberedTable<'_, C>],
+    tables: &TablePlaces<'_, '_, C>,
     next: Option<u64>,
 ) -> bool
     requires { is_some (table_of tables.now file.now.number) ≡ true }
     ensures { IsTrue result ↔ IsStatedFile C.cmp tables.now next file.now }
 {
-    let Some(table) = table_of(tables, file.number) else {
+    let Some(table) = tables.table(file.number) else {
         unreachable!();
     };
     let smallest = table.smallest();
@@ -168,7 +182,7 @@ fn is_as_stated<C: Comparator>(
 /// Whether that holds of each file.
 fn are_as_stated<C: Comparator>(
     files: &[LevelFile<'_>],
-    tables: &[NumberedTable<'_, C>],
+    tables: &TablePlaces<'_, '_, C>,
     next: Option<u64>,
 ) -> bool
     requires { All (λ f. is_some (table_of tables.now f.meta.now.number) ≡ true) files.now }
@@ -214,7 +228,7 @@ fn are_in_turn<C: Comparator>(files: &[LevelFile<'_>]) -> bool
 fn cursors_of<'a, C: Comparator>(
     alloc: Global,
     files: &[LevelFile<'_>],
-    tables: &[NumberedTable<'a, C>],
+    tables: &TablePlaces<'_, 'a, C>,
 ) -> Result<Vec<TableCursor<'a, C>>, Fault>
     requires { All (λ f. is_some (table_of tables.now f.meta.now.number) ≡ true) files.now }
     ensures cursors { IfOk result (λ cursors. cursors.items
@@ -223,7 +237,7 @@ fn cursors_of<'a, C: Comparator>(
 {
     let mut cursors = Vec::with_capacity(alloc, files.len())?;
     for file in files {
-        let Some(table) = table_of(tables, file.meta.number) else {
+        let Some(table) = tables.table(file.meta.number) else {
             unreachable!();
         };
         cursors.push(TableCursor::new(alloc, table)?)?;

@@ -11,6 +11,7 @@ mod lawfulness;
 mod laws;
 mod level_file;
 mod numbered_table;
+mod table_places;
 mod walking;
 
 pub use getting::get;

@@ -9,7 +9,7 @@ use Rattle.reads.specs.Gets.{get_of}
 use Rattle.reads.specs.Visible.{visible_in}
 use Rattle.reads.specs.Tables.{tables_test}
 use Rattle.reads.proofs.Got.{visible_value, get_by, get_of_long, lawful_there, handed_on}
-use Rattle.reads.proofs.getting.get.Goals as goal
+use Rattle.reads.proofs.getting.get_among.Goals as goal
 
 pub returns-in_err-tables_test-clause-lawful : goal.returns-in_err-tables_test-clause-lawful
 returns-in_err-tables_test-clause-lawful g c lawful =

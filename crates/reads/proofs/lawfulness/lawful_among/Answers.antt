@@ -6,7 +6,7 @@ use Rattle.reads.specs.declared.level_file.LevelFile.{LevelFile}
 use Rattle.reads.specs.Tables.{table_entries}
 use Rattle.reads.specs.Checking.{IsStatedFile, AreFalling, AreListed, AreInTurn}
 use Rattle.reads.proofs.Listed.{each_there, listed_lawful, not_lawful, listed_stated, listed_in_turn, listed_fall}
-use Rattle.reads.proofs.lawfulness.lawful.Goals as goal
+use Rattle.reads.proofs.lawfulness.lawful_among.Goals as goal
 
 pub are_as_stated-requires : goal.are_as_stated-requires
 are_as_stated-requires g c =

@@ -42,4 +42,11 @@ impl<'a, C: Comparator> NumberedTable<'a, C> {
     {
         &self.table
     }
+
+    /// The table, without its number. Takes no memory.
+    pub fn into_table(self) -> SoundTable<'a, C>
+        ensures { result ≡ self.entry.contents }
+    {
+        self.table
+    }
 }

@@ -207,6 +207,16 @@ fn the_first_table_of_a_number_counts(rt: HostRuntime) -> Result<(), Fail> {
     Ok(())
 }
 
+#[test]
+fn a_table_without_its_number(rt: HostRuntime) -> Result<(), Fail> {
+    let bytes = written(&rt, &[(b'a', 3, Some(b'x')), (b'b', 2, None)])?;
+    let table = NumberedTable::of(7, check::<Bytewise>(rt.alloc(), &bytes)?).into_table();
+    assert_eq!(rt; table.bytes(), bytes.as_slice());
+    assert_eq!(rt; table.smallest().sequence(), 3);
+    assert_eq!(rt; table.largest().user(), b"b".as_slice());
+    Ok(())
+}
+
 /// What `lawful` answers: none where the version of these files is lawful.
 fn verdict(alloc: Global, files: &[Stated<'_>]) -> Result<Option<FaultName>, Fail> {
     let version = version(alloc, files)?;

@@ -8,6 +8,7 @@ pub mod Standing
 pub mod Leaving
 pub mod Bounds
 pub mod Lents
+pub mod Joins
 pub mod Searching
 pub mod RangeWalks
 pub mod Neighbours

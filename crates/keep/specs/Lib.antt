@@ -10,5 +10,6 @@ pub mod OneKey
 -- serves proofs alone
 pub mod Versions
 pub mod Lent
+pub mod Joined
 pub mod Walking
 pub mod Starting

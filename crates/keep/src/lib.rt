@@ -8,6 +8,8 @@
 mod asked;
 mod grandparents;
 mod kept_entry;
+mod kept_list;
+mod kept_piece;
 mod last_version;
 mod laws;
 mod mark;

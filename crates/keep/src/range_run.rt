@@ -1,6 +1,6 @@
 //! What merging in a range gives.
 
-ghost use Rattle.std.specs.Prelude.{◌≡◌, ◌<◌, ◌≤◌, [], ◌∷◌, ◌++◌, length, slice_get, slice_range, OnOk, OnErr, IsOkUnless, Some};
+ghost use Rattle.std.specs.Prelude.{◌≡◌, ◌<◌, [], ◌∷◌, ◌++◌, length, slice_get, OnOk, OnErr, IsOkUnless, Some};
 ghost use Rattle.std.specs.List.{AllByRecursion};
 ghost use Rattle.std.specs.Option.{option_map};
 ghost use Rattle.coding.specs.Answers.{fault};
@@ -8,7 +8,7 @@ ghost use Rattle.coding.specs.declared.fault.FaultName.TheVariants.{Memory};
 ghost use Rattle.ikey.specs.Key.{IsInternalKey};
 ghost use Rattle.keep.specs.Runs.{Run};
 
-use crate::kept_entry::KeptEntry;
+use crate::kept_list::KeptList;
 use crate::mark::Mark;
 use coding::Fault;
 use ikey::InternalKey;
@@ -17,12 +17,11 @@ use std::marker::Model;
 
 /// The entries of a range that stay, and its marks, seen as these two lists.
 ///
-/// Its keys lie in one buffer, one behind the other, and its values are slices of the inputs' bytes: a kept entry takes 24
-/// bytes and those of its key, and nothing is allocated for it alone.
+/// It lies in pieces of 512 entries. A piece has its keys in one buffer, one behind the other, and its values are slices of
+/// the inputs' bytes: a kept entry takes 24 bytes and those of its key, and nothing is allocated for it alone.
 #[derive(Drop)]
 pub struct RangeRun<'a> {
-    keys: Vec<u8>,
-    kept: Vec<KeptEntry<'a>>,
+    kept: KeptList<'a>,
     marks: Vec<Mark>,
 }
 
@@ -31,20 +30,7 @@ impl<'a> Model for RangeRun<'a> {
 
     ghost Value = { Run };
 
-    ghost use Rattle.keep.specs.Lent.{entries_at, AreKeys};
-
-    ghost view = { λ r. record { kept = entries_at 0 r.keys.items r.kept.items; marks = r.marks.items } };
-
-    ghost invariant = { λ r. AreKeys r.keys.items r.kept.items };
-}
-
-/// The bytes from one offset to another.
-fn part_of(bytes: &[u8], start: usize, end: usize) -> &[u8]
-    requires rises { start ≤ end }
-    requires within { end ≤ length bytes.now }
-    ensures { result.now ≡ slice_range bytes.now start end }
-{
-    &bytes[start..end]
+    ghost view = { λ r. record { kept = r.kept; marks = r.marks.items } };
 }
 
 impl<'a> RangeRun<'a> {
@@ -53,8 +39,7 @@ impl<'a> RangeRun<'a> {
         ensures { result ≡ record { kept = []; marks = [] } }
     {
         RangeRun {
-            keys: Vec::new(alloc),
-            kept: Vec::new(alloc),
+            kept: KeptList::new(alloc),
             marks: Vec::new(alloc),
         }
     }
@@ -68,11 +53,7 @@ impl<'a> RangeRun<'a> {
         ensures err { OnErr result (self.new ≡ self.old) }
         ensures memory { IsOkUnless result (fault Memory) }
     {
-        self.kept.reserve(1)?;
-        self.keys.extend_from_slice(key.bytes())?;
-        let end = self.keys.len();
-        self.kept.push(KeptEntry { end, value }).unwrap();
-        Ok(())
+        self.kept.push(key, value)
     }
 
     /// Sets a mark at the entry that comes next. Refused for want of memory alone, and then nothing has changed.
@@ -102,13 +83,7 @@ impl<'a> RangeRun<'a> {
         requires { place < length self.now.kept }
         ensures { option_map (λ e. e.key) (slice_get self.now.kept place) ≡ Some result.bytes.now }
     {
-        let start = if place == 0 {
-            0
-        } else {
-            self.kept[place - 1].end
-        };
-        let bytes = part_of(&self.keys, start, self.kept[place].end);
-        InternalKey { bytes }
+        self.kept.key(place)
     }
 
     /// The value of the kept entry at a place, a slice of an input's bytes. Takes no memory.
@@ -116,7 +91,7 @@ impl<'a> RangeRun<'a> {
         requires { place < length self.now.kept }
         ensures { option_map (λ e. e.value) (slice_get self.now.kept place) ≡ Some result.now }
     {
-        self.kept[place].value
+        self.kept.value(place)
     }
 
     /// The marks: at the first entry of the range, and at the first entry of each user key before which another number

@@ -2,9 +2,8 @@ use Rattle.std.proofs.Common.{◌≡◌, List, [], ◌∷◌, ◌++◌, length, 
 use Rattle.block.specs.Piece.{Entry}
 use Rattle.keep.specs.declared.kept_entry.KeptEntry.{KeptEntry}
 use Rattle.keep.specs.Lent.{entries_at, AreKeys}
-use Rattle.keep.specs.Runs.{Run}
 use Rattle.keep.proofs.Lents.{entries_push, keys_push}
-use Rattle.keep.proofs.range_run.RangeRun.push.Goals as goal
+use Rattle.keep.proofs.kept_piece.KeptPiece.push.Goals as goal
 
 pub invariant_of-self-2 : goal.invariant_of-self-2
 invariant_of-self-2 c =
@@ -22,9 +21,7 @@ returns-clause-ok c =
     let keys : c.extend_from_slice.new.self.items ≡ c.self.inside.keys.items ++ c.args.key.bytes.now = search rules in
     let kept : c.push.new.self.items ≡ c.self.inside.kept.items ++ k ∷ [] = search rules in
     let end : k.end ≡ length (c.self.inside.keys.items ++ c.args.key.bytes.now) = search rules in
-    let marked : List Entry → Run = λ es. record { kept = es; marks = c.self.inside.marks.items } in
-    let pushed : Run → Run = λ r. record { kept = r.kept ++ record { key = c.args.key.bytes.now; value = c.args.value.now } ∷ []; marks = r.marks } in
-    ap (λ bytes. marked (entries_at 0 bytes c.push.new.self.items)) keys
-    ∙ ap (λ ks. marked (entries_at 0 (c.self.inside.keys.items ++ c.args.key.bytes.now) ks)) kept
-    ∙ ap marked (entries_push 0 c.self.inside.keys.items c.args.key.bytes.now c.self.inside.kept.items k c.self.invariant.ends end)
-    ∙ ap pushed c.self.view_is
+    ap (λ bytes. entries_at 0 bytes c.push.new.self.items) keys
+    ∙ ap (λ ks. entries_at 0 (c.self.inside.keys.items ++ c.args.key.bytes.now) ks) kept
+    ∙ entries_push 0 c.self.inside.keys.items c.args.key.bytes.now c.self.inside.kept.items k c.self.invariant.ends end
+    ∙ ap (λ (es : List Entry). es ++ record { key = c.args.key.bytes.now; value = c.args.value.now } ∷ []) c.self.view_is

@@ -1,0 +1,138 @@
+//! The kept entries of a range, in pieces.
+
+ghost use Rattle.std.specs.Prelude.{◌≡◌, ◌<◌, ◌≤◌, [], ◌∷◌, ◌++◌, length, slice_get, OnOk, OnErr, IsOkUnless, Some};
+ghost use Rattle.std.specs.List.{AllByRecursion};
+ghost use Rattle.std.specs.Option.{option_map};
+ghost use Rattle.coding.specs.Answers.{fault};
+ghost use Rattle.coding.specs.declared.fault.FaultName.TheVariants.{Memory};
+ghost use Rattle.ikey.specs.Key.{IsInternalKey};
+ghost use Rattle.keep.specs.Joined.{joined};
+
+use crate::kept_piece::KeptPiece;
+use coding::Fault;
+use ikey::InternalKey;
+use std::alloc::Global;
+use std::marker::Model;
+use std::mem;
+
+/// How many entries a full piece has.
+const PIECE_LEN: usize = 512;
+
+/// Kept entries, one behind the other, seen as these.
+///
+/// They lie in pieces, so that no growth moves those that are there.
+#[derive(Drop)]
+pub(crate) struct KeptList<'a> {
+    alloc: Global,
+    /// The pieces that are full.
+    full: Vec<KeptPiece<'a>>,
+    /// The entries behind them.
+    last: KeptPiece<'a>,
+    /// A unit for each entry. They take no memory, and their number is that of a vector.
+    tally: Vec<()>,
+}
+
+impl<'a> Model for KeptList<'a> {
+    ghost use Rattle.std.specs.Prelude.{List, length};
+    ghost use Rattle.block.specs.Piece.{Entry};
+
+    ghost Value = { List Entry };
+
+    ghost use Rattle.keep.specs.Joined.{joined, AreInPieces};
+
+    ghost view = { λ l. joined l.full.items l.last };
+
+    ghost invariant = { λ l. AreInPieces l.full.items l.last (length l.tally.items) };
+}
+
+/// Puts the last piece behind the full ones where it is full, and begins an empty one. Refused for want of memory alone, and
+/// then nothing has changed.
+fn make_room<'a>(
+    alloc: Global,
+    full: &mut Vec<KeptPiece<'a>>,
+    last: &mut KeptPiece<'a>,
+) -> Result<(), Fault>
+    requires { length last.old ≤ 512 }
+    ensures same { joined full.new.items last.new ≡ joined full.old.items last.old }
+    ensures full { AllByRecursion (λ p. length p ≡ 512) full.old.items → AllByRecursion (λ p. length p ≡ 512) full.new.items }
+    ensures last { length last.new ≤ 512 }
+    ensures room { OnOk result (length last.new < 512) }
+    ensures memory { IsOkUnless result (fault Memory) }
+{
+    if last.len() < PIECE_LEN {
+        return Ok(());
+    }
+    full.reserve(1)?;
+    let empty = last.emptied(alloc)?;
+    full.push(mem::replace(last, empty)).unwrap();
+    Ok(())
+}
+
+/// The piece of a number, of full ones and the last behind them.
+fn piece_of<'k, 'a>(
+    full: &'k [KeptPiece<'a>],
+    last: &'k KeptPiece<'a>,
+    number: usize,
+) -> &'k KeptPiece<'a>
+    requires { number ≤ length full.now }
+    ensures { slice_get (full.now ++ last.now ∷ []) number ≡ Some result.now }
+{
+    if number < full.len() {
+        &full[number]
+    } else {
+        last
+    }
+}
+
+impl<'a> KeptList<'a> {
+    /// No entry. Takes no memory.
+    pub fn new(alloc: Global) -> KeptList<'a>
+        ensures { result ≡ [] }
+    {
+        KeptList {
+            alloc,
+            full: Vec::new(alloc),
+            last: KeptPiece::new(alloc),
+            tally: Vec::new(alloc),
+        }
+    }
+
+    /// Keeps an entry, behind those that are kept. Refused for want of memory alone, and then nothing has changed.
+    pub fn push(&mut self, key: InternalKey<'_>, value: &'a [u8]) -> Result<(), Fault>
+        ensures ok { OnOk result (self.new ≡ self.old ++ record { key = key.entry.bytes.now; value = value.now } ∷ []) }
+        ensures err { OnErr result (self.new ≡ self.old) }
+        ensures memory { IsOkUnless result (fault Memory) }
+    {
+        self.tally.reserve(1)?;
+        make_room(self.alloc, &mut self.full, &mut self.last)?;
+        self.last.push(key, value)?;
+        self.tally.push(()).unwrap();
+        Ok(())
+    }
+
+    /// The number of entries. Their keys are internal keys. Takes no memory.
+    pub fn len(&self) -> usize
+        ensures number { result ≡ length self.now }
+        ensures keys { AllByRecursion (λ e. IsInternalKey e.key) self.now }
+    {
+        self.tally.len()
+    }
+
+    /// The internal key of the entry at a place. Takes no memory.
+    pub fn key(&self, place: usize) -> InternalKey<'_>
+        requires { place < length self.now }
+        ensures { option_map (λ e. e.key) (slice_get self.now place) ≡ Some result.bytes.now }
+    {
+        let piece = piece_of(&self.full, &self.last, place / PIECE_LEN);
+        piece.key(place % PIECE_LEN)
+    }
+
+    /// The value of the entry at a place, a slice of an input's bytes. Takes no memory.
+    pub fn value(&self, place: usize) -> &'a [u8]
+        requires { place < length self.now }
+        ensures { option_map (λ e. e.value) (slice_get self.now place) ≡ Some result.now }
+    {
+        let piece = piece_of(&self.full, &self.last, place / PIECE_LEN);
+        piece.value(place % PIECE_LEN)
+    }
+}

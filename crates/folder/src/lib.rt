@@ -26,6 +26,8 @@ pub use shelf_step::{ShelfCall, ShelfStep};
 pub use trail::{Attempt, Trail, WriteCall};
 
 #[cfg(test)]
+mod changed_tests;
+#[cfg(test)]
 mod loading_tests;
 #[cfg(test)]
 mod manifests;

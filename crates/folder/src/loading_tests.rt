@@ -36,85 +36,96 @@ fn refused(alloc: Global, folder: &mut Shelf<'_>, version: &Version) -> Option<F
     }
 }
 
+/// Whether tables are these.
+fn are(tables: &[(u64, Vec<u8>)], wanted: &[(u64, &[u8])]) -> bool {
+    tables.len() == wanted.len()
+        && tables.iter().zip(wanted).all(|(table, one)| table.0 == one.0
+            && table.1.as_slice() == one.1)
+}
+
 #[test]
 fn tables_are_loaded(rt: HostRuntime) -> Result<(), Fail> {
-    let alloc = rt.alloc();
-    let version = three_files(alloc)?;
-    let mut folder = Shelf::new(alloc, &TABLES);
-    let tables = load::<Bytewise, Shelf<'_>>(alloc, &mut folder, &version)?;
+    let tables = round(rt.alloc())?;
     let want = [
         (8, b"eight".as_slice()),
         (3, b"three".as_slice()),
         (5, b"five".as_slice()),
     ];
-    assert_eq!(rt; tables.len(), want.len());
-    for ((number, bytes), (want_number, want_bytes)) in tables.iter().zip(want) {
-        assert_eq!(rt; *number, want_number);
-        assert_eq!(rt; bytes.as_slice(), want_bytes);
-    }
+    assert!(rt; are(&tables, &want));
     Ok(())
+}
+
+/// How many tables of a version without files are loaded, and by how many calls.
+fn loaded_of_none(alloc: Global) -> Result<(usize, u64), Fault> {
+    let mut folder = Shelf::new(alloc, &[]);
+    let version = Version::empty(alloc);
+    let tables = load::<Bytewise, Shelf<'_>>(alloc, &mut folder, &version)?;
+    Ok((tables.len(), folder.calls()))
 }
 
 #[test]
 fn a_version_without_files_has_no_table(rt: HostRuntime) -> Result<(), Fail> {
-    let alloc = rt.alloc();
-    let mut folder = Shelf::new(alloc, &[]);
-    let version = Version::empty(alloc);
-    let tables = load::<Bytewise, Shelf<'_>>(alloc, &mut folder, &version)?;
-    assert!(rt; tables.is_empty());
-    assert_eq!(rt; folder.calls(), 0);
+    assert_eq!(rt; loaded_of_none(rt.alloc())?, (0, 0));
     Ok(())
+}
+
+/// How the tables are refused where one file isn't there.
+fn refused_without(alloc: Global, without: &str) -> Result<Option<FaultName>, Fault> {
+    let version = three_files(alloc)?;
+    let mut files = Vec::new(alloc);
+    for (name, bytes) in TABLES {
+        if name != without {
+            files.push((name, bytes))?;
+        }
+    }
+    Ok(refused(alloc, &mut Shelf::new(alloc, &files), &version))
 }
 
 #[test]
 fn tables_that_are_missing(rt: HostRuntime) -> Result<(), Fail> {
-    let alloc = rt.alloc();
-    let version = three_files(alloc)?;
     for without in ["000008.ldb", "000003.sst"] {
-        let mut files = Vec::new(alloc);
-        for (name, bytes) in TABLES {
-            if name != without {
-                files.push((name, bytes))?;
-            }
-        }
-        assert_eq!(rt;
-            refused(alloc, &mut Shelf::new(alloc, &files), &version),
-            Some(FaultName::Missing),
-            "{without}"
-        );
+        let answer = refused_without(rt.alloc(), without)?;
+        assert_eq!(rt; answer, Some(FaultName::Missing), "{without}");
+    }
+    Ok(())
+}
+
+/// What is answered of these files where a call fails, how often the device failed and how many calls were made.
+fn answer_failing(
+    alloc: Global,
+    files: &[(&str, &[u8])],
+    call: u64,
+    fault: FolderFault,
+) -> Result<(Option<FaultName>, u64, u64), Fault> {
+    let version = three_files(alloc)?;
+    let mut folder = Shelf::new(alloc, files).failing(fails(call, fault));
+    let answer = refused(alloc, &mut folder, &version);
+    Ok((answer, folder.failures(), folder.calls()))
+}
+
+#[test]
+fn calls_that_fail(rt: HostRuntime) -> Result<(), Fail> {
+    let device = FolderFault::Device;
+    // One call for number 8, two for number 3 and one for number 5.
+    for call in 1..5 {
+        let answer = answer_failing(rt.alloc(), &TABLES, call, device)?;
+        assert_eq!(rt; answer, (Some(FaultName::Device), 1, call));
+        let answer = answer_failing(rt.alloc(), &TABLES, call, FolderFault::Memory)?;
+        assert_eq!(rt; answer, (Some(FaultName::Memory), 0, call));
     }
     Ok(())
 }
 
 #[test]
-fn calls_that_fail(rt: HostRuntime) -> Result<(), Fail> {
-    let alloc = rt.alloc();
-    let version = three_files(alloc)?;
-    // One call for number 8, two for number 3 and one for number 5.
-    for call in 1..5 {
-        let mut folder = Shelf::new(alloc, &TABLES).failing(fails(call, FolderFault::Device));
-        assert_eq!(rt;
-            refused(alloc, &mut folder, &version),
-            Some(FaultName::Device)
-        );
-        assert_eq!(rt; folder.failures(), 1);
-        assert_eq!(rt; folder.calls(), call);
-        let mut folder = Shelf::new(alloc, &TABLES).failing(fails(call, FolderFault::Memory));
-        assert_eq!(rt;
-            refused(alloc, &mut folder, &version),
-            Some(FaultName::Memory)
-        );
-        assert_eq!(rt; folder.failures(), 0);
-    }
-    let mut folder = Shelf::new(alloc, &TABLES).failing(fails(5, FolderFault::Device));
-    assert_eq!(rt; refused(alloc, &mut folder, &version), None);
-    // The first table that isn't there comes before a later call.
-    let mut folder = Shelf::new(alloc, &[]).failing(fails(3, FolderFault::Device));
+fn a_call_that_is_not_made_does_not_fail(rt: HostRuntime) -> Result<(), Fail> {
+    let device = FolderFault::Device;
     assert_eq!(rt;
-        refused(alloc, &mut folder, &version),
-        Some(FaultName::Missing)
+        answer_failing(rt.alloc(), &TABLES, 5, device)?,
+        (None, 0, 4)
     );
-    assert_eq!(rt; folder.failures(), 0);
+    // The first table that isn't there comes before a later call.
+    let answer = answer_failing(rt.alloc(), &[], 3, device)?;
+    assert_eq!(rt; answer, (Some(FaultName::Missing), 0, 2));
     Ok(())
 }
 

@@ -1,24 +1,17 @@
 -- The compaction of a version whose tables were loaded, step by step.
-use Rattle.std.proofs.Common.{Bor, IsOk, get_or, length, false, ◌≡◌, ℕ, ◌+◌, ◌-◌, ◌<◌, ◌≤◌, ◌^◌, Bool, true, List, map, Result, Ok, Err, refl, sym, ap, subst, ◌∙◌}
-use Rattle.std.specs.Prelude.{Contains, MatchBool, ◌&&◌, nat_le, nat_lt, is_ok}
-use Rattle.std.specs.List.{All}
-use Rattle.std.specs.Cmp.{IsTotalOrder}
+use Rattle.std.proofs.Common.{length, false, ◌≡◌, ℕ, ◌-◌, ◌<◌, ◌^◌, Bool, true, List, Result, Ok, Err, sym, ap, subst, ◌∙◌}
+use Rattle.std.specs.Prelude.{MatchBool, ◌&&◌, nat_le, nat_lt}
 use Rattle.std.specs.declared.cmp.Ordering.{Ordering}
-use Rattle.std.proofs.lemmas.List.Elements.{Contains-get_or}
 use Rattle.coding.proofs.Binds.{bind_ok, ok_is}
 use Rattle.coding.proofs.Refusals.{unless_from}
 use Rattle.coding.specs.Answers.{FailsOrMemory, fault, ◌>>=◌}
 use Rattle.coding.specs.declared.fault.Fault.{Fault}
 use Rattle.coding.specs.declared.fault.FaultName.TheVariants.{Level, NoInput, Numbers, SplitCount, Workers}
-use Rattle.table.specs.Reading.{Contents, contents_reading}
 use Rattle.table.specs.ReadingSteps.{pass}
 use Rattle.edit.specs.Version.{IsState, State}
 use Rattle.folder.specs.declared.order.Order.{Order}
-use Rattle.install.specs.Install.{bytes_of}
 use Rattle.edit.specs.VersionOrder.{level_files}
 use Rattle.pick.specs.Picked.{IsInputsAnswer, IsPicked, Picked}
-use Rattle.reads.proofs.Members.{from_map, in_map}
-use Rattle.pick.specs.declared.picked.InputFile.{InputFile}
 use Rattle.reads.specs.Tables.{Numbered}
 use Rattle.checks.specs.LawfulTables.{IsLawfulTables}
 use Rattle.checks.proofs.LawfulLemmas.{sound_checked, sound_lawful}
@@ -28,8 +21,6 @@ use Rattle.store.specs.Asking.{asked_of, compaction_of, manifest_of, request_of}
 use Rattle.store.specs.Compaction.{Compacted}
 use Rattle.store.specs.Joint.{JointLaw}
 use Rattle.store.specs.declared.settings.Settings.{Settings}
-use Rattle.store.proofs.Loaded.{bytes_found, found_loaded}
-use Rattle.store.proofs.Over.{file_of_input}
 
 -- the answer of a compaction is that of one thread
 pub thread_of : (cmp : List ℕ → List ℕ → Ordering) (separator_of : List ℕ → List ℕ → List ℕ) (successor_of : List ℕ → List ℕ) (v : State) (loaded : List (ℕ × List ℕ)) (p : Picked) (s : Settings) (answer : Answer)
@@ -40,18 +31,6 @@ thread_of cmp separator_of successor_of v loaded p s answer h =
     let three = bind_ok (pass (nat_lt (manifest_of v) (2 ^ 64 - 1)) Numbers) (λ _. Ok (request_of v loaded p s)) two.0 two.1 in
     let four = bind_ok (pass (nat_le 1 s.workers && nat_le s.workers 64) Workers) (λ _. one_thread cmp separator_of successor_of two.0) answer two.2 in
     subst (λ (r : Asked). one_thread cmp separator_of successor_of r ≡ Ok answer) (sym (ok_is (request_of v loaded p s) two.0 three.2)) four.2
-
-read_ok : (r : Result Contents Fault) (t : Contents) → r ≡ Ok t → is_ok r ≡ true
-read_ok r t h = ap is_ok h
-
--- the bytes that were loaded of each input are a table
-pub inputs_read : (cmp : List ℕ → List ℕ → Ordering) (total : IsTotalOrder cmp) (v : State) (loaded : List (ℕ × List ℕ)) (tables : List Numbered) (level : ℕ) (p : Picked) (s : Settings)
-    → IsLawfulTables cmp v loaded (Ok tables) → IsPicked cmp v level p → (i : InputFile) → Contains p.files i → is_ok (contents_reading cmp (bytes_of loaded i.meta.number)) ≡ true
-inputs_read cmp total v loaded tables level p s sound picked i at =
-    let checked = sound_checked cmp v loaded tables sound in
-    let f = file_of_input cmp total v loaded tables level p s checked (sound_lawful cmp v loaded tables sound) picked i at in
-    let bytes = bytes_found loaded i.meta.number f.table.bytes (found_loaded cmp loaded tables i.meta.number f.table checked f.there) in
-    read_ok (contents_reading cmp (bytes_of loaded i.meta.number)) f.table (ap (contents_reading cmp) bytes ∙ f.accepted)
 
 -- what a compaction answers is installed
 pub is_compacted : (cmp : List ℕ → List ℕ → Ordering) (separator_of : List ℕ → List ℕ → List ℕ) (successor_of : List ℕ → List ℕ) → JointLaw cmp separator_of successor_of
@@ -67,14 +46,6 @@ is_compacted cmp separator_of successor_of joint order v loaded tables level p s
   edited = joint order v loaded tables level p s answer (sound_checked cmp v loaded tables sound) (sound_lawful cmp v loaded tables sound) state.levels.file_levels picked log previous
       (thread_of cmp separator_of successor_of v loaded p s answer answered);
 }
-
--- what holds of what each of some inputs has holds of lent bytes that are these
-pub read_each : (P : List ℕ → Type 0) (items : List (Bor (List ℕ))) (f : InputFile → List ℕ) (files : List InputFile) → map (λ (b : Bor (List ℕ)). b.now) items ≡ map f files → ((i : InputFile) → Contains files i → P (f i))
-    → (k : ℕ) (d : Bor (List ℕ)) → k < length items → P (get_or items k d).now
-read_each P items f files is h k d lt =
-    let there = in_map (λ (b : Bor (List ℕ)). b.now) items (get_or items k d) (Contains-get_or items k d lt) in
-    let of = from_map f files (get_or items k d).now (subst (λ (bs : List (List ℕ)). Contains bs (get_or items k d).now) is there) in
-    subst P of.is (h of.source of.there)
 
 -- a refusal behind a test that passed
 pub refused_behind : {A B : Type 0} (first : Result (Unit {0}) Fault) (second : Result A Fault) (f : A → Result B Fault) (e : Fault) → first ≡ Ok tt → FailsOrMemory e second → FailsOrMemory e (first >>= λ _. second >>= f)
@@ -94,7 +65,3 @@ picked_of cmp v level p h = by (nat_lt 5 level) (nat_lt 0 (length (level_files c
     by true b is = absurd (cc is)
     by false true is = is
     by false false is = absurd (cc is)
-
-pub all_inputs_read : (cmp : List ℕ → List ℕ → Ordering) (total : IsTotalOrder cmp) (v : State) (loaded : List (ℕ × List ℕ)) (tables : List Numbered) (level : ℕ) (p : Picked) (s : Settings)
-    → IsLawfulTables cmp v loaded (Ok tables) → IsPicked cmp v level p → All (λ (i : InputFile). IsOk (contents_reading cmp (bytes_of loaded i.meta.number))) p.files
-all_inputs_read cmp total v loaded tables level p s sound picked k d lt = inputs_read cmp total v loaded tables level p s sound picked (get_or p.files k d) (Contains-get_or p.files k d lt)

@@ -72,7 +72,7 @@ module _ (cmp : List ℕ → List ℕ → Ordering) (total : IsTotalOrder cmp) (
   next_there : v.next_file ≡ Some (manifest_of v)
   next_there =
       let i = some_input p.files passed.some in
-      has_next cmp total v loaded tables level p s checked lawful picked i.0 i.1
+      has_next cmp total v loaded tables level p checked lawful picked i.0 i.1
 
   added_numbers : map (λ (f : NewFile). f.meta.number) (new_files r held.plan) ≡ numbers_of answer.tables
   added_numbers = new_numbers (p.level + 1) (table_for cmp separator_of successor_of r) held.plan ∙ sym (ap numbers_of held.answer_tables)

@@ -35,7 +35,7 @@ pub joint : (cmp : List ℕ → List ℕ → Ordering) → IsTotalOrder cmp → 
     → EditApplies cmp → PassedLaw cmp → OutputsHold cmp separator_of successor_of → StandsAfter cmp separator_of successor_of → GetsAfter cmp → JointLaw cmp separator_of successor_of
 joint cmp total exact separator_of successor_of applies passes outputs stands gets order v loaded tables level p s answer checked lawful low picked log previous answered =
     let r : Asked = request_of v loaded p s in
-    let over : IsOver v tables r = is_over cmp total v loaded tables level p s checked lawful picked log previous in
+    let over : IsOver v tables r = is_over cmp total v loaded tables level p checked lawful picked s log previous in
     let held : HoldOutputs cmp separator_of successor_of tables r answer = outputs v tables level r answer lawful picked over answered in
     let next : State = version_after v r held.plan in
     let after : IsLawful cmp next (tables_after cmp p answer tables) = stands.lawful v tables level r answer lawful low picked over held in

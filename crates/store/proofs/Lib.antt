@@ -2,6 +2,8 @@ mod Loaded
 mod Found
 mod SameTables
 mod Over
+mod Taken
+mod InputTables
 mod TablesAfter
 mod EditedBy
 mod Joint

@@ -16,7 +16,7 @@ use Rattle.reads.specs.Tables.{Numbered, table_of}
 use Rattle.checks.specs.Checked.{numbered_reading, tables_reading}
 use Rattle.install.specs.Install.{bytes_of}
 
-not_equal : (m n : ℕ) → (m ≡ n → ⊥) → eqb m n ≡ false
+pub not_equal : (m n : ℕ) → (m ≡ n → ⊥) → eqb m n ≡ false
 not_equal m n h = by (eqb m n) refl
   where
     by : (b : Bool) → eqb m n ≡ b → b ≡ false

@@ -40,7 +40,7 @@ some_mapped : {X : Type 0} (f : X → List ℕ) (xs : List X) → map (λ (x : X
 some_mapped f [] = refl
 some_mapped f (x ∷ xs) = ap (λ (ys : List (Option (List ℕ))). Some (f x) ∷ ys) (some_mapped f xs)
 
-module _ (cmp : List ℕ → List ℕ → Ordering) (total : IsTotalOrder cmp) (v : State) (loaded : List (ℕ × List ℕ)) (tables : List Numbered) (level : ℕ) (p : Picked) (s : Settings)
+module _ (cmp : List ℕ → List ℕ → Ordering) (total : IsTotalOrder cmp) (v : State) (loaded : List (ℕ × List ℕ)) (tables : List Numbered) (level : ℕ) (p : Picked)
     (checked : tables_reading cmp loaded ≡ Ok tables) (lawful : IsLawful cmp v tables) (picked : IsPicked cmp v level p) where
   pub file_of_input : (i : InputFile) → Contains p.files i → IsFileOf cmp tables i.meta
   file_of_input i at =
@@ -48,14 +48,14 @@ module _ (cmp : List ℕ → List ℕ → Ordering) (total : IsTotalOrder cmp) (
       subst (IsFileOf cmp tables) f.is (All-contains (λ (x : NewFile). IsFileOf cmp tables x.meta) v.files f.file lawful.files f.there)
 
   -- the bytes that were loaded of an input are those of its table
-  input_bytes : (i : InputFile) → Contains p.files i → bytes_of tables i ≡ Some (install.bytes_of loaded i.meta.number)
+  pub input_bytes : (i : InputFile) → Contains p.files i → bytes_of tables i ≡ Some (install.bytes_of loaded i.meta.number)
   input_bytes i at =
       let f = file_of_input i at in
       ap (option_map (λ (t : Contents). t.bytes)) f.there
       ∙ ap (λ (b : List ℕ). Some b) (sym (bytes_found loaded i.meta.number f.table.bytes (found_loaded cmp loaded tables i.meta.number f.table checked f.there)))
 
-  pub is_over : (request_of v loaded p s).log_number < 2 ^ 64 → (request_of v loaded p s).previous_log < 2 ^ 64 → IsOver v tables (request_of v loaded p s)
-  is_over log previous = record {
+  pub is_over : (s : Settings) → (request_of v loaded p s).log_number < 2 ^ 64 → (request_of v loaded p s).previous_log < 2 ^ 64 → IsOver v tables (request_of v loaded p s)
+  is_over s log previous = record {
     bytes = same_map (bytes_of tables) (λ (i : InputFile). Some (install.bytes_of loaded i.meta.number)) p.files input_bytes ∙ some_mapped (λ (i : InputFile). install.bytes_of loaded i.meta.number) p.files;
     numbers = next_below v.next_file;
     log_number = log;

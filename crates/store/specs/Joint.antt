@@ -1,22 +1,20 @@
 -- The joint of compaction and installation: what one answers is what the other installs.
-use Rattle.std.specs.Prelude.{◌≡◌, ℕ, ◌<◌, ◌≤◌, ◌^◌, List, Ok, IsOk}
+use Rattle.std.specs.Prelude.{◌≡◌, ℕ, ◌<◌, ◌≤◌, ◌^◌, List, Ok}
 use Rattle.std.specs.List.{All}
 use Rattle.std.specs.declared.cmp.Ordering.{Ordering}
-use Rattle.table.specs.Reading.{contents_reading}
 use Rattle.edit.specs.Version.{State}
 use Rattle.edit.specs.declared.meta.NewFile.{NewFile}
 use Rattle.folder.specs.declared.order.Order.{Order}
 use Rattle.pick.specs.Picked.{IsPicked, Picked}
-use Rattle.pick.specs.declared.picked.InputFile.{InputFile}
 use Rattle.reads.specs.Lawful.{IsLawful}
 use Rattle.reads.specs.Tables.{Numbered}
 use Rattle.checks.specs.Checked.{tables_reading}
 use Rattle.checks.specs.LawfulTables.{IsLawfulTables}
-use Rattle.install.specs.Install.{bytes_of}
 use Rattle.request.specs.OneThread.{Answer, one_thread}
 use Rattle.survival.specs.Over.{IsOver}
 use Rattle.store.specs.Asking.{request_of}
 use Rattle.store.specs.Compaction.{Edited}
+use Rattle.store.specs.Taking.{AreLoaded, HaveTables}
 use Rattle.store.specs.declared.settings.Settings.{Settings}
 
 -- Where inputs are picked from a lawful version, whose log numbers are of 64 bits, the request for them is one over the
@@ -28,12 +26,12 @@ OverLaw cmp =
     (request_of v loaded p s).log_number < 2 ^ 64 → (request_of v loaded p s).previous_log < 2 ^ 64 →
     IsOver v tables (request_of v loaded p s)
 
--- Where they are, the bytes that were loaded of each input are a table.
+-- Where they are, each input has its table under a number of its own, of the bytes that were loaded.
 abbrev pub InputsReadLaw : (List ℕ → List ℕ → Ordering) → Type 0
 InputsReadLaw cmp =
-    (v : State) (loaded : List (ℕ × List ℕ)) (tables : List Numbered) (level : ℕ) (p : Picked) (s : Settings) →
+    (v : State) (loaded : List (ℕ × List ℕ)) (tables : List Numbered) (level : ℕ) (p : Picked) →
     IsLawfulTables cmp v loaded (Ok tables) → IsPicked cmp v level p →
-    All (λ (i : InputFile). IsOk (contents_reading cmp (bytes_of loaded i.meta.number))) p.files
+    HaveTables cmp tables p.files × AreLoaded loaded tables p.files
 
 -- Where moreover the files stand at levels up to 6, what one thread answers to that request makes an edited version by a
 -- manifest of the version's next file. The tables that its installation leaves are read as such that the edited version is

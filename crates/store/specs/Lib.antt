@@ -2,6 +2,7 @@
 pub mod Orders
 pub mod Asking
 pub mod Lines
+pub mod Taking
 pub mod Answers
 pub mod Compaction
 pub mod Joint

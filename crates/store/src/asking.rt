@@ -1,8 +1,8 @@
 //! What is asked of a compaction by the version and the tables that a folder holds.
 
-ghost use Rattle.std.specs.Prelude.{◌≡◌, ◌<◌, ◌^◌, ℕ, List, map, unwrap_or, Ok};
+ghost use Rattle.std.specs.Prelude.{◌≡◌, ◌<◌, ◌^◌, ℕ, List, map, unwrap_or, IfOk};
 ghost use Rattle.coding.specs.Answers.{EqualOrMemory};
-ghost use Rattle.install.specs.Install.{bytes_of, tables_in};
+ghost use Rattle.install.specs.Install.{bytes_of};
 ghost use Rattle.pick.specs.Picked.{picked_in};
 ghost use Rattle.request.specs.Request.{asked};
 ghost use Rattle.store.specs.Asking.{asked_of, manifest_of};
@@ -10,44 +10,14 @@ ghost use Rattle.store.specs.Asking.{asked_of, manifest_of};
 use crate::settings::Settings;
 use coding::{Fault, FaultName};
 use edit::Version;
-use pick::{InputFile, Inputs};
+use pick::Inputs;
 use request::Request;
-use std::alloc::Global;
 
 /// The number of the new manifest, the version's next file.
 pub(crate) fn manifest_of(version: &Version) -> u64
     ensures { result ≡ manifest_of version.now }
 {
     version.next_file().unwrap_or(0)
-}
-
-/// The bytes of the first table of a number, and none where there is no such table.
-fn bytes_of(loaded: &[(u64, Vec<u8>)], number: u64) -> &[u8]
-    ensures { result.now ≡ bytes_of (tables_in loaded.now) number }
-{
-    for table in loaded {
-        let (other, bytes) = table;
-        if *other == number {
-            return bytes;
-        }
-    }
-    &[]
-}
-
-/// The bytes that were loaded of each input. Refused for want of memory alone.
-pub(crate) fn input_bytes<'t>(
-    alloc: Global,
-    loaded: &'t [(u64, Vec<u8>)],
-    inputs: &[InputFile],
-) -> Result<Vec<&'t [u8]>, Fault>
-    ensures { EqualOrMemory (λ v. map (λ b. b.now) v.items) result
-        (Ok (map (λ i. bytes_of (tables_in loaded.now) i.meta.number) inputs.now)) }
-{
-    let mut all = Vec::with_capacity(alloc, inputs.len())?;
-    for input in inputs {
-        all.push(bytes_of(loaded, input.meta.number))?;
-    }
-    Ok(all)
 }
 
 /// The request for inputs of a version, of which these are the tables. `Numbers` where no number is left behind the
@@ -60,6 +30,7 @@ pub(crate) fn request_of<'a>(
 ) -> Result<Request<'a>, Fault>
     ensures asked { (loaded : List (ℕ × List ℕ)) → map (λ t. t.now) tables.now ≡ map (λ i. bytes_of loaded i.meta.number) picked.now.files.items →
         EqualOrMemory asked result (asked_of version.now loaded (picked_in picked.now) settings.now) }
+    ensures lent { IfOk result (λ r. (r.picked.now ≡ picked.now) × (r.tables.now ≡ tables.now)) }
     ensures logs { (unwrap_or version.now.log_number 0 < 2 ^ 64) × (unwrap_or version.now.previous_log 0 < 2 ^ 64) }
 {
     let log_number = version.log_number().unwrap_or(0);

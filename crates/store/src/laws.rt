@@ -12,7 +12,7 @@ pub fn request_is_over<C: Comparator>()
     ensures { OverLaw C.cmp }
 {}
 
-/// The law that the bytes that were loaded of each such input are a table. A call does nothing.
+/// The law that each such input has its table under a number of its own, of the bytes that were loaded. A call does nothing.
 pub fn inputs_are_tables<C: Comparator>()
     ensures { InputsReadLaw C.cmp }
 {}

@@ -8,6 +8,7 @@ mod folder_compaction;
 mod laws;
 mod lines;
 mod settings;
+mod taking;
 
 pub use folder_compaction::compact_dir;
 pub use laws::{answer_is_installed, inputs_are_tables, request_is_over, sync_stands};

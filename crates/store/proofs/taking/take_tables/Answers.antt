@@ -1,0 +1,30 @@
+use Rattle.std.proofs.Common.{length, ◌<◌, sym, ap, ◌∙◌, arith}
+use Rattle.pick.specs.declared.picked.InputFile.{InputFile}
+use Rattle.reads.specs.Tables.{table_of}
+use Rattle.store.proofs.Taken.{is_some, left_next, taken_next}
+use Rattle.store.proofs.taking.take_tables.Goals as goal
+
+pub unreachable-requires : goal.unreachable-requires
+unreachable-requires g c =
+    let all = c.args.tables.items in
+    let inputs = c.args.inputs.now in
+    let k = c.loop-input.input-index in
+    let i = c.input-item.result in
+    let left = c.loop-input.tables.items in
+    let lt : k < length inputs = omega arith in
+    is_some g.C.Comparator.cmp all inputs k i c.requires lt
+    (sym (c.loop-input.invariant.left k i (omega arith) lt) ∙ ap (λ (x : InputFile). table_of left x.meta.number) (sym c.input-item.is) ∙ sym c.in_default.ensures.taken)
+
+pub loop-input-preserved : goal.loop-input-preserved
+loop-input-preserved g c =
+    let all = c.args.tables.items in
+    let inputs = c.args.inputs.now in
+    let k = c.loop-input.input-index in
+    let i = c.input-item.result in
+    let left = c.loop-input.tables.items in
+    let lt : k < length inputs = omega arith in
+    let still = c.loop-input.invariant.left k i (omega arith) lt in
+    let found = ap (λ (x : InputFile). table_of all x.meta.number) c.input-item.is ∙ sym still ∙ ap (λ (x : InputFile). table_of left x.meta.number) (sym c.input-item.is) ∙ sym c.in-Some.ensures.taken in record {
+      so_far = rw c.in_ok-push.ensures.items (taken_next all inputs k i c.loop-input.taken.items c.in-Some.table lt c.input-item.is found c.loop-input.invariant.so_far);
+      left = left_next all g.C.Comparator.cmp inputs k i left c.take_table.new.tables.items c.requires lt c.input-item.is c.loop-input.invariant.left c.take_table.ensures.others;
+    }

@@ -1,0 +1,25 @@
+-- The tables of inputs, among the tables of a version.
+use Rattle.std.specs.Prelude.{◌≡◌, ◌≢◌, ℕ, ◌<◌, List, length, slice_index_or, Some, AllPairs}
+use Rattle.std.specs.List.{All}
+use Rattle.std.specs.Option.{option_map}
+use Rattle.std.specs.declared.cmp.Ordering.{Ordering}
+use Rattle.pick.specs.declared.picked.InputFile.{InputFile}
+use Rattle.reads.specs.Lawful.{IsFileOf}
+use Rattle.reads.specs.Tables.{Numbered, table_of}
+use Rattle.install.specs.Install.{bytes_of}
+
+-- the first table of a number stands at this place
+pub record IsTableAt (tables : List Numbered) (number place : ℕ) : Type 0 where
+  pub within : place < length tables
+  pub number_is : (d : Numbered) → (slice_index_or tables place d).number ≡ number
+  pub first : (d : Numbered) → table_of tables number ≡ Some (slice_index_or tables place d).contents
+
+-- each of the inputs has its table, which is what the version states of it, and no two of them have one number
+pub record HaveTables (cmp : List ℕ → List ℕ → Ordering) (tables : List Numbered) (inputs : List InputFile) : Type 0 where
+  pub files : All (λ (i : InputFile). IsFileOf cmp tables i.meta) inputs
+  pub apart : AllPairs (λ (i j : InputFile). i.meta.number ≢ j.meta.number) inputs
+
+-- the table of each of the inputs is of the bytes that were loaded under its number
+abbrev pub AreLoaded : List (ℕ × List ℕ) → List Numbered → List InputFile → Type 0
+AreLoaded loaded tables inputs =
+    All (λ (i : InputFile). option_map (λ t. t.bytes) (table_of tables i.meta.number) ≡ Some (bytes_of loaded i.meta.number)) inputs

@@ -1,5 +1,7 @@
 //! Database folders that LevelDB wrote, compacted level by level to the bottom.
 
+ghost use Rattle.std.specs.Prelude.{◌≤◌};
+
 use crate::file;
 use crate::folders::{Get, Kept, compare_gets, gets_of};
 use anyhow::{Context, Result, bail};
@@ -73,7 +75,9 @@ fn level_compacted<R: Files + AllocGlobal + Threads + Sync>(
     level: u64,
     kept: Kept,
     gets: &[Get<'_>],
-) -> Result<u64> {
+) -> Result<u64>
+    requires { level ≤ 6 }
+{
     let alloc = rt.alloc();
     let settings = Settings {
         snapshots: kept.snapshots(),
@@ -91,7 +95,9 @@ fn level_compacted<R: Files + AllocGlobal + Threads + Sync>(
 }
 
 /// Whether the version that a folder holds has a file at a level.
-fn has_files<R: Files + AllocGlobal>(rt: &R, folder: &str, level: u64) -> Result<bool> {
+fn has_files<R: Files + AllocGlobal>(rt: &R, folder: &str, level: u64) -> Result<bool>
+    requires { level ≤ 6 }
+{
     let alloc = rt.alloc();
     let (_, version) = open(alloc, &mut Disk::new(rt, folder))?;
     Ok(!version.files::<Bytewise>(alloc, level)?.is_empty())

@@ -16,7 +16,7 @@ mod writing;
 
 pub use compaction::{compact, compact_tables};
 pub use inputs::check_inputs;
-pub use ranges::merge_ranges;
+pub use ranges::{add_cursor, merge_ranges};
 
 #[cfg(test)]
 mod tests;

@@ -117,7 +117,7 @@ fn cursors_from<'t, C: Comparator + 't>(
 
 /// Puts a cursor over a table behind the others, but for entries before a range, where the table reaches into it. Refused
 /// for want of memory alone.
-fn add_cursor<'t, C: Comparator + 't>(
+pub fn add_cursor<'t, C: Comparator + 't>(
     alloc: Global,
     cursors: &mut Vec<TableCursor<'t, C>>,
     table: &SoundTable<'t, C>,

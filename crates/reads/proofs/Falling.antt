@@ -24,7 +24,7 @@ use Rattle.merge.specs.Merged.{joined, merged}
 use Rattle.merge.specs.Least.{StartsAbove, StartsFrom, IsLeast, IsAdvanced, IsMerging}
 use Rattle.merge.proofs.Merges.{joined_at, joined_set, one_of, merged_first}
 use Rattle.merge.proofs.Orders.{le_trans}
-use Rattle.reads.specs.Checking.{IsNewer, AreFalling, steps_back}
+use Rattle.reads.specs.Checking.{IsNewerIn, AreFallingIn, steps_back}
 use Rattle.reads.proofs.Members.{first_or_later, later_in, first_in, none_in, from_flat_map}
 use Rattle.reads.proofs.Orders.{less_is, equal_is, of_one_user, not_before_itself}
 use Rattle.reads.proofs.FallingEntries.{each_of}
@@ -68,57 +68,64 @@ module _ (cmp : List ℕ → List ℕ → Ordering) (total : IsTotalOrder cmp) (
       refuted : cmp (user_of k) (user_of m) ≡ Less → ⊥
       refuted less = not_before_itself cmp total (user_of k) (subst (λ (u : List ℕ). cmp (user_of k) u ≡ Less) same (before less))
 
-  -- An entry that all others are at or behind, and the first of the others: where that is of another user key, or stands behind it in
-  -- the list and is older, then so is each other.
-  pub passes : (front behind : List Entry) (a b : Entry) → AtMost a.key b.key → ((c : Entry) → Contains (front ++ behind) c → AtMost b.key c.key)
-      → (user_of b.key ≡ user_of a.key → Contains behind b × (sequence_of b.key < sequence_of a.key)) → Pairs IsNewer (front ++ behind) → Pairs IsNewer (front ++ a ∷ behind)
-  passes front behind a b ab least test pairs = pairs_append IsNewer front (a ∷ behind) (pairs_left IsNewer front behind pairs) (over, pairs_right IsNewer front behind pairs) across
-    where
-      own : (c : Entry) → Contains (front ++ behind) c → user_of c.key ≡ user_of a.key → user_of b.key ≡ user_of a.key
-      own c at same = one_user a.key b.key c.key ab (least c at) same
+  -- Of the user keys of a kind: an entry that all others are at or behind, and the first of the others. Where that is of another user key,
+  -- or stands behind it in the list and is older, then so is each other.
+  module _ (P : List ℕ → Type 0) where
+    pub passes : (front behind : List Entry) (a b : Entry) → AtMost a.key b.key → ((c : Entry) → Contains (front ++ behind) c → AtMost b.key c.key)
+        → (P (user_of a.key) → user_of b.key ≡ user_of a.key → Contains behind b × (sequence_of b.key < sequence_of a.key)) → Pairs (IsNewerIn P) (front ++ behind) → Pairs (IsNewerIn P) (front ++ a ∷ behind)
+    passes front behind a b ab least test pairs = pairs_append (IsNewerIn P) front (a ∷ behind) (pairs_left (IsNewerIn P) front behind pairs) (over, pairs_right (IsNewerIn P) front behind pairs) across
+      where
+        own : (c : Entry) → Contains (front ++ behind) c → user_of c.key ≡ user_of a.key → user_of b.key ≡ user_of a.key
+        own c at same = one_user a.key b.key c.key ab (least c at) same
 
-      over : (c : Entry) → Contains behind c → IsNewer a c
-      over c at same =
-          let there = Contains-append_right front behind c at in
-          let of_b = own c there (sym same) in
-          let lt : sequence_of b.key < sequence_of a.key = (test of_b).1 in
-          let le : sequence_of c.key ≤ sequence_of b.key = older b.key c.key (least c there) (of_b ∙ same) in
-          omega arith
+        over : (c : Entry) → Contains behind c → IsNewerIn P a c
+        over c at of_kind same =
+            let there = Contains-append_right front behind c at in
+            let of_b = own c there (sym same) in
+            let lt : sequence_of b.key < sequence_of a.key = (test of_kind of_b).1 in
+            let le : sequence_of c.key ≤ sequence_of b.key = older b.key c.key (least c there) (of_b ∙ same) in
+            omega arith
 
-      under : (c : Entry) → Contains front c → IsNewer c a
-      under c at same =
-          let there = Contains-append_left front behind c at in
-          let of_b = own c there same in
-          let lt : sequence_of b.key < sequence_of c.key = pairs_across IsNewer front behind pairs c b at (test of_b).0 (same ∙ sym of_b) in
-          let le : sequence_of c.key ≤ sequence_of b.key = older b.key c.key (least c there) (of_b ∙ sym same) in
-          absurd (omega arith)
+        under : (c : Entry) → Contains front c → IsNewerIn P c a
+        under c at of_kind same =
+            let there = Contains-append_left front behind c at in
+            let of_b = own c there same in
+            let lt : sequence_of b.key < sequence_of c.key = pairs_across (IsNewerIn P) front behind pairs c b at (test (subst P same of_kind) of_b).0 of_kind (same ∙ sym of_b) in
+            let le : sequence_of c.key ≤ sequence_of b.key = older b.key c.key (least c there) (of_b ∙ sym same) in
+            absurd (omega arith)
 
-      across : (x y : Entry) → Contains front x → Contains (a ∷ behind) y → IsNewer x y
-      across x y i j = elim (first_or_later a behind y j) [
-        | inl is ↦ subst (λ (e : Entry). IsNewer x e) (sym is) (under x i)
-        | inr later ↦ pairs_across IsNewer front behind pairs x y i later
-      ]
+        across : (x y : Entry) → Contains front x → Contains (a ∷ behind) y → IsNewerIn P x y
+        across x y i j = elim (first_or_later a behind y j) [
+          | inl is ↦ subst (λ (e : Entry). IsNewerIn P x e) (sym is) (under x i)
+          | inr later ↦ pairs_across (IsNewerIn P) front behind pairs x y i later
+        ]
 
-  -- where it is of the same user key, and stands before it in the list or isn't older, they don't fall
-  pub fails : (front behind : List Entry) (a b : Entry) → AtMost a.key b.key → user_of b.key ≡ user_of a.key → Contains front b ⊎ (Contains behind b × (sequence_of a.key ≤ sequence_of b.key)) → Pairs IsNewer (front ++ a ∷ behind) → ⊥
-  fails front behind a b ab same (inl at) pairs =
-      let lt : sequence_of a.key < sequence_of b.key = pairs_across IsNewer front (a ∷ behind) pairs b a at (first_in a behind) same in
-      let le : sequence_of b.key ≤ sequence_of a.key = older a.key b.key ab (sym same) in
-      absurd (omega arith)
-  fails front behind a b ab same (inr h) pairs =
-      let lt : sequence_of b.key < sequence_of a.key = (pairs_right IsNewer front (a ∷ behind) pairs).0 b h.0 (sym same) in
-      let le : sequence_of a.key ≤ sequence_of b.key = h.1 in
-      absurd (omega arith)
+    -- where it is of the same user key, and stands before it in the list or isn't older, they don't fall
+    pub fails : (front behind : List Entry) (a b : Entry) → P (user_of a.key) → AtMost a.key b.key → user_of b.key ≡ user_of a.key → Contains front b ⊎ (Contains behind b × (sequence_of a.key ≤ sequence_of b.key))
+        → Pairs (IsNewerIn P) (front ++ a ∷ behind) → ⊥
+    fails front behind a b of_kind ab same (inl at) pairs =
+        let lt : sequence_of a.key < sequence_of b.key = pairs_across (IsNewerIn P) front (a ∷ behind) pairs b a at (first_in a behind) (subst P (sym same) of_kind) same in
+        let le : sequence_of b.key ≤ sequence_of a.key = older a.key b.key ab (sym same) in
+        absurd (omega arith)
+    fails front behind a b of_kind ab same (inr h) pairs =
+        let lt : sequence_of b.key < sequence_of a.key = (pairs_right (IsNewerIn P) front (a ∷ behind) pairs).0 b h.0 of_kind (sym same) in
+        let le : sequence_of a.key ≤ sequence_of b.key = h.1 in
+        absurd (omega arith)
 
-  pub without : (front behind : List Entry) (a : Entry) → Pairs IsNewer (front ++ a ∷ behind) → Pairs IsNewer (front ++ behind)
-  without front behind a pairs =
-      pairs_append IsNewer front behind (pairs_left IsNewer front (a ∷ behind) pairs) (pairs_right IsNewer front (a ∷ behind) pairs).1
-      (λ x y i j. pairs_across IsNewer front (a ∷ behind) pairs x y i (later_in a behind y j))
+    pub without : (front behind : List Entry) (a : Entry) → Pairs (IsNewerIn P) (front ++ a ∷ behind) → Pairs (IsNewerIn P) (front ++ behind)
+    without front behind a pairs =
+        pairs_append (IsNewerIn P) front behind (pairs_left (IsNewerIn P) front (a ∷ behind) pairs) (pairs_right (IsNewerIn P) front (a ∷ behind) pairs).1
+        (λ x y i j. pairs_across (IsNewerIn P) front (a ∷ behind) pairs x y i (later_in a behind y j))
 
-  pub alone : (front behind : List Entry) (a : Entry) → front ++ behind ≡ [] → Pairs IsNewer (front ++ a ∷ behind)
-  alone [] [] a none = (λ c at. absurd (none_in c at), tt)
-  alone [] (b ∷ behind) a none = absurd cc
-  alone (b ∷ front) behind a none = absurd cc
+    pub alone : (front behind : List Entry) (a : Entry) → front ++ behind ≡ [] → Pairs (IsNewerIn P) (front ++ a ∷ behind)
+    alone [] [] a none = (λ c at. absurd (none_in c at), tt)
+    alone [] (b ∷ behind) a none = absurd cc
+    alone (b ∷ front) behind a none = absurd cc
+
+    -- where no user key is of the kind
+    pub no_pairs : (es : List Entry) → ((c : Entry) → Contains es c → P (user_of c.key) → ⊥) → Pairs (IsNewerIn P) es
+    no_pairs [] none = tt
+    no_pairs (e ∷ es) none = (λ c at of_kind same. absurd (none e (first_in e es) of_kind), no_pairs es (λ c at. none c (later_in e es c at)))
 
 -- ---- lists, and one that loses its first entry
 
@@ -274,31 +281,37 @@ module _ (cmp : List ℕ → List ℕ → Ordering) (total : IsTotalOrder cmp) (
 
   -- ---- the walk
 
-  -- the entries of lists fall, one list behind the other
-  pub record Fall (lists : List (List Entry)) : Type 0 where
-    pub keys : (e : Entry) → Contains (joined lists) e → IsInternalKey e.key
-    pub newer : Pairs IsNewer (joined lists)
+  -- the entries of lists fall, one list behind the other, those of the user keys of a kind
+  pub record Fall (P : List ℕ → Type 0) (lists : List (List Entry)) : Type 0 where
+    pub keys : (e : Entry) → Contains (joined lists) e → P (user_of e.key) → IsInternalKey e.key
+    pub newer : Pairs (IsNewerIn P) (joined lists)
 
   -- what is left of lists falls exactly where the whole lists do
-  pub record IsLeft (left all : List (List Entry)) : Type 0 where
-    pub up : Fall left → Fall all
-    pub down : Fall all → Fall left
+  pub record IsLeft (P : List ℕ → Type 0) (left all : List (List Entry)) : Type 0 where
+    pub up : Fall P left → Fall P all
+    pub down : Fall P all → Fall P left
 
-  pub all_left : (left all : List (List Entry)) → left ≡ all → IsLeft left all
-  all_left left all is = subst (λ (l : List (List Entry)). IsLeft left l) is (record { up = λ h. h; down = λ h. h })
+  pub all_left : (P : List ℕ → Type 0) (left all : List (List Entry)) → left ≡ all → IsLeft P left all
+  all_left P left all is = subst (λ (l : List (List Entry)). IsLeft P left l) is (record { up = λ h. h; down = λ h. h })
 
-  pub are_falling : (lists : List (List Entry)) → Fall lists → AreFalling (joined lists)
-  are_falling lists h = record { keys = λ k d lt. h.keys (get_or (joined lists) k d) (Contains-get_or (joined lists) k d lt); newer = pairs_to IsNewer (joined lists) h.newer }
+  pub are_falling : (P : List ℕ → Type 0) (lists : List (List Entry)) → Fall P lists → AreFallingIn P (joined lists)
+  are_falling P lists h = record {
+    keys = λ k d lt. h.keys (get_or (joined lists) k d) (Contains-get_or (joined lists) k d lt);
+    newer = pairs_to (IsNewerIn P) (joined lists) h.newer;
+  }
 
-  pub fall : (lists : List (List Entry)) → AreFalling (joined lists) → Fall lists
-  fall lists h = record { keys = λ e at. All-contains (λ (x : Entry). IsInternalKey x.key) (joined lists) e h.keys at; newer = pairs_from IsNewer (joined lists) h.newer }
+  pub fall : (P : List ℕ → Type 0) (lists : List (List Entry)) → AreFallingIn P (joined lists) → Fall P lists
+  fall P lists h = record {
+    keys = λ e at. All-contains (λ (x : Entry). P (user_of x.key) → IsInternalKey x.key) (joined lists) e h.keys at;
+    newer = pairs_from (IsNewerIn P) (joined lists) h.newer;
+  }
 
   -- the first key of the merge is that of the list that comes next
   pub key_is : (lists : List (List Entry)) (place : ℕ) (m : IsMerging cmp lists (Some place)) (key : List ℕ) → option_map (λ e. e.key) (slice_get (merged cmp lists) 0) ≡ Some key → m.least.first.key ≡ key
   key_is lists place m key h =
       same_Some m.least.first.key key (sym (ap (λ (es : List Entry). option_map (λ e. e.key) (slice_get es 0)) (merged_first cmp total lists place m.ordered m.least)) ∙ h)
 
-  module _ (lists new all : List (List Entry)) (place : ℕ) (m : IsMerging cmp lists (Some place)) (lawful : IsInternalKey m.least.first.key) (advanced : IsAdvanced cmp lists new) (left : IsLeft lists all) where
+  module _ (P : List ℕ → Type 0) (lists new all : List (List Entry)) (place : ℕ) (m : IsMerging cmp lists (Some place)) (lawful : IsInternalKey m.least.first.key) (advanced : IsAdvanced cmp lists new) (left : IsLeft P lists all) where
     abbrev front : List Entry
     front = joined (take place lists)
 
@@ -324,19 +337,19 @@ module _ (cmp : List ℕ → List ℕ → Ordering) (total : IsTotalOrder cmp) (
       | inr i ↦ Contains-append_right front (m.least.first ∷ behind) c (later_in m.least.first behind c i)
     ]
 
-    old_fall : ((c : Entry) → Contains (front ++ behind) c → IsInternalKey c.key) → Pairs IsNewer (front ++ m.least.first ∷ behind) → Fall lists
+    old_fall : ((c : Entry) → Contains (front ++ behind) c → P (user_of c.key) → IsInternalKey c.key) → Pairs (IsNewerIn P) (front ++ m.least.first ∷ behind) → Fall P lists
     old_fall keys newer = record {
-      keys = λ c at. elim (first_or_left c (subst (λ (es : List Entry). Contains es c) old_is at)) [
+      keys = λ c at of_kind. elim (first_or_left c (subst (λ (es : List Entry). Contains es c) old_is at)) [
         | inl is ↦ subst (λ (e : Entry). IsInternalKey e.key) (sym is) lawful
-        | inr there ↦ keys c there
+        | inr there ↦ keys c there of_kind
       ];
-      newer = subst (Pairs IsNewer) (sym old_is) newer;
+      newer = subst (Pairs (IsNewerIn P)) (sym old_is) newer;
     }
 
-    pub came_to_end : IsMerging cmp new None → Fall all
+    pub came_to_end : IsMerging cmp new None → Fall P all
     came_to_end n =
         let none : front ++ behind ≡ [] = sym new_is ∙ joined_none new n.least in
-        left.up (old_fall (λ c at. absurd (none_in c (subst (λ (es : List Entry). Contains es c) none at))) (alone cmp total exact front behind m.least.first none))
+        left.up (old_fall (λ c at of_kind. absurd (none_in c (subst (λ (es : List Entry). Contains es c) none at))) (alone cmp total exact P front behind m.least.first none))
 
     module _ (next : ℕ) (n : IsMerging cmp new (Some next)) where
       there : Contains (front ++ behind) n.least.first
@@ -361,39 +374,51 @@ module _ (cmp : List ℕ → List ℕ → Ordering) (total : IsTotalOrder cmp) (
         by_keys : (b : Bool) → steps_back last place key next ≡ b → steps_back m.least.first.key place n.least.first.key next ≡ b
         by_keys b test = ap (λ (k : List ℕ). steps_back k place n.least.first.key next) last_is ∙ ap (λ (k : List ℕ). steps_back last place k next) next_is ∙ test
 
-        pub goes_on : steps_back last place key next ≡ false → IsLeft new all
+        pub goes_on : (P (user_of m.least.first.key) → steps_back last place key next ≡ false) → IsLeft P new all
         goes_on test = record {
-          up = λ h. left.up (old_fall (λ c at. h.keys c (subst (λ (es : List Entry). Contains es c) (sym new_is) at))
-              (passes cmp total exact front behind m.least.first n.least.first behind_first first_of_all tested (subst (Pairs IsNewer) new_is h.newer)));
+          up = λ h. left.up (old_fall (λ c at of_kind. h.keys c (subst (λ (es : List Entry). Contains es c) (sym new_is) at) of_kind)
+              (passes cmp total exact P front behind m.least.first n.least.first behind_first first_of_all tested (subst (Pairs (IsNewerIn P)) new_is h.newer)));
           down = λ h. let old = left.down h in record {
-            keys = λ c at. old.keys c (subst (λ (es : List Entry). Contains es c) (sym old_is) (still_there c (subst (λ (es : List Entry). Contains es c) new_is at)));
-            newer = subst (Pairs IsNewer) (sym new_is) (without cmp total exact front behind m.least.first (subst (Pairs IsNewer) old_is old.newer));
+            keys = λ c at of_kind. old.keys c (subst (λ (es : List Entry). Contains es c) (sym old_is) (still_there c (subst (λ (es : List Entry). Contains es c) new_is at))) of_kind;
+            newer = subst (Pairs (IsNewerIn P)) (sym new_is) (without cmp total exact P front behind m.least.first (subst (Pairs (IsNewerIn P)) old_is old.newer));
           };
         }
           where
-            no : user_of n.least.first.key ≡ user_of m.least.first.key → (next < place) ⊎ (sequence_of m.least.first.key ≤ sequence_of n.least.first.key) → ⊥
-            no same h = back_false m.least.first.key place n.least.first.key next (by_keys false test) (same, h)
+            no : P (user_of m.least.first.key) → user_of n.least.first.key ≡ user_of m.least.first.key → (next < place) ⊎ (sequence_of m.least.first.key ≤ sequence_of n.least.first.key) → ⊥
+            no of_kind same h = back_false m.least.first.key place n.least.first.key next (by_keys false (test of_kind)) (same, h)
 
-            by_cases : user_of n.least.first.key ≡ user_of m.least.first.key → (next < place) ⊎ (place ≤ next) → (sequence_of n.least.first.key < sequence_of m.least.first.key) ⊎ (sequence_of m.least.first.key ≤ sequence_of n.least.first.key)
+            by_cases : P (user_of m.least.first.key) → user_of n.least.first.key ≡ user_of m.least.first.key → (next < place) ⊎ (place ≤ next) → (sequence_of n.least.first.key < sequence_of m.least.first.key) ⊎ (sequence_of m.least.first.key ≤ sequence_of n.least.first.key)
                 → Contains behind n.least.first × (sequence_of n.least.first.key < sequence_of m.least.first.key)
-            by_cases same (inl lt) c = absurd (no same (inl lt))
-            by_cases same (inr le) (inr ge) = absurd (no same (inr ge))
-            by_cases same (inr le) (inl lt) = (in_lists_behind le, lt)
+            by_cases of_kind same (inl lt) c = absurd (no of_kind same (inl lt))
+            by_cases of_kind same (inr le) (inr ge) = absurd (no of_kind same (inr ge))
+            by_cases of_kind same (inr le) (inl lt) = (in_lists_behind le, lt)
 
-            tested : user_of n.least.first.key ≡ user_of m.least.first.key → Contains behind n.least.first × (sequence_of n.least.first.key < sequence_of m.least.first.key)
-            tested same = by_cases same (cases_lt next place) (cases_lt (sequence_of n.least.first.key) (sequence_of m.least.first.key))
+            tested : P (user_of m.least.first.key) → user_of n.least.first.key ≡ user_of m.least.first.key → Contains behind n.least.first × (sequence_of n.least.first.key < sequence_of m.least.first.key)
+            tested of_kind same = by_cases of_kind same (cases_lt next place) (cases_lt (sequence_of n.least.first.key) (sequence_of m.least.first.key))
 
-        pub went_back : steps_back last place key next ≡ true → Fall all → ⊥
-        went_back test h =
+        pub went_back : P (user_of m.least.first.key) → steps_back last place key next ≡ true → Fall P all → ⊥
+        went_back of_kind test h =
             let back = back_true m.least.first.key place n.least.first.key next (by_keys true test) in
-            fails cmp total exact front behind m.least.first n.least.first behind_first back.0 (by_cases back.1 (cases_lt next place)) (subst (Pairs IsNewer) old_is (left.down h).newer)
+            fails cmp total exact P front behind m.least.first n.least.first of_kind behind_first back.0 (by_cases back.1 (cases_lt next place)) (subst (Pairs (IsNewerIn P)) old_is (left.down h).newer)
           where
             by_cases : (next < place) ⊎ (sequence_of m.least.first.key ≤ sequence_of n.least.first.key) → (next < place) ⊎ (place ≤ next) → Contains front n.least.first ⊎ (Contains behind n.least.first × (sequence_of m.least.first.key ≤ sequence_of n.least.first.key))
             by_cases h (inl lt) = inl (in_lists_before lt)
             by_cases (inl lt) (inr le) = absurd (omega arith)
             by_cases (inr ge) (inr le) = inr (in_lists_behind le, ge)
 
-  pub none_there : (lists all : List (List Entry)) → IsMerging cmp lists None → IsLeft lists all → Fall all
-  none_there lists all m left =
+  pub none_there : (P : List ℕ → Type 0) (lists all : List (List Entry)) → IsMerging cmp lists None → IsLeft P lists all → Fall P all
+  none_there P lists all m left =
       let none = joined_none lists m.least in
-      left.up (record { keys = λ c at. absurd (none_in c (subst (λ (es : List Entry). Contains es c) none at)); newer = subst (Pairs IsNewer) (sym none) tt })
+      left.up (record { keys = λ c at of_kind. absurd (none_in c (subst (λ (es : List Entry). Contains es c) none at)); newer = subst (Pairs (IsNewerIn P)) (sym none) tt })
+
+  -- where the next key and all behind it are of no user key of the kind
+  pub none_of_kind : (P : List ℕ → Type 0) (lists all : List (List Entry)) → ((c : Entry) → Contains (joined lists) c → P (user_of c.key) → ⊥) → IsLeft P lists all → Fall P all
+  none_of_kind P lists all none left = left.up (record { keys = λ c at of_kind. absurd (none c at of_kind); newer = no_pairs cmp total exact P (joined lists) none })
+
+  -- no user key behind the first one is before a bound that that isn't before
+  pub behind_bound : (lists : List (List Entry)) (place : ℕ) (m : IsMerging cmp lists (Some place)) (bound : List ℕ) → (cmp (user_of m.least.first.key) bound ≡ Less → ⊥)
+      → (c : Entry) → Contains (joined lists) c → cmp (user_of c.key) bound ≡ Less → ⊥
+  behind_bound lists place m bound behind c at less = elim (users_at_most cmp total exact m.least.first.key c.key (at_most_all lists place m c at)) [
+    | inl e ↦ behind (total.trans (user_of m.least.first.key) (user_of c.key) bound e less)
+    | inr e ↦ behind (subst (λ (u : List ℕ). cmp u bound ≡ Less) (sym (exact (user_of m.least.first.key) (user_of c.key) e)) less)
+  ]

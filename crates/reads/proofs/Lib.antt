@@ -12,6 +12,7 @@ pub mod Pairs
 pub mod Apart
 pub mod Gathering
 pub mod Falling
+pub mod Ranged
 pub mod SoundFiles
 pub mod OrderedFiles
 pub mod Standing

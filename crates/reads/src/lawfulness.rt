@@ -10,19 +10,20 @@ ghost use Rattle.edit.specs.Version.{IsState};
 ghost use Rattle.edit.specs.VersionOrder.{at_level};
 ghost use Rattle.reads.specs.Tables.{table_of, table_entries, tables_test};
 ghost use Rattle.reads.specs.Lawful.{IsLawful, IsUnlawful};
-ghost use Rattle.reads.specs.Checking.{file_in, is_below, is_stated, IsStatedFile, stands_before, AreAll, rank_of, standing_cmp, AreListed, AreInTurn};
+ghost use Rattle.reads.specs.Checking.{file_in, is_below, is_stated, IsStatedFile, stands_before, AreAll, rank_of, standing_cmp, AreListed, AreInTurn, AreStanding};
 
 use crate::finding::{LEVELS, tables_test};
 use crate::level_file::LevelFile;
 use crate::numbered_table::NumberedTable;
 use crate::table_places::TablePlaces;
-use crate::walking::never_steps_back;
+use crate::walking::falls_in;
 use coding::{Fault, FaultName};
 use edit::{FileMeta, Version};
 use ikey::{Comparator, InternalKey};
+use split::Range;
 use std::alloc::Global;
 use std::cmp::Ordering;
-use table::TableCursor;
+use table::{SoundTable, TableCursor};
 
 /// Whether a version is lawful with these tables:
 ///
@@ -46,17 +47,43 @@ pub fn lawful<C: Comparator>(
     ensures { MatchResult result (λ none. IsLawful C.cmp version.now tables.now)
         (λ e. UnlessMemory e (IsUnlawful C.cmp version.now tables.now e)) }
 {
+    let standing = standing_tables(alloc, version, tables)?;
+    let all = Range {
+        lower: None,
+        upper: None,
+    };
+    if !falls_in(alloc, cursors_over(alloc, &standing)?, all)? {
+        return Err(Fault::of(FaultName::Lawless));
+    }
+    Ok(())
+}
+
+/// A version's tables as they stand one before the other, those whose entries are newer first: by level, those of level 0 by falling
+/// number, and those of each other level by smallest key.
+///
+/// Refused as `lawful` refuses it where the version isn't lawful, but that it looks at no entry between a table's first and its last
+/// one: whether the entries of one user key stand in order is left (`falls_in`).
+pub fn standing_tables<'t, 'a, C: Comparator>(
+    alloc: Global,
+    version: &Version,
+    tables: &'t [NumberedTable<'a, C>],
+) -> Result<Vec<&'t SoundTable<'a, C>>, Fault>
+    ensures { MatchResult result
+        (λ v. AreStanding C.cmp version.now tables.now (map (λ t. t.now.entries) v.items))
+        (λ e. UnlessMemory e (IsUnlawful C.cmp version.now tables.now e)) }
+{
     let tables = TablePlaces::of(alloc, tables)?;
-    lawful_among(alloc, version, &tables)
+    standing_among(alloc, version, &tables)
 }
 
 /// The same, of tables whose places are known.
-fn lawful_among<C: Comparator>(
+fn standing_among<'t, 'a, C: Comparator>(
     alloc: Global,
     version: &Version,
-    tables: &TablePlaces<'_, '_, C>,
-) -> Result<(), Fault>
-    ensures { MatchResult result (λ none. IsLawful C.cmp version.now tables.now)
+    tables: &TablePlaces<'t, 'a, C>,
+) -> Result<Vec<&'t SoundTable<'a, C>>, Fault>
+    ensures { MatchResult result
+        (λ v. AreStanding C.cmp version.now tables.now (map (λ t. t.now.entries) v.items))
         (λ e. UnlessMemory e (IsUnlawful C.cmp version.now tables.now e)) }
 {
     tables_test(alloc, version, tables)?;
@@ -67,10 +94,7 @@ fn lawful_among<C: Comparator>(
     if !are_in_turn::<C>(&files) {
         return Err(Fault::of(FaultName::Lawless));
     }
-    if !never_steps_back(alloc, cursors_of(alloc, &files, tables)?)? {
-        return Err(Fault::of(FaultName::Lawless));
-    }
-    Ok(())
+    Ok(tables_of(alloc, &files, tables)?)
 }
 
 /// Appends the files of a level. Refused only for want of memory.
@@ -224,22 +248,37 @@ fn are_in_turn<C: Comparator>(files: &[LevelFile<'_>]) -> bool
     true
 }
 
-/// A cursor over the table of each file. Refused only for want of memory.
-fn cursors_of<'a, C: Comparator>(
+/// The table of each file. Refused only for want of memory.
+fn tables_of<'t, 'a, C: Comparator>(
     alloc: Global,
     files: &[LevelFile<'_>],
-    tables: &TablePlaces<'_, 'a, C>,
-) -> Result<Vec<TableCursor<'a, C>>, Fault>
+    tables: &TablePlaces<'t, 'a, C>,
+) -> Result<Vec<&'t SoundTable<'a, C>>, Fault>
     requires { All (λ f. is_some (table_of tables.now f.meta.now.number) ≡ true) files.now }
-    ensures cursors { IfOk result (λ cursors. cursors.items
+    ensures tables { IfOk result (λ v. map (λ t. t.now.entries) v.items
         ≡ map (λ f. table_entries tables.now f.meta.now.number) files.now) }
     ensures memory { IfErr result (λ e. e ≡ fault Memory) }
 {
-    let mut cursors = Vec::with_capacity(alloc, files.len())?;
+    let mut found = Vec::with_capacity(alloc, files.len())?;
     for file in files {
         let Some(table) = tables.table(file.meta.number) else {
             unreachable!();
         };
+        found.push(table)?;
+    }
+    Ok(found)
+}
+
+/// A cursor over each table. Refused only for want of memory.
+fn cursors_over<'a, C: Comparator>(
+    alloc: Global,
+    tables: &[&SoundTable<'a, C>],
+) -> Result<Vec<TableCursor<'a, C>>, Fault>
+    ensures cursors { IfOk result (λ cursors. cursors.items ≡ map (λ t. t.now.entries) tables.now) }
+    ensures memory { IfErr result (λ e. e ≡ fault Memory) }
+{
+    let mut cursors = Vec::with_capacity(alloc, tables.len())?;
+    for table in tables {
         cursors.push(TableCursor::new(alloc, table)?)?;
     }
     Ok(cursors)

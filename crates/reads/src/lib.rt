@@ -15,9 +15,10 @@ mod table_places;
 mod walking;
 
 pub use getting::get;
-pub use lawfulness::lawful;
+pub use lawfulness::{lawful, standing_tables};
 pub use laws::answers_newest_first;
 pub use numbered_table::NumberedTable;
+pub use walking::falls_in;
 
 #[cfg(test)]
 mod tests;

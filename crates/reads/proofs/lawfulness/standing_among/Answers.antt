@@ -1,12 +1,11 @@
 use Rattle.std.proofs.Common.{◌≡◌, ℕ, List, Option, map, sym, subst, ◌∙◌, ap}
 use Rattle.std.specs.List.{All}
 use Rattle.block.specs.Piece.{Entry}
-use Rattle.merge.specs.Merged.{joined}
 use Rattle.reads.specs.declared.level_file.LevelFile.{LevelFile}
 use Rattle.reads.specs.Tables.{table_entries}
-use Rattle.reads.specs.Checking.{IsStatedFile, AreFalling, AreListed, AreInTurn}
+use Rattle.reads.specs.Checking.{IsStatedFile, AreListed, AreInTurn}
 use Rattle.reads.proofs.Listed.{each_there, listed_lawful, not_lawful, listed_stated, listed_in_turn, listed_fall}
-use Rattle.reads.proofs.lawfulness.lawful_among.Goals as goal
+use Rattle.reads.proofs.lawfulness.standing_among.Goals as goal
 
 pub are_as_stated-requires : goal.are_as_stated-requires
 are_as_stated-requires g c =
@@ -34,27 +33,21 @@ returns-then-not-are_in_turn g c =
     not_lawful cmp g.met.C.Comparator.total v tables items listing (AreInTurn cmp items) c.are_in_turn.result c.of-then-not-are_in_turn.result c.in_ok-tables_test.ensures c.of-then-not-are_in_turn.ensures c.are_in_turn.ensures.1 c.if-not-are_in_turn.true
     (λ lawful. listed_in_turn cmp g.met.C.Comparator.total v tables items listing lawful)
 
-pub returns-then-not-branch : goal.returns-then-not-branch
-returns-then-not-branch g c =
-    let cmp = g.C.Comparator.cmp in
-    let v = c.args.version.now in
-    let tables = c.args.tables.now in
-    let items = c.in_ok-files.files.items in
-    let lists : List (List Entry) = c.in_ok-cursors_of.field-0.items in
-    let are : lists ≡ map (λ (f : LevelFile). table_entries tables f.meta.now.number) items = c.in_ok-cursors_of.ensures.cursors ∙ ap (map (λ (f : LevelFile). table_entries tables f.meta.now.number)) c.deref-3.ensures.value in
-    let turn : AreInTurn cmp items = subst (AreInTurn cmp) c.deref-2.ensures.value (c.are_in_turn.ensures.0 c.if-not-are_in_turn.false) in
-    not_lawful cmp g.met.C.Comparator.total v tables items c.in_ok-files.ensures.listed (AreFalling (joined lists)) c.in_ok-never_steps_back.field-0 c.of-then-not-branch.result c.in_ok-tables_test.ensures c.of-then-not-branch.ensures
-    c.in_ok-never_steps_back.ensures.newer.1 c.if-not-branch.true (λ lawful. listed_fall cmp g.met.C.Comparator.total v tables items c.in_ok-files.ensures.listed lawful turn lists are)
-
 pub returns : goal.returns
 returns g c =
     let cmp = g.C.Comparator.cmp in
     let v = c.args.version.now in
     let tables = c.args.tables.now in
     let items = c.in_ok-files.files.items in
-    let lists : List (List Entry) = c.in_ok-cursors_of.field-0.items in
-    let are : lists ≡ map (λ (f : LevelFile). table_entries tables f.meta.now.number) items = c.in_ok-cursors_of.ensures.cursors ∙ ap (map (λ (f : LevelFile). table_entries tables f.meta.now.number)) c.deref-3.ensures.value in
+    let lists : List (List Entry) = map (λ t. t.now.entries) c.in_ok-tables_of.field-0.items in
+    let are : lists ≡ map (λ (f : LevelFile). table_entries tables f.meta.now.number) items = c.in_ok-tables_of.ensures.tables ∙ ap (map (λ (f : LevelFile). table_entries tables f.meta.now.number)) c.deref-3.ensures.value in
     let turn : AreInTurn cmp items = subst (AreInTurn cmp) c.deref-2.ensures.value (c.are_in_turn.ensures.0 c.if-not-are_in_turn.false) in
     let stated = subst (λ (l : List LevelFile). All (λ (f : LevelFile). IsStatedFile cmp tables c.next_file.result f.meta.now) l) c.deref.ensures.value (c.are_as_stated.ensures.0 c.if-not-are_as_stated.false) in
     let as_stated = subst (λ (next : Option ℕ). All (λ (f : LevelFile). IsStatedFile cmp tables next f.meta.now) items) c.next_file.ensures stated in
-    listed_lawful cmp g.met.C.Comparator.total v tables items c.in_ok-files.ensures.listed as_stated turn lists are (c.in_ok-never_steps_back.ensures.newer.0 c.if-not-branch.false)
+    record {
+      there = c.in_ok-tables_test.ensures;
+      lawful = (
+        λ lawful. listed_fall cmp g.met.C.Comparator.total v tables items c.in_ok-files.ensures.listed lawful turn lists are,
+        λ falling. listed_lawful cmp g.met.C.Comparator.total v tables items c.in_ok-files.ensures.listed as_stated turn lists are falling,
+      );
+    }

@@ -3,7 +3,7 @@ pub mod InputAnswers
 pub mod RangeAnswers
 pub mod TableBytes
 pub mod ReadInputs
-mod Reaching
+pub mod Reaching
 mod PieceAnswers
 mod Joined
 mod NewFiles

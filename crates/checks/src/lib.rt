@@ -5,7 +5,9 @@
 #![tactic(auto)]
 
 mod checking;
+mod falling;
 mod rounds;
+mod sampling;
 mod testing;
 
 pub use rounds::check_tables;

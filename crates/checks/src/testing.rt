@@ -1,15 +1,19 @@
 //! The test whether a version is lawful with tables that were read.
 
 ghost use Rattle.std.specs.Prelude.{◌<◌, ◌≤◌, map};
-ghost use Rattle.coding.specs.Answers.{HoldsOrMemory};
+ghost use Rattle.std.specs.Result.{MatchResult};
+ghost use Rattle.coding.specs.Answers.{HoldsOrMemory, UnlessMemory};
+ghost use Rattle.reads.specs.Lawful.{IsLawful, IsUnlawful};
 ghost use Rattle.checks.specs.LawfulTables.{IsLawfulTables};
 
+use crate::falling::falls;
 use crate::rounds::check_tables;
+use crate::sampling::sampled_split;
 use board::Gate;
-use coding::Fault;
+use coding::{Fault, FaultName};
 use edit::Version;
 use ikey::SharedComparator;
-use reads::{NumberedTable, lawful};
+use reads::{NumberedTable, standing_tables};
 use std::alloc::Global;
 use std::thread::Threads;
 
@@ -31,6 +35,29 @@ pub fn lawful_tables<'t, C: SharedComparator, G: Gate + Sync, R: Threads + Sync>
         (IsLawfulTables C.cmp version.now (map (λ t. (t.0, t.1.items)) loaded.now)) }
 {
     let tables = check_tables::<C, G, R>(rt, alloc, loaded, workers, gate)?;
-    lawful(alloc, version, &tables)?;
+    lawful(rt, alloc, version, &tables, workers, gate)?;
     Ok(tables)
+}
+
+/// Whether a version is lawful with these tables, as `reads::lawful` has it, where the entries of one user key are walked by 1 to 64
+/// workers, a range of user keys a job.
+fn lawful<'t, C: SharedComparator, G: Gate + Sync, R: Threads + Sync>(
+    rt: &R,
+    alloc: Global,
+    version: &Version,
+    tables: &[NumberedTable<'t, C>],
+    workers: u64,
+    gate: &G,
+) -> Result<(), Fault>
+    requires some { 0 < workers }
+    requires few { workers ≤ 64 }
+    ensures { MatchResult result (λ none. IsLawful C.cmp version.now tables.now)
+        (λ e. UnlessMemory e (IsUnlawful C.cmp version.now tables.now e)) }
+{
+    let standing = standing_tables(alloc, version, tables)?;
+    let split = sampled_split::<C>(alloc, &standing)?;
+    if !falls(rt, alloc, &standing, &split, workers, gate)? {
+        return Err(Fault::of(FaultName::Lawless));
+    }
+    Ok(())
 }

@@ -24,7 +24,8 @@ use Rattle.merge.specs.Merged.{joined, merged}
 use Rattle.merge.specs.Least.{StartsAbove, StartsFrom, IsLeast, IsAdvanced, IsMerging}
 use Rattle.merge.proofs.Merges.{joined_at, joined_set, one_of, merged_first}
 use Rattle.merge.proofs.Orders.{le_trans}
-use Rattle.reads.specs.Checking.{IsNewerIn, AreFallingIn, steps_back}
+use Rattle.reads.specs.Checking.{steps_back}
+use Rattle.reads.specs.Standing.{IsNewerIn, AreFallingIn}
 use Rattle.reads.proofs.Members.{first_or_later, later_in, first_in, none_in, from_flat_map}
 use Rattle.reads.proofs.Orders.{less_is, equal_is, of_one_user, not_before_itself}
 use Rattle.reads.proofs.FallingEntries.{each_of}

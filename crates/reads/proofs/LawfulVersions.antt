@@ -16,7 +16,8 @@ use Rattle.edit.specs.declared.meta.NewFile.{NewFile}
 use Rattle.reads.specs.declared.level_file.LevelFile.{LevelFile}
 use Rattle.reads.specs.Tables.{Numbered, table_entries, all_entries}
 use Rattle.reads.specs.Lawful.{IsLawful, IsFileOf, IsBelowNext, AreDisjoint, AreDistinct, AreNewer, StandsAbove}
-use Rattle.reads.specs.Checking.{file_in, IsNewer, AreFalling, IsStatedFile, IsSoundFile, AreAll, AreListed, AreInTurn}
+use Rattle.reads.specs.Checking.{file_in, IsStatedFile, IsSoundFile, AreAll, AreListed, AreInTurn}
+use Rattle.reads.specs.Standing.{IsNewer, AreFalling}
 use Rattle.reads.proofs.Members.{in_flat_map, from_flat_map, in_map}
 use Rattle.reads.proofs.Orders.{later_older}
 use Rattle.reads.proofs.Answers.{entries_are, first_or_above, last_or_below}

@@ -1,14 +1,14 @@
 -- The tests of a range's bounds.
 use Rattle.std.proofs.Common.{◌≡◌, ◌≢◌, ℕ, Bool, true, false, List, Option, Some, None, refl, sym, ap, subst, ◌∙◌}
 use Rattle.std.specs.Prelude.{not}
-use Rattle.std.specs.List.{All}
 use Rattle.std.specs.Option.{option_map_or, ForSome}
 use Rattle.std.specs.Ordering.{is_lt}
 use Rattle.std.specs.declared.cmp.Ordering.{Ordering}
 use Rattle.std.specs.declared.cmp.Ordering.TheVariants.{Less, Equal, Greater}
 use Rattle.block.specs.Piece.{Entry}
 use Rattle.split.specs.Ranges.{KeyRange, IsIn}
-use Rattle.reads.specs.Checking.{AreFalling, AreFallingIn, is_from, is_before_end}
+use Rattle.reads.specs.Checking.{is_from, is_before_end}
+use Rattle.reads.specs.Standing.{AreFalling, AreFallingIn}
 
 less_of : (o : Ordering) → is_lt o ≡ true → o ≡ Less
 less_of Less h = refl

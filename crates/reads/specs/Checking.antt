@@ -1,52 +1,26 @@
 -- What is tested of a version's files, one by one and two by two.
-use Rattle.std.specs.Prelude.{◌≡◌, ◌↔◌, ℕ, ◌+◌, ◌-◌, ◌<◌, nat_lt, nat_le, nat_eq, Bool, true, false, not, ◌&&◌, ◌||◌, if◌then◌else◌, List, length, map, slice_get, slice_index_or, Option, Some, None, Ok, AllPairs, Contains}
-use Rattle.std.specs.List.{All, IsDistinct}
+use Rattle.std.specs.Prelude.{◌≡◌, ℕ, ◌+◌, ◌-◌, ◌<◌, nat_lt, nat_le, nat_eq, Bool, true, false, not, ◌&&◌, ◌||◌, if◌then◌else◌, List, length, map, slice_get, slice_index_or, Option, Some, None, Ok, AllPairs, Contains}
+use Rattle.std.specs.List.{IsDistinct}
 use Rattle.std.specs.Option.{option_map, option_map_or}
 use Rattle.std.specs.List.Sorted.{IsSortedBy}
 use Rattle.std.specs.Ordering.{nat_cmp, ordering_then, is_lt}
 use Rattle.std.specs.declared.cmp.Ordering.{Ordering}
 use Rattle.std.specs.Str.{bytes_eq}
-use Rattle.ikey.specs.Key.{IsInternalKey, user_of, sequence_of}
+use Rattle.ikey.specs.Key.{user_of, sequence_of}
 use Rattle.ikey.specs.Order.{internal_cmp}
-use Rattle.block.specs.Piece.{Entry}
 use Rattle.table.specs.Reading.{Contents, contents_reading}
 use Rattle.table.specs.ReadingCursors.{IsRising}
 use Rattle.split.specs.Ranges.{KeyRange}
-use Rattle.merge.specs.Merged.{joined}
-use Rattle.edit.specs.Version.{State, are_apart}
+use Rattle.edit.specs.Version.{are_apart}
 use Rattle.edit.specs.declared.meta.FileMeta.{FileMeta}
 use Rattle.edit.specs.declared.meta.NewFile.{NewFile}
 use Rattle.reads.specs.declared.level_file.LevelFile.{LevelFile}
-use Rattle.reads.specs.Tables.{Numbered, table_of, table_entries, tables_test}
-use Rattle.reads.specs.Lawful.{IsFileOf, IsBelowNext, AreDistinct, IsLawful}
+use Rattle.reads.specs.Tables.{Numbered, table_of, table_entries}
+use Rattle.reads.specs.Lawful.{IsFileOf, IsBelowNext, AreDistinct}
 
 -- a file and its level
 abbrev pub file_in : LevelFile → NewFile
 file_in f = record { level = f.level; meta = f.meta.now }
-
--- an entry is of another user key than one behind it, or has a greater sequence
-abbrev pub IsNewer : Entry → Entry → Type 0
-IsNewer a b = user_of a.key ≡ user_of b.key → sequence_of b.key < sequence_of a.key
-
--- the same of entries of a user key of a kind
-abbrev pub IsNewerIn : (List ℕ → Type 0) → Entry → Entry → Type 0
-IsNewerIn P a b = P (user_of a.key) → IsNewer a b
-
--- the keys are internal keys, and of one user key each entry is newer than those behind it
-pub record AreFalling (entries : List Entry) : Type 0 where
-  pub keys : All (λ e. IsInternalKey e.key) entries
-  pub newer : AllPairs IsNewer entries
-
--- the same of the user keys of a kind
-pub record AreFallingIn (P : List ℕ → Type 0) (entries : List Entry) : Type 0 where
-  pub keys : All (λ e. P (user_of e.key) → IsInternalKey e.key) entries
-  pub newer : AllPairs (IsNewerIn P) entries
-
--- A version's tables as they stand one before the other, and each is as the version states: so the version is lawful exactly where
--- the entries of one user key fall.
-pub record AreStanding (cmp : List ℕ → List ℕ → Ordering) (v : State) (tables : List Numbered) (lists : List (List Entry)) : Type 0 where
-  pub there : tables_test tables v.files ≡ Ok tt
-  pub lawful : IsLawful cmp v tables ↔ AreFalling (joined lists)
 
 -- whether a user key is at or after a range's lower bound, where it has one
 abbrev pub is_from : (List ℕ → List ℕ → Ordering) → KeyRange → List ℕ → Bool

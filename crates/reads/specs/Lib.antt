@@ -3,6 +3,7 @@ pub mod Tables
 pub mod Gets
 pub mod Lawful
 pub mod NewestFirst
+pub mod Standing
 -- serves proofs alone
 pub mod Visible
 pub mod Checking

@@ -10,7 +10,8 @@ ghost use Rattle.edit.specs.Version.{IsState};
 ghost use Rattle.edit.specs.VersionOrder.{at_level};
 ghost use Rattle.reads.specs.Tables.{table_of, table_entries, tables_test};
 ghost use Rattle.reads.specs.Lawful.{IsLawful, IsUnlawful};
-ghost use Rattle.reads.specs.Checking.{file_in, is_below, is_stated, IsStatedFile, stands_before, AreAll, rank_of, standing_cmp, AreListed, AreInTurn, AreStanding};
+ghost use Rattle.reads.specs.Checking.{file_in, is_below, is_stated, IsStatedFile, stands_before, AreAll, rank_of, standing_cmp, AreListed, AreInTurn};
+ghost use Rattle.reads.specs.Standing.{AreStanding};
 
 use crate::finding::{LEVELS, tables_test};
 use crate::level_file::LevelFile;

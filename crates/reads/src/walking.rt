@@ -6,7 +6,8 @@ ghost use Rattle.coding.specs.declared.fault.FaultName.TheVariants.{Memory};
 ghost use Rattle.ikey.specs.Key.{user_of};
 ghost use Rattle.merge.specs.Merged.{joined};
 ghost use Rattle.split.specs.Ranges.{key_range, IsIn};
-ghost use Rattle.reads.specs.Checking.{AreFallingIn, is_from, is_before_end, steps_back};
+ghost use Rattle.reads.specs.Checking.{is_from, is_before_end, steps_back};
+ghost use Rattle.reads.specs.Standing.{AreFallingIn};
 
 use coding::Fault;
 use ikey::{Comparator, InternalKey, KeyBuf, Kind};

@@ -1,7 +1,7 @@
-use Rattle.std.proofs.Common.{◌≡◌, List, map, refl, sym, ap, subst, ◌∙◌}
+use Rattle.std.proofs.Common.{List, map, refl, ap, subst, ◌∙◌}
 use Rattle.block.specs.Piece.{Entry}
 use Rattle.merge.specs.Merged.{joined}
-use Rattle.reads.specs.Checking.{AreFalling}
+use Rattle.reads.specs.Standing.{AreFalling}
 use Rattle.reads.proofs.Ranged.{all_fall}
 use Rattle.reads.proofs.lawfulness.lawful.Goals as goal
 

@@ -4,7 +4,7 @@ use Rattle.ikey.specs.Key.{IsInternalKey, user_of}
 use Rattle.split.specs.Ranges.{KeyRange, key_range, IsIn}
 use Rattle.merge.specs.Least.{IsMerging}
 use Rattle.merge.proofs.Leasts.{some_where_least}
-use Rattle.reads.specs.Checking.{is_from, is_before_end, steps_back}
+use Rattle.reads.specs.Checking.{is_from, is_before_end}
 use Rattle.reads.proofs.Falling.{key_is, came_to_end, goes_on, went_back, none_there, none_of_kind, behind_bound, are_falling, fall}
 use Rattle.reads.proofs.Ranged.{within, before_it, bound_of}
 use Rattle.reads.proofs.walking.falls_in.Goals.{else-within-via-then-within+else-steps_back, else-within-via-else-within}

@@ -1,0 +1,10 @@
+use Rattle.std.proofs.Common.{◌≡◌, map, take}
+use Rattle.merge.specs.Merged.{joined}
+use Rattle.split.specs.Ranges.{key_range}
+use Rattle.keep.specs.InRange.{entries_in}
+use Rattle.checks.proofs.falling.cursors_from.Given as goal
+
+abbrev pub invariant-loop-table : goal.invariant-loop-table
+invariant-loop-table g l =
+    entries_in g.C.Comparator.cmp (key_range l.range) (joined l.cursors.items)
+    ≡ entries_in g.C.Comparator.cmp (key_range l.range) (joined (map (λ t. t.now.entries) (take l.table-index l.tables)))

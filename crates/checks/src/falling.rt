@@ -1,0 +1,112 @@
+//! Whether the entries of a version's tables fall, by ranges of user keys.
+
+ghost use Rattle.std.specs.Prelude.{◌≡◌, ◌↔◌, ◌+◌, ◌<◌, ◌≤◌, true, length, map, IfOk, IfErr};
+ghost use Rattle.std.specs.List.{list_all};
+ghost use Rattle.coding.specs.Answers.{fault};
+ghost use Rattle.coding.specs.declared.fault.FaultName.TheVariants.{Memory};
+ghost use Rattle.merge.specs.Merged.{joined};
+ghost use Rattle.split.specs.Ranges.{key_range};
+ghost use Rattle.keep.specs.InRange.{entries_in};
+ghost use Rattle.reads.specs.Standing.{AreFalling};
+ghost use Rattle.checks.specs.Falling.{TellsRange};
+
+use board::{Gate, Labour, run};
+use coding::Fault;
+use compact::add_cursor;
+use ikey::{Comparator, SharedComparator};
+use reads::falls_in;
+use split::{Range, Split};
+use std::alloc::Global;
+use std::thread::Threads;
+use table::{SoundTable, TableCursor};
+
+/// Tables, walked in the ranges of a split, each a job.
+#[derive(Drop)]
+struct Falls<'r, 't, C: Comparator> {
+    alloc: Global,
+    tables: &'r [&'r SoundTable<'t, C>],
+    split: &'r Split<C>,
+}
+
+impl<'r, 't, C: Comparator + 't> Labour for Falls<'r, 't, C> {
+    type Out = bool;
+
+    ghost use Rattle.std.specs.Prelude.{◌+◌, None, length, map};
+    ghost use Rattle.checks.specs.Falling.{TellsRange};
+
+    ghost jobs = { λ s. length s.split.now + 1 };
+
+    ghost refusal = { λ s job. None };
+
+    ghost gives = { λ s job out. TellsRange C.cmp s.split.now (map (λ t. t.now.entries) s.tables.now) job out };
+
+    fn work(&self, job: u64) -> Result<bool, Fault> {
+        falls_at(self.alloc, self.tables, self.split, job)
+    }
+}
+
+/// A cursor over each table that reaches into a range, but for entries before it. Refused for want of memory alone.
+fn cursors_from<'t, C: Comparator + 't>(
+    alloc: Global,
+    tables: &[&SoundTable<'t, C>],
+    range: Range<'_>,
+) -> Result<Vec<TableCursor<'t, C>>, Fault>
+    ensures held { IfOk result (λ v. entries_in C.cmp (key_range range.entry) (joined v.items)
+        ≡ entries_in C.cmp (key_range range.entry) (joined (map (λ t. t.now.entries) tables.now))) }
+    ensures memory { IfErr result (λ e. e ≡ fault Memory) }
+{
+    let mut cursors = Vec::new(alloc);
+    for table in tables {
+        add_cursor(alloc, &mut cursors, table, range)?;
+    }
+    Ok(cursors)
+}
+
+/// Whether the entries of tables fall in the range of a number. Refused for want of memory alone.
+fn falls_at<'t, C: Comparator + 't>(
+    alloc: Global,
+    tables: &[&SoundTable<'t, C>],
+    split: &Split<C>,
+    number: u64,
+) -> Result<bool, Fault>
+    requires { number < length split.now + 1 }
+    ensures told { IfOk result (TellsRange C.cmp split.now (map (λ t. t.now.entries) tables.now) number) }
+    ensures memory { IfErr result (λ e. e ≡ fault Memory) }
+{
+    let range = split.range(number);
+    let cursors = cursors_from(alloc, tables, range)?;
+    Ok(falls_in(alloc, cursors, range)?)
+}
+
+/// Whether each of them is true.
+fn are_all_true(found: &[bool]) -> bool
+    ensures { result ≡ list_all (λ b. b) found.now }
+{
+    found.iter().all(|it| *it)
+}
+
+/// Whether of each user key each entry is newer than those behind it, where the entries of each table stand behind those of the
+/// tables before it.
+///
+/// The ranges of the split are walked by 1 to 64 workers, a range a job. Refused for want of memory alone.
+pub(crate) fn falls<'t, C: SharedComparator, G: Gate + Sync, R: Threads + Sync>(
+    rt: &R,
+    alloc: Global,
+    tables: &[&SoundTable<'t, C>],
+    split: &Split<C>,
+    workers: u64,
+    gate: &G,
+) -> Result<bool, Fault>
+    requires some { 0 < workers }
+    requires few { workers ≤ 64 }
+    ensures told { IfOk result (λ falls. (falls ≡ true) ↔ AreFalling (joined (map (λ t. t.now.entries) tables.now))) }
+    ensures memory { IfErr result (λ e. e ≡ fault Memory) }
+{
+    let labour = Falls {
+        alloc,
+        tables,
+        split,
+    };
+    let found = run(rt, alloc, &labour, split.len(), workers, gate)?;
+    Ok(are_all_true(&found))
+}

@@ -1,6 +1,6 @@
 //! The second run: the ranges are merged.
 
-ghost use Rattle.std.specs.Prelude.{◌≡◌, ◌++◌, [], true, map, IfOk, IfErr, OnOk, IsOkUnless, Ok};
+ghost use Rattle.std.specs.Prelude.{◌≡◌, ◌++◌, [], true, map, IfOk, IfErr, OnOk, OnErr, IsOkUnless, Ok};
 ghost use Rattle.std.specs.List.Sorted.{IsStrictlyIncreasing};
 ghost use Rattle.std.specs.Option.{option_map, option_map_or};
 ghost use Rattle.std.specs.Ordering.{is_lt};
@@ -125,6 +125,7 @@ pub fn add_cursor<'t, C: Comparator + 't>(
 ) -> Result<(), Fault>
     ensures held { OnOk result (entries_in C.cmp (key_range range.entry) (joined cursors.new.items)
         ≡ entries_in C.cmp (key_range range.entry) (joined cursors.old.items) ++ entries_in C.cmp (key_range range.entry) table.now.entries) }
+    ensures unchanged { OnErr result (cursors.new.items ≡ cursors.old.items) }
     ensures memory { IsOkUnless result (fault Memory) }
 {
     if misses(table, range) {

@@ -1,6 +1,6 @@
 -- Entries that fall in each range of user keys fall.
-use Rattle.std.proofs.Common.{◌≡◌, ℕ, ◌+◌, ◌<◌, ◌≤◌, Bool, true, false, cond, List, [], ◌∷◌, length, get_or, Option, None, Some, Result, Err, inl, inr, refl, sym, ap, subst, ◌∙◌, arith}
-use Rattle.std.specs.Prelude.{◌↔◌, ◌⊎◌, zero, suc, Contains, filter, ◌&&◌}
+use Rattle.std.proofs.Common.{◌≡◌, ℕ, ◌+◌, ◌<◌, ◌≤◌, Bool, true, false, cond, List, [], ◌∷◌, length, get_or, None, Some, Result, Err, inl, inr, refl, sym, ap, subst, ◌∙◌, arith}
+use Rattle.std.specs.Prelude.{◌↔◌, ◌⊎◌, zero, suc, Contains, filter}
 use Rattle.std.specs.List.{list_all}
 use Rattle.std.specs.declared.cmp.Ordering.{Ordering}
 use Rattle.std.proofs.lemmas.List.Elements.{All-contains, Contains-get_or}
@@ -94,9 +94,9 @@ module _ (cmp : List ℕ → List ℕ → Ordering) (boundaries : List (List ℕ
   all_told false all = (
     λ e. absurd cc,
     λ h.
-      let found = some_false outs all in
-      let told : get_or outs found.0 true ≡ true = (each found.0 true (omega (arith, len, found.1))).1 (fall_in (IsIn cmp (range_at boundaries found.0)) (joined lists) h) in
-      absurd (no_both (get_or outs found.0 true) told found.2),
+        let found = some_false outs all in
+        let told : get_or outs found.0 true ≡ true = (each found.0 true (omega (arith, len, found.1))).1 (fall_in (IsIn cmp (range_at boundaries found.0)) (joined lists) h) in
+        absurd (no_both (get_or outs found.0 true) told found.2),
   )
 
 -- a labour that states no refusal fails for want of memory alone

@@ -5,7 +5,7 @@ ghost use Rattle.std.specs.List.{list_all};
 ghost use Rattle.coding.specs.Answers.{fault};
 ghost use Rattle.coding.specs.declared.fault.FaultName.TheVariants.{Memory};
 ghost use Rattle.merge.specs.Merged.{joined};
-ghost use Rattle.split.specs.Ranges.{key_range};
+ghost use Rattle.split.specs.Ranges.{key_range, IsCover};
 ghost use Rattle.keep.specs.InRange.{entries_in};
 ghost use Rattle.reads.specs.Standing.{AreFalling};
 ghost use Rattle.checks.specs.Falling.{TellsRange};
@@ -22,13 +22,13 @@ use table::{SoundTable, TableCursor};
 
 /// Tables, walked in the ranges of a split, each a job.
 #[derive(Drop)]
-struct Falls<'r, 't, C: Comparator> {
+struct Falls<'r, 't, C: Comparator + 'static> {
     alloc: Global,
     tables: &'r [&'r SoundTable<'t, C>],
     split: &'r Split<C>,
 }
 
-impl<'r, 't, C: Comparator + 't> Labour for Falls<'r, 't, C> {
+impl<'r, 't, C: Comparator + 't + 'static> Labour for Falls<'r, 't, C> {
     type Out = bool;
 
     ghost use Rattle.std.specs.Prelude.{◌+◌, None, length, map};
@@ -78,6 +78,15 @@ fn falls_at<'t, C: Comparator + 't>(
     Ok(falls_in(alloc, cursors, range)?)
 }
 
+/// How many ranges a split has.
+fn count_ranges<C: Comparator>(split: &Split<C>) -> u64
+    ensures number { result ≡ length split.now + 1 }
+    ensures few { result ≤ 4096 }
+    ensures cover { IsCover C.cmp split.now }
+{
+    split.len()
+}
+
 /// Whether each of them is true.
 fn are_all_true(found: &[bool]) -> bool
     ensures { result ≡ list_all (λ b. b) found.now }
@@ -89,7 +98,7 @@ fn are_all_true(found: &[bool]) -> bool
 /// tables before it.
 ///
 /// The ranges of the split are walked by 1 to 64 workers, a range a job. Refused for want of memory alone.
-pub(crate) fn falls<'t, C: SharedComparator, G: Gate + Sync, R: Threads + Sync>(
+pub(crate) fn entries_fall<'t, C: SharedComparator + 'static, G: Gate + Sync, R: Threads + Sync>(
     rt: &R,
     alloc: Global,
     tables: &[&SoundTable<'t, C>],
@@ -107,6 +116,6 @@ pub(crate) fn falls<'t, C: SharedComparator, G: Gate + Sync, R: Threads + Sync>(
         tables,
         split,
     };
-    let found = run(rt, alloc, &labour, split.len(), workers, gate)?;
+    let found = run(rt, alloc, &labour, count_ranges(split), workers, gate)?;
     Ok(are_all_true(&found))
 }

@@ -6,7 +6,7 @@ ghost use Rattle.coding.specs.Answers.{HoldsOrMemory, UnlessMemory};
 ghost use Rattle.reads.specs.Lawful.{IsLawful, IsUnlawful};
 ghost use Rattle.checks.specs.LawfulTables.{IsLawfulTables};
 
-use crate::falling::falls;
+use crate::falling::entries_fall;
 use crate::rounds::check_tables;
 use crate::sampling::sampled_split;
 use board::Gate;
@@ -21,7 +21,7 @@ use std::thread::Threads;
 ///
 /// Refused by the first of them that is no table, as `check_tables` refuses it, and then where the version isn't lawful with
 /// them, as `reads::lawful` refuses it. Else refused for want of memory alone.
-pub fn lawful_tables<'t, C: SharedComparator, G: Gate + Sync, R: Threads + Sync>(
+pub fn lawful_tables<'t, C: SharedComparator + 'static, G: Gate + Sync, R: Threads + Sync>(
     rt: &R,
     alloc: Global,
     version: &Version,
@@ -41,7 +41,7 @@ pub fn lawful_tables<'t, C: SharedComparator, G: Gate + Sync, R: Threads + Sync>
 
 /// Whether a version is lawful with these tables, as `reads::lawful` has it, where the entries of one user key are walked by 1 to 64
 /// workers, a range of user keys a job.
-fn lawful<'t, C: SharedComparator, G: Gate + Sync, R: Threads + Sync>(
+fn lawful<'t, C: SharedComparator + 'static, G: Gate + Sync, R: Threads + Sync>(
     rt: &R,
     alloc: Global,
     version: &Version,
@@ -56,7 +56,7 @@ fn lawful<'t, C: SharedComparator, G: Gate + Sync, R: Threads + Sync>(
 {
     let standing = standing_tables(alloc, version, tables)?;
     let split = sampled_split::<C>(alloc, &standing)?;
-    if !falls(rt, alloc, &standing, &split, workers, gate)? {
+    if !entries_fall(rt, alloc, &standing, &split, workers, gate)? {
         return Err(Fault::of(FaultName::Lawless));
     }
     Ok(())

@@ -20,7 +20,7 @@ use std::alloc::Global;
 use std::thread::Threads;
 
 /// The line of the value in a version, with the tables that the folder holds.
-pub(crate) fn got_in<C: SharedComparator, F: Folder, R: Threads + Sync>(
+pub(crate) fn got_in<C: SharedComparator + 'static, F: Folder, R: Threads + Sync>(
     rt: &R,
     alloc: Global,
     folder: &mut F,
@@ -41,7 +41,7 @@ pub(crate) fn got_in<C: SharedComparator, F: Folder, R: Threads + Sync>(
 }
 
 /// The line of the value in a version, with the tables of these numbers and bytes.
-fn got<C: SharedComparator, R: Threads + Sync>(
+fn got<C: SharedComparator + 'static, R: Threads + Sync>(
     rt: &R,
     alloc: Global,
     version: &Version,

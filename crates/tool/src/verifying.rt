@@ -21,7 +21,7 @@ use std::thread::Threads;
 pub(crate) const WORKERS: u64 = 4;
 
 /// The line of a version that is lawful with the tables that the folder holds.
-pub(crate) fn verified_in<C: SharedComparator, F: Folder, R: Threads + Sync>(
+pub(crate) fn verified_in<C: SharedComparator + 'static, F: Folder, R: Threads + Sync>(
     rt: &R,
     alloc: Global,
     folder: &mut F,
@@ -40,7 +40,7 @@ pub(crate) fn verified_in<C: SharedComparator, F: Folder, R: Threads + Sync>(
 }
 
 /// Tests a version with the tables of these numbers and bytes.
-fn verified<C: SharedComparator, R: Threads + Sync>(
+fn verified<C: SharedComparator + 'static, R: Threads + Sync>(
     rt: &R,
     alloc: Global,
     version: &Version,

@@ -139,7 +139,7 @@ fn answered_in_order<F: Folder, R: Threads + Sync>(
 }
 
 /// What a version answers by a comparator, with the tables that the folder holds.
-fn answered_by<C: SharedComparator, F: Folder, R: Threads + Sync>(
+fn answered_by<C: SharedComparator + 'static, F: Folder, R: Threads + Sync>(
     rt: &R,
     alloc: Global,
     folder: &mut F,

@@ -1,7 +1,3 @@
-mod DigitLemmas
-mod LineLemmas
-mod NumberLists
-mod TextLemmas
 mod ShowingLemmas
 mod TableSizes
 mod FolderLineLemmas

@@ -10,7 +10,7 @@ use Rattle.ikey.specs.Key.{user_of, sequence_of, kind_of}
 use Rattle.ikey.specs.declared.kind.Kind.{Kind}
 use Rattle.ikey.specs.declared.kind.Kind.TheVariants.{Delete, Put}
 use Rattle.table.specs.Reading.{table_reading}
-use Rattle.tool.specs.Text.{text_of_bytes}
+use Rattle.usage.specs.Text.{text_of_bytes}
 
 -- what stands behind the sequence: `put VALUE` or `del`, and a newline
 abbrev pub change_text : Kind → List ℕ → List ℕ

@@ -12,7 +12,7 @@ use Rattle.reads.specs.Gets.{get_of}
 use Rattle.reads.specs.Tables.{Numbered}
 use Rattle.checks.specs.LawfulTables.{IsLawfulTables}
 use Rattle.tool.specs.Lines.{order_cmp}
-use Rattle.tool.specs.Text.{text_of_bytes}
+use Rattle.usage.specs.Text.{text_of_bytes}
 
 -- the line of the tables of a lawful version
 abbrev pub IsLineOfLoaded : (List ℕ → List ℕ → Ordering) → State → List (ℕ × List ℕ) → (List Numbered → List ℕ) → Result (List ℕ) Fault → Type 0

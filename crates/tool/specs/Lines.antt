@@ -14,7 +14,7 @@ use Rattle.edit.specs.declared.meta.FileMeta.{FileMeta}
 use Rattle.folder.specs.Levels.{all_levels}
 use Rattle.folder.specs.Manifest.{order_name}
 use Rattle.folder.specs.Opening.{IsOpened}
-use Rattle.tool.specs.Text.{text_of_bytes}
+use Rattle.usage.specs.Text.{text_of_bytes}
 use Rattle.folder.specs.declared.order.Order.{Order}
 use Rattle.folder.specs.declared.order.Order.TheVariants.{Bytewise, Shortlex}
 

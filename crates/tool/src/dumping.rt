@@ -5,12 +5,12 @@ ghost use Rattle.block.specs.Piece.{Entry};
 ghost use Rattle.coding.specs.Answers.{EqualOrMemory};
 ghost use Rattle.tool.specs.Dump.{dump_line, dumped};
 
-use crate::text::text_of;
 use coding::Fault;
 use ikey::{Bytewise, InternalKey, Kind};
 use std::alloc::Global;
 use std::fmt::Write;
 use table::{Cursor, TableCursor, check};
+use usage::text_of;
 
 /// The lines of a table in the bytewise order, a line an entry: `KEY SEQ put VALUE` or `KEY SEQ del`.
 ///

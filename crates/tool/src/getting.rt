@@ -7,7 +7,6 @@ ghost use Rattle.folder.specs.Folder.{TellsSame};
 ghost use Rattle.folder.specs.Opening.{FolderAnswers, HasDeviceFailed, StopsAtDevice};
 ghost use Rattle.tool.specs.FolderLines.{IsLineOfLoaded, IsLineOfVersion, got_line, sequence_at, value_line};
 
-use crate::text::text_of;
 use crate::verifying::WORKERS;
 use board::Open;
 use checks::lawful_tables;
@@ -18,6 +17,7 @@ use ikey::SharedComparator;
 use reads::get;
 use std::alloc::Global;
 use std::thread::Threads;
+use usage::text_of;
 
 /// The line of the value in a version, with the tables that the folder holds.
 pub(crate) fn got_in<C: SharedComparator + 'static, F: Folder, R: Threads + Sync>(

@@ -1,11 +1,9 @@
 //! The program, from its words to its status.
 
-use crate::command_line::line;
 use crate::dumping::dump;
 use crate::exit_status::status;
 use crate::files;
 use crate::folder_commands::{get_dir, manifest, verify};
-use crate::requests::{CompactSettings, Line, Readable, Usage};
 use coding::{Fault, FaultName};
 use folder::Disk;
 use keep::Snapshots;
@@ -16,6 +14,7 @@ use std::rt::Files;
 use std::thread::Threads;
 use std::{env, io};
 use store::{Settings, compact_dir};
+use usage::{CompactSettings, Line, Readable, Usage, line};
 
 /// The status of work that is done, and of help or a version that was asked for.
 const DONE: u8 = 0;

@@ -7,12 +7,12 @@ ghost use Rattle.coding.specs.declared.fault.FaultName.TheVariants.{Memory};
 ghost use Rattle.folder.specs.Levels.{all_levels};
 ghost use Rattle.tool.specs.Lines.{comparator_line, file_line, file_lines, head_lines, number_line, lines_by, pointer_line, pointer_lines};
 
-use crate::text::text_of;
 use coding::Fault;
 use edit::{FileMeta, Version};
 use folder::Order;
 use ikey::{Comparator, KeyBuf};
 use std::alloc::Global;
+use usage::text_of;
 
 /// No line of a file has more bytes: its level has one digit, and its numbers at most 20.
 const MAX_FILE_LINE: usize = 49;

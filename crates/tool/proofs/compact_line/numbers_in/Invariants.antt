@@ -1,7 +1,0 @@
-use Rattle.std.proofs.Common.{take}
-use Rattle.tool.specs.CompactLine.{AreNumbers}
-use Rattle.tool.proofs.NumberLists.{texts_of}
-use Rattle.tool.proofs.compact_line.numbers_in.Given as goal
-
-abbrev pub invariant-loop-numeral : goal.invariant-loop-numeral
-invariant-loop-numeral l = AreNumbers (texts_of (take l.numeral-index l.numerals)) l.numbers.items

@@ -1,0 +1,4 @@
+mod DigitLemmas
+mod LineLemmas
+mod NumberLists
+mod TextLemmas

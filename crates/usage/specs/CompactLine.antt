@@ -1,0 +1,70 @@
+-- What the command `compact` is given, and what it asks for.
+use Rattle.std.specs.Prelude.{◌≡◌, ◌≢◌, ◌⊎◌, ◌==◌, ℕ, List, [], map, Option, Some, None, codes, unwrap_or}
+use Rattle.std.specs.List.{All, slice_split}
+use Rattle.std.specs.Str.Parse.{digits_value}
+use Rattle.clap.specs.Words.{Row, Text, first_of}
+use Rattle.usage.specs.Text.{IsNoNumber, IsNumberOf, IsNumberText, LacksNumber}
+use Rattle.usage.specs.declared.requests.Readable.{Readable}
+use Rattle.usage.specs.declared.requests.Readable.TheVariants.{From, Listed}
+use Rattle.usage.specs.declared.requests.CompactSettings.{CompactSettings}
+use Rattle.usage.specs.declared.compact_texts.CompactNumbers.{CompactNumbers}
+
+-- the rows give these numbers of `--workers`, `--ranges`, `--block-size` and `--file-size`
+abbrev pub HasNumbers : CompactNumbers → List Row → Type 0
+HasNumbers numbers rows = IsNumberOf (first_of (codes "workers") rows) numbers.workers × IsNumberOf (first_of (codes "ranges") rows) numbers.ranges
+    × IsNumberOf (first_of (codes "block-size") rows) numbers.block_size × IsNumberOf (first_of (codes "file-size") rows) numbers.file_size
+
+-- one of the four is given a text that is no number
+abbrev pub LacksNumbers : List Row → Type 0
+LacksNumbers rows = IsNoNumber (first_of (codes "workers") rows) ⊎ (IsNoNumber (first_of (codes "ranges") rows)
+    ⊎ (IsNoNumber (first_of (codes "block-size") rows) ⊎ IsNoNumber (first_of (codes "file-size") rows)))
+
+-- the rows give this number of `--snapshot`, or this text of `--snapshots`, or neither
+abbrev pub HasReadable : Option ℕ → Option Text → List Row → Type 0
+HasReadable since listed rows = IsNumberOf (first_of (codes "snapshot") rows) since × (first_of (codes "snapshots") rows ≡ listed)
+    × ((since ≡ None) ⊎ (listed ≡ None))
+
+-- `--snapshot` is given a text that is no number, or both are given
+abbrev pub LacksReadable : List Row → Type 0
+LacksReadable rows = IsNoNumber (first_of (codes "snapshot") rows)
+    ⊎ ((first_of (codes "snapshot") rows ≢ None) × (first_of (codes "snapshots") rows ≢ None))
+
+-- the rows give these of DIR and `--level`, and these of the options
+abbrev pub HasCompact : Text → ℕ → CompactNumbers → Option ℕ → Option Text → List Row → Type 0
+HasCompact folder level numbers since listed rows = (first_of (codes "DIR") rows ≡ Some folder)
+    × IsNumberOf (first_of (codes "level") rows) (Some level) × HasNumbers numbers rows × HasReadable since listed rows
+
+-- the rows give no text of DIR, no number of `--level`, or no such options
+abbrev pub LacksCompact : List Row → Type 0
+LacksCompact rows = (first_of (codes "DIR") rows ≡ None) ⊎ (LacksNumber (first_of (codes "level") rows)
+    ⊎ (LacksNumbers rows ⊎ LacksReadable rows))
+
+-- the texts between commas
+abbrev pub numerals_in : Text → List Text
+numerals_in text = slice_split (λ b. b == 44) text
+
+-- texts are these numbers, in their order
+abbrev pub AreNumbers : List Text → List ℕ → Type 0
+AreNumbers texts numbers = All IsNumberText texts × (numbers ≡ map (digits_value 10) texts)
+
+-- a text is these numbers, with commas between them
+abbrev pub IsNumberList : Text → List ℕ → Type 0
+IsNumberList text numbers = AreNumbers (numerals_in text) numbers
+
+-- a text is no list of numbers
+abbrev pub IsNoNumberList : Text → Type 0
+IsNoNumberList text = All IsNumberText (numerals_in text) → ⊥
+
+-- the sequences that are to stay readable: a sequence and all later ones, or those of a list, which is empty where neither is given
+abbrev pub IsReadable : Option ℕ → Option Text → Readable → Type 0
+IsReadable (Some sequence) listed (From first) = first ≡ sequence
+IsReadable (Some sequence) listed (Listed sequences) = ⊥
+IsReadable None listed (From first) = ⊥
+IsReadable None None (Listed sequences) = sequences.items ≡ []
+IsReadable None (Some text) (Listed sequences) = IsNumberList text sequences.items
+
+-- the settings that the options ask for, each of which has a number for where it is not given
+abbrev pub AreSettings : CompactNumbers → Option ℕ → Option Text → CompactSettings → Type 0
+AreSettings numbers since listed settings = (settings.workers ≡ unwrap_or numbers.workers 4) × (settings.ranges ≡ unwrap_or numbers.ranges 8)
+    × (settings.options ≡ record { block_size = unwrap_or numbers.block_size 4096; restart_interval = 16; file_size = unwrap_or numbers.file_size 2097152 })
+    × IsReadable since listed settings.readable

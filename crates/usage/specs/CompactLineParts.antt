@@ -1,0 +1,34 @@
+-- What the steps of reading the command line of `compact` answer.
+use Rattle.std.specs.Prelude.{◌≡◌, ℕ, Option, Some, None, Result, Ok, Err}
+use Rattle.clap.specs.Words.{Text}
+use Rattle.usage.specs.CompactLine.{AreSettings, IsNoNumberList, IsReadable}
+use Rattle.usage.specs.declared.compact_texts.CompactNumbers.{CompactNumbers}
+use Rattle.usage.specs.declared.requests.Line.{Line}
+use Rattle.usage.specs.declared.requests.Line.TheVariants as line
+use Rattle.usage.specs.declared.requests.Readable.{Readable}
+use Rattle.usage.specs.declared.requests.Usage.{Usage}
+use Rattle.usage.specs.declared.requests.Usage.TheVariants.{Key, Snapshots, Memory, Clap}
+
+-- neither option is given, or one, and the text of a list is none
+abbrev pub IsNoList : Option ℕ → Option Text → Type 0
+IsNoList (Some sequence) listed = ⊥
+IsNoList None None = ⊥
+IsNoList None (Some text) = IsNoNumberList text
+
+-- the sequences that the options ask for, or Snapshots where the text is no list of numbers
+abbrev pub IsReadableAnswer : Option ℕ → Option Text → Result Readable Usage → Type 0
+IsReadableAnswer since listed (Ok readable) = IsReadable since listed readable
+IsReadableAnswer since listed (Err Snapshots) = IsNoList since listed
+IsReadableAnswer since listed (Err Memory) = Unit {0}
+IsReadableAnswer since listed (Err Key) = ⊥
+IsReadableAnswer since listed (Err (Clap e)) = ⊥
+
+-- the line of `compact` with these texts and numbers, or Snapshots where the text is no list of numbers
+abbrev pub CompactLine : Text → ℕ → CompactNumbers → Option ℕ → Option Text → Result Line Usage → Type 0
+CompactLine folder level numbers since listed (Ok (line.Compact folder' level' settings)) =
+    (folder'.now ≡ folder) × ((level' ≡ level) × AreSettings numbers since listed settings)
+CompactLine folder level numbers since listed (Ok _) = ⊥
+CompactLine folder level numbers since listed (Err Snapshots) = IsNoList since listed
+CompactLine folder level numbers since listed (Err Memory) = Unit {0}
+CompactLine folder level numbers since listed (Err Key) = ⊥
+CompactLine folder level numbers since listed (Err (Clap e)) = ⊥

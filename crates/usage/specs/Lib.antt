@@ -1,0 +1,8 @@
+-- what contracts rest on
+pub mod Text
+pub mod Usage
+pub mod CompactLine
+pub mod Line
+-- serves proofs alone
+pub mod LineParts
+pub mod CompactLineParts

@@ -1,0 +1,164 @@
+-- What a command line asks for.
+use Rattle.std.specs.Prelude.{◌≡◌, ◌⊎◌, ℕ, true, List, [], Option, Some, None, Result, Ok, Err, codes, if◌then◌else◌, option_and_then}
+use Rattle.std.specs.Str.{bytes_eq}
+use Rattle.clap.specs.Words.{App, IsAmong, Row, Rule, Text, fault_of, first_of, kind_of, new_app, new_rule, subcommand_of, with_rule, with_subcommand}
+use Rattle.clap.specs.declared.builder.value_parser.ValueParser.TheVariants as parser
+use Rattle.clap.specs.declared.error.Error.{Error}
+use Rattle.usage.specs.CompactLine.{AreSettings, HasCompact, IsNoNumberList, LacksCompact}
+use Rattle.usage.specs.Text.{IsNoNumber, IsNumberOf, bytes_of_text}
+use Rattle.usage.specs.declared.compact_texts.CompactNumbers.{CompactNumbers}
+use Rattle.usage.specs.declared.requests.Line.{Line}
+use Rattle.usage.specs.declared.requests.Line.TheVariants as line
+use Rattle.usage.specs.declared.requests.Usage.{Usage}
+use Rattle.usage.specs.declared.requests.Usage.TheVariants.{Key, Snapshots, Memory, Clap}
+
+-- an argument that has to be given
+abbrev pub wanted : Text → Rule
+wanted id = record (new_rule id) { required = true }
+
+-- `--at HEXKEY`, which has to be given
+abbrev pub at_rule : Rule
+at_rule = record (wanted (codes "at")) { long = Some (codes "at"); value_names = 1 }
+
+-- `blocks A B --at HEXKEY OUT`
+abbrev pub blocks_app : App
+blocks_app =
+    with_rule (with_rule (with_rule (with_rule (new_app (codes "blocks")) (wanted (codes "A"))) (wanted (codes "B"))) at_rule) (wanted (codes "OUT"))
+
+-- the program, which has to be given a command, and tells its version
+abbrev pub bare_app : App
+bare_app = record (new_app (codes "sedvokt")) { top = record (new_app (codes "sedvokt")).top { has_version = true; subcommand_required = true } }
+
+-- a command of one argument, which has to be given, as `dump TABLE`
+abbrev pub path_app : Text → Text → App
+path_app name id = with_rule (new_app name) (wanted id)
+
+-- an option with a number of 64 bits, as `--at N`
+abbrev pub number_rule : Text → Rule
+number_rule id = record (new_rule id) { long = Some id; value_names = 1; parser = Some (parser.Unsigned 0 18446744073709551615) }
+
+-- `get DIR HEXKEY [--at N]`
+abbrev pub get_app : App
+get_app = with_rule (with_rule (with_rule (new_app (codes "get")) (wanted (codes "DIR"))) (wanted (codes "HEXKEY"))) (number_rule (codes "at"))
+
+-- `--level N`, which has to be given
+abbrev pub level_rule : Rule
+level_rule = record (number_rule (codes "level")) { required = true }
+
+-- `--snapshots S,S,..`
+abbrev pub snapshots_rule : Rule
+snapshots_rule = record (new_rule (codes "snapshots")) { long = Some (codes "snapshots"); value_names = 1 }
+
+-- `[--snapshot S] [--snapshots S,S,..] [--block-size B] [--file-size F]`, behind what a command has
+abbrev pub with_outputs : App → App
+with_outputs app =
+    with_rule (with_rule (with_rule (with_rule app (number_rule (codes "snapshot"))) snapshots_rule) (number_rule (codes "block-size")))
+    (number_rule (codes "file-size"))
+
+-- `compact DIR --level N [--workers W] [--ranges R] [--snapshot S] [--snapshots S,S,..] [--block-size B] [--file-size F]`
+abbrev pub compact_app : App
+compact_app =
+    with_outputs (with_rule (with_rule (with_rule (with_rule (new_app (codes "compact")) (wanted (codes "DIR"))) level_rule)
+    (number_rule (codes "workers"))) (number_rule (codes "ranges")))
+
+-- the commands that read files, and show what is there
+abbrev pub with_files_shown : App → App
+with_files_shown app =
+    with_subcommand (with_subcommand (with_subcommand app blocks_app.top) (path_app (codes "dump") (codes "TABLE")).top)
+    (path_app (codes "manifest") (codes "DIR")).top
+
+-- the program with its commands
+abbrev pub program_app : App
+program_app =
+    with_subcommand (with_subcommand (with_subcommand (with_files_shown bare_app)
+    (path_app (codes "verify") (codes "DIR")).top) get_app.top) compact_app.top
+
+-- the rows of the command of this name
+abbrev pub rows_of_command : Text → Text × List Row → Option (List Row)
+rows_of_command name p = if bytes_eq p.0 name then Some p.1 else None
+
+-- what a parse gives the command of this name, if that is the command
+abbrev pub rows_under : Text → Option (Text × List Row) → Option (List Row)
+rows_under name = option_and_then (rows_of_command name)
+
+-- there are rows, and they have this
+abbrev pub HasRows : (List Row → Type 0) → Option (List Row) → Type 0
+HasRows Has given = (rows : List Row) × ((given ≡ Some rows) × Has rows)
+
+-- there are no rows, or they lack something
+abbrev pub LacksRows : (List Row → Type 0) → Option (List Row) → Type 0
+LacksRows Lacks given = (given ≡ None) ⊎ HasRows Lacks given
+
+-- the rows give these texts of A, B, `--at` and OUT
+abbrev pub HasBlocks : Text → Text → Text → Text → List Row → Type 0
+HasBlocks a b at out rows = (first_of (codes "A") rows ≡ Some a) × (first_of (codes "B") rows ≡ Some b)
+    × (first_of (codes "at") rows ≡ Some at) × (first_of (codes "OUT") rows ≡ Some out)
+
+-- the rows give no text of one of the four
+abbrev pub LacksBlocks : List Row → Type 0
+LacksBlocks rows = (first_of (codes "A") rows ≡ None) ⊎ ((first_of (codes "B") rows ≡ None)
+    ⊎ ((first_of (codes "at") rows ≡ None) ⊎ (first_of (codes "OUT") rows ≡ None)))
+
+-- the rows give this text of one argument
+abbrev pub HasPath : Text → Text → List Row → Type 0
+HasPath id text rows = first_of id rows ≡ Some text
+
+-- the rows give no text of one argument
+abbrev pub LacksPath : Text → List Row → Type 0
+LacksPath id rows = first_of id rows ≡ None
+
+-- the rows give these texts of DIR and HEXKEY, and this number of `--at`
+abbrev pub HasGet : Text → Text → Option ℕ → List Row → Type 0
+HasGet folder key at rows = (first_of (codes "DIR") rows ≡ Some folder) × (first_of (codes "HEXKEY") rows ≡ Some key)
+    × IsNumberOf (first_of (codes "at") rows) at
+
+-- the rows give no text of DIR or HEXKEY, or one of `--at` that is no number
+abbrev pub LacksGet : List Row → Type 0
+LacksGet rows = (first_of (codes "DIR") rows ≡ None) ⊎ ((first_of (codes "HEXKEY") rows ≡ None) ⊎ IsNoNumber (first_of (codes "at") rows))
+
+-- what a parse gives is no command with all its texts
+abbrev pub LacksAll : Option (Text × List Row) → Type 0
+LacksAll parsed = LacksRows LacksBlocks (rows_under (codes "blocks") parsed)
+    × (LacksRows (LacksPath (codes "TABLE")) (rows_under (codes "dump") parsed)
+    × (LacksRows (LacksPath (codes "DIR")) (rows_under (codes "manifest") parsed)
+    × (LacksRows (LacksPath (codes "DIR")) (rows_under (codes "verify") parsed)
+    × (LacksRows LacksGet (rows_under (codes "get") parsed)
+    × LacksRows LacksCompact (rows_under (codes "compact") parsed)))))
+
+-- `clap` refuses the words with this error, or they are no command with all its texts
+abbrev pub RefusedWith : List Text → Error → Type 0
+RefusedWith words e = IsAmong (kind_of e) (fault_of program_app words) ⊎ LacksAll (subcommand_of program_app words)
+
+-- `clap` takes the words, and the rows that they give the command of this name have this
+abbrev pub GivesRows : List Text → Text → (List Row → Type 0) → Type 0
+GivesRows words name Has = (fault_of program_app words ≡ []) × HasRows Has (rows_under name (subcommand_of program_app words))
+
+-- `clap` takes the words, and they give a command this text of a key
+abbrev pub GivesKeyText : List Text → Text → Type 0
+GivesKeyText words text =
+    ((a b out : Text) × GivesRows words (codes "blocks") (HasBlocks a b text out))
+    ⊎ ((folder : Text) × (at : Option ℕ) × GivesRows words (codes "get") (HasGet folder text at))
+
+-- `clap` takes the words, and they give `compact` this text of a list of snapshots
+abbrev pub GivesListText : List Text → Text → Type 0
+GivesListText words text =
+    (folder : Text) × (level : ℕ) × (numbers : CompactNumbers) × GivesRows words (codes "compact") (HasCompact folder level numbers None (Some text))
+
+-- What a command line asks for: the texts of its command, with the text of a key or of a list read. Key is the answer exactly
+-- where the one is no key's, Snapshots where the other is no list of numbers, and `clap`'s error where it refuses the words.
+-- Memory comes at any words.
+abbrev pub LineGives : List Text → Result Line Usage → Type 0
+LineGives words (Ok (line.Blocks a b at out)) =
+    (text : Text) × (GivesRows words (codes "blocks") (HasBlocks a.now b.now text out.now) × (bytes_of_text text ≡ Some at.items))
+LineGives words (Ok (line.Dump table)) = GivesRows words (codes "dump") (HasPath (codes "TABLE") table.now)
+LineGives words (Ok (line.Manifest folder)) = GivesRows words (codes "manifest") (HasPath (codes "DIR") folder.now)
+LineGives words (Ok (line.Verify folder)) = GivesRows words (codes "verify") (HasPath (codes "DIR") folder.now)
+LineGives words (Ok (line.Get folder key at)) =
+    (text : Text) × (GivesRows words (codes "get") (HasGet folder.now text at) × (bytes_of_text text ≡ Some key.items))
+LineGives words (Ok (line.Compact folder level settings)) =
+    (numbers : CompactNumbers) × (since : Option ℕ) × (listed : Option Text)
+    × (GivesRows words (codes "compact") (HasCompact folder.now level numbers since listed) × AreSettings numbers since listed settings)
+LineGives words (Err Snapshots) = (text : Text) × (GivesListText words text × IsNoNumberList text)
+LineGives words (Err Key) = (text : Text) × (GivesKeyText words text × (bytes_of_text text ≡ None))
+LineGives words (Err Memory) = Unit {0}
+LineGives words (Err (Clap e)) = RefusedWith words e

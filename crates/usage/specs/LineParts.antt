@@ -1,0 +1,63 @@
+-- What the steps of reading a command line answer.
+use Rattle.std.specs.Prelude.{◌≡◌, ℕ, List, [], Option, Some, None, Result, Ok, Err, codes}
+use Rattle.std.specs.Option.{option_map}
+use Rattle.std.specs.Global.{Vec}
+use Rattle.clap.specs.Words.{Row, Text, fault_of, subcommand_of}
+use Rattle.usage.specs.CompactLine.{HasCompact}
+use Rattle.usage.specs.Line.{HasBlocks, HasGet, HasPath, HasRows, RefusedWith, program_app, rows_under}
+use Rattle.usage.specs.Text.{bytes_of_text}
+use Rattle.usage.specs.declared.command_line.Given.{Given}
+use Rattle.usage.specs.declared.command_line.Given.TheVariants.{Blocks, Dump, Manifest, Verify, Get, Compact}
+use Rattle.usage.specs.declared.requests.Line.{Line}
+use Rattle.usage.specs.declared.requests.Line.TheVariants as line
+use Rattle.usage.specs.declared.requests.Usage.{Usage}
+use Rattle.usage.specs.declared.requests.Usage.TheVariants.{Key, Snapshots, Memory, Clap}
+
+-- what a parse gives is a command with these texts
+abbrev pub GivesCommand : Option (Text × List Row) → Given → Type 0
+GivesCommand parsed (Blocks texts) = HasRows (HasBlocks texts.a.now texts.b.now texts.at.now texts.out.now) (rows_under (codes "blocks") parsed)
+GivesCommand parsed (Dump table) = HasRows (HasPath (codes "TABLE") table.now) (rows_under (codes "dump") parsed)
+GivesCommand parsed (Manifest folder) = HasRows (HasPath (codes "DIR") folder.now) (rows_under (codes "manifest") parsed)
+GivesCommand parsed (Verify folder) = HasRows (HasPath (codes "DIR") folder.now) (rows_under (codes "verify") parsed)
+GivesCommand parsed (Get texts) = HasRows (HasGet texts.folder.now texts.key.now texts.at) (rows_under (codes "get") parsed)
+GivesCommand parsed (Compact texts) =
+    HasRows (HasCompact texts.folder.now texts.level texts.numbers texts.readable.since (option_map (λ text. text.now) texts.readable.listed))
+    (rows_under (codes "compact") parsed)
+
+-- `clap` takes the words, and they give a command with these texts
+abbrev pub GivesTexts : List Text → Given → Type 0
+GivesTexts words given = (fault_of program_app words ≡ []) × GivesCommand (subcommand_of program_app words) given
+
+-- the texts that a command line gives, or `clap`'s refusal; memory comes at any words
+abbrev pub TextsGiven : List Text → Result Given Usage → Type 0
+TextsGiven words (Ok given) = GivesTexts words given
+TextsGiven words (Err Key) = ⊥
+TextsGiven words (Err Snapshots) = ⊥
+TextsGiven words (Err Memory) = Unit {0}
+TextsGiven words (Err (Clap e)) = RefusedWith words e
+
+-- the user key that a text stands for, or Key where it is no key's
+abbrev pub IsKeyAnswer : Text → Result (Vec ℕ) Usage → Type 0
+IsKeyAnswer text (Ok key) = bytes_of_text text ≡ Some key.items
+IsKeyAnswer text (Err Key) = bytes_of_text text ≡ None
+IsKeyAnswer text (Err Snapshots) = ⊥
+IsKeyAnswer text (Err Memory) = Unit {0}
+IsKeyAnswer text (Err (Clap e)) = ⊥
+
+-- the line of `blocks` with these texts, or Key where that of the key is no key's
+abbrev pub BlocksLine : Text → Text → Text → Text → Result Line Usage → Type 0
+BlocksLine a b at out (Ok (line.Blocks a' b' key out')) = (a'.now ≡ a) × ((b'.now ≡ b) × ((bytes_of_text at ≡ Some key.items) × (out'.now ≡ out)))
+BlocksLine a b at out (Ok _) = ⊥
+BlocksLine a b at out (Err Key) = bytes_of_text at ≡ None
+BlocksLine a b at out (Err Snapshots) = ⊥
+BlocksLine a b at out (Err Memory) = Unit {0}
+BlocksLine a b at out (Err (Clap e)) = ⊥
+
+-- the line of `get` with these texts, or Key where that of the key is no key's
+abbrev pub GetLine : Text → Text → Option ℕ → Result Line Usage → Type 0
+GetLine folder key at (Ok (line.Get folder' key' at')) = (folder'.now ≡ folder) × ((bytes_of_text key ≡ Some key'.items) × (at' ≡ at))
+GetLine folder key at (Ok _) = ⊥
+GetLine folder key at (Err Key) = bytes_of_text key ≡ None
+GetLine folder key at (Err Snapshots) = ⊥
+GetLine folder key at (Err Memory) = Unit {0}
+GetLine folder key at (Err (Clap e)) = ⊥

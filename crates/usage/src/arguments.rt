@@ -1,0 +1,34 @@
+//! The texts and numbers that a command's arguments are given.
+
+ghost use Rattle.std.specs.Prelude.{◌≡◌, MatchOption, MatchResult};
+ghost use Rattle.clap.specs.Words.{first_of, found_of, rows_of};
+ghost use Rattle.usage.specs.Text.{IsNoNumber, IsNumberOf};
+
+use crate::text::number_of;
+use clap::ArgMatches;
+
+/// The text that an argument is given.
+pub(crate) fn first_text<'a>(values: &ArgMatches<'a>, id: &str) -> Option<&'a str>
+    ensures { let first = first_of id.now (rows_of (found_of values.now)) in
+        MatchOption result (first ≡ None) (λ text. first ≡ Some text.now) }
+{
+    values.get_str(id)
+}
+
+/// A text that is given for a number, and is none.
+#[derive(Drop)]
+pub(crate) struct NotDigits;
+
+/// The number that an option is given, where it is given one.
+pub(crate) fn first_number(values: &ArgMatches<'_>, id: &str) -> Result<Option<u64>, NotDigits>
+    ensures { let text = first_of id.now (rows_of (found_of values.now)) in
+        MatchResult result (IsNumberOf text) (λ _. IsNoNumber text) }
+{
+    match first_text(values, id) {
+        Some(text) => match number_of(text) {
+            Some(number) => Ok(Some(number)),
+            None => Err(NotDigits),
+        },
+        None => Ok(None),
+    }
+}

@@ -1,0 +1,83 @@
+//! The line of the command `compact`.
+
+ghost use Rattle.std.specs.Prelude.{map, MatchOption, IfOk};
+ghost use Rattle.std.specs.Option.{option_map};
+ghost use Rattle.std.specs.List.{All};
+ghost use Rattle.usage.specs.CompactLine.{AreNumbers, IsNoNumberList, IsNumberList};
+ghost use Rattle.usage.specs.Text.{IsNumberText};
+ghost use Rattle.usage.specs.CompactLineParts.{CompactLine, IsReadableAnswer};
+
+use crate::compact_texts::{CompactTexts, ReadableTexts};
+use crate::requests::{CompactSettings, Line, Readable, Usage};
+use crate::text::number_of;
+use std::alloc::{AllocError, Global};
+use table::Options;
+
+/// How many workers carry a compaction out, where no number is given.
+const WORKERS: u64 = 4;
+
+/// Into at most how many ranges of user keys it is split, where no number is given.
+const RANGES: u64 = 8;
+
+/// The line of `compact`, where the text of its snapshots is a list of numbers.
+pub(crate) fn compact_line<'a>(alloc: Global, texts: CompactTexts<'a>) -> Result<Line<'a>, Usage>
+    ensures { CompactLine texts.entry.folder.now texts.entry.level texts.entry.numbers texts.entry.readable.since
+        (option_map (λ text. text.now) texts.entry.readable.listed) result }
+{
+    let readable = readable(alloc, texts.readable)?;
+    let numbers = texts.numbers;
+    let defaults = Options::default();
+    Ok(Line::Compact {
+        folder: texts.folder,
+        level: texts.level,
+        settings: CompactSettings {
+            workers: numbers.workers.unwrap_or(WORKERS),
+            ranges: numbers.ranges.unwrap_or(RANGES),
+            readable,
+            options: Options {
+                block_size: numbers.block_size.unwrap_or(defaults.block_size),
+                restart_interval: defaults.restart_interval,
+                file_size: numbers.file_size.unwrap_or(defaults.file_size),
+            },
+        },
+    })
+}
+
+/// The sequences that are to stay readable.
+fn readable(alloc: Global, texts: ReadableTexts<'_>) -> Result<Readable, Usage>
+    ensures { IsReadableAnswer texts.entry.since (option_map (λ text. text.now) texts.entry.listed) result }
+{
+    if let Some(sequence) = texts.since {
+        return Ok(Readable::From(sequence));
+    }
+    let Some(text) = texts.listed else {
+        return Ok(Readable::Listed(Vec::new(alloc)));
+    };
+    match numbers_of(alloc, text)? {
+        Some(sequences) => Ok(Readable::Listed(sequences)),
+        None => Err(Usage::Snapshots),
+    }
+}
+
+/// The numbers of a text that has commas between them. None where one of them is no number, as of the empty text.
+fn numbers_of(alloc: Global, text: &str) -> Result<Option<Vec<u64>>, AllocError>
+    ensures { IfOk result (λ found. MatchOption found (IsNoNumberList text.now) (λ numbers. IsNumberList text.now numbers.items)) }
+{
+    let numerals: Vec<&str> = text.split(',').collect(alloc)?;
+    numbers_in(alloc, &numerals)
+}
+
+/// The numbers of texts. None where one of them is no number.
+fn numbers_in(alloc: Global, numerals: &[&str]) -> Result<Option<Vec<u64>>, AllocError>
+    ensures { IfOk result (λ found. MatchOption found (All IsNumberText (map (λ n. n.now) numerals.now) → ⊥)
+        (λ numbers. AreNumbers (map (λ n. n.now) numerals.now) numbers.items)) }
+{
+    let mut numbers = Vec::with_capacity(alloc, numerals.len())?;
+    for numeral in numerals {
+        match number_of(numeral) {
+            Some(number) => numbers.push(number)?,
+            None => return Ok(None),
+        }
+    }
+    Ok(Some(numbers))
+}

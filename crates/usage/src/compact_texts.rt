@@ -1,0 +1,100 @@
+//! What the command `compact` is given, read from the command line.
+
+ghost use Rattle.std.specs.Prelude.{◌≡◌, ◌≢◌, ◌⊎◌, None, MatchOption, codes};
+ghost use Rattle.std.specs.Option.{option_map};
+ghost use Rattle.clap.specs.Words.{first_of, found_of, rows_of, subcommand_rows_of};
+ghost use Rattle.usage.specs.CompactLine.{HasCompact, HasNumbers, HasReadable, LacksCompact, LacksNumbers, LacksReadable};
+ghost use Rattle.usage.specs.Line.{HasRows, LacksRows, rows_under};
+ghost use Rattle.usage.specs.Text.{IsNumberOf, LacksNumber};
+
+use crate::arguments::{first_number, first_text};
+use clap::ArgMatches;
+
+/// The numbers that options are given, each where it is given one.
+#[derive(Clone, Copy)]
+pub(crate) struct CompactNumbers {
+    pub workers: Option<u64>,
+    pub ranges: Option<u64>,
+    pub block_size: Option<u64>,
+    pub file_size: Option<u64>,
+}
+
+impl CompactNumbers {
+    /// The numbers of all four. None where one of them is given a text that is no number.
+    fn of(values: &ArgMatches<'_>) -> Option<CompactNumbers>
+        ensures { let rows = rows_of (found_of values.now) in
+            MatchOption result (LacksNumbers rows) (λ numbers. HasNumbers numbers rows) }
+    {
+        Some(CompactNumbers {
+            workers: first_number(values, "workers").ok()?,
+            ranges: first_number(values, "ranges").ok()?,
+            block_size: first_number(values, "block-size").ok()?,
+            file_size: first_number(values, "file-size").ok()?,
+        })
+    }
+}
+
+/// What the two options on snapshots are given: at most one of them is.
+#[derive(Clone, Copy)]
+pub(crate) struct ReadableTexts<'a> {
+    pub since: Option<u64>,
+    pub listed: Option<&'a str>,
+}
+
+impl<'a> ReadableTexts<'a> {
+    /// The number or the text. None where the number is none, or both are given.
+    fn of(values: &ArgMatches<'a>) -> Option<ReadableTexts<'a>>
+        ensures { let rows = rows_of (found_of values.now) in
+            MatchOption result (LacksReadable rows)
+            (λ texts. HasReadable texts.since (option_map (λ text. text.now) texts.listed) rows) }
+    {
+        let since = first_number(values, "snapshot").ok()?;
+        let listed = first_text(values, "snapshots");
+        if since.is_some() && listed.is_some() {
+            return None;
+        }
+        Some(ReadableTexts { since, listed })
+    }
+}
+
+/// What the arguments and options of `compact` are given.
+#[derive(Clone, Copy)]
+pub(crate) struct CompactTexts<'a> {
+    pub folder: &'a str,
+    pub level: u64,
+    pub numbers: CompactNumbers,
+    pub readable: ReadableTexts<'a>,
+}
+
+impl<'a> CompactTexts<'a> {
+    /// The texts and numbers, where DIR and a level are given, and no number is none.
+    fn of(values: &ArgMatches<'a>) -> Option<CompactTexts<'a>>
+        ensures { let rows = rows_of (found_of values.now) in
+            MatchOption result (LacksCompact rows)
+            (λ texts. HasCompact texts.folder.now texts.level texts.numbers texts.readable.since (option_map (λ text. text.now) texts.readable.listed) rows) }
+    {
+        Some(CompactTexts {
+            folder: first_text(values, "DIR")?,
+            level: wanted_number(values, "level")?,
+            numbers: CompactNumbers::of(values)?,
+            readable: ReadableTexts::of(values)?,
+        })
+    }
+}
+
+/// The number that an option is given. None where it is given none.
+fn wanted_number(values: &ArgMatches<'_>, id: &str) -> Option<u64>
+    ensures { let text = first_of id.now (rows_of (found_of values.now)) in
+        MatchOption result (LacksNumber text) (λ number. IsNumberOf text (Some number)) }
+{
+    first_number(values, id).ok()?
+}
+
+/// What `compact` is given, where that is the command and its texts are there.
+pub(crate) fn compact_texts<'a>(matches: &ArgMatches<'a>) -> Option<CompactTexts<'a>>
+    ensures { let given = rows_under (codes "compact") (subcommand_rows_of matches.now) in
+        MatchOption result (LacksRows LacksCompact given)
+        (λ texts. HasRows (HasCompact texts.folder.now texts.level texts.numbers texts.readable.since (option_map (λ text. text.now) texts.readable.listed)) given) }
+{
+    CompactTexts::of(matches.subcommand_matches("compact")?)
+}

@@ -1,0 +1,20 @@
+//! What the words of a command line ask for, and keys and numbers as its texts.
+//!
+//! The commands are told to `clap`, and what it reads is made into a line: the command with its values, or why the words
+//! ask for nothing.
+#![tactic(auto)]
+
+mod arguments;
+mod command_line;
+mod commands;
+mod compact_line;
+mod compact_texts;
+mod requests;
+mod text;
+
+pub use command_line::line;
+pub use requests::{CompactSettings, Line, Readable, Usage};
+pub use text::{key_of, text_of};
+
+#[cfg(test)]
+mod tests;

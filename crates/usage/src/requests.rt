@@ -1,0 +1,114 @@
+//! What a command line asks for, and why it asks for nothing.
+
+ghost use Rattle.std.specs.Prelude.{◌≡◌};
+ghost use Rattle.usage.specs.Usage.{TurnsInto};
+ghost use Rattle.usage.specs.declared.requests.Usage.TheVariants.{Memory};
+
+use clap::error::ErrorKind;
+use std::alloc::AllocError;
+use table::Options;
+
+/// What a command line asks for.
+#[derive(Debug, Drop)]
+pub enum Line<'a> {
+    /// Merges the blocks in two files into one over the ranges before and from a key.
+    Blocks {
+        /// The path of the first file.
+        a: &'a str,
+        /// The path of the second file.
+        b: &'a str,
+        /// The user key at which the second range begins.
+        at: Vec<u8>,
+        /// The path of the file that gets the block.
+        out: &'a str,
+    },
+    /// Prints the entries of a table.
+    Dump {
+        /// The path of the table's file.
+        table: &'a str,
+    },
+    /// Prints the version that a database folder holds.
+    Manifest {
+        /// The path of the folder.
+        folder: &'a str,
+    },
+    /// Tests whether the version that a database folder holds is lawful.
+    Verify {
+        /// The path of the folder.
+        folder: &'a str,
+    },
+    /// Prints the value of a user key at a sequence.
+    Get {
+        /// The path of the folder.
+        folder: &'a str,
+        /// The user key.
+        key: Vec<u8>,
+        /// The sequence, of any size. The version's last sequence where it isn't given.
+        at: Option<u64>,
+    },
+    /// Compacts the files of a level of a database folder into the next level.
+    Compact {
+        /// The path of the folder.
+        folder: &'a str,
+        /// The level.
+        level: u64,
+        /// What the compaction keeps to.
+        settings: CompactSettings,
+    },
+}
+
+/// What a compaction keeps to.
+#[derive(Debug, Drop)]
+pub struct CompactSettings {
+    /// How many workers carry it out.
+    pub workers: u64,
+    /// Into at most how many ranges of user keys it is split.
+    pub ranges: u64,
+    /// Which sequences stay readable.
+    pub readable: Readable,
+    /// What the outputs keep to.
+    pub options: Options,
+}
+
+/// Which sequences stay readable after a compaction.
+#[derive(Debug, Drop)]
+pub enum Readable {
+    /// This sequence and every later one.
+    From(u64),
+    /// Each of these, the version's last sequence and every later one.
+    Listed(Vec<u64>),
+}
+
+/// Why a command line asks for nothing that can be done.
+#[derive(Debug, Drop)]
+pub enum Usage {
+    /// A key is not hexadecimal.
+    Key,
+    /// A list of snapshots is not numbers.
+    Snapshots,
+    /// A growth of memory was refused.
+    Memory,
+    /// The words are not those of a command, or help or the version was asked for. The error says which, and has the
+    /// text for the user.
+    Clap(clap::Error),
+}
+
+impl From<AllocError> for Usage {
+    ghost from_gives = { λ _ usage. usage ≡ Memory };
+
+    fn from(_e: AllocError) -> Usage {
+        Usage::Memory
+    }
+}
+
+impl From<clap::Error> for Usage {
+    ghost from_gives = { TurnsInto };
+
+    fn from(error: clap::Error) -> Usage {
+        if error.kind() == ErrorKind::OutOfMemory {
+            Usage::Memory
+        } else {
+            Usage::Clap(error)
+        }
+    }
+}

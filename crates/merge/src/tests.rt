@@ -265,6 +265,20 @@ fn a_seek_from_within(rt: HostRuntime) -> Result<(), Fail> {
     Ok(())
 }
 
+#[test]
+fn the_place_of_the_cursor_that_comes_next(rt: HostRuntime) -> Result<(), Fail> {
+    let tables = three(&rt)?;
+    let mut merging = Merging::new(rt.alloc(), cursors(rt.alloc(), &tables)?)?;
+    for place in [0, 2, 1, 0, 2, 1, 0, 2] {
+        assert_eq!(rt; merging.place(), Some(place));
+        if merging.valid() {
+            merging.advance()?;
+        }
+    }
+    assert_eq!(rt; merging.place(), None);
+    Ok(())
+}
+
 // With `rt try --test --fail-alloc N` the Nth growth is refused; without it, none is.
 #[test]
 fn a_refused_seek_loses_no_entry_from_its_target_on(rt: HostRuntime) -> Result<(), Fail> {

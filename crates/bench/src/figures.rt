@@ -35,6 +35,9 @@ pub enum Call {
     MergeMany,
     PassMany,
     MergeRange,
+    Plan,
+    Encode,
+    Assemble,
     Additions,
     OneWorker,
     TwoWorkers,
@@ -74,6 +77,9 @@ impl Call {
             Call::MergeMany => "merge of 256",
             Call::PassMany => "pass over 256",
             Call::MergeRange => "merge_range of 9",
+            Call::Plan => "plan",
+            Call::Encode => "encode of all jobs",
+            Call::Assemble => "assemble",
             Call::Additions => "atomic additions",
             Call::OneWorker => "jobs, 1 worker",
             Call::TwoWorkers => "jobs, 2 workers",
@@ -240,6 +246,25 @@ impl Figures {
             let (given, made) = run()?;
             time = time.min(start.elapsed(clock)?);
             drop(made);
+            self.fold(given);
+        }
+        self.keep(work, time)
+    }
+
+    /// Does short work as `take_made` does, where a run tells how long the part of it took that counts.
+    pub fn take_told<F: FnMut() -> Result<(u32, Duration)>>(
+        &mut self,
+        work: Work,
+        mut run: F,
+    ) -> Result<()>
+    where
+        F: Drop,
+        requires { F.IsAlwaysCallable run }
+    {
+        let mut time = Duration::MAX;
+        for _round in 0..self.rounds.saturating_mul(SHORT_ROUNDS) {
+            let (given, told) = run()?;
+            time = time.min(told);
             self.fold(given);
         }
         self.keep(work, time)

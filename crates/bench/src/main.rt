@@ -10,6 +10,7 @@ mod figures;
 mod jobs;
 mod manifests;
 mod merging;
+mod outputs;
 mod random;
 mod ranges;
 mod tables;

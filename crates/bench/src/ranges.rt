@@ -1,7 +1,8 @@
-//! The figure of merging in a range.
+//! The figures of merging in a range, and of the outputs that are made of it.
 
 use crate::figures::{Call, Figures, Work};
 use crate::merging::{cursors, dealt, sound};
+use crate::outputs;
 use crate::tables::{ENTRY_LEN, VALUE_LEN, last_of};
 use anyhow::{Result, ensure};
 use edit::CompactPointer;
@@ -16,8 +17,8 @@ use table::SoundTable;
 /// How many cursors there are.
 const CURSORS: usize = 9;
 
-/// Takes the figure of entries that are dealt out to nine tables, together about as long as the bytes, in the one range of a
-/// split without boundaries. All of them stay.
+/// Takes the figures of entries that are dealt out to nine tables, together about as long as the bytes: merged in the one
+/// range of a split without boundaries, where all of them stay, and made outputs of.
 pub fn measure(
     clock: &impl Clock,
     alloc: Global,
@@ -28,14 +29,28 @@ pub fn measure(
     let (values, _) = values.as_chunks::<VALUE_LEN>();
     let written = dealt(alloc, values, CURSORS)?;
     let tables = sound(alloc, &written)?;
+    let run = measure_merging(clock, alloc, &tables, values.len(), figures)?;
+    outputs::measure(clock, alloc, &[run], values.len(), figures)
+}
+
+/// Takes the figure of merging so many entries of tables in one range, and gives the range's run.
+fn measure_merging<'a>(
+    clock: &impl Clock,
+    alloc: Global,
+    tables: &[SoundTable<'a, Bytewise>],
+    entries: usize,
+    figures: &mut Figures,
+) -> Result<RangeRun<'a>> {
     let split = Split::<Bytewise>::from_keys(Vec::new(alloc))?;
     let inputs = no_files(alloc)?;
     let work = Work {
         call: Call::MergeRange,
-        bytes: values.len().saturating_mul(ENTRY_LEN),
-        entries: values.len(),
+        bytes: entries.saturating_mul(ENTRY_LEN),
+        entries,
     };
-    figures.take_made(clock, work, || merged(alloc, &tables, &split, &inputs))
+    figures.take_made(clock, work, || merged(alloc, tables, &split, &inputs))?;
+    let (_, run) = merged(alloc, tables, &split, &inputs)?;
+    Ok(run)
 }
 
 /// Inputs that have no files beside or below them.

@@ -156,3 +156,8 @@ fn seek(alloc: Global, table: &SoundTable<'_, Bytewise>, keys: &[[u8; 24]]) -> R
 pub fn last_of(bytes: &[u8]) -> u32 {
     bytes.last().map_or(0, |byte| u32::from(*byte))
 }
+
+/// The lowest 32 bits of a number.
+pub fn low_bits(number: usize) -> u32 {
+    (number % (1 << 32)) as u32
+}

@@ -51,6 +51,17 @@ fn take_out(files: &mut Vec<Sheet>, name: &str) -> Option<Sheet> {
     Some(files.remove(place))
 }
 
+/// A file of these bytes.
+fn make_sheet(alloc: Global, name: &str, bytes: &[u8], is_synced: bool) -> Result<Sheet, Fault> {
+    let name = String::from_str(alloc, name)?;
+    let bytes = Vec::from_slice(alloc, bytes)?;
+    Ok(Sheet {
+        name,
+        bytes,
+        is_synced,
+    })
+}
+
 /// Puts in what is held under a name, in place of what was.
 fn put(
     alloc: Global,
@@ -60,11 +71,7 @@ fn put(
 ) -> Result<(), Fault> {
     take_out(files, name);
     if let Some(bytes) = held {
-        files.push(Sheet {
-            name: String::from_str(alloc, name)?,
-            bytes: Vec::from_slice(alloc, bytes)?,
-            is_synced: false,
-        })?;
+        files.push(make_sheet(alloc, name, bytes, false)?)?;
     }
     Ok(())
 }
@@ -73,11 +80,9 @@ fn put(
 fn change_name(alloc: Global, files: &mut Vec<Sheet>, from: &str, to: &str) -> Result<(), Fault> {
     let moved = take_out(files, from);
     take_out(files, to);
-    if let Some(file) = moved {
-        files.push(Sheet {
-            name: String::from_str(alloc, to)?,
-            ..file
-        })?;
+    if let Some(mut file) = moved {
+        file.name = String::from_str(alloc, to)?;
+        files.push(file)?;
     }
     Ok(())
 }
@@ -116,16 +121,18 @@ fn tear(
     }
 }
 
-/// These files after the steps, the newest of which is first, where no crash comes.
-fn shown(alloc: Global, files: &[(&str, &[u8])], steps: &[ShelfStep]) -> Result<Vec<Sheet>, Fault> {
+/// Files that were synced.
+fn synced(alloc: Global, files: &[(&str, &[u8])]) -> Result<Vec<Sheet>, Fault> {
     let mut sheets = Vec::with_capacity(alloc, files.len())?;
     for (name, bytes) in files {
-        sheets.push(Sheet {
-            name: String::from_str(alloc, name)?,
-            bytes: Vec::from_slice(alloc, bytes)?,
-            is_synced: true,
-        })?;
+        sheets.push(make_sheet(alloc, name, bytes, true)?)?;
     }
+    Ok(sheets)
+}
+
+/// These files after the steps, the newest of which is first, where no crash comes.
+fn shown(alloc: Global, files: &[(&str, &[u8])], steps: &[ShelfStep]) -> Result<Vec<Sheet>, Fault> {
+    let mut sheets = synced(alloc, files)?;
     for step in steps.iter().rev() {
         if step.is_shown {
             apply(alloc, &mut sheets, &step.call)?;

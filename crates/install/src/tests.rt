@@ -1,4 +1,4 @@
-use crate::crashes::{crashed, lent};
+use crate::crashes::{Sheet, crashed, lent};
 use crate::*;
 use coding::{Fault, FaultName};
 use edit::{Outcome, Version};
@@ -115,20 +115,25 @@ fn are(tables: &[(u64, Vec<u8>)], wanted: &[(u64, &[u8])]) -> bool {
             && table.1.as_slice() == one.1)
 }
 
-/// The version of a folder and its tables, as one of those that are known.
-fn opened(alloc: Global, folder: &mut Shelf<'_>) -> Result<Reads, Fault> {
-    let (order, version) = open(alloc, folder)?;
-    let tables = load::<Bytewise, Shelf<'_>>(alloc, folder, &version)?;
+/// Which of the versions that are known this is, with these tables.
+fn known(order: Order, version: &Version, tables: &[(u64, Vec<u8>)]) -> Reads {
     for (next_file, reads, wanted) in VERSIONS {
         if version.next_file() == Some(next_file)
             && order == Order::Bytewise
             && version.last_sequence() == Some(4)
-            && are(&tables, wanted)
+            && are(tables, wanted)
         {
-            return Ok(reads);
+            return reads;
         }
     }
-    Ok(Reads::Neither)
+    Reads::Neither
+}
+
+/// The version of a folder and its tables, as one of those that are known.
+fn opened(alloc: Global, folder: &mut Shelf<'_>) -> Result<Reads, Fault> {
+    let (order, version) = open(alloc, folder)?;
+    let tables = load::<Bytewise, Shelf<'_>>(alloc, folder, &version)?;
+    Ok(known(order, &version, &tables))
 }
 
 /// What a folder reads as.
@@ -137,6 +142,12 @@ fn read_as(alloc: Global, folder: &mut Shelf<'_>) -> Result<Reads, Fault> {
         Err(fault) if fault.name != FaultName::Memory => Ok(Reads::Neither),
         answer => answer,
     }
+}
+
+/// What a folder reads as of files that a crash left.
+fn read_sheets(alloc: Global, sheets: &[Sheet]) -> Result<Reads, Fault> {
+    let files = lent(alloc, sheets)?;
+    read_as(alloc, &mut Shelf::new(alloc, &files))
 }
 
 /// What is left by crashes after so many steps, or inside the next: whether the version before is among it, the edited one
@@ -155,7 +166,7 @@ fn left(
         let Some(sheets) = crashed(alloc, files, made, under_way, choice)? else {
             break;
         };
-        match read_as(alloc, &mut Shelf::new(alloc, &lent(alloc, &sheets)?))? {
+        match read_sheets(alloc, &sheets)? {
             Reads::Before => found.0 = true,
             Reads::Edited => found.1 = true,
             Reads::Second => found.2 = true,
@@ -183,20 +194,6 @@ fn make_case(alloc: Global) -> Result<Case, Fault> {
     })
 }
 
-/// A folder of these files, of which a call fails in one of the ways.
-fn failing<'x>(
-    alloc: Global,
-    files: &'x [(&'x str, &'x [u8])],
-    call: u64,
-    (fault, is_half_done): (FolderFault, bool),
-) -> Shelf<'x> {
-    Shelf::new(alloc, files).failing(Failing {
-        call,
-        fault,
-        is_half_done,
-    })
-}
-
 /// Installs over a version.
 fn installed(
     alloc: Global,
@@ -219,44 +216,76 @@ fn wanted(calls_left: usize, is_inside: bool) -> Option<(bool, bool, bool)> {
     }
 }
 
-#[test]
-fn an_installation_makes_its_calls(rt: HostRuntime) -> Result<(), Fail> {
-    let alloc = rt.alloc();
+/// What an installation of an outcome makes: how many calls, how many of them failed, and what the folder reads as. CURRENT
+/// has to name the new manifest.
+fn made(alloc: Global, case: &Case, outcome: &Outcome) -> Result<(u64, u64, Reads), Fault> {
+    let files = files_before(&case.manifest);
+    let mut shelf = Shelf::new(alloc, &files);
+    installed(alloc, &mut shelf, &case.version, 8, outcome)?;
+    let (calls, failures) = (shelf.calls(), shelf.failures());
+    let is_named = shelf.held("CURRENT") == Some(b"MANIFEST-000008\n".as_slice());
+    let reads = if is_named {
+        read_as(alloc, &mut shelf)?
+    } else {
+        Reads::Neither
+    };
+    Ok((calls, failures, reads))
+}
+
+/// Whether the folder reads as the version before, and each installation makes so many calls and leaves the edited one.
+fn makes_its_calls(alloc: Global) -> Result<bool, Fault> {
     let case = make_case(alloc)?;
     let files = files_before(&case.manifest);
-    for (outcome, calls) in case.outcomes.iter().zip([7, 9, 13]) {
-        let mut shelf = Shelf::new(alloc, &files);
-        assert_eq!(rt;
-            read_as(alloc, &mut Shelf::new(alloc, &files))?,
-            Reads::Before
-        );
-        installed(alloc, &mut shelf, &case.version, 8, outcome)?;
-        assert_eq!(rt; shelf.calls(), calls);
-        assert_eq!(rt; shelf.failures(), 0);
-        assert_eq!(rt; read_as(alloc, &mut shelf)?, Reads::Edited);
-        let named = shelf.held("CURRENT").ok_or("CURRENT")?;
-        assert_eq!(rt; named, b"MANIFEST-000008\n".as_slice());
+    let before = read_as(alloc, &mut Shelf::new(alloc, &files))?;
+    if before != Reads::Before {
+        return Ok(false);
     }
+    for (outcome, calls) in case.outcomes.iter().zip([7, 9, 13]) {
+        if made(alloc, &case, outcome)? != (calls, 0, Reads::Edited) {
+            return Ok(false);
+        }
+    }
+    Ok(true)
+}
+
+#[test]
+fn an_installation_makes_its_calls(rt: HostRuntime) -> Result<(), Fail> {
+    assert!(rt; makes_its_calls(rt.alloc())?);
     Ok(())
+}
+
+/// The first moment of an installation, by the calls that are done, at which a crash leaves what it should not.
+fn wrong_crash(alloc: Global, case: &Case, outcome: &Outcome) -> Result<Option<usize>, Fault> {
+    let files = files_before(&case.manifest);
+    let mut shelf = Shelf::new(alloc, &files);
+    installed(alloc, &mut shelf, &case.version, 8, outcome)?;
+    let steps = shelf.steps();
+    for done in 0..steps.len() + 1 {
+        for is_inside in [false, true] {
+            let found = left(alloc, &files, steps, done, is_inside)?;
+            if found != wanted(steps.len() - done, is_inside) {
+                return Ok(Some(done));
+            }
+        }
+    }
+    Ok(None)
+}
+
+/// The first such moment of all installations.
+fn wrong_crashes(alloc: Global) -> Result<Option<usize>, Fault> {
+    let case = make_case(alloc)?;
+    for outcome in &case.outcomes {
+        let wrong = wrong_crash(alloc, &case, outcome)?;
+        if wrong.is_some() {
+            return Ok(wrong);
+        }
+    }
+    Ok(None)
 }
 
 #[test]
 fn a_crash_leaves_one_of_the_two(rt: HostRuntime) -> Result<(), Fail> {
-    let alloc = rt.alloc();
-    let case = make_case(alloc)?;
-    let files = files_before(&case.manifest);
-    for outcome in &case.outcomes[..2] {
-        let mut shelf = Shelf::new(alloc, &files);
-        installed(alloc, &mut shelf, &case.version, 8, outcome)?;
-        let steps = shelf.steps();
-        for done in 0..steps.len() + 1 {
-            for is_inside in [false, true] {
-                let found = left(alloc, &files, steps, done, is_inside)?;
-                let wanted = wanted(steps.len() - done, is_inside);
-                assert_eq!(rt; found, wanted, "{done} {is_inside}");
-            }
-        }
-    }
+    assert_eq!(rt; wrong_crashes(rt.alloc())?, None);
     Ok(())
 }
 
@@ -268,50 +297,134 @@ const FAILURES: [(FolderFault, bool); 4] = [
     (FolderFault::Memory, true),
 ];
 
-#[test]
-fn a_call_that_fails_ends_it(rt: HostRuntime) -> Result<(), Fail> {
-    let alloc = rt.alloc();
-    let case = make_case(alloc)?;
-    let files = files_before(&case.manifest);
-    for (outcome, last) in case.outcomes.iter().zip([7, 9, 13]) {
-        for call in 1..last + 1 {
-            for (fault, is_half_done) in FAILURES {
-                let mut shelf = failing(alloc, &files, call, (fault, is_half_done));
-                let answer = installed(alloc, &mut shelf, &case.version, 8, outcome);
-                assert_eq!(rt; answer, Err(Fault::from(fault)), "{call}");
-                assert_eq!(rt; shelf.calls(), call);
-                let failures = if fault == FolderFault::Device { 1 } else { 0 };
-                assert_eq!(rt; shelf.failures(), failures);
-                let is_renamed = call == last || (call == last - 1 && is_half_done);
-                let wanted = if is_renamed {
-                    Reads::Edited
-                } else {
-                    Reads::Before
-                };
-                assert_eq!(rt; read_as(alloc, &mut shelf)?, wanted, "{call}");
-            }
+/// Each of so many calls, failing in each of the ways.
+fn all_failures(alloc: Global, calls: u64) -> Result<Vec<Failing>, Fault> {
+    let mut failures = Vec::new(alloc);
+    for earlier in 0..calls {
+        for (fault, is_half_done) in FAILURES {
+            failures.push(Failing {
+                call: earlier + 1,
+                fault,
+                is_half_done,
+            })?;
         }
     }
+    Ok(failures)
+}
+
+/// Whether the rename was made of an installation of so many calls, of which one failed.
+fn is_renamed(calls: u64, failing: Failing) -> bool {
+    failing.call == calls || (failing.call.saturating_add(1) == calls && failing.is_half_done)
+}
+
+/// Whether an installation of so many calls, of which one fails, ends there with that fault, and leaves what it should.
+fn ends(
+    alloc: Global,
+    case: &Case,
+    outcome: &Outcome,
+    calls: u64,
+    failing: Failing,
+) -> Result<bool, Fault> {
+    let files = files_before(&case.manifest);
+    let mut shelf = Shelf::new(alloc, &files).failing(failing);
+    let answer = installed(alloc, &mut shelf, &case.version, 8, outcome);
+    let (made, failed) = (shelf.calls(), shelf.failures());
+    let reads = read_as(alloc, &mut shelf)?;
+    let wanted = if is_renamed(calls, failing) {
+        Reads::Edited
+    } else {
+        Reads::Before
+    };
+    let is_failed = failing.fault == FolderFault::Device;
+    let wanted_failures = if is_failed { 1 } else { 0 };
+    Ok(
+        answer == Err(Fault::from(failing.fault))
+            && made == failing.call
+            && failed == wanted_failures
+            && reads == wanted,
+    )
+}
+
+/// The first call behind whose failure an installation of so many calls does not end as it should.
+fn wrong_end(
+    alloc: Global,
+    case: &Case,
+    outcome: &Outcome,
+    calls: u64,
+) -> Result<Option<u64>, Fault> {
+    for failing in &all_failures(alloc, calls)? {
+        if !ends(alloc, case, outcome, calls, *failing)? {
+            return Ok(Some(failing.call));
+        }
+    }
+    Ok(None)
+}
+
+/// The first such call of all installations.
+fn wrong_ends(alloc: Global) -> Result<Option<u64>, Fault> {
+    let case = make_case(alloc)?;
+    for (outcome, calls) in case.outcomes.iter().zip([7, 9, 13]) {
+        let wrong = wrong_end(alloc, &case, outcome, calls)?;
+        if wrong.is_some() {
+            return Ok(wrong);
+        }
+    }
+    Ok(None)
+}
+
+#[test]
+fn a_call_that_fails_ends_it(rt: HostRuntime) -> Result<(), Fail> {
+    assert_eq!(rt; wrong_ends(rt.alloc())?, None);
     Ok(())
+}
+
+/// What a crash leaves behind an installation of which a call fails.
+fn left_behind(
+    alloc: Global,
+    case: &Case,
+    outcome: &Outcome,
+    failing: Failing,
+) -> Result<Option<(bool, bool, bool)>, Fault> {
+    let files = files_before(&case.manifest);
+    let mut shelf = Shelf::new(alloc, &files).failing(failing);
+    if installed(alloc, &mut shelf, &case.version, 8, outcome).is_ok() {
+        return Ok(None);
+    }
+    let steps = shelf.steps();
+    left(alloc, &files, steps, steps.len(), false)
+}
+
+/// The first call behind whose failure a crash leaves what it should not, of an installation of so many calls.
+fn wrong_left(
+    alloc: Global,
+    case: &Case,
+    outcome: &Outcome,
+    calls: u64,
+) -> Result<Option<u64>, Fault> {
+    for failing in &all_failures(alloc, calls)? {
+        let wanted = (true, failing.call.saturating_add(1) >= calls, false);
+        if left_behind(alloc, case, outcome, *failing)? != Some(wanted) {
+            return Ok(Some(failing.call));
+        }
+    }
+    Ok(None)
+}
+
+/// The first such call of the installations of no output and of one.
+fn wrong_behind(alloc: Global) -> Result<Option<u64>, Fault> {
+    let case = make_case(alloc)?;
+    for (outcome, calls) in case.outcomes.iter().zip([7, 9]) {
+        let wrong = wrong_left(alloc, &case, outcome, calls)?;
+        if wrong.is_some() {
+            return Ok(wrong);
+        }
+    }
+    Ok(None)
 }
 
 #[test]
 fn a_crash_behind_a_failed_call(rt: HostRuntime) -> Result<(), Fail> {
-    let alloc = rt.alloc();
-    let case = make_case(alloc)?;
-    let files = files_before(&case.manifest);
-    for (outcome, last) in case.outcomes.iter().zip([7, 9]) {
-        for call in 1..last + 1 {
-            for (fault, is_half_done) in FAILURES {
-                let mut shelf = failing(alloc, &files, call, (fault, is_half_done));
-                assert!(rt; installed(alloc, &mut shelf, &case.version, 8, outcome).is_err());
-                let steps = shelf.steps();
-                let found = left(alloc, &files, steps, steps.len(), false)?;
-                let wanted = (true, call + 1 >= last, false);
-                assert_eq!(rt; found, Some(wanted), "{call}");
-            }
-        }
-    }
+    assert_eq!(rt; wrong_behind(rt.alloc())?, None);
     Ok(())
 }
 
@@ -330,58 +443,95 @@ fn run_again(alloc: Global, shelf: &mut Shelf<'_>, same: &Outcome) -> Result<Rea
     read_as(alloc, shelf)
 }
 
+/// Whether a second run behind a failure of the nine calls for one output ends as it should.
+fn ends_again(alloc: Global, case: &Case, failing: Failing) -> Result<bool, Fault> {
+    let files = files_before(&case.manifest);
+    let [_, outcome, _] = &case.outcomes;
+    let mut shelf = Shelf::new(alloc, &files).failing(failing);
+    if installed(alloc, &mut shelf, &case.version, 8, outcome).is_ok() {
+        return Ok(false);
+    }
+    let reads = if is_renamed(9, failing) {
+        Reads::Second
+    } else {
+        Reads::Edited
+    };
+    Ok(run_again(alloc, &mut shelf, outcome)? == reads)
+}
+
+/// The first call behind whose failure a second run does not end as it should.
+fn wrong_second_run(alloc: Global) -> Result<Option<u64>, Fault> {
+    let case = make_case(alloc)?;
+    for failing in &all_failures(alloc, 9)? {
+        if !ends_again(alloc, &case, *failing)? {
+            return Ok(Some(failing.call));
+        }
+    }
+    Ok(None)
+}
+
 #[test]
 fn a_second_run_after_a_failure(rt: HostRuntime) -> Result<(), Fail> {
-    let alloc = rt.alloc();
+    assert_eq!(rt; wrong_second_run(rt.alloc())?, None);
+    Ok(())
+}
+
+/// What a crash leaves of nine calls of which the last failed, a sync of the folder and nine calls of a second run, by how
+/// many of them are done: before that sync the version before may be left, and behind it never again.
+fn wanted_of_two(done: usize, is_inside: bool) -> (bool, bool, bool) {
+    match (done, is_inside) {
+        (9, _) => (true, true, false),
+        (17, true) | (18, _) => (false, true, true),
+        (19, _) => (false, false, true),
+        _ => (false, true, false),
+    }
+}
+
+/// The first moment of these calls at which a crash leaves what it should not.
+fn wrong_of_two(
+    alloc: Global,
+    files: &[(&str, &[u8])],
+    steps: &[ShelfStep],
+) -> Result<Option<usize>, Fault> {
+    if steps.len() != 19 {
+        return Ok(Some(0));
+    }
+    for done in 9..20 {
+        for is_inside in [false, true] {
+            let found = left(alloc, files, steps, done, is_inside)?;
+            if found != Some(wanted_of_two(done, is_inside)) {
+                return Ok(Some(done));
+            }
+        }
+    }
+    Ok(None)
+}
+
+/// The failure of the last of nine calls.
+const LAST_SYNC_FAILS: Failing = Failing {
+    call: 9,
+    fault: FolderFault::Device,
+    is_half_done: false,
+};
+
+/// The first moment of a failed installation and a second run at which a crash leaves what it should not.
+fn wrong_after_the_last_sync(alloc: Global) -> Result<Option<usize>, Fault> {
     let case = make_case(alloc)?;
     let files = files_before(&case.manifest);
     let [_, outcome, _] = &case.outcomes;
-    for call in 1..10 {
-        for (fault, is_half_done) in FAILURES {
-            let mut shelf = failing(alloc, &files, call, (fault, is_half_done));
-            assert!(rt; installed(alloc, &mut shelf, &case.version, 8, outcome).is_err());
-            let is_renamed = call == 9 || (call == 8 && is_half_done);
-            let wanted = if is_renamed {
-                Reads::Second
-            } else {
-                Reads::Edited
-            };
-            assert_eq!(rt; run_again(alloc, &mut shelf, outcome)?, wanted, "{call}");
-        }
+    let mut shelf = Shelf::new(alloc, &files).failing(LAST_SYNC_FAILS);
+    if installed(alloc, &mut shelf, &case.version, 8, outcome).is_ok() {
+        return Ok(Some(0));
     }
-    Ok(())
+    if run_again(alloc, &mut shelf, outcome)? != Reads::Second {
+        return Ok(Some(0));
+    }
+    wrong_of_two(alloc, &files, shelf.steps())
 }
 
 #[test]
 fn folder_not_synced_first(rt: HostRuntime) -> Result<(), Fail> {
-    let alloc = rt.alloc();
-    let case = make_case(alloc)?;
-    let files = files_before(&case.manifest);
-    let [_, outcome, _] = &case.outcomes;
-    let mut shelf = failing(alloc, &files, 9, (FolderFault::Device, false));
-    assert!(rt; installed(alloc, &mut shelf, &case.version, 8, outcome).is_err());
-    assert_eq!(rt; run_again(alloc, &mut shelf, outcome)?, Reads::Second);
-    // Nine calls of the first installation, the sync of the folder, and nine of the second.
-    let steps = shelf.steps();
-    assert_eq!(rt; steps.len(), 19);
-    // Before that sync the version before may be left, and behind it never again.
-    for done in 9..20 {
-        let wanted = match done {
-            9 => (true, true, false),
-            18 => (false, true, true),
-            19 => (false, false, true),
-            _ => (false, true, false),
-        };
-        let found = left(alloc, &files, steps, done, false)?;
-        assert_eq!(rt; found, Some(wanted), "{done}");
-        let wanted = if done == 17 {
-            (false, true, true)
-        } else {
-            wanted
-        };
-        let found = left(alloc, &files, steps, done, true)?;
-        assert_eq!(rt; found, Some(wanted), "inside {done}");
-    }
+    assert_eq!(rt; wrong_after_the_last_sync(rt.alloc())?, None);
     Ok(())
 }
 
@@ -393,22 +543,25 @@ fn round(alloc: Global, shelf: &mut Shelf<'_>) -> Result<Reads, Fault> {
     opened(alloc, shelf)
 }
 
-// With `rt try --test --fail-alloc N` the Nth growth is refused; without it, none is.
-#[test]
-fn a_refused_growth_is_memory(rt: HostRuntime) {
-    let alloc = rt.alloc();
+/// Whether an installation ends well, or is refused for want of memory and leaves one of the two. One growth alone is refused.
+fn ends_well(alloc: Global) -> bool {
     let Ok(manifest) = manifest_before(alloc) else {
-        return;
+        return true;
     };
     let files = files_before(&manifest);
     let mut shelf = Shelf::new(alloc, &files);
     match round(alloc, &mut shelf) {
-        Ok(reads) => assert_eq!(rt; reads, Reads::Edited),
+        Ok(reads) => reads == Reads::Edited,
         Err(fault) => {
-            assert_eq!(rt; fault.name, FaultName::Memory);
-            // One growth alone is refused.
             let reads = read_as(alloc, &mut shelf);
-            assert!(rt; reads == Ok(Reads::Before) || reads == Ok(Reads::Edited));
+            fault.name == FaultName::Memory
+                && (reads == Ok(Reads::Before) || reads == Ok(Reads::Edited))
         }
     }
+}
+
+// With `rt try --test --fail-alloc N` the Nth growth is refused; without it, none is.
+#[test]
+fn a_refused_growth_is_memory(rt: HostRuntime) {
+    assert!(rt; ends_well(rt.alloc()));
 }

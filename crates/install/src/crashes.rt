@@ -155,29 +155,65 @@ fn kept(alloc: Global, files: &[Sheet], chooser: &mut Chooser) -> Result<Vec<She
     Ok(kept)
 }
 
-/// What a crash leaves after these steps, the newest of which is first, and inside another one, as the choice picks it.
-/// None where the choice is past the last.
+/// A moment of calls: those that were made, the newest of which is first, and one that is under way.
+#[derive(Clone, Copy, Drop)]
+pub(crate) struct Moment<'x> {
+    made: &'x [ShelfStep],
+    under_way: Option<&'x ShelfStep>,
+}
+
+impl<'x> Moment<'x> {
+    /// The moment of these calls at which so many are done, or inside the next.
+    pub(crate) fn of(steps: &'x [ShelfStep], done: usize, is_inside: bool) -> Moment<'x> {
+        let (later, made) = steps.split_at(steps.len().saturating_sub(done));
+        let under_way = if is_inside { later.last() } else { None };
+        Moment { made, under_way }
+    }
+
+    /// The calls that a crash may tear, and those that a sync of the folder settled.
+    fn parts(self) -> (&'x [ShelfStep], &'x [ShelfStep]) {
+        let since = self.made.iter().position(settles);
+        self.made.split_at(since.unwrap_or(self.made.len()))
+    }
+
+    /// How many calls are settled, and how many others a crash tears. Where two moments of the same calls have these alike,
+    /// crashes leave the same folders.
+    pub(crate) fn torn(self) -> (usize, usize) {
+        let (newer, older) = self.parts();
+        let mut torn = 0;
+        for step in newer.iter().chain(self.under_way) {
+            if is_torn(&step.call) {
+                torn = 1usize.saturating_add(torn);
+            }
+        }
+        (older.len(), torn)
+    }
+}
+
+/// Whether a call settles those before it.
+fn settles(step: &ShelfStep) -> bool {
+    step.is_done && matches!(step.call, ShelfCall::SyncFolder)
+}
+
+/// Whether a crash tears a call that no sync of the folder keeps.
+fn is_torn(call: &ShelfCall) -> bool {
+    matches!(call, ShelfCall::Create(_, _) | ShelfCall::Rename(_, _))
+}
+
+/// What a crash leaves at a moment, as the choice picks it. None where the choice is past the last.
 ///
 /// At first all that is there outlives a crash.
 pub(crate) fn crashed(
     alloc: Global,
     files: &[(&str, &[u8])],
-    steps: &[ShelfStep],
-    under_way: Option<&ShelfStep>,
+    moment: Moment<'_>,
     choice: u64,
 ) -> Result<Option<Vec<Sheet>>, Fault> {
     let mut chooser = Chooser { left: choice };
     // What was torn before the folder was synced is settled by that.
-    let since = steps
-        .iter()
-        .position(|step| step.is_done && matches!(step.call, ShelfCall::SyncFolder))
-        .unwrap_or(steps.len());
-    let (newer, older) = steps.split_at(since);
+    let (newer, older) = moment.parts();
     let mut left = kept(alloc, &shown(alloc, files, older)?, &mut chooser)?;
-    for step in newer.iter().rev() {
-        tear(alloc, &mut left, &step.call, &mut chooser)?;
-    }
-    if let Some(step) = under_way {
+    for step in newer.iter().rev().chain(moment.under_way) {
         tear(alloc, &mut left, &step.call, &mut chooser)?;
     }
     Ok((chooser.left == 0).then_some(left))

@@ -1,4 +1,4 @@
-use crate::crashes::{Sheet, crashed, lent};
+use crate::crashes::{Moment, Sheet, crashed, lent};
 use crate::*;
 use coding::{Fault, FaultName};
 use edit::{Outcome, Version};
@@ -58,11 +58,16 @@ const VERSIONS: [(u64, Reads, &[(u64, &[u8])]); 5] = [
     (13, Reads::Second, &[(6, b"six"), (12, b"twelve")]),
 ];
 
+/// A log with one more record.
+fn with_record(alloc: Global, log: &[u8], record: &[u8]) -> Result<Vec<u8>, Fault> {
+    logrec::append(alloc, log, record)
+}
+
 /// The manifest of the version before.
 fn manifest_before(alloc: Global) -> Result<Vec<u8>, Fault> {
     let mut log = Vec::new(alloc);
     for record in [BYTEWISE, NUMBERS, SIX, SEVEN] {
-        log = logrec::append(alloc, &log, record)?;
+        log = with_record(alloc, &log, record)?;
     }
     Ok(log)
 }
@@ -96,23 +101,19 @@ fn outcome_of(
     Ok(outcome)
 }
 
-/// The outcomes of no output, of one and of three.
-fn outcomes(alloc: Global) -> Result<[Outcome; 3], Fault> {
-    let nine = (9, b"nine".as_slice(), NINE);
-    let ten = (10, b"ten".as_slice(), TEN);
-    let eleven = (11, b"eleven".as_slice(), ELEVEN);
-    Ok([
-        outcome_of(alloc, NEXT_NINE, &[])?,
-        outcome_of(alloc, NEXT_TEN, &[nine])?,
-        outcome_of(alloc, NEXT_TWELVE, &[nine, ten, eleven])?,
-    ])
+/// Whether a table is this one.
+fn is_table(table: &(u64, Vec<u8>), wanted: &(u64, &[u8])) -> bool {
+    table.0 == wanted.0 && table.1.as_slice() == wanted.1
 }
 
 /// Whether the tables are these.
 fn are(tables: &[(u64, Vec<u8>)], wanted: &[(u64, &[u8])]) -> bool {
+    for (table, one) in tables.iter().zip(wanted) {
+        if !is_table(table, one) {
+            return false;
+        }
+    }
     tables.len() == wanted.len()
-        && tables.iter().zip(wanted).all(|(table, one)| table.0 == one.0
-            && table.1.as_slice() == one.1)
 }
 
 /// Which of the versions that are known this is, with these tables.
@@ -129,10 +130,29 @@ fn known(order: Order, version: &Version, tables: &[(u64, Vec<u8>)]) -> Reads {
     Reads::Neither
 }
 
+/// A folder of these files.
+fn folder_of<'x>(alloc: Global, files: &'x [(&'x str, &'x [u8])]) -> Shelf<'x> {
+    Shelf::new(alloc, files)
+}
+
+/// The version of a folder, with its order.
+fn version_of(alloc: Global, folder: &mut Shelf<'_>) -> Result<(Order, Version), Fault> {
+    open(alloc, folder)
+}
+
+/// The tables of a version.
+fn tables_of(
+    alloc: Global,
+    folder: &mut Shelf<'_>,
+    version: &Version,
+) -> Result<Vec<(u64, Vec<u8>)>, Fault> {
+    load::<Bytewise, Shelf<'_>>(alloc, folder, version)
+}
+
 /// The version of a folder and its tables, as one of those that are known.
 fn opened(alloc: Global, folder: &mut Shelf<'_>) -> Result<Reads, Fault> {
-    let (order, version) = open(alloc, folder)?;
-    let tables = load::<Bytewise, Shelf<'_>>(alloc, folder, &version)?;
+    let (order, version) = version_of(alloc, folder)?;
+    let tables = tables_of(alloc, folder, &version)?;
     Ok(known(order, &version, &tables))
 }
 
@@ -147,23 +167,18 @@ fn read_as(alloc: Global, folder: &mut Shelf<'_>) -> Result<Reads, Fault> {
 /// What a folder reads as of files that a crash left.
 fn read_sheets(alloc: Global, sheets: &[Sheet]) -> Result<Reads, Fault> {
     let files = lent(alloc, sheets)?;
-    read_as(alloc, &mut Shelf::new(alloc, &files))
+    read_as(alloc, &mut folder_of(alloc, &files))
 }
 
-/// What is left by crashes after so many steps, or inside the next: whether the version before is among it, the edited one
-/// and that of the second installation. None where a folder is left that reads as none of them.
-fn left(
-    alloc: Global,
-    files: &[(&str, &[u8])],
-    steps: &[ShelfStep],
-    done: usize,
-    is_inside: bool,
-) -> Result<Option<(bool, bool, bool)>, Fault> {
-    let (later, made) = steps.split_at(steps.len().saturating_sub(done));
-    let under_way = if is_inside { later.last() } else { None };
+/// Whether the version before is among what crashes leave, the edited one and that of the second installation. None where a
+/// folder is left that reads as none of them.
+type Found = Option<(bool, bool, bool)>;
+
+/// What crashes leave at a moment.
+fn found_at(alloc: Global, files: &[(&str, &[u8])], moment: Moment<'_>) -> Result<Found, Fault> {
     let mut found = (false, false, false);
     for choice in 0..u64::MAX {
-        let Some(sheets) = crashed(alloc, files, made, under_way, choice)? else {
+        let Some(sheets) = crashed(alloc, files, moment, choice)? else {
             break;
         };
         match read_sheets(alloc, &sheets)? {
@@ -176,21 +191,77 @@ fn left(
     Ok(Some(found))
 }
 
+/// What crashes leave after so many calls, or inside the next.
+#[derive(Clone, Copy, Drop)]
+struct Finding {
+    done: usize,
+    is_inside: bool,
+    found: Found,
+}
+
+/// What crashes leave at each moment of these calls, from so many on. Where no call came in between that a crash tears or
+/// that settles others, the folders of the moment before are not read again.
+fn findings(
+    alloc: Global,
+    files: &[(&str, &[u8])],
+    steps: &[ShelfStep],
+    first: usize,
+) -> Result<Vec<Finding>, Fault> {
+    let mut all = Vec::new(alloc);
+    let mut last = None;
+    for done in first..steps.len() + 1 {
+        for is_inside in [false, true] {
+            let moment = Moment::of(steps, done, is_inside);
+            let found = match last {
+                Some((torn, found)) if torn == moment.torn() => found,
+                _ => found_at(alloc, files, moment)?,
+            };
+            last = Some((moment.torn(), found));
+            all.push(Finding {
+                done,
+                is_inside,
+                found,
+            })?;
+        }
+    }
+    Ok(all)
+}
+
 /// The version before with its manifest, and the outcomes of no output, of one and of three.
 #[derive(Drop)]
 struct Case {
     manifest: Vec<u8>,
     version: Version,
-    outcomes: [Outcome; 3],
+    none: Outcome,
+    one: Outcome,
+    three: Outcome,
+}
+
+impl Case {
+    /// The outcomes, and how many calls the installation of each makes.
+    fn rows(&self) -> [(&Outcome, u64); 3] {
+        [(&self.none, 7), (&self.one, 9), (&self.three, 13)]
+    }
+}
+
+/// The version of the files before.
+fn version_before(alloc: Global, manifest: &[u8]) -> Result<Version, Fault> {
+    let files = files_before(manifest);
+    let (_order, version) = version_of(alloc, &mut folder_of(alloc, &files))?;
+    Ok(version)
 }
 
 fn make_case(alloc: Global) -> Result<Case, Fault> {
+    let nine = (9, b"nine".as_slice(), NINE);
+    let ten = (10, b"ten".as_slice(), TEN);
+    let eleven = (11, b"eleven".as_slice(), ELEVEN);
     let manifest = manifest_before(alloc)?;
-    let (_order, version) = open(alloc, &mut Shelf::new(alloc, &files_before(&manifest)))?;
     Ok(Case {
+        version: version_before(alloc, &manifest)?,
         manifest,
-        version,
-        outcomes: outcomes(alloc)?,
+        none: outcome_of(alloc, NEXT_NINE, &[])?,
+        one: outcome_of(alloc, NEXT_TEN, &[nine])?,
+        three: outcome_of(alloc, NEXT_TWELVE, &[nine, ten, eleven])?,
     })
 }
 
@@ -207,45 +278,51 @@ fn installed(
 
 /// What a crash leaves, by the calls that are left: where more are left than the last, the version before; between the
 /// rename and the last, or inside one of these, either; behind the last the edited version.
-fn wanted(calls_left: usize, is_inside: bool) -> Option<(bool, bool, bool)> {
-    match calls_left {
-        0 => Some((false, true, false)),
-        1 => Some((true, true, false)),
-        2 if is_inside => Some((true, true, false)),
-        _ => Some((true, false, false)),
-    }
+fn wanted(calls_left: usize, is_inside: bool) -> Found {
+    let is_before = calls_left > 0;
+    let is_edited = calls_left < 2 || (calls_left == 2 && is_inside);
+    Some((is_before, is_edited, false))
 }
 
-/// What an installation of an outcome makes: how many calls, how many of them failed, and what the folder reads as. CURRENT
-/// has to name the new manifest.
-fn made(alloc: Global, case: &Case, outcome: &Outcome) -> Result<(u64, u64, Reads), Fault> {
+/// How many calls a folder was asked for, and how many failed.
+fn counts(shelf: &Shelf<'_>) -> (u64, u64) {
+    (shelf.calls(), shelf.failures())
+}
+
+/// Whether CURRENT names the new manifest.
+fn is_named(shelf: &Shelf<'_>) -> bool {
+    shelf.held("CURRENT")
+        == Some(b"MANIFEST-000008
+"
+            .as_slice())
+}
+
+/// Whether an installation makes so many calls of which none fails, CURRENT names the new manifest, and the folder reads as
+/// the edited version.
+fn makes(alloc: Global, case: &Case, outcome: &Outcome, calls: u64) -> Result<bool, Fault> {
     let files = files_before(&case.manifest);
-    let mut shelf = Shelf::new(alloc, &files);
+    let mut shelf = folder_of(alloc, &files);
     installed(alloc, &mut shelf, &case.version, 8, outcome)?;
-    let (calls, failures) = (shelf.calls(), shelf.failures());
-    let is_named = shelf.held("CURRENT") == Some(b"MANIFEST-000008\n".as_slice());
-    let reads = if is_named {
-        read_as(alloc, &mut shelf)?
-    } else {
-        Reads::Neither
-    };
-    Ok((calls, failures, reads))
+    let counts = counts(&shelf);
+    let reads = read_as(alloc, &mut shelf)?;
+    Ok(counts == (calls, 0) && is_named(&shelf) && reads == Reads::Edited)
 }
 
-/// Whether the folder reads as the version before, and each installation makes so many calls and leaves the edited one.
+/// What the folder reads as before an installation.
+fn read_before(alloc: Global, case: &Case) -> Result<Reads, Fault> {
+    let files = files_before(&case.manifest);
+    read_as(alloc, &mut folder_of(alloc, &files))
+}
+
+/// Whether the folder reads as the version before, and each installation makes its calls.
 fn makes_its_calls(alloc: Global) -> Result<bool, Fault> {
     let case = make_case(alloc)?;
-    let files = files_before(&case.manifest);
-    let before = read_as(alloc, &mut Shelf::new(alloc, &files))?;
-    if before != Reads::Before {
-        return Ok(false);
-    }
-    for (outcome, calls) in case.outcomes.iter().zip([7, 9, 13]) {
-        if made(alloc, &case, outcome)? != (calls, 0, Reads::Edited) {
+    for (outcome, calls) in &case.rows() {
+        if !makes(alloc, &case, outcome, *calls)? {
             return Ok(false);
         }
     }
-    Ok(true)
+    Ok(read_before(alloc, &case)? == Reads::Before)
 }
 
 #[test]
@@ -257,15 +334,13 @@ fn an_installation_makes_its_calls(rt: HostRuntime) -> Result<(), Fail> {
 /// The first moment of an installation, by the calls that are done, at which a crash leaves what it should not.
 fn wrong_crash(alloc: Global, case: &Case, outcome: &Outcome) -> Result<Option<usize>, Fault> {
     let files = files_before(&case.manifest);
-    let mut shelf = Shelf::new(alloc, &files);
+    let mut shelf = folder_of(alloc, &files);
     installed(alloc, &mut shelf, &case.version, 8, outcome)?;
     let steps = shelf.steps();
-    for done in 0..steps.len() + 1 {
-        for is_inside in [false, true] {
-            let found = left(alloc, &files, steps, done, is_inside)?;
-            if found != wanted(steps.len() - done, is_inside) {
-                return Ok(Some(done));
-            }
+    for finding in &findings(alloc, &files, steps, 0)? {
+        let calls_left = steps.len().saturating_sub(finding.done);
+        if finding.found != wanted(calls_left, finding.is_inside) {
+            return Ok(Some(finding.done));
         }
     }
     Ok(None)
@@ -274,7 +349,7 @@ fn wrong_crash(alloc: Global, case: &Case, outcome: &Outcome) -> Result<Option<u
 /// The first such moment of all installations.
 fn wrong_crashes(alloc: Global) -> Result<Option<usize>, Fault> {
     let case = make_case(alloc)?;
-    for outcome in &case.outcomes {
+    for (outcome, _calls) in &case.rows() {
         let wrong = wrong_crash(alloc, &case, outcome)?;
         if wrong.is_some() {
             return Ok(wrong);
@@ -297,15 +372,19 @@ const FAILURES: [(FolderFault, bool); 4] = [
     (FolderFault::Memory, true),
 ];
 
-/// Each of so many calls, failing in each of the ways.
-fn all_failures(alloc: Global, calls: u64) -> Result<Vec<Failing>, Fault> {
+/// Each of so many calls, failing in each of these ways.
+fn all_failures(
+    alloc: Global,
+    calls: u64,
+    ways: &[(FolderFault, bool)],
+) -> Result<Vec<Failing>, Fault> {
     let mut failures = Vec::new(alloc);
     for earlier in 0..calls {
-        for (fault, is_half_done) in FAILURES {
+        for (fault, is_half_done) in ways {
             failures.push(Failing {
                 call: earlier + 1,
-                fault,
-                is_half_done,
+                fault: *fault,
+                is_half_done: *is_half_done,
             })?;
         }
     }
@@ -317,31 +396,39 @@ fn is_renamed(calls: u64, failing: Failing) -> bool {
     failing.call == calls || (failing.call.saturating_add(1) == calls && failing.is_half_done)
 }
 
+/// What an installation leaves of which one call fails.
+fn wanted_end(calls: u64, failing: Failing) -> Reads {
+    if is_renamed(calls, failing) {
+        Reads::Edited
+    } else {
+        Reads::Before
+    }
+}
+
+/// How many calls are made up to one that fails, and how many the device failed.
+fn wanted_counts(failing: Failing) -> (u64, u64) {
+    match failing.fault {
+        FolderFault::Device => (failing.call, 1),
+        FolderFault::Memory => (failing.call, 0),
+    }
+}
+
 /// Whether an installation of so many calls, of which one fails, ends there with that fault, and leaves what it should.
 fn ends(
     alloc: Global,
     case: &Case,
-    outcome: &Outcome,
-    calls: u64,
+    (outcome, calls): (&Outcome, u64),
     failing: Failing,
 ) -> Result<bool, Fault> {
     let files = files_before(&case.manifest);
-    let mut shelf = Shelf::new(alloc, &files).failing(failing);
+    let mut shelf = folder_of(alloc, &files).failing(failing);
     let answer = installed(alloc, &mut shelf, &case.version, 8, outcome);
-    let (made, failed) = (shelf.calls(), shelf.failures());
+    let counts = counts(&shelf);
     let reads = read_as(alloc, &mut shelf)?;
-    let wanted = if is_renamed(calls, failing) {
-        Reads::Edited
-    } else {
-        Reads::Before
-    };
-    let is_failed = failing.fault == FolderFault::Device;
-    let wanted_failures = if is_failed { 1 } else { 0 };
     Ok(
         answer == Err(Fault::from(failing.fault))
-            && made == failing.call
-            && failed == wanted_failures
-            && reads == wanted,
+            && counts == wanted_counts(failing)
+            && reads == wanted_end(calls, failing),
     )
 }
 
@@ -349,11 +436,10 @@ fn ends(
 fn wrong_end(
     alloc: Global,
     case: &Case,
-    outcome: &Outcome,
-    calls: u64,
+    (outcome, calls): (&Outcome, u64),
 ) -> Result<Option<u64>, Fault> {
-    for failing in &all_failures(alloc, calls)? {
-        if !ends(alloc, case, outcome, calls, *failing)? {
+    for failing in &all_failures(alloc, calls, &FAILURES)? {
+        if !ends(alloc, case, (outcome, calls), *failing)? {
             return Ok(Some(failing.call));
         }
     }
@@ -363,8 +449,8 @@ fn wrong_end(
 /// The first such call of all installations.
 fn wrong_ends(alloc: Global) -> Result<Option<u64>, Fault> {
     let case = make_case(alloc)?;
-    for (outcome, calls) in case.outcomes.iter().zip([7, 9, 13]) {
-        let wrong = wrong_end(alloc, &case, outcome, calls)?;
+    for row in &case.rows() {
+        let wrong = wrong_end(alloc, &case, *row)?;
         if wrong.is_some() {
             return Ok(wrong);
         }
@@ -384,24 +470,25 @@ fn left_behind(
     case: &Case,
     outcome: &Outcome,
     failing: Failing,
-) -> Result<Option<(bool, bool, bool)>, Fault> {
+) -> Result<Found, Fault> {
     let files = files_before(&case.manifest);
-    let mut shelf = Shelf::new(alloc, &files).failing(failing);
+    let mut shelf = folder_of(alloc, &files).failing(failing);
     if installed(alloc, &mut shelf, &case.version, 8, outcome).is_ok() {
         return Ok(None);
     }
     let steps = shelf.steps();
-    left(alloc, &files, steps, steps.len(), false)
+    found_at(alloc, &files, Moment::of(steps, steps.len(), false))
 }
 
-/// The first call behind whose failure a crash leaves what it should not, of an installation of so many calls.
+/// The first call behind whose failure in one of these ways a crash leaves what it should not, of an installation of so many
+/// calls.
 fn wrong_left(
     alloc: Global,
     case: &Case,
-    outcome: &Outcome,
-    calls: u64,
+    (outcome, calls): (&Outcome, u64),
+    ways: &[(FolderFault, bool)],
 ) -> Result<Option<u64>, Fault> {
-    for failing in &all_failures(alloc, calls)? {
+    for failing in &all_failures(alloc, calls, ways)? {
         let wanted = (true, failing.call.saturating_add(1) >= calls, false);
         if left_behind(alloc, case, outcome, *failing)? != Some(wanted) {
             return Ok(Some(failing.call));
@@ -413,13 +500,12 @@ fn wrong_left(
 /// The first such call of the installations of no output and of one.
 fn wrong_behind(alloc: Global) -> Result<Option<u64>, Fault> {
     let case = make_case(alloc)?;
-    for (outcome, calls) in case.outcomes.iter().zip([7, 9]) {
-        let wrong = wrong_left(alloc, &case, outcome, calls)?;
-        if wrong.is_some() {
-            return Ok(wrong);
-        }
+    let [none, one, _] = case.rows();
+    let wrong = wrong_left(alloc, &case, none, &FAILURES)?;
+    if wrong.is_some() {
+        return Ok(wrong);
     }
-    Ok(None)
+    wrong_left(alloc, &case, one, &FAILURES)
 }
 
 #[test]
@@ -428,41 +514,68 @@ fn a_crash_behind_a_failed_call(rt: HostRuntime) -> Result<(), Fail> {
     Ok(())
 }
 
-/// Opens a folder after a failure, its names written through first, and installs again: the same outcome where the folder
-/// reads as the version before, and where it reads as the edited one the second outcome.
-fn run_again(alloc: Global, shelf: &mut Shelf<'_>, same: &Outcome) -> Result<Reads, Fault> {
+/// The first such call of the installation of three outputs, in one of the ways. The others leave the same calls.
+fn wrong_behind_three(alloc: Global) -> Result<Option<u64>, Fault> {
+    let case = make_case(alloc)?;
+    let [_, _, three] = case.rows();
+    wrong_left(alloc, &case, three, &FAILURES[..1])
+}
+
+#[test]
+fn a_crash_behind_a_failed_call_of_thirteen(rt: HostRuntime) -> Result<(), Fail> {
+    assert_eq!(rt; wrong_behind_three(rt.alloc())?, None);
+    Ok(())
+}
+
+/// The version of a folder after a failure, its names written through first.
+fn version_again(alloc: Global, shelf: &mut Shelf<'_>) -> Result<Version, Fault> {
     shelf.sync_folder()?;
-    let (_order, version) = open(alloc, shelf)?;
+    let (_order, version) = version_of(alloc, shelf)?;
+    Ok(version)
+}
+
+/// Installs the second outcome over the edited version.
+fn install_second(alloc: Global, shelf: &mut Shelf<'_>, version: &Version) -> Result<(), Fault> {
+    let twelve = (12, b"twelve".as_slice(), b"".as_slice());
+    let second = outcome_of(alloc, SECOND, &[twelve])?;
+    installed(alloc, shelf, version, 10, &second)
+}
+
+/// Opens a folder after a failure and installs again: the same outcome where the folder reads as the version before, and
+/// where it reads as the edited one the second outcome.
+fn run_again(alloc: Global, shelf: &mut Shelf<'_>, same: &Outcome) -> Result<Reads, Fault> {
+    let version = version_again(alloc, shelf)?;
     if version.next_file() == Some(8) {
         installed(alloc, shelf, &version, 8, same)?;
     } else {
-        let twelve = (12, b"twelve".as_slice(), b"".as_slice());
-        let second = outcome_of(alloc, SECOND, &[twelve])?;
-        installed(alloc, shelf, &version, 10, &second)?;
+        install_second(alloc, shelf, &version)?;
     }
     read_as(alloc, shelf)
+}
+
+/// What a second run leaves behind an installation of nine calls of which one fails.
+fn wanted_again(failing: Failing) -> Reads {
+    if is_renamed(9, failing) {
+        Reads::Second
+    } else {
+        Reads::Edited
+    }
 }
 
 /// Whether a second run behind a failure of the nine calls for one output ends as it should.
 fn ends_again(alloc: Global, case: &Case, failing: Failing) -> Result<bool, Fault> {
     let files = files_before(&case.manifest);
-    let [_, outcome, _] = &case.outcomes;
-    let mut shelf = Shelf::new(alloc, &files).failing(failing);
-    if installed(alloc, &mut shelf, &case.version, 8, outcome).is_ok() {
+    let mut shelf = folder_of(alloc, &files).failing(failing);
+    if installed(alloc, &mut shelf, &case.version, 8, &case.one).is_ok() {
         return Ok(false);
     }
-    let reads = if is_renamed(9, failing) {
-        Reads::Second
-    } else {
-        Reads::Edited
-    };
-    Ok(run_again(alloc, &mut shelf, outcome)? == reads)
+    Ok(run_again(alloc, &mut shelf, &case.one)? == wanted_again(failing))
 }
 
 /// The first call behind whose failure a second run does not end as it should.
 fn wrong_second_run(alloc: Global) -> Result<Option<u64>, Fault> {
     let case = make_case(alloc)?;
-    for failing in &all_failures(alloc, 9)? {
+    for failing in &all_failures(alloc, 9, &FAILURES)? {
         if !ends_again(alloc, &case, *failing)? {
             return Ok(Some(failing.call));
         }
@@ -478,13 +591,11 @@ fn a_second_run_after_a_failure(rt: HostRuntime) -> Result<(), Fail> {
 
 /// What a crash leaves of nine calls of which the last failed, a sync of the folder and nine calls of a second run, by how
 /// many of them are done: before that sync the version before may be left, and behind it never again.
-fn wanted_of_two(done: usize, is_inside: bool) -> (bool, bool, bool) {
-    match (done, is_inside) {
-        (9, _) => (true, true, false),
-        (17, true) | (18, _) => (false, true, true),
-        (19, _) => (false, false, true),
-        _ => (false, true, false),
-    }
+fn wanted_of_two(done: usize, is_inside: bool) -> Found {
+    let is_before = done < 10;
+    let is_edited = done < 19;
+    let is_second = done > 17 || (done == 17 && is_inside);
+    Some((is_before, is_edited, is_second))
 }
 
 /// The first moment of these calls at which a crash leaves what it should not.
@@ -496,12 +607,9 @@ fn wrong_of_two(
     if steps.len() != 19 {
         return Ok(Some(0));
     }
-    for done in 9..20 {
-        for is_inside in [false, true] {
-            let found = left(alloc, files, steps, done, is_inside)?;
-            if found != Some(wanted_of_two(done, is_inside)) {
-                return Ok(Some(done));
-            }
+    for finding in &findings(alloc, files, steps, 9)? {
+        if finding.found != wanted_of_two(finding.done, finding.is_inside) {
+            return Ok(Some(finding.done));
         }
     }
     Ok(None)
@@ -518,12 +626,11 @@ const LAST_SYNC_FAILS: Failing = Failing {
 fn wrong_after_the_last_sync(alloc: Global) -> Result<Option<usize>, Fault> {
     let case = make_case(alloc)?;
     let files = files_before(&case.manifest);
-    let [_, outcome, _] = &case.outcomes;
-    let mut shelf = Shelf::new(alloc, &files).failing(LAST_SYNC_FAILS);
-    if installed(alloc, &mut shelf, &case.version, 8, outcome).is_ok() {
+    let mut shelf = folder_of(alloc, &files).failing(LAST_SYNC_FAILS);
+    if installed(alloc, &mut shelf, &case.version, 8, &case.one).is_ok() {
         return Ok(Some(0));
     }
-    if run_again(alloc, &mut shelf, outcome)? != Reads::Second {
+    if run_again(alloc, &mut shelf, &case.one)? != Reads::Second {
         return Ok(Some(0));
     }
     wrong_of_two(alloc, &files, shelf.steps())
@@ -535,33 +642,44 @@ fn folder_not_synced_first(rt: HostRuntime) -> Result<(), Fail> {
     Ok(())
 }
 
-/// Installs one output.
-fn round(alloc: Global, shelf: &mut Shelf<'_>) -> Result<Reads, Fault> {
-    let (_order, version) = open(alloc, shelf)?;
-    let [_, outcome, _] = &outcomes(alloc)?;
+/// Opens a folder, loads its tables and installs, and opens and loads again.
+fn round(alloc: Global, shelf: &mut Shelf<'_>, outcome: &Outcome) -> Result<Reads, Fault> {
+    let (_order, version) = version_of(alloc, shelf)?;
+    tables_of(alloc, shelf, &version)?;
     installed(alloc, shelf, &version, 8, outcome)?;
     opened(alloc, shelf)
 }
 
-/// Whether an installation ends well, or is refused for want of memory and leaves one of the two. One growth alone is refused.
-fn ends_well(alloc: Global) -> bool {
-    let Ok(manifest) = manifest_before(alloc) else {
+/// Whether a fault is want of memory, and the folder reads as one of the two.
+fn is_one_of_the_two(fault: Fault, reads: Result<Reads, Fault>) -> bool {
+    fault.name == FaultName::Memory && (reads == Ok(Reads::Before) || reads == Ok(Reads::Edited))
+}
+
+/// Whether that ends well, or is refused for want of memory and leaves one of the two. One growth alone is refused.
+fn ends_well(alloc: Global, case: &Case, outcome: &Outcome) -> bool {
+    let files = files_before(&case.manifest);
+    let mut shelf = folder_of(alloc, &files);
+    match round(alloc, &mut shelf, outcome) {
+        Ok(reads) => reads == Reads::Edited,
+        Err(fault) => is_one_of_the_two(fault, read_as(alloc, &mut shelf)),
+    }
+}
+
+/// Whether the installations of no output, of one and of three do, one behind the other.
+fn all_end_well(alloc: Global) -> bool {
+    let Ok(case) = make_case(alloc) else {
         return true;
     };
-    let files = files_before(&manifest);
-    let mut shelf = Shelf::new(alloc, &files);
-    match round(alloc, &mut shelf) {
-        Ok(reads) => reads == Reads::Edited,
-        Err(fault) => {
-            let reads = read_as(alloc, &mut shelf);
-            fault.name == FaultName::Memory
-                && (reads == Ok(Reads::Before) || reads == Ok(Reads::Edited))
+    for (outcome, _calls) in &case.rows() {
+        if !ends_well(alloc, &case, outcome) {
+            return false;
         }
     }
+    true
 }
 
 // With `rt try --test --fail-alloc N` the Nth growth is refused; without it, none is.
 #[test]
 fn a_refused_growth_is_memory(rt: HostRuntime) {
-    assert!(rt; ends_well(rt.alloc()));
+    assert!(rt; all_end_well(rt.alloc()));
 }

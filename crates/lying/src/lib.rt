@@ -1,0 +1,24 @@
+//! Calls over bytes that lie: what each call that takes bytes answers to bytes that were cut off, changed, or claim more than is there.
+//!
+//! [`run`] makes all calls that are quick and prints what each answers; what has to come is worked out beside them from the formats.
+//! [`print_claims`] makes those alone whose bytes claim more than is there, and [`print_values`] those with values of 2^24 bytes.
+#![tactic(auto)]
+
+mod beginnings;
+mod calls;
+mod changes;
+mod claims;
+mod compactions;
+mod counts;
+mod holding;
+mod quick;
+mod requests;
+mod rows;
+mod tables;
+pub mod worked;
+
+pub use beginnings::log_of;
+pub use claims::{print_claims, print_values};
+pub use compactions::{lent, no_inputs, put};
+pub use quick::run;
+pub use tables::mended_table;

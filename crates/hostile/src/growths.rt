@@ -1,0 +1,115 @@
+//! Worked calls that are made once more where a growth is refused: each has its answer, whichever growth is refused.
+//!
+//! With one growth of the whole run refused, what is printed is the same. `rt try --fail-alloc N --cases FOLDER` refuses each in
+//! turn by one build, where the files of the folder give the numbers below N, each as the pieces that are taken first.
+
+use crate::again::{is_memory, wanted};
+use crate::commanding::{blocks_merged, folder_compacted};
+use crate::growing::{block_built, edited, logged, merged, table_built, table_walked};
+use crate::installing::installed;
+use crate::planning::{chosen, planned, seated};
+use crate::wholes::{ends_at_grandparents, kept_deletion, three_outputs, two_spoilt};
+use anyhow::Result;
+use coding::Fault;
+use std::alloc::Global;
+use std::thread::Threads;
+
+/// Takes so many pieces of memory, one behind the other, and gives each back.
+pub fn take_pieces(alloc: Global, pieces: u64) {
+    for _ in 0..pieces {
+        let mut piece = Vec::new(alloc);
+        if piece.push(0_u8).is_err() {
+            return;
+        }
+    }
+}
+
+/// What is called.
+#[derive(Clone, Copy)]
+enum Row {
+    Block,
+    Table,
+    Cursor,
+    Merging,
+    Log,
+    Edit,
+    Plan,
+    Split,
+    Board,
+    Install,
+    Deletion,
+    Grandparents,
+    Outputs,
+    Spoilt,
+    Blocks,
+    Folder,
+}
+
+/// Each row with what is printed of it.
+const ROWS: [(Row, &str); 16] = [
+    (Row::Block, "a block is built"),
+    (Row::Table, "a table is built"),
+    (Row::Cursor, "a table is walked"),
+    (Row::Merging, "three tables are walked as one"),
+    (Row::Log, "a log is written and read"),
+    (Row::Edit, "an edit is read, applied and written"),
+    (
+        Row::Plan,
+        "a range is merged, and its outputs planned and encoded",
+    ),
+    (Row::Split, "a boundary is chosen"),
+    (Row::Board, "a board is made"),
+    (Row::Install, "a folder is opened, read and installed into"),
+    (Row::Deletion, "compact: one output of 113 bytes"),
+    (
+        Row::Grandparents,
+        "compact: three outputs, two ended by grandparents",
+    ),
+    (Row::Outputs, "compact: three outputs of one block"),
+    (Row::Spoilt, "compact: Trailer at 0"),
+    (Row::Blocks, "two blocks are merged"),
+    (Row::Folder, "a folder is compacted"),
+];
+
+/// Whether a row has its answer.
+fn has_answer<R: AllocGlobal + Threads + Sync>(rt: &R, row: Row) -> Result<bool, Fault> {
+    let alloc = rt.alloc();
+    match row {
+        Row::Block => block_built(alloc),
+        Row::Table => table_built(alloc),
+        Row::Cursor => table_walked(alloc),
+        Row::Merging => merged(alloc),
+        Row::Log => logged(alloc),
+        Row::Edit => edited(alloc),
+        Row::Plan => planned(alloc),
+        Row::Split => chosen(alloc),
+        Row::Board => seated(alloc),
+        Row::Install => installed(alloc),
+        Row::Deletion => kept_deletion(rt),
+        Row::Grandparents => ends_at_grandparents(rt),
+        Row::Outputs => three_outputs(rt),
+        Row::Spoilt => two_spoilt(rt),
+        Row::Blocks => blocks_merged(rt),
+        Row::Folder => folder_compacted(rt),
+    }
+}
+
+/// Tests that a row has its answer, at a second try where a growth was refused at the first.
+fn test<R: AllocGlobal + Threads + Sync>(rt: &R, row: Row) -> Result<(), Fault> {
+    let answer = has_answer(rt, row);
+    let is_right = if is_memory(&answer) {
+        has_answer(rt, row)?
+    } else {
+        answer?
+    };
+    wanted(is_right)
+}
+
+/// Tests each row, and prints what it is.
+pub fn run<R: AllocGlobal + Print + Threads + Sync>(rt: &R) -> Result<()> {
+    for (row, text) in ROWS {
+        test(rt, row)?;
+        println!(rt; "{text}")?;
+    }
+    Ok(())
+}

@@ -1,0 +1,89 @@
+//! Ranges merged, outputs planned and encoded, boards and splits, made so that each growth may be refused.
+
+use crate::again::wanted;
+use crate::growing::written;
+use board::{Board, Tally};
+use coding::{Fault, FaultName};
+use cut::plan;
+use ikey::Bytewise;
+use keep::{RangeRun, largest_rise, merge_range};
+use lying::no_inputs;
+use pick::Inputs;
+use split::Split;
+use std::alloc::Global;
+use table::{Options, TableCursor, check};
+
+/// The run of a split's first range over a table, of which all from sequence 1 on stays readable.
+fn run_of<'a>(
+    alloc: Global,
+    bytes: &'a [u8],
+    split: &Split<Bytewise>,
+    inputs: &Inputs,
+) -> Result<RangeRun<'a>, Fault> {
+    if !largest_rise::<Bytewise>(&inputs.grandparents) {
+        return Err(Fault::of(FaultName::Options));
+    }
+    let table = check::<Bytewise>(alloc, bytes)?;
+    let mut cursors = Vec::new(alloc);
+    cursors.push(TableCursor::new(alloc, &table)?)?;
+    merge_range::<Bytewise, _>(alloc, &mut cursors, split.range(0), &[], 1, inputs)
+}
+
+/// Whether the plan of runs of three entries, a block and an output each, is right, and its pieces have 26 bytes.
+fn is_planned(alloc: Global, runs: &[RangeRun<'_>]) -> Result<bool, Fault> {
+    let options = Options {
+        block_size: 1,
+        restart_interval: 16,
+        file_size: 1,
+    };
+    if !options.are_in_limits() {
+        return Err(Fault::of(FaultName::Options));
+    }
+    let plan = plan::<Bytewise>(alloc, runs, &[], options, 5)?;
+    for place in 0..plan.len() {
+        let output = plan.output(place);
+        wanted(output.len == 114 && output.number == (place as u64).saturating_add(5))?;
+    }
+    for job in 0..plan.jobs() {
+        wanted(plan.encode(alloc, job)?.len() == 26)?;
+    }
+    Ok(plan.len() == 3 && plan.jobs() == 3)
+}
+
+/// The run of the one range over a table.
+fn runs_of<'a>(alloc: Global, bytes: &'a [u8]) -> Result<Vec<RangeRun<'a>>, Fault> {
+    let inputs = no_inputs(alloc)?;
+    let split = Split::<Bytewise>::from_keys(Vec::new(alloc))?;
+    let run = run_of(alloc, bytes, &split, &inputs)?;
+    let mut runs = Vec::new(alloc);
+    runs.push(run)?;
+    Ok(runs)
+}
+
+/// Three entries, merged in one range and planned as three outputs.
+pub fn planned(alloc: Global) -> Result<bool, Fault> {
+    let bytes = written(alloc, b"abc", 4_096)?;
+    let runs = runs_of(alloc, &bytes)?;
+    is_planned(alloc, &runs)
+}
+
+/// Two ranges, chosen of four index keys: the boundary is the third.
+pub fn chosen(alloc: Global) -> Result<bool, Fault> {
+    let bytes = written(alloc, b"abcd", 1)?;
+    let tables = [check::<Bytewise>(alloc, &bytes)?];
+    let split = Split::choose(alloc, &tables, 2)?;
+    Ok(split.len() == 2 && split.range(0).upper == Some(b"c".as_slice()))
+}
+
+/// A board of three jobs and two seats, closed before a job is drawn.
+pub fn seated(alloc: Global) -> Result<bool, Fault> {
+    let (board, seats) = Board::new(alloc, 3, 2)?;
+    let is_whole = seats.len() == 2;
+    let none = Tally {
+        done: 0,
+        failed: 0,
+        skipped: 0,
+        least: None,
+    };
+    Ok(is_whole && board.close(seats) == none)
+}

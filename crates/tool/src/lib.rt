@@ -2,14 +2,19 @@
 #![tactic(auto)]
 
 mod counting;
+mod descent;
+mod diagnosis;
 mod dumping;
 mod exit_status;
+mod explaining;
 mod files;
 mod folder_commands;
+mod folder_work;
 mod getting;
 mod program;
 mod question;
 mod showing;
+mod telling;
 mod verifying;
 
 pub use dumping::dump;
@@ -18,7 +23,7 @@ pub use folder::{Disk, Folder, FolderFault, Order, load, open};
 pub use folder_commands::{get_dir, manifest, verify};
 pub use pairing::blocks;
 pub use program::run;
-pub use usage::{CompactSettings, Line, Readable, Usage, key_of, line, text_of};
+pub use usage::{CompactSettings, Levels, Line, Readable, Usage, key_of, line, text_of};
 
 #[cfg(test)]
 mod tests;

@@ -3,18 +3,17 @@
 use crate::dumping::dump;
 use crate::exit_status::status;
 use crate::files;
-use crate::folder_commands::{get_dir, manifest, verify};
+use crate::folder_work::{compact_folder, print_lines, print_value, print_verdict, print_version};
+use crate::telling::Telling;
 use coding::{Fault, FaultName};
-use folder::Disk;
-use keep::Snapshots;
 use pairing::blocks;
 use std::env::Env;
-use std::io::{ErrorKind, Write};
+use std::io::ErrorKind;
 use std::rt::Files;
 use std::thread::Threads;
+use std::time::Clock;
 use std::{env, io};
-use store::{Settings, compact_dir};
-use usage::{CompactSettings, Line, Readable, Usage, line};
+use usage::{Line, Usage, line};
 
 /// The status of work that is done, and of help or a version that was asked for.
 const DONE: u8 = 0;
@@ -26,7 +25,7 @@ const USAGE: u8 = 2;
 ///
 /// Results, and help and a version that were asked for, go to the standard output, all else to the standard error. That
 /// nothing can be written to the standard error changes no status.
-pub fn run<R: Env + Files + Print + Eprint + AllocGlobal + Threads + Sync>(rt: &R) -> u8 {
+pub fn run<R: Env + Files + Print + Eprint + Clock + AllocGlobal + Threads + Sync>(rt: &R) -> u8 {
     let words = match words_given(rt) {
         Ok(words) => words,
         Err(error) if error.kind() == ErrorKind::InvalidData => {
@@ -50,78 +49,56 @@ fn words_given<R: Env + AllocGlobal>(rt: &R) -> io::Result<Vec<String>> {
 }
 
 /// Does what a command line asks for.
-fn carry_out<R: Files + Print + AllocGlobal + Threads + Sync>(
+fn carry_out<R: Files + Print + Eprint + Clock + AllocGlobal + Threads + Sync>(
     rt: &R,
     line: Line<'_>,
 ) -> Result<(), Fault> {
     match line {
-        Line::Blocks { a, b, at, out } => {
-            let a = files::read(rt, a)?;
-            let b = files::read(rt, b)?;
-            let (entries, block) = blocks(
-                rt,
-                rt.alloc(),
-                a.as_slice(),
-                b.as_slice(),
-                at.as_slice(),
-            )?;
-            files::replace(rt, out, block.as_slice())?;
-            let length = block.len();
-            println!(rt; "{entries} entries, {length} bytes").map_err(|error| files::failed(&error))
-        }
+        Line::Blocks { a, b, at, out } => merge(rt, a, b, at.as_slice(), out),
         Line::Dump { table } => {
             let bytes = files::read(rt, table)?;
             let lines = dump(rt.alloc(), bytes.as_slice())?;
             print_lines(rt, lines.as_slice())
         }
-        Line::Manifest { folder } => {
-            let lines = manifest(rt.alloc(), &mut Disk::new(rt, folder))?;
-            print_lines(rt, lines.as_slice())
-        }
-        Line::Verify { folder } => {
-            let lines = verify(rt, rt.alloc(), &mut Disk::new(rt, folder))?;
-            print_lines(rt, lines.as_slice())
-        }
+        Line::Manifest { folder, verbose } => print_version(rt, telling(folder, verbose)),
+        Line::Verify { folder, verbose } => print_verdict(rt, telling(folder, verbose)),
         Line::Compact {
             folder,
-            level,
+            levels,
             settings,
-        } => {
-            let mut folder = Disk::new(rt, folder);
-            let lines = compact_dir(rt, rt.alloc(), &mut folder, level, &kept_to(&settings))?;
-            print_lines(rt, lines.as_slice())
-        }
-        Line::Get { folder, key, at } => {
-            let lines = get_dir(
-                rt,
-                rt.alloc(),
-                &mut Disk::new(rt, folder),
-                key.as_slice(),
-                at,
-            )?;
-            print_lines(rt, lines.as_slice())
-        }
+            verbose,
+        } => compact_folder(rt, telling(folder, verbose), levels, &settings),
+        Line::Get {
+            folder,
+            key,
+            at,
+            verbose,
+        } => print_value(rt, telling(folder, verbose), key.as_slice(), at),
     }
 }
 
-/// What a compaction keeps to, as its command line says.
-fn kept_to(settings: &CompactSettings) -> Settings<'_> {
-    Settings {
-        workers: settings.workers,
-        ranges: settings.ranges,
-        snapshots: match &settings.readable {
-            Readable::From(sequence) => Snapshots::From(*sequence),
-            Readable::Listed(sequences) => Snapshots::Listed(sequences.as_slice()),
-        },
-        options: settings.options,
+/// What is told of the work on a folder.
+fn telling(folder: &str, verbose: bool) -> Telling<'_> {
+    Telling {
+        folder,
+        is_on: verbose,
     }
 }
 
-/// Writes lines to the standard output.
-fn print_lines<R: Print>(rt: &R, lines: &[u8]) -> Result<(), Fault> {
-    io::writer(rt)
-        .write_all(lines)
-        .map_err(|error| files::failed(&error))
+/// Merges the blocks in two files into one.
+fn merge<R: Files + Print + AllocGlobal + Threads + Sync>(
+    rt: &R,
+    a: &str,
+    b: &str,
+    at: &[u8],
+    out: &str,
+) -> Result<(), Fault> {
+    let a = files::read(rt, a)?;
+    let b = files::read(rt, b)?;
+    let (entries, block) = blocks(rt, rt.alloc(), a.as_slice(), b.as_slice(), at)?;
+    files::replace(rt, out, block.as_slice())?;
+    let length = block.len();
+    println!(rt; "{entries} entries, {length} bytes").map_err(|error| files::failed(&error))
 }
 
 /// Tells a refusal, and answers its status.

@@ -22,6 +22,7 @@ use Rattle.usage.specs.Line.{GivesRows, HasBlocks, HasGet, HasRows, LacksAll, La
 use Rattle.usage.specs.LineParts.{BlocksLine, GetLine, GivesCommand, GivesTexts, TextsGiven}
 use Rattle.usage.specs.declared.command_line.Given.{Given}
 use Rattle.usage.specs.declared.compact_texts.CompactNumbers.{CompactNumbers}
+use Rattle.usage.specs.declared.requests.Levels.{Levels}
 use Rattle.usage.specs.declared.requests.Line.{Line}
 use Rattle.usage.specs.declared.requests.Line.TheVariants as line
 use Rattle.usage.specs.Usage.{TurnsInto}
@@ -152,59 +153,62 @@ LineGives-blocks words a b at out (Ok (line.Blocks a' b' key out')) given h = (
   ),
 )
 LineGives-blocks words a b at out (Ok (line.Dump table)) given h = absurd h
-LineGives-blocks words a b at out (Ok (line.Manifest folder)) given h = absurd h
-LineGives-blocks words a b at out (Ok (line.Verify folder)) given h = absurd h
-LineGives-blocks words a b at out (Ok (line.Get folder key sequence)) given h = absurd h
+LineGives-blocks words a b at out (Ok (line.Manifest folder verbose)) given h = absurd h
+LineGives-blocks words a b at out (Ok (line.Verify folder verbose)) given h = absurd h
+LineGives-blocks words a b at out (Ok (line.Get folder key sequence verbose)) given h = absurd h
 LineGives-blocks words a b at out (Err Key) given h = (at, (inl (a, b, out, given), h))
-LineGives-blocks words a b at out (Ok (line.Compact folder level settings)) given h = absurd h
+LineGives-blocks words a b at out (Ok (line.Compact folder levels settings verbose)) given h = absurd h
 LineGives-blocks words a b at out (Err Snapshots) given h = absurd h
 LineGives-blocks words a b at out (Err Memory) given h = tt
 LineGives-blocks words a b at out (Err (Clap e)) given h = absurd h
 
 -- the line of the texts of `get`
-pub LineGives-get : (words : List Text) (folder key : Text) (at : Option ℕ) (r : Result Line Usage) → GivesRows words (codes "get") (HasGet folder key at) → GetLine folder key at r → LineGives words r
-LineGives-get words folder key at (Ok (line.Get folder' key' at')) given h = (
+pub LineGives-get : (words : List Text) (folder key : Text) (at : Option ℕ) (verbose : Bool) (r : Result Line Usage) → GivesRows words (codes "get") (HasGet folder key at verbose)
+    → GetLine folder key at verbose r → LineGives words r
+LineGives-get words folder key at verbose (Ok (line.Get folder' key' at' verbose')) given h = (
   key,
   (
-    subst (λ (x : Text). GivesRows words (codes "get") (HasGet x key at')) (sym h.0)
-        (subst (λ (n : Option ℕ). GivesRows words (codes "get") (HasGet folder key n)) (sym h.1.1) given),
+    subst (λ (x : Text). GivesRows words (codes "get") (HasGet x key at' verbose')) (sym h.0)
+        (subst (λ (n : Option ℕ). GivesRows words (codes "get") (HasGet folder key n verbose')) (sym h.1.1.0)
+        (subst (λ (v : Bool). GivesRows words (codes "get") (HasGet folder key at v)) (sym h.1.1.1) given)),
     h.1.0,
   ),
 )
-LineGives-get words folder key at (Ok (line.Blocks a b k out)) given h = absurd h
-LineGives-get words folder key at (Ok (line.Dump table)) given h = absurd h
-LineGives-get words folder key at (Ok (line.Manifest f)) given h = absurd h
-LineGives-get words folder key at (Ok (line.Verify f)) given h = absurd h
-LineGives-get words folder key at (Err Key) given h = (key, (inr (folder, at, given), h))
-LineGives-get words folder key at (Ok (line.Compact f level settings)) given h = absurd h
-LineGives-get words folder key at (Err Snapshots) given h = absurd h
-LineGives-get words folder key at (Err Memory) given h = tt
-LineGives-get words folder key at (Err (Clap e)) given h = absurd h
+LineGives-get words folder key at verbose (Ok (line.Blocks a b k out)) given h = absurd h
+LineGives-get words folder key at verbose (Ok (line.Dump table)) given h = absurd h
+LineGives-get words folder key at verbose (Ok (line.Manifest f v)) given h = absurd h
+LineGives-get words folder key at verbose (Ok (line.Verify f v)) given h = absurd h
+LineGives-get words folder key at verbose (Ok (line.Compact f levels settings v)) given h = absurd h
+LineGives-get words folder key at verbose (Err Key) given h = (key, (inr (folder, at, verbose, given), h))
+LineGives-get words folder key at verbose (Err Snapshots) given h = absurd h
+LineGives-get words folder key at verbose (Err Memory) given h = tt
+LineGives-get words folder key at verbose (Err (Clap e)) given h = absurd h
 
 -- the line of the texts of `compact`
-pub LineGives-compact : (words : List Text) (folder : Text) (level : ℕ) (numbers : CompactNumbers) (since : Option ℕ) (listed : Option Text) (r : Result Line Usage)
-    → GivesRows words (codes "compact") (HasCompact folder level numbers since listed) → CompactLine folder level numbers since listed r → LineGives words r
-LineGives-compact words folder level numbers since listed (Ok (line.Compact folder' level' settings)) given h = (
+pub LineGives-compact : (words : List Text) (folder : Text) (levels : Levels) (numbers : CompactNumbers) (since : Option ℕ) (listed : Option Text) (verbose : Bool) (r : Result Line Usage)
+    → GivesRows words (codes "compact") (HasCompact folder levels numbers since listed verbose) → CompactLine folder levels numbers since listed verbose r → LineGives words r
+LineGives-compact words folder levels numbers since listed verbose (Ok (line.Compact folder' levels' settings verbose')) given h = (
   numbers,
   since,
   listed,
   (
-    subst (λ (x : Text). GivesRows words (codes "compact") (HasCompact x level' numbers since listed)) (sym h.0)
-        (subst (λ (n : ℕ). GivesRows words (codes "compact") (HasCompact folder n numbers since listed)) (sym h.1.0) given),
-    h.1.1,
+    subst (λ (x : Text). GivesRows words (codes "compact") (HasCompact x levels' numbers since listed verbose')) (sym h.0)
+        (subst (λ (n : Levels). GivesRows words (codes "compact") (HasCompact folder n numbers since listed verbose')) (sym h.1.0)
+        (subst (λ (v : Bool). GivesRows words (codes "compact") (HasCompact folder levels numbers since listed v)) (sym h.1.1.1) given)),
+    h.1.1.0,
   ),
 )
-LineGives-compact words folder level numbers since listed (Ok (line.Blocks a b k out)) given h = absurd h
-LineGives-compact words folder level numbers since listed (Ok (line.Dump table)) given h = absurd h
-LineGives-compact words folder level numbers since listed (Ok (line.Manifest f)) given h = absurd h
-LineGives-compact words folder level numbers since listed (Ok (line.Verify f)) given h = absurd h
-LineGives-compact words folder level numbers since listed (Ok (line.Get f key at)) given h = absurd h
-LineGives-compact words folder level numbers (Some sequence) listed (Err Snapshots) given h = absurd h
-LineGives-compact words folder level numbers None None (Err Snapshots) given h = absurd h
-LineGives-compact words folder level numbers None (Some text) (Err Snapshots) given h = (text, ((folder, level, numbers, given), h))
-LineGives-compact words folder level numbers since listed (Err Key) given h = absurd h
-LineGives-compact words folder level numbers since listed (Err Memory) given h = tt
-LineGives-compact words folder level numbers since listed (Err (Clap e)) given h = absurd h
+LineGives-compact words folder levels numbers since listed verbose (Ok (line.Blocks a b k out)) given h = absurd h
+LineGives-compact words folder levels numbers since listed verbose (Ok (line.Dump table)) given h = absurd h
+LineGives-compact words folder levels numbers since listed verbose (Ok (line.Manifest f v)) given h = absurd h
+LineGives-compact words folder levels numbers since listed verbose (Ok (line.Verify f v)) given h = absurd h
+LineGives-compact words folder levels numbers since listed verbose (Ok (line.Get f key at v)) given h = absurd h
+LineGives-compact words folder levels numbers (Some sequence) listed verbose (Err Snapshots) given h = absurd h
+LineGives-compact words folder levels numbers None None verbose (Err Snapshots) given h = absurd h
+LineGives-compact words folder levels numbers None (Some text) verbose (Err Snapshots) given h = (text, ((folder, levels, numbers, verbose, given), h))
+LineGives-compact words folder levels numbers since listed verbose (Err Key) given h = absurd h
+LineGives-compact words folder levels numbers since listed verbose (Err Memory) given h = tt
+LineGives-compact words folder levels numbers since listed verbose (Err (Clap e)) given h = absurd h
 
 -- none of the commands has its texts
 pub MatchOption-lacking : (parsed : Option (Text × List Row)) (r : Option Given) → r ≡ None → LacksAll parsed → MatchOption r (LacksAll parsed) (GivesCommand parsed)

@@ -1,9 +1,12 @@
 -- What the command `compact` is given, and what it asks for.
-use Rattle.std.specs.Prelude.{◌≡◌, ◌≢◌, ◌⊎◌, ◌==◌, ℕ, List, [], map, Option, Some, None, codes, unwrap_or}
+use Rattle.std.specs.Prelude.{◌≡◌, ◌≢◌, ◌⊎◌, ◌==◌, ℕ, Bool, true, false, List, [], map, Option, Some, None, codes, unwrap_or}
 use Rattle.std.specs.List.{All, slice_split}
 use Rattle.std.specs.Str.Parse.{digits_value}
 use Rattle.clap.specs.Words.{Row, Text, first_of}
-use Rattle.usage.specs.Text.{IsNoNumber, IsNumberOf, IsNumberText, LacksNumber}
+use Rattle.usage.specs.Flags.{is_flagged}
+use Rattle.usage.specs.Text.{IsNoNumber, IsNumberOf, IsNumberText}
+use Rattle.usage.specs.declared.requests.Levels.{Levels}
+use Rattle.usage.specs.declared.requests.Levels.TheVariants.{One, All as AllLevels}
 use Rattle.usage.specs.declared.requests.Readable.{Readable}
 use Rattle.usage.specs.declared.requests.Readable.TheVariants.{From, Listed}
 use Rattle.usage.specs.declared.requests.CompactSettings.{CompactSettings}
@@ -29,14 +32,25 @@ abbrev pub LacksReadable : List Row → Type 0
 LacksReadable rows = IsNoNumber (first_of (codes "snapshot") rows)
     ⊎ ((first_of (codes "snapshot") rows ≢ None) × (first_of (codes "snapshots") rows ≢ None))
 
--- the rows give these of DIR and `--level`, and these of the options
-abbrev pub HasCompact : Text → ℕ → CompactNumbers → Option ℕ → Option Text → List Row → Type 0
-HasCompact folder level numbers since listed rows = (first_of (codes "DIR") rows ≡ Some folder)
-    × IsNumberOf (first_of (codes "level") rows) (Some level) × HasNumbers numbers rows × HasReadable since listed rows
+-- the rows give this number of `--level`, or `--all`
+abbrev pub HasLevels : Levels → List Row → Type 0
+HasLevels (One level) rows = IsNumberOf (first_of (codes "level") rows) (Some level) × (is_flagged (codes "all") rows ≡ false)
+HasLevels AllLevels rows = IsNumberOf (first_of (codes "level") rows) None × (is_flagged (codes "all") rows ≡ true)
 
--- the rows give no text of DIR, no number of `--level`, or no such options
+-- `--level` is given a text that is no number, or neither it nor `--all` is given, or both are
+abbrev pub LacksLevels : List Row → Type 0
+LacksLevels rows = IsNoNumber (first_of (codes "level") rows)
+    ⊎ (((first_of (codes "level") rows ≡ None) × (is_flagged (codes "all") rows ≡ false))
+    ⊎ ((first_of (codes "level") rows ≢ None) × (is_flagged (codes "all") rows ≡ true)))
+
+-- the rows give this of DIR, these levels, these of the options, and this of `--verbose`
+abbrev pub HasCompact : Text → Levels → CompactNumbers → Option ℕ → Option Text → Bool → List Row → Type 0
+HasCompact folder levels numbers since listed verbose rows = (first_of (codes "DIR") rows ≡ Some folder)
+    × HasLevels levels rows × HasNumbers numbers rows × HasReadable since listed rows × (verbose ≡ is_flagged (codes "verbose") rows)
+
+-- the rows give no text of DIR, no levels, or no such options
 abbrev pub LacksCompact : List Row → Type 0
-LacksCompact rows = (first_of (codes "DIR") rows ≡ None) ⊎ (LacksNumber (first_of (codes "level") rows)
+LacksCompact rows = (first_of (codes "DIR") rows ≡ None) ⊎ (LacksLevels rows
     ⊎ (LacksNumbers rows ⊎ LacksReadable rows))
 
 -- the texts between commas

@@ -1,11 +1,13 @@
 -- What a command line asks for.
-use Rattle.std.specs.Prelude.{◌≡◌, ◌⊎◌, ℕ, true, List, [], Option, Some, None, Result, Ok, Err, codes, if◌then◌else◌, option_and_then}
+use Rattle.std.specs.Prelude.{◌≡◌, ◌⊎◌, ℕ, Bool, true, List, [], Option, Some, None, Result, Ok, Err, codes, if◌then◌else◌, option_and_then}
 use Rattle.std.specs.Str.{bytes_eq}
 use Rattle.clap.specs.Words.{App, IsAmong, Row, Rule, Text, fault_of, first_of, kind_of, new_app, new_rule, subcommand_of, with_rule, with_subcommand}
 use Rattle.clap.specs.declared.builder.value_parser.ValueParser.TheVariants as parser
 use Rattle.clap.specs.declared.error.Error.{Error}
 use Rattle.usage.specs.CompactLine.{AreSettings, HasCompact, IsNoNumberList, LacksCompact}
+use Rattle.usage.specs.Flags.{flag_rule, is_flagged, verbose_rule}
 use Rattle.usage.specs.Text.{IsNoNumber, IsNumberOf, bytes_of_text}
+use Rattle.usage.specs.declared.requests.Levels.{Levels}
 use Rattle.usage.specs.declared.compact_texts.CompactNumbers.{CompactNumbers}
 use Rattle.usage.specs.declared.requests.Line.{Line}
 use Rattle.usage.specs.declared.requests.Line.TheVariants as line
@@ -29,21 +31,23 @@ blocks_app =
 abbrev pub bare_app : App
 bare_app = record (new_app (codes "sedvokt")) { top = record (new_app (codes "sedvokt")).top { has_version = true; subcommand_required = true } }
 
--- a command of one argument, which has to be given, as `dump TABLE`
-abbrev pub path_app : Text → Text → App
-path_app name id = with_rule (new_app name) (wanted id)
+-- `dump TABLE`
+abbrev pub dump_app : App
+dump_app = with_rule (new_app (codes "dump")) (wanted (codes "TABLE"))
+
+-- a command on a folder alone, as `verify DIR [-v]`
+abbrev pub folder_app : Text → App
+folder_app name = with_rule (with_rule (new_app name) (wanted (codes "DIR"))) verbose_rule
 
 -- an option with a number of 64 bits, as `--at N`
 abbrev pub number_rule : Text → Rule
 number_rule id = record (new_rule id) { long = Some id; value_names = 1; parser = Some (parser.Unsigned 0 18446744073709551615) }
 
--- `get DIR HEXKEY [--at N]`
+-- `get DIR HEXKEY [--at N] [-v]`
 abbrev pub get_app : App
-get_app = with_rule (with_rule (with_rule (new_app (codes "get")) (wanted (codes "DIR"))) (wanted (codes "HEXKEY"))) (number_rule (codes "at"))
-
--- `--level N`, which has to be given
-abbrev pub level_rule : Rule
-level_rule = record (number_rule (codes "level")) { required = true }
+get_app =
+    with_rule (with_rule (with_rule (with_rule (new_app (codes "get")) (wanted (codes "DIR"))) (wanted (codes "HEXKEY"))) (number_rule (codes "at")))
+    verbose_rule
 
 -- `--snapshots S,S,..`
 abbrev pub snapshots_rule : Rule
@@ -55,23 +59,28 @@ with_outputs app =
     with_rule (with_rule (with_rule (with_rule app (number_rule (codes "snapshot"))) snapshots_rule) (number_rule (codes "block-size")))
     (number_rule (codes "file-size"))
 
--- `compact DIR --level N [--workers W] [--ranges R] [--snapshot S] [--snapshots S,S,..] [--block-size B] [--file-size F]`
+-- `DIR [--level N] [--all]`, behind what a command has
+abbrev pub with_levels : App → App
+with_levels app = with_rule (with_rule (with_rule app (wanted (codes "DIR"))) (number_rule (codes "level"))) (flag_rule (codes "all"))
+
+-- `[--workers W] [--ranges R] [-v]`, behind what a command has
+abbrev pub with_work : App → App
+with_work app = with_rule (with_rule (with_rule app (number_rule (codes "workers"))) (number_rule (codes "ranges"))) verbose_rule
+
+-- `compact DIR [--level N] [--all] [--workers W] [--ranges R] [-v] [--snapshot S] [--snapshots S,S,..] [--block-size B] [--file-size F]`
 abbrev pub compact_app : App
-compact_app =
-    with_outputs (with_rule (with_rule (with_rule (with_rule (new_app (codes "compact")) (wanted (codes "DIR"))) level_rule)
-    (number_rule (codes "workers"))) (number_rule (codes "ranges")))
+compact_app = with_outputs (with_work (with_levels (new_app (codes "compact"))))
 
 -- the commands that read files, and show what is there
 abbrev pub with_files_shown : App → App
 with_files_shown app =
-    with_subcommand (with_subcommand (with_subcommand app blocks_app.top) (path_app (codes "dump") (codes "TABLE")).top)
-    (path_app (codes "manifest") (codes "DIR")).top
+    with_subcommand (with_subcommand (with_subcommand app blocks_app.top) dump_app.top) (folder_app (codes "manifest")).top
 
 -- the program with its commands
 abbrev pub program_app : App
 program_app =
     with_subcommand (with_subcommand (with_subcommand (with_files_shown bare_app)
-    (path_app (codes "verify") (codes "DIR")).top) get_app.top) compact_app.top
+    (folder_app (codes "verify")).top) get_app.top) compact_app.top
 
 -- the rows of the command of this name
 abbrev pub rows_of_command : Text → Text × List Row → Option (List Row)
@@ -107,10 +116,14 @@ HasPath id text rows = first_of id rows ≡ Some text
 abbrev pub LacksPath : Text → List Row → Type 0
 LacksPath id rows = first_of id rows ≡ None
 
--- the rows give these texts of DIR and HEXKEY, and this number of `--at`
-abbrev pub HasGet : Text → Text → Option ℕ → List Row → Type 0
-HasGet folder key at rows = (first_of (codes "DIR") rows ≡ Some folder) × (first_of (codes "HEXKEY") rows ≡ Some key)
-    × IsNumberOf (first_of (codes "at") rows) at
+-- the rows give this text of DIR, and this of `--verbose`
+abbrev pub HasFolder : Text → Bool → List Row → Type 0
+HasFolder folder verbose rows = (first_of (codes "DIR") rows ≡ Some folder) × (verbose ≡ is_flagged (codes "verbose") rows)
+
+-- the rows give these texts of DIR and HEXKEY, this number of `--at`, and this of `--verbose`
+abbrev pub HasGet : Text → Text → Option ℕ → Bool → List Row → Type 0
+HasGet folder key at verbose rows = (first_of (codes "DIR") rows ≡ Some folder) × (first_of (codes "HEXKEY") rows ≡ Some key)
+    × IsNumberOf (first_of (codes "at") rows) at × (verbose ≡ is_flagged (codes "verbose") rows)
 
 -- the rows give no text of DIR or HEXKEY, or one of `--at` that is no number
 abbrev pub LacksGet : List Row → Type 0
@@ -137,12 +150,13 @@ GivesRows words name Has = (fault_of program_app words ≡ []) × HasRows Has (r
 abbrev pub GivesKeyText : List Text → Text → Type 0
 GivesKeyText words text =
     ((a b out : Text) × GivesRows words (codes "blocks") (HasBlocks a b text out))
-    ⊎ ((folder : Text) × (at : Option ℕ) × GivesRows words (codes "get") (HasGet folder text at))
+    ⊎ ((folder : Text) × (at : Option ℕ) × (verbose : Bool) × GivesRows words (codes "get") (HasGet folder text at verbose))
 
 -- `clap` takes the words, and they give `compact` this text of a list of snapshots
 abbrev pub GivesListText : List Text → Text → Type 0
 GivesListText words text =
-    (folder : Text) × (level : ℕ) × (numbers : CompactNumbers) × GivesRows words (codes "compact") (HasCompact folder level numbers None (Some text))
+    (folder : Text) × (levels : Levels) × (numbers : CompactNumbers) × (verbose : Bool)
+    × GivesRows words (codes "compact") (HasCompact folder levels numbers None (Some text) verbose)
 
 -- What a command line asks for: the texts of its command, with the text of a key or of a list read. Key is the answer exactly
 -- where the one is no key's, Snapshots where the other is no list of numbers, and `clap`'s error where it refuses the words.
@@ -151,13 +165,13 @@ abbrev pub LineGives : List Text → Result Line Usage → Type 0
 LineGives words (Ok (line.Blocks a b at out)) =
     (text : Text) × (GivesRows words (codes "blocks") (HasBlocks a.now b.now text out.now) × (bytes_of_text text ≡ Some at.items))
 LineGives words (Ok (line.Dump table)) = GivesRows words (codes "dump") (HasPath (codes "TABLE") table.now)
-LineGives words (Ok (line.Manifest folder)) = GivesRows words (codes "manifest") (HasPath (codes "DIR") folder.now)
-LineGives words (Ok (line.Verify folder)) = GivesRows words (codes "verify") (HasPath (codes "DIR") folder.now)
-LineGives words (Ok (line.Get folder key at)) =
-    (text : Text) × (GivesRows words (codes "get") (HasGet folder.now text at) × (bytes_of_text text ≡ Some key.items))
-LineGives words (Ok (line.Compact folder level settings)) =
+LineGives words (Ok (line.Manifest folder verbose)) = GivesRows words (codes "manifest") (HasFolder folder.now verbose)
+LineGives words (Ok (line.Verify folder verbose)) = GivesRows words (codes "verify") (HasFolder folder.now verbose)
+LineGives words (Ok (line.Get folder key at verbose)) =
+    (text : Text) × (GivesRows words (codes "get") (HasGet folder.now text at verbose) × (bytes_of_text text ≡ Some key.items))
+LineGives words (Ok (line.Compact folder levels settings verbose)) =
     (numbers : CompactNumbers) × (since : Option ℕ) × (listed : Option Text)
-    × (GivesRows words (codes "compact") (HasCompact folder.now level numbers since listed) × AreSettings numbers since listed settings)
+    × (GivesRows words (codes "compact") (HasCompact folder.now levels numbers since listed verbose) × AreSettings numbers since listed settings)
 LineGives words (Err Snapshots) = (text : Text) × (GivesListText words text × IsNoNumberList text)
 LineGives words (Err Key) = (text : Text) × (GivesKeyText words text × (bytes_of_text text ≡ None))
 LineGives words (Err Memory) = Unit {0}

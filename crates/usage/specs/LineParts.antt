@@ -1,10 +1,10 @@
 -- What the steps of reading a command line answer.
-use Rattle.std.specs.Prelude.{◌≡◌, ℕ, List, [], Option, Some, None, Result, Ok, Err, codes}
+use Rattle.std.specs.Prelude.{◌≡◌, ℕ, Bool, List, [], Option, Some, None, Result, Ok, Err, codes}
 use Rattle.std.specs.Option.{option_map}
 use Rattle.std.specs.Global.{Vec}
 use Rattle.clap.specs.Words.{Row, Text, fault_of, subcommand_of}
 use Rattle.usage.specs.CompactLine.{HasCompact}
-use Rattle.usage.specs.Line.{HasBlocks, HasGet, HasPath, HasRows, RefusedWith, program_app, rows_under}
+use Rattle.usage.specs.Line.{HasBlocks, HasFolder, HasGet, HasPath, HasRows, RefusedWith, program_app, rows_under}
 use Rattle.usage.specs.Text.{bytes_of_text}
 use Rattle.usage.specs.declared.command_line.Given.{Given}
 use Rattle.usage.specs.declared.command_line.Given.TheVariants.{Blocks, Dump, Manifest, Verify, Get, Compact}
@@ -17,11 +17,11 @@ use Rattle.usage.specs.declared.requests.Usage.TheVariants.{Key, Snapshots, Memo
 abbrev pub GivesCommand : Option (Text × List Row) → Given → Type 0
 GivesCommand parsed (Blocks texts) = HasRows (HasBlocks texts.a.now texts.b.now texts.at.now texts.out.now) (rows_under (codes "blocks") parsed)
 GivesCommand parsed (Dump table) = HasRows (HasPath (codes "TABLE") table.now) (rows_under (codes "dump") parsed)
-GivesCommand parsed (Manifest folder) = HasRows (HasPath (codes "DIR") folder.now) (rows_under (codes "manifest") parsed)
-GivesCommand parsed (Verify folder) = HasRows (HasPath (codes "DIR") folder.now) (rows_under (codes "verify") parsed)
-GivesCommand parsed (Get texts) = HasRows (HasGet texts.folder.now texts.key.now texts.at) (rows_under (codes "get") parsed)
+GivesCommand parsed (Manifest texts) = HasRows (HasFolder texts.folder.now texts.verbose) (rows_under (codes "manifest") parsed)
+GivesCommand parsed (Verify texts) = HasRows (HasFolder texts.folder.now texts.verbose) (rows_under (codes "verify") parsed)
+GivesCommand parsed (Get texts) = HasRows (HasGet texts.folder.now texts.key.now texts.at texts.verbose) (rows_under (codes "get") parsed)
 GivesCommand parsed (Compact texts) =
-    HasRows (HasCompact texts.folder.now texts.level texts.numbers texts.readable.since (option_map (λ text. text.now) texts.readable.listed))
+    HasRows (HasCompact texts.folder.now texts.levels texts.numbers texts.readable.since (option_map (λ text. text.now) texts.readable.listed) texts.verbose)
     (rows_under (codes "compact") parsed)
 
 -- `clap` takes the words, and they give a command with these texts
@@ -54,10 +54,11 @@ BlocksLine a b at out (Err Memory) = Unit {0}
 BlocksLine a b at out (Err (Clap e)) = ⊥
 
 -- the line of `get` with these texts, or Key where that of the key is no key's
-abbrev pub GetLine : Text → Text → Option ℕ → Result Line Usage → Type 0
-GetLine folder key at (Ok (line.Get folder' key' at')) = (folder'.now ≡ folder) × ((bytes_of_text key ≡ Some key'.items) × (at' ≡ at))
-GetLine folder key at (Ok _) = ⊥
-GetLine folder key at (Err Key) = bytes_of_text key ≡ None
-GetLine folder key at (Err Snapshots) = ⊥
-GetLine folder key at (Err Memory) = Unit {0}
-GetLine folder key at (Err (Clap e)) = ⊥
+abbrev pub GetLine : Text → Text → Option ℕ → Bool → Result Line Usage → Type 0
+GetLine folder key at verbose (Ok (line.Get folder' key' at' verbose')) =
+    (folder'.now ≡ folder) × ((bytes_of_text key ≡ Some key'.items) × ((at' ≡ at) × (verbose' ≡ verbose)))
+GetLine folder key at verbose (Ok _) = ⊥
+GetLine folder key at verbose (Err Key) = bytes_of_text key ≡ None
+GetLine folder key at verbose (Err Snapshots) = ⊥
+GetLine folder key at verbose (Err Memory) = Unit {0}
+GetLine folder key at verbose (Err (Clap e)) = ⊥

@@ -46,8 +46,3 @@ IsNumberOf (Some text) number = IsNumberText text × (number ≡ Some (digits_va
 abbrev pub IsNoNumber : Option (List ℕ) → Type 0
 IsNoNumber None = ⊥
 IsNoNumber (Some text) = IsNumberText text → ⊥
-
--- an option is given no number
-abbrev pub LacksNumber : Option (List ℕ) → Type 0
-LacksNumber None = Unit {0}
-LacksNumber (Some text) = IsNumberText text → ⊥

@@ -2,6 +2,7 @@
 
 ghost use Rattle.std.specs.Prelude.{◌≡◌, MatchOption, MatchResult};
 ghost use Rattle.clap.specs.Words.{first_of, found_of, rows_of};
+ghost use Rattle.usage.specs.Flags.{is_flagged};
 ghost use Rattle.usage.specs.Text.{IsNoNumber, IsNumberOf};
 
 use crate::text::number_of;
@@ -13,6 +14,16 @@ pub(crate) fn first_text<'a>(values: &ArgMatches<'a>, id: &str) -> Option<&'a st
         MatchOption result (first ≡ None) (λ text. first ≡ Some text.now) }
 {
     values.get_str(id)
+}
+
+/// Whether a flag is given.
+pub(crate) fn is_flagged(values: &ArgMatches<'_>, id: &str) -> bool
+    ensures { result ≡ is_flagged id.now (rows_of (found_of values.now)) }
+{
+    match first_text(values, id) {
+        Some(text) => text == "true",
+        None => false,
+    }
 }
 
 /// A text that is given for a number, and is none.

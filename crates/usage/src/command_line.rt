@@ -2,10 +2,10 @@
 
 ghost use Rattle.std.specs.Prelude.{MatchOption, codes, map};
 ghost use Rattle.clap.specs.Words.{found_of, rows_of, subcommand_rows_of};
-ghost use Rattle.usage.specs.Line.{HasBlocks, HasGet, HasPath, LacksAll, LacksBlocks, LacksGet, LacksPath, LacksRows, HasRows, LineGives, rows_under};
+ghost use Rattle.usage.specs.Line.{HasBlocks, HasFolder, HasGet, HasPath, LacksAll, LacksBlocks, LacksGet, LacksPath, LacksRows, HasRows, LineGives, rows_under};
 ghost use Rattle.usage.specs.LineParts.{BlocksLine, GetLine, GivesCommand, IsKeyAnswer, TextsGiven};
 
-use crate::arguments::{first_number, first_text};
+use crate::arguments::{first_number, first_text, is_flagged};
 use crate::commands::program_command;
 use crate::compact_line::compact_line;
 use crate::compact_texts::{CompactTexts, compact_texts};
@@ -19,18 +19,38 @@ use std::convert::AsStr;
 #[cfg(test)]
 mod tests;
 
+/// What is told where a level and all of them are given.
+const LEVEL_WITH_ALL: &str = "the argument '--level <N>' cannot be used with '--all'";
+
+/// What is told where neither is.
+const NO_LEVELS: &str =
+    "the following required arguments were not provided:\n  <--level <N>|--all>";
+
+/// What is told where both options on snapshots are given.
+const SNAPSHOT_WITH_LIST: &str =
+    "the argument '--snapshot <S>' cannot be used with '--snapshots <S,S,..>'";
+
+/// What is told of a text that is no number.
+const NO_DIGITS: &str = "a number is written in decimal digits alone";
+
 /// What the words of a command line ask for, the first of which is the program's name.
 ///
-/// Of several faults of usage `clap`'s comes before that of a number with a sign and of both options on snapshots, and these
-/// before the one of a key or of a list.
+/// Of several faults of usage `clap`'s comes before those of options that go together or not, these before that of a number
+/// with a sign, and this before the one of a key or of a list.
 pub fn line<'a, S: AsStr>(alloc: Global, words: &'a [S]) -> Result<Line<'a>, Usage>
     ensures { LineGives (map S.text words.entry.now) result }
 {
     match texts_given(alloc, words)? {
         Given::Blocks(texts) => blocks_line(alloc, texts),
         Given::Dump(table) => Ok(Line::Dump { table }),
-        Given::Manifest(folder) => Ok(Line::Manifest { folder }),
-        Given::Verify(folder) => Ok(Line::Verify { folder }),
+        Given::Manifest(texts) => Ok(Line::Manifest {
+            folder: texts.folder,
+            verbose: texts.verbose,
+        }),
+        Given::Verify(texts) => Ok(Line::Verify {
+            folder: texts.folder,
+            verbose: texts.verbose,
+        }),
         Given::Get(texts) => get_line(alloc, texts),
         Given::Compact(texts) => compact_line(alloc, texts),
     }
@@ -41,8 +61,8 @@ pub fn line<'a, S: AsStr>(alloc: Global, words: &'a [S]) -> Result<Line<'a>, Usa
 enum Given<'a> {
     Blocks(BlocksTexts<'a>),
     Dump(&'a str),
-    Manifest(&'a str),
-    Verify(&'a str),
+    Manifest(FolderTexts<'a>),
+    Verify(FolderTexts<'a>),
     Get(GetTexts<'a>),
     Compact(CompactTexts<'a>),
 }
@@ -72,24 +92,46 @@ impl<'a> BlocksTexts<'a> {
     }
 }
 
+/// What a command on a folder alone is given.
+#[derive(Clone, Copy)]
+struct FolderTexts<'a> {
+    folder: &'a str,
+    verbose: bool,
+}
+
+impl<'a> FolderTexts<'a> {
+    /// The text of DIR, and whether `--verbose` is there.
+    fn of(values: &ArgMatches<'a>) -> Option<FolderTexts<'a>>
+        ensures { let rows = rows_of (found_of values.now) in
+            MatchOption result (LacksPath (codes "DIR") rows) (λ texts. HasFolder texts.folder.now texts.verbose rows) }
+    {
+        Some(FolderTexts {
+            folder: first_text(values, "DIR")?,
+            verbose: is_flagged(values, "verbose"),
+        })
+    }
+}
+
 /// What the arguments of `get` are given.
 #[derive(Clone, Copy)]
 struct GetTexts<'a> {
     folder: &'a str,
     key: &'a str,
     at: Option<u64>,
+    verbose: bool,
 }
 
 impl<'a> GetTexts<'a> {
-    /// The texts of both arguments, and the number of `--at` where it is given.
+    /// The texts of both arguments, the number of `--at` where it is given, and whether `--verbose` is there.
     fn of(values: &ArgMatches<'a>) -> Option<GetTexts<'a>>
         ensures { let rows = rows_of (found_of values.now) in
-            MatchOption result (LacksGet rows) (λ texts. HasGet texts.folder.now texts.key.now texts.at rows) }
+            MatchOption result (LacksGet rows) (λ texts. HasGet texts.folder.now texts.key.now texts.at texts.verbose rows) }
     {
         Some(GetTexts {
             folder: first_text(values, "DIR")?,
             key: first_text(values, "HEXKEY")?,
             at: first_number(values, "at").ok()?,
+            verbose: is_flagged(values, "verbose"),
         })
     }
 }
@@ -103,7 +145,7 @@ fn texts_given<'a, S: AsStr>(alloc: Global, words: &'a [S]) -> Result<Given<'a>,
     match texts_in(&matches) {
         Some(given) => Ok(given),
         None => {
-            // `clap` takes a number with a plus sign and both options on snapshots, and asks for all else itself.
+            // `clap` takes a number with a plus sign, and knows of no options that go together or not. It asks for all else.
             let (kind, text) = complaint(&matches);
             let error = command.error(kind, text)?;
             Err(Usage::from(error))
@@ -113,15 +155,20 @@ fn texts_given<'a, S: AsStr>(alloc: Global, words: &'a [S]) -> Result<Given<'a>,
 
 /// What is wrong with words that `clap` takes.
 fn complaint(matches: &ArgMatches<'_>) -> (ErrorKind, &'static str) {
-    if let Some(values) = matches.subcommand_matches("compact")
-        && first_text(values, "snapshot").is_some()
-        && first_text(values, "snapshots").is_some()
-    {
-        let text = "the argument '--snapshot <S>' cannot be used with '--snapshots <S,S,..>'";
-        return (ErrorKind::ArgumentConflict, text);
+    if let Some(values) = matches.subcommand_matches("compact") {
+        let has_level = first_text(values, "level").is_some();
+        let has_all = is_flagged(values, "all");
+        if has_level && has_all {
+            return (ErrorKind::ArgumentConflict, LEVEL_WITH_ALL);
+        }
+        if first_text(values, "snapshot").is_some() && first_text(values, "snapshots").is_some() {
+            return (ErrorKind::ArgumentConflict, SNAPSHOT_WITH_LIST);
+        }
+        if !has_level && !has_all {
+            return (ErrorKind::MissingRequiredArgument, NO_LEVELS);
+        }
     }
-    let text = "a number is written in decimal digits alone";
-    (ErrorKind::ValueValidation, text)
+    (ErrorKind::ValueValidation, NO_DIGITS)
 }
 
 /// The texts of the command, where it is one of the program's and its texts are there.
@@ -135,11 +182,11 @@ fn texts_in<'a>(matches: &ArgMatches<'a>) -> Option<Given<'a>>
     if let Some(table) = path_text(matches, "dump", "TABLE") {
         return Some(Given::Dump(table));
     }
-    if let Some(folder) = path_text(matches, "manifest", "DIR") {
-        return Some(Given::Manifest(folder));
+    if let Some(texts) = folder_texts(matches, "manifest") {
+        return Some(Given::Manifest(texts));
     }
-    if let Some(folder) = path_text(matches, "verify", "DIR") {
-        return Some(Given::Verify(folder));
+    if let Some(texts) = folder_texts(matches, "verify") {
+        return Some(Given::Verify(texts));
     }
     if let Some(texts) = get_texts(matches) {
         return Some(Given::Get(texts));
@@ -161,9 +208,18 @@ fn blocks_texts<'a>(matches: &ArgMatches<'a>) -> Option<BlocksTexts<'a>>
 fn get_texts<'a>(matches: &ArgMatches<'a>) -> Option<GetTexts<'a>>
     ensures { let given = rows_under (codes "get") (subcommand_rows_of matches.now) in
         MatchOption result (LacksRows LacksGet given)
-        (λ texts. HasRows (HasGet texts.folder.now texts.key.now texts.at) given) }
+        (λ texts. HasRows (HasGet texts.folder.now texts.key.now texts.at texts.verbose) given) }
 {
     GetTexts::of(matches.subcommand_matches("get")?)
+}
+
+/// What a command on a folder alone is given, where that is the command and its text is there.
+fn folder_texts<'a>(matches: &ArgMatches<'a>, name: &str) -> Option<FolderTexts<'a>>
+    ensures { let given = rows_under name.now (subcommand_rows_of matches.now) in
+        MatchOption result (LacksRows (LacksPath (codes "DIR")) given)
+        (λ texts. HasRows (HasFolder texts.folder.now texts.verbose) given) }
+{
+    FolderTexts::of(matches.subcommand_matches(name)?)
 }
 
 /// The text of the one argument of a command, where that is the command and the text is there.
@@ -189,13 +245,14 @@ fn blocks_line<'a>(alloc: Global, texts: BlocksTexts<'a>) -> Result<Line<'a>, Us
 
 /// The line of `get`, where the text of its key is a key's.
 fn get_line<'a>(alloc: Global, texts: GetTexts<'a>) -> Result<Line<'a>, Usage>
-    ensures { GetLine texts.entry.folder.now texts.entry.key.now texts.entry.at result }
+    ensures { GetLine texts.entry.folder.now texts.entry.key.now texts.entry.at texts.entry.verbose result }
 {
     let key = user_key(alloc, texts.key)?;
     Ok(Line::Get {
         folder: texts.folder,
         key,
         at: texts.at,
+        verbose: texts.verbose,
     })
 }
 

@@ -3,9 +3,11 @@
 ghost use Rattle.std.specs.Prelude.{◌≡◌, IfOk, false};
 ghost use Rattle.clap.specs.Words.{app_of, rule_of};
 ghost use Rattle.clap.specs.declared.builder.command.Command.TheViews.{out-Command};
-ghost use Rattle.usage.specs.Line.{blocks_app, compact_app, get_app, number_rule, path_app, program_app, wanted, with_outputs};
+ghost use Rattle.clap.specs.Words.{new_app};
+ghost use Rattle.usage.specs.Flags.{flag_rule, verbose_rule};
+ghost use Rattle.usage.specs.Line.{blocks_app, compact_app, dump_app, folder_app, get_app, number_rule, program_app, wanted, with_levels, with_outputs, with_work};
 
-use clap::{Arg, Command, value_parser};
+use clap::{Arg, ArgAction, Command, value_parser};
 use std::alloc::{AllocError, Global};
 
 /// The version, and the kit that proved it.
@@ -31,9 +33,28 @@ const GET_AT_HELP: &str =
     "The sequence at which to read, in decimal digits, in place of the version's last one";
 
 const COMPACT_ABOUT: &str =
-    "Compacts the files of a level of a database folder into the next level, and installs the outcome";
+    "Compacts files of a database folder into the next level, and installs the outcome";
 
 const LEVEL_HELP: &str = "The level: 0 to 5";
+
+const ALL_HELP: &str =
+    "All levels: each that has files, from 0 down, again and again until all files are at the deepest one";
+
+const VERBOSE_HELP: &str =
+    "Tells on the standard error how long the work took, which file was refused and why, and of a log with writes";
+
+const BLOCKS_EXAMPLE: &str = "Example: sedvokt blocks A B --at 6b3130 OUT";
+
+const DUMP_EXAMPLE: &str = "Example: sedvokt dump db/000005.ldb";
+
+const MANIFEST_EXAMPLE: &str = "Example: sedvokt manifest db";
+
+const VERIFY_EXAMPLE: &str = "Example: sedvokt verify db -v";
+
+const GET_EXAMPLE: &str = "Example: sedvokt get db 6b3030303031 --at 1151";
+
+const COMPACT_EXAMPLE: &str = "Examples: sedvokt compact db --level 0
+          sedvokt compact db --all --snapshots 900,1151";
 
 const WORKERS_HELP: &str = "How many workers carry it out: 1 to 64; 4 where it is left out";
 
@@ -60,9 +81,9 @@ pub(crate) fn program_command<'a>(alloc: Global) -> Result<Command<'a>, AllocErr
     ensures { IfOk result (λ command. app_of command ≡ program_app) }
 {
     let blocks = blocks_command(alloc)?;
-    let dump = path_command(alloc, "dump", DUMP_ABOUT, "TABLE", "The file of the table")?;
-    let manifest = path_command(alloc, "manifest", MANIFEST_ABOUT, "DIR", "The folder")?;
-    let verify = path_command(alloc, "verify", VERIFY_ABOUT, "DIR", "The folder")?;
+    let dump = dump_command(alloc)?;
+    let manifest = folder_command(alloc, "manifest", MANIFEST_ABOUT, MANIFEST_EXAMPLE)?;
+    let verify = folder_command(alloc, "verify", VERIFY_ABOUT, VERIFY_EXAMPLE)?;
     let get = get_command(alloc)?;
     let compact = compact_command(alloc)?;
     let command = Command::new(alloc, "sedvokt")
@@ -91,12 +112,12 @@ fn blocks_command<'a>(alloc: Global) -> Result<Command<'a>, AllocError>
     let b = wanted(alloc, "B", "The second file, of the same form");
     let at = wanted(alloc, "at", AT_HELP).long("at").value_name("HEXKEY");
     let out = wanted(alloc, "OUT", "The file that gets the block of all entries");
-    let command = Command::new(alloc, "blocks").about(BLOCKS_ABOUT);
+    let command = named(alloc, "blocks", BLOCKS_ABOUT, BLOCKS_EXAMPLE);
     let command = command.arg(a)?.arg(b)?;
     command.arg(at)?.arg(out)
 }
 
-/// The command `get DIR HEXKEY [--at N]`.
+/// The command `get DIR HEXKEY [--at N] [-v]`.
 fn get_command<'a>(alloc: Global) -> Result<Command<'a>, AllocError>
     ensures app { IfOk result (λ command. app_of command ≡ get_app) }
     ensures local { IfOk result (λ command. (out-Command command).has_globals ≡ false) }
@@ -104,24 +125,41 @@ fn get_command<'a>(alloc: Global) -> Result<Command<'a>, AllocError>
     let folder = wanted(alloc, "DIR", "The folder");
     let key = wanted(alloc, "HEXKEY", GET_KEY_HELP);
     let at = number_option(alloc, "at", "N", GET_AT_HELP);
-    let command = Command::new(alloc, "get").about(GET_ABOUT);
-    command.arg(folder)?.arg(key)?.arg(at)
+    let command = named(alloc, "get", GET_ABOUT, GET_EXAMPLE);
+    let command = command.arg(folder)?.arg(key)?;
+    command.arg(at)?.arg(verbose(alloc))
 }
 
-/// A command of one argument, the path of what it reads.
-fn path_command<'a>(
+/// The command `dump TABLE`.
+fn dump_command<'a>(alloc: Global) -> Result<Command<'a>, AllocError>
+    ensures app { IfOk result (λ command. app_of command ≡ dump_app) }
+    ensures local { IfOk result (λ command. (out-Command command).has_globals ≡ false) }
+{
+    let table = wanted(alloc, "TABLE", "The file of the table");
+    named(alloc, "dump", DUMP_ABOUT, DUMP_EXAMPLE).arg(table)
+}
+
+/// A command on a folder alone.
+fn folder_command<'a>(
     alloc: Global,
     name: &'a str,
     about: &'a str,
-    id: &'a str,
-    help: &'a str,
+    example: &'a str,
 ) -> Result<Command<'a>, AllocError>
-    ensures app { IfOk result (λ command. app_of command ≡ path_app name.entry.now id.entry.now) }
+    ensures app { IfOk result (λ command. app_of command ≡ folder_app name.entry.now) }
     ensures local { IfOk result (λ command. (out-Command command).has_globals ≡ false) }
 {
-    Command::new(alloc, name)
-        .about(about)
-        .arg(wanted(alloc, id, help))
+    let folder = wanted(alloc, "DIR", "The folder");
+    let command = named(alloc, name, about, example).arg(folder)?;
+    command.arg(verbose(alloc))
+}
+
+/// A command of this name, which has no argument yet.
+fn named<'a>(alloc: Global, name: &'a str, about: &'a str, example: &'a str) -> Command<'a>
+    ensures app { app_of result ≡ new_app name.entry.now }
+    ensures local { (out-Command result).has_globals ≡ false }
+{
+    Command::new(alloc, name).about(about).after_help(example)
 }
 
 /// An argument that has to be given.
@@ -144,19 +182,57 @@ fn number_option<'a>(alloc: Global, id: &'a str, name: &'a str, help: &'a str) -
         .help(help)
 }
 
-/// The command `compact DIR --level N` with its options.
+/// The flag `-v`.
+fn verbose<'a>(alloc: Global) -> Arg<'a>
+    ensures rule { rule_of result ≡ verbose_rule }
+    ensures local { result.global ≡ false }
+{
+    flag(alloc, "verbose", VERBOSE_HELP).short('v')
+}
+
+/// A flag.
+fn flag<'a>(alloc: Global, id: &'a str, help: &'a str) -> Arg<'a>
+    ensures rule { rule_of result ≡ flag_rule id.entry.now }
+    ensures local { result.global ≡ false }
+{
+    Arg::new(alloc, id)
+        .long(id)
+        .action(ArgAction::SetTrue)
+        .help(help)
+}
+
+/// The command `compact DIR (--level N | --all)` with its options.
 fn compact_command<'a>(alloc: Global) -> Result<Command<'a>, AllocError>
     ensures app { IfOk result (λ command. app_of command ≡ compact_app) }
     ensures local { IfOk result (λ command. (out-Command command).has_globals ≡ false) }
 {
+    let command = named(alloc, "compact", COMPACT_ABOUT, COMPACT_EXAMPLE);
+    let command = with_levels(alloc, command)?;
+    let command = with_work(alloc, command)?;
+    with_outputs(alloc, command)
+}
+
+/// The command with the folder, and which levels of it are meant.
+fn with_levels<'a>(alloc: Global, command: Command<'a>) -> Result<Command<'a>, AllocError>
+    ensures app { IfOk result (λ made. app_of made ≡ with_levels (app_of command.entry)) }
+    ensures local { IfOk result (λ made. (out-Command made).has_globals ≡ (out-Command command.entry).has_globals) }
+{
     let folder = wanted(alloc, "DIR", "The folder");
-    let level = number_option(alloc, "level", "N", LEVEL_HELP).required(true);
+    let level = number_option(alloc, "level", "N", LEVEL_HELP);
+    let all = flag(alloc, "all", ALL_HELP);
+    let command = command.arg(folder)?;
+    command.arg(level)?.arg(all)
+}
+
+/// The command with the options on how the work is done, and on what is told of it.
+fn with_work<'a>(alloc: Global, command: Command<'a>) -> Result<Command<'a>, AllocError>
+    ensures app { IfOk result (λ made. app_of made ≡ with_work (app_of command.entry)) }
+    ensures local { IfOk result (λ made. (out-Command made).has_globals ≡ (out-Command command.entry).has_globals) }
+{
     let workers = number_option(alloc, "workers", "W", WORKERS_HELP);
     let ranges = number_option(alloc, "ranges", "R", RANGES_HELP);
-    let command = Command::new(alloc, "compact").about(COMPACT_ABOUT);
-    let command = command.arg(folder)?.arg(level)?;
     let command = command.arg(workers)?.arg(ranges)?;
-    with_outputs(alloc, command)
+    command.arg(verbose(alloc))
 }
 
 /// The command with the options on snapshots and on the outputs.

@@ -3,11 +3,11 @@
 ghost use Rattle.std.specs.Prelude.{◌≡◌, ◌≢◌, ◌⊎◌, None, MatchOption, codes};
 ghost use Rattle.std.specs.Option.{option_map};
 ghost use Rattle.clap.specs.Words.{first_of, found_of, rows_of, subcommand_rows_of};
-ghost use Rattle.usage.specs.CompactLine.{HasCompact, HasNumbers, HasReadable, LacksCompact, LacksNumbers, LacksReadable};
+ghost use Rattle.usage.specs.CompactLine.{HasCompact, HasLevels, HasNumbers, HasReadable, LacksCompact, LacksLevels, LacksNumbers, LacksReadable};
 ghost use Rattle.usage.specs.Line.{HasRows, LacksRows, rows_under};
-ghost use Rattle.usage.specs.Text.{IsNumberOf, LacksNumber};
 
-use crate::arguments::{first_number, first_text};
+use crate::arguments::{first_number, first_text, is_flagged};
+use crate::requests::Levels;
 use clap::ArgMatches;
 
 /// The numbers that options are given, each where it is given one.
@@ -61,40 +61,47 @@ impl<'a> ReadableTexts<'a> {
 #[derive(Clone, Copy)]
 pub(crate) struct CompactTexts<'a> {
     pub folder: &'a str,
-    pub level: u64,
+    pub levels: Levels,
     pub numbers: CompactNumbers,
     pub readable: ReadableTexts<'a>,
+    pub verbose: bool,
 }
 
 impl<'a> CompactTexts<'a> {
-    /// The texts and numbers, where DIR and a level are given, and no number is none.
+    /// The texts and numbers, where DIR and either a level or all levels are given, and no number is none.
     fn of(values: &ArgMatches<'a>) -> Option<CompactTexts<'a>>
         ensures { let rows = rows_of (found_of values.now) in
             MatchOption result (LacksCompact rows)
-            (λ texts. HasCompact texts.folder.now texts.level texts.numbers texts.readable.since (option_map (λ text. text.now) texts.readable.listed) rows) }
+            (λ texts. HasCompact texts.folder.now texts.levels texts.numbers texts.readable.since (option_map (λ text. text.now) texts.readable.listed) texts.verbose rows) }
     {
         Some(CompactTexts {
             folder: first_text(values, "DIR")?,
-            level: wanted_number(values, "level")?,
+            levels: levels_of(values)?,
             numbers: CompactNumbers::of(values)?,
             readable: ReadableTexts::of(values)?,
+            verbose: is_flagged(values, "verbose"),
         })
     }
 }
 
-/// The number that an option is given. None where it is given none.
-fn wanted_number(values: &ArgMatches<'_>, id: &str) -> Option<u64>
-    ensures { let text = first_of id.now (rows_of (found_of values.now)) in
-        MatchOption result (LacksNumber text) (λ number. IsNumberOf text (Some number)) }
+/// The levels that are named. None where the number is none, and where a level and all of them are given, or neither.
+fn levels_of(values: &ArgMatches<'_>) -> Option<Levels>
+    ensures { let rows = rows_of (found_of values.now) in
+        MatchOption result (LacksLevels rows) (λ levels. HasLevels levels rows) }
 {
-    first_number(values, id).ok()?
+    let level = first_number(values, "level").ok()?;
+    match (level, is_flagged(values, "all")) {
+        (Some(level), false) => Some(Levels::One(level)),
+        (None, true) => Some(Levels::All),
+        _ => None,
+    }
 }
 
 /// What `compact` is given, where that is the command and its texts are there.
 pub(crate) fn compact_texts<'a>(matches: &ArgMatches<'a>) -> Option<CompactTexts<'a>>
     ensures { let given = rows_under (codes "compact") (subcommand_rows_of matches.now) in
         MatchOption result (LacksRows LacksCompact given)
-        (λ texts. HasRows (HasCompact texts.folder.now texts.level texts.numbers texts.readable.since (option_map (λ text. text.now) texts.readable.listed)) given) }
+        (λ texts. HasRows (HasCompact texts.folder.now texts.levels texts.numbers texts.readable.since (option_map (λ text. text.now) texts.readable.listed) texts.verbose) given) }
 {
     CompactTexts::of(matches.subcommand_matches("compact")?)
 }

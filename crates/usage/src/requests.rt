@@ -31,11 +31,15 @@ pub enum Line<'a> {
     Manifest {
         /// The path of the folder.
         folder: &'a str,
+        /// Whether more is told on the standard error.
+        verbose: bool,
     },
     /// Tests whether the version that a database folder holds is lawful.
     Verify {
         /// The path of the folder.
         folder: &'a str,
+        /// Whether more is told on the standard error.
+        verbose: bool,
     },
     /// Prints the value of a user key at a sequence.
     Get {
@@ -45,16 +49,29 @@ pub enum Line<'a> {
         key: Vec<u8>,
         /// The sequence, of any size. The version's last sequence where it isn't given.
         at: Option<u64>,
+        /// Whether more is told on the standard error.
+        verbose: bool,
     },
-    /// Compacts the files of a level of a database folder into the next level.
+    /// Compacts the files of a level of a database folder into the next level, or those of all levels downwards.
     Compact {
         /// The path of the folder.
         folder: &'a str,
-        /// The level.
-        level: u64,
-        /// What the compaction keeps to.
+        /// Which levels.
+        levels: Levels,
+        /// What each compaction keeps to.
         settings: CompactSettings,
+        /// Whether more is told on the standard error.
+        verbose: bool,
     },
+}
+
+/// Which levels of a folder are compacted.
+#[derive(Clone, Copy, Debug)]
+pub enum Levels {
+    /// This one, once.
+    One(u64),
+    /// Each from 0 down, until all files are at the deepest level that holds any.
+    All,
 }
 
 /// What a compaction keeps to.

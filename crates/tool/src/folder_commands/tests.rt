@@ -1,3 +1,5 @@
+use crate::descent::{bottom, next_level};
+use crate::diagnosis::{log_with_writes, refused_file};
 use crate::tests::TWO_ENTRIES;
 use crate::*;
 use coding::{Fault, FaultName};
@@ -203,4 +205,61 @@ fn a_refused_growth_is_the_only_other_refusal(rt: HostRuntime) {
         Ok(lines) => assert_eq!(rt; lines.as_slice(), ONE_FILE_LINES),
         Err(fault) => assert_eq!(rt; fault.name, FaultName::Memory),
     }
+}
+
+/// The file of a folder that is refused, and by which name.
+fn refused<'x>(alloc: Global, files: &'x [(&'x str, &'x [u8])]) -> Result<String, Fail> {
+    match refused_file(alloc, &mut Shelf::new(alloc, files))? {
+        Some(file) => {
+            let (name, fault) = (file.name, file.fault);
+            Ok(format!(in alloc; "{name}: {fault}")?)
+        }
+        None => Ok(String::from_str(alloc, "none")?),
+    }
+}
+
+#[test]
+fn files_that_are_refused(rt: HostRuntime) -> Result<(), Fail> {
+    let alloc = rt.alloc();
+    let two = ("MANIFEST-000005", TWO_FILES);
+    let damaged = ("000007.ldb", b"damaged".as_slice());
+    let eight = ("000008.sst", ONE_ENTRY);
+    let (none, empty) = ([damaged], [CURRENT]);
+    let (half, whole) = ([CURRENT, two, damaged], [CURRENT, two, damaged, eight]);
+    let cases = [
+        (none.as_slice(), "CURRENT: Missing"),
+        (empty.as_slice(), "MANIFEST-000005: Missing"),
+        // A table that isn't there comes before one that is none.
+        (half.as_slice(), "000008.ldb: Missing"),
+        (whole.as_slice(), "000007.ldb: Short"),
+    ];
+    for (files, wanted) in cases {
+        assert_eq!(rt; refused(alloc, files)?.as_str(), wanted);
+    }
+    Ok(())
+}
+
+#[test]
+fn a_log_with_writes(rt: HostRuntime) -> Result<(), Fail> {
+    let alloc = rt.alloc();
+    let manifest = ("MANIFEST-000005", ONE_FILE);
+    for (bytes, has_writes) in [(b"x".as_slice(), true), (b"".as_slice(), false)] {
+        let files = [CURRENT, manifest, ("000003.log", bytes)];
+        let log = log_with_writes(alloc, &mut Shelf::new(alloc, &files))?;
+        assert_eq!(rt; log.is_some(), has_writes);
+    }
+    Ok(())
+}
+
+#[test]
+fn levels_that_go_down(rt: HostRuntime) -> Result<(), Fail> {
+    let alloc = rt.alloc();
+    // A file at level 1 alone, and one at level 0 too.
+    for (manifest, wanted) in [(ONE_FILE, None), (TWO_FILES, Some(0))] {
+        let files = [CURRENT, ("MANIFEST-000005", manifest)];
+        let (_, version) = open(alloc, &mut Shelf::new(alloc, &files))?;
+        assert_eq!(rt; bottom(alloc, &version)?, 1);
+        assert_eq!(rt; next_level(alloc, &version, 1)?, wanted);
+    }
+    Ok(())
 }

@@ -39,9 +39,23 @@ fn command_lines(rt: HostRuntime) -> Result<(), Fail> {
     let given = outcome(alloc, ["sedvokt", "dump", "one"].as_slice())?;
     assert_eq!(rt; given.as_str(), r#"Dump { table: "one" }"#);
     let given = outcome(alloc, ["sedvokt", "manifest", "one"].as_slice())?;
-    assert_eq!(rt; given.as_str(), r#"Manifest { folder: "one" }"#);
+    let wanted = r#"Manifest { folder: "one", verbose: false }"#;
+    assert_eq!(rt; given.as_str(), wanted);
     let given = outcome(alloc, ["sedvokt", "verify", "one"].as_slice())?;
-    assert_eq!(rt; given.as_str(), r#"Verify { folder: "one" }"#);
+    let wanted = r#"Verify { folder: "one", verbose: false }"#;
+    assert_eq!(rt; given.as_str(), wanted);
+    Ok(())
+}
+
+#[test]
+fn more_is_told(rt: HostRuntime) -> Result<(), Fail> {
+    let alloc = rt.alloc();
+    let words = ["sedvokt", "verify", "one", "-v"];
+    let given = outcome(alloc, words.as_slice())?;
+    let wanted = r#"Verify { folder: "one", verbose: true }"#;
+    assert_eq!(rt; given.as_str(), wanted);
+    let words = ["sedvokt", "dump", "one", "-v"];
+    assert_eq!(rt; outcome(alloc, words.as_slice())?.as_str(), "mistake");
     Ok(())
 }
 
@@ -49,12 +63,12 @@ fn command_lines(rt: HostRuntime) -> Result<(), Fail> {
 fn lines_of_get(rt: HostRuntime) -> Result<(), Fail> {
     let alloc = rt.alloc();
     let given = outcome(alloc, ["sedvokt", "get", "one", "75"].as_slice())?;
-    let wanted = r#"Get { folder: "one", key: [117], at: None }"#;
+    let wanted = r#"Get { folder: "one", key: [117], at: None, verbose: false }"#;
     assert_eq!(rt; given.as_str(), wanted);
     let given = outcome(alloc, ["sedvokt", "get", "one", "-"].as_slice())?;
     assert_eq!(rt;
         given.as_str(),
-        r#"Get { folder: "one", key: [], at: None }"#
+        r#"Get { folder: "one", key: [], at: None, verbose: false }"#
     );
     let numbers = [
         ("3", "Some(3)"),
@@ -67,7 +81,9 @@ fn lines_of_get(rt: HostRuntime) -> Result<(), Fail> {
             alloc,
             ["sedvokt", "get", "one", "-", "--at", text].as_slice(),
         )?;
-        let wanted = format!(in alloc; r#"Get {{ folder: "one", key: [], at: {at} }}"#)?;
+        let wanted = format!(in alloc;
+            r#"Get {{ folder: "one", key: [], at: {at}, verbose: false }}"#
+        )?;
         assert_eq!(rt; given.as_str(), wanted.as_str());
     }
     Ok(())
@@ -131,7 +147,7 @@ fn lines_of_compact(rt: HostRuntime) -> Result<(), Fail> {
         ["sedvokt", "compact", "one", "--level", "1"].as_slice(),
     )?;
     let wanted =
-        "Compact { folder: \"one\", level: 1, settings: CompactSettings { workers: 4, ranges: 8, readable: Listed([]), options: Options { block_size: 4096, restart_interval: 16, file_size: 2097152 } } }";
+        "Compact { folder: \"one\", levels: One(1), settings: CompactSettings { workers: 4, ranges: 8, readable: Listed([]), options: Options { block_size: 4096, restart_interval: 16, file_size: 2097152 } }, verbose: false }";
     assert_eq!(rt; given.as_str(), wanted);
     let words = [
         "sedvokt",
@@ -151,8 +167,21 @@ fn lines_of_compact(rt: HostRuntime) -> Result<(), Fail> {
     ];
     let given = outcome(alloc, words.as_slice())?;
     let wanted =
-        "Compact { folder: \"one\", level: 6, settings: CompactSettings { workers: 0, ranges: 4097, readable: From(3), options: Options { block_size: 7, restart_interval: 16, file_size: 18446744073709551615 } } }";
+        "Compact { folder: \"one\", levels: One(6), settings: CompactSettings { workers: 0, ranges: 4097, readable: From(3), options: Options { block_size: 7, restart_interval: 16, file_size: 18446744073709551615 } }, verbose: false }";
     assert_eq!(rt; given.as_str(), wanted);
+    Ok(())
+}
+
+#[test]
+fn all_levels(rt: HostRuntime) -> Result<(), Fail> {
+    let alloc = rt.alloc();
+    let words = ["sedvokt", "compact", "one", "--all", "-v"];
+    let given = outcome(alloc, words.as_slice())?;
+    let wanted =
+        "Compact { folder: \"one\", levels: All, settings: CompactSettings { workers: 4, ranges: 8, readable: Listed([]), options: Options { block_size: 4096, restart_interval: 16, file_size: 2097152 } }, verbose: true }";
+    assert_eq!(rt; given.as_str(), wanted);
+    let words = ["sedvokt", "compact", "one", "--all", "--level", "1"];
+    assert_eq!(rt; outcome(alloc, words.as_slice())?.as_str(), "mistake");
     Ok(())
 }
 
@@ -180,7 +209,7 @@ fn lists_of_snapshots(rt: HostRuntime) -> Result<(), Fail> {
     ];
     for (text, numbers) in lists {
         let wanted = format!(in alloc;
-            "Compact {{ folder: \"one\", level: 1, settings: CompactSettings {{ workers: 4, ranges: 8, readable: Listed({numbers}), options: Options {{ block_size: 4096, restart_interval: 16, file_size: 2097152 }} }} }}"
+            "Compact {{ folder: \"one\", levels: One(1), settings: CompactSettings {{ workers: 4, ranges: 8, readable: Listed({numbers}), options: Options {{ block_size: 4096, restart_interval: 16, file_size: 2097152 }} }}, verbose: false }}"
         )?;
         assert_eq!(rt; listed(alloc, text)?.as_str(), wanted.as_str());
     }

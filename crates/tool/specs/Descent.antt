@@ -1,0 +1,23 @@
+-- Which levels a compaction of all levels moves down.
+use Rattle.std.specs.Prelude.{◌≡◌, ◌⊎◌, ◌<◌, ◌≤◌, ℕ, length, Option, Some, None}
+use Rattle.ikey.specs.Bytewise.{bytewise_cmp}
+use Rattle.edit.specs.Version.{State}
+use Rattle.edit.specs.VersionOrder.{level_files}
+
+-- how many files a level has, whatever their order is
+abbrev pub file_count : State → ℕ → ℕ
+file_count v level = length (level_files bytewise_cmp v level)
+
+-- a level has no file
+abbrev pub IsEmptyLevel : State → ℕ → Type 0
+IsEmptyLevel v level = file_count v level ≡ 0
+
+-- the deepest level that has a file, but level 1 at least
+abbrev pub IsBottom : State → ℕ → Type 0
+IsBottom v bottom = (1 ≤ bottom) × (bottom ≤ 6) × ((bottom ≡ 1) ⊎ (IsEmptyLevel v bottom → ⊥))
+    × ((level : ℕ) → bottom < level → level ≤ 6 → IsEmptyLevel v level)
+
+-- the first level above the bottom that has a file, if there is one
+abbrev pub IsNextLevel : State → ℕ → Option ℕ → Type 0
+IsNextLevel v bottom None = (level : ℕ) → level < bottom → IsEmptyLevel v level
+IsNextLevel v bottom (Some next) = (next < bottom) × (IsEmptyLevel v next → ⊥) × ((level : ℕ) → level < next → IsEmptyLevel v level)

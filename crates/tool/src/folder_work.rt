@@ -1,0 +1,138 @@
+//! The work on a folder, from its path to what is printed.
+
+use crate::descent::{bottom, next_level};
+use crate::files;
+use crate::folder_commands::{get_dir, manifest, verify};
+use crate::telling::Telling;
+use coding::Fault;
+use edit::Version;
+use folder::{Disk, open};
+use keep::Snapshots;
+use std::io;
+use std::io::Write;
+use std::rt::Files;
+use std::thread::Threads;
+use std::time::Clock;
+use store::{Settings, compact_dir};
+use usage::{CompactSettings, Levels, Readable};
+
+/// Prints the version of a folder.
+pub(crate) fn print_version<R: Files + Print + Eprint + Clock + AllocGlobal>(
+    rt: &R,
+    telling: Telling<'_>,
+) -> Result<(), Fault> {
+    telling.tell_log(rt);
+    let begun = telling.begin(rt);
+    let answer = manifest(rt.alloc(), &mut Disk::new(rt, telling.folder));
+    telling.end(rt, "manifest", begun, &answer);
+    print_lines(rt, answer?.as_slice())
+}
+
+/// Tests the version of a folder, and prints what it is.
+pub(crate) fn print_verdict<R: Files + Print + Eprint + Clock + AllocGlobal + Threads + Sync>(
+    rt: &R,
+    telling: Telling<'_>,
+) -> Result<(), Fault> {
+    telling.tell_log(rt);
+    let begun = telling.begin(rt);
+    let answer = verify(rt, rt.alloc(), &mut Disk::new(rt, telling.folder));
+    telling.end(rt, "verify", begun, &answer);
+    print_lines(rt, answer?.as_slice())
+}
+
+/// Prints the value of a key in a folder.
+pub(crate) fn print_value<R: Files + Print + Eprint + Clock + AllocGlobal + Threads + Sync>(
+    rt: &R,
+    telling: Telling<'_>,
+    key: &[u8],
+    at: Option<u64>,
+) -> Result<(), Fault> {
+    telling.tell_log(rt);
+    let begun = telling.begin(rt);
+    let mut folder = Disk::new(rt, telling.folder);
+    let answer = get_dir(rt, rt.alloc(), &mut folder, key, at);
+    telling.end(rt, "get", begun, &answer);
+    print_lines(rt, answer?.as_slice())
+}
+
+/// Compacts a level of a folder, or all of them one by one.
+pub(crate) fn compact_folder<R: Files + Print + Eprint + Clock + AllocGlobal + Threads + Sync>(
+    rt: &R,
+    telling: Telling<'_>,
+    levels: Levels,
+    settings: &CompactSettings,
+) -> Result<(), Fault> {
+    telling.tell_log(rt);
+    match levels {
+        Levels::One(level) => compact_level(rt, telling, level, settings),
+        Levels::All => compact_all(rt, telling, settings),
+    }
+}
+
+/// Compacts the first level that has a file, again and again, until all files are at the bottom.
+fn compact_all<R: Files + Print + Eprint + Clock + AllocGlobal + Threads + Sync>(
+    rt: &R,
+    telling: Telling<'_>,
+    settings: &CompactSettings,
+) -> Result<(), Fault> {
+    let alloc = rt.alloc();
+    let version = opened(rt, telling)?;
+    let bottom = bottom(alloc, &version)?;
+    for _ in 0..u64::MAX {
+        let version = opened(rt, telling)?;
+        let Some(level) = next_level(alloc, &version, bottom)? else {
+            break;
+        };
+        compact_level(rt, telling, level, settings)?;
+    }
+    Ok(())
+}
+
+/// The version of a folder.
+fn opened<R: Files + Eprint + Clock + AllocGlobal>(
+    rt: &R,
+    telling: Telling<'_>,
+) -> Result<Version, Fault> {
+    let answer = open(rt.alloc(), &mut Disk::new(rt, telling.folder));
+    if answer.is_err() {
+        telling.end(rt, "open", None, &answer);
+    }
+    let (_, version) = answer?;
+    Ok(version)
+}
+
+/// Compacts a level of a folder, and prints what was made.
+fn compact_level<R: Files + Print + Eprint + Clock + AllocGlobal + Threads + Sync>(
+    rt: &R,
+    telling: Telling<'_>,
+    level: u64,
+    settings: &CompactSettings,
+) -> Result<(), Fault> {
+    let alloc = rt.alloc();
+    let step = format!(in alloc; "compact --level {level}")?;
+    let begun = telling.begin(rt);
+    let mut folder = Disk::new(rt, telling.folder);
+    let answer = compact_dir(rt, alloc, &mut folder, level, &kept_to(settings));
+    telling.end(rt, step.as_str(), begun, &answer);
+    print_lines(rt, answer?.as_slice())
+}
+
+/// What a compaction keeps to, as its command line says.
+fn kept_to(settings: &CompactSettings) -> Settings<'_> {
+    Settings {
+        workers: settings.workers,
+        ranges: settings.ranges,
+        snapshots: match &settings.readable {
+            Readable::From(sequence) => Snapshots::From(*sequence),
+            Readable::Listed(sequences) => Snapshots::Listed(sequences.as_slice()),
+        },
+        options: settings.options,
+    }
+}
+
+/// Writes lines to the standard output.
+pub(crate) fn print_lines<R: Print>(rt: &R, lines: &[u8]) -> Result<(), Fault> {
+    io::writer(rt)
+        .write_all(lines)
+        .map_err(|error| files::failed(&error))
+}

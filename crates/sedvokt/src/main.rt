@@ -1,8 +1,9 @@
 //! The program `sedvokt`.
 #![tactic(auto)]
 
+use std::io::IsTerminal;
 use std::process::ExitCode;
 
 fn main(rt: HostRuntime) -> ExitCode {
-    ExitCode::from(tool::run(&rt))
+    ExitCode::from(tool::run(&rt, rt.stderr().is_terminal()))
 }

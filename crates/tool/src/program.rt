@@ -24,8 +24,12 @@ const USAGE: u8 = 2;
 /// Does what the words of the process ask for, and answers the status: 0 done, 1 refused, 2 usage, 3 device.
 ///
 /// Results, and help and a version that were asked for, go to the standard output, all else to the standard error. That
-/// nothing can be written to the standard error changes no status.
-pub fn run<R: Env + Files + Print + Eprint + Clock + AllocGlobal + Threads + Sync>(rt: &R) -> u8 {
+/// nothing can be written to the standard error changes no status. Where that is watched, as a terminal is, the work on a
+/// folder is told there as `-v` has it.
+pub fn run<R: Env + Files + Print + Eprint + Clock + AllocGlobal + Threads + Sync>(
+    rt: &R,
+    is_watched: bool,
+) -> u8 {
     let words = match words_given(rt) {
         Ok(words) => words,
         Err(error) if error.kind() == ErrorKind::InvalidData => {
@@ -34,7 +38,7 @@ pub fn run<R: Env + Files + Print + Eprint + Clock + AllocGlobal + Threads + Syn
         Err(error) => return report_refusal(rt, &files::failed(&error)),
     };
     match line(rt.alloc(), words.as_slice()) {
-        Ok(line) => match carry_out(rt, line) {
+        Ok(line) => match carry_out(rt, line, is_watched) {
             Ok(()) => DONE,
             Err(fault) => report_refusal(rt, &fault),
         },
@@ -52,6 +56,7 @@ fn words_given<R: Env + AllocGlobal>(rt: &R) -> io::Result<Vec<String>> {
 fn carry_out<R: Files + Print + Eprint + Clock + AllocGlobal + Threads + Sync>(
     rt: &R,
     line: Line<'_>,
+    is_watched: bool,
 ) -> Result<(), Fault> {
     match line {
         Line::Blocks { a, b, at, out } => merge(rt, a, b, at.as_slice(), out),
@@ -60,29 +65,42 @@ fn carry_out<R: Files + Print + Eprint + Clock + AllocGlobal + Threads + Sync>(
             let lines = dump(rt.alloc(), bytes.as_slice())?;
             print_lines(rt, lines.as_slice())
         }
-        Line::Manifest { folder, verbose } => print_version(rt, telling(folder, verbose)),
-        Line::Verify { folder, verbose } => print_verdict(rt, telling(folder, verbose)),
+        Line::Manifest { folder, verbose } => print_version(
+            rt,
+            telling(folder, verbose || is_watched),
+        ),
+        Line::Verify { folder, verbose } => print_verdict(
+            rt,
+            telling(folder, verbose || is_watched),
+        ),
         Line::Compact {
             folder,
             levels,
             settings,
             verbose,
-        } => compact_folder(rt, telling(folder, verbose), levels, &settings),
+        } => compact_folder(
+            rt,
+            telling(folder, verbose || is_watched),
+            levels,
+            &settings,
+        ),
         Line::Get {
             folder,
             key,
             at,
             verbose,
-        } => print_value(rt, telling(folder, verbose), key.as_slice(), at),
+        } => print_value(
+            rt,
+            telling(folder, verbose || is_watched),
+            key.as_slice(),
+            at,
+        ),
     }
 }
 
 /// What is told of the work on a folder.
-fn telling(folder: &str, verbose: bool) -> Telling<'_> {
-    Telling {
-        folder,
-        is_on: verbose,
-    }
+fn telling(folder: &str, is_on: bool) -> Telling<'_> {
+    Telling { folder, is_on }
 }
 
 /// Merges the blocks in two files into one.

@@ -57,6 +57,16 @@ fn left(
 }
 
 #[test]
+fn index_keys_in_one_buffer(rt: HostRuntime) -> Result<(), Fail> {
+    let bytes = written(&rt, b"abcde", 1)?;
+    let keys = check::<Bytewise>(rt.alloc(), &bytes)?.index_keys(rt.alloc())?;
+    assert!(rt; !keys.is_empty());
+    assert_eq!(rt; keys.len(), 5);
+    assert_eq!(rt; keys.get(4), b"e".as_slice());
+    Ok(())
+}
+
+#[test]
 fn a_seek_passes_over_blocks(rt: HostRuntime) -> Result<(), Fail> {
     let bytes = written(&rt, b"abcde", 1)?;
     let table = check::<Bytewise>(rt.alloc(), &bytes)?;

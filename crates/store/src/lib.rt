@@ -15,4 +15,6 @@ pub use laws::{answer_is_installed, inputs_are_tables, request_is_over, sync_sta
 pub use settings::Settings;
 
 #[cfg(test)]
+mod output_tests;
+#[cfg(test)]
 mod tests;

@@ -199,13 +199,33 @@ fn two(rt: &(impl Abort + AllocGlobal)) -> Result<Vec<Vec<u8>>, Fail> {
     Ok(tables)
 }
 
+/// The split at these user keys of one byte.
+fn split_at(alloc: Global, users: &[u8]) -> Result<Split<Bytewise>, Fail> {
+    let mut boundaries = Vec::new(alloc);
+    for user in users {
+        boundaries.push(Vec::from_slice(alloc, &[*user])?)?;
+    }
+    Ok(Split::<Bytewise>::from_keys(boundaries)?)
+}
+
+/// Asserts that a run keeps these sequences, with this mark alone at the first of them.
+fn is_run(
+    rt: &(impl Abort + AllocGlobal),
+    run: &RangeRun<'_>,
+    kept: &[u64],
+    below: usize,
+) -> Result<(), Fail> {
+    assert_eq!(rt; sequences(rt.alloc(), run)?.as_slice(), kept);
+    assert_eq!(rt; run.marks(), [Mark { below, kept: 0 }].as_slice());
+    assert!(rt; run.len() > 0);
+    assert_eq!(rt; run.value(0), b"x".as_slice());
+    Ok(())
+}
+
 #[test]
 fn three_ranges_of_the_same_cursors(rt: HostRuntime) -> Result<(), Fail> {
     let tables = two(&rt)?;
-    let mut boundaries = Vec::new(rt.alloc());
-    boundaries.push(Vec::from_slice(rt.alloc(), b"u")?)?;
-    boundaries.push(Vec::from_slice(rt.alloc(), b"z")?)?;
-    let split = Split::<Bytewise>::from_keys(boundaries)?;
+    let split = split_at(rt.alloc(), b"uz")?;
     let inputs = inputs(rt.alloc(), Some(b'm'), None)?;
     let mut cursors = cursors(rt.alloc(), &tables)?;
     let rows = [
@@ -217,10 +237,7 @@ fn three_ranges_of_the_same_cursors(rt: HostRuntime) -> Result<(), Fail> {
         assert!(rt; number < split.len());
         let range = split.range(number);
         let run = merged(&rt, &mut cursors, range, Snapshots::From(1), 9, &inputs)?;
-        assert_eq!(rt; sequences(rt.alloc(), &run)?.as_slice(), kept);
-        assert_eq!(rt; run.marks(), [Mark { below, kept: 0 }].as_slice());
-        assert!(rt; run.len() > 0);
-        assert_eq!(rt; run.value(0), b"x".as_slice());
+        is_run(&rt, &run, kept, below)?;
     }
     Ok(())
 }

@@ -19,4 +19,6 @@ pub use inputs::check_inputs;
 pub use ranges::{add_cursor, merge_ranges};
 
 #[cfg(test)]
+mod cases;
+#[cfg(test)]
 mod tests;

@@ -90,23 +90,48 @@ pub(crate) fn tables_of(
     load::<Bytewise, Shelf<'_>>(alloc, folder, version)
 }
 
+/// The next file, the log number and the last sequence of a version.
+fn numbers_of(version: &Version) -> [Option<u64>; 3] {
+    [
+        version.next_file(),
+        version.log_number(),
+        version.last_sequence(),
+    ]
+}
+
+/// Whether level 1 or level 2 of a version has a file.
+fn has_files(alloc: Global, version: &Version) -> Result<bool, Fault> {
+    let upper = version.files::<Bytewise>(alloc, 1)?;
+    let lower = version.files::<Bytewise>(alloc, 2)?;
+    Ok(!upper.is_empty() || !lower.is_empty())
+}
+
+/// Whether the compact pointer of level 1 is the put of u at 2.
+fn is_pointed_behind(version: &Version) -> bool {
+    let pointer = version.pointer(1).map(|key| key.as_key().bytes());
+    pointer == Some(b"u\x01\x02\0\0\0\0\0\0".as_slice())
+}
+
+/// Whether a version is the edited one: no file is left.
+fn is_edited(alloc: Global, version: &Version) -> Result<bool, Fault> {
+    let has_files = has_files(alloc, version)?;
+    let numbers = numbers_of(version);
+    Ok(!has_files && numbers == [Some(10), Some(3), Some(4)] && is_pointed_behind(version))
+}
+
+/// Whether the version of a folder is the edited one, without tables.
+fn holds_edited(alloc: Global, folder: &mut Shelf<'_>) -> Result<bool, Fault> {
+    let version = version_of(alloc, folder)?;
+    let has_tables = !tables_of(alloc, folder, &version)?.is_empty();
+    Ok(!has_tables && is_edited(alloc, &version)?)
+}
+
 #[test]
 fn a_level_is_compacted(rt: HostRuntime) -> Result<(), Fail> {
-    let alloc = rt.alloc();
-    let mut folder = Shelf::new(alloc, &FILES);
-    let settings = Settings::default();
-    let answer = compact_dir(&rt, alloc, &mut folder, 1, &settings);
-    let lines = printed(alloc, answer)?;
-    assert_eq!(rt; lines.as_str(), LINES);
-    let (_order, version) = open(alloc, &mut folder)?;
-    assert_eq!(rt; version.next_file(), Some(10));
-    assert_eq!(rt; version.log_number(), Some(3));
-    assert_eq!(rt; version.last_sequence(), Some(4));
-    assert!(rt; version.files::<Bytewise>(alloc, 1)?.is_empty());
-    assert!(rt; version.files::<Bytewise>(alloc, 2)?.is_empty());
-    let pointer = version.pointer(1).map(|key| key.as_key().bytes());
-    assert_eq!(rt; pointer, Some(b"u\x01\x02\0\0\0\0\0\0".as_slice()));
-    assert!(rt; load::<Bytewise, Shelf<'_>>(alloc, &mut folder, &version)?.is_empty());
+    let mut folder = Shelf::new(rt.alloc(), &FILES);
+    let told = told_in(&rt, &mut folder, 1, &Settings::default())?;
+    assert_eq!(rt; told.as_str(), LINES);
+    assert!(rt; holds_edited(rt.alloc(), &mut folder)?);
     Ok(())
 }
 

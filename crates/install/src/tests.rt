@@ -514,19 +514,6 @@ fn a_crash_behind_a_failed_call(rt: HostRuntime) -> Result<(), Fail> {
     Ok(())
 }
 
-/// The first such call of the installation of three outputs, in one of the ways. The others leave the same calls.
-fn wrong_behind_three(alloc: Global) -> Result<Option<u64>, Fault> {
-    let case = make_case(alloc)?;
-    let [_, _, three] = case.rows();
-    wrong_left(alloc, &case, three, &FAILURES[..1])
-}
-
-#[test]
-fn a_crash_behind_a_failed_call_of_thirteen(rt: HostRuntime) -> Result<(), Fail> {
-    assert_eq!(rt; wrong_behind_three(rt.alloc())?, None);
-    Ok(())
-}
-
 /// The version of a folder after a failure, its names written through first.
 fn version_again(alloc: Global, shelf: &mut Shelf<'_>) -> Result<Version, Fault> {
     shelf.sync_folder()?;

@@ -1,13 +1,16 @@
 use super::*;
+use crate::falling::entries_fall;
 use board::Open;
 use coding::{Fault, FaultName};
 use edit::{Version, VersionEdit};
 use ikey::Bytewise;
 use reads::NumberedTable;
+use split::Split;
 use std::alloc::Global;
 use std::process::Abort;
 use std::test::Fail;
 use std::thread::Threads;
+use table::{SoundTable, check};
 
 /// The table of an empty value of `a` at sequence 3.
 const ONE_ENTRY: &[u8] =
@@ -124,6 +127,74 @@ fn tables_of_a_version(rt: HostRuntime) -> Result<(), Fail> {
     // A damaged table comes before a version that isn't lawful.
     let short = lawful(&rt, LONGER_FILE, &[seven, (8, b"damaged")])?;
     assert_eq!(rt; short.as_str(), "refused: Short");
+    Ok(())
+}
+
+/// The split at these user keys of one byte.
+fn split_at(alloc: Global, users: &[u8]) -> Result<Split<Bytewise>, Fail> {
+    let mut keys = Vec::new(alloc);
+    for user in users {
+        keys.push(Vec::from_slice(alloc, &[*user])?)?;
+    }
+    Ok(Split::from_keys(keys)?)
+}
+
+/// The tables of these bytes.
+fn sound<'t>(alloc: Global, tables: &[&'t [u8]]) -> Result<Vec<SoundTable<'t, Bytewise>>, Fail> {
+    let mut sound = Vec::new(alloc);
+    for bytes in tables {
+        sound.push(check::<Bytewise>(alloc, bytes)?)?;
+    }
+    Ok(sound)
+}
+
+/// Whether so many workers tell that the entries of tables which stand one before the other fall, a range of a split a job.
+fn fall(
+    rt: &(impl Threads + Sync + Abort + AllocGlobal),
+    tables: &[&[u8]],
+    users: &[u8],
+    workers: u64,
+) -> Result<bool, Fail> {
+    assert!(rt; workers > 0 && workers <= 64);
+    let alloc = rt.alloc();
+    let split = split_at(alloc, users)?;
+    let sound = sound(alloc, tables)?;
+    let mut standing = Vec::new(alloc);
+    for table in &sound {
+        standing.push(table)?;
+    }
+    Ok(entries_fall(rt, alloc, &standing, &split, workers, &Open)?)
+}
+
+/// Tables, and whether their entries fall. The last two have the entries of a user key twice: in the first range of several, and in
+/// the last.
+const FALLING: [(&[&[u8]], bool); 5] = [
+    (&[], true),
+    (&[ONE_ENTRY, &TWO_ENTRIES], true),
+    (&[&TWO_ENTRIES, ONE_ENTRY], true),
+    (&[ONE_ENTRY, &TWO_ENTRIES, ONE_ENTRY], false),
+    (&[&TWO_ENTRIES, ONE_ENTRY, &TWO_ENTRIES], false),
+];
+
+/// Asserts the same of tables over splits into 1, 2 and 5 ranges, by 1, 4 and 64 workers.
+fn all_fall(
+    rt: &(impl Threads + Sync + Abort + AllocGlobal),
+    tables: &[&[u8]],
+    falls: bool,
+) -> Result<(), Fail> {
+    for users in [b"".as_slice(), b"m", b"u", b"amuz"] {
+        for workers in [1, 4, 64] {
+            assert_eq!(rt; fall(rt, tables, users, workers)?, falls);
+        }
+    }
+    Ok(())
+}
+
+#[test]
+fn entries_fall_in_each_range(rt: HostRuntime) -> Result<(), Fail> {
+    for (tables, falls) in FALLING {
+        all_fall(&rt, tables, falls)?;
+    }
     Ok(())
 }
 

@@ -17,8 +17,3 @@ mod writing;
 pub use compaction::{compact, compact_tables};
 pub use inputs::check_inputs;
 pub use ranges::{add_cursor, merge_ranges};
-
-#[cfg(test)]
-mod cases;
-#[cfg(test)]
-mod tests;

@@ -24,6 +24,3 @@ pub use laws::{lengths_law, outputs_law, pieces_law, ranges_cut, stops_law, whol
 pub use output_meta::OutputMeta;
 pub use planning::{MAX_BLOCKS, plan};
 pub use whole_plan::Plan;
-
-#[cfg(test)]
-mod tests;

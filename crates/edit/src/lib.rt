@@ -25,6 +25,3 @@ pub use meta::{CompactPointer, DeletedFile, FileMeta, NewFile};
 pub use outcome::Outcome;
 pub use version::Version;
 pub use version_edit::VersionEdit;
-
-#[cfg(test)]
-mod tests;

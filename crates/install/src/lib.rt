@@ -7,8 +7,3 @@ mod manifest;
 mod writing;
 
 pub use installation::install;
-
-#[cfg(test)]
-mod crashes;
-#[cfg(test)]
-mod tests;

@@ -28,6 +28,3 @@ pub use merging_range::merge_range;
 pub use range_run::RangeRun;
 pub use seeking::seek_range;
 pub use snapshots::Snapshots;
-
-#[cfg(test)]
-mod tests;

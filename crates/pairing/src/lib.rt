@@ -13,6 +13,3 @@ mod two_blocks;
 mod two_ranges;
 
 pub use two_blocks::blocks;
-
-#[cfg(test)]
-mod tests;

@@ -17,6 +17,3 @@ mod taken;
 pub use laws::one_choice;
 pub use picked::{InputFile, Inputs, is_base};
 pub use picking::inputs;
-
-#[cfg(test)]
-mod tests;

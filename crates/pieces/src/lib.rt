@@ -14,6 +14,3 @@ mod writing;
 pub use assembling::assemble_table;
 pub use encoding::encode_blocks;
 pub use planned_block::PlannedBlock;
-
-#[cfg(test)]
-mod tests;

@@ -19,6 +19,3 @@ pub use lawfulness::{lawful, standing_tables};
 pub use laws::answers_newest_first;
 pub use numbered_table::NumberedTable;
 pub use walking::falls_in;
-
-#[cfg(test)]
-mod tests;

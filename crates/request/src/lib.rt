@@ -13,6 +13,3 @@ mod testing;
 pub use laws::passed_law;
 pub use request::Request;
 pub use testing::{MAX_INPUTS, MAX_SNAPSHOTS};
-
-#[cfg(test)]
-mod tests;

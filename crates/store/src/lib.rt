@@ -13,8 +13,3 @@ mod taking;
 pub use folder_compaction::compact_dir;
 pub use laws::{answer_is_installed, inputs_are_tables, request_is_over, sync_stands};
 pub use settings::Settings;
-
-#[cfg(test)]
-mod output_tests;
-#[cfg(test)]
-mod tests;

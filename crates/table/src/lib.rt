@@ -23,10 +23,3 @@ pub use laws::{data_blocks_law, table_reads_back};
 pub use options::Options;
 pub use sound_table::SoundTable;
 pub use table_cursor::TableCursor;
-
-#[cfg(test)]
-mod reading_tests;
-#[cfg(test)]
-mod tests;
-#[cfg(test)]
-mod walking_tests;

@@ -1,0 +1,5 @@
+//! The tests of `cut`: the outputs of a plan, their lengths and their bytes.
+#![tactic(auto)]
+
+#[cfg(test)]
+mod tests;

@@ -1,0 +1,5 @@
+//! The tests of `edit`.
+#![tactic(auto)]
+
+#[cfg(test)]
+mod tests;

@@ -1,0 +1,5 @@
+//! The tests of `pick`.
+#![tactic(auto)]
+
+#[cfg(test)]
+mod tests;

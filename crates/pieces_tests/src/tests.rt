@@ -1,0 +1,205 @@
+ghost use Rattle.std.specs.Prelude.{◌≡◌, ◌≤◌, [], length, IfOk};
+ghost use Rattle.block.specs.Building.{last_key};
+ghost use Rattle.block.specs.Writing.{block};
+ghost use Rattle.pieces.specs.Planned.{IsPlanned};
+
+use block::BlockBuilder;
+use edit::CompactPointer;
+use ikey::{Bytewise, KeyBuf, Kind};
+use keep::{RangeRun, is_rising, largest_rise, merge_range};
+use pick::Inputs;
+use pieces::{PlannedBlock, assemble_table, encode_blocks};
+use runs::{RunsCursor, RunsSlice};
+use split::Split;
+use std::process::Abort;
+use std::test::*;
+use table::{Options, TableBuilder, TableCursor, check};
+
+/// The table of a value `x` of `a` at sequence 1, of which the first 26 bytes are its data block.
+const ONE_BLOCK: [u8; 26] = [
+    0x00, 0x09, 0x01, 0x61, 0x01, 0x01, 0x00, 0x00, 0x00, 0x00, 0x00, 0x00, 0x78, 0x00, 0x00, 0x00,
+    0x00, 0x01, 0x00, 0x00, 0x00, 0x00, 0x84, 0xdd, 0x88, 0x74,
+];
+
+/// The table of a value `x` of `abcz` at sequence 9 and a value `y` of `abfa` at 8, in a block each.
+const TWO_BLOCKS: [u8; 166] = [
+    0x00, 0x0c, 0x01, 0x61, 0x62, 0x63, 0x7a, 0x01, 0x09, 0x00, 0x00, 0x00, 0x00, 0x00, 0x00, 0x78,
+    0x00, 0x00, 0x00, 0x00, 0x01, 0x00, 0x00, 0x00, 0x00, 0xaf, 0x09, 0xa4, 0xac, 0x00, 0x0c, 0x01,
+    0x61, 0x62, 0x66, 0x61, 0x01, 0x08, 0x00, 0x00, 0x00, 0x00, 0x00, 0x00, 0x79, 0x00, 0x00, 0x00,
+    0x00, 0x01, 0x00, 0x00, 0x00, 0x00, 0x79, 0x97, 0xbd, 0xa3, 0x00, 0x00, 0x00, 0x00, 0x01, 0x00,
+    0x00, 0x00, 0x00, 0xc0, 0xf2, 0xa1, 0xb0, 0x00, 0x0b, 0x02, 0x61, 0x62, 0x64, 0x01, 0xff, 0xff,
+    0xff, 0xff, 0xff, 0xff, 0xff, 0x00, 0x18, 0x00, 0x09, 0x02, 0x62, 0x01, 0xff, 0xff, 0xff, 0xff,
+    0xff, 0xff, 0xff, 0x1d, 0x18, 0x00, 0x00, 0x00, 0x00, 0x10, 0x00, 0x00, 0x00, 0x02, 0x00, 0x00,
+    0x00, 0x00, 0x7f, 0x36, 0x4a, 0x34, 0x3a, 0x08, 0x47, 0x2a, 0x00, 0x00, 0x00, 0x00, 0x00, 0x00,
+    0x00, 0x00, 0x00, 0x00, 0x00, 0x00, 0x00, 0x00, 0x00, 0x00, 0x00, 0x00, 0x00, 0x00, 0x00, 0x00,
+    0x00, 0x00, 0x00, 0x00, 0x00, 0x00, 0x00, 0x00, 0x00, 0x00, 0x00, 0x00, 0x00, 0x00, 0x57, 0xfb,
+    0x80, 0x8b, 0x24, 0x75, 0x47, 0xdb,
+];
+
+/// A value of a user key.
+#[derive(Clone, Copy)]
+struct Row<'a> {
+    user: &'a [u8],
+    sequence: u8,
+    value: &'a [u8],
+}
+
+/// One value.
+const ONE: [Row<'static>; 1] = [Row {
+    user: b"a",
+    sequence: 1,
+    value: b"x",
+}];
+
+/// Two values, of which each comes to a data block and a range of its own.
+const TWO: [Row<'static>; 2] = [
+    Row {
+        user: b"abcz",
+        sequence: 9,
+        value: b"x",
+    },
+    Row {
+        user: b"abfa",
+        sequence: 8,
+        value: b"y",
+    },
+];
+
+/// The internal key of a value.
+fn key_of(rt: &(impl Abort + AllocGlobal), row: Row<'_>) -> Result<KeyBuf, Fail> {
+    assert!(rt; row.user.len() <= 4);
+    let sequence = u64::from(row.sequence);
+    Ok(KeyBuf::new(rt.alloc(), row.user, sequence, Kind::Put)?)
+}
+
+/// The table of these values.
+fn written(rt: &(impl Abort + AllocGlobal), rows: &[Row<'_>]) -> Result<Vec<u8>, Fail> {
+    let options = Options::default();
+    assert!(rt; options.are_in_limits());
+    let mut table = TableBuilder::<Bytewise>::new(rt.alloc(), options);
+    for row in rows {
+        let key = key_of(rt, *row)?;
+        assert!(rt; table.is_above_last(&key.as_key()) && row.value.len() <= 1);
+        table.add(key.as_key(), row.value)?;
+    }
+    Ok(table.finish()?)
+}
+
+/// Inputs that tell of no file below.
+fn inputs(rt: &(impl Abort + AllocGlobal)) -> Result<Inputs, Fail> {
+    Ok(Inputs {
+        level: 1,
+        files: Vec::new(rt.alloc()),
+        grandparents: Vec::new(rt.alloc()),
+        deeper: Vec::new(rt.alloc()),
+        pointer: CompactPointer {
+            level: 1,
+            key: key_of(rt, TWO[0])?,
+        },
+    })
+}
+
+/// The runs of the ranges to abd and from there on.
+fn runs<'a>(rt: &(impl Abort + AllocGlobal), bytes: &'a [u8]) -> Result<Vec<RangeRun<'a>>, Fail> {
+    let table = check::<Bytewise>(rt.alloc(), bytes)?;
+    let mut cursors = Vec::new(rt.alloc());
+    cursors.push(TableCursor::new(rt.alloc(), &table)?)?;
+    let mut boundaries = Vec::new(rt.alloc());
+    boundaries.push(Vec::from_slice(rt.alloc(), b"abd")?)?;
+    let split = Split::<Bytewise>::from_keys(boundaries)?;
+    let inputs = inputs(rt)?;
+    assert!(rt; is_rising(&[]) && largest_rise::<Bytewise>(&inputs.grandparents));
+    let mut runs = Vec::new(rt.alloc());
+    for number in 0..split.len() {
+        let range = split.range(number);
+        let run = merge_range::<Bytewise, _>(rt.alloc(), &mut cursors, range, &[], 0, &inputs)?;
+        runs.push(run)?;
+    }
+    Ok(runs)
+}
+
+/// A value of at most 1,000 bytes.
+fn short<'a>(rt: &impl Abort, value: &'a [u8]) -> &'a [u8]
+    ensures same { result.now ≡ value.now }
+    ensures short { length result.now ≤ 1000 }
+{
+    assert!(rt; value.len() <= 1000);
+    value
+}
+
+/// The data block of one entry, that at a place.
+fn block_at<'r, 'a>(
+    rt: &(impl Abort + AllocGlobal),
+    cursor: &RunsCursor<'r, 'a>,
+) -> Result<PlannedBlock<'r, 'a>, Fail>
+    ensures planned { IfOk result (λ b. IsPlanned 16 b) }
+    ensures short { IfOk result (λ b. length (block 16 b.entries.entries) ≤ 1000) }
+    ensures key { IfOk result (λ b. length (last_key [] b.entries.entries) ≤ 1000) }
+{
+    assert!(rt; cursor.valid());
+    let key = cursor.key();
+    assert!(rt; key.bytes().len() <= 1000);
+    let value = short(rt, cursor.value());
+    let mut builder = BlockBuilder::new(rt.alloc(), 16);
+    builder.add(key.bytes(), value)?;
+    let len = builder.estimate();
+    assert!(rt; len <= 1000);
+    let mut entries = RunsSlice::at(cursor.copy());
+    entries.push(key);
+    Ok(PlannedBlock {
+        entries,
+        len: len as u64,
+    })
+}
+
+/// The table of two blocks, each of which is a piece.
+fn assembled(
+    rt: &(impl Abort + AllocGlobal),
+    first: PlannedBlock<'_, '_>,
+    second: PlannedBlock<'_, '_>,
+) -> Result<Vec<u8>, Fail>
+    requires first_planned { IsPlanned 16 first }
+    requires first_short { length (block 16 first.entries.entries) ≤ 1000 }
+    requires first_key { length (last_key [] first.entries.entries) ≤ 1000 }
+    requires second_planned { IsPlanned 16 second }
+    requires second_short { length (block 16 second.entries.entries) ≤ 1000 }
+    requires second_key { length (last_key [] second.entries.entries) ≤ 1000 }
+{
+    let mut blocks = Vec::new(rt.alloc());
+    blocks.push(first)?;
+    blocks.push(second)?;
+    let (front, back) = blocks.split_at(1);
+    let front = encode_blocks(rt.alloc(), front, 16, TWO_BLOCKS.len())?;
+    let back = encode_blocks(rt.alloc(), back, 16, 0)?;
+    let mut pieces = Vec::new(rt.alloc());
+    pieces.push(front)?;
+    pieces.push(back)?;
+    Ok(assemble_table::<Bytewise>(rt.alloc(), &blocks, 16, pieces)?)
+}
+
+#[test]
+fn a_piece_of_one_block(rt: HostRuntime) -> Result<(), Fail> {
+    let bytes = written(&rt, &ONE)?;
+    let runs = runs(&rt, &bytes)?;
+    let cursor = RunsCursor::new(&runs);
+    let block = block_at(&rt, &cursor)?;
+    let mut blocks = Vec::new(rt.alloc());
+    blocks.push(block)?;
+    let piece = encode_blocks(rt.alloc(), &blocks, 16, 0)?;
+    assert_eq!(rt; piece.as_slice(), ONE_BLOCK.as_slice());
+    Ok(())
+}
+
+#[test]
+fn two_pieces_and_their_table(rt: HostRuntime) -> Result<(), Fail> {
+    let bytes = written(&rt, &TWO)?;
+    let runs = runs(&rt, &bytes)?;
+    let mut cursor = RunsCursor::new(&runs);
+    let first = block_at(&rt, &cursor)?;
+    assert!(rt; cursor.valid());
+    cursor.advance();
+    let second = block_at(&rt, &cursor)?;
+    let table = assembled(&rt, first, second)?;
+    assert_eq!(rt; table.as_slice(), TWO_BLOCKS.as_slice());
+    Ok(())
+}

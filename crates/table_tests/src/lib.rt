@@ -1,0 +1,9 @@
+//! The tests of `table`.
+#![tactic(auto)]
+
+#[cfg(test)]
+mod building;
+#[cfg(test)]
+mod reading;
+#[cfg(test)]
+mod walking;

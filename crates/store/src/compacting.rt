@@ -18,7 +18,7 @@ use crate::laws::{answer_is_installed, inputs_are_tables};
 use crate::lines::compaction_lines;
 use crate::settings::Settings;
 use crate::taking::{bytes_of, take_tables};
-use board::Open;
+use crate::watch::{Watch, Work};
 use checks::lawful_tables;
 use coding::Fault;
 use compact::compact_tables;
@@ -54,13 +54,14 @@ fn split_of<C: Comparator>(
 }
 
 /// The outcome of the compaction of picked inputs, whose tables are taken out of those of the version. None is checked again.
-fn compact_picked<'t, C: SharedComparator + 'static, R: Threads + Sync>(
+fn compact_picked<'t, C: SharedComparator + 'static, W: Watch + Sync, R: Threads + Sync>(
     rt: &R,
     alloc: Global,
     version: &Version,
     tables: Vec<NumberedTable<'t, C>>,
     picked: &Inputs,
     settings: &Settings<'_>,
+    watch: &W,
 ) -> Result<Outcome, Fault>
     requires tables { HaveTables C.cmp tables.items picked.now.files.items }
     ensures answer { (loaded : List (ℕ × List ℕ)) → AreLoaded loaded tables.entry.items picked.now.files.items →
@@ -71,20 +72,22 @@ fn compact_picked<'t, C: SharedComparator + 'static, R: Threads + Sync>(
     let split = split_of(alloc, &taken, settings.ranges)?;
     let bytes = bytes_of(alloc, &taken)?;
     let request = request_of(version, picked, &bytes, settings)?;
-    compact_tables::<C, Open, R>(rt, alloc, &request, &taken, &split, settings.workers, &Open)
+    watch.begin(Work::Compact, split.len());
+    compact_tables::<C, W, R>(rt, alloc, &request, &taken, &split, settings.workers, watch)
 }
 
 /// Tests a version with the bytes of its tables, and compacts a level of it.
 ///
 /// Refused by the first table that is none; then where the version isn't lawful; then where the level is above 5 or has no
 /// file; and then as the compaction of its inputs is.
-pub(crate) fn compact_loaded<C: SharedComparator + 'static, R: Threads + Sync>(
+pub(crate) fn compact_loaded<C: SharedComparator + 'static, W: Watch + Sync, R: Threads + Sync>(
     rt: &R,
     alloc: Global,
     version: &Version,
     loaded: &[(u64, Vec<u8>)],
     level: u64,
     settings: &Settings<'_>,
+    watch: &W,
 ) -> Result<Ready, Fault>
     ensures answer { HoldsOrMemory (λ c. c.lines.items) result
         (IsLoadedCompacted C.cmp C.separator_of C.successor_of version.now (tables_in loaded.now) level settings.now) }
@@ -93,9 +96,10 @@ pub(crate) fn compact_loaded<C: SharedComparator + 'static, R: Threads + Sync>(
 {
     answer_is_installed::<C>();
     inputs_are_tables::<C>();
-    let tables = lawful_tables::<C, Open, R>(rt, alloc, version, loaded, CHECKERS, &Open)?;
+    watch.begin(Work::Check, loaded.len() as u64);
+    let tables = lawful_tables::<C, W, R>(rt, alloc, version, loaded, CHECKERS, watch)?;
     let picked = inputs::<C>(alloc, version, level)?;
-    let outcome = compact_picked::<C, R>(rt, alloc, version, tables, &picked, settings)?;
+    let outcome = compact_picked::<C, W, R>(rt, alloc, version, tables, &picked, settings, watch)?;
     let lines = compaction_lines(alloc, &outcome, &picked.files, manifest_of(version))?;
     Ok(Ready { lines, outcome })
 }

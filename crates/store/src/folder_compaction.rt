@@ -13,6 +13,8 @@ ghost use Rattle.store.specs.Orders.{order_cmp, order_separator, order_successor
 use crate::asking::manifest_of;
 use crate::compacting::compact_loaded;
 use crate::settings::Settings;
+use crate::watch::Watch;
+use board::Open;
 use coding::Fault;
 use edit::Version;
 use folder::{Folder, Order, load, open};
@@ -51,17 +53,41 @@ pub fn compact_dir<F: Folder, R: Threads + Sync>(
     ensures at_once { StopsAtDevice (F.failed folder.old) (F.failed folder.new) result }
     ensures later { F.failed folder.old ≤ F.failed folder.new }
 {
-    folder.sync_folder()?;
-    compact_opened(rt, alloc, folder, level, settings)
+    compact_dir_watched(rt, alloc, folder, level, settings, &Open)
 }
 
-/// Opens a folder, compacts a level of its version, and installs the outcome.
-fn compact_opened<F: Folder, R: Threads + Sync>(
+/// Compacts a level of the version that a folder holds, and installs the outcome, as [`compact_dir`] does, while somebody watches:
+/// is told of each long part of the work, and called around each of its jobs. What is answered is the same.
+pub fn compact_dir_watched<F: Folder, W: Watch + Sync, R: Threads + Sync>(
     rt: &R,
     alloc: Global,
     folder: &mut F,
     level: u64,
     settings: &Settings<'_>,
+    watch: &W,
+) -> Result<Vec<u8>, Fault>
+    // Over a folder that tells these files: the lines, or the first refusal in this order.
+    ensures answer { (files : Files) → Tells (F.tells folder.old) files →
+        FolderAnswers (λ v. v.items) (F.failed folder.old) (F.failed folder.new) result (IsFolderCompacted files level settings.now) }
+    // What is left of it: what it held, or the edited version, which is lawful and answers each readable get as before.
+    ensures left { (files : Files) → Tells (F.tells folder.old) files →
+        IsLeft files level settings.now (F.calls folder.old) (F.calls folder.new) (F.tells folder.old) (F.tells folder.new) result }
+    ensures device { IfErr result (HasDeviceFailed (F.failed folder.old) (F.failed folder.new)) }
+    ensures at_once { StopsAtDevice (F.failed folder.old) (F.failed folder.new) result }
+    ensures later { F.failed folder.old ≤ F.failed folder.new }
+{
+    folder.sync_folder()?;
+    compact_opened(rt, alloc, folder, level, settings, watch)
+}
+
+/// Opens a folder, compacts a level of its version, and installs the outcome.
+fn compact_opened<F: Folder, W: Watch + Sync, R: Threads + Sync>(
+    rt: &R,
+    alloc: Global,
+    folder: &mut F,
+    level: u64,
+    settings: &Settings<'_>,
+    watch: &W,
 ) -> Result<Vec<u8>, Fault>
     ensures answer { (files : Files) → Tells (F.tells folder.old) files →
         FolderAnswers (λ v. v.items) (F.failed folder.old) (F.failed folder.new) result (IsFolderCompacted files level settings.now) }
@@ -72,11 +98,11 @@ fn compact_opened<F: Folder, R: Threads + Sync>(
     ensures later { F.failed folder.old ≤ F.failed folder.new }
 {
     let (order, version) = open(alloc, folder)?;
-    compact_in_order(rt, alloc, folder, order, &version, level, settings)
+    compact_in_order(rt, alloc, folder, order, &version, level, settings, watch)
 }
 
 /// Compacts a level of a version of an order, and installs the outcome.
-fn compact_in_order<F: Folder, R: Threads + Sync>(
+fn compact_in_order<F: Folder, W: Watch + Sync, R: Threads + Sync>(
     rt: &R,
     alloc: Global,
     folder: &mut F,
@@ -84,6 +110,7 @@ fn compact_in_order<F: Folder, R: Threads + Sync>(
     version: &Version,
     level: u64,
     settings: &Settings<'_>,
+    watch: &W,
 ) -> Result<Vec<u8>, Fault>
     ensures answer { (files : Files) → Tells (F.tells folder.old) files →
         FolderAnswers (λ v. v.items) (F.failed folder.old) (F.failed folder.new) result
@@ -97,22 +124,23 @@ fn compact_in_order<F: Folder, R: Threads + Sync>(
 {
     match order {
         Order::Bytewise => {
-            compact_version::<Bytewise, F, R>(rt, alloc, folder, version, level, settings)
+            compact_version::<Bytewise, F, W, R>(rt, alloc, folder, version, level, settings, watch)
         }
         Order::Shortlex => {
-            compact_version::<Shortlex, F, R>(rt, alloc, folder, version, level, settings)
+            compact_version::<Shortlex, F, W, R>(rt, alloc, folder, version, level, settings, watch)
         }
     }
 }
 
 /// Compacts a level of a version, and installs the outcome. The comparator's name has fewer than 2^32 bytes.
-fn compact_version<C: SharedComparator + 'static, F: Folder, R: Threads + Sync>(
+fn compact_version<C: SharedComparator + 'static, F: Folder, W: Watch + Sync, R: Threads + Sync>(
     rt: &R,
     alloc: Global,
     folder: &mut F,
     version: &Version,
     level: u64,
     settings: &Settings<'_>,
+    watch: &W,
 ) -> Result<Vec<u8>, Fault>
     requires { length C.name_bytes < 2 ^ 32 }
     ensures answer { (files : Files) → Tells (F.tells folder.old) files →
@@ -126,7 +154,7 @@ fn compact_version<C: SharedComparator + 'static, F: Folder, R: Threads + Sync>(
     ensures later { F.failed folder.old ≤ F.failed folder.new }
 {
     let loaded = load::<C, F>(alloc, folder, version)?;
-    let compacted = compact_loaded::<C, R>(rt, alloc, version, &loaded, level, settings)?;
+    let compacted = compact_loaded::<C, W, R>(rt, alloc, version, &loaded, level, settings, watch)?;
     let outcome = &compacted.outcome;
     install::<C, F>(alloc, folder, version, manifest_of(version), outcome)?;
     Ok(compacted.lines)

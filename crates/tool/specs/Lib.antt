@@ -4,5 +4,6 @@ pub mod Dump
 pub mod Lines
 pub mod FolderLines
 pub mod Descent
+pub mod Progress
 -- serves proofs alone
 pub mod Questions

@@ -12,12 +12,14 @@ use crate::getting::got_in;
 use crate::question::Question;
 use crate::showing::version_lines;
 use crate::verifying::verified_in;
+use board::Open;
 use coding::Fault;
 use edit::Version;
 use folder::{Folder, Order, open};
 use ikey::{Bytewise, SharedComparator, Shortlex};
 use std::alloc::Global;
 use std::thread::Threads;
+use store::Watch;
 
 #[cfg(test)]
 mod tests;
@@ -70,7 +72,25 @@ pub fn verify<F: Folder, R: Threads + Sync>(
     ensures at_once { StopsAtDevice (F.failed folder.old) (F.failed folder.new) result }
     ensures later { F.failed folder.old ≤ F.failed folder.new }
 {
-    answered(rt, alloc, folder, Question::Lawful)
+    verify_watched(rt, alloc, folder, &Open)
+}
+
+/// What [`verify`] answers, while somebody watches.
+pub(crate) fn verify_watched<F: Folder, W: Watch + Sync, R: Threads + Sync>(
+    rt: &R,
+    alloc: Global,
+    folder: &mut F,
+    watch: &W,
+) -> Result<Vec<u8>, Fault>
+    ensures answer { FolderAnswers (λ v. v.items) (F.failed folder.old) (F.failed folder.new) result
+        (IsLineOfFolder (F.tells folder.old) (λ _. verified_line)) }
+    ensures device { IfErr result (HasDeviceFailed (F.failed folder.old) (F.failed folder.new)) }
+    ensures same { TellsSame (F.tells folder.old) (F.tells folder.new) }
+    ensures calls { F.calls folder.new ≡ F.calls folder.old }
+    ensures at_once { StopsAtDevice (F.failed folder.old) (F.failed folder.new) result }
+    ensures later { F.failed folder.old ≤ F.failed folder.new }
+{
+    answered(rt, alloc, folder, Question::Lawful, watch)
 }
 
 /// The line of the value that a user key has at a sequence in the version that a folder holds, in lower-case hexadecimal
@@ -93,15 +113,36 @@ pub fn get_dir<F: Folder, R: Threads + Sync>(
     ensures at_once { StopsAtDevice (F.failed folder.old) (F.failed folder.new) result }
     ensures later { F.failed folder.old ≤ F.failed folder.new }
 {
-    answered(rt, alloc, folder, Question::Value { key, at })
+    get_dir_watched(rt, alloc, folder, key, at, &Open)
+}
+
+/// What [`get_dir`] answers, while somebody watches.
+pub(crate) fn get_dir_watched<F: Folder, W: Watch + Sync, R: Threads + Sync>(
+    rt: &R,
+    alloc: Global,
+    folder: &mut F,
+    key: &[u8],
+    at: Option<u64>,
+    watch: &W,
+) -> Result<Vec<u8>, Fault>
+    ensures answer { FolderAnswers (λ v. v.items) (F.failed folder.old) (F.failed folder.new) result
+        (IsLineOfFolder (F.tells folder.old) (got_line key.now at)) }
+    ensures device { IfErr result (HasDeviceFailed (F.failed folder.old) (F.failed folder.new)) }
+    ensures same { TellsSame (F.tells folder.old) (F.tells folder.new) }
+    ensures calls { F.calls folder.new ≡ F.calls folder.old }
+    ensures at_once { StopsAtDevice (F.failed folder.old) (F.failed folder.new) result }
+    ensures later { F.failed folder.old ≤ F.failed folder.new }
+{
+    answered(rt, alloc, folder, Question::Value { key, at }, watch)
 }
 
 /// What the version that a folder holds answers.
-fn answered<F: Folder, R: Threads + Sync>(
+fn answered<F: Folder, W: Watch + Sync, R: Threads + Sync>(
     rt: &R,
     alloc: Global,
     folder: &mut F,
     question: Question<'_>,
+    watch: &W,
 ) -> Result<Vec<u8>, Fault>
     ensures answer { FolderAnswers (λ v. v.items) (F.failed folder.old) (F.failed folder.new) result
         (IsFolderAnswer (F.tells folder.old) question.entry) }
@@ -112,17 +153,18 @@ fn answered<F: Folder, R: Threads + Sync>(
     ensures later { F.failed folder.old ≤ F.failed folder.new }
 {
     let (order, version) = open(alloc, folder)?;
-    answered_in_order(rt, alloc, folder, order, &version, question)
+    answered_in_order(rt, alloc, folder, order, &version, question, watch)
 }
 
 /// What a version of an order answers, with the tables that the folder holds.
-fn answered_in_order<F: Folder, R: Threads + Sync>(
+fn answered_in_order<F: Folder, W: Watch + Sync, R: Threads + Sync>(
     rt: &R,
     alloc: Global,
     folder: &mut F,
     order: Order,
     version: &Version,
     question: Question<'_>,
+    watch: &W,
 ) -> Result<Vec<u8>, Fault>
     ensures answer { FolderAnswers (λ v. v.items) (F.failed folder.old) (F.failed folder.new) result
         (IsVersionAnswer (F.tells folder.old) (order_cmp order) version.now question.entry) }
@@ -133,18 +175,23 @@ fn answered_in_order<F: Folder, R: Threads + Sync>(
     ensures later { F.failed folder.old ≤ F.failed folder.new }
 {
     match order {
-        Order::Bytewise => answered_by::<Bytewise, F, R>(rt, alloc, folder, version, question),
-        Order::Shortlex => answered_by::<Shortlex, F, R>(rt, alloc, folder, version, question),
+        Order::Bytewise => answered_by::<Bytewise, F, W, R>(
+            rt, alloc, folder, version, question, watch,
+        ),
+        Order::Shortlex => answered_by::<Shortlex, F, W, R>(
+            rt, alloc, folder, version, question, watch,
+        ),
     }
 }
 
 /// What a version answers by a comparator, with the tables that the folder holds.
-fn answered_by<C: SharedComparator + 'static, F: Folder, R: Threads + Sync>(
+fn answered_by<C: SharedComparator + 'static, F: Folder, W: Watch + Sync, R: Threads + Sync>(
     rt: &R,
     alloc: Global,
     folder: &mut F,
     version: &Version,
     question: Question<'_>,
+    watch: &W,
 ) -> Result<Vec<u8>, Fault>
     ensures answer { FolderAnswers (λ v. v.items) (F.failed folder.old) (F.failed folder.new) result
         (IsVersionAnswer (F.tells folder.old) C.cmp version.now question.entry) }
@@ -155,7 +202,9 @@ fn answered_by<C: SharedComparator + 'static, F: Folder, R: Threads + Sync>(
     ensures later { F.failed folder.old ≤ F.failed folder.new }
 {
     match question {
-        Question::Lawful => verified_in::<C, F, R>(rt, alloc, folder, version),
-        Question::Value { key, at } => got_in::<C, F, R>(rt, alloc, folder, version, key, at),
+        Question::Lawful => verified_in::<C, F, W, R>(rt, alloc, folder, version, watch),
+        Question::Value { key, at } => got_in::<C, F, W, R>(
+            rt, alloc, folder, version, key, at, watch,
+        ),
     }
 }

@@ -2,7 +2,7 @@
 
 use crate::descent::{bottom, next_level};
 use crate::files;
-use crate::folder_commands::{get_dir, manifest, verify};
+use crate::folder_commands::{get_dir_watched, manifest, verify_watched};
 use crate::telling::Telling;
 use coding::Fault;
 use edit::Version;
@@ -13,7 +13,7 @@ use std::io::Write;
 use std::rt::Files;
 use std::thread::Threads;
 use std::time::Clock;
-use store::{Settings, compact_dir};
+use store::{Settings, compact_dir_watched};
 use usage::{CompactSettings, Levels, Readable};
 
 /// Prints the version of a folder.
@@ -35,7 +35,10 @@ pub(crate) fn print_verdict<R: Files + Print + Eprint + Clock + AllocGlobal + Th
 ) -> Result<(), Fault> {
     telling.tell_log(rt);
     let begun = telling.begin(rt);
-    let answer = verify(rt, rt.alloc(), &mut Disk::new(rt, telling.folder));
+    let progress = telling.progress(rt);
+    let mut folder = Disk::new(rt, telling.folder);
+    let answer = verify_watched(rt, rt.alloc(), &mut folder, &progress);
+    progress.erase();
     telling.end(rt, "verify", begun, &answer);
     print_lines(rt, answer?.as_slice())
 }
@@ -49,8 +52,10 @@ pub(crate) fn print_value<R: Files + Print + Eprint + Clock + AllocGlobal + Thre
 ) -> Result<(), Fault> {
     telling.tell_log(rt);
     let begun = telling.begin(rt);
+    let progress = telling.progress(rt);
     let mut folder = Disk::new(rt, telling.folder);
-    let answer = get_dir(rt, rt.alloc(), &mut folder, key, at);
+    let answer = get_dir_watched(rt, rt.alloc(), &mut folder, key, at, &progress);
+    progress.erase();
     telling.end(rt, "get", begun, &answer);
     print_lines(rt, answer?.as_slice())
 }
@@ -111,8 +116,11 @@ fn compact_level<R: Files + Print + Eprint + Clock + AllocGlobal + Threads + Syn
     let alloc = rt.alloc();
     let step = format!(in alloc; "compact --level {level}")?;
     let begun = telling.begin(rt);
+    let progress = telling.progress(rt);
     let mut folder = Disk::new(rt, telling.folder);
-    let answer = compact_dir(rt, alloc, &mut folder, level, &kept_to(settings));
+    let settings = kept_to(settings);
+    let answer = compact_dir_watched(rt, alloc, &mut folder, level, &settings, &progress);
+    progress.erase();
     telling.end(rt, step.as_str(), begun, &answer);
     print_lines(rt, answer?.as_slice())
 }

@@ -8,7 +8,6 @@ ghost use Rattle.folder.specs.Opening.{FolderAnswers, HasDeviceFailed, StopsAtDe
 ghost use Rattle.tool.specs.FolderLines.{IsLineOfLoaded, IsLineOfVersion, got_line, sequence_at, value_line};
 
 use crate::verifying::WORKERS;
-use board::Open;
 use checks::lawful_tables;
 use coding::Fault;
 use edit::Version;
@@ -17,16 +16,18 @@ use ikey::SharedComparator;
 use reads::get;
 use std::alloc::Global;
 use std::thread::Threads;
+use store::{Watch, Work};
 use usage::text_of;
 
 /// The line of the value in a version, with the tables that the folder holds.
-pub(crate) fn got_in<C: SharedComparator + 'static, F: Folder, R: Threads + Sync>(
+pub(crate) fn got_in<C: SharedComparator + 'static, F: Folder, W: Watch + Sync, R: Threads + Sync>(
     rt: &R,
     alloc: Global,
     folder: &mut F,
     version: &Version,
     key: &[u8],
     at: Option<u64>,
+    watch: &W,
 ) -> Result<Vec<u8>, Fault>
     ensures answer { FolderAnswers (λ v. v.items) (F.failed folder.old) (F.failed folder.new) result
         (IsLineOfVersion (F.tells folder.old) C.cmp version.now (got_line key.now at version.now)) }
@@ -37,22 +38,24 @@ pub(crate) fn got_in<C: SharedComparator + 'static, F: Folder, R: Threads + Sync
     ensures later { F.failed folder.old ≤ F.failed folder.new }
 {
     let loaded = load::<C, F>(alloc, folder, version)?;
-    got::<C, R>(rt, alloc, version, &loaded, key, at)
+    got::<C, W, R>(rt, alloc, version, &loaded, key, at, watch)
 }
 
 /// The line of the value in a version, with the tables of these numbers and bytes.
-fn got<C: SharedComparator + 'static, R: Threads + Sync>(
+fn got<C: SharedComparator + 'static, W: Watch + Sync, R: Threads + Sync>(
     rt: &R,
     alloc: Global,
     version: &Version,
     loaded: &[(u64, Vec<u8>)],
     key: &[u8],
     at: Option<u64>,
+    watch: &W,
 ) -> Result<Vec<u8>, Fault>
     ensures { HoldsOrMemory (λ v. v.items) result
         (IsLineOfLoaded C.cmp version.now (map (λ t. (t.0, t.1.items)) loaded.now) (got_line key.now at version.now)) }
 {
-    let tables = lawful_tables::<C, Open, R>(rt, alloc, version, loaded, WORKERS, &Open)?;
+    watch.begin(Work::Check, loaded.len() as u64);
+    let tables = lawful_tables::<C, W, R>(rt, alloc, version, loaded, WORKERS, watch)?;
     let sequence = sequence_at(version, at);
     let value = get(alloc, version, &tables, key, sequence)?;
     value_line(alloc, value)

@@ -12,6 +12,8 @@ mod folder_commands;
 mod folder_work;
 mod getting;
 mod program;
+mod progress;
+mod progress_line;
 mod question;
 mod showing;
 mod telling;

@@ -25,7 +25,7 @@ const USAGE: u8 = 2;
 ///
 /// Results, and help and a version that were asked for, go to the standard output, all else to the standard error. That
 /// nothing can be written to the standard error changes no status. Where that is watched, as a terminal is, the work on a
-/// folder is told there as `-v` has it.
+/// folder is told there as `-v` has it, and long work shows a line of progress.
 pub fn run<R: Env + Files + Print + Eprint + Clock + AllocGlobal + Threads + Sync>(
     rt: &R,
     is_watched: bool,
@@ -67,40 +67,31 @@ fn carry_out<R: Files + Print + Eprint + Clock + AllocGlobal + Threads + Sync>(
         }
         Line::Manifest { folder, verbose } => print_version(
             rt,
-            telling(folder, verbose || is_watched),
+            telling(folder, verbose, is_watched),
         ),
-        Line::Verify { folder, verbose } => print_verdict(
-            rt,
-            telling(folder, verbose || is_watched),
-        ),
+        Line::Verify { folder, verbose } => print_verdict(rt, telling(folder, verbose, is_watched)),
         Line::Compact {
             folder,
             levels,
             settings,
             verbose,
-        } => compact_folder(
-            rt,
-            telling(folder, verbose || is_watched),
-            levels,
-            &settings,
-        ),
+        } => compact_folder(rt, telling(folder, verbose, is_watched), levels, &settings),
         Line::Get {
             folder,
             key,
             at,
             verbose,
-        } => print_value(
-            rt,
-            telling(folder, verbose || is_watched),
-            key.as_slice(),
-            at,
-        ),
+        } => print_value(rt, telling(folder, verbose, is_watched), key.as_slice(), at),
     }
 }
 
 /// What is told of the work on a folder.
-fn telling(folder: &str, is_on: bool) -> Telling<'_> {
-    Telling { folder, is_on }
+fn telling(folder: &str, verbose: bool, is_watched: bool) -> Telling<'_> {
+    Telling {
+        folder,
+        is_on: verbose || is_watched,
+        is_watched,
+    }
 }
 
 /// Merges the blocks in two files into one.

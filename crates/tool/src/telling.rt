@@ -2,6 +2,7 @@
 
 use crate::diagnosis::{log_with_writes, refused_file};
 use crate::explaining::in_words;
+use crate::progress_line::ProgressLine;
 use coding::Fault;
 use folder::Disk;
 use std::rt::Files;
@@ -14,6 +15,8 @@ pub(crate) struct Telling<'a> {
     pub folder: &'a str,
     /// Whether anything is told.
     pub is_on: bool,
+    /// Whether somebody looks on, as at a terminal, so that a line of progress is shown.
+    pub is_watched: bool,
 }
 
 impl<'a> Telling<'a> {
@@ -24,6 +27,11 @@ impl<'a> Telling<'a> {
         } else {
             None
         }
+    }
+
+    /// The line of progress of a step that begins.
+    pub fn progress<'r, R: Eprint + Clock + AllocGlobal>(self, rt: &'r R) -> ProgressLine<'r, R> {
+        ProgressLine::new(rt, self.is_watched)
     }
 
     /// Tells how long a step took that is done, or else which file was refused and why.

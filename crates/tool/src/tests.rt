@@ -1,12 +1,30 @@
 use super::*;
+use crate::progress::progress_text;
 use coding::{Fault, FaultName};
 use std::alloc::Global;
 use std::test::Fail;
+use store::Work;
 
 #[test]
 fn statuses(rt: HostRuntime) {
     assert_eq!(rt; status(&Fault::of(FaultName::Device)), 3);
     assert_eq!(rt; status(&Fault::of(FaultName::Missing)), 1);
+}
+
+#[test]
+fn lines_of_progress(rt: HostRuntime) -> Result<(), Fail> {
+    let rows = [
+        (Work::Check, 3, "tables checked: 3 of 8"),
+        (Work::Check, 8, "tables checked: 8 of 8"),
+        (Work::Check, 9, "ranges tested: 1"),
+        (Work::Compact, 0, "ranges merged: 0 of 8"),
+        (Work::Compact, 20, "pieces encoded: 12"),
+    ];
+    for (work, done, wanted) in rows {
+        let text = progress_text(rt.alloc(), work, 8, done)?;
+        assert_eq!(rt; text.as_str(), wanted);
+    }
+    Ok(())
 }
 
 /// The lines of a table, or its refusal.

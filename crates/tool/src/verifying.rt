@@ -8,7 +8,6 @@ ghost use Rattle.folder.specs.Opening.{FolderAnswers, HasDeviceFailed, StopsAtDe
 ghost use Rattle.tool.specs.FolderLines.{IsLineOfLoaded, IsLineOfVersion, lawful_line, verified_line};
 
 use crate::counting::entry_count;
-use board::Open;
 use checks::lawful_tables;
 use coding::Fault;
 use edit::Version;
@@ -16,17 +15,18 @@ use folder::{Folder, load};
 use ikey::SharedComparator;
 use std::alloc::Global;
 use std::thread::Threads;
+use store::{Watch, Work};
 
 /// How many workers check the tables of a folder.
 pub(crate) const WORKERS: u64 = 4;
 
 /// The line of a version that is lawful with the tables that the folder holds.
-pub(crate) fn verified_in<C: SharedComparator + 'static, F: Folder, R: Threads + Sync>(
-    rt: &R,
-    alloc: Global,
-    folder: &mut F,
-    version: &Version,
-) -> Result<Vec<u8>, Fault>
+pub(crate) fn verified_in<
+    C: SharedComparator + 'static,
+    F: Folder,
+    W: Watch + Sync,
+    R: Threads + Sync,
+>(rt: &R, alloc: Global, folder: &mut F, version: &Version, watch: &W) -> Result<Vec<u8>, Fault>
     ensures answer { FolderAnswers (λ v. v.items) (F.failed folder.old) (F.failed folder.new) result
         (IsLineOfVersion (F.tells folder.old) C.cmp version.now verified_line) }
     ensures device { IfErr result (HasDeviceFailed (F.failed folder.old) (F.failed folder.new)) }
@@ -36,20 +36,22 @@ pub(crate) fn verified_in<C: SharedComparator + 'static, F: Folder, R: Threads +
     ensures later { F.failed folder.old ≤ F.failed folder.new }
 {
     let loaded = load::<C, F>(alloc, folder, version)?;
-    verified::<C, R>(rt, alloc, version, &loaded)
+    verified::<C, W, R>(rt, alloc, version, &loaded, watch)
 }
 
 /// Tests a version with the tables of these numbers and bytes.
-fn verified<C: SharedComparator + 'static, R: Threads + Sync>(
+fn verified<C: SharedComparator + 'static, W: Watch + Sync, R: Threads + Sync>(
     rt: &R,
     alloc: Global,
     version: &Version,
     loaded: &[(u64, Vec<u8>)],
+    watch: &W,
 ) -> Result<Vec<u8>, Fault>
     ensures { HoldsOrMemory (λ v. v.items) result
         (IsLineOfLoaded C.cmp version.now (map (λ t. (t.0, t.1.items)) loaded.now) verified_line) }
 {
-    let tables = lawful_tables::<C, Open, R>(rt, alloc, version, loaded, WORKERS, &Open)?;
+    watch.begin(Work::Check, loaded.len() as u64);
+    let tables = lawful_tables::<C, W, R>(rt, alloc, version, loaded, WORKERS, watch)?;
     let entries = entry_count(alloc, &tables)?;
     lawful_line(alloc, tables.len(), entries)
 }

@@ -3,7 +3,7 @@ use Rattle.folder.proofs.CountLemmas.{count_later}
 use Rattle.store.specs.Answers.{IsFolderCompacted}
 use Rattle.store.proofs.Flow.{answers_since, no_value}
 use Rattle.store.proofs.Installing.{sync_refused, sync_told, synced_left}
-use Rattle.store.proofs.folder_compaction.compact_dir.Goals as goal
+use Rattle.store.proofs.folder_compaction.compact_dir_watched.Goals as goal
 
 pub returns-in_err-sync_folder-clause-left : goal.returns-in_err-sync_folder-clause-left
 returns-in_err-sync_folder-clause-left g c files told =

@@ -1,0 +1,116 @@
+//! A line of progress on the standard error.
+
+use crate::progress::progress_text;
+use board::Gate;
+use std::sync::atomic::{AtomicBool, AtomicU64, Ordering};
+use std::time::{Clock, Instant};
+use store::{Watch, Work};
+
+/// How many milliseconds work goes on before its line is shown.
+const PATIENCE: u64 = 200;
+
+/// How many milliseconds pass before the line is written again.
+const PAUSE: u64 = 100;
+
+/// A line that tells how far long work is: rewritten in place, and gone when the work ends. That nothing can be told changes
+/// nothing.
+#[derive(Drop)]
+pub(crate) struct ProgressLine<'r, R> {
+    rt: &'r R,
+    /// When the work began. None where no line is shown.
+    begun: Option<Instant>,
+    /// Whether tables are merged; else they are checked.
+    is_compacting: AtomicBool,
+    /// How many jobs the first part of the work has.
+    jobs: AtomicU64,
+    /// How many jobs are done.
+    done: AtomicU64,
+    /// At how many milliseconds the line is due.
+    due: AtomicU64,
+    /// Whether it was ever written.
+    is_written: AtomicBool,
+}
+
+impl<'r, R: Eprint + Clock + AllocGlobal> ProgressLine<'r, R> {
+    /// The line of work that begins, which is shown or not.
+    pub fn new(rt: &'r R, is_shown: bool) -> ProgressLine<'r, R> {
+        ProgressLine {
+            rt,
+            begun: if is_shown {
+                Instant::now(rt).ok()
+            } else {
+                None
+            },
+            is_compacting: AtomicBool::new(false),
+            jobs: AtomicU64::new(0),
+            done: AtomicU64::new(0),
+            due: AtomicU64::new(PATIENCE),
+            is_written: AtomicBool::new(false),
+        }
+    }
+
+    /// Takes the line away.
+    pub fn erase(&self) {
+        if self.is_written.load(Ordering::SeqCst) {
+            let _ = self.rt.eprint("\r\x1b[K");
+        }
+    }
+
+    /// Writes the line where it is due. Of workers that come at once one does.
+    fn refresh(&self, begun: Instant) {
+        let Ok(taken) = begun.elapsed(self.rt) else {
+            return;
+        };
+        let now = u64::try_from(taken.as_millis()).unwrap_or(u64::MAX);
+        let due = self.due.load(Ordering::SeqCst);
+        if now < due {
+            return;
+        }
+        let next = now.saturating_add(PAUSE);
+        let claimed = self
+            .due
+            .compare_exchange(due, next, Ordering::SeqCst, Ordering::SeqCst);
+        if claimed.is_ok() {
+            self.write();
+        }
+    }
+
+    /// Writes the line in the place where it stood.
+    fn write(&self) {
+        let alloc = self.rt.alloc();
+        let work = if self.is_compacting.load(Ordering::SeqCst) {
+            Work::Compact
+        } else {
+            Work::Check
+        };
+        let jobs = self.jobs.load(Ordering::SeqCst);
+        let done = self.done.load(Ordering::SeqCst);
+        let Ok(text) = progress_text(alloc, work, jobs, done) else {
+            return;
+        };
+        self.is_written.store(true, Ordering::SeqCst);
+        if let Ok(line) = format!(in alloc; "\r{text}\x1b[K") {
+            let _ = self.rt.eprint(line.as_str());
+        }
+    }
+}
+
+impl<'r, R: Eprint + Clock + AllocGlobal> Gate for ProgressLine<'r, R> {
+    fn pass(&self, _seat: u32, _job: u64) {}
+
+    fn left(&self, _seat: u32, _job: u64) {
+        if let Some(begun) = self.begun {
+            self.done.fetch_add(1, Ordering::SeqCst);
+            self.refresh(begun);
+        }
+    }
+}
+
+impl<'r, R: Eprint + Clock + AllocGlobal> Watch for ProgressLine<'r, R> {
+    fn begin(&self, work: Work, jobs: u64) {
+        self.is_compacting
+            .store(work == Work::Compact, Ordering::SeqCst);
+        self.jobs.store(jobs, Ordering::SeqCst);
+        self.done.store(0, Ordering::SeqCst);
+    }
+}

@@ -1,0 +1,95 @@
+//! The program `bench_compact`: how long the call `compact` alone takes over the tables of a database folder.
+//!
+//! `bench_compact DIR ROUNDS RANGES` reads the folder's tables once, picks the inputs of level 0, and compacts them by one, two
+//! and four workers in turn, in so many rounds and over at most so many ranges. It prints the fastest round of each; nothing is
+//! written to the folder. Without words it compacts a small folder once by each and prints what the outputs are together, the
+//! same on each machine.
+#![tactic(auto)]
+
+mod compaction;
+
+use anyhow::Result;
+use compaction::{Compaction, Outputs};
+use std::env;
+use std::env::Env;
+use std::rt::{Clock, Files};
+use std::thread::Threads;
+use std::time::{Duration, Instant};
+
+/// The folder of the run without words.
+const SMALL: &str = "mixed";
+/// The workers, in the order in which they are timed.
+const WORKERS: [u64; 3] = [1, 2, 4];
+
+/// What is timed: the words of the command line.
+#[derive(Drop)]
+struct Words {
+    folder: String,
+    rounds: u64,
+    ranges: u64,
+}
+
+/// The words of the command line; None where there is none.
+fn read_words<R: Env + AllocGlobal>(rt: &R) -> Result<Option<Words>> {
+    let mut words = env::args(rt)?;
+    let _program = words.next();
+    let Some(folder) = words.next() else {
+        return Ok(None);
+    };
+    let mut number = |otherwise: u64| match words.next() {
+        Some(word) => word.parse().unwrap_or(otherwise),
+        None => otherwise,
+    };
+    let rounds = number(5);
+    let ranges = number(8);
+    Ok(Some(Words {
+        folder,
+        rounds,
+        ranges,
+    }))
+}
+
+/// The fastest of so many rounds of each number of workers, which take turns.
+fn fastest<R: Clock + Threads + Sync + AllocGlobal>(
+    rt: &R,
+    compaction: &Compaction,
+    rounds: u64,
+) -> Result<[Duration; 3]> {
+    let mut times = [Duration::MAX; 3];
+    for _round in 0..rounds {
+        for (time, workers) in times.iter_mut().zip(WORKERS) {
+            let start = Instant::now(rt)?;
+            let outcome = compaction.carried_out(rt, workers)?;
+            *time = (*time).min(start.elapsed(rt)?);
+            drop(outcome);
+        }
+    }
+    Ok(times)
+}
+
+/// Prints what the outputs of one, two and four workers are together, which are the same.
+fn print_outputs<R: Threads + Sync + AllocGlobal + Print>(
+    rt: &R,
+    compaction: &Compaction,
+) -> Result<()> {
+    for workers in WORKERS {
+        let outcome = compaction.carried_out(rt, workers)?;
+        let outputs = Outputs::of(&outcome);
+        println!(rt; "{workers}: {outputs}")?;
+    }
+    Ok(())
+}
+
+fn main(rt: HostRuntime) -> Result<()> {
+    let Some(words) = read_words(&rt)? else {
+        let compaction = Compaction::of_folder(&rt, SMALL, 8)?;
+        return print_outputs(&rt, &compaction);
+    };
+    let compaction = Compaction::of_folder(&rt, &words.folder, words.ranges)?;
+    let times = fastest(&rt, &compaction, words.rounds)?;
+    for (time, workers) in times.iter().zip(WORKERS) {
+        let tenths = time.as_micros() / 100;
+        println!(&rt; "{workers}: {}.{} ms", tenths / 10, tenths % 10)?;
+    }
+    print_outputs(&rt, &compaction)
+}

@@ -36,18 +36,25 @@ enum Mend {
     No,
     /// Those of the worked table.
     Table,
-    /// That of a log's first fragment.
-    Log,
+    /// That of a log's fragment that starts at this place.
+    Fragment(usize),
 }
 
-/// Writes the checksum of the first fragment of a log anew, as far as its length lies within the bytes.
-fn mend_log(bytes: &mut [u8]) {
+/// Writes the checksum of the fragment that begins these bytes anew, as far as its length lies within them.
+fn mend_first(bytes: &mut [u8]) {
     if let Some((checksum, behind)) = bytes.split_first_chunk_mut::<4>() {
         if let Some((length, rest)) = behind.split_first_chunk::<2>() {
             let summed = usize::from(u16::from_le_bytes(*length)) + 1;
             let summed = rest.get(0..summed).unwrap_or(rest);
             *checksum = mask(crc32c(summed)).to_le_bytes();
         }
+    }
+}
+
+/// Writes the checksum of a log's fragment anew, of which the start is given.
+fn mend_fragment(bytes: &mut [u8], start: usize) {
+    if start <= bytes.len() {
+        mend_first(&mut bytes[start..]);
     }
 }
 
@@ -69,7 +76,7 @@ fn changed(alloc: Global, sweep: Sweep<'_>, place: usize, value: u8) -> Result<O
     match sweep.mend {
         Mend::No => {}
         Mend::Table => mend_table(&mut changed),
-        Mend::Log => mend_log(&mut changed),
+        Mend::Fragment(start) => mend_fragment(&mut changed, start),
     }
     Ok(Some(changed))
 }
@@ -170,21 +177,24 @@ fn tables<R: AllocGlobal + Print + Threads + Sync>(rt: &R) -> Result<()> {
     table_changes(rt, "compact", plain(Call::Compact, &table))
 }
 
-/// Changes the bytes of a manifest, as a call takes it. Its first fragment has 59 bytes.
+/// Changes the bytes of a manifest, as a call takes it. Its first fragment has 59 bytes, and its second 15. Each begins with its
+/// checksum of four bytes. Behind the second's stand 08 00 01 02 03 09 00 03 09 04 04: eleven bytes, of which three have one of the
+/// five values, so that they are changed 52 times.
 fn manifest_changes<R: AllocGlobal + Print + Threads + Sync>(
     rt: &R,
     name: &str,
     damaged: Sweep<'_>,
 ) -> Result<()> {
     held(rt, name, damaged, 0..74)?;
-    held(rt, name, mending(damaged, Mend::Log), 4..59)
+    held(rt, name, mending(damaged, Mend::Fragment(0)), 4..59)?;
+    held(rt, name, mending(damaged, Mend::Fragment(59)), 63..74)
 }
 
 /// Changes the bytes of logs.
 fn logs<R: AllocGlobal + Print + Threads + Sync>(rt: &R) -> Result<()> {
     let damaged = plain(Call::Records, &EMPTY_LOG);
     counted(rt, "log", damaged, 0..7)?;
-    counted(rt, "log, mended", mending(damaged, Mend::Log), 4..7)?;
+    counted(rt, "log, mended", mending(damaged, Mend::Fragment(0)), 4..7)?;
     let log = log_of(rt.alloc(), ONE_FILE, NUMBERS)?;
     manifest_changes(rt, "manifest's log", plain(Call::Records, &log))?;
     manifest_changes(rt, "manifest", plain(Call::Manifest, &log))

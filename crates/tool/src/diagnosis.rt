@@ -8,7 +8,7 @@ use std::alloc::Global;
 use table::check;
 
 /// How many levels a version has.
-const LEVELS: u64 = 7;
+pub(crate) const LEVELS: u64 = 7;
 
 /// A file, and why it is refused.
 #[derive(Drop)]
@@ -82,13 +82,13 @@ fn refused_table<C: Comparator, F: Folder>(
 
 /// A table that is there.
 #[derive(Drop)]
-struct TableFile {
-    name: String,
-    bytes: Vec<u8>,
+pub(crate) struct TableFile {
+    pub name: String,
+    pub bytes: Vec<u8>,
 }
 
 /// The table of a number, under its name or under its older one.
-fn table_file<F: Folder>(
+pub(crate) fn table_file<F: Folder>(
     alloc: Global,
     folder: &mut F,
     number: u64,

@@ -1,12 +1,15 @@
 //! The work on a folder, from its path to what is printed.
 
+use crate::accounting::account_of;
 use crate::descent::{bottom, next_level};
+use crate::explaining::in_words;
 use crate::files;
 use crate::folder_commands::{get_dir_watched, manifest, verify_watched};
 use crate::telling::Telling;
+use account::text;
 use coding::Fault;
 use edit::Version;
-use folder::{Disk, open};
+use folder::{Disk, Order, open};
 use keep::Snapshots;
 use std::io;
 use std::io::Write;
@@ -106,8 +109,24 @@ fn opened<R: Files + Eprint + Clock + AllocGlobal>(
     Ok(version)
 }
 
-/// Compacts a level of a folder, and prints what was made.
+/// Compacts a level of a folder, prints what was made, and tells how it went where that is asked for.
 fn compact_level<R: Files + Print + Eprint + Clock + AllocGlobal + Threads + Sync>(
+    rt: &R,
+    telling: Telling<'_>,
+    level: u64,
+    settings: &CompactSettings,
+) -> Result<(), Fault> {
+    if !telling.is_explaining {
+        return compact_once(rt, telling, level, settings);
+    }
+    let before = open(rt.alloc(), &mut Disk::new(rt, telling.folder));
+    compact_once(rt, telling, level, settings)?;
+    explain(rt, telling.folder, before, level, settings.ranges);
+    Ok(())
+}
+
+/// Compacts a level of a folder, and prints what was made.
+fn compact_once<R: Files + Print + Eprint + Clock + AllocGlobal + Threads + Sync>(
     rt: &R,
     telling: Telling<'_>,
     level: u64,
@@ -123,6 +142,41 @@ fn compact_level<R: Files + Print + Eprint + Clock + AllocGlobal + Threads + Syn
     progress.erase();
     telling.end(rt, step.as_str(), begun, &answer);
     print_lines(rt, answer?.as_slice())
+}
+
+/// Tells how the compaction of a level went, by the version before it. That it can't be told changes nothing else.
+fn explain<R: Files + Eprint + AllocGlobal>(
+    rt: &R,
+    folder: &str,
+    before: Result<(Order, Version), Fault>,
+    level: u64,
+    ranges: u64,
+) {
+    match explanation(rt, folder, before, level, ranges) {
+        Ok(lines) => {
+            let _ = rt.eprint(lines.as_str());
+        }
+        Err(fault) => {
+            let words = in_words(fault.name);
+            let _ = eprintln!(rt; "compacted, but not explained: {fault}: {words}");
+        }
+    }
+}
+
+/// The lines that tell how it went.
+fn explanation<R: Files + AllocGlobal>(
+    rt: &R,
+    folder: &str,
+    before: Result<(Order, Version), Fault>,
+    level: u64,
+    ranges: u64,
+) -> Result<String, Fault> {
+    let alloc = rt.alloc();
+    let mut folder = Disk::new(rt, folder);
+    let (order, before) = before?;
+    let (_, after) = open(alloc, &mut folder)?;
+    let account = account_of(alloc, &mut folder, order, &before, &after, level, ranges)?;
+    text(alloc, &account)
 }
 
 /// What a compaction keeps to, as its command line says.

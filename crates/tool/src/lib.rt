@@ -1,6 +1,7 @@
 //! What the program `sedvokt` does: its files and what it prints, and the calls behind its commands.
 #![tactic(auto)]
 
+mod accounting;
 mod counting;
 mod descent;
 mod diagnosis;
@@ -25,7 +26,7 @@ pub use folder::{Disk, Folder, FolderFault, Order, load, open};
 pub use folder_commands::{get_dir, manifest, verify};
 pub use pairing::blocks;
 pub use program::run;
-pub use usage::{CompactSettings, Levels, Line, Readable, Usage, key_of, line, text_of};
+pub use usage::{CompactSettings, Levels, Line, Readable, Told, Usage, key_of, line, text_of};
 
 #[cfg(test)]
 mod tests;

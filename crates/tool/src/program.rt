@@ -74,8 +74,11 @@ fn carry_out<R: Files + Print + Eprint + Clock + AllocGlobal + Threads + Sync>(
             folder,
             levels,
             settings,
-            verbose,
-        } => compact_folder(rt, telling(folder, verbose, is_watched), levels, &settings),
+            told,
+        } => {
+            let telling = telling(folder, told.verbose, is_watched).explaining(told.explain);
+            compact_folder(rt, telling, levels, &settings)
+        }
         Line::Get {
             folder,
             key,
@@ -91,6 +94,7 @@ fn telling(folder: &str, verbose: bool, is_watched: bool) -> Telling<'_> {
         folder,
         is_on: verbose || is_watched,
         is_watched,
+        is_explaining: false,
     }
 }
 

@@ -17,9 +17,17 @@ pub(crate) struct Telling<'a> {
     pub is_on: bool,
     /// Whether somebody looks on, as at a terminal, so that a line of progress is shown.
     pub is_watched: bool,
+    /// Whether it is told how each compaction went.
+    pub is_explaining: bool,
 }
 
 impl<'a> Telling<'a> {
+    /// The same, and it is told how each compaction went, or isn't.
+    pub fn explaining(mut self, is_explaining: bool) -> Telling<'a> {
+        self.is_explaining = is_explaining;
+        self
+    }
+
     /// The time at which a step begins, where it will be told.
     pub fn begin<R: Clock>(self, rt: &R) -> Option<Instant> {
         if self.is_on {

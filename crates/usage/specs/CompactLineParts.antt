@@ -1,5 +1,5 @@
 -- What the steps of reading the command line of `compact` answer.
-use Rattle.std.specs.Prelude.{◌≡◌, ℕ, Bool, Option, Some, None, Result, Ok, Err}
+use Rattle.std.specs.Prelude.{◌≡◌, ℕ, Option, Some, None, Result, Ok, Err}
 use Rattle.clap.specs.Words.{Text}
 use Rattle.usage.specs.CompactLine.{AreSettings, IsNoNumberList, IsReadable}
 use Rattle.usage.specs.declared.compact_texts.CompactNumbers.{CompactNumbers}
@@ -7,6 +7,7 @@ use Rattle.usage.specs.declared.requests.Levels.{Levels}
 use Rattle.usage.specs.declared.requests.Line.{Line}
 use Rattle.usage.specs.declared.requests.Line.TheVariants as line
 use Rattle.usage.specs.declared.requests.Readable.{Readable}
+use Rattle.usage.specs.declared.requests.Told.{Told}
 use Rattle.usage.specs.declared.requests.Usage.{Usage}
 use Rattle.usage.specs.declared.requests.Usage.TheVariants.{Key, Snapshots, Memory, Clap}
 
@@ -25,11 +26,11 @@ IsReadableAnswer since listed (Err Key) = ⊥
 IsReadableAnswer since listed (Err (Clap e)) = ⊥
 
 -- the line of `compact` with these texts and numbers, or Snapshots where the text is no list of numbers
-abbrev pub CompactLine : Text → Levels → CompactNumbers → Option ℕ → Option Text → Bool → Result Line Usage → Type 0
-CompactLine folder levels numbers since listed verbose (Ok (line.Compact folder' levels' settings verbose')) =
-    (folder'.now ≡ folder) × ((levels' ≡ levels) × (AreSettings numbers since listed settings × (verbose' ≡ verbose)))
-CompactLine folder levels numbers since listed verbose (Ok _) = ⊥
-CompactLine folder levels numbers since listed verbose (Err Snapshots) = IsNoList since listed
-CompactLine folder levels numbers since listed verbose (Err Memory) = Unit {0}
-CompactLine folder levels numbers since listed verbose (Err Key) = ⊥
-CompactLine folder levels numbers since listed verbose (Err (Clap e)) = ⊥
+abbrev pub CompactLine : Text → Levels → CompactNumbers → Option ℕ → Option Text → Told → Result Line Usage → Type 0
+CompactLine folder levels numbers since listed told (Ok (line.Compact folder' levels' settings told')) =
+    (folder'.now ≡ folder) × ((levels' ≡ levels) × (AreSettings numbers since listed settings × (told' ≡ told)))
+CompactLine folder levels numbers since listed told (Ok _) = ⊥
+CompactLine folder levels numbers since listed told (Err Snapshots) = IsNoList since listed
+CompactLine folder levels numbers since listed told (Err Memory) = Unit {0}
+CompactLine folder levels numbers since listed told (Err Key) = ⊥
+CompactLine folder levels numbers since listed told (Err (Clap e)) = ⊥

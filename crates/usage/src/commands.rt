@@ -43,6 +43,9 @@ const ALL_HELP: &str =
 const VERBOSE_HELP: &str =
     "Tells on the standard error how long the work took, which file was refused and why, and of a log with writes";
 
+const EXPLAIN_HELP: &str =
+    "Tells on the standard error, behind the lines of each compaction, how it went: inputs, ranges, what was kept and dropped, and outputs, with bars";
+
 const BLOCKS_EXAMPLE: &str = "Example: sedvokt blocks A B --at 6b3130 OUT";
 
 const DUMP_EXAMPLE: &str = "Example: sedvokt dump db/000005.ldb";
@@ -54,7 +57,8 @@ const VERIFY_EXAMPLE: &str = "Example: sedvokt verify db -v";
 const GET_EXAMPLE: &str = "Example: sedvokt get db 6b3030303031 --at 1151";
 
 const COMPACT_EXAMPLE: &str = "Examples: sedvokt compact db --level 0
-          sedvokt compact db --all --snapshots 900,1151";
+          sedvokt compact db --all --snapshots 900,1151
+          sedvokt compact db --level 1 --explain";
 
 const WORKERS_HELP: &str = "How many workers carry it out: 1 to 64; 4 where it is left out";
 
@@ -231,8 +235,9 @@ fn with_work<'a>(alloc: Global, command: Command<'a>) -> Result<Command<'a>, All
 {
     let workers = number_option(alloc, "workers", "W", WORKERS_HELP);
     let ranges = number_option(alloc, "ranges", "R", RANGES_HELP);
+    let explain = flag(alloc, "explain", EXPLAIN_HELP);
     let command = command.arg(workers)?.arg(ranges)?;
-    command.arg(verbose(alloc))
+    command.arg(verbose(alloc))?.arg(explain)
 }
 
 /// The command with the options on snapshots and on the outputs.

@@ -13,7 +13,7 @@ mod requests;
 mod text;
 
 pub use command_line::line;
-pub use requests::{CompactSettings, Levels, Line, Readable, Usage};
+pub use requests::{CompactSettings, Levels, Line, Readable, Told, Usage};
 pub use text::{key_of, text_of};
 
 #[cfg(test)]

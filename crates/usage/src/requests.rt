@@ -60,9 +60,18 @@ pub enum Line<'a> {
         levels: Levels,
         /// What each compaction keeps to.
         settings: CompactSettings,
-        /// Whether more is told on the standard error.
-        verbose: bool,
+        /// What is told of it on the standard error.
+        told: Told,
     },
+}
+
+/// What is told of a compaction on the standard error.
+#[derive(Clone, Copy, Debug)]
+pub struct Told {
+    /// Whether more is told: how long it took, and which file was refused.
+    pub verbose: bool,
+    /// Whether it is told how it went: its inputs, its ranges, what was kept and dropped, and its outputs.
+    pub explain: bool,
 }
 
 /// Which levels of a folder are compacted.

@@ -1,3 +1,4 @@
+use crate::accounting::account_of;
 use crate::descent::{bottom, next_level};
 use crate::diagnosis::{log_with_writes, refused_file};
 use crate::tests::TWO_ENTRIES;
@@ -7,6 +8,7 @@ use folder::{Failing, Shelf};
 use std::alloc::Global;
 use std::test::Fail;
 use std::thread::Threads;
+use store::{Settings, compact_dir};
 
 /// A log of one record: the comparator, the numbers, and file 7 of 125 bytes at level 1, whose keys are all of `u`.
 const ONE_FILE: &[u8] =
@@ -261,5 +263,50 @@ fn levels_that_go_down(rt: HostRuntime) -> Result<(), Fail> {
         assert_eq!(rt; bottom(alloc, &version)?, 1);
         assert_eq!(rt; next_level(alloc, &version, 1)?, wanted);
     }
+    Ok(())
+}
+
+/// How the compaction of a level of the folder of two files is explained.
+fn explained(rt: &(impl Threads + Sync + AllocGlobal), level: u64) -> Result<String, Fail> {
+    let alloc = rt.alloc();
+    let files = [
+        CURRENT,
+        ("MANIFEST-000005", TWO_FILES),
+        ("000007.ldb", TWO_ENTRIES.as_slice()),
+        ("000008.sst", ONE_ENTRY),
+    ];
+    let mut folder = Shelf::new(alloc, &files);
+    let (order, before) = open(alloc, &mut folder)?;
+    compact_dir(rt, alloc, &mut folder, level, &Settings::default())?;
+    let (_, after) = open(alloc, &mut folder)?;
+    let account = account_of(alloc, &mut folder, order, &before, &after, level, 8)?;
+    Ok(account::text(alloc, &account)?)
+}
+
+/// The one entry of level 0 is kept. Its user key begins the second of two ranges.
+const LEVEL_0_EXPLAINED: &str = "\
+######################################## level 0: 1 files, 113 bytes
+                                         level 1: 0 files, 0 bytes
+                                         range 1: 0 entries
+######################################## range 2: 1 entries
+######################################## kept: 1 entries
+                                         dropped: 0 entries
+######################################## output 10: 113 bytes
+";
+
+/// The deletion at level 1 goes, since nothing lies below it, and so does what it hides.
+const LEVEL_1_EXPLAINED: &str = "\
+######################################## level 1: 1 files, 125 bytes
+                                         level 2: 0 files, 0 bytes
+                                         range 1: 0 entries
+######################################## range 2: 2 entries
+                                         kept: 0 entries
+######################################## dropped: 2 entries
+";
+
+#[test]
+fn compactions_that_are_explained(rt: HostRuntime) -> Result<(), Fail> {
+    assert_eq!(rt; explained(&rt, 0)?.as_str(), LEVEL_0_EXPLAINED);
+    assert_eq!(rt; explained(&rt, 1)?.as_str(), LEVEL_1_EXPLAINED);
     Ok(())
 }

@@ -1,0 +1,3 @@
+mod Largest
+mod Places
+mod Texts

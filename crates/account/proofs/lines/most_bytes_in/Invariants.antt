@@ -1,0 +1,7 @@
+use Rattle.std.proofs.Common.{◌≡◌, ℕ, map, take}
+use Rattle.account.specs.Bars.{largest}
+use Rattle.account.specs.declared.numbers.LevelInputs.{LevelInputs}
+use Rattle.account.proofs.lines.most_bytes_in.Given as goal
+
+abbrev pub invariant-loop-level : goal.invariant-loop-level
+invariant-loop-level l = l.most ≡ largest (map (λ (x : LevelInputs). x.bytes) (take l.level-index l.inputs))

@@ -1,0 +1,3 @@
+-- what contracts rest on
+pub mod Bars
+pub mod Lines

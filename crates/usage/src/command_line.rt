@@ -16,9 +16,6 @@ use clap::error::ErrorKind;
 use std::alloc::Global;
 use std::convert::AsStr;
 
-#[cfg(test)]
-mod tests;
-
 /// What is told where a level and all of them are given.
 const LEVEL_WITH_ALL: &str = "the argument '--level <N>' cannot be used with '--all'";
 

@@ -15,6 +15,3 @@ mod text;
 pub use command_line::line;
 pub use requests::{CompactSettings, Levels, Line, Readable, Told, Usage};
 pub use text::{key_of, text_of};
-
-#[cfg(test)]
-mod tests;

@@ -1,5 +1,5 @@
-use super::*;
 use std::test::Fail;
+use usage::{key_of, text_of};
 
 #[test]
 fn bytes_as_text(rt: HostRuntime) -> Result<(), Fail> {

@@ -1,6 +1,6 @@
-use crate::*;
 use std::alloc::Global;
 use std::test::Fail;
+use usage::*;
 
 /// What the program makes of a command line, in a word or two.
 fn outcome(alloc: Global, words: &[&str]) -> Result<String, Fail> {

@@ -18,20 +18,12 @@ pub use disk::Disk;
 pub use folder::{Folder, FolderFault};
 pub use laws::{crash_laws, folder_laws, reading_laws};
 pub use loading::load;
-pub use names::{CURRENT, current_text, manifest_name, table_name, temporary_name};
+pub use names::{
+    CURRENT, current_text, manifest_name, number_in_current, old_table_name, table_name,
+    temporary_name,
+};
 pub use opening::open;
 pub use order::Order;
 pub use shelf::{Failing, Shelf};
 pub use shelf_step::{ShelfCall, ShelfStep};
 pub use trail::{Attempt, Trail, WriteCall};
-
-#[cfg(test)]
-mod changed_tests;
-#[cfg(test)]
-mod loading_tests;
-#[cfg(test)]
-mod manifests;
-#[cfg(test)]
-mod opening_tests;
-#[cfg(test)]
-mod tests;

@@ -29,7 +29,7 @@ pub fn table_name(alloc: Global, number: u64) -> Result<String, Fault>
 }
 
 /// The older name of the table of this number.
-pub(crate) fn old_table_name(alloc: Global, number: u64) -> Result<String, Fault>
+pub fn old_table_name(alloc: Global, number: u64) -> Result<String, Fault>
     ensures { EqualOrMemory string_bytes result (Ok (old_table_name number)) }
 {
     Ok(format!(in alloc; "{number:06}.sst")?)
@@ -52,7 +52,7 @@ pub fn current_text(alloc: Global, number: u64) -> Result<String, Fault>
 /// The number of the manifest that CURRENT names by these bytes.
 ///
 /// Refused as Apply where they aren't a manifest's name, exactly as it is written, and one newline.
-pub(crate) fn number_in_current(alloc: Global, bytes: &[u8]) -> Result<u64, Fault>
+pub fn number_in_current(alloc: Global, bytes: &[u8]) -> Result<u64, Fault>
     ensures { HoldsOrMemory (λ n. n) result (IsNumberAnswer bytes.now) }
 {
     let Some(number) = number_between(bytes) else {

@@ -1,8 +1,8 @@
 use crate::manifests::*;
-use crate::tests::{NO_NAMES, fails};
-use crate::*;
+use crate::shelf::{NO_NAMES, fails};
 use coding::{Fault, FaultName};
 use edit::Version;
+use folder::*;
 use ikey::{Bytewise, Kind};
 use std::alloc::Global;
 use std::test::Fail;

@@ -1,8 +1,8 @@
 use crate::manifests::*;
-use crate::tests::fails;
-use crate::*;
+use crate::shelf::fails;
 use coding::{Fault, FaultName};
 use edit::Version;
+use folder::*;
 use ikey::Bytewise;
 use std::alloc::Global;
 use std::test::Fail;

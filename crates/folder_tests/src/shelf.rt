@@ -1,6 +1,5 @@
-use crate::names::{number_in_current, old_table_name, table_name};
-use crate::*;
 use coding::{Fault, FaultName};
+use folder::*;
 use std::alloc::Global;
 use std::test::Fail;
 use std::{env, fs, process};

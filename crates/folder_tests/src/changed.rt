@@ -1,8 +1,8 @@
 //! Manifests and names that were cut off or changed.
 
 use crate::manifests::*;
-use crate::*;
 use coding::{Fault, FaultName};
+use folder::*;
 use std::alloc::Global;
 use std::test::Fail;
 

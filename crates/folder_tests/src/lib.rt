@@ -1,0 +1,13 @@
+//! The tests of `folder`: folders in memory and on disk, opened and loaded.
+#![tactic(auto)]
+
+#[cfg(test)]
+mod changed;
+#[cfg(test)]
+mod loading;
+#[cfg(test)]
+mod manifests;
+#[cfg(test)]
+mod opening;
+#[cfg(test)]
+mod shelf;

@@ -16,7 +16,7 @@ use table::{Cursor, Options, TableBuilder, TableCursor, check};
 const BLOCK_LEN: usize = 4_096;
 
 /// The internal key of `a` at 2.
-const KEY_AT_TWO: [u8; 9] = [0x61, 1, 2, 0, 0, 0, 0, 0, 0];
+pub const KEY_AT_TWO: [u8; 9] = [0x61, 1, 2, 0, 0, 0, 0, 0, 0];
 
 /// Of the edit [`DELETION_LEFT`], what the snapshot of a version after it has too: the compact pointer and the new file.
 const POINTER_AND_FILE: &[u8] =
@@ -24,7 +24,7 @@ const POINTER_AND_FILE: &[u8] =
 
 /// Adds an entry to a block that is not full.
 #[tactic(auto, using(block::proofs::Sizes::fits_with_entry))]
-fn add_entry(builder: &mut BlockBuilder, key: &[u8; 9], value: &[u8; 1]) -> Result<(), Fault> {
+pub fn add_entry(builder: &mut BlockBuilder, key: &[u8; 9], value: &[u8; 1]) -> Result<(), Fault> {
     if builder.estimate() >= BLOCK_LEN {
         return Err(Fault::of(FaultName::TooLarge));
     }
@@ -141,7 +141,7 @@ fn seek_again<'a, S: Cursor<'a, Bytewise>>(cursor: &mut S, user: u8) -> Result<(
 }
 
 /// Whether a cursor has entries of just these user keys. It takes them off.
-fn has_users<'a, S: Cursor<'a, Bytewise>>(cursor: &mut S, users: &[u8]) -> Result<bool, Fault> {
+pub fn has_users<'a, S: Cursor<'a, Bytewise>>(cursor: &mut S, users: &[u8]) -> Result<bool, Fault> {
     for user in users {
         if first(cursor) != Some(*user) {
             return Ok(false);
@@ -235,7 +235,7 @@ pub fn logged(alloc: Global) -> Result<bool, Fault> {
 }
 
 /// The version of a manifest of one file.
-fn one_file(alloc: Global) -> Result<Version, Fault> {
+pub fn one_file(alloc: Global) -> Result<Version, Fault> {
     let version = Version::empty(alloc).applied::<Bytewise>(VersionEdit::decode(alloc, ONE_FILE)?)?;
     version.applied::<Bytewise>(VersionEdit::decode(alloc, NUMBERS)?)
 }

@@ -4,10 +4,13 @@
 //! turn by one build, where the files of the folder give the numbers below N, each as the pieces that are taken first.
 
 use crate::again::{is_memory, wanted};
+use crate::asking::{folder_asked, lines_read, table_dumped, texts_of_keys};
 use crate::commanding::{blocks_merged, folder_compacted};
 use crate::growing::{block_built, edited, logged, merged, table_built, table_walked};
 use crate::installing::installed;
+use crate::parts::{block_walked, keys_made, spelt};
 use crate::planning::{chosen, planned, seated};
+use crate::reading::{index_read, merged_on, range_sought, version_read};
 use crate::wholes::{ends_at_grandparents, kept_deletion, three_outputs, two_spoilt};
 use anyhow::Result;
 use coding::Fault;
@@ -43,10 +46,21 @@ enum Row {
     Spoilt,
     Blocks,
     Folder,
+    Spelt,
+    Keys,
+    BlockCursor,
+    Index,
+    Sought,
+    MergedOn,
+    Read,
+    Asked,
+    Dumped,
+    Lines,
+    Texts,
 }
 
 /// Each row with what is printed of it.
-const ROWS: [(Row, &str); 16] = [
+const ROWS: [(Row, &str); 27] = [
     (Row::Block, "a block is built"),
     (Row::Table, "a table is built"),
     (Row::Cursor, "a table is walked"),
@@ -69,6 +83,23 @@ const ROWS: [(Row, &str); 16] = [
     (Row::Spoilt, "compact: Trailer at 0"),
     (Row::Blocks, "two blocks are merged"),
     (Row::Folder, "a folder is compacted"),
+    (
+        Row::Spelt,
+        "numbers, handles, trailers, a footer and a block are appended",
+    ),
+    (Row::Keys, "keys are made, shortened, set and copied"),
+    (Row::BlockCursor, "a block is walked"),
+    (Row::Index, "the user keys of an index are read"),
+    (Row::Sought, "a range is sought"),
+    (Row::MergedOn, "a range is merged"),
+    (Row::Read, "a version is tested and read"),
+    (
+        Row::Asked,
+        "a folder is shown, verified and asked for a key",
+    ),
+    (Row::Dumped, "a table is dumped"),
+    (Row::Lines, "command lines are read"),
+    (Row::Texts, "keys are written and read as text"),
 ];
 
 /// Whether a row has its answer.
@@ -91,6 +122,17 @@ fn has_answer<R: AllocGlobal + Threads + Sync>(rt: &R, row: Row) -> Result<bool,
         Row::Spoilt => two_spoilt(rt),
         Row::Blocks => blocks_merged(rt),
         Row::Folder => folder_compacted(rt),
+        Row::Spelt => spelt(alloc),
+        Row::Keys => keys_made(alloc),
+        Row::BlockCursor => block_walked(alloc),
+        Row::Index => index_read(alloc),
+        Row::Sought => range_sought(alloc),
+        Row::MergedOn => merged_on(alloc),
+        Row::Read => version_read(alloc),
+        Row::Asked => folder_asked(rt),
+        Row::Dumped => table_dumped(alloc),
+        Row::Lines => lines_read(alloc),
+        Row::Texts => texts_of_keys(alloc),
     }
 }
 

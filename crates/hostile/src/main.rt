@@ -7,11 +7,14 @@
 #![tactic(auto)]
 
 mod again;
+mod asking;
 mod commanding;
 mod growing;
 mod growths;
 mod installing;
+mod parts;
 mod planning;
+mod reading;
 mod wholes;
 
 use anyhow::Result;

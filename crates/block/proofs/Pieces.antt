@@ -1,5 +1,5 @@
 -- A piece that is read is the piece that was spelt, and what was spelt is read again.
-use Rattle.std.proofs.Common.{◌≡◌, ℕ, zero, suc, ◌+◌, ◌^◌, ◌<◌, ◌≤◌, true, false, List, [], ◌∷◌, ◌++◌, length, take, drop, Option, Some, None, refl, sym, ap, subst, ◌∙◌, append_assoc, arith, lit≤, leb}
+use Rattle.std.proofs.Common.{◌≡◌, ℕ, zero, suc, ◌+◌, ◌^◌, ◌<◌, ◌≤◌, true, false, List, [], ◌∷◌, ◌++◌, length, take, drop, get_or, Option, Some, None, refl, sym, ap, subst, ◌∙◌, append_assoc, arith, lit≤, leb}
 use Rattle.std.specs.List.{flat_map}
 use Rattle.std.proofs.lemmas.List.{take_at, drop_at, take-append-drop, length-append, length-take-le, length-drop, drop-drop}
 use Rattle.std.proofs.lemmas.Bool.{le-leb, leb-true}
@@ -7,9 +7,9 @@ use Rattle.std.proofs.lemmas.Option.{same_Some, cond_some}
 use Rattle.coding.specs.Varint.{varint, varint_reading}
 use Rattle.block.specs.Piece.{Entry, Piece, piece_bytes, key_after, entries_after, IsPieceAfter, ArePieces}
 use Rattle.coding.specs.Answers.{and_then}
-use Rattle.block.specs.Reading.{Field, length_at, piece_at}
+use Rattle.block.specs.Reading.{Field, length_at, piece_of, piece_at}
 use Rattle.block.specs.Behind.{entries_in, entries_behind}
-use Rattle.coding.proofs.Varints.{varint_reading-varint, reads_varint, length-varint_pos}
+use Rattle.coding.proofs.Varints.{varint_reading-varint, varint_reading-small, reads_varint, length-varint_pos}
 
 -- a piece at which no restart points
 abbrev pub plain : Piece → Piece
@@ -30,6 +30,18 @@ Widths-of before p h = record { shared = h.shared_fits; unshared = h.unshared_fi
 length_at-varint : (x : ℕ) (rest : List ℕ) → x < 2 ^ 32 → length_at (varint x ++ rest) ≡ found x rest
 length_at-varint x rest lt =
     rw (varint_reading-varint (2 ^ 32) x rest lt (lit≤ tt), drop_at (varint x) rest (length (varint x)) refl) refl
+
+-- a length of one byte
+length_at-small : (b : ℕ) (rest : List ℕ) → b < 128 → length_at (b ∷ rest) ≡ found b rest
+length_at-small b rest lt = rw (varint_reading-small (2 ^ 32) (b ∷ rest) (omega arith) lt (lit≤ tt)) refl
+
+-- three lengths of one byte each
+pub piece_at-small : (bytes : List ℕ) → 3 ≤ length bytes → get_or bytes 0 0 < 128 → get_or bytes 1 0 < 128 → get_or bytes 2 0 < 128 → piece_at bytes ≡ piece_of (get_or bytes 0 0) (get_or bytes 1 0) (get_or bytes 2 0) (drop 3 bytes)
+unfolding piece_at
+piece_at-small [] long a b c = absurd (omega arith)
+piece_at-small (x ∷ []) long a b c = absurd (omega arith)
+piece_at-small (x ∷ y ∷ []) long a b c = absurd (omega arith)
+piece_at-small (x ∷ y ∷ z ∷ rest) long a b c = rw (length_at-small x (y ∷ z ∷ rest) a, length_at-small y (z ∷ rest) b, length_at-small z rest c) refl
 
 -- what is behind the three lengths
 tail_at : List ℕ → List ℕ → List ℕ → List ℕ

@@ -86,6 +86,10 @@ none_shared : (n : ℕ) (own : List ℕ) → take n [] ++ own ≡ own
 none_shared zero own = refl
 none_shared (suc n) own = refl
 
+-- a piece that stands after no key has its whole key
+pub first_key_whole : (p : Piece) → key_after [] p ≡ p.unshared
+first_key_whole p = none_shared p.shared p.unshared
+
 -- the key of the entry at a place where a piece stands
 pub first_key : (es : List Entry) (place : ℕ) (rest : List ℕ) (x : Field Piece) → ArePiecesBehind [] rest → piece_at rest ≡ Some x → drop place es ≡ entries_behind [] rest
     → option_map (λ e. e.key) (slice_get es place) ≡ Some x.field.unshared

@@ -13,20 +13,25 @@ pub record Field (A : Type 0) : Type 0 where
 abbrev pub length_at : List ℕ → Option (Field ℕ)
 length_at bytes = and_then (varint_reading (2 ^ 32) bytes) (λ x. Some (record { field = x.0; rest = drop x.1 bytes }))
 
+-- the piece of these lengths, whose key's own bytes and value stand at the front
+abbrev pub piece_of : ℕ → ℕ → ℕ → List ℕ → Option (Field Piece)
+piece_of shared unshared value bytes =
+    if nat_le (unshared + value) (length bytes)
+    then Some (record {
+      field = record {
+        is_restart = false;
+        shared = shared;
+        unshared = take unshared bytes;
+        value = take value (drop unshared bytes);
+      };
+      rest = drop (unshared + value) bytes;
+    })
+    else None
+
 -- the piece at the front, whether a restart points at it or not
 unfoldable pub piece_at : List ℕ → Option (Field Piece)
 piece_at bytes =
     and_then (length_at bytes) (λ shared.
     and_then (length_at shared.rest) (λ unshared.
     and_then (length_at unshared.rest) (λ value.
-    if nat_le (unshared.field + value.field) (length value.rest)
-    then Some (record {
-      field = record {
-        is_restart = false;
-        shared = shared.field;
-        unshared = take unshared.field value.rest;
-        value = take value.field (drop unshared.field value.rest);
-      };
-      rest = drop (unshared.field + value.field) value.rest;
-    })
-    else None)))
+    piece_of shared.field unshared.field value.field value.rest)))

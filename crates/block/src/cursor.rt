@@ -120,6 +120,25 @@ impl<'a> BlockCursor<'a> {
         Ok(())
     }
 
+    /// Goes to all entries of another block. The key lies in the same memory where that is enough.
+    ///
+    /// Refused for want of memory alone. A refusal leaves it as it was.
+    pub fn enter(&mut self, block: &SoundBlock<'a>) -> Result<(), Fault>
+        ensures ok { OnOk result (self.new ≡ block.now.entries) }
+        ensures err { OnErr result (self.new ≡ self.old) }
+        ensures memory { IsOkUnless result (fault Memory) }
+    {
+        let Some(first) = piece_at(block.area()) else {
+            self.valid = false;
+            return Ok(());
+        };
+        replace_end(&mut self.key, 0, first.unshared)?;
+        self.valid = true;
+        self.value = first.value;
+        self.rest = first.rest;
+        Ok(())
+    }
+
     /// The entries of pieces, the first of which has its whole key.
     fn over(alloc: Global, pieces: &'a [u8]) -> Result<BlockCursor<'a>, Fault>
         requires { ArePiecesBehind [] pieces.now }

@@ -1,29 +1,59 @@
 //! One entry as it lies in a block's bytes.
 
-ghost use Rattle.std.specs.Prelude.{◌≡◌};
+ghost use Rattle.std.specs.Prelude.{◌≡◌, ◌<◌, ◌^◌};
 ghost use Rattle.std.specs.Option.{option_map};
-ghost use Rattle.block.specs.Reading.{length_at, piece_at};
+ghost use Rattle.block.specs.Reading.{length_at, piece_of, piece_at};
 ghost use Rattle.block.specs.Front.{front_field};
 
 use crate::front::{FrontLength, FrontPiece};
 use coding::read_u32_varint;
 
 /// The piece at the front of bytes, where one stands there.
-#[tactic(auto, unfolding(crate::specs::Reading::piece_at))]
+#[inline]
 pub(crate) fn piece_at(bytes: &[u8]) -> Option<FrontPiece<'_>>
+    ensures { option_map front_field result ≡ piece_at bytes.now }
+{
+    match bytes {
+        // Most lengths have one byte.
+        [shared, unshared, value, behind @ ..]
+            if *shared < 128 && *unshared < 128 && *value < 128 => {
+            piece_of(
+                *shared as usize,
+                *unshared as usize,
+                *value as usize,
+                behind,
+            )
+        }
+        _ => piece_by_varints(bytes),
+    }
+}
+
+/// The piece at the front of bytes, whose lengths have any number of bytes.
+#[tactic(auto, unfolding(crate::specs::Reading::piece_at))]
+fn piece_by_varints(bytes: &[u8]) -> Option<FrontPiece<'_>>
     ensures { option_map front_field result ≡ piece_at bytes.now }
 {
     let shared = length_at(bytes)?;
     let unshared = length_at(shared.rest)?;
     let value = length_at(unshared.rest)?;
-    let bytes = value.rest;
-    if bytes.len() < unshared.length + value.length {
+    piece_of(shared.length, unshared.length, value.length, value.rest)
+}
+
+/// The piece of these lengths, whose key's own bytes and value stand at the front of bytes.
+#[inline]
+fn piece_of(shared: usize, unshared: usize, value: usize, bytes: &[u8]) -> Option<FrontPiece<'_>>
+    requires shared { shared < 2 ^ 32 }
+    requires unshared { unshared < 2 ^ 32 }
+    requires value { value < 2 ^ 32 }
+    ensures { option_map front_field result ≡ piece_of shared unshared value bytes.now }
+{
+    if bytes.len() < unshared + value {
         return None;
     }
-    let (unshared, bytes) = bytes.split_at(unshared.length);
-    let (value, rest) = bytes.split_at(value.length);
+    let (unshared, bytes) = bytes.split_at(unshared);
+    let (value, rest) = bytes.split_at(value);
     Some(FrontPiece {
-        shared: shared.length,
+        shared,
         unshared,
         value,
         rest,

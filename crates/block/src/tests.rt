@@ -142,6 +142,29 @@ fn a_block_without_entries(rt: HostRuntime) -> Result<(), Fail> {
 }
 
 #[test]
+fn a_cursor_goes_to_another_block(rt: HostRuntime) -> Result<(), Fail> {
+    let block = check(WORKED[1])?;
+    assert_eq!(rt; block.restarts(), 2);
+    let mut cursor = BlockCursor::at(rt.alloc(), &block, 1)?;
+    cursor.enter(&check(WORKED[2])?)?;
+    assert!(rt; !cursor.valid());
+    cursor.enter(&check(WORKED[0])?)?;
+    has(&rt, cursor, &ENTRIES)
+}
+
+#[test]
+fn a_refused_growth_at_another_block(rt: HostRuntime) -> Result<(), Fail> {
+    let block = check(WORKED[1])?;
+    let mut cursor = BlockCursor::none(rt.alloc());
+    if let Err(refused) = cursor.enter(&block) {
+        assert_eq!(rt; refused, Fault::of(FaultName::Memory));
+        assert!(rt; !cursor.valid());
+        cursor.enter(&block)?;
+    }
+    has(&rt, cursor, &ENTRIES)
+}
+
+#[test]
 fn a_block_is_read_again(rt: HostRuntime) -> Result<(), Fail> {
     let sound = check(WORKED[1])?;
     let block = reopen(WORKED[1]);

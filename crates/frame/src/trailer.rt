@@ -66,7 +66,9 @@ pub fn contents(bytes: &[u8]) -> Result<&[u8], Fault>
     ensures { result_map_both (λ found. found.now) (λ e. e) result ≡ stored_reading bytes.now }
 {
     let (summed, checksum) = bytes.split_at(bytes.len() - 4);
-    if LittleEndian::read_u32(checksum) != mask(crc32c(summed)) {
+    // The checksum is read last: it lies behind all the bytes that are read for the sum.
+    let sum = mask(crc32c(summed));
+    if sum != LittleEndian::read_u32(checksum) {
         return Err(Fault::of(FaultName::Trailer));
     }
     let size = bytes.len() - TRAILER_LEN;

@@ -187,16 +187,18 @@ fn test_entry<'k, C: Comparator>(
     }
 }
 
-/// The first and the last key of a data block that stands after this key, where its entries pass their tests.
-fn bounds_of<C: Comparator>(
+/// The first and the last key of a data block that stands after this key, where its entries pass their tests. The cursor
+/// walks over them, wherever it was.
+fn bounds_of<'a, C: Comparator>(
     alloc: Global,
-    block: &SoundBlock<'_>,
+    cursor: &mut BlockCursor<'a>,
+    block: &SoundBlock<'a>,
     before: Option<InternalKey<'_>>,
 ) -> Result<Bounds, Fault>
     ensures { EqualOrMemory (λ b. record { smallest = b.smallest; largest = b.largest }) result
         (ends_reading C.cmp (option_map (λ key. key.bytes.now) before.entry) block.now.entries) }
 {
-    let mut cursor = BlockCursor::new(alloc, block)?;
+    cursor.enter(block)?;
     if !cursor.valid() {
         return Err(Fault::of(FaultName::Empty));
     }
@@ -227,19 +229,24 @@ fn is_between<C: Comparator>(below: Option<&KeyBuf>, bounds: &Bounds, key: &KeyB
 
 /// The first and the last key of the data blocks that the index names, where these and the index keys among them pass
 /// their tests.
-fn bounds_of_all<C: Comparator>(alloc: Global, index: &[IndexedBlock<'_>]) -> Result<Bounds, Fault>
+fn bounds_of_all<'a, C: Comparator>(
+    alloc: Global,
+    index: &[IndexedBlock<'a>],
+) -> Result<Bounds, Fault>
     ensures { EqualOrMemory (λ b. record { smallest = b.smallest; largest = b.largest }) result
         (result_map_both ends_of (λ e. e) (data_reading C.cmp (index_of index.now))) }
 {
     let Some((first, others)) = index.split_first() else {
         return Err(Fault::of(FaultName::Empty));
     };
-    let mut bounds = bounds_of::<C>(alloc, &block_in(first.stored)?, None)?;
+    // One cursor for all blocks, so that the memory of its key is asked for once.
+    let mut cursor = BlockCursor::none(alloc);
+    let mut bounds = bounds_of::<C>(alloc, &mut cursor, &block_in(first.stored)?, None)?;
     let mut fits = is_between::<C>(None, &bounds, &first.key);
     let mut below = &first.key;
     for entry in others {
         let block = block_in(entry.stored)?;
-        let next = bounds_of::<C>(alloc, &block, Some(bounds.largest.as_key()))?;
+        let next = bounds_of::<C>(alloc, &mut cursor, &block, Some(bounds.largest.as_key()))?;
         fits = is_between::<C>(Some(below), &next, &entry.key) && fits;
         below = &entry.key;
         bounds.largest = next.largest;

@@ -22,7 +22,7 @@ returns-in_err-key g c =
     let first = first_entry q k v c.key-in-loop-largest.ensures c.value-in-loop-largest.ensures in
     let refused : Err d ≡ entry_test cmp (Some c.loop-largest.largest) e = c.in_err-key.ensures.test ∙ ap (λ (b : List ℕ). entry_test cmp (Some b) e) c.as_key.ensures in
     let total : entries_test cmp before entries ≡ Err d = entries_end cmp (Some c.loop-largest.largest) q k v d (entries_test cmp before entries) first refused c.loop-largest.invariant.tests in
-    let start = first_entry c.in_ok-cursor.cursor c.key.result.now c.value.result.now c.key.ensures c.value.ensures in
-    let some : 0 < length entries = subst (λ (es : List Entry). 0 < length es) c.in_ok-cursor.ensures.all (subst (λ (es : List Entry). 0 < length es) (sym start) (omega arith)) in
+    let start = first_entry c.enter.new.self c.key.result.now c.value.result.now c.key.ensures c.value.ensures in
+    let some : 0 < length entries = subst (λ (es : List Entry). 0 < length es) c.in_ok-enter.ensures.ok (subst (λ (es : List Entry). 0 < length es) (sym start) (omega arith)) in
     handed_on (λ b. record { smallest = b.smallest; largest = b.largest }) c.from_residual-in_err-key.result p.0 d (ends_reading cmp before entries) p.1 p.2
     (FailsOrMemory-from d (ends_reading cmp before entries) (ends_refused cmp before entries d some total))

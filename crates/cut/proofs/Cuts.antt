@@ -1,10 +1,11 @@
 -- How outputs are cut, entry by entry and stop by stop.
-use Rattle.std.proofs.Common.{◌≡◌, ℕ, zero, suc, ◌+◌, ◌-◌, ◌<◌, Bool, true, false, List, [], ◌∷◌, ◌++◌, length, map, take, drop, refl, sym, ap, subst, ◌∙◌, append_assoc, append-nil, arith}
-use Rattle.std.specs.Prelude.{if◌then◌else◌}
+use Rattle.std.proofs.Common.{◌≡◌, ℕ, zero, suc, ◌+◌, ◌-◌, ◌<◌, ◌≤◌, Bool, true, false, List, [], ◌∷◌, ◌++◌, length, map, take, drop, refl, sym, ap, subst, ◌∙◌, append_assoc, append-nil, arith}
+use Rattle.std.specs.Prelude.{if◌then◌else◌, Result, Ok, Err, IfOk}
 use Rattle.std.specs.List.{AllByRecursion, flat_map}
 use Rattle.std.proofs.lemmas.Bool.{false≢true}
 use Rattle.std.proofs.lemmas.List.{drop-drop, nil_from_length}
 use Rattle.std.proofs.Math.Seq.{take-add}
+use Rattle.coding.specs.declared.fault.Fault.{Fault}
 use Rattle.block.specs.Piece.{Entry}
 use Rattle.table.specs.declared.options.Options.{Options}
 use Rattle.table.specs.DataBlocks.{is_full, open_block, blocks_behind, data_blocks}
@@ -65,24 +66,21 @@ module _ (o : Options) where
   planned_push blocks_of [] x h p = (p, tt)
   planned_push blocks_of (y ∷ ys) x h p = (h.0, planned_push blocks_of ys x h.1 p)
 
-  -- ---- one entry more
-
-  pub goes_on : (outputs : List (List Entry)) (latest behind : List Entry) → 0 < length behind → ends_by o latest behind ≡ false → (rest : List Entry)
-      → outputs ++ outputs_behind o (latest ++ take 1 behind) rest ≡ outputs ++ outputs_behind o latest (take 1 behind ++ rest)
-  goes_on outputs latest [] some ends rest = absurd (omega arith)
-  goes_on outputs latest (e ∷ es) some ends rest = rw ends refl
+  -- ---- entries more
 
   ends_open : (latest : List Entry) (e : Entry) → ends_before o latest e ≡ true → open_block latest ≡ latest ∷ []
   ends_open [] e ends = absurd (false≢true ends)
   ends_open (x ∷ xs) e ends = refl
 
-  pub ends_first : (outputs : List (List Entry)) (latest behind : List Entry) → 0 < length behind → ends_by o latest behind ≡ true → (rest : List Entry)
-      → (outputs ++ outputs_behind o latest []) ++ outputs_behind o (take 1 behind) rest ≡ outputs ++ outputs_behind o latest (take 1 behind ++ rest)
-  ends_first outputs latest [] some ends rest = absurd (omega arith)
-  ends_first outputs latest (e ∷ es) some ends rest =
-      ap (λ (ps : List (List Entry)). (outputs ++ ps) ++ outputs_behind o (e ∷ []) rest) (ends_open latest e ends)
-      ∙ append_assoc outputs (latest ∷ []) (outputs_behind o (e ∷ []) rest)
-      ∙ rw ends refl
+  ends_first : (outputs : List (List Entry)) (latest behind : List Entry) (taken : ℕ) → 0 < taken → 0 < length behind → ends_by o latest behind ≡ true → (rest : List Entry)
+      → (outputs ++ outputs_behind o latest []) ++ outputs_behind o [] (take taken behind ++ rest) ≡ outputs ++ outputs_behind o latest (take taken behind ++ rest)
+  ends_first outputs latest [] taken any some ends rest = absurd (omega (arith, some))
+  ends_first outputs latest (e ∷ es) zero any some ends rest = absurd (omega (arith, any))
+  ends_first outputs latest (e ∷ es) (suc n) any some ends rest =
+      let last : outputs_behind o latest (e ∷ (take n es ++ rest)) ≡ latest ∷ outputs_behind o (e ∷ []) (take n es ++ rest) = rw ends refl in
+      ap (λ (ps : List (List Entry)). (outputs ++ ps) ++ outputs_behind o (e ∷ []) (take n es ++ rest)) (ends_open latest e ends)
+      ∙ append_assoc outputs (latest ∷ []) (outputs_behind o (e ∷ []) (take n es ++ rest))
+      ∙ ap (λ (ps : List (List Entry)). outputs ++ ps) (sym last)
 
   -- ---- one segment more
 
@@ -95,13 +93,23 @@ module _ (o : Options) where
   pub segment_last : (outputs : List (List Entry)) (from : ℕ) (behind : List Entry) → outputs ++ outputs_behind o [] behind ≡ outputs ++ flat_map (outputs_in o) (segments from [] behind)
   segment_last outputs from behind = ap (λ (ps : List (List Entry)). outputs ++ ps) (sym (append-nil (outputs_in o behind)))
 
+-- an output that ends before the next entry, and another one begun there, are as it was
+pub ended_then : (s : Cut) (taken : ℕ) → 0 < taken → 0 < length s.behind → ends_by s.options s.latest s.behind ≡ true → (rest : List Entry)
+    → outputs_left (record { options = s.options; outputs = outputs_left s []; latest = []; behind = s.behind }) (take taken s.behind ++ rest) ≡ outputs_left s (take taken s.behind ++ rest)
+ended_then s taken any some ends rest = ends_first s.options s.outputs s.latest s.behind taken any some ends rest
+
+-- what follows from three facts of an answer follows of it
+pub from_three : {P Q S T : ℕ → Type 0} (r : Result ℕ Fault) → IfOk r P → IfOk r Q → IfOk r S → ((n : ℕ) → P n → Q n → S n → T n) → IfOk r T
+from_three (Ok n) p q s f = f n p q s
+from_three (Err e) p q s f = tt
+
 -- ---- so many of a list
 
-pub take_one : (count : ℕ) (xs : List Entry) → 0 < count → take 1 xs ++ take (count - 1) (drop 1 xs) ≡ take count xs
-take_one count xs some = let sum : 1 + (count - 1) ≡ count = omega arith in sym (take-add 1 (count - 1) xs) ∙ ap (λ (n : ℕ). take n xs) sum
+pub take_some : (count taken : ℕ) (xs : List Entry) → taken ≤ count → take taken xs ++ take (count - taken) (drop taken xs) ≡ take count xs
+take_some count taken xs le = let sum : taken + (count - taken) ≡ count = omega (arith, le) in sym (take-add taken (count - taken) xs) ∙ ap (λ (n : ℕ). take n xs) sum
 
-pub drop_one : (count : ℕ) (xs : List Entry) → 0 < count → drop (count - 1) (drop 1 xs) ≡ drop count xs
-drop_one count xs some = drop-drop (count - 1) 1 xs ∙ (let sum : 1 + (count - 1) ≡ count = omega arith in ap (λ (n : ℕ). drop n xs) sum)
+pub drop_some : (count taken : ℕ) (xs : List Entry) → taken ≤ count → drop (count - taken) (drop taken xs) ≡ drop count xs
+drop_some count taken xs le = drop-drop (count - taken) taken xs ∙ (let sum : taken + (count - taken) ≡ count = omega (arith, le) in ap (λ (n : ℕ). drop n xs) sum)
 
 pub take_none : (count : ℕ) (xs : List Entry) → (0 < count → 0 < length xs → ⊥) → take count xs ≡ []
 take_none zero xs none = refl

@@ -9,6 +9,7 @@ pub mod Apart
 pub mod VarintLengths
 pub mod Stopped
 pub mod Metered
+pub mod Filled
 pub mod Opened
 pub mod Cuts
 pub mod TableLengths

@@ -14,7 +14,7 @@ use Rattle.block.specs.Building.{last_key}
 use Rattle.block.proofs.Written.{common, piece_at_restart}
 use Rattle.cut.specs.Lengths.{added_len}
 use Rattle.cut.specs.Sizes.{saturated, piece_size}
-use Rattle.cut.specs.Metered.{IsMetered, ended, left_out, added_size}
+use Rattle.cut.specs.Metered.{IsMetered, ended, next_since, left_out, added_size}
 use Rattle.cut.proofs.Metering.{lengths_law}
 
 -- ---- what an entry adds
@@ -54,10 +54,6 @@ added_is interval (x ∷ xs) e =
     added_by (eqb since 0) (last_key x.key xs) e ∙ ap (λ (before : Option (List ℕ)). added_size since before e.key (length e.value)) (sym (ended_is x xs))
 
 -- ---- the places of restarts
-
--- the entries behind the last whole interval, one entry further on
-abbrev pub next_since : ℕ → ℕ → ℕ
-next_since interval since = cond (eqb (since + 1) interval) 0 (since + 1)
 
 next_since-mod : (r n : ℕ) → 1 ≤ r → next_since r (n % r) ≡ (n + 1) % r
 next_since-mod r n pos =
@@ -104,3 +100,6 @@ metered_push interval q (e ∷ es) len since key value before h some key_is valu
     let k : e.key ≡ key = cc in
     let v : e.value ≡ value = cc in
     rw (before_is, ← k, ← v) (pushed interval q e len since h)
+
+pub since_below : (interval : ℕ) (q : List Entry) (len since : ℕ) → IsMetered interval q len since → since < interval
+since_below interval q len since h = omega (arith, h.since_is, mod_below (length q) interval h.positive)

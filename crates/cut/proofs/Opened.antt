@@ -1,5 +1,5 @@
 -- What is kept of an output that takes the next entry.
-use Rattle.std.proofs.Common.{◌≡◌, ℕ, ◌+◌, ◌-◌, ◌^◌, ◌<◌, ◌≤◌, Bool, true, false, cond, leb, List, [], ◌∷◌, ◌++◌, length, map, take, drop, min, refl, sym, ap, subst, ◌∙◌, append_assoc, append-nil, inl, inr, arith}
+use Rattle.std.proofs.Common.{◌≡◌, ℕ, zero, suc, ◌+◌, ◌-◌, ◌^◌, ◌<◌, ◌≤◌, Bool, true, false, cond, leb, List, [], ◌∷◌, ◌++◌, length, map, take, drop, min, refl, sym, ap, subst, ◌∙◌, append_assoc, append-nil, inl, inr, arith}
 use Rattle.std.specs.Prelude.{Option, Some, None, slice_get, nat_le, not, ◌&&◌, if◌then◌else◌}
 use Rattle.std.specs.List.{AllByRecursion, last_or, flat_map, sum_by}
 use Rattle.std.specs.Option.{option_map}
@@ -19,8 +19,8 @@ use Rattle.table.specs.Options.{AreInLimits}
 use Rattle.table.specs.DataBlocks.{is_full, open_block, blocks_behind, data_blocks, flushed, flushed_len}
 use Rattle.table.specs.Table.{stored_blocks}
 use Rattle.pieces.specs.declared.planned_block.PlannedBlock.{PlannedBlock}
-use Rattle.cut.specs.Metered.{Metered, ended}
-use Rattle.cut.specs.Outputs.{all_of, ends_before}
+use Rattle.cut.specs.Metered.{Metered, grown, ended}
+use Rattle.cut.specs.Outputs.{all_of, ends_before, outputs_behind}
 use Rattle.cut.specs.Plan.{stored_len}
 use Rattle.cut.specs.Sizes.{saturated}
 use Rattle.cut.specs.Opened.{parts_of, entries_of, HasLen, IsFlushed, ends_by, IsOpen}
@@ -55,14 +55,20 @@ entries_push blocks b =
     ∙ flat_map-append (λ (q : List Entry). q) (parts_of blocks) (b.entries.entries ∷ [])
     ∙ ap (λ (q : List Entry). entries_of blocks ++ q) (append-nil b.entries.entries)
 
--- the first of some entries, by its key
-first_is : (behind : List Entry) (key : List ℕ) → 0 < length behind → option_map (λ (e : Entry). e.key) (slice_get behind 0) ≡ Some key → (e : Entry) × (take 1 behind ≡ e ∷ []) × (e.key ≡ key)
-first_is [] key some is = absurd (omega arith)
-first_is (e ∷ es) key some is = (e, refl, cc)
+-- the last key of some entries is that of those behind others
+last_behind : (a b : Option Entry) (p : List Entry) (x : Entry) (xs : List Entry) → last_or a (p ++ x ∷ xs) ≡ last_or b (x ∷ xs)
+last_behind a b [] x xs = refl
+last_behind a b (y ∷ ys) x xs = last_behind (Some y) b ys x xs
 
--- a block with the first of the entries behind
-abbrev pub pushed : Metered → Metered
-pushed m = record { interval = m.interval; entries = m.entries ++ take 1 m.behind; behind = drop 1 m.behind }
+pub ended_behind : (p q : List Entry) → (q ≡ [] → ⊥) → ended (p ++ q) ≡ ended q
+ended_behind p [] some = absurd (some refl)
+ended_behind p (x ∷ xs) some = ap (option_map (λ (e : Entry). e.key)) (last_behind None None p x xs)
+
+-- entries that take in one more are some
+pub some_taken : (n : ℕ) (q es : List Entry) → 0 < n → n ≤ length es → q ++ take n es ≡ [] → ⊥
+some_taken zero q es some within none = absurd (omega arith)
+some_taken (suc n) q [] some within none = absurd (omega arith)
+some_taken (suc n) q (e ∷ es) some within none = omega (arith, ap length none, length-append q (e ∷ take n es))
 
 module _ (o : Options) where
   -- ---- data blocks
@@ -81,10 +87,23 @@ module _ (o : Options) where
   more blocks q e rest =
       ap (λ (es : List Entry). es ++ rest) (sym (append_assoc (entries_of blocks) q (e ∷ []))) ∙ append_assoc (entries_of blocks ++ q) (e ∷ []) rest
 
-  grown : (blocks : List PlannedBlock) (q : List Entry) (e : Entry) → is_full o q ≡ false → ((rest : List Entry) → blocks_behind o [] ((entries_of blocks ++ q) ++ rest) ≡ parts_of blocks ++ blocks_behind o q rest) → (rest : List Entry)
+  one_more : (blocks : List PlannedBlock) (q : List Entry) (e : Entry) → is_full o q ≡ false → ((rest : List Entry) → blocks_behind o [] ((entries_of blocks ++ q) ++ rest) ≡ parts_of blocks ++ blocks_behind o q rest) → (rest : List Entry)
       → blocks_behind o [] ((entries_of blocks ++ (q ++ e ∷ [])) ++ rest) ≡ parts_of blocks ++ blocks_behind o (q ++ e ∷ []) rest
-  grown blocks q e part cuts rest =
+  one_more blocks q e part cuts rest =
       ap (blocks_behind o []) (more blocks q e rest) ∙ cuts (e ∷ rest) ∙ ap (λ (ps : List (List Entry)). parts_of blocks ++ ps) (grow q e rest part)
+
+  -- the data blocks begin with these, however many entries come behind the open ones
+  abbrev Cut_by : List PlannedBlock → List Entry → Type 0
+  Cut_by blocks q = (rest : List Entry) → blocks_behind o [] ((entries_of blocks ++ q) ++ rest) ≡ parts_of blocks ++ blocks_behind o q rest
+
+  -- the same with so many entries more, where the open block is full before none of them
+  more_by : (blocks : List PlannedBlock) (n : ℕ) (q es : List Entry) → ((m : ℕ) → m < n → is_full o (q ++ take m es) ≡ false) → Cut_by blocks q → Cut_by blocks (q ++ take n es)
+  more_by blocks zero q es part cuts = subst (Cut_by blocks) (sym (append-nil q)) cuts
+  more_by blocks (suc n) q [] part cuts = subst (Cut_by blocks) (sym (append-nil q)) cuts
+  more_by blocks (suc n) q (e ∷ es) part cuts =
+      let first : is_full o q ≡ false = ap (is_full o) (sym (append-nil q)) ∙ part 0 (omega arith) in
+      let later : (m : ℕ) → m < n → is_full o ((q ++ e ∷ []) ++ take m es) ≡ false = λ m lt. ap (is_full o) (append_assoc q (e ∷ []) (take m es)) ∙ part (suc m) (omega (arith, lt)) in
+      subst (Cut_by blocks) (append_assoc q (e ∷ []) (take n es)) (more_by blocks n (q ++ e ∷ []) es later (one_more blocks q e first cuts))
 
   -- ---- no entry
 
@@ -100,20 +119,25 @@ module _ (o : Options) where
     last_is = sym (ap ended none);
   }
 
-  -- ---- one entry more
+  -- ---- entries more
 
-  pub open_grown : (blocks : List PlannedBlock) (size : ℕ) (last : Option (List ℕ)) (before after : Metered) (e : Entry) → IsOpen o blocks size last before → after.interval ≡ before.interval → after.entries ≡ before.entries ++ e ∷ []
-      → is_full o after.entries ≡ false → IsOpen o blocks size (Some e.key) after
-  open_grown blocks size last before after e h interval is part =
+  -- before the first of them the open block is not full either
+  pub parts_by : (before : Metered) (n : ℕ) → is_full o before.entries ≡ false → ((m : ℕ) → 0 < m → m < n → is_full o (grown m before).entries ≡ false) → (m : ℕ) → m < n → is_full o (grown m before).entries ≡ false
+  parts_by before n first part zero lt = ap (is_full o) (append-nil before.entries) ∙ first
+  parts_by before n first part (suc m) lt = part (suc m) (omega arith) lt
+
+  pub open_grown : (blocks : List PlannedBlock) (size : ℕ) (last key : Option (List ℕ)) (before after : Metered) (n : ℕ) → IsOpen o blocks size last before → after ≡ grown n before
+      → ((m : ℕ) → m < n → is_full o (grown m before).entries ≡ false) → is_full o after.entries ≡ false → key ≡ ended (entries_of blocks ++ after.entries) → IsOpen o blocks size key after
+  open_grown blocks size last key before after n h is parts part key_is =
       record {
         limits = h.limits;
-        interval = interval ∙ h.interval;
+        interval = ap (λ (m : Metered). m.interval) is ∙ h.interval;
         part = part;
         full = h.full;
         lens = h.lens;
-        cuts = subst (λ (q : List Entry). (rest : List Entry) → blocks_behind o [] ((entries_of blocks ++ q) ++ rest) ≡ parts_of blocks ++ blocks_behind o q rest) (sym is) (grown blocks before.entries e h.part h.cuts);
+        cuts = subst (Cut_by blocks) (sym (ap (λ (m : Metered). m.entries) is)) (more_by blocks n before.entries before.behind parts h.cuts);
         flushed_is = h.flushed_is;
-        last_is = sym (ap (λ (q : List Entry). ended (entries_of blocks ++ q)) is ∙ ap ended (sym (append_assoc (entries_of blocks) before.entries (e ∷ []))) ∙ ended_push (entries_of blocks ++ before.entries) e);
+        last_is = key_is;
       }
 
   -- both sums stop at the largest number
@@ -128,50 +152,35 @@ module _ (o : Options) where
       ∙ sum_saturated (stored_len o.restart_interval (parts_of (blocks ++ b ∷ []))) (stored_len o.restart_interval (parts_of blocks)) (length (block o.restart_interval b.entries.entries))
       (ap (stored_len o.restart_interval) (parts_push blocks b) ∙ lengths_law.stored o.restart_interval (parts_of blocks) b.entries.entries)
 
-  pub open_flushed : (blocks : List PlannedBlock) (size : ℕ) (last : Option (List ℕ)) (before after : Metered) (e : Entry) (b : PlannedBlock) → IsOpen o blocks size last before → after.interval ≡ before.interval → after.entries ≡ []
-      → b.entries.entries ≡ before.entries ++ e ∷ [] → is_full o b.entries.entries ≡ true → HasLen o b
-      → IsOpen o (blocks ++ b ∷ []) (min (min (size + b.len) (2 ^ 64 - 1) + 5) (2 ^ 64 - 1)) (Some e.key) after
-  open_flushed blocks size last before after e b h interval none is full len =
+  pub open_flushed : (blocks : List PlannedBlock) (size : ℕ) (last key : Option (List ℕ)) (before full after : Metered) (n : ℕ) (b : PlannedBlock) → IsOpen o blocks size last before → full ≡ grown n before
+      → ((m : ℕ) → m < n → is_full o (grown m before).entries ≡ false) → is_full o full.entries ≡ true → b.entries.entries ≡ full.entries → b.len ≡ saturated (length (block full.interval full.entries))
+      → after ≡ record { interval = full.interval; entries = []; behind = full.behind } → key ≡ ended (entries_of blocks ++ full.entries)
+      → IsOpen o (blocks ++ b ∷ []) (min (min (size + b.len) (2 ^ 64 - 1) + 5) (2 ^ 64 - 1)) key after
+  open_flushed blocks size last key before full after n b h is parts reaches entries_are len after_is key_is =
       let q : List Entry = b.entries.entries in
-      let grew : (rest : List Entry) → blocks_behind o [] ((entries_of blocks ++ q) ++ rest) ≡ parts_of blocks ++ blocks_behind o q rest =
-      subst (λ (xs : List Entry). (rest : List Entry) → blocks_behind o [] ((entries_of blocks ++ xs) ++ rest) ≡ parts_of blocks ++ blocks_behind o xs rest) (sym is) (grown blocks before.entries e h.part h.cuts) in
+      let none : after.entries ≡ [] = ap (λ (m : Metered). m.entries) after_is in
+      let interval : full.interval ≡ o.restart_interval = ap (λ (m : Metered). m.interval) is ∙ h.interval in
+      let has_len : HasLen o b = len ∙ ap (λ (r : ℕ). saturated (length (block r full.entries))) interval ∙ ap (λ (es : List Entry). saturated (length (block o.restart_interval es))) (sym entries_are) in
+      let grew : Cut_by blocks q = subst (Cut_by blocks) (sym (entries_are ∙ ap (λ (m : Metered). m.entries) is)) (more_by blocks n before.entries before.behind parts h.cuts) in
       let entries : entries_of (blocks ++ b ∷ []) ++ after.entries ≡ entries_of blocks ++ q =
       ap (λ (xs : List Entry). entries_of (blocks ++ b ∷ []) ++ xs) none ∙ append-nil (entries_of (blocks ++ b ∷ [])) ∙ entries_push blocks b in
+      let whole : is_full o q ≡ true = ap (is_full o) entries_are ∙ reaches in
       record {
         limits = h.limits;
-        interval = interval ∙ h.interval;
+        interval = ap (λ (m : Metered). m.interval) after_is ∙ interval;
         part = ap (is_full o) none;
-        full = all_push (IsFlushed o) blocks b h.full full;
-        lens = all_push (HasLen o) blocks b h.lens len;
+        full = all_push (IsFlushed o) blocks b h.full whole;
+        lens = all_push (HasLen o) blocks b h.lens has_len;
         cuts = λ rest.
             ap (λ (xs : List Entry). blocks_behind o [] (xs ++ rest)) entries
             ∙ grew rest
-            ∙ ap (λ (ps : List (List Entry)). parts_of blocks ++ ps) (flush q rest full)
+            ∙ ap (λ (ps : List (List Entry)). parts_of blocks ++ ps) (flush q rest whole)
             ∙ sym (append_assoc (parts_of blocks) (q ∷ []) (blocks_behind o [] rest))
             ∙ sym (ap (λ (ps : List (List Entry)). ps ++ blocks_behind o [] rest) (parts_push blocks b))
             ∙ sym (ap (λ (xs : List Entry). parts_of (blocks ++ b ∷ []) ++ blocks_behind o xs rest) none);
-        flushed_is = stored_push blocks size b h.flushed_is len;
-        last_is = sym (ap ended entries ∙ ap (λ (xs : List Entry). ended (entries_of blocks ++ xs)) is ∙ ap ended (sym (append_assoc (entries_of blocks) before.entries (e ∷ []))) ∙ ended_push (entries_of blocks ++ before.entries) e);
+        flushed_is = stored_push blocks size b h.flushed_is has_len;
+        last_is = key_is ∙ sym (ap ended entries ∙ ap (λ (xs : List Entry). ended (entries_of blocks ++ xs)) entries_are);
       }
-
-  pub push_grown : (blocks : List PlannedBlock) (size : ℕ) (last : Option (List ℕ)) (before after : Metered) (key : List ℕ) → IsOpen o blocks size last before → 0 < length before.behind
-      → option_map (λ (e : Entry). e.key) (slice_get before.behind 0) ≡ Some key → after ≡ pushed before → is_full o after.entries ≡ false → IsOpen o blocks size (Some key) after
-  push_grown blocks size last before after key h some key_is is part =
-      let first = first_is before.behind key some key_is in
-      subst (λ (k : List ℕ). IsOpen o blocks size (Some k) after) first.2
-      (open_grown blocks size last before after first.0 h (ap (λ (m : Metered). m.interval) is) (ap (λ (m : Metered). m.entries) is ∙ ap (λ (es : List Entry). before.entries ++ es) first.1) part)
-
-  pub push_flushed : (blocks : List PlannedBlock) (size : ℕ) (last : Option (List ℕ)) (before full after : Metered) (key : List ℕ) (b : PlannedBlock) → IsOpen o blocks size last before → 0 < length before.behind
-      → option_map (λ (e : Entry). e.key) (slice_get before.behind 0) ≡ Some key → full ≡ pushed before → is_full o full.entries ≡ true → b.entries.entries ≡ full.entries → b.len ≡ saturated (length (block full.interval full.entries))
-      → after ≡ record { interval = full.interval; entries = []; behind = full.behind } → IsOpen o (blocks ++ b ∷ []) (min (min (size + b.len) (2 ^ 64 - 1) + 5) (2 ^ 64 - 1)) (Some key) after
-  push_flushed blocks size last before full after key b h some key_is is reaches entries len after_is =
-      let first = first_is before.behind key some key_is in
-      let interval : full.interval ≡ before.interval = ap (λ (m : Metered). m.interval) is in
-      let has_len : HasLen o b =
-      len ∙ ap (λ (r : ℕ). saturated (length (block r full.entries))) (interval ∙ h.interval) ∙ ap (λ (es : List Entry). saturated (length (block o.restart_interval es))) (sym entries) in
-      subst (λ (k : List ℕ). IsOpen o (blocks ++ b ∷ []) (min (min (size + b.len) (2 ^ 64 - 1) + 5) (2 ^ 64 - 1)) (Some k) after) first.2
-      (open_flushed blocks size last before after first.0 b h (ap (λ (m : Metered). m.interval) after_is ∙ interval) (ap (λ (m : Metered). m.entries) after_is)
-      (entries ∙ ap (λ (m : Metered). m.entries) is ∙ ap (λ (es : List Entry). before.entries ++ es) first.1) (ap (is_full o) entries ∙ reaches) has_len)
 
   -- ---- all data blocks
 
@@ -273,3 +282,34 @@ module _ (o : Options) where
           let key : e.key ≡ next = cc in
           ends_by_last (entries_of blocks ++ open_one.entries) size last e h.limits.file_size_le (h.flushed_is ∙ ap saturated (sym (flushed_open blocks size (Some last) open_one h))) h.last_is
           ∙ ap (λ (k : List ℕ). nat_le o.file_size size && not (bytes_eq (user_of last) (user_of k))) key
+
+  -- ---- where the output goes on
+
+  goes_by : (n : ℕ) (q es : List Entry) → ((m : ℕ) → m < n → ends_by o (q ++ take m es) (drop m es) ≡ false) → (rest : List Entry) → outputs_behind o (q ++ take n es) rest ≡ outputs_behind o q (take n es ++ rest)
+  goes_by zero q es on rest = ap (λ (xs : List Entry). outputs_behind o xs rest) (append-nil q)
+  goes_by (suc n) q [] on rest = ap (λ (xs : List Entry). outputs_behind o xs rest) (append-nil q)
+  goes_by (suc n) q (e ∷ es) on rest =
+      let first : ends_before o q e ≡ false = ap (λ (xs : List Entry). ends_before o xs e) (sym (append-nil q)) ∙ on 0 (omega arith) in
+      let later : (m : ℕ) → m < n → ends_by o ((q ++ e ∷ []) ++ take m es) (drop m es) ≡ false =
+      λ m lt. ap (λ (xs : List Entry). ends_by o xs (drop m es)) (append_assoc q (e ∷ []) (take m es)) ∙ on (suc m) (omega (arith, lt)) in
+      let step : outputs_behind o q (e ∷ (take n es ++ rest)) ≡ outputs_behind o (q ++ e ∷ []) (take n es ++ rest) = rw first refl in
+      ap (λ (xs : List Entry). outputs_behind o xs rest) (sym (append_assoc q (e ∷ []) (take n es))) ∙ goes_by n (q ++ e ∷ []) es later rest ∙ sym step
+
+  ends_below : (blocks : List PlannedBlock) (size : ℕ) (last : Option (List ℕ)) (open_one : Metered) → IsOpen o blocks size last open_one → nat_le o.file_size size ≡ false → ends_by o (entries_of blocks ++ open_one.entries) open_one.behind ≡ false
+  ends_below blocks size None open_one h below = ends_not blocks size open_one h
+  ends_below blocks size (Some last) open_one h below = ends_part blocks size last open_one h below
+
+  -- the output goes on with all entries that are taken in, where more than one is taken in only below the maximal file size
+  pub left_taken : (blocks : List PlannedBlock) (size : ℕ) (last : Option (List ℕ)) (before : Metered) (n : ℕ) → IsOpen o blocks size last before
+      → ((m : ℕ) → m < n → is_full o (grown m before).entries ≡ false) → ends_by o (entries_of blocks ++ before.entries) before.behind ≡ false → (1 < n → size < o.file_size) → (rest : List Entry)
+      → outputs_behind o ((entries_of blocks ++ before.entries) ++ take n before.behind) rest ≡ outputs_behind o (entries_of blocks ++ before.entries) (take n before.behind ++ rest)
+  left_taken blocks size last before n h parts first below rest = goes_by n (entries_of blocks ++ before.entries) before.behind on rest
+    where
+      on : (m : ℕ) → m < n → ends_by o ((entries_of blocks ++ before.entries) ++ take m before.behind) (drop m before.behind) ≡ false
+      on zero lt = ap (λ (xs : List Entry). ends_by o xs before.behind) (append-nil (entries_of blocks ++ before.entries)) ∙ first
+      on (suc m) lt =
+          let k : Metered = grown (suc m) before in
+          let open_one : IsOpen o blocks size (ended (entries_of blocks ++ k.entries)) k =
+          open_grown blocks size last (ended (entries_of blocks ++ k.entries)) before k (suc m) h refl (λ i below_m. parts i (omega (arith, below_m, lt))) (parts (suc m) lt) refl in
+          ap (λ (xs : List Entry). ends_by o xs (drop (suc m) before.behind)) (append_assoc (entries_of blocks) before.entries (take (suc m) before.behind))
+          ∙ ends_below blocks size (ended (entries_of blocks ++ k.entries)) k open_one (lt-leb o.file_size size (below (omega (arith, lt))))

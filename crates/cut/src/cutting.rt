@@ -1,6 +1,6 @@
 //! Cutting the kept entries of runs into outputs.
 
-ghost use Rattle.std.specs.Prelude.{◌≡◌, ◌<◌, ◌↔◌, List, [], ◌++◌, length, take, drop, map, flat_map, IsTrue, OnOk, IfOk, IfErr, IsOkUnless};
+ghost use Rattle.std.specs.Prelude.{◌≡◌, ◌<◌, ◌≤◌, ◌↔◌, List, [], ◌++◌, length, take, drop, map, flat_map, IsTrue, OnOk, IfOk, IfErr, IsOkUnless};
 ghost use Rattle.std.specs.List.{AllByRecursion};
 ghost use Rattle.coding.specs.Answers.{fault};
 ghost use Rattle.coding.specs.declared.fault.FaultName.TheVariants.{Memory};
@@ -87,19 +87,23 @@ impl<'r, 'a> Cutting<'r, 'a> {
         Ok(())
     }
 
-    /// Takes in the first entry behind. Refused for want of memory alone.
-    fn step(&mut self) -> Result<(), Fault>
-        requires { 0 < length self.old.behind }
-        ensures left { OnOk result ((rest : List Entry) →
-            outputs_left self.new rest ≡ outputs_left self.old (take 1 self.old.behind ++ rest)) }
-        ensures behind { OnOk result (self.new.behind ≡ drop 1 self.old.behind) }
+    /// Takes in the first entries behind, at least one and at most so many, and answers how many they are. Refused for want of
+    /// memory alone.
+    fn step(&mut self, most: u64) -> Result<u64, Fault>
+        requires any { 0 < length self.old.behind }
+        requires most { 0 < most }
+        ensures left { IfOk result (λ taken. (rest : List Entry) →
+            outputs_left self.new rest ≡ outputs_left self.old (take taken self.old.behind ++ rest)) }
+        ensures behind { IfOk result (λ taken. self.new.behind ≡ drop taken self.old.behind) }
+        ensures some { IfOk result (λ taken. 0 < taken) }
+        ensures most { IfOk result (λ taken. taken ≤ most) }
         ensures options { OnOk result (self.new.options ≡ self.old.options) }
-        ensures memory { IsOkUnless result (fault Memory) }
+        ensures memory { IfErr result (λ e. e ≡ fault Memory) }
     {
         if self.latest.ends_before_next() {
             self.end_output()?;
         }
-        self.latest.push()
+        self.latest.take_in(most)
     }
 
     /// Takes in so many entries, or all where there are fewer, and ends the last output. Refused for want of memory alone.
@@ -114,8 +118,8 @@ impl<'r, 'a> Cutting<'r, 'a> {
     {
         let mut left = count;
         while left > 0 && self.has_next() {
-            self.step()?;
-            left -= 1;
+            let most = left.min(u64::MAX as u128) as u64;
+            left -= self.step(most)? as u128;
         }
         self.end_output()
     }
@@ -131,7 +135,7 @@ impl<'r, 'a> Cutting<'r, 'a> {
         ensures memory { IsOkUnless result (fault Memory) }
     {
         while self.has_next() {
-            self.step()?;
+            self.step(u64::MAX)?;
         }
         self.end_output()
     }

@@ -1,11 +1,12 @@
 //! The data block that takes the next entry of a plan.
 
-ghost use Rattle.std.specs.Prelude.{◌≡◌, ℕ, ◌↔◌, ◌+◌, ◌≤◌, ◌<◌, [], ◌++◌, length, take, drop, slice_get, IsTrue, Some};
+ghost use Rattle.std.specs.Prelude.{◌≡◌, ◌≢◌, ℕ, ◌↔◌, ◌≤◌, ◌<◌, false, [], length, IsTrue};
 ghost use Rattle.std.specs.Option.{option_map};
 ghost use Rattle.block.specs.Writing.{block};
 ghost use Rattle.table.specs.DataBlocks.{is_full};
+ghost use Rattle.table.specs.Options.{AreInLimits};
 ghost use Rattle.cut.specs.Sizes.{saturated};
-ghost use Rattle.cut.specs.Metered.{left_out, added_size};
+ghost use Rattle.cut.specs.Metered.{grown, ended, next_since, left_out, added_size};
 
 use crate::lengths::piece_len;
 use coding::common_len;
@@ -45,6 +46,7 @@ impl<'r, 'a> Model for OpenBlock<'r, 'a> {
 
 /// How many bytes of its key an entry leaves out, where so many stand behind the last whole interval, and this is the key
 /// before it.
+#[inline(always)]
 fn left_out(since: u64, before: Option<InternalKey<'_>>, key: InternalKey<'_>) -> usize
     ensures value { result ≡ left_out since (option_map (λ k. k.bytes.now) before.entry) key.entry.bytes.now }
     ensures within { result ≤ length key.entry.bytes.now }
@@ -60,6 +62,7 @@ fn left_out(since: u64, before: Option<InternalKey<'_>>, key: InternalKey<'_>) -
 
 /// How many bytes an entry adds to a block, where so many stand behind the last whole interval, and this is the key before
 /// it. A sum of 2^64 or more is 2^64 - 1.
+#[inline(always)]
 fn added_len(since: u64, before: Option<InternalKey<'_>>, key: InternalKey<'_>, value: &[u8]) -> u64
     ensures { result
         ≡ saturated (added_size since (option_map (λ k. k.bytes.now) before.entry) key.entry.bytes.now (length value.now)) }
@@ -73,6 +76,14 @@ fn added_len(since: u64, before: Option<InternalKey<'_>>, key: InternalKey<'_>, 
         0
     };
     piece.saturating_add(restart)
+}
+
+/// How many entries stand behind the last whole interval, with one more.
+fn next_since(since: u64, interval: u64) -> u64
+    requires { since < interval }
+    ensures { result ≡ next_since interval since }
+{
+    if since + 1 == interval { 0 } else { since + 1 }
 }
 
 impl<'r, 'a> OpenBlock<'r, 'a> {
@@ -90,27 +101,73 @@ impl<'r, 'a> OpenBlock<'r, 'a> {
         }
     }
 
-    /// Takes in the first entry behind, and answers its key. Takes no memory.
-    pub fn push(&mut self) -> InternalKey<'r>
+    /// Takes in the first entry behind.
+    fn push(&mut self)
         requires { 0 < length self.old.behind }
-        ensures new { self.new ≡ record {
-          interval = self.old.interval;
-          entries = self.old.entries ++ take 1 self.old.behind;
-          behind = drop 1 self.old.behind;
-        } }
-        ensures key { option_map (λ e. e.key) (slice_get self.old.behind 0) ≡ Some result.bytes.now }
+        ensures { self.new ≡ grown 1 self.old }
     {
         let place = self.slice.behind();
         let key = place.key();
         let added = added_len(self.since, self.slice.last_key(), key, place.value());
         self.slice.push(key);
         self.len = self.len.saturating_add(added);
-        self.since = if self.since + 1 == self.interval {
-            0
-        } else {
-            self.since + 1
-        };
-        key
+        self.since = next_since(self.since, self.interval);
+    }
+
+    /// Takes in the first entries behind until the block reaches the block size, but at most so many, where it has an entry; and
+    /// answers how many they are.
+    fn fill(&mut self, options: Options, most: u64) -> u64
+        requires limits { AreInLimits options }
+        requires interval { self.old.interval ≡ options.restart_interval }
+        requires some { self.old.entries ≢ [] }
+        ensures new { self.new ≡ grown result self.old }
+        ensures most { result ≤ most }
+        ensures within { result ≤ length self.old.behind }
+        ensures part { (n : ℕ) → n < result → is_full options (grown n self.old).entries ≡ false }
+    {
+        // What each entry changes stands in variables of the loop, so that none of it is written back before the end.
+        let next = RunsSlice::at(self.slice.behind());
+        let mut slice = mem::replace(&mut self.slice, next);
+        let mut len = self.len;
+        let mut since = self.since;
+        let mut taken = 0;
+        while taken < most && len < options.block_size && slice.behind().valid() {
+            let place = slice.behind();
+            let key = place.key();
+            let added = added_len(since, slice.last_key(), key, place.value());
+            slice.push(key);
+            len = len.saturating_add(added);
+            since = next_since(since, self.interval);
+            taken += 1;
+        }
+        self.slice = slice;
+        self.len = len;
+        self.since = since;
+        taken
+    }
+
+    /// Takes in the first entries behind until the block reaches the block size, at least one and at most so many; and answers
+    /// how many they are. Takes no memory.
+    pub fn take_in(&mut self, options: Options, most: u64) -> u64
+        requires limits { AreInLimits options }
+        requires interval { self.old.interval ≡ options.restart_interval }
+        requires any { 0 < length self.old.behind }
+        requires most { 0 < most }
+        ensures new { self.new ≡ grown result self.old }
+        ensures some { 0 < result }
+        ensures most { result ≤ most }
+        ensures within { result ≤ length self.old.behind }
+        ensures part { (n : ℕ) → 0 < n → n < result → is_full options (grown n self.old).entries ≡ false }
+    {
+        self.push();
+        1 + self.fill(options, most - 1)
+    }
+
+    /// The key of the last entry, where there is one.
+    pub fn last_key(&self) -> Option<InternalKey<'r>>
+        ensures { option_map (λ key. key.bytes.now) result ≡ ended self.now.entries }
+    {
+        self.slice.last_key()
     }
 
     /// Whether there is an entry, and the block reaches the block size.

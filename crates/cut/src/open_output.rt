@@ -1,12 +1,14 @@
 //! The output that takes the next entry of a plan.
 
-ghost use Rattle.std.specs.Prelude.{◌≡◌, ℕ, ◌↔◌, ◌<◌, [], ◌++◌, length, take, drop, IsTrue, OnOk, IfOk, IfErr, IsOkUnless};
+ghost use Rattle.std.specs.Prelude.{◌≡◌, ℕ, ◌↔◌, ◌<◌, ◌≤◌, false, List, [], ◌++◌, length, take, drop, IsTrue, OnOk, IfOk, IfErr};
 ghost use Rattle.std.specs.List.{AllByRecursion};
 ghost use Rattle.coding.specs.Answers.{fault};
 ghost use Rattle.coding.specs.declared.fault.FaultName.TheVariants.{Memory};
+ghost use Rattle.block.specs.Piece.{Entry};
 ghost use Rattle.table.specs.Options.{AreInLimits};
 ghost use Rattle.table.specs.DataBlocks.{data_blocks};
 ghost use Rattle.cut.specs.Opened.{parts_of, HasLen, ends_by};
+ghost use Rattle.cut.specs.Outputs.{outputs_behind};
 
 use crate::open_block::OpenBlock;
 use coding::Fault;
@@ -71,26 +73,41 @@ impl<'r, 'a> OpenOutput<'r, 'a> {
         self.current.behind().valid()
     }
 
-    /// Takes in the first entry behind. Refused for want of memory alone.
-    pub fn push(&mut self) -> Result<(), Fault>
-        requires { 0 < length self.old.behind }
-        ensures ok { OnOk result (self.new ≡ record {
+    /// Takes in the first entries behind, at least one and at most so many, and answers how many they are, where the output does
+    /// not end before the first of them: no more than make its data block full, nor any before which it may end. Refused for
+    /// want of memory alone.
+    pub fn take_in(&mut self, most: u64) -> Result<u64, Fault>
+        requires any { 0 < length self.old.behind }
+        requires most { 0 < most }
+        requires goes_on { ends_by self.old.options self.old.entries self.old.behind ≡ false }
+        ensures ok { IfOk result (λ taken. self.new ≡ record {
           options = self.old.options;
-          entries = self.old.entries ++ take 1 self.old.behind;
-          behind = drop 1 self.old.behind;
+          entries = self.old.entries ++ take taken self.old.behind;
+          behind = drop taken self.old.behind;
         }) }
+        ensures some { IfOk result (λ taken. 0 < taken) }
+        ensures most { IfOk result (λ taken. taken ≤ most) }
+        ensures left { IfOk result (λ taken. (rest : List Entry) →
+            outputs_behind self.old.options (self.old.entries ++ take taken self.old.behind) rest
+            ≡ outputs_behind self.old.options self.old.entries (take taken self.old.behind ++ rest)) }
         ensures options { self.new.options ≡ self.old.options }
-        ensures memory { IsOkUnless result (fault Memory) }
+        ensures memory { IfErr result (λ e. e ≡ fault Memory) }
     {
         self.blocks.reserve(1)?;
-        self.last = Some(self.current.push());
+        let fits = if self.flushed < self.options.file_size {
+            most
+        } else {
+            1
+        };
+        let taken = self.current.take_in(self.options, fits);
+        self.last = self.current.last_key();
         if self.current.is_full(self.options) {
             let block = self.current.end();
             let flushed = self.flushed.saturating_add(block.len);
             self.flushed = flushed.saturating_add(TRAILER_LEN as u64);
             self.blocks.push(block).unwrap();
         }
-        Ok(())
+        Ok(taken)
     }
 
     /// Whether the output ends before the first entry behind.

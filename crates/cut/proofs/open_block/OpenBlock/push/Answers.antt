@@ -1,13 +1,11 @@
 use Rattle.std.proofs.Common.{◌≡◌, ◌<◌, ◌+◌, ◌-◌, ◌^◌, ◌++◌, List, ℕ, length, min, take, sym, ap, subst, ◌∙◌, refl, arith}
 use Rattle.std.specs.Prelude.{Some, slice_get}
 use Rattle.std.specs.Option.{option_map}
-use Rattle.std.proofs.lemmas.Bool.{eq-eqb, ne_eqb}
 use Rattle.block.specs.Piece.{Entry}
-use Rattle.cut.specs.Metered.{IsMetered, Metered, added_size}
+use Rattle.cut.specs.Metered.{IsMetered, Metered, next_since, added_size}
 use Rattle.cut.specs.Sizes.{saturated}
-use Rattle.cut.proofs.Metered.{metered_push, next_since}
+use Rattle.cut.proofs.Metered.{metered_push, since_below}
 use Rattle.cut.proofs.open_block.OpenBlock.push.Goals as goal
-use Rattle.cut.proofs.open_block.OpenBlock.push.Goals.{then-self, else-self}
 
 pub invariant_of-self : goal.invariant_of-self
 invariant_of-self c =
@@ -25,9 +23,8 @@ invariant_of-self c =
     let entries : c.push.new.self.entries ≡ q ++ take 1 behind = ap (λ s. s.entries) c.push.ensures in
     let len : c.saturating_add-self-inside.result ≡ min (was.len + saturated (added_size was.since before key (length value))) (2 ^ 64 - 1) =
     c.saturating_add-self-inside.ensures ∙ ap (λ (n : ℕ). min (was.len + n) (2 ^ 64 - 1)) c.added_len-added.ensures in
-    let since : c.if-self.self ≡ next_since was.interval was.since =
-    elim c.if-self.branch [
-      | then-self w ↦ w.self-is ∙ rw (eq-eqb (was.since + 1) was.interval w.if-self.true) refl
-      | else-self w ↦ w.self-is ∙ rw (ne_eqb (was.since + 1) was.interval w.if-self.false) refl
-    ] in
+    let since : c.next_since-self-inside.result ≡ next_since was.interval was.since = c.next_since-self-inside.ensures in
     rw (entries, len, since) (metered_push was.interval q behind was.len was.since key value before c.self.invariant some key_is value_is c.last_key.ensures)
+
+pub next_since-self-inside-requires : goal.next_since-self-inside-requires
+next_since-self-inside-requires c = since_below c.self.inside.interval c.self.inside.slice.entries c.self.inside.len c.self.inside.since c.self.invariant

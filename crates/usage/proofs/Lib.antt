@@ -1,3 +1,4 @@
+mod CommandLemmas
 mod DigitLemmas
 mod LineLemmas
 mod NumberLists

@@ -1,13 +1,11 @@
 -- Facts on the texts of a command line.
-use Rattle.std.proofs.Common.{◌≡◌, ℕ, Bool, true, false, List, [], Option, Some, None, Result, Ok, Err, option_map, if◌then◌else◌, unwrap_or, codes, inl, inr, refl, subst, sym, ap, ap₂, ◌∙◌}
-use Rattle.std.specs.Prelude.{◌||◌, IsErr, IsErrAnd, MatchOption, Box}
+use Rattle.std.proofs.Common.{◌≡◌, ℕ, Bool, true, false, List, [], Option, Some, None, Result, Ok, Err, option_map, if◌then◌else◌, unwrap_or, codes, inl, inr, refl, subst, sym, ap, ◌∙◌}
+use Rattle.std.specs.Prelude.{◌&&◌, IsErr, IsErrAnd, MatchOption, Box}
 use Rattle.std.specs.Borrow.{Bor}
 use Rattle.std.specs.Str.{bytes_eq}
-use Rattle.clap.specs.declared.builder.command.Command.{Command}
-use Rattle.clap.specs.declared.builder.command.Command.TheOpen.{Command-F}
-use Rattle.clap.specs.declared.builder.command.Command.TheViews.{out-Command}
-use Rattle.clap.specs.Words.{AddsSubcommand, App, app_of, IsAmong, Row, Text, fault_of, is_simple, is_simple_and_free, kind_of, subcommand_of, subcommand_rows, subcommand_rows_of, with_subcommand}
+use Rattle.clap.specs.Words.{App, IsAmong, Row, Text, fault_of, is_simple, is_simple_and_free, built, kind_of, subcommand_of, subcommand_rows, subcommand_rows_of}
 use Rattle.clap.specs.Matches.{subcommand_name_of}
+use Rattle.clap.specs.Faults.{is_free_app}
 use Rattle.clap.specs.Kinds.{HasKind}
 use Rattle.clap.specs.declared.error.Error.{Error}
 use Rattle.clap.specs.declared.parser.matches.ArgMatches.{ArgMatches}
@@ -36,29 +34,19 @@ pub MatchOption-now : (o : Option (Bor Text)) (first : Option Text) → option_m
 MatchOption-now None first e = sym e
 MatchOption-now (Some s) first e = sym e
 
--- what a command is with one subcommand more
-pub with_one_more : (old sub new : Command) (app sub_app : App) → app_of old ≡ app → app_of sub ≡ sub_app → (out-Command sub).has_globals ≡ false → AddsSubcommand old sub new
-    → app_of new ≡ with_subcommand app sub_app.top
-with_one_more old sub new app sub_app is sub_is local adds = adds.shape local ∙ ap₂ with_subcommand is (ap (λ (a : App). a.top) sub_is)
+-- the first of two tests that hold both
+and_first : (a b : Bool) → (a && b) ≡ true → a ≡ true
+and_first true b e = refl
+and_first false b e = absurd cc
 
--- whether a command has an argument of all its subcommands
-abbrev pub globals_of : Command-F Command → Bool
-globals_of c = c.has_globals
-
--- a test that fails adds nothing
-pub or_false : (a b : Bool) → b ≡ false → (a || b) ≡ a
-or_false true b e = refl
-or_false false b e = e
-
--- the program is a command of which `clap` states the matches
-pub is_simple-program : is_simple program_app ≡ true
-unfolding clap_on_literals
-is_simple-program = refl
-
--- and the errors
+-- the program is a command of which `clap` states the matches and the errors
 pub is_simple_and_free-program : is_simple_and_free program_app ≡ true
 unfolding clap_on_literals
 is_simple_and_free-program = refl
+
+-- and so one of which it states the matches: this is a part of that, and is not computed twice
+pub is_simple-program : is_simple program_app ≡ true
+is_simple-program = and_first (is_simple program_app) (is_free_app (built program_app)) is_simple_and_free-program
 
 -- the name of the subcommand, from its rows
 pub subcommand_name_of-rows : (m : ArgMatches) → subcommand_name_of m ≡ option_map (λ p. p.0) (subcommand_rows_of m)

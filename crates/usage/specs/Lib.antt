@@ -7,3 +7,4 @@ pub mod Line
 -- serves proofs alone
 pub mod LineParts
 pub mod CompactLineParts
+pub mod Commands

@@ -1,17 +1,24 @@
 //! The commands of the program, as `clap` is told of them.
 
-ghost use Rattle.std.specs.Prelude.{◌≡◌, IfOk, false};
-ghost use Rattle.clap.specs.Words.{app_of, rule_of};
-ghost use Rattle.clap.specs.declared.builder.command.Command.TheViews.{out-Command};
-ghost use Rattle.clap.specs.Words.{new_app};
+ghost use Rattle.std.specs.Prelude.{◌≡◌, IfOk};
+ghost use Rattle.clap.specs.Words.{App, app_of, new_app, with_subcommand};
+ghost use Rattle.usage.specs.Commands.{Extends, IsCommand, adding};
 ghost use Rattle.usage.specs.Flags.{flag_rule, verbose_rule};
-ghost use Rattle.usage.specs.Line.{blocks_app, compact_app, dump_app, folder_app, get_app, number_rule, program_app, wanted, with_levels, with_outputs, with_work};
+ghost use Rattle.usage.specs.Line.{at_rule, bare_app, blocks_app, compact_app, dump_app, folder_app, get_app, number_rule, program_app, snapshots_rule, wanted, with_levels, with_outputs, with_work};
 
 use clap::{Arg, ArgAction, Command, value_parser};
 use std::alloc::{AllocError, Global};
 
 /// The version, and the kit that proved it.
-const VERSION: &str = "0.1.0, proved with rattle-kit-13b logic dac8208d650f15bf";
+const VERSION: &str = "0.1.0, proved with rattle-kit-13f logic dac8208d650f15bf";
+
+const FOLDER_HELP: &str = "The folder";
+
+const FIRST_HELP: &str = "The first file: a block's contents, without trailer";
+
+const SECOND_HELP: &str = "The second file, of the same form";
+
+const OUT_HELP: &str = "The file that gets the block of all entries";
 
 const AT_HELP: &str =
     "The user key at which the second range begins: hexadecimal digits, or - for the empty key";
@@ -84,63 +91,70 @@ The status is 0 when the work is done, 1 when it is refused, 2 for a fault of us
 pub(crate) fn program_command<'a>(alloc: Global) -> Result<Command<'a>, AllocError>
     ensures { IfOk result (λ command. app_of command ≡ program_app) }
 {
-    let blocks = blocks_command(alloc)?;
-    let dump = dump_command(alloc)?;
-    let manifest = folder_command(alloc, "manifest", MANIFEST_ABOUT, MANIFEST_EXAMPLE)?;
-    let verify = folder_command(alloc, "verify", VERIFY_ABOUT, VERIFY_EXAMPLE)?;
-    let get = get_command(alloc)?;
-    let compact = compact_command(alloc)?;
-    let command = Command::new(alloc, "sedvokt")
+    let command = with_command(bare_command(alloc), blocks_command(alloc))?;
+    let command = with_command(command, dump_command(alloc))?;
+    let command = with_command(
+        command,
+        folder_command(alloc, "manifest", MANIFEST_ABOUT, MANIFEST_EXAMPLE),
+    )?;
+    let command = with_command(
+        command,
+        folder_command(alloc, "verify", VERIFY_ABOUT, VERIFY_EXAMPLE),
+    )?;
+    let command = with_command(command, get_command(alloc))?;
+    with_command(command, compact_command(alloc))
+}
+
+/// The program without its commands.
+fn bare_command<'a>(alloc: Global) -> Command<'a>
+    ensures { app_of result ≡ bare_app }
+{
+    Command::new(alloc, "sedvokt")
         .version(VERSION)
         .about("Carries out compactions of sorted tables, by proved code")
         .after_help(STATUSES)
-        .subcommand_required(true);
-    let command = command.subcommand(blocks)?;
-    let command = command.subcommand(dump)?;
-    let command = command.subcommand(manifest)?;
-    let command = command.subcommand(verify)?;
-    let command = command.subcommand(get)?;
-    command.subcommand(compact)
+        .subcommand_required(true)
+}
+
+/// The command with one more below it. Where that one's memory was refused, so is this.
+fn with_command<'a>(
+    command: Command<'a>,
+    made: Result<Command<'a>, AllocError>,
+) -> Result<Command<'a>, AllocError>
+    ensures { (app : App) → IfOk made.entry (IsCommand app)
+        → IfOk result (λ both. app_of both ≡ with_subcommand (app_of command.entry) app.top) }
+{
+    command.subcommand(made?)
 }
 
 /// The command `blocks A B --at HEXKEY OUT`.
 fn blocks_command<'a>(alloc: Global) -> Result<Command<'a>, AllocError>
-    ensures app { IfOk result (λ command. app_of command ≡ blocks_app) }
-    ensures local { IfOk result (λ command. (out-Command command).has_globals ≡ false) }
+    ensures { IfOk result (IsCommand blocks_app) }
 {
-    let a = wanted(
-        alloc,
-        "A",
-        "The first file: a block's contents, without trailer",
-    );
-    let b = wanted(alloc, "B", "The second file, of the same form");
-    let at = wanted(alloc, "at", AT_HELP).long("at").value_name("HEXKEY");
-    let out = wanted(alloc, "OUT", "The file that gets the block of all entries");
     let command = named(alloc, "blocks", BLOCKS_ABOUT, BLOCKS_EXAMPLE);
-    let command = command.arg(a)?.arg(b)?;
-    command.arg(at)?.arg(out)
+    let command = with_wanted(alloc, command, "A", FIRST_HELP)?;
+    let command = with_wanted(alloc, command, "B", SECOND_HELP)?;
+    let command = with_at(alloc, command)?;
+    with_wanted(alloc, command, "OUT", OUT_HELP)
 }
 
 /// The command `get DIR HEXKEY [--at N] [-v]`.
 fn get_command<'a>(alloc: Global) -> Result<Command<'a>, AllocError>
-    ensures app { IfOk result (λ command. app_of command ≡ get_app) }
-    ensures local { IfOk result (λ command. (out-Command command).has_globals ≡ false) }
+    ensures { IfOk result (IsCommand get_app) }
 {
-    let folder = wanted(alloc, "DIR", "The folder");
-    let key = wanted(alloc, "HEXKEY", GET_KEY_HELP);
-    let at = number_option(alloc, "at", "N", GET_AT_HELP);
     let command = named(alloc, "get", GET_ABOUT, GET_EXAMPLE);
-    let command = command.arg(folder)?.arg(key)?;
-    command.arg(at)?.arg(verbose(alloc))
+    let command = with_wanted(alloc, command, "DIR", FOLDER_HELP)?;
+    let command = with_wanted(alloc, command, "HEXKEY", GET_KEY_HELP)?;
+    let command = with_number(alloc, command, "at", "N", GET_AT_HELP)?;
+    with_verbose(alloc, command)
 }
 
 /// The command `dump TABLE`.
 fn dump_command<'a>(alloc: Global) -> Result<Command<'a>, AllocError>
-    ensures app { IfOk result (λ command. app_of command ≡ dump_app) }
-    ensures local { IfOk result (λ command. (out-Command command).has_globals ≡ false) }
+    ensures { IfOk result (IsCommand dump_app) }
 {
-    let table = wanted(alloc, "TABLE", "The file of the table");
-    named(alloc, "dump", DUMP_ABOUT, DUMP_EXAMPLE).arg(table)
+    let command = named(alloc, "dump", DUMP_ABOUT, DUMP_EXAMPLE);
+    with_wanted(alloc, command, "TABLE", "The file of the table")
 }
 
 /// A command on a folder alone.
@@ -150,65 +164,16 @@ fn folder_command<'a>(
     about: &'a str,
     example: &'a str,
 ) -> Result<Command<'a>, AllocError>
-    ensures app { IfOk result (λ command. app_of command ≡ folder_app name.entry.now) }
-    ensures local { IfOk result (λ command. (out-Command command).has_globals ≡ false) }
+    ensures { IfOk result (IsCommand (folder_app name.entry.now)) }
 {
-    let folder = wanted(alloc, "DIR", "The folder");
-    let command = named(alloc, name, about, example).arg(folder)?;
-    command.arg(verbose(alloc))
-}
-
-/// A command of this name, which has no argument yet.
-fn named<'a>(alloc: Global, name: &'a str, about: &'a str, example: &'a str) -> Command<'a>
-    ensures app { app_of result ≡ new_app name.entry.now }
-    ensures local { (out-Command result).has_globals ≡ false }
-{
-    Command::new(alloc, name).about(about).after_help(example)
-}
-
-/// An argument that has to be given.
-fn wanted<'a>(alloc: Global, id: &'a str, help: &'a str) -> Arg<'a>
-    ensures rule { rule_of result ≡ wanted id.entry.now }
-    ensures local { result.global ≡ false }
-{
-    Arg::new(alloc, id).required(true).help(help)
-}
-
-/// An option with a number of 64 bits.
-fn number_option<'a>(alloc: Global, id: &'a str, name: &'a str, help: &'a str) -> Arg<'a>
-    ensures rule { rule_of result ≡ number_rule id.entry.now }
-    ensures local { result.global ≡ false }
-{
-    Arg::new(alloc, id)
-        .long(id)
-        .value_name(name)
-        .value_parser(value_parser!(u64))
-        .help(help)
-}
-
-/// The flag `-v`.
-fn verbose<'a>(alloc: Global) -> Arg<'a>
-    ensures rule { rule_of result ≡ verbose_rule }
-    ensures local { result.global ≡ false }
-{
-    flag(alloc, "verbose", VERBOSE_HELP).short('v')
-}
-
-/// A flag.
-fn flag<'a>(alloc: Global, id: &'a str, help: &'a str) -> Arg<'a>
-    ensures rule { rule_of result ≡ flag_rule id.entry.now }
-    ensures local { result.global ≡ false }
-{
-    Arg::new(alloc, id)
-        .long(id)
-        .action(ArgAction::SetTrue)
-        .help(help)
+    let command = named(alloc, name, about, example);
+    let command = with_wanted(alloc, command, "DIR", FOLDER_HELP)?;
+    with_verbose(alloc, command)
 }
 
 /// The command `compact DIR (--level N | --all)` with its options.
 fn compact_command<'a>(alloc: Global) -> Result<Command<'a>, AllocError>
-    ensures app { IfOk result (λ command. app_of command ≡ compact_app) }
-    ensures local { IfOk result (λ command. (out-Command command).has_globals ≡ false) }
+    ensures { IfOk result (IsCommand compact_app) }
 {
     let command = named(alloc, "compact", COMPACT_ABOUT, COMPACT_EXAMPLE);
     let command = with_levels(alloc, command)?;
@@ -218,40 +183,117 @@ fn compact_command<'a>(alloc: Global) -> Result<Command<'a>, AllocError>
 
 /// The command with the folder, and which levels of it are meant.
 fn with_levels<'a>(alloc: Global, command: Command<'a>) -> Result<Command<'a>, AllocError>
-    ensures app { IfOk result (λ made. app_of made ≡ with_levels (app_of command.entry)) }
-    ensures local { IfOk result (λ made. (out-Command made).has_globals ≡ (out-Command command.entry).has_globals) }
+    ensures { IfOk result (Extends with_levels command.entry) }
 {
-    let folder = wanted(alloc, "DIR", "The folder");
-    let level = number_option(alloc, "level", "N", LEVEL_HELP);
-    let all = flag(alloc, "all", ALL_HELP);
-    let command = command.arg(folder)?;
-    command.arg(level)?.arg(all)
+    let command = with_wanted(alloc, command, "DIR", FOLDER_HELP)?;
+    let command = with_number(alloc, command, "level", "N", LEVEL_HELP)?;
+    with_flag(alloc, command, "all", ALL_HELP)
 }
 
 /// The command with the options on how the work is done, and on what is told of it.
 fn with_work<'a>(alloc: Global, command: Command<'a>) -> Result<Command<'a>, AllocError>
-    ensures app { IfOk result (λ made. app_of made ≡ with_work (app_of command.entry)) }
-    ensures local { IfOk result (λ made. (out-Command made).has_globals ≡ (out-Command command.entry).has_globals) }
+    ensures { IfOk result (Extends with_work command.entry) }
 {
-    let workers = number_option(alloc, "workers", "W", WORKERS_HELP);
-    let ranges = number_option(alloc, "ranges", "R", RANGES_HELP);
-    let explain = flag(alloc, "explain", EXPLAIN_HELP);
-    let command = command.arg(workers)?.arg(ranges)?;
-    command.arg(verbose(alloc))?.arg(explain)
+    let command = with_number(alloc, command, "workers", "W", WORKERS_HELP)?;
+    let command = with_number(alloc, command, "ranges", "R", RANGES_HELP)?;
+    let command = with_verbose(alloc, command)?;
+    with_flag(alloc, command, "explain", EXPLAIN_HELP)
 }
 
 /// The command with the options on snapshots and on the outputs.
 fn with_outputs<'a>(alloc: Global, command: Command<'a>) -> Result<Command<'a>, AllocError>
-    ensures app { IfOk result (λ made. app_of made ≡ with_outputs (app_of command.entry)) }
-    ensures local { IfOk result (λ made. (out-Command made).has_globals ≡ (out-Command command.entry).has_globals) }
+    ensures { IfOk result (Extends with_outputs command.entry) }
 {
-    let snapshot = number_option(alloc, "snapshot", "S", SNAPSHOT_HELP);
+    let command = with_number(alloc, command, "snapshot", "S", SNAPSHOT_HELP)?;
+    let command = with_snapshots(alloc, command)?;
+    let command = with_number(alloc, command, "block-size", "B", BLOCK_SIZE_HELP)?;
+    with_number(alloc, command, "file-size", "F", FILE_SIZE_HELP)
+}
+
+/// A command of this name, which has no argument yet.
+fn named<'a>(alloc: Global, name: &'a str, about: &'a str, example: &'a str) -> Command<'a>
+    ensures { IsCommand (new_app name.entry.now) result }
+{
+    Command::new(alloc, name).about(about).after_help(example)
+}
+
+/// The command with an argument that has to be given.
+fn with_wanted<'a>(
+    alloc: Global,
+    command: Command<'a>,
+    id: &'a str,
+    help: &'a str,
+) -> Result<Command<'a>, AllocError>
+    ensures { IfOk result (Extends (adding (wanted id.entry.now)) command.entry) }
+{
+    command.arg(Arg::new(alloc, id).required(true).help(help))
+}
+
+/// The command with an option with a number of 64 bits.
+fn with_number<'a>(
+    alloc: Global,
+    command: Command<'a>,
+    id: &'a str,
+    name: &'a str,
+    help: &'a str,
+) -> Result<Command<'a>, AllocError>
+    ensures { IfOk result (Extends (adding (number_rule id.entry.now)) command.entry) }
+{
+    let number = Arg::new(alloc, id)
+        .long(id)
+        .value_name(name)
+        .value_parser(value_parser!(u64))
+        .help(help);
+    command.arg(number)
+}
+
+/// The command with the flag `-v`.
+fn with_verbose<'a>(alloc: Global, command: Command<'a>) -> Result<Command<'a>, AllocError>
+    ensures { IfOk result (Extends (adding verbose_rule) command.entry) }
+{
+    let verbose = Arg::new(alloc, "verbose")
+        .long("verbose")
+        .action(ArgAction::SetTrue)
+        .help(VERBOSE_HELP)
+        .short('v');
+    command.arg(verbose)
+}
+
+/// The command with a flag.
+fn with_flag<'a>(
+    alloc: Global,
+    command: Command<'a>,
+    id: &'a str,
+    help: &'a str,
+) -> Result<Command<'a>, AllocError>
+    ensures { IfOk result (Extends (adding (flag_rule id.entry.now)) command.entry) }
+{
+    let flag = Arg::new(alloc, id)
+        .long(id)
+        .action(ArgAction::SetTrue)
+        .help(help);
+    command.arg(flag)
+}
+
+/// The command with `--at HEXKEY`, which has to be given.
+fn with_at<'a>(alloc: Global, command: Command<'a>) -> Result<Command<'a>, AllocError>
+    ensures { IfOk result (Extends (adding at_rule) command.entry) }
+{
+    let at = Arg::new(alloc, "at")
+        .required(true)
+        .help(AT_HELP)
+        .long("at")
+        .value_name("HEXKEY");
+    command.arg(at)
+}
+
+/// The command with `--snapshots S,S,..`.
+fn with_snapshots<'a>(alloc: Global, command: Command<'a>) -> Result<Command<'a>, AllocError>
+    ensures { IfOk result (Extends (adding snapshots_rule) command.entry) }
+{
     let snapshots = Arg::new(alloc, "snapshots")
         .long("snapshots")
         .value_name("S,S,..")
         .help(SNAPSHOTS_HELP);
-    let block_size = number_option(alloc, "block-size", "B", BLOCK_SIZE_HELP);
-    let file_size = number_option(alloc, "file-size", "F", FILE_SIZE_HELP);
-    let command = command.arg(snapshot)?.arg(snapshots)?;
-    command.arg(block_size)?.arg(file_size)
+    command.arg(snapshots)
 }

@@ -1,18 +1,13 @@
-use Rattle.std.proofs.Common.{rules, ap₂, ◌≡◌, ◌∙◌}
+use Rattle.std.proofs.Common.{codes}
 use Rattle.std.proofs.lemmas.Result.{IfOk-weaker}
-use Rattle.clap.specs.Words.{rule_of, with_rule}
-use Rattle.usage.specs.Line.{at_rule}
+use Rattle.usage.specs.Commands.{adding}
+use Rattle.usage.specs.Line.{at_rule, wanted}
+use Rattle.usage.proofs.CommandLemmas.{changed}
 use Rattle.usage.proofs.commands.blocks_command.Goals as goal
 
-pub returns-clause-app : goal.returns-clause-app
-returns-clause-app c =
-    let at_is : rule_of c.value_name-at.result ≡ at_rule = search rules in
-    IfOk-weaker c.arg-4.result _ _ (λ command h. h.shape (search rules)
-    ∙ ap₂ with_rule (c.in_ok-arg-2.ensures.shape (search rules)
-    ∙ ap₂ with_rule (c.in_ok-command.ensures.shape (search rules)
-    ∙ ap₂ with_rule (c.in_ok-arg.ensures.shape (search rules)
-    ∙ ap₂ with_rule c.named-command.ensures.app c.wanted-a.ensures.rule) c.wanted-b.ensures.rule) at_is) c.wanted-out.ensures.rule)
-    c.arg-4.ensures
-
-pub returns-clause-local : goal.returns-clause-local
-returns-clause-local c = IfOk-weaker c.arg-4.result _ _ (λ command h. search rules) c.arg-4.ensures
+pub returns : goal.returns
+returns c =
+    let one = changed _ _ _ (adding (wanted (codes "A"))) c.named-command.ensures c.in_ok-command.ensures in
+    let two = changed _ _ _ (adding (wanted (codes "B"))) one c.in_ok-command-2.ensures in
+    let three = changed _ _ _ (adding at_rule) two c.in_ok-command-3.ensures in
+    IfOk-weaker c.with_wanted-3.result _ _ (λ command h. changed _ command _ (adding (wanted (codes "OUT"))) three h) c.with_wanted-3.ensures

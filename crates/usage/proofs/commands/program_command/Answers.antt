@@ -1,26 +1,17 @@
-use Rattle.std.proofs.Common.{ap, true, ◌≡◌, ◌∙◌}
+use Rattle.std.proofs.Common.{ap, codes, ◌∙◌}
 use Rattle.std.proofs.lemmas.Result.{IfOk-weaker}
-use Rattle.clap.specs.Words.{App, app_of}
-use Rattle.clap.specs.Simple.{app_of_fields}
-use Rattle.usage.specs.Line.{bare_app}
-use Rattle.usage.proofs.LineLemmas.{with_one_more}
+use Rattle.clap.specs.Words.{App, with_subcommand}
+use Rattle.usage.specs.Line.{blocks_app, compact_app, dump_app, folder_app, get_app}
 use Rattle.usage.proofs.commands.program_command.Goals as goal
 
-abbrev with_command_required : App → App
-with_command_required app = record app { top = record app.top { subcommand_required = true } }
-
-abbrev with_version : App → App
-with_version app = record app { top = record app.top { has_version = true } }
+abbrev with_one : App → App → App
+with_one sub app = with_subcommand app sub.top
 
 pub returns : goal.returns
 returns c =
-    let start : app_of c.subcommand_required-command.result ≡ bare_app =
-    ap app_of_fields c.subcommand_required-command.ensures
-    ∙ ap with_command_required (ap app_of_fields c.after_help.ensures ∙ ap app_of_fields c.about.ensures ∙ ap app_of_fields c.version.ensures
-    ∙ ap with_version c.new.ensures.app) in
-    let one = with_one_more _ _ c.in_ok-command.command _ _ start c.in_ok-blocks.ensures.app c.in_ok-blocks.ensures.local c.in_ok-command.ensures in
-    let two = with_one_more _ _ c.in_ok-command-2.command _ _ one c.in_ok-dump.ensures.app c.in_ok-dump.ensures.local c.in_ok-command-2.ensures in
-    let three = with_one_more _ _ c.in_ok-command-3.command _ _ two c.in_ok-manifest.ensures.app c.in_ok-manifest.ensures.local c.in_ok-command-3.ensures in
-    let four = with_one_more _ _ c.in_ok-command-4.command _ _ three c.in_ok-verify.ensures.app c.in_ok-verify.ensures.local c.in_ok-command-4.ensures in
-    let five = with_one_more _ _ c.in_ok-command-5.command _ _ four c.in_ok-get.ensures.app c.in_ok-get.ensures.local c.in_ok-command-5.ensures in
-    IfOk-weaker c.subcommand-6.result _ _ (λ command h. with_one_more _ _ command _ _ five c.in_ok-compact.ensures.app c.in_ok-compact.ensures.local h) c.subcommand-6.ensures
+    let one = c.in_ok-command.ensures blocks_app c.blocks_command.ensures ∙ ap (with_one blocks_app) c.bare_command.ensures in
+    let two = c.in_ok-command-2.ensures dump_app c.dump_command.ensures ∙ ap (with_one dump_app) one in
+    let three = c.in_ok-command-3.ensures (folder_app (codes "manifest")) c.folder_command.ensures ∙ ap (with_one (folder_app (codes "manifest"))) two in
+    let four = c.in_ok-command-4.ensures (folder_app (codes "verify")) c.folder_command-2.ensures ∙ ap (with_one (folder_app (codes "verify"))) three in
+    let five = c.in_ok-command-5.ensures get_app c.get_command.ensures ∙ ap (with_one get_app) four in
+    IfOk-weaker c.with_command-6.result _ _ (λ made h. h ∙ ap (with_one compact_app) five) (c.with_command-6.ensures compact_app c.compact_command.ensures)

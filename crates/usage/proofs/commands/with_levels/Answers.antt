@@ -1,12 +1,12 @@
-use Rattle.std.proofs.Common.{◌∙◌}
+use Rattle.std.proofs.Common.{codes}
 use Rattle.std.proofs.lemmas.Result.{IfOk-weaker}
-use Rattle.clap.specs.declared.builder.command.Command.TheViews.{out-Command}
-use Rattle.usage.proofs.LineLemmas.{or_false}
+use Rattle.usage.specs.Commands.{adding}
+use Rattle.usage.specs.Flags.{flag_rule}
+use Rattle.usage.specs.Line.{number_rule, wanted}
+use Rattle.usage.proofs.CommandLemmas.{changed_twice}
 use Rattle.usage.proofs.commands.with_levels.Goals as goal
 
-pub returns-clause-local : goal.returns-clause-local
-returns-clause-local c =
-    IfOk-weaker c.arg-3.result _ _ (λ made h. h.globals ∙ or_false (out-Command c.in_ok-arg.field-0).has_globals c.flag-all.result.global c.flag-all.ensures.local
-    ∙ c.in_ok-arg.ensures.globals ∙ or_false (out-Command c.in_ok-command.command).has_globals c.number_option-level.result.global c.number_option-level.ensures.local
-    ∙ c.in_ok-command.ensures.globals ∙ or_false (out-Command c.args.command).has_globals c.wanted-folder.result.global c.wanted-folder.ensures.local)
-    c.arg-3.ensures
+pub returns : goal.returns
+returns c =
+    let two = changed_twice _ _ _ (adding (wanted (codes "DIR"))) (adding (number_rule (codes "level"))) c.in_ok-command.ensures c.in_ok-command-2.ensures in
+    IfOk-weaker c.with_flag.result _ _ (λ made h. changed_twice _ _ made (λ app. adding (number_rule (codes "level")) (adding (wanted (codes "DIR")) app)) (adding (flag_rule (codes "all"))) two h) c.with_flag.ensures

@@ -1,25 +1,12 @@
-use Rattle.std.proofs.Common.{rules, ap, ap₂, ◌≡◌, ◌∙◌}
+use Rattle.std.proofs.Common.{codes}
 use Rattle.std.proofs.lemmas.Result.{IfOk-weaker}
-use Rattle.clap.specs.Words.{app_of, rule_of, with_rule}
-use Rattle.clap.specs.declared.builder.command.Command.TheViews.{out-Command}
-use Rattle.usage.specs.Line.{snapshots_rule}
-use Rattle.usage.proofs.LineLemmas.{or_false}
+use Rattle.usage.specs.Commands.{adding}
+use Rattle.usage.specs.Line.{number_rule, snapshots_rule}
+use Rattle.usage.proofs.CommandLemmas.{changed_twice}
 use Rattle.usage.proofs.commands.with_outputs.Goals as goal
 
-pub returns-clause-app : goal.returns-clause-app
-returns-clause-app c =
-    let snapshots_is : rule_of c.help-snapshots.result ≡ snapshots_rule = search rules in
-    IfOk-weaker c.arg-4.result _ _ (λ made h. h.shape (search rules)
-    ∙ ap₂ with_rule (c.in_ok-arg-2.ensures.shape (search rules)
-    ∙ ap₂ with_rule (c.in_ok-command.ensures.shape (search rules)
-    ∙ ap₂ with_rule (c.in_ok-arg.ensures.shape (search rules)
-    ∙ ap (with_rule (app_of c.args.command)) c.number_option-snapshot.ensures.rule) snapshots_is) c.number_option-block_size.ensures.rule) c.number_option-file_size.ensures.rule)
-    c.arg-4.ensures
-
-pub returns-clause-local : goal.returns-clause-local
-returns-clause-local c =
-    IfOk-weaker c.arg-4.result _ _ (λ made h. h.globals ∙ or_false (out-Command c.in_ok-arg-2.field-0).has_globals c.number_option-file_size.result.global c.number_option-file_size.ensures.local
-    ∙ c.in_ok-arg-2.ensures.globals ∙ or_false (out-Command c.in_ok-command.command).has_globals c.number_option-block_size.result.global c.number_option-block_size.ensures.local
-    ∙ c.in_ok-command.ensures.globals ∙ or_false (out-Command c.in_ok-arg.field-0).has_globals c.help-snapshots.result.global (search rules)
-    ∙ c.in_ok-arg.ensures.globals ∙ or_false (out-Command c.args.command).has_globals c.number_option-snapshot.result.global c.number_option-snapshot.ensures.local)
-    c.arg-4.ensures
+pub returns : goal.returns
+returns c =
+    let two = changed_twice _ _ _ (adding (number_rule (codes "snapshot"))) (adding snapshots_rule) c.in_ok-command.ensures c.in_ok-command-2.ensures in
+    let three = changed_twice _ _ _ (λ app. adding snapshots_rule (adding (number_rule (codes "snapshot")) app)) (adding (number_rule (codes "block-size"))) two c.in_ok-command-3.ensures in
+    IfOk-weaker c.with_number-3.result _ _ (λ made h. changed_twice _ _ made (λ app. adding (number_rule (codes "block-size")) (adding snapshots_rule (adding (number_rule (codes "snapshot")) app))) (adding (number_rule (codes "file-size"))) three h) c.with_number-3.ensures

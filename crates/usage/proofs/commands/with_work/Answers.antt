@@ -1,13 +1,13 @@
-use Rattle.std.proofs.Common.{◌∙◌}
+use Rattle.std.proofs.Common.{codes}
 use Rattle.std.proofs.lemmas.Result.{IfOk-weaker}
-use Rattle.clap.specs.declared.builder.command.Command.TheViews.{out-Command}
-use Rattle.usage.proofs.LineLemmas.{or_false}
+use Rattle.usage.specs.Commands.{adding}
+use Rattle.usage.specs.Flags.{flag_rule, verbose_rule}
+use Rattle.usage.specs.Line.{number_rule}
+use Rattle.usage.proofs.CommandLemmas.{changed_twice}
 use Rattle.usage.proofs.commands.with_work.Goals as goal
 
-pub returns-clause-local : goal.returns-clause-local
-returns-clause-local c =
-    IfOk-weaker c.arg-4.result _ _ (λ made h. h.globals ∙ or_false (out-Command c.in_ok-arg-2.field-0).has_globals c.flag-explain.result.global c.flag-explain.ensures.local
-    ∙ c.in_ok-arg-2.ensures.globals ∙ or_false (out-Command c.in_ok-command.command).has_globals c.verbose.result.global c.verbose.ensures.local
-    ∙ c.in_ok-command.ensures.globals ∙ or_false (out-Command c.in_ok-arg.field-0).has_globals c.number_option-ranges.result.global c.number_option-ranges.ensures.local
-    ∙ c.in_ok-arg.ensures.globals ∙ or_false (out-Command c.args.command).has_globals c.number_option-workers.result.global c.number_option-workers.ensures.local)
-    c.arg-4.ensures
+pub returns : goal.returns
+returns c =
+    let two = changed_twice _ _ _ (adding (number_rule (codes "workers"))) (adding (number_rule (codes "ranges"))) c.in_ok-command.ensures c.in_ok-command-2.ensures in
+    let three = changed_twice _ _ _ (λ app. adding (number_rule (codes "ranges")) (adding (number_rule (codes "workers")) app)) (adding verbose_rule) two c.in_ok-command-3.ensures in
+    IfOk-weaker c.with_flag.result _ _ (λ made h. changed_twice _ _ made (λ app. adding verbose_rule (adding (number_rule (codes "ranges")) (adding (number_rule (codes "workers")) app))) (adding (flag_rule (codes "explain"))) three h) c.with_flag.ensures

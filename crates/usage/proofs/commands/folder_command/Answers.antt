@@ -1,0 +1,12 @@
+use Rattle.std.proofs.Common.{codes}
+use Rattle.std.proofs.lemmas.Result.{IfOk-weaker}
+use Rattle.usage.specs.Commands.{adding}
+use Rattle.usage.specs.Flags.{verbose_rule}
+use Rattle.usage.specs.Line.{wanted}
+use Rattle.usage.proofs.CommandLemmas.{changed}
+use Rattle.usage.proofs.commands.folder_command.Goals as goal
+
+pub returns : goal.returns
+returns c =
+    let one = changed _ _ _ (adding (wanted (codes "DIR"))) c.named-command.ensures c.in_ok-command.ensures in
+    IfOk-weaker c.with_verbose.result _ _ (λ command h. changed _ command _ (adding verbose_rule) one h) c.with_verbose.ensures

@@ -10,7 +10,7 @@ use Rattle.merge.proofs.Orders.{all_append}
 use Rattle.keep.specs.Joined.{joined, AreInPieces}
 
 abbrev pub IsFull : List Entry → Type 0
-IsFull p = length p ≡ 512
+IsFull p = length p ≡ 4096
 
 abbrev pub IsKeyed : Entry → Type 0
 IsKeyed e = IsInternalKey e.key
@@ -27,7 +27,7 @@ joined_push [] last e = refl
 joined_push (p ∷ ps) last e = ap (λ (es : List Entry). p ++ es) (joined_push ps last e) ∙ sym (append_assoc p (joined ps last) (e ∷ []))
 
 -- the same entries in other pieces
-pub pieces_same : (ps qs : List (List Entry)) (last more : List Entry) (n : ℕ) → AreInPieces ps last n → joined qs more ≡ joined ps last → AllByRecursion IsFull qs → length more ≤ 512
+pub pieces_same : (ps qs : List (List Entry)) (last more : List Entry) (n : ℕ) → AreInPieces ps last n → joined qs more ≡ joined ps last → AllByRecursion IsFull qs → length more ≤ 4096
     → AreInPieces qs more n
 pieces_same ps qs last more n h e f l = record {
   full = f;
@@ -36,7 +36,7 @@ pieces_same ps qs last more n h e f l = record {
   internal = subst (AllByRecursion IsKeyed) (sym e) h.internal;
 }
 
-pub pieces_push : (ps : List (List Entry)) (last : List Entry) (n m : ℕ) (e : Entry) → AreInPieces ps last n → m ≡ n + 1 → IsInternalKey e.key → length last < 512
+pub pieces_push : (ps : List (List Entry)) (last : List Entry) (n m : ℕ) (e : Entry) → AreInPieces ps last n → m ≡ n + 1 → IsInternalKey e.key → length last < 4096
     → AreInPieces ps (last ++ e ∷ []) m
 pieces_push ps last n m e h k internal lt =
     let number : m ≡ length (joined ps last ++ e ∷ []) = omega (arith, k, h.count, length-append (joined ps last) (e ∷ [])) in
@@ -73,7 +73,7 @@ pub record StandsIn (ps : List (List Entry)) (last : List Entry) (number at plac
   pub within : (p : List Entry) → slice_get (ps ++ last ∷ []) number ≡ Some p → at < length p
   pub same : (p : List Entry) → slice_get (ps ++ last ∷ []) number ≡ Some p → slice_get p at ≡ slice_get (joined ps last) place
 
-stands_at : (ps : List (List Entry)) (last : List Entry) (q r i : ℕ) → i ≡ 512 * q + r → r < 512 → AllByRecursion IsFull ps → length last ≤ 512 → i < length (joined ps last) → StandsIn ps last q r i
+stands_at : (ps : List (List Entry)) (last : List Entry) (q r i : ℕ) → i ≡ 4096 * q + r → r < 4096 → AllByRecursion IsFull ps → length last ≤ 4096 → i < length (joined ps last) → StandsIn ps last q r i
 stands_at [] last zero r i e b h l lt =
     let place : r ≡ i = omega (arith, e) in
     let within : i < length last = lt in
@@ -88,7 +88,7 @@ stands_at [] last (suc q) r i e b h l lt =
     absurd (omega (arith, e, within, l))
 stands_at (p ∷ ps) last zero r i e b h l lt =
     let place : r ≡ i = omega (arith, e) in
-    let full : length p ≡ 512 = h.0 in
+    let full : length p ≡ 4096 = h.0 in
     let below : r < length p = omega (arith, b, full) in
     record {
       numbered = omega arith;
@@ -96,18 +96,18 @@ stands_at (p ∷ ps) last zero r i e b h l lt =
       same = λ o at. ap (λ (es : List Entry). slice_get es r) (sym (same_Some p o at)) ∙ sym (at_front p (joined ps last) r below) ∙ ap (slice_get (p ++ joined ps last)) place;
     }
 stands_at (p ∷ ps) last (suc q) r i e b h l lt =
-    let full : length p ≡ 512 = h.0 in
+    let full : length p ≡ 4096 = h.0 in
     let within : i < length (p ++ joined ps last) = lt in
-    let behind : 512 * q + r < length (joined ps last) = omega (arith, length-append p (joined ps last), full, within, e) in
-    let more = stands_at ps last q r (512 * q + r) refl b h.1 l behind in
-    let place : i ≡ length p + (512 * q + r) = omega (arith, e, full) in
+    let behind : 4096 * q + r < length (joined ps last) = omega (arith, length-append p (joined ps last), full, within, e) in
+    let more = stands_at ps last q r (4096 * q + r) refl b h.1 l behind in
+    let place : i ≡ length p + (4096 * q + r) = omega (arith, e, full) in
     record {
       numbered = omega (arith, more.numbered);
       within = more.within;
-      same = λ o at. more.same o at ∙ sym (at_behind p (joined ps last) (512 * q + r) i place);
+      same = λ o at. more.same o at ∙ sym (at_behind p (joined ps last) (4096 * q + r) i place);
     }
 
-pub stands_in : (ps : List (List Entry)) (last : List Entry) (n i : ℕ) → AreInPieces ps last n → i < length (joined ps last) → StandsIn ps last (i / 512) (i % 512) i
+pub stands_in : (ps : List (List Entry)) (last : List Entry) (n i : ℕ) → AreInPieces ps last n → i < length (joined ps last) → StandsIn ps last (i / 4096) (i % 4096) i
 stands_in ps last n i h lt =
-    let below : i % 512 < 512 = mod-lt i {m = 512} (omega arith) in
-    stands_at ps last (i / 512) (i % 512) i (sym (div-add-mod i 512)) below h.full h.last lt
+    let below : i % 4096 < 4096 = mod-lt i {m = 4096} (omega arith) in
+    stands_at ps last (i / 4096) (i % 4096) i (sym (div-add-mod i 4096)) below h.full h.last lt

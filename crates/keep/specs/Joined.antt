@@ -11,7 +11,7 @@ joined (p ∷ ps) last = p ++ joined ps last
 
 -- the pieces are full, the last one has at most as many entries as a full one, and all have so many, each with an internal key
 pub record AreInPieces (pieces : List (List Entry)) (behind : List Entry) (number : ℕ) : Type 0 where
-  pub full : AllByRecursion (λ p. length p ≡ 512) pieces
-  pub last : length behind ≤ 512
+  pub full : AllByRecursion (λ p. length p ≡ 4096) pieces
+  pub last : length behind ≤ 4096
   pub count : number ≡ length (joined pieces behind)
   pub internal : AllByRecursion (λ e. IsInternalKey e.key) (joined pieces behind)

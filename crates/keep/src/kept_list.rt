@@ -16,7 +16,7 @@ use std::marker::Model;
 use std::mem;
 
 /// How many entries a full piece has.
-const PIECE_LEN: usize = 512;
+const PIECE_LEN: usize = 4_096;
 
 /// Kept entries, one behind the other, seen as these.
 ///
@@ -52,11 +52,11 @@ fn make_room<'a>(
     full: &mut Vec<KeptPiece<'a>>,
     last: &mut KeptPiece<'a>,
 ) -> Result<(), Fault>
-    requires { length last.old ≤ 512 }
+    requires { length last.old ≤ 4096 }
     ensures same { joined full.new.items last.new ≡ joined full.old.items last.old }
-    ensures full { AllByRecursion (λ p. length p ≡ 512) full.old.items → AllByRecursion (λ p. length p ≡ 512) full.new.items }
-    ensures last { length last.new ≤ 512 }
-    ensures room { OnOk result (length last.new < 512) }
+    ensures full { AllByRecursion (λ p. length p ≡ 4096) full.old.items → AllByRecursion (λ p. length p ≡ 4096) full.new.items }
+    ensures last { length last.new ≤ 4096 }
+    ensures room { OnOk result (length last.new < 4096) }
     ensures memory { IsOkUnless result (fault Memory) }
 {
     if last.len() < PIECE_LEN {

@@ -17,7 +17,7 @@ use std::marker::Model;
 
 /// The entries of a range that stay, and its marks, seen as these two lists.
 ///
-/// It lies in pieces of 512 entries. A piece has its keys in one buffer, one behind the other, and its values are slices of
+/// It lies in pieces of 4,096 entries. A piece has its keys in one buffer, one behind the other, and its values are slices of
 /// the inputs' bytes: a kept entry takes 24 bytes and those of its key, and nothing is allocated for it alone.
 #[derive(Drop)]
 pub struct RangeRun<'a> {

@@ -278,6 +278,39 @@ fn one_user_key_and_sequence_twice(rt: HostRuntime) -> Result<(), Fail> {
     Ok(())
 }
 
+/// A table of so many entries. Their user keys are the numbers from 0 on in two bytes, the higher one first, and so are the values.
+fn numbered(rt: &(impl Abort + AllocGlobal), count: u16) -> Result<Vec<u8>, Fail> {
+    let options = Options::default();
+    assert!(rt; options.are_in_limits());
+    let mut table = TableBuilder::<Bytewise>::new(rt.alloc(), options);
+    for number in 0..count {
+        let user = number.to_be_bytes();
+        let key = KeyBuf::new(rt.alloc(), &user, 1, Kind::Put)?;
+        assert!(rt; table.is_above_last(&key.as_key()));
+        table.add(key.as_key(), &user)?;
+    }
+    Ok(table.finish()?)
+}
+
+#[test]
+fn entries_of_several_pieces(rt: HostRuntime) -> Result<(), Fail> {
+    let count = 9_000;
+    let mut tables = Vec::new(rt.alloc());
+    tables.push(numbered(&rt, count)?)?;
+    let mut cursors = cursors(rt.alloc(), &tables)?;
+    let inputs = inputs(rt.alloc(), None, None)?;
+    let run = merged(&rt, &mut cursors, ALL, Snapshots::From(9), 9, &inputs)?;
+    assert_eq!(rt; run.len(), usize::from(count));
+    for number in 0..count {
+        let place = usize::from(number);
+        let user = number.to_be_bytes();
+        assert!(rt; place < run.len());
+        assert_eq!(rt; run.key(place).user(), user.as_slice());
+        assert_eq!(rt; run.value(place), user.as_slice());
+    }
+    Ok(())
+}
+
 /// The sequences that are kept of all entries that remain, where those from 1 on stay readable.
 fn kept_of_all<'a>(
     rt: &(impl Abort + AllocGlobal),

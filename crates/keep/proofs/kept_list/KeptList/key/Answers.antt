@@ -12,7 +12,7 @@ piece_of-piece-requires c =
     let number : length (joined was.full.items was.last) ≡ length c.args.self.now = ap length c.self.view_is in
     let lt : c.args.place < length c.args.self.now = c.requires in
     let stands = stands_in was.full.items was.last (length was.tally.items) c.args.place c.self.invariant (omega (arith, number, lt)) in
-    subst (λ (ps : List (List Entry)). c.args.place / 512 ≤ length ps) (sym c.deref.ensures.value) stands.numbered
+    subst (λ (ps : List (List Entry)). c.args.place / 4096 ≤ length ps) (sym c.deref.ensures.value) stands.numbered
 
 pub key-requires : goal.key-requires
 key-requires c =
@@ -21,7 +21,7 @@ key-requires c =
     let lt : c.args.place < length c.args.self.now = c.requires in
     let stands = stands_in was.full.items was.last (length was.tally.items) c.args.place c.self.invariant (omega (arith, number, lt)) in
     stands.within c.piece_of-piece.result.now
-    (subst (λ (ps : List (List Entry)). slice_get (ps ++ was.last ∷ []) (c.args.place / 512) ≡ Some c.piece_of-piece.result.now) c.deref.ensures.value c.piece_of-piece.ensures)
+    (subst (λ (ps : List (List Entry)). slice_get (ps ++ was.last ∷ []) (c.args.place / 4096) ≡ Some c.piece_of-piece.result.now) c.deref.ensures.value c.piece_of-piece.ensures)
 
 pub returns : goal.returns
 returns c =
@@ -29,9 +29,9 @@ returns c =
     let number : length (joined was.full.items was.last) ≡ length c.args.self.now = ap length c.self.view_is in
     let lt : c.args.place < length c.args.self.now = c.requires in
     let stands = stands_in was.full.items was.last (length was.tally.items) c.args.place c.self.invariant (omega (arith, number, lt)) in
-    let is : slice_get c.piece_of-piece.result.now (c.args.place % 512) ≡ slice_get (joined was.full.items was.last) c.args.place =
+    let is : slice_get c.piece_of-piece.result.now (c.args.place % 4096) ≡ slice_get (joined was.full.items was.last) c.args.place =
     stands.same c.piece_of-piece.result.now
-    (subst (λ (ps : List (List Entry)). slice_get (ps ++ was.last ∷ []) (c.args.place / 512) ≡ Some c.piece_of-piece.result.now) c.deref.ensures.value c.piece_of-piece.ensures) in
+    (subst (λ (ps : List (List Entry)). slice_get (ps ++ was.last ∷ []) (c.args.place / 4096) ≡ Some c.piece_of-piece.result.now) c.deref.ensures.value c.piece_of-piece.ensures) in
     ap (λ (es : List Entry). option_map (λ (e : Entry). e.key) (slice_get es c.args.place)) (sym c.self.view_is)
     ∙ ap (option_map (λ (e : Entry). e.key)) (sym is)
     ∙ c.key.ensures

@@ -7,11 +7,16 @@ ghost use Rattle.folder.specs.Attempts.{call_in};
 ghost use Rattle.folder.specs.declared.folder.FolderFault.TheVariants.{Memory};
 
 use crate::folder::{Folder, FolderFault};
+use crate::loading::tables_ahead;
+use crate::order::Order;
 use crate::trail::{Attempt, Trail, WriteCall};
+use crate::whole_files::{Ahead, WholeFiles, path_in, read_all, whole};
+use edit::Version;
 use std::fs::{File, OpenFile, OpenOptions};
-use std::io::{ErrorKind, Read};
+use std::io::ErrorKind;
 use std::marker::Model;
 use std::rt::Files;
+use std::thread::Threads;
 use std::{fs, io};
 
 /// A folder of the system, at a path. It tells contracts nothing of what it holds.
@@ -23,6 +28,8 @@ pub struct Disk<'r, R> {
     path: &'r str,
     failures: u64,
     trail: Trail,
+    /// Files that were read before they are asked for. The one that is asked for next is last.
+    ahead: Vec<Ahead>,
 }
 
 impl<'r, R> Model for Disk<'r, R> {
@@ -44,18 +51,15 @@ impl<'r, R: Files + AllocGlobal> Disk<'r, R> {
             path,
             failures: 0,
             trail: Trail::new(),
+            ahead: Vec::new(rt.alloc()),
         }
     }
 
-    /// The path of a file. No folder has the empty path, so its files have no path either.
+    /// The path of a file.
     fn place(&self, name: &str) -> Result<String, FolderFault>
         ensures { IsOkUnless result Memory }
     {
-        let path = self.path;
-        if path.is_empty() {
-            return Ok(String::new(self.rt.alloc()));
-        }
-        Ok(format!(in self.rt.alloc(); "{path}/{name}")?)
+        Ok(path_in(self.rt.alloc(), self.path, name)?)
     }
 
     /// What a call of the system answered. A failure that isn't want of memory is the device's, and is counted.
@@ -88,19 +92,22 @@ impl<'r, R: Files + AllocGlobal> Disk<'r, R> {
         answer
     }
 
-    /// The bytes of the file at a place. Room is made for its length and one byte more, so that no growth follows.
-    fn whole(&self, place: &str) -> io::Result<Vec<u8>> {
-        let mut file = File::open(self.rt, place)?;
-        let length = file.metadata()?.len() as usize;
-        let mut bytes = Vec::with_capacity(self.rt.alloc(), length.saturating_add(1))?;
-        file.read_to_end(&mut bytes)?;
-        Ok(bytes)
+    /// What was read ahead of a file, where it is the next of those that were.
+    fn taken_ahead(&mut self, name: &str) -> Option<Vec<u8>>
+        ensures failures { self.new.failures ≡ self.old.failures }
+        ensures trail { self.new.trail ≡ self.old.trail }
+    {
+        match self.ahead.last() {
+            Some(next) if next.name.as_str() == name => self.ahead.pop()?.bytes,
+            _ => None,
+        }
     }
 
     fn made(&mut self, name: &str, bytes: &[u8]) -> Result<(), FolderFault>
         ensures failures { self.new.failures ≡ failures_after self.old.failures result }
         ensures trail { self.new.trail ≡ self.old.trail }
     {
+        self.ahead.clear();
         let place = self.place(name)?;
         let answer = fs::write(self.rt, place.as_str(), bytes);
         self.counted(answer)
@@ -120,6 +127,7 @@ impl<'r, R: Files + AllocGlobal> Disk<'r, R> {
         ensures failures { self.new.failures ≡ failures_after self.old.failures result }
         ensures trail { self.new.trail ≡ self.old.trail }
     {
+        self.ahead.clear();
         let from = self.place(from)?;
         let to = self.place(to)?;
         let answer = fs::rename(self.rt, from.as_str(), to.as_str());
@@ -136,6 +144,21 @@ impl<'r, R: Files + AllocGlobal> Disk<'r, R> {
     }
 }
 
+impl<'r, R: Files + AllocGlobal + WholeFiles + Threads> Disk<'r, R> {
+    /// Reads the tables of a version by several threads, before [`load`](crate::load) asks for them in its order. One that can't
+    /// be read now, for whatever reason, is read when it is asked for, and so are all once a file was made or renamed.
+    pub fn read_ahead(&mut self, order: Order, version: &Version)
+        ensures failed { ⟦<Disk<'r, R> as Folder>⟧.failed self.new ≡ ⟦<Disk<'r, R> as Folder>⟧.failed self.old }
+        ensures calls { ⟦<Disk<'r, R> as Folder>⟧.calls self.new ≡ ⟦<Disk<'r, R> as Folder>⟧.calls self.old }
+    {
+        let alloc = self.rt.alloc();
+        if let Ok(mut files) = tables_ahead(alloc, order, version) {
+            read_all(self.rt, alloc, self.path, &mut files);
+            self.ahead = files;
+        }
+    }
+}
+
 impl<'r, R: Files + AllocGlobal> Folder for Disk<'r, R> {
     ghost tells = { λ _ _ _. Unit {0} };
 
@@ -144,8 +167,11 @@ impl<'r, R: Files + AllocGlobal> Folder for Disk<'r, R> {
     ghost failed = { λ disk. disk.failures };
 
     fn read(&mut self, name: &str) -> Result<Option<Vec<u8>>, FolderFault> {
+        if let Some(bytes) = self.taken_ahead(name) {
+            return Ok(Some(bytes));
+        }
         let place = self.place(name)?;
-        match self.whole(place.as_str()) {
+        match whole(self.rt, self.rt.alloc(), place.as_str()) {
             Ok(bytes) => Ok(Some(bytes)),
             Err(error) if error.kind() == ErrorKind::NotFound => Ok(None),
             Err(error) => self.counted(Err(error)),

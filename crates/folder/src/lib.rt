@@ -13,6 +13,7 @@ mod order;
 mod shelf;
 mod shelf_step;
 mod trail;
+mod whole_files;
 
 pub use disk::Disk;
 pub use folder::{Folder, FolderFault};
@@ -27,3 +28,4 @@ pub use order::Order;
 pub use shelf::{Failing, Shelf};
 pub use shelf_step::{ShelfCall, ShelfStep};
 pub use trail::{Attempt, Trail, WriteCall};
+pub use whole_files::WholeFiles;

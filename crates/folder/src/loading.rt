@@ -11,9 +11,11 @@ ghost use Rattle.folder.specs.Opening.{FolderAnswers, HasDeviceFailed, StopsAtDe
 use crate::folder::Folder;
 use crate::names::{old_table_name, table_name};
 use crate::opening::held;
+use crate::order::Order;
+use crate::whole_files::Ahead;
 use coding::{Fault, FaultName};
 use edit::{FileMeta, Version};
-use ikey::Comparator;
+use ikey::{Bytewise, Comparator, Shortlex};
 use std::alloc::Global;
 
 /// The tables of a version's files with their numbers, by level, and each level's in version order.
@@ -92,4 +94,22 @@ fn push_numbers(numbers: &mut Vec<u64>, files: &[&FileMeta]) -> Result<(), Fault
         numbers.push(file.number)?;
     }
     Ok(())
+}
+
+/// The tables of a version's files, by the names under which [`load`] asks for them first, the last one first. None was read.
+pub(crate) fn tables_ahead(
+    alloc: Global,
+    order: Order,
+    version: &Version,
+) -> Result<Vec<Ahead>, Fault> {
+    let numbers = match order {
+        Order::Bytewise => file_numbers::<Bytewise>(alloc, version)?,
+        Order::Shortlex => file_numbers::<Shortlex>(alloc, version)?,
+    };
+    let mut files = Vec::with_capacity(alloc, numbers.len())?;
+    for number in numbers.iter().rev() {
+        let name = table_name(alloc, *number)?;
+        files.push(Ahead { name, bytes: None })?;
+    }
+    Ok(files)
 }

@@ -1,10 +1,11 @@
 use crate::manifests::*;
-use crate::shelf::fails;
+use crate::shelf::{fails, new_folder};
 use coding::{Fault, FaultName};
 use edit::Version;
 use folder::*;
 use ikey::Bytewise;
 use std::alloc::Global;
+use std::fs;
 use std::test::Fail;
 
 /// New files of one key each: number 5 at level 1, and at level 0 number 3 of `b` and number 8 of `a`.
@@ -29,8 +30,8 @@ const TABLES: [(&str, &[u8]); 5] = [
 ];
 
 /// How the tables of a version are refused.
-fn refused(alloc: Global, folder: &mut Shelf<'_>, version: &Version) -> Option<FaultName> {
-    match load::<Bytewise, Shelf<'_>>(alloc, folder, version) {
+fn refused<F: Folder>(alloc: Global, folder: &mut F, version: &Version) -> Option<FaultName> {
+    match load::<Bytewise, F>(alloc, folder, version) {
         Ok(_) => None,
         Err(fault) => Some(fault.name),
     }
@@ -52,6 +53,81 @@ fn tables_are_loaded(rt: HostRuntime) -> Result<(), Fail> {
         (5, b"five".as_slice()),
     ];
     assert!(rt; are(&tables, &want));
+    Ok(())
+}
+
+/// Makes the tables in a folder of the system.
+fn make_tables(rt: &HostRuntime, path: &str) -> Result<(), FolderFault> {
+    let mut disk = Disk::new(rt, path);
+    for (name, bytes) in &TABLES {
+        disk.create(name, bytes)?;
+    }
+    Ok(())
+}
+
+/// The tables, where somebody wrote two of them anew.
+const LATER: [(u64, &[u8]); 3] = [(8, b"eight, later"), (3, b"three, later"), (5, b"five")];
+
+/// Writes these two, through another handle.
+fn write_later(rt: &HostRuntime, path: &str) -> Result<(), FolderFault> {
+    let mut other = Disk::new(rt, path);
+    other.create("000008.ldb", b"eight, later")?;
+    other.create("000003.ldb", b"three, later")
+}
+
+#[test]
+fn tables_are_read_ahead(rt: HostRuntime) -> Result<(), Fail> {
+    let alloc = rt.alloc();
+    let path = new_folder(&rt, "ahead")?;
+    make_tables(&rt, path.as_str())?;
+    let version = three_files(alloc)?;
+    let mut disk = Disk::new(&rt, path.as_str());
+    disk.read_ahead(Order::Bytewise, &version);
+    disk.sync_folder()?;
+    write_later(&rt, path.as_str())?;
+    // What was read ahead is handed out. What wasn't there then is looked for again.
+    let tables = load::<Bytewise, _>(alloc, &mut disk, &version)?;
+    let want = [
+        (8, b"eight".as_slice()),
+        (3, b"three, later".as_slice()),
+        (5, b"five".as_slice()),
+    ];
+    assert!(rt; are(&tables, &want));
+    // Each is handed out once.
+    assert!(rt; are(&load::<Bytewise, _>(alloc, &mut disk, &version)?, &LATER));
+    assert_eq!(rt; disk.failures(), 0);
+    fs::remove_dir_all(&rt, path.as_str())?;
+    Ok(())
+}
+
+#[test]
+fn a_file_that_is_made_forgets_what_was_read_ahead(rt: HostRuntime) -> Result<(), Fail> {
+    let alloc = rt.alloc();
+    let path = new_folder(&rt, "forgotten")?;
+    make_tables(&rt, path.as_str())?;
+    let version = three_files(alloc)?;
+    let mut disk = Disk::new(&rt, path.as_str());
+    disk.read_ahead(Order::Bytewise, &version);
+    write_later(&rt, path.as_str())?;
+    disk.create("CURRENT", b"text")?;
+    assert!(rt; are(&load::<Bytewise, _>(alloc, &mut disk, &version)?, &LATER));
+    fs::remove_dir_all(&rt, path.as_str())?;
+    Ok(())
+}
+
+#[test]
+fn nothing_is_read_ahead_where_no_folder_is(rt: HostRuntime) -> Result<(), Fail> {
+    let alloc = rt.alloc();
+    let version = three_files(alloc)?;
+    for path in ["", "/nowhere/at/all"] {
+        let mut disk = Disk::new(&rt, path);
+        disk.read_ahead(Order::Bytewise, &version);
+        assert_eq!(rt;
+            refused(alloc, &mut disk, &version),
+            Some(FaultName::Missing)
+        );
+        assert_eq!(rt; disk.failures(), 0);
+    }
     Ok(())
 }
 

@@ -78,7 +78,7 @@ fn faults_of_folders(rt: HostRuntime) {
 }
 
 /// A folder of the system that is made for a test.
-fn new_folder(rt: &HostRuntime, name: &str) -> Result<String, Fail> {
+pub(crate) fn new_folder(rt: &HostRuntime, name: &str) -> Result<String, Fail> {
     let id = process::id(rt.process());
     let base = env::temp_dir(rt)?;
     let base = base.as_str();

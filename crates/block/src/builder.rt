@@ -259,6 +259,3 @@ fn push_restarts(out: &mut Vec<u8>, restarts: &[u32]) -> Result<(), Fault>
     out.extend_from_slice(&(restarts.len() as u32).to_le_bytes())?;
     Ok(())
 }
-
-#[cfg(test)]
-mod tests;

@@ -25,6 +25,3 @@ pub fn reads_back()
 pub fn reads_blocks()
     ensures { ReadsBlocks }
 {}
-
-#[cfg(test)]
-mod tests;

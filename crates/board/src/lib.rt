@@ -26,6 +26,3 @@ pub use tally::Tally;
 mod board;
 
 pub use crate::board::Board;
-
-#[cfg(test)]
-mod tests;

@@ -12,6 +12,3 @@ mod tournament;
 pub use laws::{merge_law, union_law};
 pub use least::least_place;
 pub use merging::Merging;
-
-#[cfg(test)]
-mod tests;

@@ -12,6 +12,3 @@ mod split;
 pub use laws::one_choice;
 pub use range::Range;
 pub use split::{MAX_BOUNDARIES, MAX_RANGES, Split};
-
-#[cfg(test)]
-mod tests;

@@ -11,7 +11,7 @@ use ikey::Bytewise;
 use std::alloc::Global;
 
 /// The deepest level that has a file, but level 1 at least: files of level 0 go down, since they may overlap.
-pub(crate) fn bottom(alloc: Global, version: &Version) -> Result<u64, Fault>
+pub fn bottom(alloc: Global, version: &Version) -> Result<u64, Fault>
     ensures bottom { IfOk result (IsBottom version.now) }
     ensures memory { IfErr result (λ e. e ≡ fault Memory) }
 {
@@ -25,11 +25,7 @@ pub(crate) fn bottom(alloc: Global, version: &Version) -> Result<u64, Fault>
 }
 
 /// The first level above the bottom that has a file.
-pub(crate) fn next_level(
-    alloc: Global,
-    version: &Version,
-    bottom: u64,
-) -> Result<Option<u64>, Fault>
+pub fn next_level(alloc: Global, version: &Version, bottom: u64) -> Result<Option<u64>, Fault>
     requires { bottom ≤ 6 }
     ensures next { IfOk result (IsNextLevel version.now bottom) }
     ensures memory { IfErr result (λ e. e ≡ fault Memory) }

@@ -21,9 +21,6 @@ use std::alloc::Global;
 use std::thread::Threads;
 use store::Watch;
 
-#[cfg(test)]
-mod tests;
-
 /// The lines that show a folder's version, each with its newline: `comparator NAME`, `log N`, `previous N`, `next N` and
 /// `last N`, then `pointer L KEY SEQ TYPE` by level, and then `file L NUMBER SIZE` by level and in version order.
 ///

@@ -1,15 +1,14 @@
 //! The work on a folder, from its path to what is printed.
 
-use crate::accounting::account_of;
 use crate::descent::{bottom, next_level};
-use crate::explaining::in_words;
 use crate::files;
 use crate::folder_commands::{get_dir_watched, manifest, verify_watched};
-use crate::telling::Telling;
+use crate::progress_line::ProgressLine;
 use account::text;
 use coding::Fault;
+use diagnostics::{Telling, account_of, in_words};
 use edit::Version;
-use folder::{Disk, Order, open};
+use folder::{Disk, Order, WholeFiles, open};
 use keep::Snapshots;
 use std::io;
 use std::io::Write;
@@ -32,14 +31,13 @@ pub(crate) fn print_version<R: Files + Print + Eprint + Clock + AllocGlobal>(
 }
 
 /// Tests the version of a folder, and prints what it is.
-pub(crate) fn print_verdict<R: Files + Print + Eprint + Clock + AllocGlobal + Threads + Sync>(
-    rt: &R,
-    telling: Telling<'_>,
-) -> Result<(), Fault> {
+pub(crate) fn print_verdict<
+    R: Files + WholeFiles + Print + Eprint + Clock + AllocGlobal + Threads + Sync,
+>(rt: &R, telling: Telling<'_>) -> Result<(), Fault> {
     telling.tell_log(rt);
     let begun = telling.begin(rt);
-    let progress = telling.progress(rt);
-    let mut folder = Disk::new(rt, telling.folder);
+    let progress = ProgressLine::new(rt, telling.is_watched);
+    let mut folder = read_ahead(rt, telling.folder);
     let answer = verify_watched(rt, rt.alloc(), &mut folder, &progress);
     progress.erase();
     telling.end(rt, "verify", begun, &answer);
@@ -47,16 +45,13 @@ pub(crate) fn print_verdict<R: Files + Print + Eprint + Clock + AllocGlobal + Th
 }
 
 /// Prints the value of a key in a folder.
-pub(crate) fn print_value<R: Files + Print + Eprint + Clock + AllocGlobal + Threads + Sync>(
-    rt: &R,
-    telling: Telling<'_>,
-    key: &[u8],
-    at: Option<u64>,
-) -> Result<(), Fault> {
+pub(crate) fn print_value<
+    R: Files + WholeFiles + Print + Eprint + Clock + AllocGlobal + Threads + Sync,
+>(rt: &R, telling: Telling<'_>, key: &[u8], at: Option<u64>) -> Result<(), Fault> {
     telling.tell_log(rt);
     let begun = telling.begin(rt);
-    let progress = telling.progress(rt);
-    let mut folder = Disk::new(rt, telling.folder);
+    let progress = ProgressLine::new(rt, telling.is_watched);
+    let mut folder = read_ahead(rt, telling.folder);
     let answer = get_dir_watched(rt, rt.alloc(), &mut folder, key, at, &progress);
     progress.erase();
     telling.end(rt, "get", begun, &answer);
@@ -64,12 +59,9 @@ pub(crate) fn print_value<R: Files + Print + Eprint + Clock + AllocGlobal + Thre
 }
 
 /// Compacts a level of a folder, or all of them one by one.
-pub(crate) fn compact_folder<R: Files + Print + Eprint + Clock + AllocGlobal + Threads + Sync>(
-    rt: &R,
-    telling: Telling<'_>,
-    levels: Levels,
-    settings: &CompactSettings,
-) -> Result<(), Fault> {
+pub(crate) fn compact_folder<
+    R: Files + WholeFiles + Print + Eprint + Clock + AllocGlobal + Threads + Sync,
+>(rt: &R, telling: Telling<'_>, levels: Levels, settings: &CompactSettings) -> Result<(), Fault> {
     telling.tell_log(rt);
     match levels {
         Levels::One(level) => compact_level(rt, telling, level, settings),
@@ -78,7 +70,7 @@ pub(crate) fn compact_folder<R: Files + Print + Eprint + Clock + AllocGlobal + T
 }
 
 /// Compacts the first level that has a file, again and again, until all files are at the bottom.
-fn compact_all<R: Files + Print + Eprint + Clock + AllocGlobal + Threads + Sync>(
+fn compact_all<R: Files + WholeFiles + Print + Eprint + Clock + AllocGlobal + Threads + Sync>(
     rt: &R,
     telling: Telling<'_>,
     settings: &CompactSettings,
@@ -110,7 +102,7 @@ fn opened<R: Files + Eprint + Clock + AllocGlobal>(
 }
 
 /// Compacts a level of a folder, prints what was made, and tells how it went where that is asked for.
-fn compact_level<R: Files + Print + Eprint + Clock + AllocGlobal + Threads + Sync>(
+fn compact_level<R: Files + WholeFiles + Print + Eprint + Clock + AllocGlobal + Threads + Sync>(
     rt: &R,
     telling: Telling<'_>,
     level: u64,
@@ -126,7 +118,7 @@ fn compact_level<R: Files + Print + Eprint + Clock + AllocGlobal + Threads + Syn
 }
 
 /// Compacts a level of a folder, and prints what was made.
-fn compact_once<R: Files + Print + Eprint + Clock + AllocGlobal + Threads + Sync>(
+fn compact_once<R: Files + WholeFiles + Print + Eprint + Clock + AllocGlobal + Threads + Sync>(
     rt: &R,
     telling: Telling<'_>,
     level: u64,
@@ -135,13 +127,25 @@ fn compact_once<R: Files + Print + Eprint + Clock + AllocGlobal + Threads + Sync
     let alloc = rt.alloc();
     let step = format!(in alloc; "compact --level {level}")?;
     let begun = telling.begin(rt);
-    let progress = telling.progress(rt);
-    let mut folder = Disk::new(rt, telling.folder);
+    let progress = ProgressLine::new(rt, telling.is_watched);
+    let mut folder = read_ahead(rt, telling.folder);
     let settings = kept_to(settings);
     let answer = compact_dir_watched(rt, alloc, &mut folder, level, &settings, &progress);
     progress.erase();
     telling.end(rt, step.as_str(), begun, &answer);
     print_lines(rt, answer?.as_slice())
+}
+
+/// The folder at a path, its tables read ahead by several threads. Where that can't be, they are read when they are asked for.
+fn read_ahead<'r, R: Files + WholeFiles + AllocGlobal + Threads>(
+    rt: &'r R,
+    path: &'r str,
+) -> Disk<'r, R> {
+    let mut folder = Disk::new(rt, path);
+    if let Ok((order, version)) = open(rt.alloc(), &mut Disk::new(rt, path)) {
+        folder.read_ahead(order, &version);
+    }
+    folder
 }
 
 /// Tells how the compaction of a level went, by the version before it. That it can't be told changes nothing else.

@@ -1,13 +1,10 @@
 //! What the program `sedvokt` does: its files and what it prints, and the calls behind its commands.
 #![tactic(auto)]
 
-mod accounting;
 mod counting;
 mod descent;
-mod diagnosis;
 mod dumping;
 mod exit_status;
-mod explaining;
 mod files;
 mod folder_commands;
 mod folder_work;
@@ -17,16 +14,14 @@ mod progress;
 mod progress_line;
 mod question;
 mod showing;
-mod telling;
 mod verifying;
 
+pub use descent::{bottom, next_level};
 pub use dumping::dump;
 pub use exit_status::status;
 pub use folder::{Disk, Folder, FolderFault, Order, load, open};
 pub use folder_commands::{get_dir, manifest, verify};
 pub use pairing::blocks;
 pub use program::run;
+pub use progress::progress_text;
 pub use usage::{CompactSettings, Levels, Line, Readable, Told, Usage, key_of, line, text_of};
-
-#[cfg(test)]
-mod tests;

@@ -4,8 +4,9 @@ use crate::dumping::dump;
 use crate::exit_status::status;
 use crate::files;
 use crate::folder_work::{compact_folder, print_lines, print_value, print_verdict, print_version};
-use crate::telling::Telling;
 use coding::{Fault, FaultName};
+use diagnostics::Telling;
+use folder::WholeFiles;
 use pairing::blocks;
 use std::env::Env;
 use std::io::ErrorKind;
@@ -26,7 +27,7 @@ const USAGE: u8 = 2;
 /// Results, and help and a version that were asked for, go to the standard output, all else to the standard error. That
 /// nothing can be written to the standard error changes no status. Where that is watched, as a terminal is, the work on a
 /// folder is told there as `-v` has it, and long work shows a line of progress.
-pub fn run<R: Env + Files + Print + Eprint + Clock + AllocGlobal + Threads + Sync>(
+pub fn run<R: Env + Files + WholeFiles + Print + Eprint + Clock + AllocGlobal + Threads + Sync>(
     rt: &R,
     is_watched: bool,
 ) -> u8 {
@@ -53,7 +54,7 @@ fn words_given<R: Env + AllocGlobal>(rt: &R) -> io::Result<Vec<String>> {
 }
 
 /// Does what a command line asks for.
-fn carry_out<R: Files + Print + Eprint + Clock + AllocGlobal + Threads + Sync>(
+fn carry_out<R: Files + WholeFiles + Print + Eprint + Clock + AllocGlobal + Threads + Sync>(
     rt: &R,
     line: Line<'_>,
     is_watched: bool,

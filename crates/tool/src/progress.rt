@@ -11,12 +11,7 @@ use store::Work;
 
 /// How far work is, of whose jobs so many are done in both parts together: `ranges merged: 3 of 8` in its first part, which has
 /// so many jobs, and `pieces encoded: 12` in the second.
-pub(crate) fn progress_text(
-    alloc: Global,
-    work: Work,
-    jobs: u64,
-    done: u64,
-) -> Result<String, Fault>
+pub fn progress_text(alloc: Global, work: Work, jobs: u64, done: u64) -> Result<String, Fault>
     ensures { EqualOrMemory (λ text. string_bytes text) result (Ok (progress_text work jobs done)) }
 {
     let mut text = String::new(alloc);

@@ -1,0 +1,7 @@
+//! The tests of `block`: blocks built, checked and walked.
+#![tactic(auto)]
+
+#[cfg(test)]
+mod building;
+#[cfg(test)]
+mod reading;

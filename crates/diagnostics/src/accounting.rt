@@ -1,0 +1,246 @@
+//! The account of a compaction, made of what a folder holds behind it: the files that went into it are still there.
+
+ghost use Rattle.std.specs.Prelude.{◌≡◌};
+ghost use Rattle.folder.specs.Folder.{TellsSame};
+
+use crate::diagnosis::{LEVELS, table_file};
+use account::{Account, LevelInputs, Output, RangeEntries};
+use coding::{Fault, FaultName};
+use edit::{FileMeta, Version};
+use folder::{Folder, Order};
+use ikey::{Bytewise, Comparator, Shortlex};
+use pick::{InputFile, inputs};
+use split::{Range, Split};
+use std::alloc::Global;
+use table::{Cursor, SoundTable, TableCursor, check};
+
+/// The account of the compaction of a level, into at most so many ranges, by the version of the folder before it and the one
+/// after it.
+///
+/// The tables of its inputs and of its outputs are read and tested again, and all of these are held in memory. Only reads.
+pub fn account_of<F: Folder>(
+    alloc: Global,
+    folder: &mut F,
+    order: Order,
+    before: &Version,
+    after: &Version,
+    level: u64,
+    ranges: u64,
+) -> Result<Account, Fault>
+    ensures same { TellsSame (F.tells folder.old) (F.tells folder.new) }
+    ensures calls { F.calls folder.new ≡ F.calls folder.old }
+{
+    match order {
+        Order::Bytewise => {
+            account_by::<Bytewise, F>(alloc, folder, before, after, level, ranges)
+        }
+        Order::Shortlex => {
+            account_by::<Shortlex, F>(alloc, folder, before, after, level, ranges)
+        }
+    }
+}
+
+/// The account where this comparator orders the user keys.
+fn account_by<C: Comparator, F: Folder>(
+    alloc: Global,
+    folder: &mut F,
+    before: &Version,
+    after: &Version,
+    level: u64,
+    ranges: u64,
+) -> Result<Account, Fault>
+    ensures same { TellsSame (F.tells folder.old) (F.tells folder.new) }
+    ensures calls { F.calls folder.new ≡ F.calls folder.old }
+{
+    let picked = inputs::<C>(alloc, before, level)?;
+    let outputs = outputs_of::<C>(alloc, after, before.next_file().unwrap_or(0))?;
+    let taken = read_tables(alloc, folder, &numbers_of_inputs(alloc, &picked.files)?)?;
+    let made = read_tables(alloc, folder, &numbers_of_outputs(alloc, &outputs)?)?;
+    let (ranges, kept) = counted::<C>(alloc, &taken, &made, ranges)?;
+    let upper = inputs_at(&picked.files, level);
+    let lower = inputs_at(&picked.files, level.saturating_add(1));
+    Ok(Account {
+        inputs: vec![in alloc; upper, lower]?,
+        kept,
+        dropped: sum(&ranges).saturating_sub(kept),
+        ranges,
+        outputs,
+    })
+}
+
+/// The inputs of a level.
+fn inputs_at(files: &[InputFile], level: u64) -> LevelInputs {
+    let mut inputs = LevelInputs {
+        level,
+        files: 0,
+        bytes: 0,
+    };
+    for file in files {
+        if file.level == level {
+            inputs.files = inputs.files.saturating_add(1);
+            inputs.bytes = inputs.bytes.saturating_add(file.meta.size);
+        }
+    }
+    inputs
+}
+
+/// The files of a version from this number on, which are those that its last edit added.
+fn outputs_of<C: Comparator>(
+    alloc: Global,
+    version: &Version,
+    first: u64,
+) -> Result<Vec<Output>, Fault> {
+    let mut outputs = Vec::new(alloc);
+    for level in 0..LEVELS {
+        push_outputs(&mut outputs, &version.files::<C>(alloc, level)?, first)?;
+    }
+    Ok(outputs)
+}
+
+/// Appends the files from this number on.
+fn push_outputs(outputs: &mut Vec<Output>, files: &[&FileMeta], first: u64) -> Result<(), Fault> {
+    for file in files {
+        if file.number >= first {
+            outputs.push(Output {
+                number: file.number,
+                bytes: file.size,
+            })?;
+        }
+    }
+    Ok(())
+}
+
+/// The numbers of inputs.
+fn numbers_of_inputs(alloc: Global, files: &[InputFile]) -> Result<Vec<u64>, Fault> {
+    let mut numbers = Vec::with_capacity(alloc, files.len())?;
+    for file in files {
+        numbers.push(file.meta.number)?;
+    }
+    Ok(numbers)
+}
+
+/// The numbers of outputs.
+fn numbers_of_outputs(alloc: Global, outputs: &[Output]) -> Result<Vec<u64>, Fault> {
+    let mut numbers = Vec::with_capacity(alloc, outputs.len())?;
+    for output in outputs {
+        numbers.push(output.number)?;
+    }
+    Ok(numbers)
+}
+
+/// The bytes of the tables of these numbers. Missing at the first that isn't there.
+fn read_tables<F: Folder>(
+    alloc: Global,
+    folder: &mut F,
+    numbers: &[u64],
+) -> Result<Vec<Vec<u8>>, Fault>
+    ensures same { TellsSame (F.tells folder.old) (F.tells folder.new) }
+    ensures calls { F.calls folder.new ≡ F.calls folder.old }
+{
+    let mut tables = Vec::with_capacity(alloc, numbers.len())?;
+    for number in numbers {
+        let Some(table) = table_file(alloc, folder, *number)? else {
+            return Err(Fault::of(FaultName::Missing));
+        };
+        tables.push(table.bytes)?;
+    }
+    Ok(tables)
+}
+
+/// How many entries the inputs have in each of the ranges into which they are split, and how many the outputs have together.
+fn counted<C: Comparator>(
+    alloc: Global,
+    taken: &[Vec<u8>],
+    made: &[Vec<u8>],
+    ranges: u64,
+) -> Result<(Vec<RangeEntries>, u64), Fault> {
+    let inputs = checked::<C>(alloc, taken)?;
+    let outputs = checked::<C>(alloc, made)?;
+    let split = Split::choose(alloc, &inputs, ranges)?;
+    let ranges = entries_by_range(alloc, &inputs, &split)?;
+    let kept = sum(&entries_by_range(alloc, &outputs, &split)?);
+    Ok((ranges, kept))
+}
+
+/// The tables that the bytes of files are.
+fn checked<'t, C: Comparator>(
+    alloc: Global,
+    files: &'t [Vec<u8>],
+) -> Result<Vec<SoundTable<'t, C>>, Fault> {
+    let mut tables = Vec::with_capacity(alloc, files.len())?;
+    for bytes in files {
+        tables.push(check::<C>(alloc, bytes)?)?;
+    }
+    Ok(tables)
+}
+
+/// How many entries tables have in each range of a split. The ranges are numbered from 1.
+fn entries_by_range<C: Comparator>(
+    alloc: Global,
+    tables: &[SoundTable<'_, C>],
+    split: &Split<C>,
+) -> Result<Vec<RangeEntries>, Fault> {
+    let mut ranges = no_entries(alloc, split.len())?;
+    for table in tables {
+        add_entries(alloc, table, split, &mut ranges)?;
+    }
+    Ok(ranges)
+}
+
+/// So many ranges, of which none has an entry.
+fn no_entries(alloc: Global, count: u64) -> Result<Vec<RangeEntries>, Fault> {
+    let mut ranges = Vec::new(alloc);
+    for before in 0..count {
+        ranges.push(RangeEntries {
+            number: before.saturating_add(1),
+            entries: 0,
+        })?;
+    }
+    Ok(ranges)
+}
+
+/// Counts the entries of a table by range. Its user keys never fall, so the range of one is sought from that of the last one on.
+fn add_entries<C: Comparator>(
+    alloc: Global,
+    table: &SoundTable<'_, C>,
+    split: &Split<C>,
+    ranges: &mut [RangeEntries],
+) -> Result<(), Fault> {
+    let mut cursor = TableCursor::new(alloc, table)?;
+    let mut number = 0;
+    while cursor.valid() {
+        number = range_from(split, number, cursor.key().user());
+        if let Some(range) = ranges.get_mut(number as usize) {
+            range.entries = range.entries.saturating_add(1);
+        }
+        cursor.advance()?;
+    }
+    Ok(())
+}
+
+/// The first range from this number on that doesn't end at or before a user key, or this number where there is none.
+fn range_from<C: Comparator>(split: &Split<C>, number: u64, user: &[u8]) -> u64 {
+    for later in number..split.len() {
+        if is_before_end::<C>(user, split.range(later)) {
+            return later;
+        }
+    }
+    number
+}
+
+/// Whether a user key is before the end of a range.
+fn is_before_end<C: Comparator>(user: &[u8], range: Range<'_>) -> bool {
+    match range.upper {
+        Some(upper) => C::compare(user, upper).is_lt(),
+        None => true,
+    }
+}
+
+/// How many entries ranges have together.
+fn sum(ranges: &[RangeEntries]) -> u64 {
+    let mut sum: u64 = 0;
+    for range in ranges {
+        sum = sum.saturating_add(range.entries);
+    }
+    sum
+}

@@ -1,0 +1,99 @@
+//! What is told on the standard error of the work on a folder, where that is asked for.
+
+ghost use Rattle.std.specs.Prelude.{◌≡◌, true, IfSome};
+
+use crate::diagnosis::{log_with_writes, refused_file};
+use crate::explaining::in_words;
+use coding::Fault;
+use folder::Disk;
+use std::rt::Files;
+use std::time::{Clock, Instant};
+
+/// Tells of the work on a folder, or doesn't. That nothing can be told changes nothing.
+#[derive(Clone, Copy)]
+pub struct Telling<'a> {
+    /// The path of the folder.
+    pub folder: &'a str,
+    /// Whether anything is told.
+    pub is_on: bool,
+    /// Whether somebody looks on, as at a terminal, so that a line of progress is shown.
+    pub is_watched: bool,
+    /// Whether it is told how each compaction went.
+    pub is_explaining: bool,
+}
+
+impl<'a> Telling<'a> {
+    /// The same, and it is told how each compaction went, or isn't.
+    pub fn explaining(mut self, is_explaining: bool) -> Telling<'a>
+        ensures asked { result.is_explaining ≡ is_explaining }
+        ensures rest { (result.folder ≡ self.entry.folder) × (result.is_on ≡ self.entry.is_on) × (result.is_watched ≡ self.entry.is_watched) }
+    {
+        self.is_explaining = is_explaining;
+        self
+    }
+
+    /// The time at which a step begins, where it will be told. None where the clock can't be read, too.
+    pub fn begin<R: Clock>(self, rt: &R) -> Option<Instant>
+        ensures { IfSome result (λ _. self.entry.is_on ≡ true) }
+    {
+        if self.is_on {
+            Instant::now(rt).ok()
+        } else {
+            None
+        }
+    }
+
+    /// Tells how long a step took that is done, or else which file was refused and why.
+    pub fn end<R: Files + Eprint + Clock + AllocGlobal, T>(
+        self,
+        rt: &R,
+        step: &str,
+        begun: Option<Instant>,
+        answer: &Result<T, Fault>,
+    ) {
+        if !self.is_on {
+            return;
+        }
+        match answer {
+            Ok(_) => tell_time(rt, step, begun),
+            Err(fault) => self.tell_refusal(rt, fault),
+        }
+    }
+
+    /// Tells of a log with writes that are in no table.
+    pub fn tell_log<R: Files + Eprint + AllocGlobal>(self, rt: &R) {
+        if !self.is_on {
+            return;
+        }
+        if let Ok(Some(log)) = log_with_writes(rt.alloc(), &mut Disk::new(rt, self.folder)) {
+            let _ = eprintln!(rt;
+                "{log}: holds writes that are in no table yet, and are not seen here"
+            );
+        }
+    }
+
+    /// Tells why the work was refused, and at which file.
+    fn tell_refusal<R: Files + Eprint + AllocGlobal>(self, rt: &R, fault: &Fault) {
+        let words = in_words(fault.name);
+        match refused_file(rt.alloc(), &mut Disk::new(rt, self.folder)) {
+            Ok(Some(file)) if file.fault.name == fault.name => {
+                let name = file.name;
+                let _ = eprintln!(rt; "{name}: {fault}: {words}");
+            }
+            _ => {
+                let _ = eprintln!(rt; "{fault}: {words}");
+            }
+        }
+    }
+}
+
+/// Tells how long a step took.
+fn tell_time<R: Eprint + Clock>(rt: &R, step: &str, begun: Option<Instant>) {
+    let Some(begun) = begun else {
+        return;
+    };
+    if let Ok(taken) = begun.elapsed(rt) {
+        let millis = taken.as_millis();
+        let _ = eprintln!(rt; "{step}: {millis} ms");
+    }
+}

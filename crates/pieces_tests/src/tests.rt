@@ -11,6 +11,7 @@ use pick::Inputs;
 use pieces::{PlannedBlock, assemble_table, encode_blocks};
 use runs::{RunsCursor, RunsSlice};
 use split::Split;
+use std::alloc::Global;
 use std::process::Abort;
 use std::test::*;
 use table::{Options, TableBuilder, TableCursor, check};
@@ -65,6 +66,34 @@ const TWO: [Row<'static>; 2] = [
     },
 ];
 
+/// Four values of three user keys, each of its user key and its sequence.
+const FOUR: [Row<'static>; 4] = [
+    Row {
+        user: b"a",
+        sequence: 1,
+        value: b"a\x01",
+    },
+    Row {
+        user: b"u",
+        sequence: 9,
+        value: b"u\x09",
+    },
+    Row {
+        user: b"u",
+        sequence: 5,
+        value: b"u\x05",
+    },
+    Row {
+        user: b"z",
+        sequence: 2,
+        value: b"z\x02",
+    },
+];
+
+/// Boundaries of the ranges to a, from a to b, from b to u, from u to zz and from zz on: the first, third and last keep nothing
+/// of the four values.
+const FIVE_RANGES: [&[u8]; 4] = [b"a", b"b", b"u", b"zz"];
+
 /// The internal key of a value.
 fn key_of(rt: &(impl Abort + AllocGlobal), row: Row<'_>) -> Result<KeyBuf, Fail> {
     assert!(rt; row.user.len() <= 4);
@@ -79,7 +108,7 @@ fn written(rt: &(impl Abort + AllocGlobal), rows: &[Row<'_>]) -> Result<Vec<u8>,
     let mut table = TableBuilder::<Bytewise>::new(rt.alloc(), options);
     for row in rows {
         let key = key_of(rt, *row)?;
-        assert!(rt; table.is_above_last(&key.as_key()) && row.value.len() <= 1);
+        assert!(rt; table.is_above_last(&key.as_key()) && row.value.len() <= 2);
         table.add(key.as_key(), row.value)?;
     }
     Ok(table.finish()?)
@@ -99,14 +128,25 @@ fn inputs(rt: &(impl Abort + AllocGlobal)) -> Result<Inputs, Fail> {
     })
 }
 
-/// The runs of the ranges to abd and from there on.
-fn runs<'a>(rt: &(impl Abort + AllocGlobal), bytes: &'a [u8]) -> Result<Vec<RangeRun<'a>>, Fail> {
+/// The split at these user keys.
+fn split_at(alloc: Global, users: &[&[u8]]) -> Result<Split<Bytewise>, Fail> {
+    let mut boundaries = Vec::new(alloc);
+    for user in users {
+        boundaries.push(Vec::from_slice(alloc, user)?)?;
+    }
+    Ok(Split::<Bytewise>::from_keys(boundaries)?)
+}
+
+/// The runs of the ranges between these user keys.
+fn runs<'a>(
+    rt: &(impl Abort + AllocGlobal),
+    bytes: &'a [u8],
+    users: &[&[u8]],
+) -> Result<Vec<RangeRun<'a>>, Fail> {
     let table = check::<Bytewise>(rt.alloc(), bytes)?;
     let mut cursors = Vec::new(rt.alloc());
     cursors.push(TableCursor::new(rt.alloc(), &table)?)?;
-    let mut boundaries = Vec::new(rt.alloc());
-    boundaries.push(Vec::from_slice(rt.alloc(), b"abd")?)?;
-    let split = Split::<Bytewise>::from_keys(boundaries)?;
+    let split = split_at(rt.alloc(), users)?;
     let inputs = inputs(rt)?;
     assert!(rt; is_rising(&[]) && largest_rise::<Bytewise>(&inputs.grandparents));
     let mut runs = Vec::new(rt.alloc());
@@ -180,7 +220,7 @@ fn assembled(
 #[test]
 fn a_piece_of_one_block(rt: HostRuntime) -> Result<(), Fail> {
     let bytes = written(&rt, &ONE)?;
-    let runs = runs(&rt, &bytes)?;
+    let runs = runs(&rt, &bytes, &[b"abd"])?;
     let cursor = RunsCursor::new(&runs);
     let block = block_at(&rt, &cursor)?;
     let mut blocks = Vec::new(rt.alloc());
@@ -193,7 +233,7 @@ fn a_piece_of_one_block(rt: HostRuntime) -> Result<(), Fail> {
 #[test]
 fn two_pieces_and_their_table(rt: HostRuntime) -> Result<(), Fail> {
     let bytes = written(&rt, &TWO)?;
-    let runs = runs(&rt, &bytes)?;
+    let runs = runs(&rt, &bytes, &[b"abd"])?;
     let mut cursor = RunsCursor::new(&runs);
     let first = block_at(&rt, &cursor)?;
     assert!(rt; cursor.valid());
@@ -201,5 +241,46 @@ fn two_pieces_and_their_table(rt: HostRuntime) -> Result<(), Fail> {
     let second = block_at(&rt, &cursor)?;
     let table = assembled(&rt, first, second)?;
     assert_eq!(rt; table.as_slice(), TWO_BLOCKS.as_slice());
+    Ok(())
+}
+
+#[test]
+fn ranges_without_entries_are_passed(rt: HostRuntime) -> Result<(), Fail> {
+    let bytes = written(&rt, &FOUR)?;
+    let runs = runs(&rt, &bytes, &FIVE_RANGES)?;
+    let mut cursor = RunsCursor::new(&runs);
+    for row in FOUR {
+        assert!(rt; cursor.valid());
+        assert_eq!(rt; cursor.key().user(), row.user);
+        assert_eq!(rt; cursor.key().sequence(), u64::from(row.sequence));
+        assert_eq!(rt; cursor.value(), row.value);
+        assert_eq!(rt; cursor.copy().value(), row.value);
+        cursor.advance();
+    }
+    assert!(rt; !cursor.valid());
+    assert!(rt; !RunsCursor::new(&[]).valid());
+    Ok(())
+}
+
+#[test]
+fn a_slice_over_two_runs(rt: HostRuntime) -> Result<(), Fail> {
+    let bytes = written(&rt, &FOUR)?;
+    let runs = runs(&rt, &bytes, &FIVE_RANGES)?;
+    let mut slice = RunsSlice::at(RunsCursor::new(&runs));
+    assert!(rt; slice.is_empty() && slice.last_key().is_none());
+    for _ in 0..2 {
+        let behind = slice.behind();
+        assert!(rt; behind.valid());
+        slice.push(behind.key());
+    }
+    assert!(rt; slice.len() == 2 && !slice.is_empty());
+    let last = slice.last_key().map(|key| key.bytes());
+    assert_eq!(rt; last, Some(b"u\x01\x09\x00\x00\x00\x00\x00\x00".as_slice()));
+    let first = slice.first();
+    assert!(rt; first.valid());
+    assert_eq!(rt; first.value(), FOUR[0].value);
+    let behind = slice.behind();
+    assert!(rt; behind.valid());
+    assert_eq!(rt; behind.value(), FOUR[2].value);
     Ok(())
 }

@@ -1,7 +1,7 @@
 //! The kept entries of runs of ranges, read one behind the other as one list.
 //!
-//! A [`RunsCursor`] is a place in that list, and a [`RunsSlice`] consecutive entries of it. Both hold places alone: keys and
-//! values stay where the runs have them, and no call takes memory.
+//! A [`RunsCursor`] is a place in that list, and a [`RunsSlice`] consecutive entries of it. Both hold places, and a slice its last
+//! key: keys and values stay where the runs have them, and no call takes memory.
 #![tactic(auto)]
 
 mod cursor;
@@ -9,6 +9,3 @@ mod slice;
 
 pub use cursor::RunsCursor;
 pub use slice::RunsSlice;
-
-#[cfg(test)]
-mod tests;

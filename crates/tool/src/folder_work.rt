@@ -8,7 +8,7 @@ use account::text;
 use coding::Fault;
 use diagnostics::{Telling, account_of, in_words};
 use edit::Version;
-use folder::{Disk, Order, WholeFiles, open};
+use folder::{Disk, Folder, Order, WholeFiles, open};
 use keep::Snapshots;
 use std::io;
 use std::io::Write;
@@ -62,11 +62,25 @@ pub(crate) fn print_value<
 pub(crate) fn compact_folder<
     R: Files + WholeFiles + Print + Eprint + Clock + AllocGlobal + Threads + Sync,
 >(rt: &R, telling: Telling<'_>, levels: Levels, settings: &CompactSettings) -> Result<(), Fault> {
+    sync(rt, telling)?;
     telling.tell_log(rt);
     match levels {
         Levels::One(level) => compact_level(rt, telling, level, settings),
         Levels::All => compact_all(rt, telling, settings),
     }
+}
+
+/// Syncs a folder, so that what is read of it from then on outlives a crash.
+fn sync<R: Files + Eprint + Clock + AllocGlobal>(
+    rt: &R,
+    telling: Telling<'_>,
+) -> Result<(), Fault> {
+    let synced = Disk::new(rt, telling.folder).sync_folder();
+    let answer = synced.map_err(Fault::from);
+    if answer.is_err() {
+        telling.end(rt, "sync", None, &answer);
+    }
+    answer
 }
 
 /// Compacts the first level that has a file, again and again, until all files are at the bottom.

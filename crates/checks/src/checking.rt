@@ -40,33 +40,6 @@ impl<'t, C: Comparator> Labour for Checks<'t, C> {
     }
 }
 
-/// The table of a number and of bytes, where these are one.
-fn check_table<'t, C: Comparator>(
-    alloc: Global,
-    number: u64,
-    bytes: &'t [u8],
-) -> Result<NumberedTable<'t, C>, Fault>
-    ensures { EqualOrMemory (λ t. t) result (numbered_reading C.cmp (number, bytes.now)) }
-{
-    let sound = check::<C>(alloc, bytes)?;
-    Ok(NumberedTable::of(number, sound))
-}
-
-/// The table whose place a job's number is.
-fn check_at<'t, C: Comparator>(
-    alloc: Global,
-    loaded: &'t [(u64, Vec<u8>)],
-    job: u64,
-) -> Result<NumberedTable<'t, C>, Fault>
-    requires { job < length loaded.now }
-    ensures { (answer : Result Numbered _)
-        → slice_get (table_answers C.cmp (map (λ t. (t.0, t.1.items)) loaded.now)) job ≡ Some answer
-        → EqualOrMemory (λ t. t) result answer }
-{
-    let (number, bytes) = &loaded[job as usize];
-    check_table(alloc, *number, bytes)
-}
-
 /// The tables of these numbers and bytes, of which there are at most 2^40, checked by 1 to 64 workers, a table a job.
 ///
 /// Refused by the first of them that is no table, by the first test that it fails.
@@ -88,4 +61,31 @@ pub(crate) fn check_round<'t, C: SharedComparator, G: Gate + Sync, R: Threads + 
         order: PhantomData,
     };
     Ok(run(rt, alloc, &checks, loaded.len() as u64, workers, gate)?)
+}
+
+/// The table whose place a job's number is.
+fn check_at<'t, C: Comparator>(
+    alloc: Global,
+    loaded: &'t [(u64, Vec<u8>)],
+    job: u64,
+) -> Result<NumberedTable<'t, C>, Fault>
+    requires { job < length loaded.now }
+    ensures { (answer : Result Numbered _)
+        → slice_get (table_answers C.cmp (map (λ t. (t.0, t.1.items)) loaded.now)) job ≡ Some answer
+        → EqualOrMemory (λ t. t) result answer }
+{
+    let (number, bytes) = &loaded[job as usize];
+    check_table(alloc, *number, bytes)
+}
+
+/// The table of a number and of bytes, where these are one.
+fn check_table<'t, C: Comparator>(
+    alloc: Global,
+    number: u64,
+    bytes: &'t [u8],
+) -> Result<NumberedTable<'t, C>, Fault>
+    ensures { EqualOrMemory (λ t. t) result (numbered_reading C.cmp (number, bytes.now)) }
+{
+    let sound = check::<C>(alloc, bytes)?;
+    Ok(NumberedTable::of(number, sound))
 }

@@ -45,37 +45,30 @@ impl<'r, 't, C: Comparator + 't + 'static> Labour for Falls<'r, 't, C> {
     }
 }
 
-/// A cursor over each table that reaches into a range, but for entries before it. Refused for want of memory alone.
-fn cursors_from<'t, C: Comparator + 't>(
-    alloc: Global,
-    tables: &[&SoundTable<'t, C>],
-    range: Range<'_>,
-) -> Result<Vec<TableCursor<'t, C>>, Fault>
-    ensures held { IfOk result (λ v. entries_in C.cmp (key_range range.entry) (joined v.items)
-        ≡ entries_in C.cmp (key_range range.entry) (joined (map (λ t. t.now.entries) tables.now))) }
-    ensures memory { IfErr result (λ e. e ≡ fault Memory) }
-{
-    let mut cursors = Vec::new(alloc);
-    for table in tables {
-        add_cursor(alloc, &mut cursors, table, range)?;
-    }
-    Ok(cursors)
-}
-
-/// Whether the entries of tables fall in the range of a number. Refused for want of memory alone.
-fn falls_at<'t, C: Comparator + 't>(
+/// Whether of each user key each entry is newer than those behind it, where the entries of each table stand behind those of the
+/// tables before it.
+///
+/// The ranges of the split are walked by 1 to 64 workers, a range a job. Refused for want of memory alone.
+pub(crate) fn entries_fall<'t, C: SharedComparator + 'static, G: Gate + Sync, R: Threads + Sync>(
+    rt: &R,
     alloc: Global,
     tables: &[&SoundTable<'t, C>],
     split: &Split<C>,
-    number: u64,
+    workers: u64,
+    gate: &G,
 ) -> Result<bool, Fault>
-    requires { number < length split.now + 1 }
-    ensures told { IfOk result (TellsRange C.cmp split.now (map (λ t. t.now.entries) tables.now) number) }
+    requires some { 0 < workers }
+    requires few { workers ≤ 64 }
+    ensures falls { IfOk result (λ falls. (falls ≡ true) ↔ AreFalling (joined (map (λ t. t.now.entries) tables.now))) }
     ensures memory { IfErr result (λ e. e ≡ fault Memory) }
 {
-    let range = split.range(number);
-    let cursors = cursors_from(alloc, tables, range)?;
-    Ok(falls_in(alloc, cursors, range)?)
+    let labour = Falls {
+        alloc,
+        tables,
+        split,
+    };
+    let found = run(rt, alloc, &labour, count_ranges(split), workers, gate)?;
+    Ok(are_all_true(&found))
 }
 
 /// How many ranges a split has.
@@ -94,28 +87,35 @@ fn are_all_true(found: &[bool]) -> bool
     found.iter().all(|it| *it)
 }
 
-/// Whether of each user key each entry is newer than those behind it, where the entries of each table stand behind those of the
-/// tables before it.
-///
-/// The ranges of the split are walked by 1 to 64 workers, a range a job. Refused for want of memory alone.
-pub(crate) fn entries_fall<'t, C: SharedComparator + 'static, G: Gate + Sync, R: Threads + Sync>(
-    rt: &R,
+/// Whether the entries of tables fall in the range of a number. Refused for want of memory alone.
+fn falls_at<'t, C: Comparator + 't>(
     alloc: Global,
     tables: &[&SoundTable<'t, C>],
     split: &Split<C>,
-    workers: u64,
-    gate: &G,
+    number: u64,
 ) -> Result<bool, Fault>
-    requires some { 0 < workers }
-    requires few { workers ≤ 64 }
-    ensures told { IfOk result (λ falls. (falls ≡ true) ↔ AreFalling (joined (map (λ t. t.now.entries) tables.now))) }
+    requires { number < length split.now + 1 }
+    ensures falls { IfOk result (TellsRange C.cmp split.now (map (λ t. t.now.entries) tables.now) number) }
     ensures memory { IfErr result (λ e. e ≡ fault Memory) }
 {
-    let labour = Falls {
-        alloc,
-        tables,
-        split,
-    };
-    let found = run(rt, alloc, &labour, count_ranges(split), workers, gate)?;
-    Ok(are_all_true(&found))
+    let range = split.range(number);
+    let cursors = cursors_from(alloc, tables, range)?;
+    Ok(falls_in(alloc, cursors, range)?)
+}
+
+/// A cursor over each table that reaches into a range, but for entries before it. Refused for want of memory alone.
+fn cursors_from<'t, C: Comparator + 't>(
+    alloc: Global,
+    tables: &[&SoundTable<'t, C>],
+    range: Range<'_>,
+) -> Result<Vec<TableCursor<'t, C>>, Fault>
+    ensures held { IfOk result (λ v. entries_in C.cmp (key_range range.entry) (joined v.items)
+        ≡ entries_in C.cmp (key_range range.entry) (joined (map (λ t. t.now.entries) tables.now))) }
+    ensures memory { IfErr result (λ e. e ≡ fault Memory) }
+{
+    let mut cursors = Vec::new(alloc);
+    for table in tables {
+        add_cursor(alloc, &mut cursors, table, range)?;
+    }
+    Ok(cursors)
 }

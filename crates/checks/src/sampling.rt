@@ -16,24 +16,19 @@ const BOUNDARIES: usize = 64;
 /// Of how many tables boundaries are taken at most.
 const MOST_TABLES: usize = 1024;
 
-/// Appends the user key of each so manieth entry of a table's index. Refused for want of memory alone.
-fn push_keys<C: Comparator>(
+/// A split of the tables' user keys into ranges of about one size. Refused for want of memory alone.
+pub(crate) fn sampled_split<C: Comparator>(
     alloc: Global,
-    keys: &mut Vec<Vec<u8>>,
-    table: &SoundTable<'_, C>,
-    wanted: usize,
-) -> Result<(), Fault>
-    requires { 0 < wanted }
-    ensures memory { IsOkUnless result (fault Memory) }
+    tables: &[&SoundTable<'_, C>],
+) -> Result<Split<C>, Fault>
+    ensures memory { IfErr result (λ e. e ≡ fault Memory) }
 {
-    let index = table.index_keys(alloc)?;
-    let step = (index.len() / wanted).max(1);
-    for place in 0..index.len() {
-        if place % step == 0 {
-            keys.push(Vec::from_slice(alloc, index.get(place))?)?;
-        }
+    let mut keys = sampled_keys(alloc, tables)?;
+    keys.sort_unstable_by(|key, other| C::compare(key, other));
+    match Split::from_keys(rising::<C>(alloc, keys)?) {
+        Ok(split) => Ok(split),
+        Err(_) => Split::from_keys(Vec::new(alloc)),
     }
-    Ok(())
 }
 
 /// User keys of the tables' indexes, in no order. Refused for want of memory alone.
@@ -54,6 +49,26 @@ fn sampled_keys<C: Comparator>(
     Ok(keys)
 }
 
+/// Appends the user key of each so manieth entry of a table's index. Refused for want of memory alone.
+fn push_keys<C: Comparator>(
+    alloc: Global,
+    keys: &mut Vec<Vec<u8>>,
+    table: &SoundTable<'_, C>,
+    wanted: usize,
+) -> Result<(), Fault>
+    requires { 0 < wanted }
+    ensures memory { IsOkUnless result (fault Memory) }
+{
+    let index = table.index_keys(alloc)?;
+    let step = (index.len() / wanted).max(1);
+    for place in 0..index.len() {
+        if place % step == 0 {
+            keys.push(Vec::from_slice(alloc, index.get(place))?)?;
+        }
+    }
+    Ok(())
+}
+
 /// Keys in order without those that aren't above the one before. Refused for want of memory alone.
 fn rising<C: Comparator>(alloc: Global, keys: Vec<Vec<u8>>) -> Result<Vec<Vec<u8>>, Fault>
     ensures memory { IfErr result (λ e. e ≡ fault Memory) }
@@ -69,19 +84,4 @@ fn rising<C: Comparator>(alloc: Global, keys: Vec<Vec<u8>>) -> Result<Vec<Vec<u8
         }
     }
     Ok(kept)
-}
-
-/// A split of the tables' user keys into ranges of about one size. Refused for want of memory alone.
-pub(crate) fn sampled_split<C: Comparator>(
-    alloc: Global,
-    tables: &[&SoundTable<'_, C>],
-) -> Result<Split<C>, Fault>
-    ensures memory { IfErr result (λ e. e ≡ fault Memory) }
-{
-    let mut keys = sampled_keys(alloc, tables)?;
-    keys.sort_unstable_by(|key, other| C::compare(key, other));
-    match Split::from_keys(rising::<C>(alloc, keys)?) {
-        Ok(split) => Ok(split),
-        Err(_) => Split::from_keys(Vec::new(alloc)),
-    }
 }

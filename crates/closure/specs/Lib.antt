@@ -1,5 +1,5 @@
 -- what contracts rest on
 pub mod Closed
 pub mod Together
--- what a test shows
+-- serves proofs alone
 pub mod Row

@@ -2,5 +2,5 @@
 pub mod Runs
 pub mod Encoded
 pub mod Answered
--- what callers' proofs rest on
+-- serves proofs alone
 pub mod Sound

@@ -31,39 +31,60 @@ use std::thread::Threads;
 use survival::reads_survive;
 use table::SoundTable;
 
-/// The law that the boundaries of a split rise. A call changes nothing.
-fn split_law<C: Comparator>(split: &Split<C>)
-    ensures { IsSplit C.cmp split.now }
-{
-    let _ = split.len();
-}
-
-/// Plans the outputs of runs, and writes them by 1 to 64 workers.
-fn write_runs<'r, 'a, C: SharedComparator + 'static, G: Gate + Sync, R: Threads + Sync>(
+/// Carries out a compaction by 1 to 64 workers, and answers its tables and its edit: just what one thread answers, whatever
+/// the ranges of the split, the number of workers and the order in which they come to their jobs.
+///
+/// Reads survive: where the inputs were picked from a lawful version and the request has its tables' bytes, its counters and
+/// a first number at or above its next file, the edit applies, the version after it is lawful with the outputs, and each get
+/// at a sequence that stays readable answers as before.
+///
+/// `Workers` where these are not from 1 to 64. Else the first refusal of the request, as `Request::check` has it; else that of
+/// the first input that has one, with its place; else `Duplicate` where the inputs hold one user key and sequence twice; else
+/// `Numbers` or `TooLarge` of the outputs; else refused for want of memory alone.
+pub fn compact<'a, C: SharedComparator + 'static, G: Gate + Sync, R: Threads + Sync>(
     rt: &R,
     alloc: Global,
-    request: &Request<'_>,
-    runs: &'r [RangeRun<'a>],
+    request: &Request<'a>,
+    split: &Split<C>,
     workers: u64,
     gate: &G,
 ) -> Result<Outcome, Fault>
-    requires some { 1 ≤ workers }
-    requires limited { workers ≤ 64 }
-    requires limits { AreInLimits request.now.options }
-    requires levels { has_levels (picked_in request.now.picked.now) ≡ true }
-    ensures { EqualOrMemory answer_in result
-        (written_of (table C.cmp C.separator_of C.successor_of request.now.options) (asked request.now)
-        (outputs_of request.now.picked.now.grandparents.items request.now.options (joined_run runs.now))) }
+    ensures same { EqualOrMemory answer_in result (compacted C.cmp C.separator_of C.successor_of workers (asked request.now)) }
+    ensures reads { IfOk result (λ outcome. LeavesReads C.cmp (asked request.now) (answer_in outcome)) }
 {
-    let grandparents = &request.picked.grandparents;
-    let plan = plan::<C>(
-        alloc,
-        runs,
-        grandparents,
-        request.options,
-        request.first_number,
-    )?;
-    write_plan(rt, alloc, request, &plan, workers, gate)
+    reads_survive::<C>();
+    passed_law::<C>();
+    check_workers(workers)?;
+    request.check::<C>()?;
+    let files = &request.picked.files;
+    let tables = check_inputs::<C, G, R>(rt, alloc, files, request.tables, workers, gate)?;
+    compact_sound(rt, alloc, request, &tables, split, workers, gate)
+}
+
+/// Carries out a compaction over tables that are checked already, those of the request's inputs in their order: just what
+/// [`compact`] answers. No table is checked again.
+///
+/// `Workers` where these are not from 1 to 64. Else the first refusal of the request, as `Request::check` has it; else
+/// `Duplicate` where the tables hold one user key and sequence twice; else `Numbers` or `TooLarge` of the outputs; else
+/// refused for want of memory alone.
+pub fn compact_tables<'t, C: SharedComparator + 'static, G: Gate + Sync, R: Threads + Sync>(
+    rt: &R,
+    alloc: Global,
+    request: &Request<'_>,
+    tables: &[SoundTable<'t, C>],
+    split: &Split<C>,
+    workers: u64,
+    gate: &G,
+) -> Result<Outcome, Fault>
+    requires read { inputs_reading C.cmp 0 request.now.picked.now.files.items (map (λ t. t.now) request.now.tables.now)
+        ≡ Ok (map (λ t. t.entries) tables.now) }
+    ensures same { EqualOrMemory answer_in result (compacted C.cmp C.separator_of C.successor_of workers (asked request.now)) }
+    ensures reads { IfOk result (λ outcome. LeavesReads C.cmp (asked request.now) (answer_in outcome)) }
+{
+    reads_survive::<C>();
+    check_workers(workers)?;
+    request.check::<C>()?;
+    compact_sound(rt, alloc, request, tables, split, workers, gate)
 }
 
 /// Merges the tables of a request that passed its tests, and writes the outputs and the edit.
@@ -96,58 +117,37 @@ fn compact_sound<'t, C: SharedComparator + 'static, G: Gate + Sync, R: Threads +
     write_runs::<C, G, R>(rt, alloc, request, &runs, workers, gate)
 }
 
-/// Carries out a compaction over tables that are checked already, those of the request's inputs in their order: just what
-/// [`compact`] answers. No table is checked again.
-///
-/// `Workers` where these are not from 1 to 64. Else the first refusal of the request, as `Request::check` has it; else
-/// `Duplicate` where the tables hold one user key and sequence twice; else `Numbers` or `TooLarge` of the outputs; else
-/// refused for want of memory alone.
-pub fn compact_tables<'t, C: SharedComparator + 'static, G: Gate + Sync, R: Threads + Sync>(
+/// Plans the outputs of runs, and writes them by 1 to 64 workers.
+fn write_runs<'r, 'a, C: SharedComparator + 'static, G: Gate + Sync, R: Threads + Sync>(
     rt: &R,
     alloc: Global,
     request: &Request<'_>,
-    tables: &[SoundTable<'t, C>],
-    split: &Split<C>,
+    runs: &'r [RangeRun<'a>],
     workers: u64,
     gate: &G,
 ) -> Result<Outcome, Fault>
-    requires read { inputs_reading C.cmp 0 request.now.picked.now.files.items (map (λ t. t.now) request.now.tables.now)
-        ≡ Ok (map (λ t. t.entries) tables.now) }
-    ensures same { EqualOrMemory answer_in result (compacted C.cmp C.separator_of C.successor_of workers (asked request.now)) }
-    ensures reads { IfOk result (λ outcome. LeavesReads C.cmp (asked request.now) (answer_in outcome)) }
+    requires some { 1 ≤ workers }
+    requires limited { workers ≤ 64 }
+    requires limits { AreInLimits request.now.options }
+    requires levels { has_levels (picked_in request.now.picked.now) ≡ true }
+    ensures { EqualOrMemory answer_in result
+        (written_of (table C.cmp C.separator_of C.successor_of request.now.options) (asked request.now)
+        (outputs_of request.now.picked.now.grandparents.items request.now.options (joined_run runs.now))) }
 {
-    reads_survive::<C>();
-    check_workers(workers)?;
-    request.check::<C>()?;
-    compact_sound(rt, alloc, request, tables, split, workers, gate)
+    let grandparents = &request.picked.grandparents;
+    let plan = plan::<C>(
+        alloc,
+        runs,
+        grandparents,
+        request.options,
+        request.first_number,
+    )?;
+    write_plan(rt, alloc, request, &plan, workers, gate)
 }
 
-/// Carries out a compaction by 1 to 64 workers, and answers its tables and its edit: just what one thread answers, whatever
-/// the ranges of the split, the number of workers and the order in which they come to their jobs.
-///
-/// Reads survive: where the inputs were picked from a lawful version and the request has its tables' bytes, its counters and
-/// a first number at or above its next file, the edit applies, the version after it is lawful with the outputs, and each get
-/// at a sequence that stays readable answers as before.
-///
-/// `Workers` where these are not from 1 to 64. Else the first refusal of the request, as `Request::check` has it; else that of
-/// the first input that has one, with its place; else `Duplicate` where the inputs hold one user key and sequence twice; else
-/// `Numbers` or `TooLarge` of the outputs; else refused for want of memory alone.
-pub fn compact<'a, C: SharedComparator + 'static, G: Gate + Sync, R: Threads + Sync>(
-    rt: &R,
-    alloc: Global,
-    request: &Request<'a>,
-    split: &Split<C>,
-    workers: u64,
-    gate: &G,
-) -> Result<Outcome, Fault>
-    ensures same { EqualOrMemory answer_in result (compacted C.cmp C.separator_of C.successor_of workers (asked request.now)) }
-    ensures reads { IfOk result (λ outcome. LeavesReads C.cmp (asked request.now) (answer_in outcome)) }
+/// The law that the boundaries of a split rise. A call changes nothing.
+fn split_law<C: Comparator>(split: &Split<C>)
+    ensures { IsSplit C.cmp split.now }
 {
-    reads_survive::<C>();
-    passed_law::<C>();
-    check_workers(workers)?;
-    request.check::<C>()?;
-    let files = &request.picked.files;
-    let tables = check_inputs::<C, G, R>(rt, alloc, files, request.tables, workers, gate)?;
-    compact_sound(rt, alloc, request, &tables, split, workers, gate)
+    let _ = split.len();
 }

@@ -44,89 +44,6 @@ impl<'r, 't, C: Comparator> Labour for Checks<'r, 't, C> {
     }
 }
 
-/// Whether a version states a table's length, its first and its last key.
-fn is_stated<C: Comparator>(file: &FileMeta, table: &SoundTable<'_, C>) -> bool
-    ensures { result ≡ is_stated file.now table.now }
-{
-    has_bounds(file, table.bytes(), table.smallest(), table.largest())
-}
-
-/// Whether a version states this length, this first and this last key.
-fn has_bounds(
-    file: &FileMeta,
-    bytes: &[u8],
-    smallest: InternalKey<'_>,
-    largest: InternalKey<'_>,
-) -> bool
-    ensures { result
-        ≡ (nat_eq file.now.size (length bytes.now) && bytes_eq file.now.smallest smallest.entry.bytes.now
-        && bytes_eq file.now.largest largest.entry.bytes.now) }
-{
-    file.size == bytes.len() as u64
-        && file.smallest.as_key().bytes() == smallest.bytes()
-        && file.largest.as_key().bytes() == largest.bytes()
-}
-
-/// The table of an input, where its bytes are one, and the one that the version states.
-fn read_input<'t, C: Comparator>(
-    alloc: Global,
-    file: &FileMeta,
-    bytes: &'t [u8],
-) -> Result<SoundTable<'t, C>, Fault>
-    ensures { EqualOrMemory (λ t. t.entries) result (input_reading C.cmp file.now bytes.now) }
-{
-    let table = check::<C>(alloc, bytes)?;
-    if !is_stated(file, &table) {
-        return Err(Fault::of(FaultName::Bounds));
-    }
-    Ok(table)
-}
-
-/// The fault, about the input at a place. Want of memory is about no input.
-fn about(fault: Fault, place: u64) -> Fault
-    ensures { (answer : Result (List Entry) _) → FailsOrMemory fault answer → FailsOrMemory result (about place answer) }
-{
-    if fault == Fault::of(FaultName::Memory) {
-        return fault;
-    }
-    Fault {
-        name: fault.name,
-        input: Some(place),
-    }
-}
-
-/// The table of the input at a place.
-fn check_input<'t, C: Comparator>(
-    alloc: Global,
-    input: &InputFile,
-    bytes: &'t [u8],
-    place: u64,
-) -> Result<SoundTable<'t, C>, Fault>
-    ensures { EqualOrMemory (λ t. t.entries) result (about place (input_reading C.cmp input.now.meta bytes.now)) }
-{
-    match read_input::<C>(alloc, &input.meta, bytes) {
-        Ok(table) => Ok(table),
-        Err(fault) => Err(about(fault, place)),
-    }
-}
-
-/// The table of the input whose place a job's number is.
-fn check_at<'t, C: Comparator>(
-    alloc: Global,
-    files: &[InputFile],
-    tables: &[&'t [u8]],
-    job: u64,
-) -> Result<SoundTable<'t, C>, Fault>
-    requires files { job < length files.now }
-    requires tables { job < length tables.now }
-    ensures { (answer : Result (List Entry) _)
-        → slice_get (input_answers C.cmp 0 files.now (map (λ t. t.now) tables.now)) job ≡ Some answer
-        → EqualOrMemory (λ t. t.entries) result answer }
-{
-    let place = job as usize;
-    check_input(alloc, &files[place], tables[place], job)
-}
-
 /// Checks the inputs of a compaction by 1 to 64 workers, a table a job, and answers the tables in order. There are at most
 /// 256 inputs.
 ///
@@ -155,4 +72,87 @@ pub fn check_inputs<'t, C: SharedComparator, G: Gate + Sync, R: Threads + Sync>(
     };
     let jobs = files.len().min(tables.len()) as u64;
     Ok(run(rt, alloc, &checks, jobs, workers, gate)?)
+}
+
+/// The table of the input whose place a job's number is.
+fn check_at<'t, C: Comparator>(
+    alloc: Global,
+    files: &[InputFile],
+    tables: &[&'t [u8]],
+    job: u64,
+) -> Result<SoundTable<'t, C>, Fault>
+    requires files { job < length files.now }
+    requires tables { job < length tables.now }
+    ensures { (answer : Result (List Entry) _)
+        → slice_get (input_answers C.cmp 0 files.now (map (λ t. t.now) tables.now)) job ≡ Some answer
+        → EqualOrMemory (λ t. t.entries) result answer }
+{
+    let place = job as usize;
+    check_input(alloc, &files[place], tables[place], job)
+}
+
+/// The table of the input at a place.
+fn check_input<'t, C: Comparator>(
+    alloc: Global,
+    input: &InputFile,
+    bytes: &'t [u8],
+    place: u64,
+) -> Result<SoundTable<'t, C>, Fault>
+    ensures { EqualOrMemory (λ t. t.entries) result (about place (input_reading C.cmp input.now.meta bytes.now)) }
+{
+    match read_input::<C>(alloc, &input.meta, bytes) {
+        Ok(table) => Ok(table),
+        Err(fault) => Err(about(fault, place)),
+    }
+}
+
+/// The fault, about the input at a place. Want of memory is about no input.
+fn about(fault: Fault, place: u64) -> Fault
+    ensures { (answer : Result (List Entry) _) → FailsOrMemory fault answer → FailsOrMemory result (about place answer) }
+{
+    if fault == Fault::of(FaultName::Memory) {
+        return fault;
+    }
+    Fault {
+        name: fault.name,
+        input: Some(place),
+    }
+}
+
+/// The table of an input, where its bytes are one, and the one that the version states.
+fn read_input<'t, C: Comparator>(
+    alloc: Global,
+    file: &FileMeta,
+    bytes: &'t [u8],
+) -> Result<SoundTable<'t, C>, Fault>
+    ensures { EqualOrMemory (λ t. t.entries) result (input_reading C.cmp file.now bytes.now) }
+{
+    let table = check::<C>(alloc, bytes)?;
+    if !is_stated(file, &table) {
+        return Err(Fault::of(FaultName::Bounds));
+    }
+    Ok(table)
+}
+
+/// Whether a version states a table's length, its first and its last key.
+fn is_stated<C: Comparator>(file: &FileMeta, table: &SoundTable<'_, C>) -> bool
+    ensures { result ≡ is_stated file.now table.now }
+{
+    has_bounds(file, table.bytes(), table.smallest(), table.largest())
+}
+
+/// Whether a version states this length, this first and this last key.
+fn has_bounds(
+    file: &FileMeta,
+    bytes: &[u8],
+    smallest: InternalKey<'_>,
+    largest: InternalKey<'_>,
+) -> bool
+    ensures { result
+        ≡ (nat_eq file.now.size (length bytes.now) && bytes_eq file.now.smallest smallest.entry.bytes.now
+        && bytes_eq file.now.largest largest.entry.bytes.now) }
+{
+    file.size == bytes.len() as u64
+        && file.smallest.as_key().bytes() == smallest.bytes()
+        && file.largest.as_key().bytes() == largest.bytes()
 }

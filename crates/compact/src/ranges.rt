@@ -80,6 +80,60 @@ impl<'r, 't, C: Comparator + 't + 'static> Labour for Merges<'r, 't, C> {
     }
 }
 
+/// Merges tables in the ranges of a split by 1 to 64 workers, a range a job, and answers the runs of the ranges in order.
+///
+/// `listed` and `floor` say which sequences stay readable, as in `keep::merge_range`. For each range a worker makes cursors of
+/// its own over the tables that reach into it, and all share the tables. `Workers` where these are not from 1 to 64. `Duplicate` where the tables hold one user
+/// key and sequence twice, whichever range that lies in. Else refused for want of memory alone.
+pub fn merge_ranges<'t, C: SharedComparator + 'static, G: Gate + Sync, R: Threads + Sync>(
+    rt: &R,
+    alloc: Global,
+    tables: &[SoundTable<'t, C>],
+    split: &Split<C>,
+    listed: &[u64],
+    floor: u64,
+    inputs: &Inputs,
+    workers: u64,
+    gate: &G,
+) -> Result<Vec<RangeRun<'t>>, Fault>
+    requires listed { IsStrictlyIncreasing listed.now }
+    requires grandparents { LargestRise C.cmp inputs.now.grandparents.items }
+    ensures { EqualOrMemory (λ v. v.items) result
+        (by_workers workers (runs_reading C.cmp (below_of listed.now floor inputs.now) split.now (map (λ t. t.entries) tables.now))) }
+{
+    let merges = Merges {
+        alloc,
+        tables,
+        split,
+        listed,
+        floor,
+        inputs,
+    };
+    ranges_compose::<C>();
+    Ok(run(rt, alloc, &merges, split.len(), workers, gate)?)
+}
+
+/// Puts a cursor over a table behind the others, but for entries before a range, where the table reaches into it. Refused
+/// for want of memory alone.
+pub fn add_cursor<'t, C: Comparator + 't>(
+    alloc: Global,
+    cursors: &mut Vec<TableCursor<'t, C>>,
+    table: &SoundTable<'t, C>,
+    range: Range<'_>,
+) -> Result<(), Fault>
+    ensures held { OnOk result (entries_in C.cmp (key_range range.entry) (joined cursors.new.items)
+        ≡ entries_in C.cmp (key_range range.entry) (joined cursors.old.items) ++ entries_in C.cmp (key_range range.entry) table.now.entries) }
+    ensures unchanged { OnErr result (cursors.new.items ≡ cursors.old.items) }
+    ensures memory { IsOkUnless result (fault Memory) }
+{
+    if misses(table, range) {
+        return Ok(());
+    }
+    let cursor = cursor_from(alloc, table, range)?;
+    cursors.push(cursor)?;
+    Ok(())
+}
+
 /// Merges tables in a range.
 fn merge_tables<'t, C: Comparator + 't>(
     alloc: Global,
@@ -113,27 +167,6 @@ fn cursors_from<'t, C: Comparator + 't>(
         add_cursor(alloc, &mut cursors, table, range)?;
     }
     Ok(cursors)
-}
-
-/// Puts a cursor over a table behind the others, but for entries before a range, where the table reaches into it. Refused
-/// for want of memory alone.
-pub fn add_cursor<'t, C: Comparator + 't>(
-    alloc: Global,
-    cursors: &mut Vec<TableCursor<'t, C>>,
-    table: &SoundTable<'t, C>,
-    range: Range<'_>,
-) -> Result<(), Fault>
-    ensures held { OnOk result (entries_in C.cmp (key_range range.entry) (joined cursors.new.items)
-        ≡ entries_in C.cmp (key_range range.entry) (joined cursors.old.items) ++ entries_in C.cmp (key_range range.entry) table.now.entries) }
-    ensures unchanged { OnErr result (cursors.new.items ≡ cursors.old.items) }
-    ensures memory { IsOkUnless result (fault Memory) }
-{
-    if misses(table, range) {
-        return Ok(());
-    }
-    let cursor = cursor_from(alloc, table, range)?;
-    cursors.push(cursor)?;
-    Ok(())
 }
 
 /// Whether a table ends before a range or begins behind it, so that none of its entries lies in it. Takes no memory.
@@ -187,37 +220,4 @@ fn seek_table<'t, C: Comparator + 't>(
 {
     let _ = bytes;
     seek_range::<C, _>(alloc, cursor, range)
-}
-
-/// Merges tables in the ranges of a split by 1 to 64 workers, a range a job, and answers the runs of the ranges in order.
-///
-/// `listed` and `floor` say which sequences stay readable, as in `keep::merge_range`. For each range a worker makes cursors of
-/// its own over the tables that reach into it, and all share the tables. `Workers` where these are not from 1 to 64. `Duplicate` where the tables hold one user
-/// key and sequence twice, whichever range that lies in. Else refused for want of memory alone.
-pub fn merge_ranges<'t, C: SharedComparator + 'static, G: Gate + Sync, R: Threads + Sync>(
-    rt: &R,
-    alloc: Global,
-    tables: &[SoundTable<'t, C>],
-    split: &Split<C>,
-    listed: &[u64],
-    floor: u64,
-    inputs: &Inputs,
-    workers: u64,
-    gate: &G,
-) -> Result<Vec<RangeRun<'t>>, Fault>
-    requires listed { IsStrictlyIncreasing listed.now }
-    requires grandparents { LargestRise C.cmp inputs.now.grandparents.items }
-    ensures { EqualOrMemory (λ v. v.items) result
-        (by_workers workers (runs_reading C.cmp (below_of listed.now floor inputs.now) split.now (map (λ t. t.entries) tables.now))) }
-{
-    let merges = Merges {
-        alloc,
-        tables,
-        split,
-        listed,
-        floor,
-        inputs,
-    };
-    ranges_compose::<C>();
-    Ok(run(rt, alloc, &merges, split.len(), workers, gate)?)
 }

@@ -37,76 +37,6 @@ const FEW_BLOCKS: u64 = 64;
 /// A piece ends with the block at which its bytes reach this many, where there are more blocks.
 const PIECE_LEN: u64 = 1 << 22;
 
-/// The outputs of these data blocks, numbered from here on. Where a table has more than 2^30 bytes, its length is 2^30 + 1.
-/// Refused for want of memory alone.
-fn numbered<'r, 'a, C: Comparator>(
-    alloc: Global,
-    ended: Vec<Vec<PlannedBlock<'r, 'a>>>,
-    first_number: u64,
-) -> Result<Vec<PlannedOutput<'r, 'a>>, Fault>
-    requires fits { first_number + length ended.items < 2 ^ 64 }
-    requires some { AllByRecursion (λ blocks. HaveEntries blocks.items) ended.items }
-    ensures ok { IfOk result (λ outputs. outputs.items
-        ≡ numbered_from (table_size (index_keys C.cmp C.separator_of C.successor_of)) first_number ended.entry.items) }
-    ensures memory { IfErr result (λ e. e ≡ fault Memory) }
-{
-    let mut outputs = Vec::new(alloc);
-    let mut number = first_number;
-    for blocks in ended {
-        let len = table_len::<C>(alloc, &blocks)?;
-        outputs.push(PlannedOutput {
-            number,
-            blocks,
-            len,
-        })?;
-        number += 1;
-    }
-    Ok(outputs)
-}
-
-/// How many data blocks outputs have together; 2^64 - 1 where there are more.
-fn count_blocks(outputs: &[PlannedOutput<'_, '_>]) -> u64
-    ensures { result ≡ saturated (block_count outputs.now) }
-{
-    let mut count: u64 = 0;
-    for output in outputs {
-        count = count.saturating_add(output.blocks.len() as u64);
-    }
-    count
-}
-
-/// Whether no output has more than 2^30 bytes.
-fn are_short(outputs: &[PlannedOutput<'_, '_>]) -> bool
-    ensures { result ≡ list_all (λ p. nat_le p.len (2 ^ 30)) outputs.now }
-{
-    let limit = MAX_TABLE_LEN as u64;
-    outputs.iter().all(|output| output.len <= limit)
-}
-
-/// Whether no output has more than 2^30 bytes, and there are at most 2^40 data blocks.
-fn are_small(outputs: &[PlannedOutput<'_, '_>]) -> bool
-    ensures { result ≡ (list_all (λ p. nat_le p.len (2 ^ 30)) outputs.now && nat_le (block_count outputs.now) (2 ^ 40)) }
-{
-    are_short(outputs) && count_blocks(outputs) <= MAX_BLOCKS
-}
-
-/// The pieces of outputs, in order. Refused for want of memory alone.
-fn divided(alloc: Global, outputs: &[PlannedOutput<'_, '_>]) -> Result<Division, Fault>
-    requires { AllByRecursion (λ p. lens_of p.blocks.items ≤ 2 ^ 30) outputs.now }
-    ensures pieces { IfOk result (λ division. division.pieces.items
-        ≡ places_all (piece_limit (block_count outputs.now)) 0 outputs.now) }
-    ensures counts { IfOk result (λ division. division.counts.items
-        ≡ counts_all (piece_limit (block_count outputs.now)) 0 outputs.now) }
-    ensures memory { IfErr result (λ e. e ≡ fault Memory) }
-{
-    let limit = if count_blocks(outputs) < FEW_BLOCKS {
-        0
-    } else {
-        PIECE_LEN
-    };
-    pieces_of(alloc, outputs, limit)
-}
-
 /// The plan of the outputs of a compaction, from the runs of all ranges in order. It does not depend on how the entries were
 /// dealt out to ranges. Grandparents are the files that the marks of the runs count.
 ///
@@ -142,4 +72,74 @@ pub fn plan<'r, 'a, C: Comparator>(
         counts: division.counts,
         order: PhantomData,
     })
+}
+
+/// The outputs of these data blocks, numbered from here on. Where a table has more than 2^30 bytes, its length is 2^30 + 1.
+/// Refused for want of memory alone.
+fn numbered<'r, 'a, C: Comparator>(
+    alloc: Global,
+    ended: Vec<Vec<PlannedBlock<'r, 'a>>>,
+    first_number: u64,
+) -> Result<Vec<PlannedOutput<'r, 'a>>, Fault>
+    requires fits { first_number + length ended.items < 2 ^ 64 }
+    requires some { AllByRecursion (λ blocks. HaveEntries blocks.items) ended.items }
+    ensures ok { IfOk result (λ outputs. outputs.items
+        ≡ numbered_from (table_size (index_keys C.cmp C.separator_of C.successor_of)) first_number ended.entry.items) }
+    ensures memory { IfErr result (λ e. e ≡ fault Memory) }
+{
+    let mut outputs = Vec::new(alloc);
+    let mut number = first_number;
+    for blocks in ended {
+        let len = table_len::<C>(alloc, &blocks)?;
+        outputs.push(PlannedOutput {
+            number,
+            blocks,
+            len,
+        })?;
+        number += 1;
+    }
+    Ok(outputs)
+}
+
+/// Whether no output has more than 2^30 bytes, and there are at most 2^40 data blocks.
+fn are_small(outputs: &[PlannedOutput<'_, '_>]) -> bool
+    ensures { result ≡ (list_all (λ p. nat_le p.len (2 ^ 30)) outputs.now && nat_le (block_count outputs.now) (2 ^ 40)) }
+{
+    are_short(outputs) && count_blocks(outputs) <= MAX_BLOCKS
+}
+
+/// Whether no output has more than 2^30 bytes.
+fn are_short(outputs: &[PlannedOutput<'_, '_>]) -> bool
+    ensures { result ≡ list_all (λ p. nat_le p.len (2 ^ 30)) outputs.now }
+{
+    let limit = MAX_TABLE_LEN as u64;
+    outputs.iter().all(|output| output.len <= limit)
+}
+
+/// How many data blocks outputs have together; 2^64 - 1 where there are more.
+fn count_blocks(outputs: &[PlannedOutput<'_, '_>]) -> u64
+    ensures { result ≡ saturated (block_count outputs.now) }
+{
+    let mut count: u64 = 0;
+    for output in outputs {
+        count = count.saturating_add(output.blocks.len() as u64);
+    }
+    count
+}
+
+/// The pieces of outputs, in order. Refused for want of memory alone.
+fn divided(alloc: Global, outputs: &[PlannedOutput<'_, '_>]) -> Result<Division, Fault>
+    requires { AllByRecursion (λ p. lens_of p.blocks.items ≤ 2 ^ 30) outputs.now }
+    ensures pieces { IfOk result (λ division. division.pieces.items
+        ≡ places_all (piece_limit (block_count outputs.now)) 0 outputs.now) }
+    ensures counts { IfOk result (λ division. division.counts.items
+        ≡ counts_all (piece_limit (block_count outputs.now)) 0 outputs.now) }
+    ensures memory { IfErr result (λ e. e ≡ fault Memory) }
+{
+    let limit = if count_blocks(outputs) < FEW_BLOCKS {
+        0
+    } else {
+        PIECE_LEN
+    };
+    pieces_of(alloc, outputs, limit)
 }

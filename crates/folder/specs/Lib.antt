@@ -2,6 +2,7 @@
 pub mod Names
 pub mod Folder
 pub mod Calls
+pub mod Attempts
 pub mod Manifest
 pub mod Opening
 pub mod Levels
@@ -11,6 +12,5 @@ pub mod ReadsAs
 pub mod Runs
 pub mod Shelf
 -- serves proofs alone
-pub mod Attempts
 pub mod Free
 pub mod Source

@@ -54,94 +54,6 @@ impl<'r, R: Files + AllocGlobal> Disk<'r, R> {
             ahead: Vec::new(rt.alloc()),
         }
     }
-
-    /// The path of a file.
-    fn place(&self, name: &str) -> Result<String, FolderFault>
-        ensures { IsOkUnless result Memory }
-    {
-        Ok(path_in(self.rt.alloc(), self.path, name)?)
-    }
-
-    /// What a call of the system answered. A failure that isn't want of memory is the device's, and is counted.
-    fn counted<T>(&mut self, answer: io::Result<T>) -> Result<T, FolderFault>
-        ensures failures { self.new.failures ≡ failures_after self.old.failures result }
-        ensures trail { self.new.trail ≡ self.old.trail }
-    {
-        match answer {
-            Ok(value) => Ok(value),
-            Err(error) if error.kind() == ErrorKind::OutOfMemory => Err(FolderFault::Memory),
-            Err(_) => {
-                self.failures = self.failures.saturating_add(1);
-                Err(FolderFault::Device)
-            }
-        }
-    }
-
-    /// Adds a call to the trail, by what it answered.
-    fn note(
-        &mut self,
-        call: WriteCall<'_>,
-        answer: Result<(), FolderFault>,
-    ) -> Result<(), FolderFault>
-        ensures answer { result ≡ answer }
-        ensures trail { self.new.trail ≡ self.old.trail ++ step_of (call_in call.entry) answer ∷ [] }
-        ensures failures { self.new.failures ≡ self.old.failures }
-    {
-        let is_done = answer.is_ok();
-        self.trail = self.trail.then(&Attempt { call, is_done });
-        answer
-    }
-
-    /// What was read ahead of a file, where it is the next of those that were.
-    fn taken_ahead(&mut self, name: &str) -> Option<Vec<u8>>
-        ensures failures { self.new.failures ≡ self.old.failures }
-        ensures trail { self.new.trail ≡ self.old.trail }
-    {
-        match self.ahead.last() {
-            Some(next) if next.name.as_str() == name => self.ahead.pop()?.bytes,
-            _ => None,
-        }
-    }
-
-    fn made(&mut self, name: &str, bytes: &[u8]) -> Result<(), FolderFault>
-        ensures failures { self.new.failures ≡ failures_after self.old.failures result }
-        ensures trail { self.new.trail ≡ self.old.trail }
-    {
-        self.ahead.clear();
-        let place = self.place(name)?;
-        let answer = fs::write(self.rt, place.as_str(), bytes);
-        self.counted(answer)
-    }
-
-    fn synced(&mut self, name: &str) -> Result<(), FolderFault>
-        ensures failures { self.new.failures ≡ failures_after self.old.failures result }
-        ensures trail { self.new.trail ≡ self.old.trail }
-    {
-        let place = self.place(name)?;
-        let file = OpenOptions::new().write(true).open(self.rt, place.as_str());
-        let answer = self.counted(file)?.sync_all();
-        self.counted(answer)
-    }
-
-    fn renamed(&mut self, from: &str, to: &str) -> Result<(), FolderFault>
-        ensures failures { self.new.failures ≡ failures_after self.old.failures result }
-        ensures trail { self.new.trail ≡ self.old.trail }
-    {
-        self.ahead.clear();
-        let from = self.place(from)?;
-        let to = self.place(to)?;
-        let answer = fs::rename(self.rt, from.as_str(), to.as_str());
-        self.counted(answer)
-    }
-
-    fn folder_synced(&mut self) -> Result<(), FolderFault>
-        ensures failures { self.new.failures ≡ failures_after self.old.failures result }
-        ensures trail { self.new.trail ≡ self.old.trail }
-    {
-        let folder = File::open(self.rt, self.path);
-        let answer = self.counted(folder)?.sync_all();
-        self.counted(answer)
-    }
 }
 
 impl<'r, R: Files + AllocGlobal + WholeFiles + Threads> Disk<'r, R> {
@@ -200,5 +112,95 @@ impl<'r, R: Files + AllocGlobal> Folder for Disk<'r, R> {
 
     fn failures(&self) -> u64 {
         self.failures
+    }
+}
+
+impl<'r, R: Files + AllocGlobal> Disk<'r, R> {
+    /// What was read ahead of a file, where it is the next of those that were.
+    fn taken_ahead(&mut self, name: &str) -> Option<Vec<u8>>
+        ensures failures { self.new.failures ≡ self.old.failures }
+        ensures trail { self.new.trail ≡ self.old.trail }
+    {
+        match self.ahead.last() {
+            Some(next) if next.name.as_str() == name => self.ahead.pop()?.bytes,
+            _ => None,
+        }
+    }
+
+    fn made(&mut self, name: &str, bytes: &[u8]) -> Result<(), FolderFault>
+        ensures failures { self.new.failures ≡ failures_after self.old.failures result }
+        ensures trail { self.new.trail ≡ self.old.trail }
+    {
+        self.ahead.clear();
+        let place = self.place(name)?;
+        let answer = fs::write(self.rt, place.as_str(), bytes);
+        self.counted(answer)
+    }
+
+    fn synced(&mut self, name: &str) -> Result<(), FolderFault>
+        ensures failures { self.new.failures ≡ failures_after self.old.failures result }
+        ensures trail { self.new.trail ≡ self.old.trail }
+    {
+        let place = self.place(name)?;
+        let file = OpenOptions::new().write(true).open(self.rt, place.as_str());
+        let answer = self.counted(file)?.sync_all();
+        self.counted(answer)
+    }
+
+    fn renamed(&mut self, from: &str, to: &str) -> Result<(), FolderFault>
+        ensures failures { self.new.failures ≡ failures_after self.old.failures result }
+        ensures trail { self.new.trail ≡ self.old.trail }
+    {
+        self.ahead.clear();
+        let from = self.place(from)?;
+        let to = self.place(to)?;
+        let answer = fs::rename(self.rt, from.as_str(), to.as_str());
+        self.counted(answer)
+    }
+
+    fn folder_synced(&mut self) -> Result<(), FolderFault>
+        ensures failures { self.new.failures ≡ failures_after self.old.failures result }
+        ensures trail { self.new.trail ≡ self.old.trail }
+    {
+        let folder = File::open(self.rt, self.path);
+        let answer = self.counted(folder)?.sync_all();
+        self.counted(answer)
+    }
+
+    /// The path of a file.
+    fn place(&self, name: &str) -> Result<String, FolderFault>
+        ensures { IsOkUnless result Memory }
+    {
+        Ok(path_in(self.rt.alloc(), self.path, name)?)
+    }
+
+    /// What a call of the system answered. A failure that isn't want of memory is the device's, and is counted.
+    fn counted<T>(&mut self, answer: io::Result<T>) -> Result<T, FolderFault>
+        ensures failures { self.new.failures ≡ failures_after self.old.failures result }
+        ensures trail { self.new.trail ≡ self.old.trail }
+    {
+        match answer {
+            Ok(value) => Ok(value),
+            Err(error) if error.kind() == ErrorKind::OutOfMemory => Err(FolderFault::Memory),
+            Err(_) => {
+                self.failures = self.failures.saturating_add(1);
+                Err(FolderFault::Device)
+            }
+        }
+    }
+
+    /// Adds a call to the trail, by what it answered.
+    fn note(
+        &mut self,
+        call: WriteCall<'_>,
+        answer: Result<(), FolderFault>,
+    ) -> Result<(), FolderFault>
+        ensures answer { result ≡ answer }
+        ensures trail { self.new.trail ≡ self.old.trail ++ step_of (call_in call.entry) answer ∷ [] }
+        ensures failures { self.new.failures ≡ self.old.failures }
+    {
+        let is_done = answer.is_ok();
+        self.trail = self.trail.then(&Attempt { call, is_done });
+        answer
     }
 }

@@ -38,6 +38,24 @@ pub fn load<C: Comparator, F: Folder>(
     tables(alloc, folder, &numbers)
 }
 
+/// The tables of a version's files, by the names under which [`load`] asks for them first, the last one first. None was read.
+pub(crate) fn tables_ahead(
+    alloc: Global,
+    order: Order,
+    version: &Version,
+) -> Result<Vec<Ahead>, Fault> {
+    let numbers = match order {
+        Order::Bytewise => file_numbers::<Bytewise>(alloc, version)?,
+        Order::Shortlex => file_numbers::<Shortlex>(alloc, version)?,
+    };
+    let mut files = Vec::with_capacity(alloc, numbers.len())?;
+    for number in numbers.iter().rev() {
+        let name = table_name(alloc, *number)?;
+        files.push(Ahead { name, bytes: None })?;
+    }
+    Ok(files)
+}
+
 /// The tables of these numbers, in order.
 fn tables<F: Folder>(
     alloc: Global,
@@ -94,22 +112,4 @@ fn push_numbers(numbers: &mut Vec<u64>, files: &[&FileMeta]) -> Result<(), Fault
         numbers.push(file.number)?;
     }
     Ok(())
-}
-
-/// The tables of a version's files, by the names under which [`load`] asks for them first, the last one first. None was read.
-pub(crate) fn tables_ahead(
-    alloc: Global,
-    order: Order,
-    version: &Version,
-) -> Result<Vec<Ahead>, Fault> {
-    let numbers = match order {
-        Order::Bytewise => file_numbers::<Bytewise>(alloc, version)?,
-        Order::Shortlex => file_numbers::<Shortlex>(alloc, version)?,
-    };
-    let mut files = Vec::with_capacity(alloc, numbers.len())?;
-    for number in numbers.iter().rev() {
-        let name = table_name(alloc, *number)?;
-        files.push(Ahead { name, bytes: None })?;
-    }
-    Ok(files)
 }

@@ -14,21 +14,22 @@ pub const CURRENT: &str = "CURRENT";
 /// What the name of each manifest begins with.
 const MANIFEST: &[u8] = b"MANIFEST-";
 
-/// The name of the manifest of this number: its decimal digits, at least six, behind `MANIFEST-`.
+/// The name of the manifest of this number: its decimal digits, at least six, behind `MANIFEST-`. Refused for want of memory
+/// alone.
 pub fn manifest_name(alloc: Global, number: u64) -> Result<String, Fault>
     ensures { EqualOrMemory string_bytes result (Ok (manifest_name number)) }
 {
     Ok(format!(in alloc; "MANIFEST-{number:06}")?)
 }
 
-/// The name of the table of this number.
+/// The name of the table of this number. Refused for want of memory alone.
 pub fn table_name(alloc: Global, number: u64) -> Result<String, Fault>
     ensures { EqualOrMemory string_bytes result (Ok (table_name number)) }
 {
     Ok(format!(in alloc; "{number:06}.ldb")?)
 }
 
-/// The older name of the table of this number.
+/// The older name of the table of this number. Refused for want of memory alone.
 pub fn old_table_name(alloc: Global, number: u64) -> Result<String, Fault>
     ensures { EqualOrMemory string_bytes result (Ok (old_table_name number)) }
 {
@@ -36,13 +37,14 @@ pub fn old_table_name(alloc: Global, number: u64) -> Result<String, Fault>
 }
 
 /// The name under which what CURRENT is to hold is written first, with the number of the manifest that it names.
+/// Refused for want of memory alone.
 pub fn temporary_name(alloc: Global, number: u64) -> Result<String, Fault>
     ensures { EqualOrMemory string_bytes result (Ok (temporary_name number)) }
 {
     Ok(format!(in alloc; "{number:06}.dbtmp")?)
 }
 
-/// What CURRENT holds where it names the manifest of this number.
+/// What CURRENT holds where it names the manifest of this number. Refused for want of memory alone.
 pub fn current_text(alloc: Global, number: u64) -> Result<String, Fault>
     ensures { EqualOrMemory string_bytes result (Ok (current_text number)) }
 {
@@ -51,7 +53,8 @@ pub fn current_text(alloc: Global, number: u64) -> Result<String, Fault>
 
 /// The number of the manifest that CURRENT names by these bytes.
 ///
-/// Refused as Apply where they aren't a manifest's name, exactly as it is written, and one newline.
+/// Refused as Apply where they aren't a manifest's name, exactly as it is written, and one newline. Else refused for
+/// want of memory alone.
 pub fn number_in_current(alloc: Global, bytes: &[u8]) -> Result<u64, Fault>
     ensures { HoldsOrMemory (λ n. n) result (IsNumberAnswer bytes.now) }
 {

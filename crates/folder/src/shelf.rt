@@ -106,104 +106,6 @@ impl<'a> Shelf<'a> {
         }
         file_of(self.start, sought)
     }
-
-    /// Counts a call. How it fails, where it is the one that fails.
-    fn called(&mut self) -> Option<Failing>
-        ensures start { self.new.start ≡ self.old.start }
-        ensures steps { self.new.steps ≡ self.old.steps }
-        ensures failures { self.new.failures ≡ self.old.failures }
-        ensures trail { self.new.trail ≡ self.old.trail }
-    {
-        self.calls = self.calls.saturating_add(1);
-        match self.failing {
-            Some(failing) if failing.call == self.calls => Some(failing),
-            _ => None,
-        }
-    }
-
-    /// Fails, and counts what the device failed.
-    fn fail<T>(&mut self, fault: FolderFault) -> Result<T, FolderFault>
-        ensures answer { result ≡ Err fault }
-        ensures start { self.new.start ≡ self.old.start }
-        ensures steps { self.new.steps ≡ self.old.steps }
-        ensures failures { self.new.failures ≡ failures_after self.old.failures result }
-        ensures trail { self.new.trail ≡ self.old.trail }
-    {
-        if fault == FolderFault::Device {
-            self.failures = self.failures.saturating_add(1);
-        }
-        Err(fault)
-    }
-
-    /// Makes a call that writes, and adds it to the trail.
-    fn write(&mut self, call: WriteCall<'_>) -> Result<(), FolderFault>
-        ensures calls { self.new.trail ≡ self.old.trail ++ step_of (call_in call.entry) result ∷ [] }
-        ensures change { (files : Files) → Alters (step_of (call_in call.entry) result) (after_steps self.old.steps files) (after_steps self.new.steps files) }
-        ensures start { self.new.start ≡ self.old.start }
-        ensures failures { self.new.failures ≡ failures_after self.old.failures result }
-    {
-        let answer = self.record(call);
-        let is_done = answer.is_ok();
-        self.trail = self.trail.then(&Attempt { call, is_done });
-        answer
-    }
-
-    /// Adds a call that writes to the record.
-    fn record(&mut self, call: WriteCall<'_>) -> Result<(), FolderFault>
-        ensures change { (files : Files) → Alters (step_of (call_in call.entry) result) (after_steps self.old.steps files) (after_steps self.new.steps files) }
-        ensures start { self.new.start ≡ self.old.start }
-        ensures failures { self.new.failures ≡ failures_after self.old.failures result }
-        ensures trail { self.new.trail ≡ self.old.trail }
-    {
-        let failing = self.called();
-        let step = ShelfStep {
-            call: copied(self.alloc, call, failing.is_some())?,
-            is_done: failing.is_none(),
-            is_shown: failing.is_none_or(|failing| failing.is_half_done),
-        };
-        self.steps.insert(0, step)?;
-        match failing {
-            Some(failing) => self.fail(failing.fault),
-            None => Ok(()),
-        }
-    }
-}
-
-/// The bytes of the first file of a name.
-fn file_of<'x>(files: &'x [(&'x str, &'x [u8])], name: &str) -> Option<&'x [u8]>
-    ensures { option_map (λ bytes. bytes.now) result ≡ files_in (map (λ f. (f.0.now, f.1.now)) files.now) name.now }
-{
-    for (file, bytes) in files {
-        if name == *file {
-            return Some(bytes);
-        }
-    }
-    None
-}
-
-/// A copy of a call. Of one that is half done, a file has the first half of its bytes.
-fn copied(alloc: Global, call: WriteCall<'_>, is_half: bool) -> Result<ShelfCall, AllocError>
-    ensures { IfOk result (λ copy. (files : Files) → Alters (tried_if is_half (call_in call.entry)) files (made_by copy files)) }
-{
-    Ok(match call {
-        WriteCall::Create(name, bytes) => {
-            let len = if is_half {
-                bytes.len() / 2
-            } else {
-                bytes.len()
-            };
-            ShelfCall::Create(
-                String::from_str(alloc, name)?,
-                Vec::from_slice(alloc, &bytes[..len])?,
-            )
-        }
-        WriteCall::Sync(name) => ShelfCall::Sync(String::from_str(alloc, name)?),
-        WriteCall::Rename(from, to) => ShelfCall::Rename(
-            String::from_str(alloc, from)?,
-            String::from_str(alloc, to)?,
-        ),
-        WriteCall::SyncFolder => ShelfCall::SyncFolder,
-    })
 }
 
 impl<'a> Folder for Shelf<'a> {
@@ -242,4 +144,104 @@ impl<'a> Folder for Shelf<'a> {
     fn failures(&self) -> u64 {
         self.failures
     }
+}
+
+impl<'a> Shelf<'a> {
+    /// Makes a call that writes, and adds it to the trail.
+    fn write(&mut self, call: WriteCall<'_>) -> Result<(), FolderFault>
+        ensures calls { self.new.trail ≡ self.old.trail ++ step_of (call_in call.entry) result ∷ [] }
+        ensures change { (files : Files) → Alters (step_of (call_in call.entry) result) (after_steps self.old.steps files) (after_steps self.new.steps files) }
+        ensures start { self.new.start ≡ self.old.start }
+        ensures failures { self.new.failures ≡ failures_after self.old.failures result }
+    {
+        let answer = self.record(call);
+        let is_done = answer.is_ok();
+        self.trail = self.trail.then(&Attempt { call, is_done });
+        answer
+    }
+
+    /// Adds a call that writes to the record.
+    fn record(&mut self, call: WriteCall<'_>) -> Result<(), FolderFault>
+        ensures change { (files : Files) → Alters (step_of (call_in call.entry) result) (after_steps self.old.steps files) (after_steps self.new.steps files) }
+        ensures start { self.new.start ≡ self.old.start }
+        ensures failures { self.new.failures ≡ failures_after self.old.failures result }
+        ensures trail { self.new.trail ≡ self.old.trail }
+    {
+        let failing = self.called();
+        let step = ShelfStep {
+            call: copied(self.alloc, call, failing.is_some())?,
+            is_done: failing.is_none(),
+            is_shown: failing.is_none_or(|failing| failing.is_half_done),
+        };
+        self.steps.insert(0, step)?;
+        match failing {
+            Some(failing) => self.fail(failing.fault),
+            None => Ok(()),
+        }
+    }
+
+    /// Counts a call. How it fails, where it is the one that fails.
+    fn called(&mut self) -> Option<Failing>
+        ensures start { self.new.start ≡ self.old.start }
+        ensures steps { self.new.steps ≡ self.old.steps }
+        ensures failures { self.new.failures ≡ self.old.failures }
+        ensures trail { self.new.trail ≡ self.old.trail }
+    {
+        self.calls = self.calls.saturating_add(1);
+        match self.failing {
+            Some(failing) if failing.call == self.calls => Some(failing),
+            _ => None,
+        }
+    }
+
+    /// Fails, and counts what the device failed.
+    fn fail<T>(&mut self, fault: FolderFault) -> Result<T, FolderFault>
+        ensures answer { result ≡ Err fault }
+        ensures start { self.new.start ≡ self.old.start }
+        ensures steps { self.new.steps ≡ self.old.steps }
+        ensures failures { self.new.failures ≡ failures_after self.old.failures result }
+        ensures trail { self.new.trail ≡ self.old.trail }
+    {
+        if fault == FolderFault::Device {
+            self.failures = self.failures.saturating_add(1);
+        }
+        Err(fault)
+    }
+}
+
+/// The bytes of the first file of a name.
+fn file_of<'x>(files: &'x [(&'x str, &'x [u8])], name: &str) -> Option<&'x [u8]>
+    ensures { option_map (λ bytes. bytes.now) result ≡ files_in (map (λ f. (f.0.now, f.1.now)) files.now) name.now }
+{
+    for (file, bytes) in files {
+        if name == *file {
+            return Some(bytes);
+        }
+    }
+    None
+}
+
+/// A copy of a call. Of one that is half done, a file has the first half of its bytes.
+fn copied(alloc: Global, call: WriteCall<'_>, is_half: bool) -> Result<ShelfCall, AllocError>
+    ensures { IfOk result (λ copy. (files : Files) → Alters (tried_if is_half (call_in call.entry)) files (made_by copy files)) }
+{
+    Ok(match call {
+        WriteCall::Create(name, bytes) => {
+            let len = if is_half {
+                bytes.len() / 2
+            } else {
+                bytes.len()
+            };
+            ShelfCall::Create(
+                String::from_str(alloc, name)?,
+                Vec::from_slice(alloc, &bytes[..len])?,
+            )
+        }
+        WriteCall::Sync(name) => ShelfCall::Sync(String::from_str(alloc, name)?),
+        WriteCall::Rename(from, to) => ShelfCall::Rename(
+            String::from_str(alloc, from)?,
+            String::from_str(alloc, to)?,
+        ),
+        WriteCall::SyncFolder => ShelfCall::SyncFolder,
+    })
 }

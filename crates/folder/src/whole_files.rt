@@ -16,6 +16,14 @@ pub trait WholeFiles: Send + Sync {
     fn whole(&self, alloc: Global, path: &str) -> io::Result<Vec<u8>>;
 }
 
+/// A file that is read ahead.
+#[derive(Drop)]
+pub(crate) struct Ahead {
+    pub name: String,
+    /// What it holds, once it was read.
+    pub bytes: Option<Vec<u8>>,
+}
+
 impl WholeFiles for HostRuntime {
     fn whole(&self, alloc: Global, path: &str) -> io::Result<Vec<u8>> {
         whole(self, alloc, path)
@@ -29,14 +37,6 @@ pub(crate) fn whole<R: Files>(rt: &R, alloc: Global, path: &str) -> io::Result<V
     let mut bytes = Vec::with_capacity(alloc, length.saturating_add(1))?;
     file.read_to_end(&mut bytes)?;
     Ok(bytes)
-}
-
-/// A file that is read ahead.
-#[derive(Drop)]
-pub(crate) struct Ahead {
-    pub name: String,
-    /// What it holds, once it was read.
-    pub bytes: Option<Vec<u8>>,
 }
 
 /// Reads the files at these paths, each by one of several threads. One that can't be read stays without bytes.
@@ -56,16 +56,16 @@ pub(crate) fn read_all<R: WholeFiles + Threads>(
     );
 }
 
-/// The bytes of the file of a name in a folder.
-fn bytes_in<R: WholeFiles>(rt: &R, alloc: Global, folder: &str, name: &str) -> io::Result<Vec<u8>> {
-    let path = path_in(alloc, folder, name)?;
-    rt.whole(alloc, path.as_str())
-}
-
 /// The path of a file in a folder. No folder has the empty path, so its files have no path either.
 pub(crate) fn path_in(alloc: Global, folder: &str, name: &str) -> Result<String, AllocError> {
     if folder.is_empty() {
         return Ok(String::new(alloc));
     }
     Ok(format!(in alloc; "{folder}/{name}")?)
+}
+
+/// The bytes of the file of a name in a folder.
+fn bytes_in<R: WholeFiles>(rt: &R, alloc: Global, folder: &str, name: &str) -> io::Result<Vec<u8>> {
+    let path = path_in(alloc, folder, name)?;
+    rt.whole(alloc, path.as_str())
 }

@@ -34,15 +34,6 @@ pub(crate) fn write<F: Folder>(folder: &mut F, name: &str, bytes: &[u8]) -> Resu
     make_file(folder, name, bytes)
 }
 
-/// Makes a file and syncs it.
-fn make_file<F: Folder>(folder: &mut F, name: &str, bytes: &[u8]) -> Result<(), FolderFault>
-    ensures runs { Runs (writes name.now bytes.now) (F.calls folder.old) (F.calls folder.new) (F.tells folder.old) (F.tells folder.new) result }
-    ensures failures { F.failed folder.new ≡ failures_after (F.failed folder.old) result }
-{
-    folder.create(name, bytes)?;
-    folder.sync(name)
-}
-
 /// Writes the tables, each under the name of its number.
 pub(crate) fn write_tables<F: Folder>(
     alloc: Global,
@@ -84,19 +75,6 @@ pub(crate) fn write_temporary<F: Folder>(
     make_temporary(alloc, folder, number)
 }
 
-/// Writes what CURRENT is to hold under its temporary name, and syncs the folder.
-fn make_temporary<F: Folder>(alloc: Global, folder: &mut F, number: u64) -> Result<(), Fault>
-    ensures runs { Runs (temporary_calls number) (F.calls folder.old) (F.calls folder.new) (F.tells folder.old) (F.tells folder.new) result }
-    ensures refused { IfErr result (λ e. UnlessMemory e (IsStopped (F.failed folder.old) (F.failed folder.new) e)) }
-    ensures at_once { StopsAtDevice (F.failed folder.old) (F.failed folder.new) result }
-    ensures later { F.failed folder.old ≤ F.failed folder.new }
-{
-    let name = temporary_name(alloc, number)?;
-    let text = current_text(alloc, number)?;
-    write(folder, name.as_str(), text.as_bytes())?;
-    Ok(folder.sync_folder()?)
-}
-
 /// Gives what has the temporary name the name CURRENT, and syncs the folder.
 pub(crate) fn name_current<F: Folder>(
     alloc: Global,
@@ -110,5 +88,27 @@ pub(crate) fn name_current<F: Folder>(
 {
     let name = temporary_name(alloc, number)?;
     folder.rename(name.as_str(), CURRENT)?;
+    Ok(folder.sync_folder()?)
+}
+
+/// Makes a file and syncs it.
+fn make_file<F: Folder>(folder: &mut F, name: &str, bytes: &[u8]) -> Result<(), FolderFault>
+    ensures runs { Runs (writes name.now bytes.now) (F.calls folder.old) (F.calls folder.new) (F.tells folder.old) (F.tells folder.new) result }
+    ensures failures { F.failed folder.new ≡ failures_after (F.failed folder.old) result }
+{
+    folder.create(name, bytes)?;
+    folder.sync(name)
+}
+
+/// Writes what CURRENT is to hold under its temporary name, and syncs the folder.
+fn make_temporary<F: Folder>(alloc: Global, folder: &mut F, number: u64) -> Result<(), Fault>
+    ensures runs { Runs (temporary_calls number) (F.calls folder.old) (F.calls folder.new) (F.tells folder.old) (F.tells folder.new) result }
+    ensures refused { IfErr result (λ e. UnlessMemory e (IsStopped (F.failed folder.old) (F.failed folder.new) e)) }
+    ensures at_once { StopsAtDevice (F.failed folder.old) (F.failed folder.new) result }
+    ensures later { F.failed folder.old ≤ F.failed folder.new }
+{
+    let name = temporary_name(alloc, number)?;
+    let text = current_text(alloc, number)?;
+    write(folder, name.as_str(), text.as_bytes())?;
     Ok(folder.sync_folder()?)
 }

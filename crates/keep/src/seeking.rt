@@ -17,28 +17,6 @@ use split::Range;
 use std::alloc::Global;
 use table::Cursor;
 
-/// Seeks the first internal key that a user key may have, where one is named and a user key may be as long. Refused for
-/// want of memory alone.
-fn seek_user<'a, C: Comparator, S: Cursor<'a, C>>(
-    alloc: Global,
-    cursor: &mut S,
-    user: Option<&[u8]>,
-) -> Result<(), Fault>
-    ensures left { AllByRecursion (λ e. sequence_of e.key < 2 ^ 56) (S.remaining cursor.old) →
-        LosesOnly (is_before C.cmp (option_map (λ key. key.now) user.entry) false)
-        (S.remaining cursor.old) (S.remaining cursor.new) }
-    ensures memory { IsOkUnless result (fault Memory) }
-{
-    let Some(user) = user else {
-        return Ok(());
-    };
-    if user.len() > MAX_USER_KEY {
-        return Ok(());
-    }
-    let first = KeyBuf::new(alloc, user, MAX_SEQUENCE, Kind::Put)?;
-    cursor.seek(first.as_key())
-}
-
 /// Takes off the entries before a range.
 ///
 /// It seeks the first internal key that a user key at the lower bound may have. Where no entry's sequence is over its
@@ -60,4 +38,26 @@ pub fn seek_range<'a, C: Comparator, S: Cursor<'a, C>>(
         cursor.advance()?;
     }
     Ok(())
+}
+
+/// Seeks the first internal key that a user key may have, where one is named and a user key may be as long. Refused for
+/// want of memory alone.
+fn seek_user<'a, C: Comparator, S: Cursor<'a, C>>(
+    alloc: Global,
+    cursor: &mut S,
+    user: Option<&[u8]>,
+) -> Result<(), Fault>
+    ensures left { AllByRecursion (λ e. sequence_of e.key < 2 ^ 56) (S.remaining cursor.old) →
+        LosesOnly (is_before C.cmp (option_map (λ key. key.now) user.entry) false)
+        (S.remaining cursor.old) (S.remaining cursor.new) }
+    ensures memory { IsOkUnless result (fault Memory) }
+{
+    let Some(user) = user else {
+        return Ok(());
+    };
+    if user.len() > MAX_USER_KEY {
+        return Ok(());
+    }
+    let first = KeyBuf::new(alloc, user, MAX_SEQUENCE, Kind::Put)?;
+    cursor.seek(first.as_key())
 }

@@ -50,17 +50,6 @@ impl<'r, 'a> Parts<'r, 'a> {
         Parts { a, b }
     }
 
-    /// A cursor over the entries of each.
-    fn cursors(&self, alloc: Global) -> Result<Vec<TestedCursor<'r, 'a>>, Fault>
-        ensures all { EqualOrMemory (λ v. v.items) result (Ok self.now) }
-        ensures limited { IfOk result (λ _. AllByRecursion IsLimited (joined self.now)) }
-    {
-        let mut cursors = Vec::new(alloc);
-        cursors.push(TestedCursor::new(self.a))?;
-        cursors.push(TestedCursor::new(self.b))?;
-        Ok(cursors)
-    }
-
     /// The union of both. Refused as Duplicate where a version comes twice.
     pub fn union(&self, alloc: Global) -> Result<Vec<TestedEntry<'a>>, Fault>
         ensures { EqualOrMemory (λ v. tested_entries v.items) result (union_of self.now) }
@@ -77,6 +66,17 @@ impl<'r, 'a> Parts<'r, 'a> {
             merging.advance()?;
         }
         Ok(union)
+    }
+
+    /// A cursor over the entries of each.
+    fn cursors(&self, alloc: Global) -> Result<Vec<TestedCursor<'r, 'a>>, Fault>
+        ensures all { EqualOrMemory (λ v. v.items) result (Ok self.now) }
+        ensures limited { IfOk result (λ _. AllByRecursion IsLimited (joined self.now)) }
+    {
+        let mut cursors = Vec::new(alloc);
+        cursors.push(TestedCursor::new(self.a))?;
+        cursors.push(TestedCursor::new(self.b))?;
+        Ok(cursors)
     }
 }
 

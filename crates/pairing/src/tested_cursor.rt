@@ -41,24 +41,6 @@ impl<'r, 'a> TestedCursor<'r, 'a> {
     {
         TestedCursor { rest: entries }
     }
-
-    /// Takes the first entry off.
-    fn skip(&mut self)
-        requires { 0 < length self.old }
-        ensures { self.new ≡ drop 1 self.old }
-    {
-        self.rest = &self.rest[1..];
-    }
-
-    /// Whether the first entry, where there is one, is below an internal key.
-    fn is_below(&self, target: InternalKey<'_>) -> bool
-        ensures { result ≡ first_is_below bytewise_cmp target.entry.bytes.now self.now }
-    {
-        match self.rest.first() {
-            Some(entry) => entry.key.as_key().compare::<Bytewise>(&target).is_lt(),
-            None => false,
-        }
-    }
 }
 
 impl<'r, 'a> Entries for TestedCursor<'r, 'a> {
@@ -90,5 +72,25 @@ impl<'r, 'a> Cursor<'a, Bytewise> for TestedCursor<'r, 'a> {
             self.skip();
         }
         Ok(())
+    }
+}
+
+impl<'r, 'a> TestedCursor<'r, 'a> {
+    /// Whether the first entry, where there is one, is below an internal key.
+    fn is_below(&self, target: InternalKey<'_>) -> bool
+        ensures { result ≡ first_is_below bytewise_cmp target.entry.bytes.now self.now }
+    {
+        match self.rest.first() {
+            Some(entry) => entry.key.as_key().compare::<Bytewise>(&target).is_lt(),
+            None => false,
+        }
+    }
+
+    /// Takes the first entry off.
+    fn skip(&mut self)
+        requires { 0 < length self.old }
+        ensures { self.new ≡ drop 1 self.old }
+    {
+        self.rest = &self.rest[1..];
     }
 }

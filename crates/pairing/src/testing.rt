@@ -17,9 +17,7 @@ use coding::{Fault, FaultName};
 use ikey::{Bytewise, InternalKey, KeyBuf};
 use std::alloc::Global;
 use std::cmp::Ordering;
-
-/// The most bytes of a value.
-const MAX_VALUE: usize = 16_777_215;
+use table::MAX_VALUE_LEN;
 
 /// The entries of a file, where each passes its tests.
 ///
@@ -31,26 +29,6 @@ pub(crate) fn tested(alloc: Global, bytes: &[u8]) -> Result<Vec<TestedEntry<'_>>
 {
     let block = check(bytes)?;
     tested_all(alloc, BlockCursor::new(alloc, &block)?)
-}
-
-/// Tests an entry that stands after this key.
-fn test_entry<'k>(
-    before: Option<InternalKey<'_>>,
-    key: &'k [u8],
-    value: &[u8],
-) -> Result<InternalKey<'k>, Fault>
-    ensures { result_map_both (λ key. key.bytes.now) (λ e. e) result ≡ entry_test (option_map (λ key. key.bytes.now) before.entry) key.now value.now }
-{
-    let key = InternalKey::parse(key)?;
-    if value.len() > MAX_VALUE {
-        return Err(Fault::of(FaultName::TooLarge));
-    }
-    match before {
-        Some(before) if before.compare::<Bytewise>(&key) != Ordering::Less => Err(Fault::of(
-            FaultName::Order,
-        )),
-        _ => Ok(key),
-    }
 }
 
 /// The key of the last entry.
@@ -74,4 +52,24 @@ fn tested_all<'a>(alloc: Global, mut cursor: BlockCursor<'a>) -> Result<Vec<Test
         cursor.advance()?;
     }
     Ok(entries)
+}
+
+/// Tests an entry that stands after this key.
+fn test_entry<'k>(
+    before: Option<InternalKey<'_>>,
+    key: &'k [u8],
+    value: &[u8],
+) -> Result<InternalKey<'k>, Fault>
+    ensures { result_map_both (λ key. key.bytes.now) (λ e. e) result ≡ entry_test (option_map (λ key. key.bytes.now) before.entry) key.now value.now }
+{
+    let key = InternalKey::parse(key)?;
+    if value.len() > MAX_VALUE_LEN {
+        return Err(Fault::of(FaultName::TooLarge));
+    }
+    match before {
+        Some(before) if before.compare::<Bytewise>(&key) != Ordering::Less => Err(Fault::of(
+            FaultName::Order,
+        )),
+        _ => Ok(key),
+    }
 }

@@ -18,6 +18,7 @@ use board::{Open, run};
 use coding::{Fault, FaultName};
 use std::alloc::Global;
 use std::thread::Threads;
+use table::MAX_TABLE_LEN;
 
 /// How many entries stand for each restart of a block that is made.
 const INTERVAL: u64 = 16;
@@ -25,15 +26,12 @@ const INTERVAL: u64 = 16;
 /// How many ranges of user keys there are, and how many workers.
 const RANGES: u64 = 2;
 
-/// The most bytes of a block that is made, 2^30.
-const MAX_BLOCK: usize = 1_073_741_824;
-
 /// The number of entries of two blocks together, and their block at interval 16.
 ///
 /// Each file is tested whole, the first before the second: Block where its bytes are no block; then each entry in
 /// order: Key where its key is no internal key, TooLarge where its user key or its value is over its limit, Order where
 /// its key isn't above the one before it. Then Duplicate where a user key comes twice with one sequence, and TooLarge
-/// where the block would have more than 2^30 bytes. Memory comes only where a growth was refused.
+/// where the block would have more than 2^30 bytes. Else refused for want of memory alone.
 ///
 /// The entries are merged in two ranges of user keys, those before `at` and those from `at` on, by two workers, and the
 /// runs joined: the block doesn't depend on `at`.
@@ -55,7 +53,7 @@ pub fn blocks<R: Threads + Sync>(
     Ok((count, block))
 }
 
-/// The block of entries, or TooLarge where that is over its limit.
+/// The block of entries, or TooLarge where it would have more bytes than a table may have.
 fn written(alloc: Global, entries: &[TestedEntry<'_>]) -> Result<Vec<u8>, Fault>
     ensures { EqualOrMemory (λ v. v.items) result (block_within (tested_entries entries.now)) }
 {
@@ -63,7 +61,7 @@ fn written(alloc: Global, entries: &[TestedEntry<'_>]) -> Result<Vec<u8>, Fault>
     for entry in entries {
         let key = entry.key.as_key();
         builder.add(key.bytes(), entry.value)?;
-        if builder.estimate() > MAX_BLOCK {
+        if builder.estimate() > MAX_TABLE_LEN {
             return Err(Fault::of(FaultName::TooLarge));
         }
     }

@@ -76,7 +76,7 @@ fn goes_on<C: Comparator>(key: Option<&KeyBuf>, file: &FileMeta) -> bool
         && C::compare(key.as_key().user(), smallest.user()).is_eq()
 }
 
-/// The files that are chosen, and their boundary files, in the order of the files. Refused only for want of memory.
+/// The files that are chosen, and their boundary files, in the order of the files. Refused for want of memory alone.
 pub(crate) fn with_boundaries<'a, C: Comparator>(
     alloc: Global,
     files: &[&'a FileMeta],

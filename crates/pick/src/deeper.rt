@@ -45,7 +45,7 @@ fn push_copies(alloc: Global, copies: &mut Vec<FileMeta>, files: &[&FileMeta]) -
     Ok(())
 }
 
-/// Copies of the files of a level whose user keys overlap the range, in version order. Refused only for want of memory.
+/// Copies of the files of a level whose user keys overlap the range, in version order. Refused for want of memory alone.
 fn overlapping<C: Comparator>(
     alloc: Global,
     version: &Version,
@@ -66,7 +66,7 @@ fn overlapping<C: Comparator>(
     Ok(found)
 }
 
-/// Copies of the files of the levels from this one on, by level and in version order. Refused only for want of memory.
+/// Copies of the files of the levels from this one on, by level and in version order. Refused for want of memory alone.
 pub(crate) fn deeper_files<C: Comparator>(
     alloc: Global,
     version: &Version,
@@ -83,7 +83,7 @@ pub(crate) fn deeper_files<C: Comparator>(
 }
 
 /// Copies of the grandparents of a compaction, where its inputs are of these user keys: the files of the level whose user
-/// keys overlap the range, and none where the level exceeds 6. Refused only for want of memory.
+/// keys overlap the range, and none where the level exceeds 6. Refused for want of memory alone.
 pub(crate) fn grandparents<C: Comparator>(
     alloc: Global,
     version: &Version,

@@ -26,7 +26,8 @@ const LAST_INPUT_LEVEL: u64 = 5;
 /// and with the same user key, the least such file. The inputs of the level below are the files whose user keys overlap
 /// those of the former, and their boundary files.
 ///
-/// `Level` where the level is above 5, else `NoInput` where the level has no file. Also refused for want of memory.
+/// `Level` where the level is above 5, else `NoInput` where the level has no file. Else refused for want of memory
+/// alone.
 pub fn inputs<C: Comparator>(alloc: Global, version: &Version, level: u64) -> Result<Inputs, Fault>
     ensures picked { HoldsOrMemory picked_in result (IsInputsAnswer C.cmp version.now level) }
     // What holds of each version: the levels of its files are from 0 to 6.

@@ -15,8 +15,8 @@ use edit::{FileMeta, Version};
 use ikey::Comparator;
 use std::alloc::Global;
 
-/// The inputs of the level of a compaction itself: none exactly where the level has no file. Refused only for want of
-/// memory.
+/// The inputs of the level of a compaction itself: none exactly where the level has no file. Refused for want of
+/// memory alone.
 pub(crate) fn upper_files<C: Comparator>(
     alloc: Global,
     version: &Version,
@@ -36,7 +36,7 @@ pub(crate) fn upper_files<C: Comparator>(
     with_boundaries::<C>(alloc, &files, choice)
 }
 
-/// The inputs of the level below, where those of the level itself are of these user keys. Refused only for want of memory.
+/// The inputs of the level below, where those of the level itself are of these user keys. Refused for want of memory alone.
 pub(crate) fn lower_files<'a, C: Comparator>(
     alloc: Global,
     version: &'a Version,

@@ -29,7 +29,7 @@ fn have_tables<C: Comparator>(files: &[&FileMeta], tables: &TablePlaces<'_, '_, 
     files.iter().all(|file| tables.table(file.number).is_some())
 }
 
-/// `Missing` where a file of the version has no table. Else refused only for want of memory.
+/// `Missing` where a file of the version has no table. Else refused for want of memory alone.
 pub(crate) fn tables_test<C: Comparator>(
     alloc: Global,
     version: &Version,
@@ -49,7 +49,7 @@ pub(crate) fn tables_test<C: Comparator>(
 /// The first entry of a table at or above an internal key that is a value, where it is of the same user key: of the
 /// entries of that user key with the sequence of that key or a lower one, that of the greatest sequence.
 ///
-/// Refused only for want of memory.
+/// Refused for want of memory alone.
 pub(crate) fn newest_in_table<'a, C: Comparator>(
     alloc: Global,
     table: &SoundTable<'a, C>,

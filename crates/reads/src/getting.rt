@@ -26,7 +26,7 @@ use std::alloc::Global;
 /// tables, the value of the one of the greatest sequence. None where that is a deletion, or where there is no such entry.
 ///
 /// The table of a file is the first in the list that has its number. `Missing` where a file of the version has no table;
-/// else refused only for want of memory. In a version that isn't lawful the answer may be another.
+/// else refused for want of memory alone. In a version that isn't lawful the answer may be another.
 ///
 /// It goes from level to level, looks into the tables whose range of user keys holds the key, and stops at the first level
 /// that has an entry. It copies no value, and takes the memory of one key, of a place for each table, of a level's list of
@@ -71,7 +71,7 @@ fn get_among<'a, C: Comparator>(
 
 /// The newest entry of a user key that a sequence sees, at the first level that has one.
 ///
-/// Refused only for want of memory.
+/// Refused for want of memory alone.
 fn newest_in_version<'a, C: Comparator>(
     alloc: Global,
     version: &Version,
@@ -97,7 +97,7 @@ fn newest_in_version<'a, C: Comparator>(
 
 /// The newest entry of a user key that a sequence sees, among the files of a level.
 ///
-/// It looks into the tables whose range of user keys holds the key. Refused only for want of memory.
+/// It looks into the tables whose range of user keys holds the key. Refused for want of memory alone.
 fn newest_at_level<'a, C: Comparator>(
     alloc: Global,
     files: &[&FileMeta],

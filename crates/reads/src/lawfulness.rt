@@ -36,7 +36,7 @@ use table::{SoundTable, TableCursor};
 ///   each entry in a file of higher number has a greater one than each in a file of lower number.
 ///
 /// The table of a file is the first in the list that has its number. `Missing` where a file of the version has no table,
-/// before all else; `Lawless` where the version isn't lawful; else refused only for want of memory.
+/// before all else; `Lawless` where the version isn't lawful; else refused for want of memory alone.
 ///
 /// It walks over all tables once, in the order of their keys: an entry takes a time that grows with the logarithm of the number
 /// of files.
@@ -98,7 +98,7 @@ fn standing_among<'t, 'a, C: Comparator>(
     Ok(tables_of(alloc, &files, tables)?)
 }
 
-/// Appends the files of a level. Refused only for want of memory.
+/// Appends the files of a level. Refused for want of memory alone.
 fn push_level<'v>(
     all: &mut Vec<LevelFile<'v>>,
     level: u64,
@@ -114,7 +114,7 @@ fn push_level<'v>(
     Ok(())
 }
 
-/// All files of a version, level by level. Refused only for want of memory.
+/// All files of a version, level by level. Refused for want of memory alone.
 fn all_files<'v, C: Comparator>(
     alloc: Global,
     version: &'v Version,
@@ -147,7 +147,7 @@ fn standing_order<C: Comparator>(file: &LevelFile<'_>, other: &LevelFile<'_>) ->
     levels.then(ranks.then(keys))
 }
 
-/// All files of a version as they stand one before the other. Refused only for want of memory.
+/// All files of a version as they stand one before the other. Refused for want of memory alone.
 fn listed_files<'v, C: Comparator>(
     alloc: Global,
     version: &'v Version,
@@ -249,7 +249,7 @@ fn are_in_turn<C: Comparator>(files: &[LevelFile<'_>]) -> bool
     true
 }
 
-/// The table of each file. Refused only for want of memory.
+/// The table of each file. Refused for want of memory alone.
 fn tables_of<'t, 'a, C: Comparator>(
     alloc: Global,
     files: &[LevelFile<'_>],
@@ -270,7 +270,7 @@ fn tables_of<'t, 'a, C: Comparator>(
     Ok(found)
 }
 
-/// A cursor over each table. Refused only for want of memory.
+/// A cursor over each table. Refused for want of memory alone.
 fn cursors_over<'a, C: Comparator>(
     alloc: Global,
     tables: &[&SoundTable<'a, C>],

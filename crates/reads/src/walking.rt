@@ -16,39 +16,11 @@ use split::Range;
 use std::alloc::Global;
 use table::{Cursor, TableCursor};
 
-/// Whether a key that comes next is of the user key of the last one, and comes of a cursor before the one of that or has no
-/// lower sequence.
-fn steps_back(last: InternalKey<'_>, place: usize, key: InternalKey<'_>, next: usize) -> bool
-    ensures { result ≡ steps_back last.entry.bytes.now place key.entry.bytes.now next }
-{
-    key.user() == last.user() && (next < place || last.sequence() <= key.sequence())
-}
-
-/// Whether a key's user key is at or after a range's lower bound, where it has one.
-fn is_from<C: Comparator>(key: InternalKey<'_>, range: Range<'_>) -> bool
-    ensures { result ≡ is_from C.cmp (key_range range.entry) (user_of key.entry.bytes.now) }
-{
-    match range.lower {
-        Some(lower) => !C::compare(key.user(), lower).is_lt(),
-        None => true,
-    }
-}
-
-/// Whether it is before its upper bound, where it has one.
-fn is_before_end<C: Comparator>(key: InternalKey<'_>, range: Range<'_>) -> bool
-    ensures { result ≡ is_before_end C.cmp (key_range range.entry) (user_of key.entry.bytes.now) }
-{
-    match range.upper {
-        Some(upper) => C::compare(key.user(), upper).is_lt(),
-        None => true,
-    }
-}
-
 /// Whether of each user key of a range each entry is newer than those behind it, where the entries of each cursor stand behind
 /// those of the cursors before it.
 ///
 /// It walks over all of them once, in the order of their keys, up to the end of the range, and takes the memory of two keys and of the
-/// merge. An entry takes a time that grows with the logarithm of the number of cursors. Refused only for want of memory.
+/// merge. An entry takes a time that grows with the logarithm of the number of cursors. Refused for want of memory alone.
 pub fn falls_in<C: Comparator>(
     alloc: Global,
     cursors: Vec<TableCursor<'_, C>>,
@@ -76,4 +48,32 @@ pub fn falls_in<C: Comparator>(
         }
     }
     Ok(true)
+}
+
+/// Whether a key's user key is before a range's upper bound, where it has one.
+fn is_before_end<C: Comparator>(key: InternalKey<'_>, range: Range<'_>) -> bool
+    ensures { result ≡ is_before_end C.cmp (key_range range.entry) (user_of key.entry.bytes.now) }
+{
+    match range.upper {
+        Some(upper) => C::compare(key.user(), upper).is_lt(),
+        None => true,
+    }
+}
+
+/// Whether a key's user key is at or after a range's lower bound, where it has one.
+fn is_from<C: Comparator>(key: InternalKey<'_>, range: Range<'_>) -> bool
+    ensures { result ≡ is_from C.cmp (key_range range.entry) (user_of key.entry.bytes.now) }
+{
+    match range.lower {
+        Some(lower) => !C::compare(key.user(), lower).is_lt(),
+        None => true,
+    }
+}
+
+/// Whether a key that comes next is of the user key of the last one, and comes of a cursor before the one of that or has no
+/// lower sequence.
+fn steps_back(last: InternalKey<'_>, place: usize, key: InternalKey<'_>, next: usize) -> bool
+    ensures { result ≡ steps_back last.entry.bytes.now place key.entry.bytes.now next }
+{
+    key.user() == last.user() && (next < place || last.sequence() <= key.sequence())
 }

@@ -18,31 +18,6 @@ use pick::{InputFile, Inputs};
 use std::alloc::Global;
 use std::collections::BTreeSet;
 
-/// The deletions of inputs by level and number, each once. Refused for want of memory alone.
-fn deletions_of(alloc: Global, files: &[InputFile]) -> Result<BTreeSet<DeletedFile>, Fault>
-    ensures { EqualOrMemory (λ set. set.keys) result (Ok (deletions_of files.now)) }
-{
-    let mut deleted = BTreeSet::new(alloc);
-    for input in files {
-        let file = DeletedFile {
-            level: input.level,
-            number: input.meta.number,
-        };
-        deleted.insert(file)?;
-    }
-    Ok(deleted)
-}
-
-/// The compact pointer of the compaction's level. Refused for want of memory alone.
-fn pointer_of(alloc: Global, picked: &Inputs) -> Result<CompactPointer, Fault>
-    ensures { EqualOrMemory (λ pointer. pointer) result (Ok (record { level = picked.now.level; key = picked.now.pointer.key })) }
-{
-    Ok(CompactPointer {
-        level: picked.level,
-        key: KeyBuf::of(alloc, picked.pointer.key.as_key())?,
-    })
-}
-
 impl<'a> Request<'a> {
     /// The edit of a compaction of which these are the outputs, in order, as new files: the request's counters, the next file
     /// behind the outputs, the compact pointer of the level, the deletions of the inputs, and the new files. It names no
@@ -73,4 +48,29 @@ impl<'a> Request<'a> {
             added: outputs,
         })
     }
+}
+
+/// The deletions of inputs by level and number, each once. Refused for want of memory alone.
+fn deletions_of(alloc: Global, files: &[InputFile]) -> Result<BTreeSet<DeletedFile>, Fault>
+    ensures { EqualOrMemory (λ set. set.keys) result (Ok (deletions_of files.now)) }
+{
+    let mut deleted = BTreeSet::new(alloc);
+    for input in files {
+        let file = DeletedFile {
+            level: input.level,
+            number: input.meta.number,
+        };
+        deleted.insert(file)?;
+    }
+    Ok(deleted)
+}
+
+/// The compact pointer of the compaction's level. Refused for want of memory alone.
+fn pointer_of(alloc: Global, picked: &Inputs) -> Result<CompactPointer, Fault>
+    ensures { EqualOrMemory (λ pointer. pointer) result (Ok (record { level = picked.now.level; key = picked.now.pointer.key })) }
+{
+    Ok(CompactPointer {
+        level: picked.level,
+        key: KeyBuf::of(alloc, picked.pointer.key.as_key())?,
+    })
 }

@@ -22,41 +22,11 @@ pub const MAX_SNAPSHOTS: usize = 4_096;
 /// The greatest level that a compaction takes files of; its outputs go to the level below.
 const LAST_LEVEL: u64 = 5;
 
-/// Whether each input is of one level or of another.
-fn are_of(files: &[InputFile], level: u64, next: u64) -> bool
-    ensures { result ≡ list_all (λ (i : InputFile). nat_eq i.level level || nat_eq i.level next) files.now }
-{
-    files
-        .iter()
-        .all(|input| input.level == level || input.level == next)
-}
-
 /// Whether the level is one from 0 to 5, and each input is of it or of the next.
 pub(crate) fn has_levels(picked: &Inputs) -> bool
     ensures { result ≡ has_levels (picked_in picked.now) }
 {
     picked.level <= LAST_LEVEL && are_of(&picked.files, picked.level, picked.level + 1)
-}
-
-/// Whether each option is within its limits.
-fn are_in_limits(options: &Options) -> bool
-    ensures { result ≡ are_in_limits options.now }
-{
-    options.are_in_limits()
-}
-
-/// Whether the largest keys of files rise strictly.
-fn largest_rise<C: Comparator>(files: &[FileMeta]) -> bool
-    ensures { result ≡ largest_rise C.cmp files.now }
-{
-    keep::largest_rise::<C>(files)
-}
-
-/// Whether numbers rise strictly.
-fn rise(numbers: &[u64]) -> bool
-    ensures { result ≡ rises_by nat_lt numbers.now }
-{
-    keep::is_rising(numbers)
 }
 
 /// Whether the options are within their limits, the inputs are 256 at most with a table each, and the largest keys of the
@@ -68,20 +38,6 @@ pub(crate) fn has_options<C: Comparator>(request: &Request<'_>) -> bool
         && request.picked.files.len() <= MAX_INPUTS
         && request.tables.len() == request.picked.files.len()
         && largest_rise::<C>(&request.picked.grandparents)
-}
-
-/// Whether numbers are below a limit.
-fn are_below(numbers: &[u64], limit: u64) -> bool
-    ensures { result ≡ list_all (λ n. nat_lt n limit) numbers.now }
-{
-    numbers.iter().all(|number| *number < limit)
-}
-
-/// Whether none of the numbers is above a limit.
-fn are_at_most(numbers: &[u64], limit: u64) -> bool
-    ensures { result ≡ list_all (λ n. nat_le n limit) numbers.now }
-{
-    numbers.iter().all(|number| *number <= limit)
 }
 
 /// Whether the snapshots and the last sequence are below 2^56 - 1.
@@ -105,4 +61,48 @@ pub(crate) fn is_snapshot_list(snapshots: Snapshots<'_>, last_sequence: u64) -> 
             list.len() <= MAX_SNAPSHOTS && rise(list) && are_at_most(list, last_sequence)
         }
     }
+}
+
+/// Whether each input is of one level or of another.
+fn are_of(files: &[InputFile], level: u64, next: u64) -> bool
+    ensures { result ≡ list_all (λ (i : InputFile). nat_eq i.level level || nat_eq i.level next) files.now }
+{
+    files
+        .iter()
+        .all(|input| input.level == level || input.level == next)
+}
+
+/// Whether each option is within its limits.
+fn are_in_limits(options: &Options) -> bool
+    ensures { result ≡ are_in_limits options.now }
+{
+    options.are_in_limits()
+}
+
+/// Whether the largest keys of files rise strictly.
+fn largest_rise<C: Comparator>(files: &[FileMeta]) -> bool
+    ensures { result ≡ largest_rise C.cmp files.now }
+{
+    keep::largest_rise::<C>(files)
+}
+
+/// Whether numbers are below a limit.
+fn are_below(numbers: &[u64], limit: u64) -> bool
+    ensures { result ≡ list_all (λ n. nat_lt n limit) numbers.now }
+{
+    numbers.iter().all(|number| *number < limit)
+}
+
+/// Whether numbers rise strictly.
+fn rise(numbers: &[u64]) -> bool
+    ensures { result ≡ rises_by nat_lt numbers.now }
+{
+    keep::is_rising(numbers)
+}
+
+/// Whether none of the numbers is above a limit.
+fn are_at_most(numbers: &[u64], limit: u64) -> bool
+    ensures { result ≡ list_all (λ n. nat_le n limit) numbers.now }
+{
+    numbers.iter().all(|number| *number <= limit)
 }

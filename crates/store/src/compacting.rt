@@ -41,41 +41,6 @@ pub(crate) struct Ready {
     pub outcome: Outcome,
 }
 
-/// The split of the keys of these tables into at most so many ranges. `SplitCount` where these are not from 1 to 4,096, else
-/// refused for want of memory alone.
-fn split_of<C: Comparator>(
-    alloc: Global,
-    tables: &[SoundTable<'_, C>],
-    ranges: u64,
-) -> Result<Split<C>, Fault>
-    ensures { EqualOrMemory (λ split. tt) result (pass (nat_le 1 ranges && nat_le ranges 4096) SplitCount) }
-{
-    Split::choose(alloc, tables, ranges)
-}
-
-/// The outcome of the compaction of picked inputs, whose tables are taken out of those of the version. None is checked again.
-fn compact_picked<'t, C: SharedComparator + 'static, W: Watch + Sync, R: Threads + Sync>(
-    rt: &R,
-    alloc: Global,
-    version: &Version,
-    tables: Vec<NumberedTable<'t, C>>,
-    picked: &Inputs,
-    settings: &Settings<'_>,
-    watch: &W,
-) -> Result<Outcome, Fault>
-    requires tables { HaveTables C.cmp tables.items picked.now.files.items }
-    ensures answer { (loaded : List (ℕ × List ℕ)) → AreLoaded loaded tables.entry.items picked.now.files.items →
-        EqualOrMemory answer_in result (compaction_of C.cmp C.separator_of C.successor_of version.now loaded (picked_in picked.now) settings.now) }
-    ensures logs { IfOk result (λ _. (unwrap_or version.now.log_number 0 < 2 ^ 64) × (unwrap_or version.now.previous_log 0 < 2 ^ 64)) }
-{
-    let taken = take_tables(alloc, tables, &picked.files)?;
-    let split = split_of(alloc, &taken, settings.ranges)?;
-    let bytes = bytes_of(alloc, &taken)?;
-    let request = request_of(version, picked, &bytes, settings)?;
-    watch.begin(Work::Compact, split.len());
-    compact_tables::<C, W, R>(rt, alloc, &request, &taken, &split, settings.workers, watch)
-}
-
 /// Tests a version with the bytes of its tables, and compacts a level of it.
 ///
 /// Refused by the first table that is none; then where the version isn't lawful; then where the level is above 5 or has no
@@ -102,4 +67,39 @@ pub(crate) fn compact_loaded<C: SharedComparator + 'static, W: Watch + Sync, R: 
     let outcome = compact_picked::<C, W, R>(rt, alloc, version, tables, &picked, settings, watch)?;
     let lines = compaction_lines(alloc, &outcome, &picked.files, manifest_of(version))?;
     Ok(Ready { lines, outcome })
+}
+
+/// The outcome of the compaction of picked inputs, whose tables are taken out of those of the version. None is checked again.
+fn compact_picked<'t, C: SharedComparator + 'static, W: Watch + Sync, R: Threads + Sync>(
+    rt: &R,
+    alloc: Global,
+    version: &Version,
+    tables: Vec<NumberedTable<'t, C>>,
+    picked: &Inputs,
+    settings: &Settings<'_>,
+    watch: &W,
+) -> Result<Outcome, Fault>
+    requires tables { HaveTables C.cmp tables.items picked.now.files.items }
+    ensures answer { (loaded : List (ℕ × List ℕ)) → AreLoaded loaded tables.entry.items picked.now.files.items →
+        EqualOrMemory answer_in result (compaction_of C.cmp C.separator_of C.successor_of version.now loaded (picked_in picked.now) settings.now) }
+    ensures logs { IfOk result (λ _. (unwrap_or version.now.log_number 0 < 2 ^ 64) × (unwrap_or version.now.previous_log 0 < 2 ^ 64)) }
+{
+    let taken = take_tables(alloc, tables, &picked.files)?;
+    let split = split_of(alloc, &taken, settings.ranges)?;
+    let bytes = bytes_of(alloc, &taken)?;
+    let request = request_of(version, picked, &bytes, settings)?;
+    watch.begin(Work::Compact, split.len());
+    compact_tables::<C, W, R>(rt, alloc, &request, &taken, &split, settings.workers, watch)
+}
+
+/// The split of the keys of these tables into at most so many ranges. `SplitCount` where these are not from 1 to 4,096, else
+/// refused for want of memory alone.
+fn split_of<C: Comparator>(
+    alloc: Global,
+    tables: &[SoundTable<'_, C>],
+    ranges: u64,
+) -> Result<Split<C>, Fault>
+    ensures { EqualOrMemory (λ split. tt) result (pass (nat_le 1 ranges && nat_le ranges 4096) SplitCount) }
+{
+    Split::choose(alloc, tables, ranges)
 }

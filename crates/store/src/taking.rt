@@ -13,32 +13,6 @@ use reads::NumberedTable;
 use std::alloc::Global;
 use table::SoundTable;
 
-/// The place of the first table of a number, where there is one. Takes no memory.
-fn place_of<C: Comparator>(tables: &[NumberedTable<'_, C>], number: u64) -> Option<usize>
-    ensures { MatchOption result (table_of tables.now number ≡ None) (IsTableAt tables.now number) }
-{
-    for place in 0..tables.len() {
-        if tables[place].number() == number {
-            return Some(place);
-        }
-    }
-    None
-}
-
-/// Takes the first table of a number out of tables, where there is one. Takes no memory.
-fn take_table<'t, C: Comparator>(
-    tables: &mut Vec<NumberedTable<'t, C>>,
-    number: u64,
-) -> Option<SoundTable<'t, C>>
-    ensures taken { result ≡ table_of tables.old.items number }
-    ensures others { (other : ℕ) → number ≢ other → table_of tables.new.items other ≡ table_of tables.old.items other }
-{
-    match place_of(tables, number) {
-        Some(place) => Some(tables.remove(place).into_table()),
-        None => None,
-    }
-}
-
 /// Takes the tables of inputs out of tables, in the order of the inputs. There is one for each of them, and no two have one
 /// number. Refused for want of memory alone.
 pub(crate) fn take_tables<'t, C: Comparator>(
@@ -72,4 +46,30 @@ pub(crate) fn bytes_of<'t, C: Comparator>(
         all.push(table.bytes())?;
     }
     Ok(all)
+}
+
+/// Takes the first table of a number out of tables, where there is one. Takes no memory.
+fn take_table<'t, C: Comparator>(
+    tables: &mut Vec<NumberedTable<'t, C>>,
+    number: u64,
+) -> Option<SoundTable<'t, C>>
+    ensures taken { result ≡ table_of tables.old.items number }
+    ensures others { (other : ℕ) → number ≢ other → table_of tables.new.items other ≡ table_of tables.old.items other }
+{
+    match place_of(tables, number) {
+        Some(place) => Some(tables.remove(place).into_table()),
+        None => None,
+    }
+}
+
+/// The place of the first table of a number, where there is one. Takes no memory.
+fn place_of<C: Comparator>(tables: &[NumberedTable<'_, C>], number: u64) -> Option<usize>
+    ensures { MatchOption result (table_of tables.now number ≡ None) (IsTableAt tables.now number) }
+{
+    for place in 0..tables.len() {
+        if tables[place].number() == number {
+            return Some(place);
+        }
+    }
+    None
 }

@@ -14,8 +14,8 @@ returns-in_err-found-clause-memory g c =
     let why = c.in_err-found.field-0.0 in
     rw (p.1, p.2) (only_memory_left (TellsRange g.C.Comparator.cmp c.args.split.now lists) c.count_ranges.result c.args.workers (Err why) why refl e.refused e.workers.0 c.requires.some c.requires.few)
 
-pub returns-clause-told : goal.returns-clause-told
-returns-clause-told g c =
+pub returns-clause-falls : goal.returns-clause-falls
+returns-clause-falls g c =
     let cmp = g.C.Comparator.cmp in
     let boundaries : List (List _) = c.args.split.now in
     let lists : List (List Entry) = map (λ t. t.now.entries) c.args.tables.now in

@@ -8,8 +8,8 @@ use Rattle.reads.specs.Standing.{AreFallingIn}
 use Rattle.checks.proofs.FallingRanges.{same_in_range}
 use Rattle.checks.proofs.falling.falls_at.Goals as goal
 
-pub returns-clause-told : goal.returns-clause-told
-returns-clause-told g c =
+pub returns-clause-falls : goal.returns-clause-falls
+returns-clause-falls g c =
     let cmp = g.C.Comparator.cmp in
     let range : KeyRange = key_range c.range-range.result in
     let walked : List Entry = joined c.in_ok-cursors.cursors.items in

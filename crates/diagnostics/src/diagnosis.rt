@@ -4,11 +4,11 @@ ghost use Rattle.std.specs.Prelude.{◌≡◌};
 ghost use Rattle.folder.specs.Folder.{TellsSame};
 
 use coding::{Fault, FaultName};
-use edit::Version;
+use edit::{FileMeta, Version};
 use folder::{CURRENT, Folder, Order, open, table_name};
 use ikey::{Bytewise, Comparator, Shortlex};
 use std::alloc::Global;
-use table::check;
+use table::{SoundTable, check};
 
 /// How many levels a version has.
 pub(crate) const LEVELS: u64 = 7;
@@ -22,8 +22,9 @@ pub struct RefusedFile {
     pub fault: Fault,
 }
 
-/// The first file of a folder that is refused: CURRENT, the manifest, or a table by level and in version order. None where all
-/// of them are taken, each by itself. Only reads.
+/// The first file of a folder that is refused: CURRENT, the manifest, or a table by level and in version order; `Bounds` of a
+/// table whose size or keys aren't those that the manifest says, where all of them are tables. None where all are taken, each
+/// by itself. Only reads.
 pub fn refused_file<F: Folder>(alloc: Global, folder: &mut F) -> Result<Option<RefusedFile>, Fault>
     ensures same { TellsSame (F.tells folder.old) (F.tells folder.new) }
     ensures calls { F.calls folder.new ≡ F.calls folder.old }
@@ -66,6 +67,13 @@ fn manifest_named(bytes: &[u8]) -> Option<&str> {
     Some(name)
 }
 
+/// A table that is there, and what the manifest says of it.
+#[derive(Drop)]
+struct ListedTable<'v> {
+    meta: &'v FileMeta,
+    file: TableFile,
+}
+
 /// The first table of a version that isn't there, or else the first that is refused.
 fn refused_table<C: Comparator, F: Folder>(
     alloc: Global,
@@ -79,7 +87,10 @@ fn refused_table<C: Comparator, F: Folder>(
     for level in 0..LEVELS {
         for file in version.files::<C>(alloc, level)? {
             match table_file(alloc, folder, file.number)? {
-                Some(table) => tables.push(table)?,
+                Some(table) => tables.push(ListedTable {
+                    meta: file,
+                    file: table,
+                })?,
                 None => {
                     let name = table_name(alloc, file.number)?;
                     let fault = Fault::of(FaultName::Missing);
@@ -88,7 +99,7 @@ fn refused_table<C: Comparator, F: Folder>(
             }
         }
     }
-    first_refused::<C>(alloc, tables)
+    first_refused::<C>(alloc, &tables)
 }
 
 /// A table that is there.
@@ -118,18 +129,38 @@ pub(crate) fn table_file<F: Folder>(
     }
 }
 
-/// The first of tables that is none.
+/// The first of tables that is none, or else the first that isn't as the manifest says.
 fn first_refused<C: Comparator>(
     alloc: Global,
-    tables: Vec<TableFile>,
+    tables: &[ListedTable<'_>],
 ) -> Result<Option<RefusedFile>, Fault> {
+    let mut unlike = None;
     for table in tables {
-        let TableFile { name, bytes } = table;
-        if let Err(fault) = check::<C>(alloc, &bytes) {
-            return Ok(Some(RefusedFile { name, fault }));
+        match check::<C>(alloc, &table.file.bytes) {
+            Ok(sound) if unlike.is_none() && !is_as_stated(table.meta, &sound) => {
+                unlike = Some(table);
+            }
+            Ok(_) => {}
+            Err(fault) => return Ok(Some(named(alloc, table, fault)?)),
         }
     }
-    Ok(None)
+    match unlike {
+        Some(table) => Ok(Some(named(alloc, table, Fault::of(FaultName::Bounds))?)),
+        None => Ok(None),
+    }
+}
+
+/// A table that is refused, by its name.
+fn named(alloc: Global, table: &ListedTable<'_>, fault: Fault) -> Result<RefusedFile, Fault> {
+    let name = String::from_str(alloc, table.file.name.as_str())?;
+    Ok(RefusedFile { name, fault })
+}
+
+/// Whether a table has the size and the smallest and the largest key that the manifest says.
+fn is_as_stated<C: Comparator>(meta: &FileMeta, table: &SoundTable<'_, C>) -> bool {
+    table.bytes().len() as u64 == meta.size
+        && table.smallest().bytes() == meta.smallest.as_key().bytes()
+        && table.largest().bytes() == meta.largest.as_key().bytes()
 }
 
 /// The name of the log that a folder's manifest names, where it is there and holds writes. Refused as opening the folder is, or

@@ -4,7 +4,7 @@ ghost use Rattle.std.specs.Prelude.{◌≡◌, true, IfSome};
 
 use crate::diagnosis::{log_with_writes, refused_file};
 use crate::explaining::in_words;
-use coding::Fault;
+use coding::{Fault, FaultName};
 use folder::Disk;
 use std::rt::Files;
 use std::time::{Clock, Instant};
@@ -74,17 +74,23 @@ impl<'a> Telling<'a> {
 
     /// Tells why the work was refused, and at which file.
     fn tell_refusal<R: Files + Eprint + AllocGlobal>(self, rt: &R, fault: &Fault) {
-        let words = in_words(fault.name);
         match refused_file(rt.alloc(), &mut Disk::new(rt, self.folder)) {
-            Ok(Some(file)) if file.fault.name == fault.name => {
-                let name = file.name;
+            Ok(Some(file)) if explains(&file.fault, fault) => {
+                let (name, words) = (file.name, in_words(file.fault.name));
                 let _ = eprintln!(rt; "{name}: {fault}: {words}");
             }
             _ => {
+                let words = in_words(fault.name);
                 let _ = eprintln!(rt; "{fault}: {words}");
             }
         }
     }
+}
+
+/// Whether the fault of a file is why the work on its folder was refused. A table that isn't as the manifest says makes the
+/// version lawless.
+fn explains(file: &Fault, work: &Fault) -> bool {
+    file.name == work.name || file.name == FaultName::Bounds && work.name == FaultName::Lawless
 }
 
 /// Tells how long a step took.

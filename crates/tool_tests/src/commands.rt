@@ -226,12 +226,17 @@ fn files_that_are_refused(rt: HostRuntime) -> Result<(), Fail> {
     let eight = ("000008.sst", ONE_ENTRY);
     let (none, empty) = ([damaged], [CURRENT]);
     let (half, whole) = ([CURRENT, two, damaged], [CURRENT, two, damaged, eight]);
+    let seven = ("000007.ldb", TWO_ENTRIES.as_slice());
+    let longer = [CURRENT, ("MANIFEST-000005", LONGER_FILE), seven];
+    let taken = [CURRENT, ("MANIFEST-000005", ONE_FILE), seven];
     let cases = [
         (none.as_slice(), "CURRENT: Missing"),
         (empty.as_slice(), "MANIFEST-000005: Missing"),
         // A table that isn't there comes before one that is none.
         (half.as_slice(), "000008.ldb: Missing"),
         (whole.as_slice(), "000007.ldb: Short"),
+        (longer.as_slice(), "000007.ldb: Bounds"),
+        (taken.as_slice(), "none"),
     ];
     for (files, wanted) in cases {
         assert_eq!(rt; refused(alloc, files)?.as_str(), wanted);

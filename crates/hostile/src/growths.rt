@@ -6,12 +6,14 @@
 use crate::again::{is_memory, wanted};
 use crate::asking::{folder_asked, lines_read, table_dumped, texts_of_keys};
 use crate::commanding::{blocks_merged, folder_compacted};
+use crate::diagnosing::{folder_told, levels_chosen};
 use crate::growing::{block_built, edited, logged, merged, table_built, table_walked};
 use crate::installing::installed;
 use crate::parts::{block_walked, keys_made, spelt};
 use crate::planning::{chosen, planned, seated};
 use crate::reading::{index_read, merged_on, range_sought, version_read};
-use crate::wholes::{ends_at_grandparents, kept_deletion, three_outputs, two_spoilt};
+use crate::shortage::{STEPS, Shortage};
+use crate::wholes::{Whole, is_compacted, is_compacted_short};
 use anyhow::Result;
 use coding::Fault;
 use std::alloc::Global;
@@ -40,10 +42,7 @@ enum Row {
     Split,
     Board,
     Install,
-    Deletion,
-    Grandparents,
-    Outputs,
-    Spoilt,
+    Compaction(Whole),
     Blocks,
     Folder,
     Spelt,
@@ -57,10 +56,12 @@ enum Row {
     Dumped,
     Lines,
     Texts,
+    Levels,
+    Told,
 }
 
 /// Each row with what is printed of it.
-const ROWS: [(Row, &str); 27] = [
+const ROWS: [(Row, &str); 30] = [
     (Row::Block, "a block is built"),
     (Row::Table, "a table is built"),
     (Row::Cursor, "a table is walked"),
@@ -74,13 +75,23 @@ const ROWS: [(Row, &str); 27] = [
     (Row::Split, "a boundary is chosen"),
     (Row::Board, "a board is made"),
     (Row::Install, "a folder is opened, read and installed into"),
-    (Row::Deletion, "compact: one output of 113 bytes"),
     (
-        Row::Grandparents,
+        Row::Compaction(Whole::Deletion),
+        "compact: one output of 113 bytes",
+    ),
+    (
+        Row::Compaction(Whole::Grandparents),
         "compact: three outputs, two ended by grandparents",
     ),
-    (Row::Outputs, "compact: three outputs of one block"),
-    (Row::Spoilt, "compact: Trailer at 0"),
+    (
+        Row::Compaction(Whole::Outputs),
+        "compact: three outputs of one block",
+    ),
+    (Row::Compaction(Whole::Spoilt), "compact: Trailer at 0"),
+    (
+        Row::Compaction(Whole::Held),
+        "compact: Trailer at 0, held until input 2 was refused",
+    ),
     (Row::Blocks, "two blocks are merged"),
     (Row::Folder, "a folder is compacted"),
     (
@@ -100,6 +111,11 @@ const ROWS: [(Row, &str); 27] = [
     (Row::Dumped, "a table is dumped"),
     (Row::Lines, "command lines are read"),
     (Row::Texts, "keys are written and read as text"),
+    (Row::Levels, "levels are chosen, and progress told"),
+    (
+        Row::Told,
+        "a folder is searched for a refused file and a log, and a compaction accounted for",
+    ),
 ];
 
 /// Whether a row has its answer.
@@ -116,10 +132,7 @@ fn has_answer<R: AllocGlobal + Threads + Sync>(rt: &R, row: Row) -> Result<bool,
         Row::Split => chosen(alloc),
         Row::Board => seated(alloc),
         Row::Install => installed(alloc),
-        Row::Deletion => kept_deletion(rt),
-        Row::Grandparents => ends_at_grandparents(rt),
-        Row::Outputs => three_outputs(rt),
-        Row::Spoilt => two_spoilt(rt),
+        Row::Compaction(whole) => is_compacted(rt, whole),
         Row::Blocks => blocks_merged(rt),
         Row::Folder => folder_compacted(rt),
         Row::Spelt => spelt(alloc),
@@ -133,6 +146,8 @@ fn has_answer<R: AllocGlobal + Threads + Sync>(rt: &R, row: Row) -> Result<bool,
         Row::Dumped => table_dumped(alloc),
         Row::Lines => lines_read(alloc),
         Row::Texts => texts_of_keys(alloc),
+        Row::Levels => levels_chosen(alloc),
+        Row::Told => folder_told(alloc),
     }
 }
 
@@ -152,6 +167,53 @@ pub fn run<R: AllocGlobal + Print + Threads + Sync>(rt: &R) -> Result<()> {
     for (row, text) in ROWS {
         test(rt, row)?;
         println!(rt; "{text}")?;
+    }
+    Ok(())
+}
+
+/// Makes a row's call while memory is short, and answers whether it was refused. Any answer but the row's and Memory is refused as
+/// Lawless.
+fn is_refused<R: AllocGlobal + Threads + Sync>(
+    rt: &R,
+    row: Row,
+    shortage: &mut Shortage,
+) -> Result<bool, Fault> {
+    shortage.tighten(rt.alloc())?;
+    let answer = has_answer(rt, row);
+    shortage.loosen();
+    if is_memory(&answer) {
+        return Ok(true);
+    }
+    wanted(answer?)?;
+    Ok(false)
+}
+
+/// Makes a row's calls while memory is short, and answers whether one was ever refused.
+fn is_ever_refused<R: AllocGlobal + Threads + Sync>(rt: &R, row: Row) -> Result<bool, Fault> {
+    let mut shortage = Shortage::begin(rt.alloc())?;
+    let mut is_ever = false;
+    for _ in 0..STEPS {
+        is_ever = is_refused(rt, row, &mut shortage)? || is_ever;
+    }
+    Ok(is_ever)
+}
+
+/// Whether a row is refused as Memory or has its answer while memory is short, is refused once at least, and then has its answer
+/// with memory to spare.
+fn holds_short<R: AllocGlobal + Threads + Sync>(rt: &R, row: Row) -> Result<bool, Fault> {
+    if let Row::Compaction(whole) = row {
+        return is_compacted_short(rt, whole);
+    }
+    wanted(is_ever_refused(rt, row)?)?;
+    has_answer(rt, row)
+}
+
+/// Tests each row while memory is short, and prints what it is.
+pub fn run_short<R: AllocGlobal + Print + Threads + Sync>(rt: &R) -> Result<()> {
+    println!(rt; "Memory is short. Each of these was refused as Memory or had its answer:")?;
+    for (row, text) in ROWS {
+        wanted(holds_short(rt, row)?)?;
+        println!(rt; "  {text}")?;
     }
     Ok(())
 }

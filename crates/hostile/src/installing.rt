@@ -13,7 +13,7 @@ use lying::worked::{CURRENT_FIVE, NUMBERS, ONE_FILE};
 use std::alloc::Global;
 
 /// Log 3, previous log 0, next file 10, last sequence 4, and file 7 of level 1 deleted.
-const NEXT_TEN: &[u8] = b"\x02\x03\x09\0\x03\x0a\x04\x04\x06\x01\x07";
+pub const NEXT_TEN: &[u8] = b"\x02\x03\x09\0\x03\x0a\x04\x04\x06\x01\x07";
 
 /// Whether the one table of a version is the file's bytes.
 fn is_loaded(

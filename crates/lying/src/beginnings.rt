@@ -6,23 +6,25 @@
 //!   too short; in that of eight the kind would be the letter `a`.
 //! - A block ends with the number of its restarts, and that many restarts before it. In the worked block a number from 1 to 6
 //!   stands before three zeros at places 5, 16 and 28 alone. At 5 two restarts would not fit, at 16 the one restart would not
-//!   be 0, and at 28 it is the whole block. So none of its beginnings is a block.
+//!   be 0, and at 28 it is the whole block. So none of its beginnings is a block. In the blocks of one entry such a number stands at
+//!   5 and 17: at 5 the one restart of the first would not be 0, and the two of the second would not fit; at 17 it is the whole.
 //! - A table of fewer than 48 bytes is Short, and one that does not end with the magic is Magic, whose first byte stands in
-//!   the worked table once: 48 and 66 of 114 beginnings. A compaction over them answers the same, of input 0.
+//!   the worked table once: 48 and 66 of 114 beginnings. So it is with the table of two entries: 48 and 77 of 125. A compaction over
+//!   them answers the same, of input 0.
 //! - A log may end behind each of its records. That of one empty record has one such place before its end, that of a record
 //!   of 32,754 bytes and one of 1 byte two, 0 and 32,761; a manifest of records of 52 and 8 bytes has 0 and 59. Each other
 //!   beginning ends inside a record.
 //! - An edit may end behind each of its fields: those of 23 and 47 bytes at 0, 2, 4, 6, 8 and 20, the longer one at 23 too.
-//!   Each other beginning has a tag and no whole field.
+//!   Each other beginning has a tag and no whole field. One of two fields of two bytes at 0 and 2.
 //! - CURRENT ends with a newline. A manifest without a record names no comparator; one that ends behind its first record sets
 //!   no number.
 
 use crate::calls::{Call, answer};
 use crate::counts::Counts;
-use crate::tables::mended_table;
+use crate::tables::{mended_pair, mended_table};
 use crate::worked::{
-    BLOCK, CURRENT_FIVE, DELETION_LEFT, EMPTY_LOG, EMPTY_SNAPSHOT, KEY, NOTHING_LEFT, NUMBERS,
-    ONE_FILE,
+    BLOCK, CURRENT_FIVE, DELETION_LEFT, EMPTY_LOG, EMPTY_SNAPSHOT, FIRST_BLOCK, KEY, NOTHING_LEFT,
+    NUMBERS, ONE_FILE, SECOND_BLOCK, TWO_LOGS,
 };
 use anyhow::Result;
 use coding::Fault;
@@ -58,6 +60,28 @@ fn tables<R: AllocGlobal + Print + Threads + Sync>(rt: &R) -> Result<()> {
     sweep(rt, "compact", Call::Compact, &table)
 }
 
+/// Calls with each beginning of the table of two entries.
+fn pairs<R: AllocGlobal + Print + Threads + Sync>(rt: &R) -> Result<()> {
+    let table = mended_pair(rt.alloc())?;
+    sweep(rt, "table of two entries", Call::Table, &table)?;
+    sweep(rt, "compact of two entries", Call::Compact, &table)
+}
+
+/// Calls with each beginning of blocks.
+fn blocks<R: AllocGlobal + Print + Threads + Sync>(rt: &R) -> Result<()> {
+    sweep(rt, "block", Call::Block, &BLOCK)?;
+    sweep(rt, "block of a", Call::Block, FIRST_BLOCK)?;
+    sweep(rt, "block of b", Call::Block, SECOND_BLOCK)
+}
+
+/// Calls with each beginning of edits.
+fn edits<R: AllocGlobal + Print + Threads + Sync>(rt: &R) -> Result<()> {
+    sweep(rt, "edit of no output", Call::Decode, NOTHING_LEFT)?;
+    sweep(rt, "edit of one output", Call::Decode, DELETION_LEFT)?;
+    sweep(rt, "edit of two log numbers", Call::Decode, TWO_LOGS)?;
+    sweep(rt, "edit of a name", Call::Decode, EMPTY_SNAPSHOT)
+}
+
 /// Calls with each beginning of a log over the end of a block.
 fn long_log<R: AllocGlobal + Print + Threads + Sync>(rt: &R) -> Result<()> {
     let first = vec![in rt.alloc(); 7_u8; 32_754]?;
@@ -74,13 +98,12 @@ fn manifest<R: AllocGlobal + Print + Threads + Sync>(rt: &R) -> Result<()> {
 /// Calls with each beginning of all worked bytes.
 pub fn run<R: AllocGlobal + Print + Threads + Sync>(rt: &R) -> Result<()> {
     sweep(rt, "key", Call::Key, &KEY)?;
-    sweep(rt, "block", Call::Block, &BLOCK)?;
+    blocks(rt)?;
     tables(rt)?;
+    pairs(rt)?;
     sweep(rt, "log of an empty record", Call::Records, &EMPTY_LOG)?;
     long_log(rt)?;
-    sweep(rt, "edit of no output", Call::Decode, NOTHING_LEFT)?;
-    sweep(rt, "edit of one output", Call::Decode, DELETION_LEFT)?;
-    sweep(rt, "edit of a name", Call::Decode, EMPTY_SNAPSHOT)?;
+    edits(rt)?;
     sweep(rt, "CURRENT", Call::Current, CURRENT_FIVE)?;
     manifest(rt)
 }

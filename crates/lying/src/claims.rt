@@ -17,7 +17,7 @@ struct Claim {
     bytes: &'static [u8],
 }
 
-const CLAIMS: [Claim; 9] = [
+const CLAIMS: [Claim; 10] = [
     Claim {
         call: Call::Block,
         text: "block with a value of 2^32 - 1 bytes",
@@ -63,7 +63,18 @@ const CLAIMS: [Claim; 9] = [
         text: "edit with a smallest key of 2^32 - 1 bytes",
         bytes: b"\x07\x01\x07\x7d\xff\xff\xff\xff\x0fu\x01\x02\0\0\0\0\0\0",
     },
+    Claim {
+        call: Call::Decode,
+        text: "edit with a largest key of 2^32 - 1 bytes",
+        bytes: b"\x07\x01\x07\x7d\x09u\0\x04\0\0\0\0\0\0\xff\xff\xff\xff\x0fu\x01\x02\0\0\0\0\0\0",
+    },
 ];
+
+/// Where the worked table has its metaindex block.
+const METAINDEX: BlockHandle = BlockHandle {
+    offset: 26,
+    size: 8,
+};
 
 /// Where the worked table has its index block.
 const INDEX: BlockHandle = BlockHandle {
@@ -96,10 +107,17 @@ const FAR: [(&str, BlockHandle); 3] = [
     ),
 ];
 
+/// Prints what is answered of tables with this handle in their footer.
+fn print_footers<R: AllocGlobal + Print + Threads + Sync>(rt: &R, far: BlockHandle) -> Result<()> {
+    let first = table_with_footer(rt.alloc(), far, INDEX)?;
+    print_call(rt, "  of a footer's metaindex block", Call::Table, &first)?;
+    let second = table_with_footer(rt.alloc(), METAINDEX, far)?;
+    print_call(rt, "  of a footer's index block", Call::Table, &second)
+}
+
 /// Prints what is answered of tables and of an input with this handle.
 fn print_far<R: AllocGlobal + Print + Threads + Sync>(rt: &R, far: BlockHandle) -> Result<()> {
-    let footer = table_with_footer(rt.alloc(), far, INDEX)?;
-    print_call(rt, "  in a footer", Call::Table, &footer)?;
+    print_footers(rt, far)?;
     let index = table_of_one(rt.alloc(), &KEY, b"x", &KEY, Some(far))?;
     print_call(rt, "  in an index", Call::Table, &index)?;
     print_call(rt, "  in an input", Call::Compact, &index)

@@ -94,11 +94,16 @@ fn is_written_again(alloc: Global, bytes: &[u8]) -> Result<bool> {
     Ok(log.as_slice() == bytes)
 }
 
-/// Whether an edit that is written and read again is written the same.
+/// What an edit of these bytes is written as.
+fn rewritten(alloc: Global, bytes: &[u8]) -> Result<Vec<u8>> {
+    Ok(VersionEdit::decode(alloc, bytes)?.encode(alloc)?)
+}
+
+/// Whether an edit that is written and read again is written the same. No bytes alone are the edit that is written as none.
 fn is_encoded_again(alloc: Global, bytes: &[u8]) -> Result<bool> {
-    let written = VersionEdit::decode(alloc, bytes)?.encode(alloc)?;
-    let again = VersionEdit::decode(alloc, &written)?.encode(alloc)?;
-    Ok(again == written)
+    let written = rewritten(alloc, bytes)?;
+    let again = rewritten(alloc, &written)?;
+    Ok(again == written && written.is_empty() == bytes.is_empty())
 }
 
 /// The refusal of a manifest's log, or else of the first record that is no edit.

@@ -1,6 +1,6 @@
 //! Tables that are put together by hand.
 
-use crate::worked::TABLE;
+use crate::worked::{TABLE, TWO_ENTRIES};
 use anyhow::Result;
 use coding::{Fault, crc32c, mask, push_varint};
 use frame::{BlockHandle, Footer, Trailer};
@@ -26,6 +26,14 @@ pub fn mend_table(bytes: &mut [u8]) {
 pub fn mended_table(alloc: Global) -> Result<Vec<u8>, Fault> {
     let mut bytes = Vec::from_slice(alloc, &TABLE)?;
     mend_table(&mut bytes);
+    Ok(bytes)
+}
+
+/// The table of two entries, of 125 bytes.
+pub fn mended_pair(alloc: Global) -> Result<Vec<u8>, Fault> {
+    let mut bytes = Vec::from_slice(alloc, &TWO_ENTRIES)?;
+    mend(&mut bytes, 0, 37);
+    mend(&mut bytes, 50, 77);
     Ok(bytes)
 }
 

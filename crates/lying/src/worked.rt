@@ -17,6 +17,27 @@ pub const TABLE: [u8; 114] = [
     0x57, 0xfb, 0x80, 0x8b, 0x24, 0x75, 0x47, 0xdb, // magic
 ];
 
+/// The table of a deletion of `u` at 4 and a value `x` at 2, but for the checksums of its data block and its index block, which are
+/// mended. The second key shares the byte of its user key.
+pub const TWO_ENTRIES: [u8; 125] = [
+    0, 9, 0, 0x75, 0, 4, 0, 0, 0, 0, 0, 0, // data block: the deletion
+    1, 8, 1, 1, 2, 0, 0, 0, 0, 0, 0, 0x78, // the value
+    0, 0, 0, 0, 1, 0, 0, 0, 0, 0, 0, 0, 0, // one restart, a type and a checksum
+    0, 0, 0, 0, 1, 0, 0, 0, 0, 0xc0, 0xf2, 0xa1, 0xb0, // metaindex block
+    0, 9, 2, 0x75, 1, 2, 0, 0, 0, 0, 0, 0, 0, 0x20, 0, 0, 0, 0, 1, 0, 0, 0, 0, 0, 0, 0, 0, // index
+    0x25, 8, 0x32, 0x16, 0, 0, 0, 0, 0, 0, 0, 0, 0, 0, 0, 0, 0, 0, 0, 0, // footer
+    0, 0, 0, 0, 0, 0, 0, 0, 0, 0, 0, 0, 0, 0, 0, 0, 0, 0, 0, 0, //
+    0x57, 0xfb, 0x80, 0x8b, 0x24, 0x75, 0x47, 0xdb, // magic
+];
+
+/// The block of `a` at 1 with the value `x`, and that of `b` at 2 with `y`.
+pub const FIRST_BLOCK: &[u8] = b"\0\x09\x01a\x01\x01\0\0\0\0\0\0x\0\0\0\0\x01\0\0\0";
+
+pub const SECOND_BLOCK: &[u8] = b"\0\x09\x01b\x01\x02\0\0\0\0\0\0y\0\0\0\0\x01\0\0\0";
+
+/// Log 3, and then log 4.
+pub const TWO_LOGS: &[u8] = b"\x02\x03\x02\x04";
+
 /// The internal key of a value of `a` at sequence 1.
 pub const KEY: [u8; 9] = [0x61, 1, 1, 0, 0, 0, 0, 0, 0];
 

@@ -12,7 +12,6 @@ mod numbers;
 mod reading;
 mod rows;
 mod threads;
-mod used_up;
 mod worked;
 
 use anyhow::Result;
@@ -21,7 +20,7 @@ use coding::{Fault, FaultName};
 use cut::plan;
 use ikey::Bytewise;
 use keep::RangeRun;
-use lying::mended_table;
+use lying::{UsedUp, mended_table};
 use made::{SMALLEST, all_cursors, build, runs_of, tell};
 use rows::{Made, ROWS, answers};
 use std::alloc::Global;
@@ -29,7 +28,6 @@ use std::env;
 use std::env::Env;
 use table::{SoundTable, check};
 use threads::run_threads;
-use used_up::UsedUp;
 
 /// Refused as Lawless where something is not as it has to be.
 fn wanted(is_right: bool) -> Result<(), Fault> {

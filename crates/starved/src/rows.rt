@@ -1,12 +1,12 @@
 //! The calls that take no memory, row by row.
 
 use crate::made::{Built, Cursors, Told};
-use crate::used_up::UsedUp;
 use crate::{compacting, numbers, reading, wanted};
 use coding::Fault;
 use cut::Plan;
 use ikey::Bytewise;
 use keep::RangeRun;
+use lying::UsedUp;
 use std::alloc::Global;
 use table::SoundTable;
 

@@ -1,7 +1,6 @@
 //! Compactions by four workers, for whom no thread can be started, or only a few at a time.
 
 use crate::made::{SMALLEST, input, table_of, three_ranges};
-use crate::used_up::{LARGEST, UsedUp};
 use crate::wanted;
 use anyhow::Error;
 use board::Gate;
@@ -10,7 +9,7 @@ use compact::compact;
 use edit::Outcome;
 use ikey::Bytewise;
 use keep::Snapshots;
-use lying::{lent, no_inputs};
+use lying::{LARGEST, UsedUp, lent, no_inputs};
 use pick::Inputs;
 use request::Request;
 use std::alloc::Global;

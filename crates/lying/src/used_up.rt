@@ -28,6 +28,16 @@ impl UsedUp {
         })
     }
 
+    /// How many pieces are taken.
+    pub fn len(&self) -> usize {
+        self.pieces.len()
+    }
+
+    /// Gives back all pieces but so many, which were taken first.
+    pub fn keep(&mut self, count: usize) {
+        self.pieces.truncate(count);
+    }
+
     /// Takes pieces of so many bytes until none is given, and answers whether it came to that.
     fn take(&mut self, alloc: Global, len: usize) -> bool {
         for _ in self.pieces.len()..MOST_PIECES {

@@ -408,12 +408,25 @@ pub(crate) fn gives<R: Abort + AllocGlobal + Threads + Sync>(
     Ok(())
 }
 
-/// A case that is refused, for so many workers.
+/// A case that is refused, for each of these numbers of workers.
 #[derive(Clone, Copy)]
 pub(crate) struct Refused<'c> {
     pub(crate) case: Case<'c>,
-    pub(crate) workers: u64,
+    pub(crate) workers: &'static [u64],
     pub(crate) fault: Fault,
+}
+
+/// Tests that a case is refused over a split.
+fn refuses_over<R: Abort + AllocGlobal + Threads + Sync, G: Gate + Sync>(
+    rt: &R,
+    row: &Refused<'_>,
+    split: &Split<Bytewise>,
+    gate: &G,
+) {
+    for workers in row.workers {
+        let found = answer(rt, &row.case, split, *workers, gate).err();
+        assert_eq!(rt; found, Some(row.fault));
+    }
 }
 
 /// Tests that a case is refused over all splits.
@@ -423,8 +436,7 @@ pub(crate) fn refuses<R: Abort + AllocGlobal + Threads + Sync, G: Gate + Sync>(
     gate: &G,
 ) -> Result<(), Fail> {
     for split in &splits(rt.alloc())? {
-        let found = answer(rt, &row.case, split, row.workers, gate).err();
-        assert_eq!(rt; found, Some(row.fault));
+        refuses_over(rt, row, split, gate);
     }
     Ok(())
 }

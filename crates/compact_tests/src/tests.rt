@@ -44,7 +44,8 @@ fn all_give<R: Abort + AllocGlobal + Threads + Sync>(
     Ok(())
 }
 
-/// A deletion of u over an older value, without a deeper file, and with one in whose range u lies.
+/// A deletion of u over an older value, without a deeper file, and with one of level 3 in whose range u lies, which so is a
+/// grandparent too.
 #[test]
 fn a_deletion_and_the_edit(rt: HostRuntime) -> Result<(), Fail> {
     let inputs = [sound(DELETED)];
@@ -53,13 +54,14 @@ fn a_deletion_and_the_edit(rt: HostRuntime) -> Result<(), Fail> {
         last_sequence: 4,
         ..plain(&inputs)
     };
-    let deeper = [Other {
+    let lower = [Other {
         smallest: ("t", 1, Put),
         largest: ("v", 1, Put),
         size: 1,
     }];
     let above = Case {
-        deeper: &deeper,
+        grandparents: &lower,
+        deeper: &lower,
         ..alone
     };
     let nothing = Answered {
@@ -159,6 +161,14 @@ const U_THRICE: &[Row] = &[("u", 9, Put), ("u", 5, Put), ("u", 3, Put)];
 
 const ONLY_V: &[Row] = &[("v", 1, Put)];
 
+/// A small case whose oldest snapshot is 2.
+fn seen_from_two(inputs: &[Input]) -> Case<'_> {
+    Case {
+        snapshots: Snapshots::From(2),
+        ..small(inputs)
+    }
+}
+
 #[test]
 fn full_outputs_end_between_user_keys(rt: HostRuntime) -> Result<(), Fail> {
     let each = [sound(ONLY_A), sound(ONLY_C), sound(ONLY_B)];
@@ -173,8 +183,8 @@ fn full_outputs_end_between_user_keys(rt: HostRuntime) -> Result<(), Fail> {
     let two = [written_as(5, 202, U_THRICE), written_as(6, 114, ONLY_V)];
     let rows = [
         with_outputs(small(&each), &three),
-        with_outputs(small(&versions), &one),
-        with_outputs(small(&both), &two),
+        with_outputs(seen_from_two(&versions), &one),
+        with_outputs(seen_from_two(&both), &two),
     ];
     all_give(&rt, &rows)
 }
@@ -269,8 +279,11 @@ fn about(name: FaultName, place: u64) -> Fault {
     }
 }
 
+/// The numbers of workers of a row that names none.
+const WORKERS: &[u64] = &[1, 2, 64];
+
 /// A case that is refused by a fault that is about no input.
-fn refused_by(case: Case<'_>, workers: u64, name: FaultName) -> Refused<'_> {
+fn refused_by<'c>(case: Case<'c>, workers: &'static [u64], name: FaultName) -> Refused<'c> {
     Refused {
         case,
         workers,
@@ -278,11 +291,11 @@ fn refused_by(case: Case<'_>, workers: u64, name: FaultName) -> Refused<'_> {
     }
 }
 
-/// A case that is refused, by two workers, for an input.
+/// A case that is refused for an input.
 fn refused_at(case: Case<'_>, name: FaultName, place: u64) -> Refused<'_> {
     Refused {
         case,
-        workers: 2,
+        workers: WORKERS,
         fault: about(name, place),
     }
 }
@@ -320,13 +333,14 @@ fn the_first_refusal_of_a_request(rt: HostRuntime) -> Result<(), Fail> {
         ..plain(&inputs)
     };
     let rows = [
-        refused_by(level, 0, FaultName::Workers),
-        refused_by(none, 65, FaultName::Workers),
-        refused_by(level, 2, FaultName::NoInput),
-        refused_by(high, 2, FaultName::Snapshot),
-        refused_by(high_last, 2, FaultName::Snapshot),
-        refused_by(repeated, 2, FaultName::SnapshotList),
-        refused_by(above, 2, FaultName::SnapshotList),
+        refused_by(level, &[0], FaultName::Workers),
+        refused_by(none, &[0, 65], FaultName::Workers),
+        refused_by(none, WORKERS, FaultName::NoInput),
+        refused_by(level, WORKERS, FaultName::NoInput),
+        refused_by(high, WORKERS, FaultName::Snapshot),
+        refused_by(high_last, WORKERS, FaultName::Snapshot),
+        refused_by(repeated, WORKERS, FaultName::SnapshotList),
+        refused_by(above, WORKERS, FaultName::SnapshotList),
     ];
     all_refuse(&rt, &rows)
 }
@@ -335,11 +349,11 @@ fn the_first_refusal_of_a_request(rt: HostRuntime) -> Result<(), Fail> {
 fn the_least_input_is_refused_first(rt: HostRuntime) -> Result<(), Fail> {
     let outer = [BAD_BLOCK, sound(ONLY_U), BAD_BLOCK];
     let gate = Held::new();
-    refuses(
-        &rt,
-        &refused_at(plain(&outer), FaultName::Trailer, 0),
-        &gate,
-    )?;
+    let by_two = Refused {
+        workers: &[2],
+        ..refused_at(plain(&outer), FaultName::Trailer, 0)
+    };
+    refuses(&rt, &by_two, &gate)?;
     assert!(rt; gate.has_held());
     Ok(())
 }
@@ -347,10 +361,6 @@ fn the_least_input_is_refused_first(rt: HostRuntime) -> Result<(), Fail> {
 #[test]
 fn the_first_refusal_of_inputs(rt: HostRuntime) -> Result<(), Fail> {
     let both = [BAD_BLOCK, BAD_BLOCK];
-    let by_many = Refused {
-        workers: 64,
-        ..refused_at(plain(&both), FaultName::Trailer, 0)
-    };
     let middle = [sound(ONLY_U), BAD_MAGIC, sound(ONLY_U)];
     let stated = [sound(ONLY_U), BAD_SIZE];
     let first = [BAD_LARGEST, BAD_BLOCK];
@@ -365,12 +375,12 @@ fn the_first_refusal_of_inputs(rt: HostRuntime) -> Result<(), Fail> {
         ..numbers
     };
     let rows = [
-        by_many,
+        refused_at(plain(&both), FaultName::Trailer, 0),
         refused_at(plain(&middle), FaultName::Magic, 1),
         refused_at(plain(&stated), FaultName::Bounds, 1),
         refused_at(plain(&first), FaultName::Bounds, 0),
-        refused_by(numbers, 2, FaultName::Duplicate),
-        refused_by(run_out, 2, FaultName::Numbers),
+        refused_by(numbers, WORKERS, FaultName::Duplicate),
+        refused_by(run_out, WORKERS, FaultName::Numbers),
     ];
     all_refuse(&rt, &rows)
 }

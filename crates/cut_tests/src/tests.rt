@@ -354,6 +354,19 @@ fn numbers_run_out(rt: HostRuntime) -> Result<(), Fail> {
 }
 
 #[test]
+fn what_keeps_no_entry_has_no_job(rt: HostRuntime) -> Result<(), Fail> {
+    let options = Options::default();
+    assert!(rt; options.are_in_limits());
+    let inputs = inputs(&rt, &[])?;
+    let bytes = written(&rt, &[del(b"c", 3)], b"")?;
+    let runs = runs_of(&rt, &bytes, None, &inputs)?;
+    let plan = plan::<Bytewise>(rt.alloc(), &runs, &[], options, 5)?;
+    assert!(rt; plan.is_empty());
+    assert_eq!(rt; plan.jobs(), 0);
+    Ok(())
+}
+
+#[test]
 fn an_output_tells_its_bounds(rt: HostRuntime) -> Result<(), Fail> {
     let options = Options::default();
     assert!(rt; options.are_in_limits());

@@ -155,6 +155,8 @@ fn refusals_in_their_order(rt: HostRuntime) -> Result<(), Fail> {
     let cases = [
         (6, no_ranges, "refused: Level"),
         (2, no_ranges, "refused: NoInput"),
+        (2, none, "refused: NoInput"),
+        (2, Settings::default(), "refused: NoInput"),
         (0, Settings::default(), "refused: NoInput"),
         (1, no_ranges, "refused: SplitCount"),
         (1, none, "refused: Workers"),

@@ -31,16 +31,37 @@ pub fn measure(
 ) -> Result<()> {
     let (values, _) = bytes.split_at(bytes.len() / ENTRY_LEN * VALUE_LEN);
     let blocks = written(alloc, values)?;
-    let len = len_of(&blocks);
-    let entries = values.len() / VALUE_LEN;
+    measure_written(clock, alloc, values, &blocks, figures)
+}
+
+/// The same, where the blocks are written.
+fn measure_written(
+    clock: &impl Clock,
+    alloc: Global,
+    values: &[u8],
+    blocks: &[Vec<u8>],
+    figures: &mut Figures,
+) -> Result<()> {
+    let sound = all_sound(alloc, blocks)?;
+    measure_sound(clock, alloc, values, blocks, &sound, figures)
+}
+
+/// The same, where they are checked.
+fn measure_sound(
+    clock: &impl Clock,
+    alloc: Global,
+    values: &[u8],
+    blocks: &[Vec<u8>],
+    sound: &[SoundBlock<'_>],
+    figures: &mut Figures,
+) -> Result<()> {
     let over = |call| Work {
         call,
-        bytes: len,
-        entries,
+        bytes: len_of(blocks),
+        entries: values.len() / VALUE_LEN,
     };
-    figures.take(clock, over(Call::Check), || Ok(check_all(&blocks)?))?;
-    let sound = all_sound(alloc, &blocks)?;
-    figures.take(clock, over(Call::Cursor), || Ok(walk_all(alloc, &sound)?))?;
+    figures.take(clock, over(Call::Check), || Ok(check_all(blocks)?))?;
+    figures.take(clock, over(Call::Cursor), || Ok(walk_all(alloc, sound)?))?;
     figures.take(clock, over(Call::Builder), || Ok(write_all(alloc, values)?))
 }
 

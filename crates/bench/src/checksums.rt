@@ -13,13 +13,18 @@ pub fn measure(
     bytes: &[u8],
     figures: &mut Figures,
 ) -> Result<()> {
-    let len = bytes.len();
-    let mut target = vec![in alloc; 0; len]?;
+    let mut target = vec![in alloc; 0; bytes.len()]?;
     figures.take(
         clock,
-        over(Call::Copy, len),
+        over(Call::Copy, bytes.len()),
         || Ok(copied(&mut target, bytes)),
     )?;
+    measure_sums(clock, bytes, figures)
+}
+
+/// Takes the figures of the sums of these bytes.
+fn measure_sums(clock: &impl Clock, bytes: &[u8], figures: &mut Figures) -> Result<()> {
+    let len = bytes.len();
     figures.take(clock, over(Call::Crc, len), || Ok(crc32c(bytes)))?;
     let table = table();
     ensure!(

@@ -50,6 +50,16 @@ pub enum Call {
     ManyRecords,
     ManyDecode,
     ManyApplied,
+    Lawful,
+    LawfulByPairs,
+    Choose,
+    SortedKeys,
+    CompareNear,
+    LoopNear,
+    CompareFar,
+    LoopFar,
+    ReadFile,
+    CopyFile,
 }
 
 impl Call {
@@ -92,6 +102,16 @@ impl Call {
             Call::ManyRecords => "records, many",
             Call::ManyDecode => "decode, many",
             Call::ManyApplied => "applied, many",
+            Call::Lawful => "lawful, 9 over 15",
+            Call::LawfulByPairs => "the same by pairs",
+            Call::Choose => "split of 24 tables",
+            Call::SortedKeys => "sort of owned keys",
+            Call::CompareNear => "compare, near keys",
+            Call::LoopNear => "loop, near keys",
+            Call::CompareFar => "compare, far keys",
+            Call::LoopFar => "loop, far keys",
+            Call::ReadFile => "read of a file",
+            Call::CopyFile => "copy of a file",
         }
     }
 }
@@ -160,27 +180,46 @@ impl Figure {
     }
 }
 
+impl Figure {
+    /// Writes the speed, where bytes are read or written.
+    fn fmt_speed<W: fmt::Write>(&self, f: &mut fmt::Formatter<W>) -> fmt::Result {
+        if self.work.bytes == 0 {
+            return Ok(());
+        }
+        write!(f, " {:>7} MiB/s", self.speed())
+    }
+
+    /// Writes the time of an entry, where there are any.
+    fn fmt_each<W: fmt::Write>(&self, f: &mut fmt::Formatter<W>) -> fmt::Result {
+        let entries = self.work.entries;
+        if entries == 0 {
+            return Ok(());
+        }
+        let tenths = self.nanos().saturating_mul(10)
+            / (entries as u128 * u128::from(self.times.max(1)));
+        write!(
+            f,
+            " {:>5}.{} ns each of {entries}",
+            tenths / 10,
+            tenths % 10
+        )
+    }
+
+    /// Writes how many times as long it took, where that was asked.
+    fn fmt_growth<W: fmt::Write>(&self, f: &mut fmt::Formatter<W>) -> fmt::Result {
+        match self.growth {
+            Some(growth) => write!(f, ", {}.{} times as long", growth / 10, growth % 10),
+            None => Ok(()),
+        }
+    }
+}
+
 impl fmt::Display for Figure {
     fn fmt<W: fmt::Write>(&self, f: &mut fmt::Formatter<W>) -> fmt::Result {
         write!(f, "{:<20}", self.work.call.label())?;
-        if self.work.bytes > 0 {
-            write!(f, " {:>7} MiB/s", self.speed())?;
-        }
-        if self.work.entries > 0 {
-            let tenths = self.nanos().saturating_mul(10)
-                / (self.work.entries as u128 * u128::from(self.times.max(1)));
-            write!(
-                f,
-                " {:>5}.{} ns each of {}",
-                tenths / 10,
-                tenths % 10,
-                self.work.entries
-            )?;
-        }
-        if let Some(growth) = self.growth {
-            write!(f, ", {}.{} times as long", growth / 10, growth % 10)?;
-        }
-        Ok(())
+        self.fmt_speed(f)?;
+        self.fmt_each(f)?;
+        self.fmt_growth(f)
     }
 }
 
@@ -277,9 +316,9 @@ impl Figures {
         S: Copy,
         T: Drop,
         G: Drop,
-        M: FnMut(Turn<S>) -> Result<T>,
-        F: FnMut(Turn<S>, T) -> Result<(u32, G)>,
-    >(&mut self, clock: &impl Clock, turns: [Turn<S>; 2], mut make: M, mut run: F) -> Result<()>
+        M: Fn(Turn<S>) -> Result<T>,
+        F: Fn(Turn<S>, T) -> Result<(u32, G)>,
+    >(&mut self, clock: &impl Clock, turns: [Turn<S>; 2], make: M, run: F) -> Result<()>
     where
         M: Drop,
         F: Drop,
@@ -289,22 +328,31 @@ impl Figures {
         let [first, second] = turns;
         let mut first_time = Duration::MAX;
         let mut second_time = Duration::MAX;
-        for round in 0..self.rounds.saturating_mul(2 * SHORT_ROUNDS) {
-            let is_first = round % 2 == 0;
-            let turn = if is_first { first } else { second };
-            let source = make(turn)?;
-            let start = Instant::now(clock)?;
-            let (given, made) = run(turn, source)?;
-            let time = start.elapsed(clock)?;
-            drop(made);
-            self.fold(given);
-            if is_first {
-                first_time = first_time.min(time);
-            } else {
-                second_time = second_time.min(time);
-            }
+        for _round in 0..self.rounds.saturating_mul(SHORT_ROUNDS) {
+            first_time = first_time.min(self.round(clock, first, &make, &run)?);
+            second_time = second_time.min(self.round(clock, second, &make, &run)?);
         }
         self.keep_grown(first.figure(first_time), second.figure(second_time))
+    }
+
+    /// Makes what a run takes, does it once, and gives how long the run took.
+    fn round<
+        S: Copy,
+        T: Drop,
+        G: Drop,
+        M: Fn(Turn<S>) -> Result<T>,
+        F: Fn(Turn<S>, T) -> Result<(u32, G)>,
+    >(&mut self, clock: &impl Clock, turn: Turn<S>, make: &M, run: &F) -> Result<Duration>
+        requires made { M.IsAlwaysCallable make.now }
+        requires run { F.IsAlwaysCallable run.now }
+    {
+        let source = make(turn)?;
+        let start = Instant::now(clock)?;
+        let (given, made) = run(turn, source)?;
+        let time = start.elapsed(clock)?;
+        drop(made);
+        self.fold(given);
+        Ok(time)
     }
 
     /// Folds in what a run gave.

@@ -1,12 +1,14 @@
 //! The program `bench`: how fast the hot paths are.
 //!
-//! With the word `full` it times them over 64 MiB and prints a table. Without it, it makes the same
-//! calls over a few blocks and prints one line, the same on each machine.
+//! With the word `full` it times them over 64 MiB and prints a table. Without it, it makes the same calls but the reading of a
+//! file over a few blocks, and prints one line, the same on each machine.
 #![tactic(auto)]
 
 mod blocks;
 mod checksums;
+mod comparing;
 mod figures;
+mod files;
 mod jobs;
 mod manifests;
 mod merging;
@@ -14,47 +16,76 @@ mod outputs;
 mod random;
 mod ranges;
 mod tables;
+mod versions;
 
 use anyhow::Result;
 use figures::Figures;
+use std::alloc::Global;
 use std::env;
+use std::rt::Clock;
 
-/// How many bytes the full run takes through each call.
-const FULL_LEN: usize = 64 << 20;
-/// How many bytes the run without `full` takes, a few blocks.
-const TINY_LEN: usize = 64 << 10;
-/// How many jobs the full run has.
-const FULL_JOBS: u32 = 1_000_000;
-/// How many jobs the run without `full` has.
-const TINY_JOBS: u32 = 1_000;
-/// How many files the full run's manifests have.
-const FULL_FILES: u64 = 100_000;
-/// How many files the manifests of the run without `full` have.
-const TINY_FILES: u64 = 500;
-/// The rounds of the full run, of which the fastest counts.
-const FULL_ROUNDS: u32 = 7;
+/// How much a run does.
+struct Extent {
+    /// How many bytes go through each call.
+    bytes: usize,
+    /// How many jobs a run of the board has.
+    jobs: u32,
+    /// How many files manifests have.
+    files: u64,
+    /// How many keys are compared, each with each.
+    keys: u32,
+    /// The rounds, of which the fastest counts.
+    rounds: u32,
+}
+
+/// The run with `full`.
+const FULL: Extent = Extent {
+    bytes: 64 << 20,
+    jobs: 1_000_000,
+    files: 100_000,
+    keys: 640,
+    rounds: 7,
+};
+/// The run without it: a few blocks.
+const TINY: Extent = Extent {
+    bytes: 64 << 10,
+    jobs: 1_000,
+    files: 500,
+    keys: 20,
+    rounds: 1,
+};
+
+/// Takes the figures of pseudo-random bytes and of so many keys.
+fn measure(
+    clock: &impl Clock,
+    alloc: Global,
+    bytes: &[u8],
+    keys: u32,
+    figures: &mut Figures,
+) -> Result<()> {
+    checksums::measure(clock, alloc, bytes, figures)?;
+    blocks::measure(clock, alloc, bytes, figures)?;
+    tables::measure(clock, alloc, bytes, figures)?;
+    merging::measure(clock, alloc, bytes, figures)?;
+    ranges::measure(clock, alloc, bytes, figures)?;
+    versions::measure(clock, alloc, bytes, figures)?;
+    comparing::measure(clock, alloc, bytes, keys, figures)
+}
 
 fn main(rt: HostRuntime) -> Result<()> {
-    let full = env::args(&rt)?.any(|word| word.as_str() == "full");
-    let (len, jobs, files, rounds) = if full {
-        (FULL_LEN, FULL_JOBS, FULL_FILES, FULL_ROUNDS)
-    } else {
-        (TINY_LEN, TINY_JOBS, TINY_FILES, 1)
-    };
+    let is_full = env::args(&rt)?.any(|word| word.as_str() == "full");
+    let extent = if is_full { &FULL } else { &TINY };
     let alloc = rt.alloc();
-    let bytes = random::bytes(alloc, len)?;
-    let mut figures = Figures::new(alloc, rounds);
-    checksums::measure(&rt, alloc, &bytes, &mut figures)?;
-    blocks::measure(&rt, alloc, &bytes, &mut figures)?;
-    tables::measure(&rt, alloc, &bytes, &mut figures)?;
-    merging::measure(&rt, alloc, &bytes, &mut figures)?;
-    ranges::measure(&rt, alloc, &bytes, &mut figures)?;
-    manifests::measure(&rt, alloc, files, &mut figures)?;
-    jobs::measure(&rt, alloc, jobs, &mut figures)?;
-    if full {
-        figures.print(&rt)?;
+    let bytes = random::bytes(alloc, extent.bytes)?;
+    let mut figures = Figures::new(alloc, extent.rounds);
+    measure(&rt, alloc, &bytes, extent.keys, &mut figures)?;
+    manifests::measure(&rt, alloc, extent.files, &mut figures)?;
+    jobs::measure(&rt, alloc, extent.jobs, &mut figures)?;
+    if is_full {
+        files::measure(&rt, &bytes, &mut figures)?;
+        figures.print(&rt)
     } else {
         println!(rt; "bench: all figures were taken")?;
+        Ok(())
     }
-    Ok(())
 }

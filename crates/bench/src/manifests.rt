@@ -18,7 +18,7 @@ const SPREAD: u64 = 0x9e37_79b9_7f4a_7c15;
 /// A value at sequence 1, as the last eight bytes of an internal key.
 const TAG: [u8; 8] = [1, 1, 0, 0, 0, 0, 0, 0];
 /// The tag of a new-file field.
-const NEW_FILE: u64 = 7;
+pub const NEW_FILE: u64 = 7;
 /// The level of each file.
 const LEVEL: u64 = 1;
 /// The length of each table, 2 MiB.
@@ -72,10 +72,20 @@ pub fn measure(clock: &impl Clock, alloc: Global, files: u64, figures: &mut Figu
 fn measure_one(clock: &impl Clock, alloc: Global, files: u64, figures: &mut Figures) -> Result<()> {
     let tenths = one_record_each(alloc, 10, files / 10)?;
     let whole = one_record_each(alloc, 1, files)?;
-    let both = [&tenths, &whole];
+    measure_whole(clock, alloc, [&tenths, &whole], figures)
+}
+
+/// The same, where they are written.
+fn measure_whole(
+    clock: &impl Clock,
+    alloc: Global,
+    both: [&Manifests; 2],
+    figures: &mut Figures,
+) -> Result<()> {
     measure_read(clock, alloc, both, [Call::Records, Call::Decode], figures)?;
     measure_applied(clock, alloc, both, Call::Applied, figures)?;
-    measure_versions(clock, alloc, both, figures)
+    measure_apply(clock, alloc, both, figures)?;
+    measure_levels(clock, alloc, both, figures)
 }
 
 /// Takes the figures of manifests that have a record for each file.
@@ -87,7 +97,16 @@ fn measure_many(
 ) -> Result<()> {
     let tenths = many_records_each(alloc, 10, files / 10)?;
     let whole = many_records_each(alloc, 1, files)?;
-    let both = [&tenths, &whole];
+    measure_parted(clock, alloc, [&tenths, &whole], figures)
+}
+
+/// The same, where they are written.
+fn measure_parted(
+    clock: &impl Clock,
+    alloc: Global,
+    both: [&Manifests; 2],
+    figures: &mut Figures,
+) -> Result<()> {
     measure_read(
         clock,
         alloc,
@@ -163,9 +182,8 @@ fn measure_applied(
     )
 }
 
-/// Takes the figures of the manifests' edits each applied to an empty version, which stays as it is, and of the files of a
-/// level of what they make.
-fn measure_versions(
+/// Takes the figures of the manifests' edits each applied to an empty version, which stays as it is.
+fn measure_apply(
     clock: &impl Clock,
     alloc: Global,
     both: [&Manifests; 2],
@@ -182,9 +200,19 @@ fn measure_versions(
         ],
         |_| Ok(()),
         |turn, _| apply_all(alloc, turn.on),
-    )?;
-    let (_, tenths_versions) = applied_all(alloc, tenths_edits)?;
-    let (_, whole_versions) = applied_all(alloc, whole_edits)?;
+    )
+}
+
+/// Takes the figures of the files of a level of what the manifests' edits make.
+fn measure_levels(
+    clock: &impl Clock,
+    alloc: Global,
+    both: [&Manifests; 2],
+    figures: &mut Figures,
+) -> Result<()> {
+    let [tenths, whole] = both;
+    let tenths_versions = versions_of(alloc, tenths)?;
+    let whole_versions = versions_of(alloc, whole)?;
     figures.take_in_turn(
         clock,
         [
@@ -194,6 +222,12 @@ fn measure_versions(
         |_| Ok(()),
         |turn, _| order_all(alloc, turn.on),
     )
+}
+
+/// The versions that the edits of manifests make of empty ones.
+fn versions_of(alloc: Global, manifests: &Manifests) -> Result<Vec<Version>> {
+    let (_, versions) = applied_all(alloc, edits_of_each(alloc, &manifests.all)?)?;
+    Ok(versions)
 }
 
 /// Reads the records of each manifest.

@@ -32,16 +32,41 @@ pub fn measure(
     let (values, _) = values.as_chunks::<VALUE_LEN>();
     for (number, merge, pass) in NUMBERS {
         let written = dealt(alloc, values, number)?;
-        let tables = sound(alloc, &written)?;
-        let work = |call| Work {
-            call,
-            bytes: 0,
-            entries: values.len(),
-        };
-        figures.take(clock, work(merge), || merged(alloc, &tables, values.len()))?;
-        figures.take(clock, work(pass), || passed(alloc, &tables, values.len()))?;
+        measure_dealt(clock, alloc, &written, values.len(), [merge, pass], figures)?;
     }
     Ok(())
+}
+
+/// Takes the figures of so many entries that were dealt out to these tables.
+fn measure_dealt(
+    clock: &impl Clock,
+    alloc: Global,
+    written: &[Vec<u8>],
+    entries: usize,
+    calls: [Call; 2],
+    figures: &mut Figures,
+) -> Result<()> {
+    let tables = sound(alloc, written)?;
+    measure_sound(clock, alloc, &tables, entries, calls, figures)
+}
+
+/// The same, where the tables are checked.
+fn measure_sound(
+    clock: &impl Clock,
+    alloc: Global,
+    tables: &[SoundTable<'_, Bytewise>],
+    entries: usize,
+    calls: [Call; 2],
+    figures: &mut Figures,
+) -> Result<()> {
+    let [merge, pass] = calls;
+    let work = |call| Work {
+        call,
+        bytes: 0,
+        entries,
+    };
+    figures.take(clock, work(merge), || merged(alloc, tables, entries))?;
+    figures.take(clock, work(pass), || passed(alloc, tables, entries))
 }
 
 /// At most so many tables, whose entries have rising keys and these values, each dealt out by the first byte of its value. A table

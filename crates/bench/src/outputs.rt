@@ -24,21 +24,36 @@ pub fn measure(
     figures: &mut Figures,
 ) -> Result<()> {
     let plan = planned(alloc, runs)?;
-    let bytes = table_bytes(&plan);
-    let over = |call| Work {
-        call,
-        bytes,
+    let work = Work {
+        call: Call::Plan,
+        bytes: table_bytes(&plan),
         entries,
     };
-    figures.take_made(clock, over(Call::Plan), || {
+    figures.take_made(clock, work, || {
         let plan = planned(alloc, runs)?;
         Ok((low_bits(plan.len()), plan))
     })?;
+    measure_planned(clock, alloc, &plan, entries, figures)
+}
+
+/// Takes the figures of the outputs of a plan of so many entries.
+fn measure_planned(
+    clock: &impl Clock,
+    alloc: Global,
+    plan: &Plan<'_, '_, Bytewise>,
+    entries: usize,
+    figures: &mut Figures,
+) -> Result<()> {
+    let over = |call| Work {
+        call,
+        bytes: table_bytes(plan),
+        entries,
+    };
     figures.take_made(clock, over(Call::Encode), || {
-        let pieces = pieces_of(alloc, &plan)?;
+        let pieces = pieces_of(alloc, plan)?;
         Ok((folded(&pieces), pieces))
     })?;
-    figures.take_told(over(Call::Assemble), || assembled(clock, alloc, &plan))
+    figures.take_told(over(Call::Assemble), || assembled(clock, alloc, plan))
 }
 
 /// The plan of the outputs of runs.

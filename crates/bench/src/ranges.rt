@@ -28,9 +28,20 @@ pub fn measure(
     let (values, _) = bytes.split_at(bytes.len() / ENTRY_LEN * VALUE_LEN);
     let (values, _) = values.as_chunks::<VALUE_LEN>();
     let written = dealt(alloc, values, CURSORS)?;
-    let tables = sound(alloc, &written)?;
-    let run = measure_merging(clock, alloc, &tables, values.len(), figures)?;
-    outputs::measure(clock, alloc, &[run], values.len(), figures)
+    measure_dealt(clock, alloc, &written, values.len(), figures)
+}
+
+/// The same, where so many entries were dealt out to these tables.
+fn measure_dealt(
+    clock: &impl Clock,
+    alloc: Global,
+    written: &[Vec<u8>],
+    entries: usize,
+    figures: &mut Figures,
+) -> Result<()> {
+    let tables = sound(alloc, written)?;
+    let run = measure_merging(clock, alloc, &tables, entries, figures)?;
+    outputs::measure(clock, alloc, &[run], entries, figures)
 }
 
 /// Takes the figure of merging so many entries of tables in one range, and gives the range's run.
@@ -43,13 +54,26 @@ fn measure_merging<'a>(
 ) -> Result<RangeRun<'a>> {
     let split = Split::<Bytewise>::from_keys(Vec::new(alloc))?;
     let inputs = no_files(alloc)?;
+    measure_range(clock, alloc, tables, &split, &inputs, entries, figures)
+}
+
+/// The same, in the range of a split, beside no other files.
+fn measure_range<'a>(
+    clock: &impl Clock,
+    alloc: Global,
+    tables: &[SoundTable<'a, Bytewise>],
+    split: &Split<Bytewise>,
+    inputs: &Inputs,
+    entries: usize,
+    figures: &mut Figures,
+) -> Result<RangeRun<'a>> {
     let work = Work {
         call: Call::MergeRange,
         bytes: entries.saturating_mul(ENTRY_LEN),
         entries,
     };
-    figures.take_made(clock, work, || merged(alloc, tables, &split, &inputs))?;
-    let (_, run) = merged(alloc, tables, &split, &inputs)?;
+    figures.take_made(clock, work, || merged(alloc, tables, split, inputs))?;
+    let (_, run) = merged(alloc, tables, split, inputs)?;
     Ok(run)
 }
 

@@ -28,24 +28,81 @@ pub fn measure(
 ) -> Result<()> {
     let (values, _) = bytes.split_at(bytes.len() / ENTRY_LEN * VALUE_LEN);
     let table = written(alloc, values)?;
-    let over = |call| Work {
-        call,
+    measure_read(clock, alloc, &table, values.len() / VALUE_LEN, figures)?;
+    measure_written(clock, alloc, values, table.len(), figures)
+}
+
+/// Takes the figures of a table of so many entries that is checked, walked over and searched.
+fn measure_read(
+    clock: &impl Clock,
+    alloc: Global,
+    table: &[u8],
+    entries: usize,
+    figures: &mut Figures,
+) -> Result<()> {
+    let work = Work {
+        call: Call::TableCheck,
         bytes: table.len(),
-        entries: values.len() / VALUE_LEN,
+        entries,
     };
-    figures.take(clock, over(Call::TableCheck), || {
-        let sound = check::<Bytewise>(alloc, &table)?;
-        Ok(last_of(sound.largest().bytes()))
-    })?;
-    let sound = check::<Bytewise>(alloc, &table)?;
-    figures.take(clock, over(Call::TableCursor), || walk(alloc, &sound))?;
-    let keys = spread(alloc, values.len() / VALUE_LEN)?;
-    let seeks = Work {
+    figures.take(clock, work, || checked(alloc, table))?;
+    let sound = check::<Bytewise>(alloc, table)?;
+    measure_walk(clock, alloc, &sound, entries, figures)?;
+    measure_seeks(clock, alloc, &sound, entries, figures)
+}
+
+/// Checks a table, and gives the last byte of its largest key.
+fn checked(alloc: Global, table: &[u8]) -> Result<u32> {
+    let sound = check::<Bytewise>(alloc, table)?;
+    Ok(last_of(sound.largest().bytes()))
+}
+
+/// Takes the figure of a walk over a table of so many entries.
+fn measure_walk(
+    clock: &impl Clock,
+    alloc: Global,
+    table: &SoundTable<'_, Bytewise>,
+    entries: usize,
+    figures: &mut Figures,
+) -> Result<()> {
+    let work = Work {
+        call: Call::TableCursor,
+        bytes: table.bytes().len(),
+        entries,
+    };
+    figures.take(clock, work, || walk(alloc, table))
+}
+
+/// Takes the figure of seeks in a table of so many entries.
+fn measure_seeks(
+    clock: &impl Clock,
+    alloc: Global,
+    table: &SoundTable<'_, Bytewise>,
+    entries: usize,
+    figures: &mut Figures,
+) -> Result<()> {
+    let keys = spread(alloc, entries)?;
+    let work = Work {
         call: Call::TableSeek,
         bytes: 0,
         entries: keys.len(),
     };
-    figures.take(clock, seeks, || seek(alloc, &sound, &keys))?;
+    figures.take(clock, work, || seek(alloc, table, &keys))
+}
+
+/// Takes the figures of writing entries of these values: as one table, so many bytes long, and as files.
+fn measure_written(
+    clock: &impl Clock,
+    alloc: Global,
+    values: &[u8],
+    bytes: usize,
+    figures: &mut Figures,
+) -> Result<()> {
+    let over = |call| Work {
+        call,
+        bytes,
+        entries: values.len() / VALUE_LEN,
+    };
     figures.take_made(clock, over(Call::TableBuilder), || {
         let table = written(alloc, values)?;
         Ok((last_of(&table), table))
@@ -75,12 +132,18 @@ fn write_files(alloc: Global, values: &[u8]) -> Result<u32> {
     let (values, _) = values.as_chunks::<VALUE_LEN>();
     for (i, value) in values.iter().enumerate() {
         if builder.flushed() >= file_size {
-            let table = mem::replace(&mut builder, begun(alloc, file_size)?).finish()?;
-            folded = folded.wrapping_add(last_of(&table));
+            let next = begun(alloc, file_size)?;
+            folded = folded.wrapping_add(ended(&mut builder, next)?);
         }
         add(&mut builder, i, value)?;
     }
     Ok(folded.wrapping_add(last_of(&builder.finish()?)))
+}
+
+/// Ends a table and puts the next one in its place, and gives the last byte of the one that ended.
+fn ended(builder: &mut TableBuilder<Bytewise>, next: TableBuilder<Bytewise>) -> Result<u32> {
+    let table = mem::replace(builder, next).finish()?;
+    Ok(last_of(&table))
 }
 
 /// A table without entries, which may become as long as the file size.

@@ -8,39 +8,14 @@ use Rattle.byteorder.specs.Endian.{little_bytes}
 use Rattle.block.specs.Piece.{Piece, piece_bytes, restarts_from, restarts_of, IsPieceAfter, ArePieces, BeginsWithRestart, AreOfBlock}
 use Rattle.block.specs.Kept.{IsArea}
 use Rattle.block.specs.Parts.{BeginsWith}
+use Rattle.block.specs.Passing.{key_len_after, Below, Read, Ahead, Kept, IsNextPiece}
 use Rattle.block.specs.Reading.{Field, piece_at}
 use Rattle.block.proofs.Pieces.{plain, Widths, Widths-of, reads_piece, piece_at_front, piece_at-nil, length-piece_bytes_pos}
 use Rattle.block.proofs.Restarts.{words, length-words, same_word}
 
--- the length of the last key, after a key of so many bytes
-abbrev pub key_len_after : ℕ → List Piece → ℕ
-key_len_after before [] = before
-key_len_after before (p ∷ ps) = key_len_after (p.shared + length p.unshared) ps
-
 -- a piece at which a restart points, or none
 abbrev pub marked : Bool → Piece → Piece
 marked b p = record { is_restart = b; shared = p.shared; unshared = p.unshared; value = p.value }
-
-abbrev pub Below : ℕ → List ℕ → Type 0
-Below limit xs = AllByRecursion (λ x. x < limit) xs
-
--- What was read so far are lawful pieces with their restarts.
-pub record Read (area restarts rest pending : List ℕ) (key_len : ℕ) : Type 0 where
-  pub done : List Piece
-  pub pieces : ArePieces 0 done
-  pub whole : area ≡ flat_map piece_bytes done ++ rest
-  pub passed : restarts ≡ words (restarts_from 0 done) ++ pending
-  pub last : key_len ≡ key_len_after 0 done
-  pub fit : Below (2 ^ 32) (restarts_from 0 done)
-  pub first : BeginsWithRestart done
-
--- What is still to be read, where all of it is of a block.
-pub record Ahead (rest pending : List ℕ) (key_len at : ℕ) : Type 0 where
-  pub more : List Piece
-  pub pieces : ArePieces key_len more
-  pub whole : rest ≡ flat_map piece_bytes more
-  pub to_pass : pending ≡ words (restarts_from at more)
-  pub fit : Below (2 ^ 32) (restarts_from at more)
 
 -- ---- restarts
 
@@ -255,11 +230,6 @@ ahead_shared rest pending key_len at x some e a =
 
 -- ---- one pass
 
--- what one pass keeps: what it read is lawful, and what is left is of a block where all of it is
-pub record Kept (area restarts rest pending : List ℕ) (key_len : ℕ) : Type 0 where
-  pub so_far : Read area restarts rest pending key_len
-  pub ahead : IsArea area restarts → Ahead rest pending key_len (length area - length rest)
-
 some_read : (rest : List ℕ) (x : Field Piece) → piece_at rest ≡ Some x → rest ≢ []
 some_read rest x e n = none-some x (sym (ap piece_at n ∙ piece_at-nil) ∙ e)
 
@@ -270,7 +240,7 @@ shorter rest x e = let r = reads_piece rest x e in omega (arith, ap length r.par
 moved : (area rest : List ℕ) (x : Field Piece) → length rest ≤ length area → piece_at rest ≡ Some x → length area - length rest + length (piece_bytes x.field) ≡ length area - length x.rest
 moved area rest x le e = let r = reads_piece rest x e in omega (arith, ap length r.parts, length-append (piece_bytes x.field) x.rest)
 
-within : (area restarts rest pending : List ℕ) (key_len : ℕ) → Read area restarts rest pending key_len → length rest ≤ length area
+pub within : (area restarts rest pending : List ℕ) (key_len : ℕ) → Read area restarts rest pending key_len → length rest ≤ length area
 within area restarts rest pending key_len r = omega (arith, ap length r.whole, length-append (flat_map piece_bytes r.done) rest)
 
 pub kept_none : (area restarts : List ℕ) → area ≢ [] → Kept area restarts area restarts 0
@@ -337,3 +307,21 @@ begins_with_zero area restarts h = of_pieces h.0 h.1 h.3
     of_pieces : (ps : List Piece) → AreOfBlock ps → restarts ≡ words (restarts_of ps) → BeginsWith restarts 0
     of_pieces [] a f = ([], f)
     of_pieces (p ∷ ps) a f = (words (restarts_from (0 + length (piece_bytes p)) ps), f ∙ ap (λ (b : Bool). words (cond b (0 ∷ []) [] ++ restarts_from (0 + length (piece_bytes p)) ps)) a.first)
+
+-- ---- one step of the pass
+
+pub next_marked : (area rest pending others : List ℕ) (key_len : ℕ) (x : Field Piece) → piece_at rest ≡ Some x → x.field.shared ≤ key_len → length area - length rest < 2 ^ 32 → pending ≡ little_bytes 4 (length area - length rest) ++ others → x.field.shared ≡ 0
+    → IsNextPiece area rest pending key_len x others
+next_marked area rest pending others key_len x e enough lt begins none = record {
+  read = e;
+  shared = enough;
+  kept = λ restarts first k. kept_marked area restarts rest pending others key_len x k e lt begins none;
+}
+
+pub next_plain : (area rest pending : List ℕ) (key_len : ℕ) (x : Field Piece) → piece_at rest ≡ Some x → x.field.shared ≤ key_len → ((length area - length rest < 2 ^ 32) × BeginsWith pending (length area - length rest) → ⊥)
+    → IsNextPiece area rest pending key_len x pending
+next_plain area rest pending key_len x e enough none = record {
+  read = e;
+  shared = enough;
+  kept = λ restarts first k. kept_plain area restarts rest pending key_len x k e first none enough;
+}

@@ -9,3 +9,4 @@ pub mod Written
 pub mod Built
 pub mod Sizes
 pub mod BlockReadings
+pub mod CheckingSteps

@@ -5,9 +5,12 @@ pub mod Building
 pub mod Reading
 pub mod Sound
 pub mod ReadingBlocks
+pub mod Checking
 -- serves proofs alone
 pub mod Behind
 pub mod Kept
 pub mod Parts
 pub mod Front
 pub mod Walking
+pub mod Passing
+pub mod CheckingWalk

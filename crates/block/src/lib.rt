@@ -7,12 +7,14 @@ ghost use Rattle.block.specs.ReadingBlocks.{ReadsBlocks};
 ghost use Rattle.block.specs.Writing.{block};
 
 mod builder;
+mod checking_cursor;
 mod cursor;
 mod front;
 mod piece;
 mod sound_block;
 
 pub use builder::BlockBuilder;
+pub use checking_cursor::CheckingCursor;
 pub use cursor::BlockCursor;
 pub use sound_block::{SoundBlock, check, reopen};
 

@@ -1,6 +1,6 @@
 //! Which bytes are a block.
 
-ghost use Rattle.std.specs.Prelude.{◌≡◌, ◌<◌, ◌^◌, ◌↔◌, [], length, drop, slice_get, slice_index, Some, IsTrue, IfSome, IfNone, IfOk, IsOkAnd, IfErr, List, ℕ};
+ghost use Rattle.std.specs.Prelude.{◌≡◌, ◌≢◌, ◌<◌, ◌≤◌, ◌^◌, ◌↔◌, [], length, drop, slice_get, slice_index, Some, IsTrue, IfSome, IfNone, IfOk, IsOkAnd, IfErr, List, ℕ};
 ghost use Rattle.std.specs.List.{All};
 ghost use Rattle.std.specs.Option.{option_map};
 ghost use Rattle.std.specs.List.Sorted.{IsStrictlyIncreasing};
@@ -8,10 +8,13 @@ ghost use Rattle.block.specs.Piece.{Entry, IsBlock};
 ghost use Rattle.block.specs.Kept.{IsArea};
 ghost use Rattle.block.specs.Behind.{entries_behind, ArePiecesBehind};
 ghost use Rattle.block.specs.Sound.{PointsAt};
+ghost use Rattle.block.specs.Front.{front_field};
 ghost use Rattle.block.specs.Parts.{BeginsWith, IsSplit};
+ghost use Rattle.block.specs.Passing.{IsNextPiece, Kept};
 ghost use Rattle.coding.specs.Answers.{fault};
 ghost use Rattle.coding.specs.declared.fault.FaultName.TheVariants.{Block};
 
+use crate::front::FrontPiece;
 use crate::piece::piece_at;
 use byteorder::{ByteOrder, LittleEndian};
 use coding::{Fault, FaultName};
@@ -148,13 +151,13 @@ pub fn reopen(bytes: &[u8]) -> SoundBlock<'_>
 
 /// The two parts of a block before the number of its restarts.
 #[derive(Clone, Copy)]
-struct Parts<'a> {
-    area: &'a [u8],
-    restarts: &'a [u8],
+pub(crate) struct Parts<'a> {
+    pub area: &'a [u8],
+    pub restarts: &'a [u8],
 }
 
 /// Takes the number of restarts off the end, and the restarts before it.
-fn split(bytes: &[u8]) -> Option<Parts<'_>>
+pub(crate) fn split(bytes: &[u8]) -> Option<Parts<'_>>
     ensures found { IfSome result (λ parts. IsSplit bytes.now parts.area.now parts.restarts.now) }
     ensures none { IfNone result ((area restarts : List ℕ) → IsSplit bytes.now area restarts → ⊥) }
 {
@@ -177,10 +180,11 @@ fn is_next(pending: &[u8], at: usize) -> bool
     pending.len() >= RESTART_LEN && LittleEndian::read_u32(pending) as usize == at
 }
 
-/// Whether the bytes before the restarts are pieces, and the restarts offsets of pieces that share nothing.
-fn are_pieces(area: &[u8], restarts: &[u8]) -> bool
-    requires { length restarts.now < 2 ^ 34 }
-    ensures { IsTrue result ↔ IsArea area.now restarts.now }
+/// Whether the restarts begin with 0, and are no more where there are no pieces.
+pub(crate) fn are_begun(area: &[u8], restarts: &[u8]) -> bool
+    ensures begins { IsTrue result → BeginsWith restarts.now 0 }
+    ensures nothing { IsTrue result → area.now ≡ [] → IsArea area.now restarts.now }
+    ensures only { IsArea area.now restarts.now → IsTrue result }
 {
     if !is_next(restarts, 0) {
         return false;
@@ -188,25 +192,70 @@ fn are_pieces(area: &[u8], restarts: &[u8]) -> bool
     if area.is_empty() {
         return restarts.len() == RESTART_LEN;
     }
+    true
+}
+
+/// A piece that stands next, and the restarts behind it.
+#[derive(Clone, Copy)]
+pub(crate) struct NextPiece<'a> {
+    pub piece: FrontPiece<'a>,
+    pub pending: &'a [u8],
+}
+
+/// The piece at the front of what is left before the restarts, where it shares no more than the key before it has, and
+/// nothing where the next restart points at it.
+#[inline]
+pub(crate) fn next_piece<'a>(
+    area: &[u8],
+    rest: &'a [u8],
+    pending: &'a [u8],
+    key_len: usize,
+) -> Option<NextPiece<'a>>
+    requires { length rest.now ≤ length area.now }
+    ensures next { IfSome result (λ next.
+        IsNextPiece area.now rest.now pending.now key_len (front_field next.piece) next.pending.now) }
+    ensures none { IfNone result ((restarts : List ℕ) → rest.now ≢ [] → Kept area.now restarts rest.now pending.now key_len
+        → IsArea area.now restarts → ⊥) }
+{
+    let at = area.len() - rest.len();
+    let Some(piece) = piece_at(rest) else {
+        return None;
+    };
+    if piece.shared > key_len {
+        return None;
+    }
+    if !is_next(pending, at) {
+        return Some(NextPiece { piece, pending });
+    }
+    if piece.shared != 0 {
+        return None;
+    }
+    let (_, pending) = pending.split_at(RESTART_LEN);
+    Some(NextPiece { piece, pending })
+}
+
+/// Whether the bytes before the restarts are pieces, and the restarts offsets of pieces that share nothing.
+fn are_pieces(area: &[u8], restarts: &[u8]) -> bool
+    requires { length restarts.now < 2 ^ 34 }
+    ensures { IsTrue result ↔ IsArea area.now restarts.now }
+{
+    if !are_begun(area, restarts) {
+        return false;
+    }
+    if area.is_empty() {
+        return true;
+    }
     let mut rest = area;
     let mut pending = restarts;
     let mut key_len = 0;
     while !rest.is_empty() {
-        let at = area.len() - rest.len();
-        let Some(piece) = piece_at(rest) else {
+        let Some(next) = next_piece(area, rest, pending, key_len) else {
             return false;
         };
-        if piece.shared > key_len {
-            return false;
-        }
-        if is_next(pending, at) {
-            if piece.shared != 0 {
-                return false;
-            }
-            (_, pending) = pending.split_at(RESTART_LEN);
-        }
+        let piece = next.piece;
         key_len = piece.shared + piece.unshared.len();
         rest = piece.rest;
+        pending = next.pending;
     }
     pending.is_empty()
 }

@@ -1,4 +1,4 @@
-use block::{BlockBuilder, BlockCursor, SoundBlock, check, reads_back, reopen};
+use block::{BlockBuilder, BlockCursor, CheckingCursor, SoundBlock, check, reads_back, reopen};
 use coding::{Fault, FaultName};
 use std::alloc::Global;
 use std::process::Abort;
@@ -184,6 +184,85 @@ fn the_last_entry_is_known(rt: HostRuntime) -> Result<(), Fail> {
     Ok(())
 }
 
+/// Goes to bytes that are a block of these entries, and tests that it has these and no more, and that it stays where it is
+/// where a growth is refused.
+fn tests<'a>(
+    rt: &impl Abort,
+    cursor: &mut CheckingCursor<'a>,
+    bytes: &'a [u8],
+    entries: &[([u8; 9], u8)],
+) -> Result<(), Fail> {
+    if let Err(refused) = cursor.enter(bytes) {
+        assert_eq!(rt; refused, Fault::of(FaultName::Memory));
+        cursor.enter(bytes)?;
+    }
+    for (key, value) in entries {
+        assert!(rt; cursor.valid());
+        assert_eq!(rt; cursor.key(), key.as_slice());
+        assert_eq!(rt; cursor.value(), [*value].as_slice());
+        if let Err(refused) = cursor.advance() {
+            assert_eq!(rt; refused, Fault::of(FaultName::Memory));
+            assert!(rt; cursor.valid());
+            assert_eq!(rt; cursor.key(), key.as_slice());
+            cursor.advance()?;
+        }
+    }
+    assert!(rt; !cursor.valid());
+    Ok(())
+}
+
+#[test]
+fn blocks_are_tested_on_the_way(rt: HostRuntime) -> Result<(), Fail> {
+    let mut cursor = CheckingCursor::none(rt.alloc());
+    assert!(rt; !cursor.valid());
+    tests(&rt, &mut cursor, WORKED[1], &ENTRIES)?;
+    tests(&rt, &mut cursor, WORKED[2], &[])?;
+    tests(&rt, &mut cursor, WORKED[0], &ENTRIES)
+}
+
+// The second entry shares two bytes, and the key before it has one.
+#[test]
+fn a_refused_step_leaves_the_cursor(rt: HostRuntime) -> Result<(), Fail> {
+    let bytes = block_of(rt.alloc(), &[0, 1, 0, 0x61, 2, 0, 0], &[0], 1)?;
+    let mut cursor = CheckingCursor::none(rt.alloc());
+    cursor.enter(&bytes)?;
+    for _ in 0..2 {
+        assert!(rt; cursor.valid());
+        assert_eq!(rt; cursor.key(), b"a".as_slice());
+        match cursor.advance() {
+            Ok(()) => assert!(rt; false),
+            Err(refused) => assert_eq!(rt; refused, Fault::of(FaultName::Block)),
+        }
+    }
+    Ok(())
+}
+
+/// Walks over bytes, and says whether it came to the end of a block.
+fn walk(alloc: Global, bytes: &[u8]) -> Result<bool, Fault> {
+    let mut cursor = CheckingCursor::none(alloc);
+    cursor.enter(bytes)?;
+    // An entry has three bytes or more.
+    for _ in 0..bytes.len() {
+        if cursor.valid() {
+            cursor.advance()?;
+        }
+    }
+    Ok(!cursor.valid())
+}
+
+fn is_walked(rt: &impl Abort, alloc: Global, bytes: &[u8]) -> bool {
+    match walk(alloc, bytes) {
+        Ok(ended) => {
+            assert!(rt; ended);
+            true
+        }
+        Err(refused) => {
+            assert_eq!(rt; refused, Fault::of(FaultName::Block));
+            false
+        }
+    }
+}
+
 fn is_refused(rt: &impl Abort, bytes: &[u8]) {
     match check(bytes) {
         Ok(_) => assert!(rt; false),
@@ -221,7 +300,9 @@ fn what_is_no_block(rt: HostRuntime) -> Result<(), Fail> {
         (&[], [0, 0].as_slice(), 2),
     ];
     for (area, restarts, count) in rows {
-        is_refused(&rt, &block_of(rt.alloc(), area, restarts, count)?);
+        let bytes = block_of(rt.alloc(), area, restarts, count)?;
+        is_refused(&rt, &bytes);
+        assert!(rt; !is_walked(&rt, rt.alloc(), &bytes));
     }
     Ok(())
 }
@@ -252,9 +333,11 @@ fn is_read(rt: &impl Abort, alloc: Global, bytes: &[u8]) -> Result<bool, Fail> {
 fn each_beginning_is_refused_or_read(rt: HostRuntime) -> Result<(), Fail> {
     for block in WORKED {
         for end in 0..block.len() {
-            let _read = is_read(&rt, rt.alloc(), &block[..end])?;
+            let read = is_read(&rt, rt.alloc(), &block[..end])?;
+            assert_eq!(rt; is_walked(&rt, rt.alloc(), &block[..end]), read);
         }
         assert!(rt; is_read(&rt, rt.alloc(), block)?);
+        assert!(rt; is_walked(&rt, rt.alloc(), block));
     }
     Ok(())
 }
@@ -267,7 +350,8 @@ fn each_changed_byte_is_refused_or_read(rt: HostRuntime) -> Result<(), Fail> {
                 let mut changed = Vec::new(rt.alloc());
                 changed.extend_from_slice(block)?;
                 changed[at] = value;
-                let _read = is_read(&rt, rt.alloc(), &changed)?;
+                let read = is_read(&rt, rt.alloc(), &changed)?;
+                assert_eq!(rt; is_walked(&rt, rt.alloc(), &changed), read);
             }
         }
     }

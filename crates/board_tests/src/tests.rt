@@ -365,6 +365,12 @@ fn workers_are_from_1_to_64(rt: HostRuntime) -> Result<(), Fail> {
     let alloc = rt.alloc();
     assert!(rt; gives(&run(&rt, alloc, &WILLING, 0, 3, &Open), &[]));
     assert!(rt; gives(&run(&rt, alloc, &WILLING, 5, 64, &Open), &[0, 1, 2, 3, 4]));
+    assert!(rt;
+        gives(
+            &run(&rt, alloc, &WILLING, 7, 3, &Open),
+            &[0, 1, 2, 3, 4, 5, 6]
+        )
+    );
     assert!(rt; fails(&run(&rt, alloc, &WILLING, 5, 65, &Open), RunFault::Workers));
     assert!(rt; fails(&run(&rt, alloc, &WILLING, 5, 0, &Open), RunFault::Workers));
     Ok(())

@@ -18,7 +18,7 @@ use Rattle.merge.specs.Union.{VersionsRise}
 use Rattle.split.specs.Boundaries.{IsSplit}
 use Rattle.keep.specs.Runs.{Run, are_distinct, joined_run, runs_of, DistinctLaw}
 use Rattle.cut.specs.Outputs.{outputs, outputs_of, RangesCutLaw}
-use Rattle.request.specs.Request.{Asked, below_asked, request_test}
+use Rattle.request.specs.Request.{RequestView, below_request, request_test}
 use Rattle.request.specs.Inputs.{inputs_reading, union_reading}
 use Rattle.request.specs.OneThread.{Answer, one_thread}
 use Rattle.compact.specs.Runs.{by_workers, runs_reading}
@@ -60,10 +60,10 @@ same_ok a b h = cc
 
 -- ---- a request
 
-module _ (cmp : List ℕ → List ℕ → Ordering) (separator_of : List ℕ → List ℕ → List ℕ) (successor_of : List ℕ → List ℕ) (r : Asked) where
+module _ (cmp : List ℕ → List ℕ → Ordering) (separator_of : List ℕ → List ℕ → List ℕ) (successor_of : List ℕ → List ℕ) (r : RequestView) where
   -- what one thread goes on with from the union of the inputs
   abbrev ending : List Entry → Result Answer Fault
-  ending union = written_of (table cmp separator_of successor_of r.options) r (outputs cmp (below_asked r) r.options union)
+  ending union = written_of (table cmp separator_of successor_of r.options) r (outputs cmp (below_request r) r.options union)
 
   pub refused_test : (e : Fault) → request_test cmp r ≡ Err e → one_thread cmp separator_of successor_of r ≡ Err e
   refused_test e h = ap (λ (t : Result (Unit {0}) Fault). t >>= λ _. (inputs_reading cmp 0 r.picked.files r.tables >>= λ lists. (union_reading cmp lists >>= ending))) h
@@ -82,7 +82,7 @@ module _ (cmp : List ℕ → List ℕ → Ordering) (separator_of : List ℕ →
   module _ (inputs : List (List Entry)) (workers : ℕ) (some : 1 ≤ workers) (limited : workers ≤ 64) (tested : request_test cmp r ≡ Ok tt) (read : inputs_reading cmp 0 r.picked.files r.tables ≡ Ok inputs)
       (boundaries : List (List ℕ)) where
     abbrev all_runs : Result (List Run) Fault
-    all_runs = runs_reading cmp (below_asked r) boundaries inputs
+    all_runs = runs_reading cmp (below_request r) boundaries inputs
 
     runs_are : by_workers workers all_runs ≡ all_runs
     runs_are = within workers all_runs (within_limits workers some limited)
@@ -91,19 +91,19 @@ module _ (cmp : List ℕ → List ℕ → Ordering) (separator_of : List ℕ →
     pub whole_answer : DistinctLaw cmp → RangesCutLaw cmp → IsSplit cmp boundaries → (runs : List Run) → by_workers workers all_runs ≡ Ok runs
         → one_thread cmp separator_of successor_of r ≡ written_of (table cmp separator_of successor_of r.options) r (outputs_of r.picked.grandparents r.options (joined_run runs))
     whole_answer distinct cut split runs h =
-        let step = taken (union_reading cmp inputs) (λ union. Ok (runs_of cmp (below_asked r) boundaries union)) runs (sym runs_are ∙ h) in
+        let step = taken (union_reading cmp inputs) (λ union. Ok (runs_of cmp (below_request r) boundaries union)) runs (sym runs_are ∙ h) in
         let union : List Entry = step.value in
         let both = united (are_distinct (merged cmp inputs)) (merged cmp inputs) union step.is in
         let rising : VersionsRise cmp union = ((distinct inputs union).1 (both.1, both.0)).rising in
-        let runs_is : runs_of cmp (below_asked r) boundaries union ≡ runs = same_ok (runs_of cmp (below_asked r) boundaries union) runs step.goes_on in
+        let runs_is : runs_of cmp (below_request r) boundaries union ≡ runs = same_ok (runs_of cmp (below_request r) boundaries union) runs step.goes_on in
         thread_is inputs tested read ∙ ap (λ (u : Result (List Entry) Fault). u >>= ending) step.is
         ∙ ap (λ (os : List (List Entry)). written_of (table cmp separator_of successor_of r.options) r os)
-        (sym (ap (λ (rs : List Run). outputs_of r.picked.grandparents r.options (joined_run rs)) (sym runs_is) ∙ cut (below_asked r) r.options boundaries union split rising))
+        (sym (ap (λ (rs : List Run). outputs_of r.picked.grandparents r.options (joined_run rs)) (sym runs_is) ∙ cut (below_request r) r.options boundaries union split rising))
 
     pub refused_answer : (e : Fault) → FailsOrMemory e (by_workers workers all_runs) → FailsOrMemory e (one_thread cmp separator_of successor_of r)
     refused_answer e h =
         subst (FailsOrMemory e) (sym (thread_is inputs tested read))
-        (fails_on (union_reading cmp inputs) (runs_of cmp (below_asked r) boundaries) ending e (subst (FailsOrMemory e) runs_are h))
+        (fails_on (union_reading cmp inputs) (runs_of cmp (below_request r) boundaries) ending e (subst (FailsOrMemory e) runs_are h))
 
 -- ---- before one thread
 

@@ -10,7 +10,7 @@ ghost use Rattle.pick.specs.Picked.{picked_in};
 ghost use Rattle.cut.specs.Outputs.{outputs_of};
 ghost use Rattle.request.specs.Inputs.{inputs_reading};
 ghost use Rattle.request.specs.OneThread.{compacted, one_thread};
-ghost use Rattle.request.specs.Request.{asked, has_levels, request_test};
+ghost use Rattle.request.specs.Request.{has_levels, request_in, request_test};
 ghost use Rattle.survival.specs.Survive.{LeavesReads};
 ghost use Rattle.compact.specs.Answered.{answer_in, written_of};
 
@@ -49,8 +49,8 @@ pub fn compact<'a, C: SharedComparator + 'static, G: Gate + Sync, R: Threads + S
     workers: u64,
     gate: &G,
 ) -> Result<Outcome, Fault>
-    ensures same { EqualOrMemory answer_in result (compacted C.cmp C.separator_of C.successor_of workers (asked request.now)) }
-    ensures reads { IfOk result (λ outcome. LeavesReads C.cmp (asked request.now) (answer_in outcome)) }
+    ensures same { EqualOrMemory answer_in result (compacted C.cmp C.separator_of C.successor_of workers (request_in request.now)) }
+    ensures reads { IfOk result (λ outcome. LeavesReads C.cmp (request_in request.now) (answer_in outcome)) }
 {
     reads_survive::<C>();
     passed_law::<C>();
@@ -78,8 +78,8 @@ pub fn compact_tables<'t, C: SharedComparator + 'static, G: Gate + Sync, R: Thre
 ) -> Result<Outcome, Fault>
     requires read { inputs_reading C.cmp 0 request.now.picked.now.files.items (map (λ t. t.now) request.now.tables.now)
         ≡ Ok (map (λ t. t.entries) tables.now) }
-    ensures same { EqualOrMemory answer_in result (compacted C.cmp C.separator_of C.successor_of workers (asked request.now)) }
-    ensures reads { IfOk result (λ outcome. LeavesReads C.cmp (asked request.now) (answer_in outcome)) }
+    ensures same { EqualOrMemory answer_in result (compacted C.cmp C.separator_of C.successor_of workers (request_in request.now)) }
+    ensures reads { IfOk result (λ outcome. LeavesReads C.cmp (request_in request.now) (answer_in outcome)) }
 {
     reads_survive::<C>();
     check_workers(workers)?;
@@ -99,10 +99,10 @@ fn compact_sound<'t, C: SharedComparator + 'static, G: Gate + Sync, R: Threads +
 ) -> Result<Outcome, Fault>
     requires some { 1 ≤ workers }
     requires limited { workers ≤ 64 }
-    requires tested { request_test C.cmp (asked request.now) ≡ Ok tt }
+    requires tested { request_test C.cmp (request_in request.now) ≡ Ok tt }
     requires read { inputs_reading C.cmp 0 request.now.picked.now.files.items (map (λ t. t.now) request.now.tables.now)
         ≡ Ok (map (λ t. t.entries) tables.now) }
-    ensures { EqualOrMemory answer_in result (one_thread C.cmp C.separator_of C.successor_of (asked request.now)) }
+    ensures { EqualOrMemory answer_in result (one_thread C.cmp C.separator_of C.successor_of (request_in request.now)) }
 {
     distinct_law::<C>();
     ranges_cut::<C>();
@@ -131,7 +131,7 @@ fn write_runs<'r, 'a, C: SharedComparator + 'static, G: Gate + Sync, R: Threads 
     requires limits { AreInLimits request.now.options }
     requires levels { has_levels (picked_in request.now.picked.now) ≡ true }
     ensures { EqualOrMemory answer_in result
-        (written_of (table C.cmp C.separator_of C.successor_of request.now.options) (asked request.now)
+        (written_of (table C.cmp C.separator_of C.successor_of request.now.options) (request_in request.now)
         (outputs_of request.now.picked.now.grandparents.items request.now.options (joined_run runs.now))) }
 {
     let grandparents = &request.picked.grandparents;

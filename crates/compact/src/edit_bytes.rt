@@ -7,7 +7,7 @@ ghost use Rattle.edit.specs.Edit.{edit_bytes};
 ghost use Rattle.cut.specs.OutputMeta.{IsMetaOf};
 ghost use Rattle.cut.specs.Plan.{Planned};
 ghost use Rattle.pick.specs.Picked.{picked_in};
-ghost use Rattle.request.specs.Request.{asked, has_levels};
+ghost use Rattle.request.specs.Request.{has_levels, request_in};
 ghost use Rattle.request.specs.EditOf.{edit_of, new_file};
 
 use coding::Fault;
@@ -57,7 +57,7 @@ pub(crate) fn edit_bytes<C: Comparator>(
 ) -> Result<Vec<u8>, Fault>
     requires fits { request.now.first_number + length plan.now.outputs < 2 ^ 64 }
     requires levels { has_levels (picked_in request.now.picked.now) ≡ true }
-    ensures { EqualOrMemory (λ v. v.items) result (Ok (edit_bytes (edit_of (asked request.now) plan.now.outputs))) }
+    ensures { EqualOrMemory (λ v. v.items) result (Ok (edit_bytes (edit_of (request_in request.now) plan.now.outputs))) }
 {
     let files = new_files(alloc, plan, request.picked.level + 1)?;
     let edit = request.edit(alloc, files)?;

@@ -83,8 +83,9 @@ impl<'r, 't, C: Comparator + 't + 'static> Labour for Merges<'r, 't, C> {
 /// Merges tables in the ranges of a split by 1 to 64 workers, a range a job, and answers the runs of the ranges in order.
 ///
 /// `listed` and `floor` say which sequences stay readable, as in `keep::merge_range`. For each range a worker makes cursors of
-/// its own over the tables that reach into it, and all share the tables. `Workers` where these are not from 1 to 64. `Duplicate` where the tables hold one user
-/// key and sequence twice, whichever range that lies in. Else refused for want of memory alone.
+/// its own over the tables that reach into it, and all share the tables. `Workers` where these are not from 1 to 64.
+/// `Duplicate` where the tables hold one user key and sequence twice, whichever range that lies in. Else refused for want of
+/// memory alone.
 pub fn merge_ranges<'t, C: SharedComparator + 'static, G: Gate + Sync, R: Threads + Sync>(
     rt: &R,
     alloc: Global,
@@ -184,7 +185,8 @@ fn misses<C: Comparator>(table: &SoundTable<'_, C>, range: Range<'_>) -> bool
 
 /// Whether a key's user key is before a bound; where there is no bound, what is said. Takes no memory.
 fn is_before<C: Comparator>(key: InternalKey<'_>, bound: Option<&[u8]>, otherwise: bool) -> bool
-    ensures { result ≡ option_map_or (λ limit. is_lt (C.cmp (user_of key.entry.bytes.now) limit)) (option_map (λ limit. limit.now) bound.entry) otherwise }
+    ensures { result ≡ option_map_or (λ limit. is_lt (C.cmp (user_of key.entry.bytes.now) limit))
+        (option_map (λ limit. limit.now) bound.entry) otherwise }
 {
     match bound {
         Some(limit) => C::compare(key.user(), limit).is_lt(),

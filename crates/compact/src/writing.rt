@@ -4,7 +4,7 @@ ghost use Rattle.std.specs.Prelude.{◌≡◌, ◌+◌, ◌<◌, ◌≤◌, ◌^
 ghost use Rattle.coding.specs.Answers.{EqualOrMemory};
 ghost use Rattle.table.specs.Table.{table};
 ghost use Rattle.pick.specs.Picked.{picked_in};
-ghost use Rattle.request.specs.Request.{asked, has_levels};
+ghost use Rattle.request.specs.Request.{has_levels, request_in};
 ghost use Rattle.compact.specs.Answered.{answer_in, answer_of};
 
 use crate::edit_bytes::edit_bytes;
@@ -34,7 +34,7 @@ pub(crate) fn write_plan<'p, C: SharedComparator + 'static, G: Gate + Sync, R: T
     requires fits { request.now.first_number + length plan.now.outputs < 2 ^ 64 }
     requires levels { has_levels (picked_in request.now.picked.now) ≡ true }
     ensures { EqualOrMemory answer_in result
-        (Ok (answer_of (table C.cmp C.separator_of C.successor_of plan.now.options) (asked request.now) plan.now.outputs)) }
+        (Ok (answer_of (table C.cmp C.separator_of C.successor_of plan.now.options) (request_in request.now) plan.now.outputs)) }
 {
     let pieces = encode_pieces(rt, alloc, plan, workers, gate)?;
     let edit = edit_bytes(alloc, request, plan)?;

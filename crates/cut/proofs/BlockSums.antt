@@ -8,19 +8,19 @@ use Rattle.block.specs.Piece.{Entry}
 use Rattle.pieces.specs.declared.planned_block.PlannedBlock.{PlannedBlock}
 use Rattle.cut.specs.declared.planned_output.PlannedOutput.{PlannedOutput}
 use Rattle.cut.specs.Metered.{ended}
-use Rattle.cut.specs.Opened.{parts_of, entries_of}
+use Rattle.cut.specs.Opened.{parts_of, entries_in_blocks}
 use Rattle.cut.specs.Plan.{Planned, ends_from}
 use Rattle.cut.specs.Planning.{planned_of}
 use Rattle.cut.specs.Sizes.{saturated}
 
 -- the entries of a block and those behind it
-pub count_here : (blocks : List PlannedBlock) (i : ℕ) (b : PlannedBlock) → i < length blocks → get_or blocks i b ≡ b → length (entries_of (drop i blocks)) ≡ length b.entries.entries + length (entries_of (drop (i + 1) blocks))
+pub count_here : (blocks : List PlannedBlock) (i : ℕ) (b : PlannedBlock) → i < length blocks → get_or blocks i b ≡ b → length (entries_in_blocks (drop i blocks)) ≡ length b.entries.entries + length (entries_in_blocks (drop (i + 1) blocks))
 count_here blocks i b lt is =
-    ap (λ (bs : List PlannedBlock). length (entries_of bs)) (drop_more blocks i b lt ∙ ap (λ (x : PlannedBlock). x ∷ drop (i + 1) blocks) is)
-    ∙ length-append b.entries.entries (entries_of (drop (i + 1) blocks))
+    ap (λ (bs : List PlannedBlock). length (entries_in_blocks bs)) (drop_more blocks i b lt ∙ ap (λ (x : PlannedBlock). x ∷ drop (i + 1) blocks) is)
+    ∙ length-append b.entries.entries (entries_in_blocks (drop (i + 1) blocks))
 
-pub count_more : (blocks : List PlannedBlock) (i count all : ℕ) (b : PlannedBlock) → i < length blocks → get_or blocks i b ≡ b → saturated (count + length (entries_of (drop i blocks))) ≡ all
-    → saturated (min (count + min (length b.entries.entries) (2 ^ 64 - 1)) (2 ^ 64 - 1) + length (entries_of (drop (i + 1) blocks))) ≡ all
+pub count_more : (blocks : List PlannedBlock) (i count all : ℕ) (b : PlannedBlock) → i < length blocks → get_or blocks i b ≡ b → saturated (count + length (entries_in_blocks (drop i blocks))) ≡ all
+    → saturated (min (count + min (length b.entries.entries) (2 ^ 64 - 1)) (2 ^ 64 - 1) + length (entries_in_blocks (drop (i + 1) blocks))) ≡ all
 count_more blocks i count all b lt is h = omega (arith, h, count_here blocks i b lt is)
 
 first_same : (q here there : List Entry) (key : List ℕ) → q ≢ [] → option_map (λ (e : Entry). e.key) (slice_get (q ++ here) 0) ≡ Some key → option_map (λ (e : Entry). e.key) (slice_get (q ++ there) 0) ≡ Some key
@@ -28,10 +28,10 @@ first_same [] here there key some is = absurd (some refl)
 first_same (e ∷ es) here there key some is = is
 
 pub first_of : (blocks : List PlannedBlock) (b : PlannedBlock) (key : List ℕ) → 0 < length blocks → get_or blocks 0 b ≡ b → b.entries.entries ≢ []
-    → option_map (λ (e : Entry). e.key) (slice_get (b.entries.entries ++ b.entries.behind) 0) ≡ Some key → option_map (λ (e : Entry). e.key) (slice_get (entries_of blocks) 0) ≡ Some key
+    → option_map (λ (e : Entry). e.key) (slice_get (b.entries.entries ++ b.entries.behind) 0) ≡ Some key → option_map (λ (e : Entry). e.key) (slice_get (entries_in_blocks blocks) 0) ≡ Some key
 first_of [] b key lt is some first = absurd (omega arith)
 first_of (x ∷ xs) b key lt is some first =
-    subst (λ (y : PlannedBlock). option_map (λ (e : Entry). e.key) (slice_get (y.entries.entries ++ entries_of xs) 0) ≡ Some key) (sym is) (first_same b.entries.entries b.entries.behind (entries_of xs) key some first)
+    subst (λ (y : PlannedBlock). option_map (λ (e : Entry). e.key) (slice_get (y.entries.entries ++ entries_in_blocks xs) 0) ≡ Some key) (sym is) (first_same b.entries.entries b.entries.behind (entries_in_blocks xs) key some first)
 
 last_of : (o : Option Entry) (xs ys : List Entry) → ys ≢ [] → last_or o (xs ++ ys) ≡ last_or None ys
 last_of o [] [] some = absurd (some refl)
@@ -45,13 +45,13 @@ front_some : (xs ys : List Entry) → xs ≢ [] → xs ++ ys ≢ []
 front_some [] ys some = absurd (some refl)
 front_some (x ∷ xs) ys some = λ none. absurd (cc)
 
-pub last_block : (blocks : List PlannedBlock) (i : ℕ) (b : PlannedBlock) → i + 1 ≡ length blocks → AllByRecursion (λ (x : PlannedBlock). x.entries.entries ≢ []) blocks → get_or blocks i b ≡ b → ended (entries_of blocks) ≡ ended b.entries.entries
+pub last_block : (blocks : List PlannedBlock) (i : ℕ) (b : PlannedBlock) → i + 1 ≡ length blocks → AllByRecursion (λ (x : PlannedBlock). x.entries.entries ≢ []) blocks → get_or blocks i b ≡ b → ended (entries_in_blocks blocks) ≡ ended b.entries.entries
 last_block [] i b end some is = absurd (omega arith)
 last_block (x ∷ []) zero b end some is = ap ended (append-nil x.entries.entries) ∙ ap (λ (y : PlannedBlock). ended y.entries.entries) is
 last_block (x ∷ []) (suc i) b end some is = absurd (omega arith)
 last_block (x ∷ y ∷ ys) zero b end some is = absurd (omega arith)
 last_block (x ∷ y ∷ ys) (suc i) b end some is =
-    ended_append x.entries.entries (entries_of (y ∷ ys)) (front_some y.entries.entries (entries_of ys) some.1.0) ∙ last_block (y ∷ ys) i b (omega arith) some.1 is
+    ended_append x.entries.entries (entries_in_blocks (y ∷ ys)) (front_some y.entries.entries (entries_in_blocks ys) some.1.0) ∙ last_block (y ∷ ys) i b (omega arith) some.1 is
 
 length-ends : (at : ℕ) (ps : List (List Entry)) → length (ends_from at ps) ≡ length ps
 length-ends at [] = refl

@@ -11,7 +11,7 @@ use Rattle.table.specs.declared.options.Options.{Options}
 use Rattle.table.specs.DataBlocks.{is_full, open_block, blocks_behind, data_blocks}
 use Rattle.pieces.specs.declared.planned_block.PlannedBlock.{PlannedBlock}
 use Rattle.cut.specs.Cutting.{Cut, outputs_left}
-use Rattle.cut.specs.Opened.{parts_of, entries_of, HasLen, ArePlanned, ends_by}
+use Rattle.cut.specs.Opened.{parts_of, entries_in_blocks, HasLen, ArePlanned, ends_by}
 use Rattle.cut.specs.Outputs.{all_of, ends_before, outputs_behind, outputs_in, segments}
 
 module _ (o : Options) where
@@ -35,7 +35,7 @@ module _ (o : Options) where
   data_blocks_all q = behind_all [] q
 
   -- planned blocks have the entries of which they are the data blocks
-  pub entries_are : (q : List Entry) (blocks : List PlannedBlock) → parts_of blocks ≡ data_blocks o q → entries_of blocks ≡ q
+  pub entries_are : (q : List Entry) (blocks : List PlannedBlock) → parts_of blocks ≡ data_blocks o q → entries_in_blocks blocks ≡ q
   entries_are q blocks are = ap all_of are ∙ data_blocks_all q
 
   pub planned_are : (q : List Entry) (blocks : List PlannedBlock) → parts_of blocks ≡ data_blocks o q → AllByRecursion (HasLen o) blocks → ArePlanned o blocks
@@ -45,7 +45,7 @@ module _ (o : Options) where
 
   pub ended_none : (outputs : List (List Entry)) (q : List Entry) (blocks : List PlannedBlock) → parts_of blocks ≡ data_blocks o q → blocks ≡ [] → outputs ≡ outputs ++ outputs_behind o q []
   ended_none outputs q blocks are none =
-      let no : q ≡ [] = sym (entries_are q blocks are) ∙ ap entries_of none in
+      let no : q ≡ [] = sym (entries_are q blocks are) ∙ ap entries_in_blocks none in
       sym (ap (λ (xs : List Entry). outputs ++ open_block xs) no ∙ append-nil outputs)
 
   some_open : (q : List Entry) (blocks : List PlannedBlock) → parts_of blocks ≡ data_blocks o q → (blocks ≡ [] → ⊥) → open_block q ≡ q ∷ []
@@ -54,7 +54,7 @@ module _ (o : Options) where
   some_open [] (b ∷ bs) are some = absurd (let no : parts_of (b ∷ bs) ≡ [] = are in cc)
   some_open (e ∷ es) blocks are some = refl
 
-  pub ended_some : (outputs : List (List Entry)) (q : List Entry) (blocks : List PlannedBlock) → parts_of blocks ≡ data_blocks o q → (blocks ≡ [] → ⊥) → outputs ++ entries_of blocks ∷ [] ≡ outputs ++ outputs_behind o q []
+  pub ended_some : (outputs : List (List Entry)) (q : List Entry) (blocks : List PlannedBlock) → parts_of blocks ≡ data_blocks o q → (blocks ≡ [] → ⊥) → outputs ++ entries_in_blocks blocks ∷ [] ≡ outputs ++ outputs_behind o q []
   ended_some outputs q blocks are some =
       ap (λ (xs : List Entry). outputs ++ xs ∷ []) (entries_are q blocks are) ∙ sym (ap (λ (ps : List (List Entry)). outputs ++ ps) (some_open q blocks are some))
 

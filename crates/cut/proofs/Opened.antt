@@ -23,7 +23,7 @@ use Rattle.cut.specs.Metered.{Metered, grown, ended}
 use Rattle.cut.specs.Outputs.{all_of, ends_before, outputs_behind}
 use Rattle.cut.specs.Plan.{stored_len}
 use Rattle.cut.specs.Sizes.{saturated}
-use Rattle.cut.specs.Opened.{parts_of, entries_of, HasLen, IsFlushed, ends_by, IsOpen}
+use Rattle.cut.specs.Opened.{parts_of, entries_in_blocks, HasLen, IsFlushed, ends_by, IsOpen}
 use Rattle.cut.proofs.Metering.{lengths_law}
 
 -- ---- the last key
@@ -49,11 +49,11 @@ pub parts_push : (blocks : List PlannedBlock) (b : PlannedBlock) → parts_of (b
 parts_push [] b = refl
 parts_push (x ∷ xs) b = ap (λ (ps : List (List Entry)). x.entries.entries ∷ ps) (parts_push xs b)
 
-pub entries_push : (blocks : List PlannedBlock) (b : PlannedBlock) → entries_of (blocks ++ b ∷ []) ≡ entries_of blocks ++ b.entries.entries
+pub entries_push : (blocks : List PlannedBlock) (b : PlannedBlock) → entries_in_blocks (blocks ++ b ∷ []) ≡ entries_in_blocks blocks ++ b.entries.entries
 entries_push blocks b =
     ap all_of (parts_push blocks b)
     ∙ flat_map-append (λ (q : List Entry). q) (parts_of blocks) (b.entries.entries ∷ [])
-    ∙ ap (λ (q : List Entry). entries_of blocks ++ q) (append-nil b.entries.entries)
+    ∙ ap (λ (q : List Entry). entries_in_blocks blocks ++ q) (append-nil b.entries.entries)
 
 -- the last key of some entries is that of those behind others
 last_behind : (a b : Option Entry) (p : List Entry) (x : Entry) (xs : List Entry) → last_or a (p ++ x ∷ xs) ≡ last_or b (x ∷ xs)
@@ -83,18 +83,18 @@ module _ (o : Options) where
   grow p e rest part = rw part refl
 
   -- the entries of blocks and the open one, with one entry more
-  more : (blocks : List PlannedBlock) (q : List Entry) (e : Entry) (rest : List Entry) → (entries_of blocks ++ (q ++ e ∷ [])) ++ rest ≡ (entries_of blocks ++ q) ++ e ∷ rest
+  more : (blocks : List PlannedBlock) (q : List Entry) (e : Entry) (rest : List Entry) → (entries_in_blocks blocks ++ (q ++ e ∷ [])) ++ rest ≡ (entries_in_blocks blocks ++ q) ++ e ∷ rest
   more blocks q e rest =
-      ap (λ (es : List Entry). es ++ rest) (sym (append_assoc (entries_of blocks) q (e ∷ []))) ∙ append_assoc (entries_of blocks ++ q) (e ∷ []) rest
+      ap (λ (es : List Entry). es ++ rest) (sym (append_assoc (entries_in_blocks blocks) q (e ∷ []))) ∙ append_assoc (entries_in_blocks blocks ++ q) (e ∷ []) rest
 
-  one_more : (blocks : List PlannedBlock) (q : List Entry) (e : Entry) → is_full o q ≡ false → ((rest : List Entry) → blocks_behind o [] ((entries_of blocks ++ q) ++ rest) ≡ parts_of blocks ++ blocks_behind o q rest) → (rest : List Entry)
-      → blocks_behind o [] ((entries_of blocks ++ (q ++ e ∷ [])) ++ rest) ≡ parts_of blocks ++ blocks_behind o (q ++ e ∷ []) rest
+  one_more : (blocks : List PlannedBlock) (q : List Entry) (e : Entry) → is_full o q ≡ false → ((rest : List Entry) → blocks_behind o [] ((entries_in_blocks blocks ++ q) ++ rest) ≡ parts_of blocks ++ blocks_behind o q rest) → (rest : List Entry)
+      → blocks_behind o [] ((entries_in_blocks blocks ++ (q ++ e ∷ [])) ++ rest) ≡ parts_of blocks ++ blocks_behind o (q ++ e ∷ []) rest
   one_more blocks q e part cuts rest =
       ap (blocks_behind o []) (more blocks q e rest) ∙ cuts (e ∷ rest) ∙ ap (λ (ps : List (List Entry)). parts_of blocks ++ ps) (grow q e rest part)
 
   -- the data blocks begin with these, however many entries come behind the open ones
   abbrev Cut_by : List PlannedBlock → List Entry → Type 0
-  Cut_by blocks q = (rest : List Entry) → blocks_behind o [] ((entries_of blocks ++ q) ++ rest) ≡ parts_of blocks ++ blocks_behind o q rest
+  Cut_by blocks q = (rest : List Entry) → blocks_behind o [] ((entries_in_blocks blocks ++ q) ++ rest) ≡ parts_of blocks ++ blocks_behind o q rest
 
   -- the same with so many entries more, where the open block is full before none of them
   more_by : (blocks : List PlannedBlock) (n : ℕ) (q es : List Entry) → ((m : ℕ) → m < n → is_full o (q ++ take m es) ≡ false) → Cut_by blocks q → Cut_by blocks (q ++ take n es)
@@ -127,7 +127,7 @@ module _ (o : Options) where
   parts_by before n first part (suc m) lt = part (suc m) (omega arith) lt
 
   pub open_grown : (blocks : List PlannedBlock) (size : ℕ) (last key : Option (List ℕ)) (before after : Metered) (n : ℕ) → IsOpen o blocks size last before → after ≡ grown n before
-      → ((m : ℕ) → m < n → is_full o (grown m before).entries ≡ false) → is_full o after.entries ≡ false → key ≡ ended (entries_of blocks ++ after.entries) → IsOpen o blocks size key after
+      → ((m : ℕ) → m < n → is_full o (grown m before).entries ≡ false) → is_full o after.entries ≡ false → key ≡ ended (entries_in_blocks blocks ++ after.entries) → IsOpen o blocks size key after
   open_grown blocks size last key before after n h is parts part key_is =
       record {
         limits = h.limits;
@@ -154,7 +154,7 @@ module _ (o : Options) where
 
   pub open_flushed : (blocks : List PlannedBlock) (size : ℕ) (last key : Option (List ℕ)) (before full after : Metered) (n : ℕ) (b : PlannedBlock) → IsOpen o blocks size last before → full ≡ grown n before
       → ((m : ℕ) → m < n → is_full o (grown m before).entries ≡ false) → is_full o full.entries ≡ true → b.entries.entries ≡ full.entries → b.len ≡ saturated (length (block full.interval full.entries))
-      → after ≡ record { interval = full.interval; entries = []; behind = full.behind } → key ≡ ended (entries_of blocks ++ full.entries)
+      → after ≡ record { interval = full.interval; entries = []; behind = full.behind } → key ≡ ended (entries_in_blocks blocks ++ full.entries)
       → IsOpen o (blocks ++ b ∷ []) (min (min (size + b.len) (2 ^ 64 - 1) + 5) (2 ^ 64 - 1)) key after
   open_flushed blocks size last key before full after n b h is parts reaches entries_are len after_is key_is =
       let q : List Entry = b.entries.entries in
@@ -162,8 +162,8 @@ module _ (o : Options) where
       let interval : full.interval ≡ o.restart_interval = ap (λ (m : Metered). m.interval) is ∙ h.interval in
       let has_len : HasLen o b = len ∙ ap (λ (r : ℕ). saturated (length (block r full.entries))) interval ∙ ap (λ (es : List Entry). saturated (length (block o.restart_interval es))) (sym entries_are) in
       let grew : Cut_by blocks q = subst (Cut_by blocks) (sym (entries_are ∙ ap (λ (m : Metered). m.entries) is)) (more_by blocks n before.entries before.behind parts h.cuts) in
-      let entries : entries_of (blocks ++ b ∷ []) ++ after.entries ≡ entries_of blocks ++ q =
-      ap (λ (xs : List Entry). entries_of (blocks ++ b ∷ []) ++ xs) none ∙ append-nil (entries_of (blocks ++ b ∷ [])) ∙ entries_push blocks b in
+      let entries : entries_in_blocks (blocks ++ b ∷ []) ++ after.entries ≡ entries_in_blocks blocks ++ q =
+      ap (λ (xs : List Entry). entries_in_blocks (blocks ++ b ∷ []) ++ xs) none ∙ append-nil (entries_in_blocks (blocks ++ b ∷ [])) ∙ entries_push blocks b in
       let whole : is_full o q ≡ true = ap (is_full o) entries_are ∙ reaches in
       record {
         limits = h.limits;
@@ -179,27 +179,27 @@ module _ (o : Options) where
             ∙ sym (ap (λ (ps : List (List Entry)). ps ++ blocks_behind o [] rest) (parts_push blocks b))
             ∙ sym (ap (λ (xs : List Entry). parts_of (blocks ++ b ∷ []) ++ blocks_behind o xs rest) none);
         flushed_is = stored_push blocks size b h.flushed_is has_len;
-        last_is = key_is ∙ sym (ap ended entries ∙ ap (λ (xs : List Entry). ended (entries_of blocks ++ xs)) entries_are);
+        last_is = key_is ∙ sym (ap ended entries ∙ ap (λ (xs : List Entry). ended (entries_in_blocks blocks ++ xs)) entries_are);
       }
 
   -- ---- all data blocks
 
-  pub blocks_open : (blocks : List PlannedBlock) (size : ℕ) (last : Option (List ℕ)) (open_one : Metered) → IsOpen o blocks size last open_one → data_blocks o (entries_of blocks ++ open_one.entries) ≡ parts_of blocks ++ open_block open_one.entries
+  pub blocks_open : (blocks : List PlannedBlock) (size : ℕ) (last : Option (List ℕ)) (open_one : Metered) → IsOpen o blocks size last open_one → data_blocks o (entries_in_blocks blocks ++ open_one.entries) ≡ parts_of blocks ++ open_block open_one.entries
   unfolding data_blocks
-  blocks_open blocks size last open_one h = ap (blocks_behind o []) (sym (append-nil (entries_of blocks ++ open_one.entries))) ∙ h.cuts []
+  blocks_open blocks size last open_one h = ap (blocks_behind o []) (sym (append-nil (entries_in_blocks blocks ++ open_one.entries))) ∙ h.cuts []
 
   some_block : (q : List Entry) → (q ≡ [] → ⊥) → open_block q ≡ q ∷ []
   some_block [] some = absurd (some refl)
   some_block (e ∷ es) some = refl
 
   pub blocks_some : (blocks : List PlannedBlock) (size : ℕ) (last : Option (List ℕ)) (open_one : Metered) (b : PlannedBlock) → IsOpen o blocks size last open_one → (open_one.entries ≡ [] → ⊥) → b.entries.entries ≡ open_one.entries
-      → parts_of (blocks ++ b ∷ []) ≡ data_blocks o (entries_of blocks ++ open_one.entries)
+      → parts_of (blocks ++ b ∷ []) ≡ data_blocks o (entries_in_blocks blocks ++ open_one.entries)
   blocks_some blocks size last open_one b h some is =
       parts_push blocks b
       ∙ ap (λ (q : List Entry). parts_of blocks ++ q ∷ []) is
       ∙ sym (blocks_open blocks size last open_one h ∙ ap (λ (ps : List (List Entry)). parts_of blocks ++ ps) (some_block open_one.entries some))
 
-  pub blocks_none : (blocks : List PlannedBlock) (size : ℕ) (last : Option (List ℕ)) (open_one : Metered) → IsOpen o blocks size last open_one → open_one.entries ≡ [] → parts_of blocks ≡ data_blocks o (entries_of blocks ++ open_one.entries)
+  pub blocks_none : (blocks : List PlannedBlock) (size : ℕ) (last : Option (List ℕ)) (open_one : Metered) → IsOpen o blocks size last open_one → open_one.entries ≡ [] → parts_of blocks ≡ data_blocks o (entries_in_blocks blocks ++ open_one.entries)
   blocks_none blocks size last open_one h none =
       sym (blocks_open blocks size last open_one h ∙ ap (λ (q : List Entry). parts_of blocks ++ open_block q) none ∙ append-nil (parts_of blocks))
 
@@ -219,7 +219,7 @@ module _ (o : Options) where
   open_sum [] part = refl
   open_sum (e ∷ es) part = sum_by-cons (flushed_len o) (e ∷ es) [] ∙ rw part refl
 
-  flushed_open : (blocks : List PlannedBlock) (size : ℕ) (last : Option (List ℕ)) (open_one : Metered) → IsOpen o blocks size last open_one → flushed o (entries_of blocks ++ open_one.entries) ≡ stored_len o.restart_interval (parts_of blocks)
+  flushed_open : (blocks : List PlannedBlock) (size : ℕ) (last : Option (List ℕ)) (open_one : Metered) → IsOpen o blocks size last open_one → flushed o (entries_in_blocks blocks ++ open_one.entries) ≡ stored_len o.restart_interval (parts_of blocks)
   unfolding flushed
   flushed_open blocks size last open_one h =
       ap (sum_by (flushed_len o)) (blocks_open blocks size last open_one h)
@@ -253,34 +253,34 @@ module _ (o : Options) where
   ends_by_last (x ∷ xs) n last e le n_is last_is = ends_some x xs n last e le n_is last_is
 
   -- whether the output of what is kept ends before the first of the entries behind
-  pub ends_not : (blocks : List PlannedBlock) (size : ℕ) (open_one : Metered) → IsOpen o blocks size None open_one → ends_by o (entries_of blocks ++ open_one.entries) open_one.behind ≡ false
+  pub ends_not : (blocks : List PlannedBlock) (size : ℕ) (open_one : Metered) → IsOpen o blocks size None open_one → ends_by o (entries_in_blocks blocks ++ open_one.entries) open_one.behind ≡ false
   ends_not blocks size open_one h = by_behind open_one.behind
     where
-      by_behind : (behind : List Entry) → ends_by o (entries_of blocks ++ open_one.entries) behind ≡ false
+      by_behind : (behind : List Entry) → ends_by o (entries_in_blocks blocks ++ open_one.entries) behind ≡ false
       by_behind [] = refl
-      by_behind (e ∷ es) = ends_none (entries_of blocks ++ open_one.entries) e h.last_is
+      by_behind (e ∷ es) = ends_none (entries_in_blocks blocks ++ open_one.entries) e h.last_is
 
   pub ends_part : (blocks : List PlannedBlock) (size : ℕ) (last : List ℕ) (open_one : Metered) → IsOpen o blocks size (Some last) open_one → nat_le o.file_size size ≡ false
-      → ends_by o (entries_of blocks ++ open_one.entries) open_one.behind ≡ false
+      → ends_by o (entries_in_blocks blocks ++ open_one.entries) open_one.behind ≡ false
   ends_part blocks size last open_one h below = by_behind open_one.behind
     where
-      by_behind : (behind : List Entry) → ends_by o (entries_of blocks ++ open_one.entries) behind ≡ false
+      by_behind : (behind : List Entry) → ends_by o (entries_in_blocks blocks ++ open_one.entries) behind ≡ false
       by_behind [] = refl
       by_behind (e ∷ es) =
-          ends_by_last (entries_of blocks ++ open_one.entries) size last e h.limits.file_size_le (h.flushed_is ∙ ap saturated (sym (flushed_open blocks size (Some last) open_one h))) h.last_is
+          ends_by_last (entries_in_blocks blocks ++ open_one.entries) size last e h.limits.file_size_le (h.flushed_is ∙ ap saturated (sym (flushed_open blocks size (Some last) open_one h))) h.last_is
           ∙ rw below refl
 
   pub ends_last : (blocks : List PlannedBlock) (size : ℕ) (last next : List ℕ) (open_one : Metered) → IsOpen o blocks size (Some last) open_one → 0 < length open_one.behind
       → option_map (λ (e : Entry). e.key) (slice_get open_one.behind 0) ≡ Some next
-      → ends_by o (entries_of blocks ++ open_one.entries) open_one.behind ≡ (nat_le o.file_size size && not (bytes_eq (user_of last) (user_of next)))
+      → ends_by o (entries_in_blocks blocks ++ open_one.entries) open_one.behind ≡ (nat_le o.file_size size && not (bytes_eq (user_of last) (user_of next)))
   ends_last blocks size last next open_one h some next_is = by_behind open_one.behind some next_is
     where
       by_behind : (behind : List Entry) → 0 < length behind → option_map (λ (e : Entry). e.key) (slice_get behind 0) ≡ Some next
-          → ends_by o (entries_of blocks ++ open_one.entries) behind ≡ (nat_le o.file_size size && not (bytes_eq (user_of last) (user_of next)))
+          → ends_by o (entries_in_blocks blocks ++ open_one.entries) behind ≡ (nat_le o.file_size size && not (bytes_eq (user_of last) (user_of next)))
       by_behind [] some next_is = absurd (omega arith)
       by_behind (e ∷ es) some next_is =
           let key : e.key ≡ next = cc in
-          ends_by_last (entries_of blocks ++ open_one.entries) size last e h.limits.file_size_le (h.flushed_is ∙ ap saturated (sym (flushed_open blocks size (Some last) open_one h))) h.last_is
+          ends_by_last (entries_in_blocks blocks ++ open_one.entries) size last e h.limits.file_size_le (h.flushed_is ∙ ap saturated (sym (flushed_open blocks size (Some last) open_one h))) h.last_is
           ∙ ap (λ (k : List ℕ). nat_le o.file_size size && not (bytes_eq (user_of last) (user_of k))) key
 
   -- ---- where the output goes on
@@ -295,21 +295,21 @@ module _ (o : Options) where
       let step : outputs_behind o q (e ∷ (take n es ++ rest)) ≡ outputs_behind o (q ++ e ∷ []) (take n es ++ rest) = rw first refl in
       ap (λ (xs : List Entry). outputs_behind o xs rest) (sym (append_assoc q (e ∷ []) (take n es))) ∙ goes_by n (q ++ e ∷ []) es later rest ∙ sym step
 
-  ends_below : (blocks : List PlannedBlock) (size : ℕ) (last : Option (List ℕ)) (open_one : Metered) → IsOpen o blocks size last open_one → nat_le o.file_size size ≡ false → ends_by o (entries_of blocks ++ open_one.entries) open_one.behind ≡ false
+  ends_below : (blocks : List PlannedBlock) (size : ℕ) (last : Option (List ℕ)) (open_one : Metered) → IsOpen o blocks size last open_one → nat_le o.file_size size ≡ false → ends_by o (entries_in_blocks blocks ++ open_one.entries) open_one.behind ≡ false
   ends_below blocks size None open_one h below = ends_not blocks size open_one h
   ends_below blocks size (Some last) open_one h below = ends_part blocks size last open_one h below
 
   -- the output goes on with all entries that are taken in, where more than one is taken in only below the maximal file size
   pub left_taken : (blocks : List PlannedBlock) (size : ℕ) (last : Option (List ℕ)) (before : Metered) (n : ℕ) → IsOpen o blocks size last before
-      → ((m : ℕ) → m < n → is_full o (grown m before).entries ≡ false) → ends_by o (entries_of blocks ++ before.entries) before.behind ≡ false → (1 < n → size < o.file_size) → (rest : List Entry)
-      → outputs_behind o ((entries_of blocks ++ before.entries) ++ take n before.behind) rest ≡ outputs_behind o (entries_of blocks ++ before.entries) (take n before.behind ++ rest)
-  left_taken blocks size last before n h parts first below rest = goes_by n (entries_of blocks ++ before.entries) before.behind on rest
+      → ((m : ℕ) → m < n → is_full o (grown m before).entries ≡ false) → ends_by o (entries_in_blocks blocks ++ before.entries) before.behind ≡ false → (1 < n → size < o.file_size) → (rest : List Entry)
+      → outputs_behind o ((entries_in_blocks blocks ++ before.entries) ++ take n before.behind) rest ≡ outputs_behind o (entries_in_blocks blocks ++ before.entries) (take n before.behind ++ rest)
+  left_taken blocks size last before n h parts first below rest = goes_by n (entries_in_blocks blocks ++ before.entries) before.behind on rest
     where
-      on : (m : ℕ) → m < n → ends_by o ((entries_of blocks ++ before.entries) ++ take m before.behind) (drop m before.behind) ≡ false
-      on zero lt = ap (λ (xs : List Entry). ends_by o xs before.behind) (append-nil (entries_of blocks ++ before.entries)) ∙ first
+      on : (m : ℕ) → m < n → ends_by o ((entries_in_blocks blocks ++ before.entries) ++ take m before.behind) (drop m before.behind) ≡ false
+      on zero lt = ap (λ (xs : List Entry). ends_by o xs before.behind) (append-nil (entries_in_blocks blocks ++ before.entries)) ∙ first
       on (suc m) lt =
           let k : Metered = grown (suc m) before in
-          let open_one : IsOpen o blocks size (ended (entries_of blocks ++ k.entries)) k =
-          open_grown blocks size last (ended (entries_of blocks ++ k.entries)) before k (suc m) h refl (λ i below_m. parts i (omega (arith, below_m, lt))) (parts (suc m) lt) refl in
-          ap (λ (xs : List Entry). ends_by o xs (drop (suc m) before.behind)) (append_assoc (entries_of blocks) before.entries (take (suc m) before.behind))
-          ∙ ends_below blocks size (ended (entries_of blocks ++ k.entries)) k open_one (lt-leb o.file_size size (below (omega (arith, lt))))
+          let open_one : IsOpen o blocks size (ended (entries_in_blocks blocks ++ k.entries)) k =
+          open_grown blocks size last (ended (entries_in_blocks blocks ++ k.entries)) before k (suc m) h refl (λ i below_m. parts i (omega (arith, below_m, lt))) (parts (suc m) lt) refl in
+          ap (λ (xs : List Entry). ends_by o xs (drop (suc m) before.behind)) (append_assoc (entries_in_blocks blocks) before.entries (take (suc m) before.behind))
+          ∙ ends_below blocks size (ended (entries_in_blocks blocks ++ k.entries)) k open_one (lt-leb o.file_size size (below (omega (arith, lt))))

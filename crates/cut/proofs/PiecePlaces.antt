@@ -12,7 +12,7 @@ use Rattle.pieces.specs.declared.planned_block.PlannedBlock.{PlannedBlock}
 use Rattle.cut.specs.declared.piece.Piece.{Piece}
 use Rattle.cut.specs.declared.planned_output.PlannedOutput.{PlannedOutput}
 use Rattle.cut.specs.Divided.{blocks_at, piece_blocks, places_from, places_all, piece_limit}
-use Rattle.cut.specs.Opened.{parts_of, entries_of, HasLen, ArePlanned}
+use Rattle.cut.specs.Opened.{parts_of, entries_in_blocks, HasLen, ArePlanned}
 use Rattle.cut.specs.Plan.{open_piece, pieces_behind, pieces_in, stored_len}
 use Rattle.cut.specs.TableLength.{lens_of}
 use Rattle.cut.proofs.Opened.{parts_push}
@@ -157,18 +157,18 @@ pub record IsShort (o : Options) (p : PlannedOutput) : Type 0 where
   pub planned : ArePlanned o p.blocks.items
   pub short : lens_of p.blocks.items ≤ 2 ^ 30
 
-pub one_are : (o : Options) (blocks : ℕ) (bs : List PlannedBlock) → ArePlanned o bs → lens_of bs ≤ 2 ^ 30 → map parts_of (divided_behind (piece_limit blocks) [] bs) ≡ pieces_in o blocks (entries_of bs)
+pub one_are : (o : Options) (blocks : ℕ) (bs : List PlannedBlock) → ArePlanned o bs → lens_of bs ≤ 2 ^ 30 → map parts_of (divided_behind (piece_limit blocks) [] bs) ≡ pieces_in o blocks (entries_in_blocks bs)
 one_are o blocks bs h le =
     parts_divided o (piece_limit blocks) [] bs h.lens le
     ∙ ap (pieces_behind (piece_limit blocks) o.restart_interval []) h.cut
-    ∙ in_by (nat_lt blocks 64) o.restart_interval (data_blocks o (entries_of bs))
+    ∙ in_by (nat_lt blocks 64) o.restart_interval (data_blocks o (entries_in_blocks bs))
 
 pub pieces_are : (o : Options) (blocks : ℕ) (outputs : List PlannedOutput) → AllByRecursion (IsShort o) outputs
-    → map parts_of (divided_all (piece_limit blocks) outputs) ≡ flat_map (pieces_in o blocks) (map (λ (p : PlannedOutput). entries_of p.blocks.items) outputs)
+    → map parts_of (divided_all (piece_limit blocks) outputs) ≡ flat_map (pieces_in o blocks) (map (λ (p : PlannedOutput). entries_in_blocks p.blocks.items) outputs)
 pieces_are o blocks [] h = refl
 pieces_are o blocks (p ∷ ps) h =
     let bs : List PlannedBlock = p.blocks.items in
     let here = one_are o blocks bs h.0.planned h.0.short in
     map-append parts_of (divided_behind (piece_limit blocks) [] bs) (divided_all (piece_limit blocks) ps)
     ∙ ap (λ (qs : List (List (List Entry))). qs ++ map parts_of (divided_all (piece_limit blocks) ps)) here
-    ∙ ap (λ (qs : List (List (List Entry))). pieces_in o blocks (entries_of bs) ++ qs) (pieces_are o blocks ps h.1)
+    ∙ ap (λ (qs : List (List (List Entry))). pieces_in o blocks (entries_in_blocks bs) ++ qs) (pieces_are o blocks ps h.1)

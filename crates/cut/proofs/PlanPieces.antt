@@ -18,7 +18,7 @@ use Rattle.pieces.specs.declared.planned_block.PlannedBlock.{PlannedBlock}
 use Rattle.cut.specs.declared.piece.Piece.{Piece}
 use Rattle.cut.specs.declared.planned_output.PlannedOutput.{PlannedOutput}
 use Rattle.cut.specs.Divided.{blocks_at, piece_blocks, places_from, places_all, piece_limit}
-use Rattle.cut.specs.Opened.{parts_of, entries_of, HasLen, ArePlanned}
+use Rattle.cut.specs.Opened.{parts_of, entries_in_blocks, HasLen, ArePlanned}
 use Rattle.cut.specs.Plan.{Planned, parts, pieces, pieces_in}
 use Rattle.cut.specs.Planning.{PlanSeen, planned_of, block_count, IsPlannedOutput, IsPlan, lists_in}
 use Rattle.cut.specs.Sizes.{saturated}
@@ -124,18 +124,18 @@ module _ (cmp : List ℕ → List ℕ → Ordering) (separator_of : List ℕ →
 
   -- the entries of each output
   abbrev pub lists : List PlannedOutput → List (List Entry)
-  lists outputs = map (λ (p : PlannedOutput). entries_of p.blocks.items) outputs
+  lists outputs = map (λ (p : PlannedOutput). entries_in_blocks p.blocks.items) outputs
 
   pub lists_seen : (outputs : List PlannedOutput) → lists_in (map planned_of outputs) ≡ lists outputs
   lists_seen [] = refl
-  lists_seen (p ∷ ps) = ap (λ (qs : List (List Entry)). entries_of p.blocks.items ∷ qs) (lists_seen ps)
+  lists_seen (p ∷ ps) = ap (λ (qs : List (List Entry)). entries_in_blocks p.blocks.items ∷ qs) (lists_seen ps)
 
   pub count_seen : (outputs : List PlannedOutput) → AllByRecursion (IsPlannedOutput T o) outputs → block_count outputs ≡ length (parts o (lists outputs))
   count_seen [] h = refl
   count_seen (p ∷ ps) h =
-      let one : length p.blocks.items ≡ length (data_blocks o (entries_of p.blocks.items)) = sym (length-map p.blocks.items (λ (x : PlannedBlock). x.entries.entries)) ∙ ap length h.0.planned.cut in
+      let one : length p.blocks.items ≡ length (data_blocks o (entries_in_blocks p.blocks.items)) = sym (length-map p.blocks.items (λ (x : PlannedBlock). x.entries.entries)) ∙ ap length h.0.planned.cut in
       sum_by-cons (λ (x : PlannedOutput). length x.blocks.items) p ps
-      ∙ omega (arith, one, count_seen ps h.1, length-append (data_blocks o (entries_of p.blocks.items)) (parts o (lists ps)))
+      ∙ omega (arith, one, count_seen ps h.1, length-append (data_blocks o (entries_in_blocks p.blocks.items)) (parts o (lists ps)))
 
   -- what is kept of a plan has the pieces of the definition
   pub plan_pieces : (outputs : List PlannedOutput) (places : List Piece) (counts : List ℕ) → IsPlan T o outputs places counts → map (λ (p : Piece). parts_of (piece_blocks outputs p)) places ≡ pieces o (lists_in (map planned_of outputs))

@@ -20,7 +20,7 @@ use Rattle.pieces.specs.declared.planned_block.PlannedBlock.{PlannedBlock}
 use Rattle.cut.specs.declared.piece.Piece.{Piece}
 use Rattle.cut.specs.declared.planned_output.PlannedOutput.{PlannedOutput}
 use Rattle.cut.specs.Divided.{places_all, counts_all, piece_limit}
-use Rattle.cut.specs.Opened.{parts_of, entries_of, ArePlanned}
+use Rattle.cut.specs.Opened.{parts_of, entries_in_blocks, ArePlanned}
 use Rattle.cut.specs.Plan.{Planned, ends_from, planned_from, parts, plan_of}
 use Rattle.cut.specs.Planning.{planned_of, HaveEntries, numbered_from, block_count, IsPlannedOutput, IsPlan}
 use Rattle.cut.specs.Sizes.{saturated}
@@ -34,14 +34,14 @@ each_some o q [] h = tt
 each_some o q (b ∷ bs) h = (h.2.some, each_some o h.0 bs h.3)
 
 pub planned_some : (o : Options) (blocks : List PlannedBlock) → ArePlanned o blocks → AllByRecursion (λ (b : PlannedBlock). b.entries.entries ≢ []) blocks
-planned_some o blocks h = each_some o (entries_of blocks) blocks (subst (AreDataBlocks o (entries_of blocks)) (sym h.cut) (are_data_blocks o (entries_of blocks)))
+planned_some o blocks h = each_some o (entries_in_blocks blocks) blocks (subst (AreDataBlocks o (entries_in_blocks blocks)) (sym h.cut) (are_data_blocks o (entries_in_blocks blocks)))
 
-none_of : (blocks : List PlannedBlock) → entries_of blocks ≢ [] → blocks ≢ []
-none_of blocks some none = some (ap entries_of none)
+none_of : (blocks : List PlannedBlock) → entries_in_blocks blocks ≢ [] → blocks ≢ []
+none_of blocks some none = some (ap entries_in_blocks none)
 
 -- the entries of all outputs
 abbrev pub lists_of : List (Vec PlannedBlock) → List (List Entry)
-lists_of ended = map (λ (b : Vec PlannedBlock). entries_of b.items) ended
+lists_of ended = map (λ (b : Vec PlannedBlock). entries_in_blocks b.items) ended
 
 pub have_entries : (o : Options) (ended : List (Vec PlannedBlock)) → AllByRecursion (λ (b : Vec PlannedBlock). ArePlanned o b.items) ended → AllByRecursion (λ q. q ≢ []) (lists_of ended) → AllByRecursion (λ (b : Vec PlannedBlock). HaveEntries b.items) ended
 have_entries o [] h some = tt
@@ -93,23 +93,23 @@ module _ (cmp : List ℕ → List ℕ → Ordering) (separator_of : List ℕ →
       → list_all (λ (p : PlannedOutput). nat_le p.len (2 ^ 30)) (numbered_from size number ended) ≡ list_all (λ q. nat_le (length (T q)) (2 ^ 30)) (lists_of ended)
   small_is number [] h = refl
   small_is number (b ∷ bs) h =
-      let one : nat_le (size b.items) (2 ^ 30) ≡ nat_le (length (T (entries_of b.items))) (2 ^ 30) =
-      ap (λ (n : ℕ). nat_le n (2 ^ 30)) (size_is cmp separator_of successor_of o b.items h.0) ∙ capped_le (length (T (entries_of b.items))) in
+      let one : nat_le (size b.items) (2 ^ 30) ≡ nat_le (length (T (entries_in_blocks b.items))) (2 ^ 30) =
+      ap (λ (n : ℕ). nat_le n (2 ^ 30)) (size_is cmp separator_of successor_of o b.items h.0) ∙ capped_le (length (T (entries_in_blocks b.items))) in
       ap (λ (x : Bool). x && list_all (λ (p : PlannedOutput). nat_le p.len (2 ^ 30)) (numbered_from size (number + 1) bs)) one
-      ∙ ap (λ (x : Bool). nat_le (length (T (entries_of b.items))) (2 ^ 30) && x) (small_is (number + 1) bs h.1)
+      ∙ ap (λ (x : Bool). nat_le (length (T (entries_in_blocks b.items))) (2 ^ 30) && x) (small_is (number + 1) bs h.1)
 
   count_is : (number : ℕ) (ended : List (Vec PlannedBlock)) → AllByRecursion (λ (b : Vec PlannedBlock). ArePlanned o b.items) ended → block_count (numbered_from size number ended) ≡ length (parts o (lists_of ended))
   count_is number [] h = refl
   count_is number (b ∷ bs) h =
       let p : PlannedOutput = record { number = number; blocks = b; len = size b.items } in
-      let one : length b.items ≡ length (data_blocks o (entries_of b.items)) = sym (length-map b.items (λ (x : PlannedBlock). x.entries.entries)) ∙ ap length h.0.cut in
+      let one : length b.items ≡ length (data_blocks o (entries_in_blocks b.items)) = sym (length-map b.items (λ (x : PlannedBlock). x.entries.entries)) ∙ ap length h.0.cut in
       sum_by-cons (λ (x : PlannedOutput). length x.blocks.items) p (numbered_from size (number + 1) bs)
-      ∙ omega (arith, one, count_is (number + 1) bs h.1, length-append (data_blocks o (entries_of b.items)) (parts o (lists_of bs)))
+      ∙ omega (arith, one, count_is (number + 1) bs h.1, length-append (data_blocks o (entries_in_blocks b.items)) (parts o (lists_of bs)))
 
   -- ---- the plan
 
   -- a length that is small is exact
-  exact : (b : Vec PlannedBlock) → ArePlanned o b.items → size b.items ≤ 2 ^ 30 → size b.items ≡ length (T (entries_of b.items))
+  exact : (b : Vec PlannedBlock) → ArePlanned o b.items → size b.items ≤ 2 ^ 30 → size b.items ≡ length (T (entries_in_blocks b.items))
   exact b h le = omega (arith, size_is cmp separator_of successor_of o b.items h)
 
   planned_is : (number : ℕ) (ended : List (Vec PlannedBlock)) → AllByRecursion (λ (b : Vec PlannedBlock). ArePlanned o b.items) ended → list_all (λ (p : PlannedOutput). nat_le p.len (2 ^ 30)) (numbered_from size number ended) ≡ true
@@ -117,7 +117,7 @@ module _ (cmp : List ℕ → List ℕ → Ordering) (separator_of : List ℕ →
   planned_is number [] h small = refl
   planned_is number (b ∷ bs) h small =
       let both = and_parts (nat_le (size b.items) (2 ^ 30)) (list_all (λ (p : PlannedOutput). nat_le p.len (2 ^ 30)) (numbered_from size (number + 1) bs)) small in
-      let q = entries_of b.items in
+      let q = entries_in_blocks b.items in
       let one : Planned → List Planned = λ p. p ∷ map planned_of (numbered_from size (number + 1) bs) in
       ap (λ (n : ℕ). one (record { number = number; entries = q; blocks = ends_from 0 (parts_of b.items); length = n })) (exact b h.0 (leb-true (size b.items) (2 ^ 30) both.0))
       ∙ ap (λ (ps : List (List Entry)). one (record { number = number; entries = q; blocks = ends_from 0 ps; length = length (T q) })) h.0.cut
@@ -133,7 +133,7 @@ module _ (cmp : List ℕ → List ℕ → Ordering) (separator_of : List ℕ →
 
   pub plan_numbers : (number : ℕ) (ended : List (Vec PlannedBlock)) (outputs : List (List Entry)) → IsMade o ended outputs → 2 ^ 64 ≤ number + length ended → plan_of T o number outputs ≡ Err (fault Numbers)
   plan_numbers number ended outputs h over =
-      let count : length outputs ≡ length ended = sym (ap length h.entries) ∙ length-map ended (λ (b : Vec PlannedBlock). entries_of b.items) in
+      let count : length outputs ≡ length ended = sym (ap length h.entries) ∙ length-map ended (λ (b : Vec PlannedBlock). entries_in_blocks b.items) in
       rw (le-ltb (number + length outputs) (2 ^ 64) (omega arith)) refl
 
   tests : (number : ℕ) (ended : List (Vec PlannedBlock)) (outputs : List (List Entry)) → IsMade o ended outputs
@@ -148,14 +148,14 @@ module _ (cmp : List ℕ → List ℕ → Ordering) (separator_of : List ℕ →
       → (list_all (λ (p : PlannedOutput). nat_le p.len (2 ^ 30)) (numbered_from size number ended) && nat_le (block_count (numbered_from size number ended)) (2 ^ 40)) ≡ false
       → plan_of T o number outputs ≡ Err (fault TooLarge)
   plan_large number ended outputs h fits large =
-      let count : length outputs ≡ length ended = sym (ap length h.entries) ∙ length-map ended (λ (b : Vec PlannedBlock). entries_of b.items) in
+      let count : length outputs ≡ length ended = sym (ap length h.entries) ∙ length-map ended (λ (b : Vec PlannedBlock). entries_in_blocks b.items) in
       rw (lt-ltb (number + length outputs) (2 ^ 64) (omega arith), sym (tests number ended outputs h) ∙ large) refl
 
   pub plan_made : (number : ℕ) (ended : List (Vec PlannedBlock)) (outputs : List (List Entry)) → IsMade o ended outputs → number + length ended < 2 ^ 64
       → (list_all (λ (p : PlannedOutput). nat_le p.len (2 ^ 30)) (numbered_from size number ended) && nat_le (block_count (numbered_from size number ended)) (2 ^ 40)) ≡ true
       → plan_of T o number outputs ≡ Ok (map planned_of (numbered_from size number ended))
   plan_made number ended outputs h fits small =
-      let count : length outputs ≡ length ended = sym (ap length h.entries) ∙ length-map ended (λ (b : Vec PlannedBlock). entries_of b.items) in
+      let count : length outputs ≡ length ended = sym (ap length h.entries) ∙ length-map ended (λ (b : Vec PlannedBlock). entries_in_blocks b.items) in
       let both = and_parts (list_all (λ (p : PlannedOutput). nat_le p.len (2 ^ 30)) (numbered_from size number ended)) (nat_le (block_count (numbered_from size number ended)) (2 ^ 40)) small in
       let all : map planned_of (numbered_from size number ended) ≡ planned_from T o number outputs = planned_is number ended h.planned both.0 ∙ ap (planned_from T o number) h.entries in
       rw (lt-ltb (number + length outputs) (2 ^ 64) (omega arith), sym (tests number ended outputs h) ∙ small) (ap Ok (sym all))

@@ -14,7 +14,7 @@ use Rattle.cut.specs.declared.piece.Piece.{Piece}
 use Rattle.cut.specs.declared.planned_output.PlannedOutput.{PlannedOutput}
 use Rattle.cut.specs.Assembling.{IsReady, AreReady, tables_of}
 use Rattle.cut.specs.Divided.{places_from, counts_all, piece_limit}
-use Rattle.cut.specs.Opened.{parts_of, entries_of, HasLen, ArePlanned}
+use Rattle.cut.specs.Opened.{parts_of, entries_in_blocks, HasLen, ArePlanned}
 use Rattle.cut.specs.Plan.{Planned, assembled, encoded, parts, pieces, pieces_in}
 use Rattle.cut.specs.Planning.{planned_of, block_count, IsPlannedOutput, IsPlan, lists_in}
 use Rattle.std.specs.Prelude.{slice_range}
@@ -93,7 +93,7 @@ each_planned o [] h some = tt
 each_planned o (b ∷ bs) h some = (record { some = some.0; len_is = h.0 }, each_planned o bs h.1 some.1)
 
 table_is : (cmp : List ℕ → List ℕ → Ordering) (separator_of : List ℕ → List ℕ → List ℕ) (successor_of : List ℕ → List ℕ) (o : Options) (blocks : List PlannedBlock) → ArePlanned o blocks
-    → table cmp separator_of successor_of o (entries_of blocks) ≡ table_of (index_keys cmp separator_of successor_of) o.restart_interval (parts_of blocks)
+    → table cmp separator_of successor_of o (entries_in_blocks blocks) ≡ table_of (index_keys cmp separator_of successor_of) o.restart_interval (parts_of blocks)
 unfolding table
 table_is cmp separator_of successor_of o blocks h = ap (table_of (index_keys cmp separator_of successor_of) o.restart_interval) (sym h.cut)
 
@@ -109,7 +109,7 @@ module _ (cmp : List ℕ → List ℕ → Ordering) (separator_of : List ℕ →
   keys = index_keys cmp separator_of successor_of
 
   abbrev lists : List PlannedOutput → List (List Entry)
-  lists outputs = map (λ (p : PlannedOutput). entries_of p.blocks.items) outputs
+  lists outputs = map (λ (p : PlannedOutput). entries_in_blocks p.blocks.items) outputs
 
   abbrev bytes : List (List (List Entry)) → List (List ℕ)
   bytes ps = map (stored_blocks o.restart_interval) ps
@@ -118,7 +118,7 @@ module _ (cmp : List ℕ → List ℕ → Ordering) (separator_of : List ℕ →
   ready_all n i [] h = tt
   ready_all n i (p ∷ ps) h =
       let blocks : List PlannedBlock = p.blocks.items in
-      let q : List Entry = entries_of blocks in
+      let q : List Entry = entries_in_blocks blocks in
       let short = short_one cmp separator_of successor_of o p h.0 in
       let own : List (List ℕ) = bytes (pieces_in o n q) in
       let rest : List (List ℕ) = bytes (flat_map (pieces_in o n) (lists ps)) in
@@ -157,4 +157,4 @@ module _ (cmp : List ℕ → List ℕ → Ordering) (separator_of : List ℕ →
   tables_are [] h = refl
   tables_are (p ∷ ps) h =
       ap (λ (bs : List ℕ). (p.number, bs) ∷ tables_of keys o.restart_interval ps) (sym (table_is cmp separator_of successor_of o p.blocks.items h.0.planned))
-      ∙ ap (λ (ts : List (ℕ × List ℕ)). (p.number, T (entries_of p.blocks.items)) ∷ ts) (tables_are ps h.1)
+      ∙ ap (λ (ts : List (ℕ × List ℕ)). (p.number, T (entries_in_blocks p.blocks.items)) ∷ ts) (tables_are ps h.1)

@@ -25,7 +25,7 @@ use Rattle.table.specs.Table.{IndexKeys, index_key, index_keys, index_from, hand
 use Rattle.pieces.specs.declared.planned_block.PlannedBlock.{PlannedBlock}
 use Rattle.cut.specs.Lengths.{added_len}
 use Rattle.cut.specs.Metered.{ended}
-use Rattle.cut.specs.Opened.{parts_of, entries_of, HasLen, ArePlanned}
+use Rattle.cut.specs.Opened.{parts_of, entries_in_blocks, HasLen, ArePlanned}
 use Rattle.cut.specs.Plan.{stored_len}
 use Rattle.cut.specs.Sizes.{saturated, piece_size}
 use Rattle.cut.specs.TableLength.{capped, lens_of, key_at, index_of, index_sizes, table_size}
@@ -206,7 +206,7 @@ module _ (o : Options) where
         length-append stored_bytes (closing (length stored_bytes) index) ∙ ap (λ (n : ℕ). length stored_bytes + n) (lengths_law.closed (length stored_bytes) index)
 
 pub length-table : (cmp : List ℕ → List ℕ → Ordering) (separator_of : List ℕ → List ℕ → List ℕ) (successor_of : List ℕ → List ℕ) (o : Options) (blocks : List PlannedBlock) → ArePlanned o blocks
-    → length (table cmp separator_of successor_of o (entries_of blocks))
+    → length (table cmp separator_of successor_of o (entries_in_blocks blocks))
     ≡ stored_len o.restart_interval (parts_of blocks) + (length (block 1 (index_from (index_keys cmp separator_of successor_of) o.restart_interval 0 (parts_of blocks))) + 66)
 unfolding table
 length-table cmp separator_of successor_of o blocks h =
@@ -215,7 +215,7 @@ length-table cmp separator_of successor_of o blocks h =
 
 -- the size that is added up is that of the table
 pub size_is : (cmp : List ℕ → List ℕ → Ordering) (separator_of : List ℕ → List ℕ → List ℕ) (successor_of : List ℕ → List ℕ) (o : Options) (blocks : List PlannedBlock) → ArePlanned o blocks
-    → table_size (index_keys cmp separator_of successor_of) blocks ≡ capped (length (table cmp separator_of successor_of o (entries_of blocks)))
+    → table_size (index_keys cmp separator_of successor_of) blocks ≡ capped (length (table cmp separator_of successor_of o (entries_in_blocks blocks)))
 size_is cmp separator_of successor_of o blocks h =
     let keys = index_keys cmp separator_of successor_of in
     let whole = length-table cmp separator_of successor_of o blocks h in

@@ -23,8 +23,8 @@ abbrev pub parts_of : List PlannedBlock → List (List Entry)
 parts_of blocks = map (λ (b : PlannedBlock). b.entries.entries) blocks
 
 -- the entries of planned blocks, one behind the other
-abbrev pub entries_of : List PlannedBlock → List Entry
-entries_of blocks = all_of (parts_of blocks)
+abbrev pub entries_in_blocks : List PlannedBlock → List Entry
+entries_in_blocks blocks = all_of (parts_of blocks)
 
 -- the length of a planned block is that of the block of its entries
 abbrev pub HasLen : Options → PlannedBlock → Type 0
@@ -36,7 +36,7 @@ IsFlushed o b = is_full o b.entries.entries ≡ true
 
 -- the blocks are the data blocks of their entries
 pub record ArePlanned (o : Options) (blocks : List PlannedBlock) : Type 0 where
-  pub cut : parts_of blocks ≡ data_blocks o (entries_of blocks)
+  pub cut : parts_of blocks ≡ data_blocks o (entries_in_blocks blocks)
   pub lens : AllByRecursion (HasLen o) blocks
 
 -- whether an output of these entries ends before the first of those behind them
@@ -52,6 +52,7 @@ pub record IsOpen (o : Options) (blocks : List PlannedBlock) (flushed : ℕ) (la
   pub part : is_full o open_one.entries ≡ false
   pub full : AllByRecursion (IsFlushed o) blocks
   pub lens : AllByRecursion (HasLen o) blocks
-  pub cuts : (rest : List Entry) → blocks_behind o [] ((entries_of blocks ++ open_one.entries) ++ rest) ≡ parts_of blocks ++ blocks_behind o open_one.entries rest
+  pub cuts : (rest : List Entry) →
+      blocks_behind o [] ((entries_in_blocks blocks ++ open_one.entries) ++ rest) ≡ parts_of blocks ++ blocks_behind o open_one.entries rest
   pub flushed_is : flushed ≡ saturated (stored_len o.restart_interval (parts_of blocks))
-  pub last_is : last ≡ ended (entries_of blocks ++ open_one.entries)
+  pub last_is : last ≡ ended (entries_in_blocks blocks ++ open_one.entries)

@@ -86,7 +86,9 @@ pub record WholeLaw (cmp : List ℕ → List ℕ → Ordering) : Type 0 where
 
 -- the entries of a segment, in order, have these outputs and no others
 abbrev pub OutputsLaw : (List ℕ → List ℕ → Ordering) → Type 0
-OutputsLaw cmp = (o : Options) (segment : List Entry) (qs : List (List Entry)) → VersionsRise cmp segment → AreOutputs o segment qs ↔ (outputs_in o segment ≡ qs)
+OutputsLaw cmp =
+    (o : Options) (segment : List Entry) (qs : List (List Entry)) →
+    VersionsRise cmp segment → AreOutputs o segment qs ↔ (outputs_in o segment ≡ qs)
 
 -- the runs of the ranges of a split have the outputs of the union
 abbrev pub RangesCutLaw : (List ℕ → List ℕ → Ordering) → Type 0

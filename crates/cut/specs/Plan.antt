@@ -87,7 +87,8 @@ encoded o outputs = map (stored_blocks o.restart_interval) (pieces o outputs)
 -- and what closes its table are its table.
 abbrev pub PiecesLaw : Type 0
 PiecesLaw =
-    (cmp : List ℕ → List ℕ → Ordering) (separator_of : List ℕ → List ℕ → List ℕ) (successor_of : List ℕ → List ℕ) (o : Options) (blocks : ℕ) (q : List Entry) →
+    (cmp : List ℕ → List ℕ → Ordering) (separator_of : List ℕ → List ℕ → List ℕ) (successor_of : List ℕ → List ℕ)
+    (o : Options) (blocks : ℕ) (q : List Entry) →
     let bytes = flat_map (stored_blocks o.restart_interval) (pieces_in o blocks q) in
     table cmp separator_of successor_of o q
     ≡ bytes ++ closing (length bytes) (index_from (index_keys cmp separator_of successor_of) o.restart_interval 0 (data_blocks o q))

@@ -9,7 +9,7 @@ use Rattle.pieces.specs.declared.planned_block.PlannedBlock.{PlannedBlock}
 use Rattle.cut.specs.declared.piece.Piece.{Piece}
 use Rattle.cut.specs.declared.planned_output.PlannedOutput.{PlannedOutput}
 use Rattle.cut.specs.Divided.{places_all, counts_all, piece_limit}
-use Rattle.cut.specs.Opened.{parts_of, entries_of, ArePlanned}
+use Rattle.cut.specs.Opened.{parts_of, entries_in_blocks, ArePlanned}
 use Rattle.cut.specs.Plan.{Planned, ends_from}
 
 -- the options of a plan, and its outputs
@@ -21,7 +21,7 @@ pub record PlanSeen : Type 0 where
 abbrev pub planned_of : PlannedOutput → Planned
 planned_of p = record {
   number = p.number;
-  entries = entries_of p.blocks.items;
+  entries = entries_in_blocks p.blocks.items;
   blocks = ends_from 0 (parts_of p.blocks.items);
   length = p.len;
 }
@@ -45,7 +45,7 @@ block_count outputs = sum_by (λ (p : PlannedOutput). length p.blocks.items) out
 pub record IsPlannedOutput (table_of : List Entry → List ℕ) (o : Options) (p : PlannedOutput) : Type 0 where
   pub planned : ArePlanned o p.blocks.items
   pub some : HaveEntries p.blocks.items
-  pub len_is : p.len ≡ length (table_of (entries_of p.blocks.items))
+  pub len_is : p.len ≡ length (table_of (entries_in_blocks p.blocks.items))
   pub len_le : p.len ≤ 2 ^ 30
 
 -- the entries of each output

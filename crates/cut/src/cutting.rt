@@ -8,7 +8,7 @@ ghost use Rattle.block.specs.Piece.{Entry};
 ghost use Rattle.table.specs.Options.{AreInLimits};
 ghost use Rattle.keep.specs.Runs.{joined_run};
 ghost use Rattle.cut.specs.Cutting.{outputs_left};
-ghost use Rattle.cut.specs.Opened.{ArePlanned, entries_of};
+ghost use Rattle.cut.specs.Opened.{ArePlanned, entries_in_blocks};
 ghost use Rattle.cut.specs.Outputs.{segments, outputs_in, outputs_of};
 
 use crate::open_output::OpenOutput;
@@ -35,14 +35,14 @@ struct Cutting<'r, 'a> {
 impl<'r, 'a> Model for Cutting<'r, 'a> {
     ghost use Rattle.std.specs.Prelude.{map};
     ghost use Rattle.std.specs.List.{AllByRecursion};
-    ghost use Rattle.cut.specs.Opened.{ArePlanned, entries_of};
+    ghost use Rattle.cut.specs.Opened.{ArePlanned, entries_in_blocks};
     ghost use Rattle.cut.specs.Cutting.{Cut};
 
     ghost Value = { Cut };
 
     ghost view = { λ c. record {
       options = c.latest.options;
-      outputs = map (λ blocks. entries_of blocks.items) c.ended.items;
+      outputs = map (λ blocks. entries_in_blocks blocks.items) c.ended.items;
       latest = c.latest.entries;
       behind = c.latest.behind;
     } };
@@ -158,7 +158,7 @@ impl<'r, 'a> Cutting<'r, 'a> {
 
     /// The data blocks of the outputs that are ended.
     fn into_ended(self) -> Vec<Vec<PlannedBlock<'r, 'a>>>
-        ensures entries { map (λ blocks. entries_of blocks.items) result.items ≡ self.entry.outputs }
+        ensures entries { map (λ blocks. entries_in_blocks blocks.items) result.items ≡ self.entry.outputs }
         ensures planned { AllByRecursion (λ blocks. ArePlanned self.entry.options blocks.items) result.items }
     {
         self.ended
@@ -174,7 +174,7 @@ pub(crate) fn outputs<'r, 'a>(
 ) -> Result<Vec<Vec<PlannedBlock<'r, 'a>>>, Fault>
     requires { AreInLimits options }
     ensures entries { IfOk result (λ outputs.
-        map (λ blocks. entries_of blocks.items) outputs.items ≡ outputs_of grandparents.now options (joined_run runs.now)) }
+        map (λ blocks. entries_in_blocks blocks.items) outputs.items ≡ outputs_of grandparents.now options (joined_run runs.now)) }
     ensures planned { IfOk result (λ outputs. AllByRecursion (λ blocks. ArePlanned options blocks.items) outputs.items) }
     ensures memory { IfErr result (λ e. e ≡ fault Memory) }
 {

@@ -14,8 +14,8 @@ use frame::TRAILER_LEN;
 use pieces::PlannedBlock;
 use std::alloc::Global;
 
-/// Adds the pieces of the data blocks of an output, and answers how many they are. A piece ends with the block at which its bytes reach this many. Refused
-/// for want of memory alone.
+/// Adds the pieces of the data blocks of an output, and answers how many they are. A piece ends with the block at which its
+/// bytes reach this many. Refused for want of memory alone.
 fn push_pieces(
     pieces: &mut Vec<Piece>,
     output: usize,

@@ -38,13 +38,13 @@ pub(crate) struct OpenOutput<'r, 'a> {
 impl<'r, 'a> Model for OpenOutput<'r, 'a> {
     ghost use Rattle.std.specs.Prelude.{◌++◌};
     ghost use Rattle.std.specs.Option.{option_map};
-    ghost use Rattle.cut.specs.Opened.{Opened, entries_of, IsOpen};
+    ghost use Rattle.cut.specs.Opened.{Opened, entries_in_blocks, IsOpen};
 
     ghost Value = { Opened };
 
     ghost view = { λ w. record {
       options = w.options;
-      entries = entries_of w.blocks.items ++ w.current.entries;
+      entries = entries_in_blocks w.blocks.items ++ w.current.entries;
       behind = w.current.behind;
     } };
 

@@ -4,7 +4,7 @@ ghost use Rattle.std.specs.Prelude.{◌≡◌, length, slice_get, Some};
 ghost use Rattle.std.specs.Option.{option_map};
 ghost use Rattle.cut.specs.Metered.{ended};
 ghost use Rattle.cut.specs.OutputMeta.{IsMetaOf};
-ghost use Rattle.cut.specs.Opened.{entries_of};
+ghost use Rattle.cut.specs.Opened.{entries_in_blocks};
 ghost use Rattle.cut.specs.Planning.{HaveEntries, planned_of};
 ghost use Rattle.cut.specs.Sizes.{saturated};
 
@@ -15,7 +15,7 @@ use pieces::PlannedBlock;
 
 /// How many entries data blocks have together, or 2^64 - 1 where there are more.
 fn count_entries(blocks: &[PlannedBlock<'_, '_>]) -> u64
-    ensures { result ≡ saturated (length (entries_of blocks.now)) }
+    ensures { result ≡ saturated (length (entries_in_blocks blocks.now)) }
 {
     let mut count: u64 = 0;
     for block in blocks {
@@ -27,7 +27,7 @@ fn count_entries(blocks: &[PlannedBlock<'_, '_>]) -> u64
 /// The first key of data blocks.
 fn first_key<'r>(blocks: &[PlannedBlock<'r, '_>]) -> InternalKey<'r>
     requires { HaveEntries blocks.now }
-    ensures { option_map (λ e. e.key) (slice_get (entries_of blocks.now) 0) ≡ Some result.bytes.now }
+    ensures { option_map (λ e. e.key) (slice_get (entries_in_blocks blocks.now) 0) ≡ Some result.bytes.now }
 {
     let first = blocks[0].entries.first();
     first.key()
@@ -36,7 +36,7 @@ fn first_key<'r>(blocks: &[PlannedBlock<'r, '_>]) -> InternalKey<'r>
 /// The last key of data blocks.
 fn last_key<'r>(blocks: &[PlannedBlock<'r, '_>]) -> InternalKey<'r>
     requires { HaveEntries blocks.now }
-    ensures { ended (entries_of blocks.now) ≡ Some result.bytes.now }
+    ensures { ended (entries_in_blocks blocks.now) ≡ Some result.bytes.now }
 {
     match blocks[blocks.len() - 1].entries.last_key() {
         Some(key) => key,

@@ -18,6 +18,10 @@ use table::{Cursor, SoundTable, TableCursor, check};
 /// after it.
 ///
 /// The tables of its inputs and of its outputs are read and tested again, and all of these are held in memory. Only reads.
+///
+/// Refused as the choice of inputs is: `Level` above 5, `NoInput` where the level has no file; `Missing` where a table isn't
+/// there any more; by the first of its tests that a table fails; `SplitCount` where the ranges are not from 1 to 4,096;
+/// `Device` at once; `Memory` where memory ran out.
 pub fn account_of<F: Folder>(
     alloc: Global,
     folder: &mut F,

@@ -1,12 +1,13 @@
 //! Which file of a folder is refused, and whether its log has writes. Both are told where that is asked for.
 
-ghost use Rattle.std.specs.Prelude.{◌≡◌};
+ghost use Rattle.std.specs.Prelude.{◌≡◌, ℕ, true, Option, length};
 ghost use Rattle.folder.specs.Folder.{TellsSame};
+ghost use Rattle.reads.specs.Checking.{is_below, is_stated};
 
 use coding::{Fault, FaultName};
 use edit::{FileMeta, Version};
 use folder::{CURRENT, Folder, Order, open, table_name};
-use ikey::{Bytewise, Comparator, Shortlex};
+use ikey::{Bytewise, Comparator, InternalKey, Shortlex};
 use std::alloc::Global;
 use table::{SoundTable, check};
 
@@ -25,6 +26,9 @@ pub struct RefusedFile {
 /// The first file of a folder that is refused: CURRENT, the manifest, or a table by level and in version order; `Bounds` of a
 /// table whose size or keys aren't those that the manifest says, where all of them are tables. None where all are taken, each
 /// by itself. Only reads.
+///
+/// Refused for a failing device or want of memory alone: what is wrong with a file is no refusal but the answer. Where one of
+/// these two befalls the opening, or memory ran out at the test of a table, it may be answered as what is wrong with that file.
 pub fn refused_file<F: Folder>(alloc: Global, folder: &mut F) -> Result<Option<RefusedFile>, Fault>
     ensures same { TellsSame (F.tells folder.old) (F.tells folder.new) }
     ensures calls { F.calls folder.new ≡ F.calls folder.old }
@@ -158,9 +162,23 @@ fn named(alloc: Global, table: &ListedTable<'_>, fault: Fault) -> Result<Refused
 
 /// Whether a table has the size and the smallest and the largest key that the manifest says.
 fn is_as_stated<C: Comparator>(meta: &FileMeta, table: &SoundTable<'_, C>) -> bool {
-    table.bytes().len() as u64 == meta.size
-        && table.smallest().bytes() == meta.smallest.as_key().bytes()
-        && table.largest().bytes() == meta.largest.as_key().bytes()
+    is_stated(meta, table.bytes(), table.smallest(), table.largest())
+}
+
+/// Whether the manifest says this length, this first and this last key: what a lawful version asks of a file whose number is below
+/// the next one.
+fn is_stated(
+    meta: &FileMeta,
+    bytes: &[u8],
+    smallest: InternalKey<'_>,
+    largest: InternalKey<'_>,
+) -> bool
+    ensures { (next : Option ℕ) → is_below next meta.now.number ≡ true →
+        result ≡ is_stated next meta.now (length bytes.now) smallest.entry.bytes.now largest.entry.bytes.now }
+{
+    meta.size == bytes.len() as u64
+        && meta.smallest.as_key().bytes() == smallest.bytes()
+        && meta.largest.as_key().bytes() == largest.bytes()
 }
 
 /// The name of the log that a folder's manifest names, where it is there and holds writes. Refused as opening the folder is, or

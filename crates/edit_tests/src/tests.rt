@@ -1,9 +1,10 @@
 ghost use Rattle.std.specs.Prelude.{◌≤◌};
 
 use coding::{Fault, FaultName};
-use edit::{DeletedFile, NewFile, Version, VersionEdit, edit_laws};
+use edit::{DeletedFile, FileMeta, NewFile, Version, VersionEdit, edit_laws};
 use ikey::{Bytewise, Kind, Shortlex};
 use std::alloc::Global;
+use std::process::Abort;
 use std::test::*;
 
 // Records of the manifests of two databases that LevelDB 1.23 wrote, as they stand in its files.
@@ -46,17 +47,37 @@ fn written_again(alloc: Global, bytes: &[u8]) -> Result<Vec<u8>, Fault> {
     VersionEdit::decode(alloc, bytes)?.encode(alloc)
 }
 
+/// Tests that bytes are these.
+fn are_bytes(rt: &impl Abort, found: &[u8], wanted: &[u8]) {
+    assert_eq!(rt; found, wanted);
+}
+
+/// Tests which refusal it is.
+fn is_refusal(rt: &impl Abort, found: Option<FaultName>, wanted: Option<FaultName>) {
+    assert_eq!(rt; found, wanted);
+}
+
+/// Log number, previous log number, next file and last sequence.
+type Numbers = [Option<u64>; 4];
+
+/// Tests that numbers are these.
+fn are_numbers(rt: &impl Abort, found: &Numbers, wanted: &Numbers) {
+    assert_eq!(rt; *found, *wanted);
+}
+
+/// Edits as they are written.
+const EDITS: [&[u8]; 6] = [COMPACTED, MIXED, MIXED_NEXT, DELETING, REPLACING, b""];
+
 #[test]
 fn edits_are_read_and_written(rt: HostRuntime) -> Result<(), Fail> {
-    for bytes in [COMPACTED, MIXED, MIXED_NEXT, DELETING, REPLACING, b""] {
-        let written = written_again(rt.alloc(), bytes)?;
-        assert_eq!(rt; written.as_slice(), bytes);
+    for bytes in EDITS {
+        are_bytes(&rt, &written_again(rt.alloc(), bytes)?, bytes);
     }
     Ok(())
 }
 
-/// The numbers that an edit sets: log number, previous log number, next file and last sequence.
-fn numbers_in(alloc: Global, bytes: &[u8]) -> Result<[Option<u64>; 4], Fault> {
+/// The numbers that an edit sets.
+fn numbers_in(alloc: Global, bytes: &[u8]) -> Result<Numbers, Fault> {
     let edit = VersionEdit::decode(alloc, bytes)?;
     Ok([
         edit.log_number,
@@ -75,60 +96,51 @@ fn is_named(alloc: Global, bytes: &[u8], wanted: Option<&str>) -> Result<bool, F
     })
 }
 
-/// The level and the sequence of each compact pointer of an edit.
-fn pointers_in(alloc: Global, bytes: &[u8]) -> Result<Vec<(u64, u64)>, Fault> {
-    let edit = VersionEdit::decode(alloc, bytes)?;
-    let mut pointers = Vec::new(alloc);
-    for pointer in &edit.pointers {
-        pointers.push((pointer.level, pointer.key.as_key().sequence()))?;
+/// Whether an edit has the one compact pointer of `REPLACING`: at level 1, with a key at sequence 2.
+fn has_pointer(edit: &VersionEdit) -> bool {
+    match edit.pointers.first() {
+        Some(pointer) => {
+            edit.pointers.len() == 1 && pointer.level == 1 && pointer.key.as_key().sequence() == 2
+        }
+        None => false,
     }
-    Ok(pointers)
 }
 
-/// The files that an edit takes out.
-fn deleted_in(alloc: Global, bytes: &[u8]) -> Result<Vec<DeletedFile>, Fault> {
-    let edit = VersionEdit::decode(alloc, bytes)?;
-    let mut deleted = Vec::new(alloc);
-    for file in edit.deleted.iter() {
-        deleted.push(*file)?;
-    }
-    Ok(deleted)
-}
+/// The file that `REPLACING` takes out.
+const SEVEN: DeletedFile = DeletedFile {
+    level: 1,
+    number: 7,
+};
 
-/// Whether a file is the one that `REPLACING` puts in.
-fn is_nine(file: &NewFile) -> bool {
-    let meta = &file.meta;
-    file.level == 2
-        && meta.number == 9
+/// Whether a description is that of the file that `REPLACING` puts in.
+fn is_nine(meta: &FileMeta) -> bool {
+    meta.number == 9
         && meta.size == 113
         && meta.smallest.as_key().user() == b"u".as_slice()
         && meta.largest.as_key().kind() == Kind::Delete
+        && meta.largest.as_key().sequence() == 4
 }
 
-/// Whether `REPLACING` puts in that file alone.
-fn puts_in_nine(alloc: Global) -> Result<bool, Fault> {
-    let edit = VersionEdit::decode(alloc, REPLACING)?;
-    for file in &edit.added {
-        if !is_nine(file) {
-            return Ok(false);
-        }
+/// Whether these are the one file that `REPLACING` puts in.
+fn are_nine(added: &[NewFile]) -> bool {
+    match added.first() {
+        Some(file) => added.len() == 1 && file.level == 2 && is_nine(&file.meta),
+        None => false,
     }
-    Ok(edit.added.len() == 1)
+}
+
+/// Whether `REPLACING` has that pointer, and takes out and puts in those files alone.
+fn replaces(alloc: Global) -> Result<bool, Fault> {
+    let edit = VersionEdit::decode(alloc, REPLACING)?;
+    let takes_out = edit.deleted.len() == 1 && edit.deleted.contains(&SEVEN);
+    Ok(has_pointer(&edit) && takes_out && are_nine(&edit.added))
 }
 
 #[test]
 fn fields_of_an_edit(rt: HostRuntime) -> Result<(), Fail> {
-    let numbers = numbers_in(rt.alloc(), REPLACING)?;
-    assert_eq!(rt; numbers, [Some(3), Some(0), Some(10), Some(4)]);
-    let pointers = pointers_in(rt.alloc(), REPLACING)?;
-    assert_eq!(rt; pointers.as_slice(), [(1, 2)].as_slice());
-    let deleted = deleted_in(rt.alloc(), REPLACING)?;
-    let seven = DeletedFile {
-        level: 1,
-        number: 7,
-    };
-    assert_eq!(rt; deleted.as_slice(), [seven].as_slice());
-    assert!(rt; puts_in_nine(rt.alloc())?);
+    let numbers = [Some(3), Some(0), Some(10), Some(4)];
+    are_numbers(&rt, &numbers_in(rt.alloc(), REPLACING)?, &numbers);
+    assert!(rt; replaces(rt.alloc())?);
     assert!(rt; is_named(rt.alloc(), REPLACING, None)?);
     assert!(rt; is_named(rt.alloc(), COMPACTED, Some("leveldb.BytewiseComparator"))?);
     Ok(())
@@ -137,34 +149,36 @@ fn fields_of_an_edit(rt: HostRuntime) -> Result<(), Fail> {
 #[test]
 fn a_field_that_comes_again(rt: HostRuntime) -> Result<(), Fail> {
     let numbers = numbers_in(rt.alloc(), b"\x02\x03\x02\x04")?;
-    assert_eq!(rt; numbers, [Some(4), None, None, None]);
+    are_numbers(&rt, &numbers, &[Some(4), None, None, None]);
     // Deleted files are a set, which is written by level and number.
     let written = written_again(rt.alloc(), b"\x06\x01\x02\x06\0\x05\x06\x01\x02")?;
-    assert_eq!(rt; written.as_slice(), b"\x06\0\x05\x06\x01\x02".as_slice());
+    are_bytes(&rt, &written, b"\x06\0\x05\x06\x01\x02");
     Ok(())
 }
 
+/// Bytes that are no edit, and how they are refused.
+const NO_EDITS: [(&[u8], FaultName); 12] = [
+    (b"\x08", FaultName::EditTag),
+    (b"\x0a", FaultName::EditTag),
+    (b"\x02\x80", FaultName::EditField),
+    (b"\x82\0\x03", FaultName::EditField),
+    (b"\x06\x07\x01", FaultName::EditField),
+    (b"\x01\x01\xff", FaultName::EditField),
+    // A length that passes the bytes, and one that isn't a varint of 32 bits.
+    (b"\x01\xff\xff\xff\xff\x0fa", FaultName::EditField),
+    (b"\x01\xff\xff\xff\xff\x1fa", FaultName::EditField),
+    // A key of fewer than 8 bytes, and one of an unknown type.
+    (b"\x05\0\x07\0\0\0\0\0\0\0", FaultName::EditField),
+    (b"\x05\0\x08\x02\0\0\0\0\0\0\0", FaultName::EditField),
+    // A field without a reading comes before an unknown tag.
+    (b"\x02\x03\x02\x80\0\x08", FaultName::EditField),
+    (b"\x02\x03\x08\x02\x80", FaultName::EditTag),
+];
+
 #[test]
 fn bytes_that_are_no_edit(rt: HostRuntime) {
-    let rows = [
-        (b"\x08".as_slice(), FaultName::EditTag),
-        (b"\x0a", FaultName::EditTag),
-        (b"\x02\x80", FaultName::EditField),
-        (b"\x82\0\x03", FaultName::EditField),
-        (b"\x06\x07\x01", FaultName::EditField),
-        (b"\x01\x01\xff", FaultName::EditField),
-        // A length that passes the bytes, and one that isn't a varint of 32 bits.
-        (b"\x01\xff\xff\xff\xff\x0fa", FaultName::EditField),
-        (b"\x01\xff\xff\xff\xff\x1fa", FaultName::EditField),
-        // A key of fewer than 8 bytes, and one of an unknown type.
-        (b"\x05\0\x07\0\0\0\0\0\0\0", FaultName::EditField),
-        (b"\x05\0\x08\x02\0\0\0\0\0\0\0", FaultName::EditField),
-        // A field without a reading comes before an unknown tag.
-        (b"\x02\x03\x02\x80\0\x08", FaultName::EditField),
-        (b"\x02\x03\x08\x02\x80", FaultName::EditTag),
-    ];
-    for (bytes, want) in rows {
-        assert_eq!(rt; refused(rt.alloc(), bytes), Some(want), "{bytes:?}");
+    for (bytes, want) in NO_EDITS {
+        is_refusal(&rt, refused(rt.alloc(), bytes), Some(want));
     }
 }
 
@@ -179,9 +193,9 @@ fn refused_key(alloc: Global, front: &[u8], len: usize) -> Result<Option<FaultNa
 fn a_user_key_over_its_limit(rt: HostRuntime) -> Result<(), Fail> {
     // The length counts the 8 bytes of the tag too.
     let over = refused_key(rt.alloc(), b"\x05\0\x88\x80\x04", 65_536)?;
-    assert_eq!(rt; over, Some(FaultName::EditField));
+    is_refusal(&rt, over, Some(FaultName::EditField));
     let at = refused_key(rt.alloc(), b"\x05\0\x87\x80\x04", 65_535)?;
-    assert_eq!(rt; at, None);
+    is_refusal(&rt, at, None);
     Ok(())
 }
 
@@ -201,15 +215,17 @@ fn wrong_end(alloc: Global, bytes: &[u8], from: usize, ends: &[usize]) -> Option
     None
 }
 
+/// Edits, a place, and the places from there on where a field ends.
+const ENDS: [(&[u8], usize, &[usize]); 3] = [
+    (DELETING, 0, &[0, 2, 4, 6, 8, 20]),
+    (REPLACING, 24, &[]),
+    (COMPACTED, 29, &[45]),
+];
+
 #[test]
 fn beginnings_of_edits(rt: HostRuntime) {
-    let rows = [
-        (DELETING, 0, [0, 2, 4, 6, 8, 20].as_slice()),
-        (REPLACING, 24, [].as_slice()),
-        (COMPACTED, 29, [45].as_slice()),
-    ];
-    for (bytes, from, ends) in rows {
-        assert_eq!(rt; wrong_end(rt.alloc(), bytes, from, ends), None, "{bytes:?}");
+    for (bytes, from, ends) in ENDS {
+        assert!(rt; wrong_end(rt.alloc(), bytes, from, ends).is_none());
     }
 }
 
@@ -224,22 +240,27 @@ fn next_version(alloc: Global, version: &Version, bytes: &[u8]) -> Result<Versio
     version.apply::<Bytewise>(alloc, &edit)
 }
 
-/// The version of the second database, after both of its records.
-fn mixed_version(alloc: Global) -> Result<Version, Fault> {
-    let first = version_after(alloc, Version::empty(alloc), MIXED)?;
-    version_after(alloc, first, MIXED_NEXT)
+/// The version of two edits, one after the other.
+fn version_of_two(alloc: Global, first: &[u8], second: &[u8]) -> Result<Version, Fault> {
+    let version = version_after(alloc, Version::empty(alloc), first)?;
+    version_after(alloc, version, second)
 }
 
-#[test]
-fn numbers_of_a_version(rt: HostRuntime) -> Result<(), Fail> {
-    let version = mixed_version(rt.alloc())?;
-    let numbers = [
+/// The numbers of a version.
+fn numbers_of(version: &Version) -> Numbers {
+    [
         version.log_number(),
         version.previous_log(),
         version.next_file(),
         version.last_sequence(),
-    ];
-    assert_eq!(rt; numbers, [Some(26), Some(0), Some(27), Some(1200)]);
+    ]
+}
+
+#[test]
+fn numbers_of_a_version(rt: HostRuntime) -> Result<(), Fail> {
+    let version = version_of_two(rt.alloc(), MIXED, MIXED_NEXT)?;
+    let numbers = [Some(26), Some(0), Some(27), Some(1200)];
+    are_numbers(&rt, &numbers_of(&version), &numbers);
     Ok(())
 }
 
@@ -255,7 +276,7 @@ fn is_pointed(version: &Version, level: u64, user: &[u8]) -> bool
 
 #[test]
 fn pointers_of_a_version(rt: HostRuntime) -> Result<(), Fail> {
-    let version = mixed_version(rt.alloc())?;
+    let version = version_of_two(rt.alloc(), MIXED, MIXED_NEXT)?;
     assert!(rt; is_pointed(&version, 0, b"k00399"));
     assert!(rt; version.pointer(1).is_none());
     Ok(())
@@ -284,13 +305,27 @@ fn are_sizes(
     Ok(sizes_at(alloc, version, level)?.as_slice() == wanted)
 }
 
+/// The number and size of each file of a level of the second database, in version order.
+fn sizes_mixed(level: u64) -> &'static [(u64, u64)] {
+    match level {
+        0 => &[(25, 3308), (22, 3334), (19, 3403)],
+        1 => &[(15, 11485)],
+        _ => &[],
+    }
+}
+
+/// Tests that the files of each level are these.
+fn are_mixed(rt: &(impl Abort + AllocGlobal), version: &Version) -> Result<(), Fault> {
+    for level in 0..7 {
+        assert!(rt; are_sizes(rt.alloc(), version, level, sizes_mixed(level))?);
+    }
+    Ok(())
+}
+
 #[test]
 fn files_of_a_version(rt: HostRuntime) -> Result<(), Fail> {
-    let version = mixed_version(rt.alloc())?;
-    let newest = [(25, 3308), (22, 3334), (19, 3403)];
-    assert!(rt; are_sizes(rt.alloc(), &version, 0, &newest)?);
-    assert!(rt; are_sizes(rt.alloc(), &version, 1, &[(15, 11485)])?);
-    assert!(rt; are_sizes(rt.alloc(), &version, 6, &[])?);
+    let version = version_of_two(rt.alloc(), MIXED, MIXED_NEXT)?;
+    are_mixed(&rt, &version)?;
     Ok(())
 }
 
@@ -305,18 +340,21 @@ fn snapshot_of(alloc: Global, bytes: &[u8]) -> Result<Vec<u8>, Fault> {
     snapshot(alloc, &version)
 }
 
+/// The field of the comparator's name.
+const NAME: &[u8] = b"\x01\x1aleveldb.BytewiseComparator";
+
+/// Edits, and the snapshots of the versions that they make of the empty one. The first record of a manifest is a snapshot.
+const SNAPSHOTS: [(&[u8], &[u8]); 4] = [
+    (b"", NAME),
+    (NAME, NAME),
+    (COMPACTED, COMPACTED),
+    (MIXED, MIXED),
+];
+
 #[test]
 fn a_snapshot_gives_the_version(rt: HostRuntime) -> Result<(), Fail> {
-    let name = b"\x01\x1aleveldb.BytewiseComparator".as_slice();
-    // The first record of a manifest is such an edit.
-    for (bytes, want) in [
-        (b"".as_slice(), name),
-        (name, name),
-        (COMPACTED, COMPACTED),
-        (MIXED, MIXED),
-    ] {
-        let written = snapshot_of(rt.alloc(), bytes)?;
-        assert_eq!(rt; written.as_slice(), want);
+    for (bytes, want) in SNAPSHOTS {
+        are_bytes(&rt, &snapshot_of(rt.alloc(), bytes)?, want);
     }
     Ok(())
 }
@@ -358,6 +396,11 @@ fn refused_over(alloc: Global, version: Version, bytes: &[u8]) -> Result<Option<
     Ok(refusal(version.applied::<Shortlex>(edit)))
 }
 
+/// How it is refused over the version of the two files, which it uses up.
+fn refused_over_two(alloc: Global, bytes: &[u8]) -> Result<Option<FaultName>, Fault> {
+    refused_over(alloc, two_files(alloc)?, bytes)
+}
+
 /// Edits, and how they are refused over the version of the two files.
 const OVER_TWO_FILES: [(&[u8], Option<FaultName>); 7] = [
     // A file that isn't there, or not at that level.
@@ -372,30 +415,37 @@ const OVER_TWO_FILES: [(&[u8], Option<FaultName>); 7] = [
     (EIGHT_TWICE, Some(FaultName::Apply)),
 ];
 
-#[test]
-fn edits_that_do_not_fit(rt: HostRuntime) -> Result<(), Fail> {
-    let version = two_files(rt.alloc())?;
+/// Tests how edits are refused over the version of the two files.
+fn are_refused(rt: &(impl Abort + AllocGlobal), version: &Version) -> Result<(), Fault> {
     for (bytes, want) in OVER_TWO_FILES {
-        let beside = refused_beside(rt.alloc(), &version, bytes)?;
-        assert_eq!(rt; beside, want);
-        let over = refused_over(rt.alloc(), two_files(rt.alloc())?, bytes)?;
-        assert_eq!(rt; over, want);
+        is_refusal(rt, refused_beside(rt.alloc(), version, bytes)?, want);
+        is_refusal(rt, refused_over_two(rt.alloc(), bytes)?, want);
     }
     Ok(())
 }
 
+#[test]
+fn edits_that_do_not_fit(rt: HostRuntime) -> Result<(), Fail> {
+    let version = two_files(rt.alloc())?;
+    are_refused(&rt, &version)?;
+    Ok(())
+}
+
+/// The number of a file, and its first user key.
+type First = (u64, &'static [u8]);
+
+/// Whether a file has this number and this first user key.
+fn is_file(file: &FileMeta, wanted: &First) -> bool {
+    file.number == wanted.0 && file.smallest.as_key().user() == wanted.1
+}
+
 /// Whether the files of a level have these numbers and first user keys.
-fn are_files(
-    alloc: Global,
-    version: &Version,
-    level: u64,
-    wanted: &[(u64, &[u8])],
-) -> Result<bool, Fault>
+fn are_files(alloc: Global, version: &Version, level: u64, wanted: &[First]) -> Result<bool, Fault>
     requires { level ≤ 6 }
 {
     let files = version.files::<Bytewise>(alloc, level)?;
     for (file, one) in files.iter().zip(wanted) {
-        if file.number != one.0 || file.smallest.as_key().user() != one.1 {
+        if !is_file(file, one) {
             return Ok(false);
         }
     }
@@ -403,7 +453,7 @@ fn are_files(
 }
 
 /// The files of a level, where number 7 went to another one.
-fn files_moved(level: u64) -> &'static [(u64, &'static [u8])] {
+fn files_moved(level: u64) -> &'static [First] {
     match level {
         1 => &[(5, b"a")],
         2 => &[(7, b"v")],
@@ -411,16 +461,18 @@ fn files_moved(level: u64) -> &'static [(u64, &'static [u8])] {
     }
 }
 
+/// Tests that the files of each level are these.
+fn are_moved(rt: &(impl Abort + AllocGlobal), version: &Version) -> Result<(), Fault> {
+    for level in 0..7 {
+        assert!(rt; are_files(rt.alloc(), version, level, files_moved(level))?);
+    }
+    Ok(())
+}
+
 #[test]
 fn a_file_goes_to_another_level(rt: HostRuntime) -> Result<(), Fail> {
-    let first = version_after(rt.alloc(), Version::empty(rt.alloc()), TWO_FILES)?;
-    let version = version_after(rt.alloc(), first, SEVEN_MOVED)?;
-    for level in 0..7 {
-        assert!(rt;
-            are_files(rt.alloc(), &version, level, files_moved(level))?,
-            "{level}"
-        );
-    }
+    let version = version_of_two(rt.alloc(), TWO_FILES, SEVEN_MOVED)?;
+    are_moved(&rt, &version)?;
     Ok(())
 }
 
@@ -429,23 +481,33 @@ const ODD: &[u8] = b"\x21\x1f\x1d\x1b\x19\x17\x15\x13\x11\x0f\x0d\x0b\x09\x07\x0
 
 const EVEN: &[u8] = b"\x22\x20\x1e\x1c\x1a\x18\x16\x14\x12\x10\x0e\x0c\x0a\x08\x06\x04\x02";
 
-/// The bytes of an edit that puts in a file of level 1 for each of the numbers, which are below 128.
-fn new_files(alloc: Global, numbers: &[u8]) -> Result<Vec<u8>, Fault> {
-    let mut bytes = Vec::new(alloc);
-    for number in numbers {
-        bytes.extend_from_slice(b"\x07\x01")?;
-        bytes.push(*number)?;
-        bytes.extend_from_slice(b"d\x09u\x01\x01\0\0\0\0\0\0\x09u\x01\x01\0\0\0\0\0\0")?;
-    }
-    Ok(bytes)
+/// Both keys of a new file.
+const KEYS: &[u8] = b"d\x09u\x01\x01\0\0\0\0\0\0\x09u\x01\x01\0\0\0\0\0\0";
+
+/// Appends a new file of level 1 to an edit. Its number is below 128.
+fn push_file(edit: &mut Vec<u8>, number: u8) -> Result<(), Fault> {
+    edit.extend_from_slice(&[7, 1, number])?;
+    edit.extend_from_slice(KEYS)?;
+    Ok(())
 }
 
-/// The numbers of the files of level 1 of the version that edits of these bytes make of the empty one, one after the other.
-fn numbers_after(alloc: Global, edits: &[&[u8]]) -> Result<Vec<u64>, Fault> {
-    let mut version = Version::empty(alloc);
-    for bytes in edits {
-        version = version_after(alloc, version, bytes)?;
+/// The bytes of an edit that puts in a file of level 1 for each of the numbers, which are below 128.
+fn new_files(alloc: Global, numbers: &[u8]) -> Result<Vec<u8>, Fault> {
+    let mut edit = Vec::new(alloc);
+    for number in numbers {
+        push_file(&mut edit, *number)?;
     }
+    Ok(edit)
+}
+
+/// The version after such an edit.
+fn with_files(alloc: Global, version: Version, numbers: &[u8]) -> Result<Version, Fault> {
+    let edit = new_files(alloc, numbers)?;
+    version_after(alloc, version, &edit)
+}
+
+/// The numbers of the files of level 1.
+fn numbers_at_one(alloc: Global, version: &Version) -> Result<Vec<u64>, Fault> {
     let mut numbers = Vec::new(alloc);
     for file in &version.files::<Bytewise>(alloc, 1)? {
         numbers.push(file.number)?;
@@ -453,48 +515,57 @@ fn numbers_after(alloc: Global, edits: &[&[u8]]) -> Result<Vec<u64>, Fault> {
     Ok(numbers)
 }
 
+/// Those of the version that two such edits make of the empty one, one after the other.
+fn numbers_of_two(alloc: Global, first: &[u8], second: &[u8]) -> Result<Vec<u64>, Fault> {
+    let version = with_files(alloc, Version::empty(alloc), first)?;
+    numbers_at_one(alloc, &with_files(alloc, version, second)?)
+}
+
+/// The numbers below 35.
+const BELOW: [u64; 34] = [
+    1, 2, 3, 4, 5, 6, 7, 8, 9, 10, 11, 12, 13, 14, 15, 16, 17, 18, 19, 20, 21, 22, 23, 24, 25, 26,
+    27, 28, 29, 30, 31, 32, 33, 34,
+];
+
 #[test]
 fn many_files_go_in_together(rt: HostRuntime) -> Result<(), Fail> {
-    let odd = new_files(rt.alloc(), ODD)?;
-    let even = new_files(rt.alloc(), EVEN)?;
-    let numbers = numbers_after(rt.alloc(), &[&odd, &even])?;
-    let want: Vec<u64> = (1..35).collect(rt.alloc())?;
-    assert_eq!(rt; numbers, want);
+    let numbers = numbers_of_two(rt.alloc(), ODD, EVEN)?;
+    assert!(rt; numbers.as_slice() == BELOW.as_slice());
     Ok(())
 }
 
 #[test]
-fn numbers_that_are_there(rt: HostRuntime) -> Result<(), Fail> {
-    let odd = new_files(rt.alloc(), ODD)?;
-    assert_eq!(rt;
-        refusal(numbers_after(rt.alloc(), &[&odd, &odd])),
-        Some(FaultName::Apply)
-    );
-    Ok(())
+fn numbers_that_are_there(rt: HostRuntime) {
+    let answer = refusal(numbers_of_two(rt.alloc(), ODD, ODD));
+    is_refusal(&rt, answer, Some(FaultName::Apply));
 }
 
+/// Number 2, and then the even ones.
+const TWO_TWICE: &[u8] =
+    b"\x02\x22\x20\x1e\x1c\x1a\x18\x16\x14\x12\x10\x0e\x0c\x0a\x08\x06\x04\x02";
+
 #[test]
-fn numbers_that_come_twice(rt: HostRuntime) -> Result<(), Fail> {
-    let even = new_files(rt.alloc(), EVEN)?;
-    let mut twice = new_files(rt.alloc(), b"\x02")?;
-    twice.extend_from_slice(&even)?;
-    assert_eq!(rt;
-        refusal(numbers_after(rt.alloc(), &[&twice])),
-        Some(FaultName::Apply)
-    );
-    Ok(())
+fn numbers_that_come_twice(rt: HostRuntime) {
+    let answer = refusal(numbers_of_two(rt.alloc(), TWO_TWICE, b""));
+    is_refusal(&rt, answer, Some(FaultName::Apply));
 }
 
 /// The deletions of the first of the odd numbers, of one in the middle and of the last.
 const THREE_DELETED: &[u8] = b"\x06\x01\x21\x06\x01\x11\x06\x01\x01";
 
+/// The numbers that are left of the odd ones where these are taken out, and then one more.
+fn numbers_left(alloc: Global) -> Result<Vec<u64>, Fault> {
+    let version = with_files(alloc, Version::empty(alloc), ODD)?;
+    let version = version_after(alloc, version, THREE_DELETED)?;
+    // Of those that were left last, one more.
+    numbers_at_one(alloc, &version_after(alloc, version, b"\x06\x01\x03")?)
+}
+
 #[test]
 fn files_are_taken_out_of_many(rt: HostRuntime) -> Result<(), Fail> {
-    let odd = new_files(rt.alloc(), ODD)?;
-    // Of those that were left last, one more.
-    let left = numbers_after(rt.alloc(), &[&odd, THREE_DELETED, b"\x06\x01\x03"])?;
+    let left = numbers_left(rt.alloc())?;
     let want = [5, 7, 9, 11, 13, 15, 19, 21, 23, 25, 27, 29, 31];
-    assert_eq!(rt; left.as_slice(), want.as_slice());
+    assert!(rt; left.as_slice() == want.as_slice());
     Ok(())
 }
 
@@ -511,13 +582,18 @@ fn the_laws_are_called() {
     edit_laws();
 }
 
+/// Whether an answer is `COMPACTED`, or the refusal for want of memory.
+fn is_or_memory(answer: Result<Vec<u8>, Fault>) -> bool {
+    match answer {
+        Ok(written) => written.as_slice() == COMPACTED,
+        Err(fault) => fault.name == FaultName::Memory,
+    }
+}
+
 // With `rt try --test --fail-alloc N` the Nth growth is refused; without it, none is.
 #[test]
 fn a_refused_growth_is_the_only_other_refusal(rt: HostRuntime) {
-    match round(rt.alloc()) {
-        Ok(written) => assert_eq!(rt; written.as_slice(), COMPACTED),
-        Err(fault) => assert_eq!(rt; fault.name, FaultName::Memory),
-    }
+    assert!(rt; is_or_memory(round(rt.alloc())));
 }
 
 /// `COMPACTED`, and behind it the deletion of its file.
@@ -527,37 +603,34 @@ fn compacted_again(alloc: Global) -> Result<Vec<u8>, Fault> {
     Ok(bytes)
 }
 
-/// Reads an edit, applies it, then applies it again with the deletion of its file before, and writes the version's snapshot.
-fn round(alloc: Global) -> Result<Vec<u8>, Fault> {
-    let version = version_after(alloc, Version::empty(alloc), COMPACTED)?;
+/// The version of the edit that is applied, and then applied again with the deletion of its file behind it.
+fn applied_again(alloc: Global) -> Result<Version, Fault> {
     let bytes = compacted_again(alloc)?;
-    let version = next_version(alloc, &version, &bytes)?;
+    let version = version_after(alloc, Version::empty(alloc), COMPACTED)?;
+    next_version(alloc, &version, &bytes)
+}
+
+/// Writes the snapshot of that version, which has one file.
+fn round(alloc: Global) -> Result<Vec<u8>, Fault> {
+    let version = applied_again(alloc)?;
     if sizes_at(alloc, &version, 1)?.len() != 1 {
         return Err(Fault::of(FaultName::Apply));
     }
     snapshot(alloc, &version)
 }
 
-/// Whether a copy of a file's description is that of the one that `REPLACING` puts in.
+/// Whether a copy of what is known of a file is that of the one that `REPLACING` puts in.
 fn is_copied(alloc: Global, file: &NewFile) -> Result<bool, Fault> {
-    let copy = file.meta.copy(alloc)?;
-    Ok(
-        copy.number == 9
-            && copy.size == 113
-            && copy.smallest.as_key().user() == b"u".as_slice()
-            && copy.largest.as_key().sequence() == 4,
-    )
+    Ok(is_nine(&file.meta.copy(alloc)?))
 }
 
-/// Whether that of each file is, and there is one.
+/// Whether that of the one file is.
 fn are_copied(alloc: Global) -> Result<bool, Fault> {
     let edit = VersionEdit::decode(alloc, REPLACING)?;
-    for file in &edit.added {
-        if !is_copied(alloc, file)? {
-            return Ok(false);
-        }
+    match edit.added.first() {
+        Some(file) => is_copied(alloc, file),
+        None => Ok(false),
     }
-    Ok(!edit.added.is_empty())
 }
 
 #[test]

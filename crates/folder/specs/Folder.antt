@@ -31,6 +31,6 @@ TellsSame old new = (name : List ℕ) (held : Option (List ℕ)) → old name he
 
 -- what is known of a folder that tells nothing: the calls that wrote to it, in their order, with those that failed, and how
 -- often the device has failed
-pub record Asked : Type 0 where
+pub record CallHistory : Type 0 where
   pub trail : List Step
   pub failures : ℕ

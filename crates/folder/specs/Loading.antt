@@ -9,7 +9,8 @@ use Rattle.folder.specs.Names.{old_table_name, table_name}
 -- The bytes of the table of a number: those under its name, and where it has none those under its older name. Missing
 -- where it has neither.
 abbrev pub IsTableAnswer : (List ℕ → Option (List ℕ) → Type 0) → ℕ → Result (List ℕ) Fault → Type 0
-IsTableAnswer tells number (Ok bytes) = tells (table_name number) (Some bytes) ⊎ (tells (table_name number) None × tells (old_table_name number) (Some bytes))
+IsTableAnswer tells number (Ok bytes) =
+    tells (table_name number) (Some bytes) ⊎ (tells (table_name number) None × tells (old_table_name number) (Some bytes))
 IsTableAnswer tells number (Err e) = tells (table_name number) None × tells (old_table_name number) None × (e ≡ fault Missing)
 
 -- the table of this number

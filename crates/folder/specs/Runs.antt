@@ -22,7 +22,8 @@ abbrev pub TellsThrough : List Step → (List ℕ → Option (List ℕ) → Type
 TellsThrough steps old new = (s : Shown) → Tells old s.files → (last : Shown) × ShowsAll steps s last × Tells new last.files
 
 -- A function makes these calls in their order, each once and no others, up to one that fails.
-pub record Runs {T E : Type 0} (calls : List Call) (before after : List Step) (old new : List ℕ → Option (List ℕ) → Type 0) (result : Result T E) : Type 0 where
+pub record Runs {T E : Type 0} (calls : List Call) (before after : List Step)
+    (old new : List ℕ → Option (List ℕ) → Type 0) (result : Result T E) : Type 0 where
   pub steps : List Step
   pub made : AreMadeBy calls steps result
   pub appended : after ≡ before ++ steps

@@ -10,7 +10,7 @@ use crate::folder::{Folder, FolderFault};
 use crate::loading::tables_ahead;
 use crate::order::Order;
 use crate::trail::{Attempt, Trail, WriteCall};
-use crate::whole_files::{Ahead, WholeFiles, path_in, read_all, whole};
+use crate::whole_files::{Ahead, WholeFiles, path_in, read_all, take, whole};
 use edit::Version;
 use std::fs::{File, OpenFile, OpenOptions};
 use std::io::ErrorKind;
@@ -28,14 +28,14 @@ pub struct Disk<'r, R> {
     path: &'r str,
     failures: u64,
     trail: Trail,
-    /// Files that were read before they are asked for. The one that is asked for next is last.
+    /// Tables that were read before they are asked for. The one that is asked for next is last.
     ahead: Vec<Ahead>,
 }
 
 impl<'r, R> Model for Disk<'r, R> {
-    ghost use Rattle.folder.specs.Folder.{Asked};
+    ghost use Rattle.folder.specs.Folder.{CallHistory};
 
-    ghost Value = { Asked };
+    ghost Value = { CallHistory };
 
     ghost view = { λ d. record { trail = d.trail.steps; failures = d.failures } };
 }
@@ -116,14 +116,15 @@ impl<'r, R: Files + AllocGlobal> Folder for Disk<'r, R> {
 }
 
 impl<'r, R: Files + AllocGlobal> Disk<'r, R> {
-    /// What was read ahead of a file, where it is the next of those that were.
+    /// What was read ahead of a table. Of a file of another name nothing was.
     fn taken_ahead(&mut self, name: &str) -> Option<Vec<u8>>
         ensures failures { self.new.failures ≡ self.old.failures }
         ensures trail { self.new.trail ≡ self.old.trail }
     {
-        match self.ahead.last() {
-            Some(next) if next.name.as_str() == name => self.ahead.pop()?.bytes,
-            _ => None,
+        if name.ends_with(".ldb") {
+            take(&mut self.ahead, name)
+        } else {
+            None
         }
     }
 

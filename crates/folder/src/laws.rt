@@ -35,7 +35,8 @@ pub fn reading_laws<F: Folder>(_folder: &F)
         → Tells (F.tells _folder.now) files → ReadsAs cmp order v tables files
         → (r : Result (List (ℕ × List ℕ)) Fault) → IsLoaded (F.tells _folder.now) (file_numbers cmp v) r → r ≡ Ok tables }
     ensures reads { (cmp : List ℕ → List ℕ → Ordering) (order : Order) (v : State) (tables : List (ℕ × List ℕ)) (files : Files)
-        → Tells (F.tells _folder.now) files → IsOpened (F.tells _folder.now) (Ok (order, v)) → IsLoaded (F.tells _folder.now) (file_numbers cmp v) (Ok tables)
+        → Tells (F.tells _folder.now) files → IsOpened (F.tells _folder.now) (Ok (order, v))
+        → IsLoaded (F.tells _folder.now) (file_numbers cmp v) (Ok tables)
         → ReadsAs cmp order v tables files }
 {}
 

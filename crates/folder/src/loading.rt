@@ -27,7 +27,8 @@ pub fn load<C: Comparator, F: Folder>(
     folder: &mut F,
     version: &Version,
 ) -> Result<Vec<(u64, Vec<u8>)>, Fault>
-    ensures answer { FolderAnswers (λ v. map (λ t. (t.0, t.1.items)) v.items) (F.failed folder.old) (F.failed folder.new) result (IsLoaded (F.tells folder.old) (file_numbers C.cmp version.now)) }
+    ensures answer { FolderAnswers (λ v. map (λ t. (t.0, t.1.items)) v.items) (F.failed folder.old) (F.failed folder.new) result
+        (IsLoaded (F.tells folder.old) (file_numbers C.cmp version.now)) }
     ensures device { IfErr result (HasDeviceFailed (F.failed folder.old) (F.failed folder.new)) }
     ensures same { TellsSame (F.tells folder.old) (F.tells folder.new) }
     ensures calls { F.calls folder.new ≡ F.calls folder.old }
@@ -62,7 +63,8 @@ fn tables<F: Folder>(
     folder: &mut F,
     numbers: &[u64],
 ) -> Result<Vec<(u64, Vec<u8>)>, Fault>
-    ensures answer { FolderAnswers (λ v. map (λ t. (t.0, t.1.items)) v.items) (F.failed folder.old) (F.failed folder.new) result (IsLoaded (F.tells folder.old) numbers.now) }
+    ensures answer { FolderAnswers (λ v. map (λ t. (t.0, t.1.items)) v.items) (F.failed folder.old) (F.failed folder.new) result
+        (IsLoaded (F.tells folder.old) numbers.now) }
     ensures same { TellsSame (F.tells folder.old) (F.tells folder.new) }
     ensures calls { F.calls folder.new ≡ F.calls folder.old }
     ensures at_once { StopsAtDevice (F.failed folder.old) (F.failed folder.new) result }

@@ -46,7 +46,13 @@ impl<'a> Model for Shelf<'a> {
 
     ghost Value = { Shelved };
 
-    ghost view = { λ s. record { start = map (λ f. (f.0.now, f.1.now)) s.start.now; steps = s.steps.items; trail = s.trail.steps; calls = s.calls; failures = s.failures } };
+    ghost view = { λ s. record {
+      start = map (λ f. (f.0.now, f.1.now)) s.start.now;
+      steps = s.steps.items;
+      trail = s.trail.steps;
+      calls = s.calls;
+      failures = s.failures;
+    } };
 }
 
 impl<'a> Shelf<'a> {
@@ -150,7 +156,8 @@ impl<'a> Shelf<'a> {
     /// Makes a call that writes, and adds it to the trail.
     fn write(&mut self, call: WriteCall<'_>) -> Result<(), FolderFault>
         ensures calls { self.new.trail ≡ self.old.trail ++ step_of (call_in call.entry) result ∷ [] }
-        ensures change { (files : Files) → Alters (step_of (call_in call.entry) result) (after_steps self.old.steps files) (after_steps self.new.steps files) }
+        ensures change { (files : Files) →
+            Alters (step_of (call_in call.entry) result) (after_steps self.old.steps files) (after_steps self.new.steps files) }
         ensures start { self.new.start ≡ self.old.start }
         ensures failures { self.new.failures ≡ failures_after self.old.failures result }
     {
@@ -162,7 +169,8 @@ impl<'a> Shelf<'a> {
 
     /// Adds a call that writes to the record.
     fn record(&mut self, call: WriteCall<'_>) -> Result<(), FolderFault>
-        ensures change { (files : Files) → Alters (step_of (call_in call.entry) result) (after_steps self.old.steps files) (after_steps self.new.steps files) }
+        ensures change { (files : Files) →
+            Alters (step_of (call_in call.entry) result) (after_steps self.old.steps files) (after_steps self.new.steps files) }
         ensures start { self.new.start ≡ self.old.start }
         ensures failures { self.new.failures ≡ failures_after self.old.failures result }
         ensures trail { self.new.trail ≡ self.old.trail }

@@ -12,7 +12,8 @@ const READERS: usize = 16;
 
 /// Files that are read whole, through a handle that threads share.
 pub trait WholeFiles: Send + Sync {
-    /// The bytes of the file at a path.
+    /// The bytes of the file at a path, or the system's error where there is no such file, where it can't be read, or where
+    /// memory ran out.
     fn whole(&self, alloc: Global, path: &str) -> io::Result<Vec<u8>>;
 }
 
@@ -31,6 +32,7 @@ impl WholeFiles for HostRuntime {
 }
 
 /// The bytes of the file at a path. Room is made for its length and one byte more, so that no growth follows.
+/// Fails as [`WholeFiles::whole`] does.
 pub(crate) fn whole<R: Files>(rt: &R, alloc: Global, path: &str) -> io::Result<Vec<u8>> {
     let mut file = File::open(rt, path)?;
     let length = file.metadata()?.len() as usize;
@@ -54,6 +56,18 @@ pub(crate) fn read_all<R: WholeFiles + Threads>(
             file.bytes = bytes_in(rt, alloc, folder, file.name.as_str()).ok();
         },
     );
+}
+
+/// Takes the bytes of the file of this name out of files, which are asked for from the last one on. Those that were to be asked for
+/// before it are forgotten, since nobody will ask for them; where no file has the name, all are.
+pub(crate) fn take(files: &mut Vec<Ahead>, name: &str) -> Option<Vec<u8>> {
+    for _ in 0..files.len() {
+        let next = files.pop()?;
+        if next.name.as_str() == name {
+            return next.bytes;
+        }
+    }
+    None
 }
 
 /// The path of a file in a folder. No folder has the empty path, so its files have no path either.

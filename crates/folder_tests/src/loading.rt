@@ -1,11 +1,12 @@
+//! Tables of a version that are loaded from folders in memory.
+
 use crate::manifests::*;
-use crate::shelf::{fails, new_folder};
+use crate::shelf::fails;
 use coding::{Fault, FaultName};
 use edit::Version;
 use folder::*;
 use ikey::Bytewise;
 use std::alloc::Global;
-use std::fs;
 use std::test::Fail;
 
 /// New files of one key each: number 5 at level 1, and at level 0 number 3 of `b` and number 8 of `a`.
@@ -13,7 +14,7 @@ const THREE_FILES: &[u8] =
     b"\x07\x01\x05d\x09a\x01\x01\0\0\0\0\0\0\x09a\x01\x01\0\0\0\0\0\0\x07\0\x03d\x09b\x01\x01\0\0\0\0\0\0\x09b\x01\x01\0\0\0\0\0\0\x07\0\x08d\x09a\x01\x02\0\0\0\0\0\0\x09a\x01\x02\0\0\0\0\0\0";
 
 /// The version of these files.
-fn three_files(alloc: Global) -> Result<Version, Fault> {
+pub(crate) fn three_files(alloc: Global) -> Result<Version, Fault> {
     let manifest = log_of(alloc, &[BYTEWISE, NUMBERS, THREE_FILES])?;
     let files = [("CURRENT", FIVE_CURRENT), (FIVE, manifest.as_slice())];
     let (_order, version) = open(alloc, &mut Shelf::new(alloc, &files))?;
@@ -21,7 +22,7 @@ fn three_files(alloc: Global) -> Result<Version, Fault> {
 }
 
 /// Their tables: that of number 3 has its older name, and that of number 5 both.
-const TABLES: [(&str, &[u8]); 5] = [
+pub(crate) const TABLES: [(&str, &[u8]); 5] = [
     ("000005.sst", b"five, older"),
     ("000003.sst", b"three"),
     ("000008.ldb", b"eight"),
@@ -30,7 +31,11 @@ const TABLES: [(&str, &[u8]); 5] = [
 ];
 
 /// How the tables of a version are refused.
-fn refused<F: Folder>(alloc: Global, folder: &mut F, version: &Version) -> Option<FaultName> {
+pub(crate) fn refused<F: Folder>(
+    alloc: Global,
+    folder: &mut F,
+    version: &Version,
+) -> Option<FaultName> {
     match load::<Bytewise, F>(alloc, folder, version) {
         Ok(_) => None,
         Err(fault) => Some(fault.name),
@@ -38,7 +43,7 @@ fn refused<F: Folder>(alloc: Global, folder: &mut F, version: &Version) -> Optio
 }
 
 /// Whether tables are these.
-fn are(tables: &[(u64, Vec<u8>)], wanted: &[(u64, &[u8])]) -> bool {
+pub(crate) fn are(tables: &[(u64, Vec<u8>)], wanted: &[(u64, &[u8])]) -> bool {
     tables.len() == wanted.len()
         && tables.iter().zip(wanted).all(|(table, one)| table.0 == one.0
             && table.1.as_slice() == one.1)
@@ -53,81 +58,6 @@ fn tables_are_loaded(rt: HostRuntime) -> Result<(), Fail> {
         (5, b"five".as_slice()),
     ];
     assert!(rt; are(&tables, &want));
-    Ok(())
-}
-
-/// Makes the tables in a folder of the system.
-fn make_tables(rt: &HostRuntime, path: &str) -> Result<(), FolderFault> {
-    let mut disk = Disk::new(rt, path);
-    for (name, bytes) in &TABLES {
-        disk.create(name, bytes)?;
-    }
-    Ok(())
-}
-
-/// The tables, where somebody wrote two of them anew.
-const LATER: [(u64, &[u8]); 3] = [(8, b"eight, later"), (3, b"three, later"), (5, b"five")];
-
-/// Writes these two, through another handle.
-fn write_later(rt: &HostRuntime, path: &str) -> Result<(), FolderFault> {
-    let mut other = Disk::new(rt, path);
-    other.create("000008.ldb", b"eight, later")?;
-    other.create("000003.ldb", b"three, later")
-}
-
-#[test]
-fn tables_are_read_ahead(rt: HostRuntime) -> Result<(), Fail> {
-    let alloc = rt.alloc();
-    let path = new_folder(&rt, "ahead")?;
-    make_tables(&rt, path.as_str())?;
-    let version = three_files(alloc)?;
-    let mut disk = Disk::new(&rt, path.as_str());
-    disk.read_ahead(Order::Bytewise, &version);
-    disk.sync_folder()?;
-    write_later(&rt, path.as_str())?;
-    // What was read ahead is handed out. What wasn't there then is looked for again.
-    let tables = load::<Bytewise, _>(alloc, &mut disk, &version)?;
-    let want = [
-        (8, b"eight".as_slice()),
-        (3, b"three, later".as_slice()),
-        (5, b"five".as_slice()),
-    ];
-    assert!(rt; are(&tables, &want));
-    // Each is handed out once.
-    assert!(rt; are(&load::<Bytewise, _>(alloc, &mut disk, &version)?, &LATER));
-    assert_eq!(rt; disk.failures(), 0);
-    fs::remove_dir_all(&rt, path.as_str())?;
-    Ok(())
-}
-
-#[test]
-fn a_file_that_is_made_forgets_what_was_read_ahead(rt: HostRuntime) -> Result<(), Fail> {
-    let alloc = rt.alloc();
-    let path = new_folder(&rt, "forgotten")?;
-    make_tables(&rt, path.as_str())?;
-    let version = three_files(alloc)?;
-    let mut disk = Disk::new(&rt, path.as_str());
-    disk.read_ahead(Order::Bytewise, &version);
-    write_later(&rt, path.as_str())?;
-    disk.create("CURRENT", b"text")?;
-    assert!(rt; are(&load::<Bytewise, _>(alloc, &mut disk, &version)?, &LATER));
-    fs::remove_dir_all(&rt, path.as_str())?;
-    Ok(())
-}
-
-#[test]
-fn nothing_is_read_ahead_where_no_folder_is(rt: HostRuntime) -> Result<(), Fail> {
-    let alloc = rt.alloc();
-    let version = three_files(alloc)?;
-    for path in ["", "/nowhere/at/all"] {
-        let mut disk = Disk::new(&rt, path);
-        disk.read_ahead(Order::Bytewise, &version);
-        assert_eq!(rt;
-            refused(alloc, &mut disk, &version),
-            Some(FaultName::Missing)
-        );
-        assert_eq!(rt; disk.failures(), 0);
-    }
     Ok(())
 }
 

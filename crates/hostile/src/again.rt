@@ -2,6 +2,9 @@
 
 use coding::{Fault, FaultName};
 
+/// How often a call is made while memory is short.
+pub const STEPS: usize = 80;
+
 /// Whether a call was refused for want of memory.
 pub fn is_memory<T>(answer: &Result<T, Fault>) -> bool {
     match answer {

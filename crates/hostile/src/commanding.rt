@@ -1,10 +1,10 @@
 //! A folder in memory that is compacted, and two blocks that are merged, made so that each growth may be refused.
 
-use crate::again::{is_memory, wanted};
+use crate::again::is_memory;
 use crate::installing::stored_one;
 use coding::{Fault, FaultName};
 use folder::{Shelf, open};
-use lying::worked::{FIRST_BLOCK, SECOND_BLOCK};
+use lying::worked::{BOTH_ENTRIES, FIRST_BLOCK, SECOND_BLOCK};
 use pairing::blocks;
 use std::alloc::Global;
 use std::thread::Threads;
@@ -43,12 +43,8 @@ pub fn folder_compacted<R: AllocGlobal + Threads + Sync>(rt: &R) -> Result<bool,
     }
 }
 
-/// The block of `a` at 1 with the value `x` and `b` at 2 with `y`.
-const BOTH: &[u8] =
-    b"\0\x09\x01a\x01\x01\0\0\0\0\0\0x\0\x09\x01b\x01\x02\0\0\0\0\0\0y\0\0\0\0\x01\0\0\0";
-
 /// Two blocks of one entry each, merged to one.
 pub fn blocks_merged<R: AllocGlobal + Threads + Sync>(rt: &R) -> Result<bool, Fault> {
     let (entries, block) = blocks(rt, rt.alloc(), FIRST_BLOCK, SECOND_BLOCK, b"b")?;
-    Ok(entries == 2 && block.as_slice() == BOTH)
+    Ok(entries == 2 && block.as_slice() == BOTH_ENTRIES)
 }

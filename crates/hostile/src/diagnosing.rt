@@ -74,6 +74,12 @@ fn log_again(alloc: Global, shelf: &mut Shelf<'_>) -> Result<Option<String>, Fau
     log_with_writes(alloc, shelf)
 }
 
+/// Whether the log with writes is that of number 3.
+fn has_log(alloc: Global, shelf: &mut Shelf<'_>) -> Result<bool, Fault> {
+    let log = log_again(alloc, shelf)?;
+    Ok(log.is_some_and(|name| name.as_str() == "000003.log"))
+}
+
 /// The version of one file behind the edit that deletes it.
 fn version_after(alloc: Global) -> Result<Version, Fault> {
     one_file(alloc)?.applied::<Bytewise>(VersionEdit::decode(alloc, NEXT_TEN)?)
@@ -111,8 +117,7 @@ fn is_told(alloc: Global, stored: &Stored) -> Result<bool, Fault> {
     let files = [current, manifest, table, ("000003.log", b"x".as_slice())];
     let mut shelf = Shelf::new(alloc, &files);
     wanted(is_sound_again(alloc, &mut shelf)?)?;
-    let log = log_again(alloc, &mut shelf)?;
-    wanted(log.is_some_and(|name| name.as_str() == "000003.log"))?;
+    wanted(has_log(alloc, &mut shelf)?)?;
     is_accounted_again(alloc, &mut shelf)
 }
 

@@ -182,6 +182,22 @@ fn three(alloc: Global) -> Result<Vec<Vec<u8>>, Fault> {
     Ok(tables)
 }
 
+/// A cursor over a table.
+fn cursor_over<'a>(alloc: Global, bytes: &'a [u8]) -> Result<TableCursor<'a, Bytewise>, Fault> {
+    let table = check::<Bytewise>(alloc, bytes)?;
+    TableCursor::new(alloc, &table)
+}
+
+/// A cursor over a table, alone.
+pub fn cursors_over<'a>(
+    alloc: Global,
+    bytes: &'a [u8],
+) -> Result<Vec<TableCursor<'a, Bytewise>>, Fault> {
+    let mut cursors = Vec::new(alloc);
+    cursors.push(cursor_over(alloc, bytes)?)?;
+    Ok(cursors)
+}
+
 /// Cursors over these tables.
 fn cursors<'a>(
     alloc: Global,
@@ -189,8 +205,7 @@ fn cursors<'a>(
 ) -> Result<Vec<TableCursor<'a, Bytewise>>, Fault> {
     let mut cursors = Vec::new(alloc);
     for bytes in tables {
-        let table = check::<Bytewise>(alloc, bytes)?;
-        cursors.push(TableCursor::new(alloc, &table)?)?;
+        cursors.push(cursor_over(alloc, bytes)?)?;
     }
     Ok(cursors)
 }
@@ -208,14 +223,18 @@ fn taken_again<'a>(
     Merging::take(alloc, cursors)
 }
 
+/// Whether a cursor over `a`, `a`, `b`, `c`, `c`, `d`, `e`, `f` has what is left behind a step and a seek of `c`.
+fn is_walked_as_one<'a, S: Cursor<'a, Bytewise>>(cursor: &mut S) -> Result<bool, Fault> {
+    step_again(cursor)?;
+    seek_again(cursor, b'c')?;
+    has_users(cursor, b"ccdef")
+}
+
 /// Three cursors, walked as one and sought.
 pub fn merged(alloc: Global) -> Result<bool, Fault> {
     let tables = three(alloc)?;
     let mut cursors = cursors(alloc, &tables)?;
-    let mut merging = taken_again(alloc, &mut cursors)?;
-    step_again(&mut merging)?;
-    seek_again(&mut merging, b'c')?;
-    has_users(&mut merging, b"ccdef")
+    is_walked_as_one(&mut taken_again(alloc, &mut cursors)?)
 }
 
 /// Whether a log has two records, of 32,754 bytes and of `x`.
@@ -257,12 +276,17 @@ fn snapshot_of(alloc: Global, version: &Version) -> Result<Vec<u8>, Fault> {
     snapshot.encode(alloc)
 }
 
-/// An edit, applied to a version whose snapshot is then written: the comparator's name, and of the edit the pointer and the
-/// new file.
+/// Whether a version's snapshot has the comparator's name, and of the edit the pointer and the new file.
+fn is_shown(alloc: Global, version: &Version) -> Result<bool, Fault> {
+    let snapshot = snapshot_of(alloc, version)?;
+    let is_begun = snapshot.len() == 64 && snapshot.starts_with(EMPTY_SNAPSHOT);
+    Ok(is_begun && snapshot.ends_with(POINTER_AND_FILE))
+}
+
+/// An edit, applied to a version whose snapshot is then written.
 pub fn edited(alloc: Global) -> Result<bool, Fault> {
     let version = one_file(alloc)?;
     let after = apply_again(alloc, &version, DELETION_LEFT)?;
-    let snapshot = snapshot_of(alloc, &after)?;
-    let is_begun = snapshot.len() == 64 && snapshot.starts_with(EMPTY_SNAPSHOT);
-    Ok(is_begun && snapshot.ends_with(POINTER_AND_FILE) && after.next_file() == Some(10))
+    wanted(after.next_file() == Some(10))?;
+    is_shown(alloc, &after)
 }

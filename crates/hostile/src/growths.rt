@@ -3,7 +3,7 @@
 //! With one growth of the whole run refused, what is printed is the same. `rt try --fail-alloc N --cases FOLDER` refuses each in
 //! turn by one build, where the files of the folder give the numbers below N, each as the pieces that are taken first.
 
-use crate::again::{is_memory, wanted};
+use crate::again::{STEPS, is_memory, wanted};
 use crate::asking::{folder_asked, lines_read, table_dumped, texts_of_keys};
 use crate::commanding::{blocks_merged, folder_compacted};
 use crate::diagnosing::{folder_told, levels_chosen};
@@ -12,10 +12,10 @@ use crate::installing::installed;
 use crate::parts::{block_walked, keys_made, spelt};
 use crate::planning::{chosen, planned, seated};
 use crate::reading::{index_read, merged_on, range_sought, version_read};
-use crate::shortage::{STEPS, Shortage};
 use crate::wholes::{Whole, is_compacted, is_compacted_short};
 use anyhow::Result;
 use coding::Fault;
+use lying::Shortage;
 use std::alloc::Global;
 use std::thread::Threads;
 

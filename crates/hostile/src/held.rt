@@ -1,4 +1,8 @@
 //! A gate that holds one worker back.
+//!
+//! The tests of `compact` have such a gate of their own, which holds always. This one is told for how many turns, since there may be no
+//! second worker while memory is short, and holds nothing where no job is to be held, so that each compaction here has one type of gate.
+//! Both stand apart from `board`, whose users have no use for them.
 
 use board::Gate;
 use std::sync::atomic::{AtomicU64, Ordering};

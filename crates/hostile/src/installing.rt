@@ -29,20 +29,36 @@ fn is_loaded(
     Ok(tables.len() == 1 && *number == 7 && table.as_slice() == bytes)
 }
 
-/// Opens the folder; installs the edit where it reads as the version before; and tests that it then reads as the edited one.
-fn carried(alloc: Global, shelf: &mut Shelf<'_>, bytes: &[u8]) -> Result<bool, Fault> {
+/// Installs the edit.
+fn install_next(alloc: Global, shelf: &mut Shelf<'_>, version: &Version) -> Result<(), Fault> {
+    let outcome = Outcome {
+        tables: Vec::new(alloc),
+        edit: Vec::from_slice(alloc, NEXT_TEN)?,
+    };
+    install::<Bytewise, Shelf<'_>>(alloc, shelf, version, 9, &outcome)
+}
+
+/// Opens the folder, and installs the edit where it reads as the version before.
+fn carry(alloc: Global, shelf: &mut Shelf<'_>, bytes: &[u8]) -> Result<(), Fault> {
     let (_order, version) = open(alloc, shelf)?;
-    if version.next_file() == Some(9) {
-        wanted(is_loaded(alloc, shelf, &version, bytes)?)?;
-        let outcome = Outcome {
-            tables: Vec::new(alloc),
-            edit: Vec::from_slice(alloc, NEXT_TEN)?,
-        };
-        install::<Bytewise, Shelf<'_>>(alloc, shelf, &version, 9, &outcome)?;
+    if version.next_file() != Some(9) {
+        return Ok(());
     }
+    wanted(is_loaded(alloc, shelf, &version, bytes)?)?;
+    install_next(alloc, shelf, &version)
+}
+
+/// Whether the folder reads as the edited version.
+fn is_edited(alloc: Global, shelf: &mut Shelf<'_>) -> Result<bool, Fault> {
     let (_order, after) = open(alloc, shelf)?;
     let is_gone = after.files::<Bytewise>(alloc, 1)?.is_empty();
     Ok(after.next_file() == Some(10) && is_gone)
+}
+
+/// Opens the folder; installs the edit where it reads as the version before; and tests that it then reads as the edited one.
+fn carried(alloc: Global, shelf: &mut Shelf<'_>, bytes: &[u8]) -> Result<bool, Fault> {
+    carry(alloc, shelf, bytes)?;
+    is_edited(alloc, shelf)
 }
 
 /// The bytes of a folder of one table.

@@ -1,8 +1,9 @@
 //! The program `hostile`: bytes that lie and growths that are refused, over each call that takes bytes or memory.
 //!
 //! Without a word it makes all calls, with memory to spare. With the word `refused` it first makes those whose growths may be refused
-//! while memory is short: nearly all is taken before each, in pieces into which nothing is written. With the word `values` it makes
-//! the calls with values of 2^24 bytes alone, with `claims` those with bytes that claim more than is there, and with `growths` those
+//! while memory is short: nearly all is taken before each, in pieces into which nothing is written. So it then makes those with bytes
+//! that claim more than is there, with memory for little more than these bytes. With the word `values` it makes the calls with values
+//! of 2^24 bytes alone, with `claims` those with bytes that claim more than is there, with memory to spare, and with `growths` those
 //! whose growths may be refused in turn. A number behind that word is of pieces of memory that are taken first, so that an allocation
 //! that is refused by its number falls on another growth for each number.
 #![tactic(auto)]
@@ -18,7 +19,6 @@ mod installing;
 mod parts;
 mod planning;
 mod reading;
-mod shortage;
 mod wholes;
 
 use anyhow::Result;
@@ -43,29 +43,41 @@ fn run_all<R: AllocGlobal + Print + Threads + Sync>(rt: &R) -> Result<()> {
     growths::run(rt)
 }
 
-/// Makes those whose growths may be refused while memory is short, and then all calls.
+/// Makes those whose growths may be refused, and those with bytes that claim more than is there, while memory is short, and then all calls.
 ///
 /// The first have to come first: what was given back of much memory serves later calls in other ways.
 fn run_refused<R: AllocGlobal + Print + Threads + Sync>(rt: &R) -> Result<()> {
     growths::run_short(rt)?;
+    println!(rt; "There is memory for little more than the bytes:")?;
+    lying::print_claims_short(rt)?;
     println!(rt; "Memory is given.")?;
     run_all(rt)
+}
+
+/// The part of the calls that a word names, with a number of pieces, and all where it names none.
+fn part_of(word: &str, pieces: u64) -> Part {
+    if word == "refused" {
+        return Part::Refused;
+    }
+    if word == "values" {
+        return Part::Values;
+    }
+    if word == "claims" {
+        return Part::Claims;
+    }
+    if word == "growths" {
+        return Part::Growths(pieces);
+    }
+    Part::All
 }
 
 /// The part of the calls that the words name, and all where there is none.
 fn part_named<R: Env + AllocGlobal>(rt: &R) -> Result<Part> {
     let mut words = env::args(rt)?;
     let _program = words.next();
-    Ok(match words.next() {
-        Some(word) if word.as_str() == "refused" => Part::Refused,
-        Some(word) if word.as_str() == "values" => Part::Values,
-        Some(word) if word.as_str() == "claims" => Part::Claims,
-        Some(word) if word.as_str() == "growths" => Part::Growths(match words.next() {
-            Some(pieces) => pieces.parse().unwrap_or(0),
-            None => 0,
-        }),
-        _ => Part::All,
-    })
+    let word = words.next().unwrap_or(String::new(rt.alloc()));
+    let pieces = words.next().unwrap_or(String::new(rt.alloc()));
+    Ok(part_of(word.as_str(), pieces.parse().unwrap_or(0)))
 }
 
 fn main(rt: HostRuntime) -> Result<()> {

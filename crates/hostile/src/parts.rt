@@ -37,18 +37,21 @@ fn append(out: &mut Vec<u8>, piece: Piece<'_>) -> Result<(), Fault> {
     }
 }
 
-/// Whether a piece is these bytes. It is appended behind a byte for which there was just room, so that it takes memory: at a
-/// second try where a growth was refused at the first, which appended nothing.
+/// Appends a piece behind the byte 7, at a second try where a growth was refused at the first, which appended nothing.
+fn append_again(out: &mut Vec<u8>, piece: Piece<'_>) -> Result<(), Fault> {
+    let answer = append(out, piece);
+    if !is_memory(&answer) {
+        return answer;
+    }
+    wanted(out.as_slice() == [7_u8].as_slice())?;
+    append(out, piece)
+}
+
+/// Whether a piece is these bytes. It is appended behind a byte for which there was just room, so that it takes memory.
 fn is_appended(alloc: Global, piece: Piece<'_>, bytes: &[u8]) -> Result<bool, Fault> {
     let mut out = Vec::with_capacity(alloc, 1)?;
     out.push(7_u8)?;
-    let answer = append(&mut out, piece);
-    if is_memory(&answer) {
-        wanted(out.as_slice() == [7_u8].as_slice())?;
-        append(&mut out, piece)?;
-    } else {
-        answer?;
-    }
+    append_again(&mut out, piece)?;
     Ok(out.first() == Some(&7) && out.get(1..) == Some(bytes))
 }
 
@@ -230,33 +233,46 @@ fn is_own(alloc: Global, own: Own, bytes: &[u8]) -> Result<bool, Fault> {
     Ok(own_of(alloc, own)?.as_key().bytes() == bytes)
 }
 
-/// Whether the key of `a` at 1 gives way to that of `abcz`, at a second try where a growth was refused at the first, which left it.
+/// Sets the key of `a` at 1 to another, at a second try where a growth was refused at the first, which left it.
+fn set_again(own: &mut KeyBuf, key: InternalKey<'_>) -> Result<(), Fault> {
+    let answer = own.set(key);
+    if !is_memory(&answer) {
+        return answer;
+    }
+    wanted(own.as_key().bytes() == KEY.as_slice())?;
+    own.set(key)
+}
+
+/// Whether the key of `a` at 1 gives way to that of `abcz`.
 fn gives_way(alloc: Global) -> Result<bool, Fault> {
     let mut own = KeyBuf::of(alloc, InternalKey::parse(&KEY)?)?;
-    let answer = own.set(InternalKey::parse(&START)?);
-    if is_memory(&answer) {
-        wanted(own.as_key().bytes() == KEY.as_slice())?;
-        own.set(InternalKey::parse(&START)?)?;
-    } else {
-        answer?;
-    }
+    set_again(&mut own, InternalKey::parse(&START)?)?;
     Ok(own.as_key().bytes() == START.as_slice())
 }
 
-/// Whether a file's copy is as it is, at a second try where a growth was refused at the first.
-fn is_copied(alloc: Global) -> Result<bool, Fault> {
-    let file = FileMeta {
+/// What is known of a file from `a` to `b`.
+fn known(alloc: Global) -> Result<FileMeta, Fault> {
+    Ok(FileMeta {
         number: 3,
         size: 114,
         smallest: put(alloc, b'a', 1)?,
         largest: put(alloc, b'b', 1)?,
-    };
+    })
+}
+
+/// A copy of it, at a second try where a growth was refused at the first.
+fn copied_again(alloc: Global, file: &FileMeta) -> Result<FileMeta, Fault> {
     let answer = file.copy(alloc);
-    let copy = if is_memory(&answer) {
-        file.copy(alloc)?
-    } else {
-        answer?
-    };
+    if !is_memory(&answer) {
+        return answer;
+    }
+    file.copy(alloc)
+}
+
+/// Whether a file's copy is as it is.
+fn is_copied(alloc: Global) -> Result<bool, Fault> {
+    let file = known(alloc)?;
+    let copy = copied_again(alloc, &file)?;
     let is_bounded = copy.smallest.as_key().user() == b"a".as_slice()
         && copy.largest.as_key().user() == b"b".as_slice();
     Ok(copy.number == 3 && copy.size == 114 && is_bounded)

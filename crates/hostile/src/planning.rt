@@ -1,17 +1,17 @@
 //! Ranges merged, outputs planned and encoded, boards and splits, made so that each growth may be refused.
 
 use crate::again::wanted;
-use crate::growing::written;
+use crate::growing::{cursors_over, written};
 use board::{Board, Tally};
 use coding::{Fault, FaultName};
-use cut::plan;
+use cut::{Plan, plan};
 use ikey::Bytewise;
 use keep::{RangeRun, largest_rise, merge_range};
 use lying::no_inputs;
 use pick::Inputs;
 use split::Split;
 use std::alloc::Global;
-use table::{Options, TableCursor, check};
+use table::{Options, check};
 
 /// The run of a split's first range over a table, of which all from sequence 1 on stays readable.
 fn run_of<'a>(
@@ -23,10 +23,27 @@ fn run_of<'a>(
     if !largest_rise::<Bytewise>(&inputs.grandparents) {
         return Err(Fault::of(FaultName::Options));
     }
-    let table = check::<Bytewise>(alloc, bytes)?;
-    let mut cursors = Vec::new(alloc);
-    cursors.push(TableCursor::new(alloc, &table)?)?;
+    let mut cursors = cursors_over(alloc, bytes)?;
     merge_range::<Bytewise, _>(alloc, &mut cursors, split.range(0), &[], 1, inputs)
+}
+
+/// Whether the outputs of a plan have 114 bytes each, and the numbers from 5 on.
+fn are_outputs(plan: &Plan<'_, '_, Bytewise>) -> bool {
+    for place in 0..plan.len() {
+        let output = plan.output(place);
+        if output.len != 114 || output.number != (place as u64).saturating_add(5) {
+            return false;
+        }
+    }
+    plan.len() == 3
+}
+
+/// Whether the pieces of a plan have 26 bytes each.
+fn are_pieces(alloc: Global, plan: &Plan<'_, '_, Bytewise>) -> Result<bool, Fault> {
+    for job in 0..plan.jobs() {
+        wanted(plan.encode(alloc, job)?.len() == 26)?;
+    }
+    Ok(plan.jobs() == 3)
 }
 
 /// Whether the plan of runs of three entries, a block and an output each, is right, and its pieces have 26 bytes.
@@ -40,23 +57,20 @@ fn is_planned(alloc: Global, runs: &[RangeRun<'_>]) -> Result<bool, Fault> {
         return Err(Fault::of(FaultName::Options));
     }
     let plan = plan::<Bytewise>(alloc, runs, &[], options, 5)?;
-    for place in 0..plan.len() {
-        let output = plan.output(place);
-        wanted(output.len == 114 && output.number == (place as u64).saturating_add(5))?;
-    }
-    for job in 0..plan.jobs() {
-        wanted(plan.encode(alloc, job)?.len() == 26)?;
-    }
-    Ok(plan.len() == 3 && plan.jobs() == 3)
+    Ok(are_outputs(&plan) && are_pieces(alloc, &plan)?)
 }
 
 /// The run of the one range over a table.
-fn runs_of<'a>(alloc: Global, bytes: &'a [u8]) -> Result<Vec<RangeRun<'a>>, Fault> {
+fn only_run<'a>(alloc: Global, bytes: &'a [u8]) -> Result<RangeRun<'a>, Fault> {
     let inputs = no_inputs(alloc)?;
     let split = Split::<Bytewise>::from_keys(Vec::new(alloc))?;
-    let run = run_of(alloc, bytes, &split, &inputs)?;
+    run_of(alloc, bytes, &split, &inputs)
+}
+
+/// The same, as the runs of all ranges.
+fn runs_of<'a>(alloc: Global, bytes: &'a [u8]) -> Result<Vec<RangeRun<'a>>, Fault> {
     let mut runs = Vec::new(alloc);
-    runs.push(run)?;
+    runs.push(only_run(alloc, bytes)?)?;
     Ok(runs)
 }
 

@@ -1,7 +1,7 @@
 //! Versions, tables and ranges read, made so that each growth may be refused.
 
 use crate::again::{is_memory, wanted};
-use crate::growing::{has_users, one_file, written};
+use crate::growing::{cursors_over, has_users, one_file, written};
 use crate::wholes::written_rows;
 use coding::{Fault, FaultName};
 use edit::Version;
@@ -94,20 +94,37 @@ fn keys_again(alloc: Global, table: &SoundTable<'_, Bytewise>) -> Result<KeyList
     table.index_keys(alloc)
 }
 
-/// The index of four blocks of one entry each: a user key of one byte is not made shorter.
-pub fn index_read(alloc: Global) -> Result<bool, Fault> {
-    let bytes = written(alloc, b"abcd", 1)?;
-    let table = check::<Bytewise>(alloc, &bytes)?;
-    let users = users_again(alloc, &table)?;
-    let keys = keys_again(alloc, &table)?;
+/// Whether user keys are `a` to `d`.
+fn are_users(users: &[Vec<u8>]) -> bool {
     for (place, user) in b"abcd".iter().enumerate() {
         let wanted_key = [*user];
         let is_user = users
             .get(place)
             .is_some_and(|key| key.as_slice() == wanted_key.as_slice());
-        wanted(is_user && place < keys.len() && keys.get(place) == wanted_key.as_slice())?;
+        if !is_user {
+            return false;
+        }
     }
-    Ok(users.len() == 4 && keys.len() == 4)
+    users.len() == 4
+}
+
+/// The same, of keys in one buffer.
+fn are_keys(keys: &KeyList) -> bool {
+    for (place, user) in b"abcd".iter().enumerate() {
+        let wanted_key = [*user];
+        if place >= keys.len() || keys.get(place) != wanted_key.as_slice() {
+            return false;
+        }
+    }
+    keys.len() == 4
+}
+
+/// The index of four blocks of one entry each: a user key of one byte is not made shorter.
+pub fn index_read(alloc: Global) -> Result<bool, Fault> {
+    let bytes = written(alloc, b"abcd", 1)?;
+    let table = check::<Bytewise>(alloc, &bytes)?;
+    wanted(are_users(&users_again(alloc, &table)?))?;
+    Ok(are_keys(&keys_again(alloc, &table)?))
 }
 
 /// Takes off what stands before a split's second range, at a second try on the same cursor where a growth was refused at the
@@ -127,16 +144,24 @@ fn begin_again(
     seek_range::<Bytewise, _>(alloc, cursor, split.range(1))
 }
 
+/// The split at `c`.
+fn two_ranges(alloc: Global) -> Result<Split<Bytewise>, Fault> {
+    let mut keys = Vec::new(alloc);
+    keys.push(Vec::from_slice(alloc, b"c")?)?;
+    Split::from_keys(keys)
+}
+
+/// Whether a cursor over `a` to `e` has what lies in the range from `c` on, once that is sought.
+fn is_sought(alloc: Global, cursor: &mut TableCursor<'_, Bytewise>) -> Result<bool, Fault> {
+    begin_again(alloc, cursor, &two_ranges(alloc)?)?;
+    has_users(cursor, b"cde")
+}
+
 /// The range from `c` on, sought by a cursor over `a` to `e`.
 pub fn range_sought(alloc: Global) -> Result<bool, Fault> {
     let bytes = written(alloc, b"abcde", 1)?;
     let table = check::<Bytewise>(alloc, &bytes)?;
-    let mut keys = Vec::new(alloc);
-    keys.push(Vec::from_slice(alloc, b"c")?)?;
-    let split = Split::from_keys(keys)?;
-    let mut cursor = TableCursor::new(alloc, &table)?;
-    begin_again(alloc, &mut cursor, &split)?;
-    has_users(&mut cursor, b"cde")
+    is_sought(alloc, &mut TableCursor::new(alloc, &table)?)
 }
 
 /// The run of a split's first range over what cursors still have.
@@ -163,18 +188,29 @@ fn is_ending(run: &RangeRun<'_>, users: &[u8]) -> bool {
     run.len() <= users.len()
 }
 
-/// Three entries, merged. Where a growth was refused, what is left is merged: the last ones of them.
+/// Whether a run has just the user keys `a` to `c`.
+fn is_abc(run: &RangeRun<'_>) -> bool {
+    run.len() == 3 && is_ending(run, b"abc")
+}
+
+/// Whether cursors over `a` to `c` are merged. Where a growth was refused, what is left is merged: the last ones of them.
+fn is_merged_on(
+    alloc: Global,
+    cursors: &mut Vec<TableCursor<'_, Bytewise>>,
+    split: &Split<Bytewise>,
+    inputs: &Inputs,
+) -> Result<bool, Fault> {
+    let answer = run_over(alloc, cursors, split, inputs);
+    if !is_memory(&answer) {
+        return Ok(is_abc(&answer?));
+    }
+    Ok(is_ending(&run_over(alloc, cursors, split, inputs)?, b"abc"))
+}
+
+/// Three entries, merged in one range.
 pub fn merged_on(alloc: Global) -> Result<bool, Fault> {
     let bytes = written(alloc, b"abc", 1)?;
-    let table = check::<Bytewise>(alloc, &bytes)?;
     let inputs = no_inputs(alloc)?;
     let split = Split::<Bytewise>::from_keys(Vec::new(alloc))?;
-    let mut cursors = Vec::new(alloc);
-    cursors.push(TableCursor::new(alloc, &table)?)?;
-    let answer = run_over(alloc, &mut cursors, &split, &inputs);
-    if is_memory(&answer) {
-        return Ok(is_ending(&run_over(alloc, &mut cursors, &split, &inputs)?, b"abc"));
-    }
-    let run = answer?;
-    Ok(run.len() == 3 && is_ending(&run, b"abc"))
+    is_merged_on(alloc, &mut cursors_over(alloc, &bytes)?, &split, &inputs)
 }

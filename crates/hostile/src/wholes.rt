@@ -2,17 +2,16 @@
 
 ghost use Rattle.std.specs.Prelude.{◌≤◌, length};
 
-use crate::again::{is_memory, wanted};
+use crate::again::{STEPS, is_memory, wanted};
 use crate::held::Held;
-use crate::shortage::{STEPS, Shortage};
 use coding::{Fault, FaultName};
 use compact::compact;
 use edit::{CompactPointer, FileMeta, Outcome};
 use ikey::Kind::{Delete, Put};
 use ikey::{Bytewise, KeyBuf, Kind};
 use keep::Snapshots;
-use lying::lent;
 use lying::worked::DELETION_LEFT;
+use lying::{Shortage, lent};
 use pick::{InputFile, Inputs};
 use request::Request;
 use split::Split;

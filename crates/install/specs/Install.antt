@@ -59,7 +59,8 @@ abbrev pub tables_after : (List ℕ → List ℕ → Ordering) → State → Lis
 tables_after cmp next outputs tables = map (λ (n : ℕ). (n, bytes_of (outputs ++ tables) n)) (file_numbers cmp next)
 
 -- The outputs and the bytes of an edit make the next version of this one, by a manifest of this number.
-pub record IsEditedBy (name : List ℕ) (cmp : List ℕ → List ℕ → Ordering) (order : Order) (v : State) (number : ℕ) (outputs : List (ℕ × List ℕ)) (bytes : List ℕ) (next : State) : Type 0 where
+pub record IsEditedBy (name : List ℕ) (cmp : List ℕ → List ℕ → Ordering) (order : Order) (v : State) (number : ℕ)
+    (outputs : List (ℕ × List ℕ)) (bytes : List ℕ) (next : State) : Type 0 where
   pub named : order_name order ≡ name
   -- the edit, which names no comparator and sets all numbers of a database
   pub edit : Edit
@@ -91,9 +92,12 @@ StandsAfter cmp order v tables start calls = (w : World) → Leads start calls w
 
 -- What an installation promises that makes the next version of this one, of the calls and of what may be read before it and
 -- after it.
-pub record Survives {T E : Type 0} (cmp : List ℕ → List ℕ → Ordering) (order : Order) (v : State) (tables : List (ℕ × List ℕ)) (next : State) (tables' : List (ℕ × List ℕ)) (before after : List Step) (old new : List ℕ → Option (List ℕ) → Type 0) (result : Result T E) : Type 0 where
+pub record Survives {T E : Type 0} (cmp : List ℕ → List ℕ → Ordering) (order : Order)
+    (v : State) (tables : List (ℕ × List ℕ)) (next : State) (tables' : List (ℕ × List ℕ))
+    (before after : List Step) (old new : List ℕ → Option (List ℕ) → Type 0) (result : Result T E) : Type 0 where
   -- where the folder stands for the version, a crash at any moment leaves it or the next version
-  pub any_moment : (start : World) → StandsAfter cmp order v tables start before → LeavesOnly start before after (IsBeforeOrAfter cmp order v tables next tables')
+  pub any_moment : (start : World) → StandsAfter cmp order v tables start before →
+      LeavesOnly start before after (IsBeforeOrAfter cmp order v tables next tables')
   -- and at Ok the folder stands for the next version
   pub installed : (start : World) → StandsAfter cmp order v tables start before → OnOk result (StandsAfter cmp order next tables' start after)
   -- without a crash the folder reads as one of the two, and at Ok as the next version

@@ -58,7 +58,8 @@ fn make_calls<F: Folder>(
     tables: &[(u64, Vec<u8>)],
     manifest: &[u8],
 ) -> Result<(), Fault>
-    ensures runs { Runs (install_calls manifest_number (tables_in tables.now) manifest.now) (F.calls folder.old) (F.calls folder.new) (F.tells folder.old) (F.tells folder.new) result }
+    ensures runs { Runs (install_calls manifest_number (tables_in tables.now) manifest.now)
+        (F.calls folder.old) (F.calls folder.new) (F.tells folder.old) (F.tells folder.new) result }
     ensures refused { IfErr result (λ e. UnlessMemory e (IsStopped (F.failed folder.old) (F.failed folder.new) e)) }
     ensures at_once { StopsAtDevice (F.failed folder.old) (F.failed folder.new) result }
     ensures later { F.failed folder.old ≤ F.failed folder.new }

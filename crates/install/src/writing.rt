@@ -40,7 +40,8 @@ pub(crate) fn write_tables<F: Folder>(
     folder: &mut F,
     tables: &[(u64, Vec<u8>)],
 ) -> Result<(), Fault>
-    ensures runs { Runs (table_calls (tables_in tables.now)) (F.calls folder.old) (F.calls folder.new) (F.tells folder.old) (F.tells folder.new) result }
+    ensures runs { Runs (table_calls (tables_in tables.now))
+        (F.calls folder.old) (F.calls folder.new) (F.tells folder.old) (F.tells folder.new) result }
     ensures refused { IfErr result (λ e. UnlessMemory e (IsStopped (F.failed folder.old) (F.failed folder.new) e)) }
     ensures at_once { StopsAtDevice (F.failed folder.old) (F.failed folder.new) result }
     ensures later { F.failed folder.old ≤ F.failed folder.new }
@@ -58,16 +59,18 @@ pub(crate) fn write_temporary<F: Folder>(
     folder: &mut F,
     number: u64,
 ) -> Result<(), Fault>
-    ensures runs { Runs (temporary_calls number) (F.calls folder.old) (F.calls folder.new) (F.tells folder.old) (F.tells folder.new) result }
+    ensures runs { Runs (temporary_calls number)
+        (F.calls folder.old) (F.calls folder.new) (F.tells folder.old) (F.tells folder.new) result }
     // Where the name is free, a crash at any moment leaves the version before.
-    ensures before { (cmp : List ℕ → List ℕ → Ordering) (order : Order) (v : State) (tables : List (ℕ × List ℕ)) → IsFree cmp v (temporary_name number)
-        → (start : World) → StandsAfter cmp order v tables start (F.calls folder.old)
+    ensures before { (cmp : List ℕ → List ℕ → Ordering) (order : Order) (v : State) (tables : List (ℕ × List ℕ))
+        → IsFree cmp v (temporary_name number) → (start : World) → StandsAfter cmp order v tables start (F.calls folder.old)
         → LeavesOnly start (F.calls folder.old) (F.calls folder.new) (ReadsAs cmp order v tables) }
     // At Ok that version stands, and the file is written and settled.
-    ensures written { (cmp : List ℕ → List ℕ → Ordering) (order : Order) (v : State) (tables : List (ℕ × List ℕ)) → IsFree cmp v (temporary_name number)
-        → (start : World) → StandsAfter cmp order v tables start (F.calls folder.old)
+    ensures written { (cmp : List ℕ → List ℕ → Ordering) (order : Order) (v : State) (tables : List (ℕ × List ℕ))
+        → IsFree cmp v (temporary_name number) → (start : World) → StandsAfter cmp order v tables start (F.calls folder.old)
         → OnOk result ((w : World) → Leads start (F.calls folder.new) w
-        → StandsAs cmp order v tables w × IsWritten w (temporary_name number, current_text number) × IsSettled w (temporary_name number)) }
+        → StandsAs cmp order v tables w × IsWritten w (temporary_name number, current_text number)
+        × IsSettled w (temporary_name number)) }
     ensures refused { IfErr result (λ e. UnlessMemory e (IsStopped (F.failed folder.old) (F.failed folder.new) e)) }
     ensures at_once { StopsAtDevice (F.failed folder.old) (F.failed folder.new) result }
     ensures later { F.failed folder.old ≤ F.failed folder.new }
@@ -102,7 +105,8 @@ fn make_file<F: Folder>(folder: &mut F, name: &str, bytes: &[u8]) -> Result<(), 
 
 /// Writes what CURRENT is to hold under its temporary name, and syncs the folder.
 fn make_temporary<F: Folder>(alloc: Global, folder: &mut F, number: u64) -> Result<(), Fault>
-    ensures runs { Runs (temporary_calls number) (F.calls folder.old) (F.calls folder.new) (F.tells folder.old) (F.tells folder.new) result }
+    ensures runs { Runs (temporary_calls number)
+        (F.calls folder.old) (F.calls folder.new) (F.tells folder.old) (F.tells folder.new) result }
     ensures refused { IfErr result (λ e. UnlessMemory e (IsStopped (F.failed folder.old) (F.failed folder.new) e)) }
     ensures at_once { StopsAtDevice (F.failed folder.old) (F.failed folder.new) result }
     ensures later { F.failed folder.old ≤ F.failed folder.new }

@@ -7,8 +7,8 @@ pub mod Counting
 pub mod Standing
 pub mod Leaving
 pub mod Bounds
-pub mod Lents
-pub mod Joins
+pub mod KeyBuffers
+pub mod PieceLists
 pub mod Searching
 pub mod RangeWalks
 pub mod Neighbours

@@ -10,4 +10,5 @@ use Rattle.keep.specs.Runs.{range_run}
 -- lists that have lost some entries before a range give in it what they gave
 abbrev pub BegunLaw : (List ℕ → List ℕ → Ordering) → Type 0
 BegunLaw cmp =
-    (b : Below) (range : KeyRange) (olds news : List (List Entry)) → EachLosesOnly (is_before cmp range.lower false) olds news → range_run cmp b news range ≡ range_run cmp b olds range
+    (b : Below) (range : KeyRange) (olds news : List (List Entry)) →
+    EachLosesOnly (is_before cmp range.lower false) olds news → range_run cmp b news range ≡ range_run cmp b olds range

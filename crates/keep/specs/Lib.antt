@@ -9,7 +9,7 @@ pub mod Begun
 pub mod OneKey
 -- serves proofs alone
 pub mod Versions
-pub mod Lent
-pub mod Joined
+pub mod KeyBuffer
+pub mod KeptPieces
 pub mod Walking
 pub mod Starting

@@ -87,4 +87,5 @@ pub record RangesCompose (cmp : List ℕ → List ℕ → Ordering) : Type 0 whe
 -- the inputs have a union exactly where they hold no user key and sequence twice, and it is their sorted merge
 abbrev pub DistinctLaw : (List ℕ → List ℕ → Ordering) → Type 0
 DistinctLaw cmp =
-    (inputs : List (List Entry)) (union : List Entry) → IsUnion cmp inputs union ↔ ((union ≡ merged cmp inputs) × (are_distinct (merged cmp inputs) ≡ true))
+    (inputs : List (List Entry)) (union : List Entry) →
+    IsUnion cmp inputs union ↔ ((union ≡ merged cmp inputs) × (are_distinct (merged cmp inputs) ≡ true))

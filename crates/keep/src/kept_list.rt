@@ -6,7 +6,7 @@ ghost use Rattle.std.specs.Option.{option_map};
 ghost use Rattle.coding.specs.Answers.{fault};
 ghost use Rattle.coding.specs.declared.fault.FaultName.TheVariants.{Memory};
 ghost use Rattle.ikey.specs.Key.{IsInternalKey};
-ghost use Rattle.keep.specs.Joined.{joined};
+ghost use Rattle.keep.specs.KeptPieces.{all_kept};
 
 use crate::kept_piece::KeptPiece;
 use coding::Fault;
@@ -38,9 +38,9 @@ impl<'a> Model for KeptList<'a> {
 
     ghost Value = { List Entry };
 
-    ghost use Rattle.keep.specs.Joined.{joined, AreInPieces};
+    ghost use Rattle.keep.specs.KeptPieces.{all_kept, AreInPieces};
 
-    ghost view = { λ l. joined l.full.items l.last };
+    ghost view = { λ l. all_kept l.full.items l.last };
 
     ghost invariant = { λ l. AreInPieces l.full.items l.last (length l.tally.items) };
 }
@@ -53,7 +53,7 @@ fn make_room<'a>(
     last: &mut KeptPiece<'a>,
 ) -> Result<(), Fault>
     requires { length last.old ≤ 4096 }
-    ensures same { joined full.new.items last.new ≡ joined full.old.items last.old }
+    ensures same { all_kept full.new.items last.new ≡ all_kept full.old.items last.old }
     ensures full { AllByRecursion (λ p. length p ≡ 4096) full.old.items → AllByRecursion (λ p. length p ≡ 4096) full.new.items }
     ensures last { length last.new ≤ 4096 }
     ensures room { OnOk result (length last.new < 4096) }

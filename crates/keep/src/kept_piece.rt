@@ -26,7 +26,7 @@ impl<'a> Model for KeptPiece<'a> {
 
     ghost Value = { List Entry };
 
-    ghost use Rattle.keep.specs.Lent.{entries_at, AreKeys};
+    ghost use Rattle.keep.specs.KeyBuffer.{entries_at, AreKeys};
 
     ghost view = { λ p. entries_at 0 p.keys.items p.kept.items };
 

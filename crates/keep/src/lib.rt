@@ -5,7 +5,7 @@
 //! marks, which say where the user keys stand among the files two levels below.
 #![tactic(auto)]
 
-mod asked;
+mod conditions;
 mod grandparents;
 mod kept_entry;
 mod kept_list;
@@ -21,7 +21,7 @@ mod snapshots;
 mod walk;
 mod walking;
 
-pub use asked::{is_rising, largest_rise};
+pub use conditions::{is_rising, largest_rise};
 pub use laws::{begun_law, distinct_law, holds_law, one_key, ranges_compose};
 pub use mark::Mark;
 pub use merging_range::merge_range;

@@ -85,7 +85,8 @@ fn begin<'a, C: Comparator, S: Cursor<'a, C> + Drop>(
     lower: Option<&[u8]>,
 ) -> Result<(), Fault>
     ensures left { EachLosesOnly (is_before C.cmp (option_map (λ limit. limit.now) lower.entry) false) merging.old merging.new }
-    ensures begun { OnOk result (first_is (is_before C.cmp (option_map (λ limit. limit.now) lower.entry) false) (merged C.cmp merging.new) ≡ false) }
+    ensures begun { OnOk result (first_is (is_before C.cmp (option_map (λ limit. limit.now) lower.entry) false)
+        (merged C.cmp merging.new) ≡ false) }
     ensures memory { IsOkUnless result (fault Memory) }
 {
     while starts_before::<C, Merging<C, S>>(merging, lower, false) {

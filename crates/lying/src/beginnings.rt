@@ -7,10 +7,13 @@
 //! - A block ends with the number of its restarts, and that many restarts before it. In the worked block a number from 1 to 6
 //!   stands before three zeros at places 5, 16 and 28 alone. At 5 two restarts would not fit, at 16 the one restart would not
 //!   be 0, and at 28 it is the whole block. So none of its beginnings is a block. In the blocks of one entry such a number stands at
-//!   5 and 17: at 5 the one restart of the first would not be 0, and the two of the second would not fit; at 17 it is the whole.
+//!   5 and 17: at 5 the one restart of the first would not be 0, and the two of the second would not fit; at 17 it is the whole. In
+//!   that of both it stands at 5, 18 and 30: at 5 and 18 the first restart would not be 0. In that of no entry it stands at the end.
 //! - A table of fewer than 48 bytes is Short, and one that does not end with the magic is Magic, whose first byte stands in
-//!   the worked table once: 48 and 66 of 114 beginnings. So it is with the table of two entries: 48 and 77 of 125. A compaction over
-//!   them answers the same, of input 0.
+//!   the worked table once: 48 and 66 of 114 beginnings. So it is with the table of two entries: 48 and 77 of 125. Those of one
+//!   deletion and of three blocks are put together, and are accepted as wholes of 113 and 202 bytes. No byte of the magic is 0, and of
+//!   eight bytes of theirs one is, but for the magic and for the last checksum with the handles behind it, whose last byte is no
+//!   magic's: 48 and 65, and 48 and 154. A compaction over each of these tables answers the same, of input 0.
 //! - A log may end behind each of its records. That of one empty record has one such place before its end, that of a record
 //!   of 32,754 bytes and one of 1 byte two, 0 and 32,761; a manifest of records of 52 and 8 bytes has 0 and 59. Each other
 //!   beginning ends inside a record.
@@ -21,12 +24,12 @@
 
 use crate::calls::{Call, answer};
 use crate::counts::Counts;
-use crate::tables::{mended_pair, mended_table};
+use crate::tables::{deletion_table, mended_pair, mended_table, three_blocks};
 use crate::worked::{
-    BLOCK, CURRENT_FIVE, DELETION_LEFT, EMPTY_LOG, EMPTY_SNAPSHOT, FIRST_BLOCK, KEY, NOTHING_LEFT,
-    NUMBERS, ONE_FILE, SECOND_BLOCK, TWO_LOGS,
+    BLOCK, BOTH_ENTRIES, CURRENT_FIVE, DELETION_LEFT, EMPTY_LOG, EMPTY_SNAPSHOT, FIRST_BLOCK, KEY,
+    NO_ENTRY, NOTHING_LEFT, NUMBERS, ONE_FILE, SECOND_BLOCK, TWO_LOGS,
 };
-use anyhow::Result;
+use anyhow::{Result, ensure};
 use coding::Fault;
 use logrec::append;
 use std::alloc::Global;
@@ -67,11 +70,34 @@ fn pairs<R: AllocGlobal + Print + Threads + Sync>(rt: &R) -> Result<()> {
     sweep(rt, "compact of two entries", Call::Compact, &table)
 }
 
+/// Calls with each beginning of a table that was put together of blocks, and is accepted as a whole of this length.
+fn whole_tables<R: AllocGlobal + Print + Threads + Sync>(
+    rt: &R,
+    (name, compact_name): (&str, &str),
+    table: &[u8],
+    len: usize,
+) -> Result<()> {
+    let is_whole = table.len() == len && answer(rt, Call::Table, table) == None;
+    ensure!(is_whole, "a table that is not whole");
+    sweep(rt, name, Call::Table, table)?;
+    sweep(rt, compact_name, Call::Compact, table)
+}
+
+/// Calls with each beginning of the table of one deletion, and of that of three blocks.
+fn further_tables<R: AllocGlobal + Print + Threads + Sync>(rt: &R) -> Result<()> {
+    let names = ("table of a deletion", "compact of a deletion");
+    whole_tables(rt, names, &deletion_table(rt.alloc())?, 113)?;
+    let names = ("table of three blocks", "compact of three blocks");
+    whole_tables(rt, names, &three_blocks(rt.alloc())?, 202)
+}
+
 /// Calls with each beginning of blocks.
 fn blocks<R: AllocGlobal + Print + Threads + Sync>(rt: &R) -> Result<()> {
     sweep(rt, "block", Call::Block, &BLOCK)?;
     sweep(rt, "block of a", Call::Block, FIRST_BLOCK)?;
-    sweep(rt, "block of b", Call::Block, SECOND_BLOCK)
+    sweep(rt, "block of b", Call::Block, SECOND_BLOCK)?;
+    sweep(rt, "block of both", Call::Block, BOTH_ENTRIES)?;
+    sweep(rt, "block of no entry", Call::Block, NO_ENTRY)
 }
 
 /// Calls with each beginning of edits.
@@ -101,6 +127,7 @@ pub fn run<R: AllocGlobal + Print + Threads + Sync>(rt: &R) -> Result<()> {
     blocks(rt)?;
     tables(rt)?;
     pairs(rt)?;
+    further_tables(rt)?;
     sweep(rt, "log of an empty record", Call::Records, &EMPTY_LOG)?;
     long_log(rt)?;
     edits(rt)?;

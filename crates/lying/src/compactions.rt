@@ -3,7 +3,7 @@
 use crate::calls::refusal;
 use crate::counts::Answer;
 use board::Open;
-use coding::{Fault, FaultName};
+use coding::Fault;
 use edit::{CompactPointer, FileMeta, Outcome};
 use ikey::{Bytewise, KeyBuf, Kind};
 use keep::Snapshots;

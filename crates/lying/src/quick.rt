@@ -10,6 +10,7 @@ pub fn run<R: AllocGlobal + Print + Threads + Sync>(rt: &R) -> Result<()> {
     changes::run(rt)?;
     rows::run(rt)?;
     claims::print_claims(rt)?;
+    claims::print_numberless(rt)?;
     claims::print_user_keys(rt)?;
     claims::print_values(rt)?;
     requests::run(rt)

@@ -16,6 +16,22 @@ struct Made {
     tables: Vec<Vec<u8>>,
 }
 
+/// The table of a user key of one byte, put at sequence 1.
+fn table_of(alloc: Global, user: u8) -> Result<Vec<u8>> {
+    let key = put(alloc, user, 1)?;
+    let bytes = key.as_key().bytes();
+    table_of_one(alloc, bytes, b"x", bytes, None)
+}
+
+/// Adds that table to the inputs.
+fn add_input(alloc: Global, made: &mut Made, user: u8) -> Result<()> {
+    let table = table_of(alloc, user)?;
+    let file = file_of(alloc, user, table.len() as u64)?;
+    made.picked.files.push(file)?;
+    made.tables.push(table)?;
+    Ok(())
+}
+
 /// The inputs of these user keys of one byte, each put at sequence 1.
 fn inputs_of(alloc: Global, users: &[u8]) -> Result<Made> {
     let mut made = Made {
@@ -23,12 +39,7 @@ fn inputs_of(alloc: Global, users: &[u8]) -> Result<Made> {
         tables: Vec::new(alloc),
     };
     for user in users {
-        let key = put(alloc, *user, 1)?;
-        let bytes = key.as_key().bytes();
-        let table = table_of_one(alloc, bytes, b"x", bytes, None)?;
-        let file = file_of(alloc, *user, table.len() as u64)?;
-        made.picked.files.push(file)?;
-        made.tables.push(table)?;
+        add_input(alloc, &mut made, *user)?;
     }
     Ok(made)
 }
@@ -68,17 +79,21 @@ fn spoil(made: &mut Made, place: usize, byte: usize) {
     }
 }
 
-/// Inputs whose tables are spoilt. Byte 0 lies in the data block, byte 113 in the magic.
-fn spoilt<R: AllocGlobal + Print + Threads + Sync>(rt: &R) -> Result<()> {
-    let mut between = inputs_of(rt.alloc(), b"uau")?;
-    spoil(&mut between, 1, 113);
-    print_compacted(rt, "another magic between two of one key", &between, 2)?;
-    let twice = inputs_of(rt.alloc(), b"uau")?;
-    print_compacted(rt, "two of one key", &twice, 2)?;
-    let mut both = inputs_of(rt.alloc(), b"ab")?;
-    spoil(&mut both, 0, 0);
-    spoil(&mut both, 1, 0);
-    print_compacted(rt, "two spoilt blocks", &both, 64)
+/// Two inputs of one key, with another magic in the input between them and with that as it is. Byte 113 lies in the magic.
+fn between<R: AllocGlobal + Print + Threads + Sync>(rt: &R) -> Result<()> {
+    let mut made = inputs_of(rt.alloc(), b"uau")?;
+    spoil(&mut made, 1, 113);
+    print_compacted(rt, "another magic between two of one key", &made, 2)?;
+    spoil(&mut made, 1, 113);
+    print_compacted(rt, "two of one key", &made, 2)
+}
+
+/// Two inputs with another byte 0, which lies in their data blocks.
+fn both<R: AllocGlobal + Print + Threads + Sync>(rt: &R) -> Result<()> {
+    let mut made = inputs_of(rt.alloc(), b"ab")?;
+    spoil(&mut made, 0, 0);
+    spoil(&mut made, 1, 0);
+    print_compacted(rt, "two spoilt blocks", &made, 64)
 }
 
 /// As many inputs as there may be, and one more.
@@ -169,7 +184,8 @@ fn lies<R: AllocGlobal + Print + Threads + Sync>(rt: &R) -> Result<()> {
 
 /// Prints what is answered of each.
 pub fn run<R: AllocGlobal + Print + Threads + Sync>(rt: &R) -> Result<()> {
-    spoilt(rt)?;
+    between(rt)?;
+    both(rt)?;
     many(rt)?;
     grandparents(rt)?;
     lies(rt)

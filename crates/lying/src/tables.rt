@@ -1,6 +1,6 @@
 //! Tables that are put together by hand.
 
-use crate::worked::{TABLE, TWO_ENTRIES};
+use crate::worked::{NO_ENTRY, TABLE, THREE_PUTS, TWO_ENTRIES, U_DELETED};
 use anyhow::Result;
 use coding::{Fault, crc32c, mask, push_varint};
 use frame::{BlockHandle, Footer, Trailer};
@@ -73,6 +73,14 @@ fn store_one(alloc: Global, out: &mut Vec<u8>, key: &[u8], value: &[u8]) -> Resu
     store(out, &block)
 }
 
+/// Stores the metaindex block and this index block behind the others, and then the footer.
+fn close(out: &mut Vec<u8>, index: &[u8]) -> Result<()> {
+    let metaindex = store(out, NO_ENTRY)?;
+    let index = store(out, index)?;
+    Footer { metaindex, index }.push(out)?;
+    Ok(())
+}
+
 /// The table of one entry in one data block, with this key in its index, and with this handle, where one is given in place of
 /// the right one.
 pub fn table_of_one(
@@ -84,10 +92,44 @@ pub fn table_of_one(
 ) -> Result<Vec<u8>> {
     let mut out = Vec::new(alloc);
     let data = store_one(alloc, &mut out, key, value)?;
-    let metaindex = store(&mut out, &[0, 0, 0, 0, 1, 0, 0, 0])?;
-    let block = index_of_one(alloc, index_key, claimed.unwrap_or(data))?;
-    let index = store(&mut out, &block)?;
-    Footer { metaindex, index }.push(&mut out)?;
+    let index = index_of_one(alloc, index_key, claimed.unwrap_or(data))?;
+    close(&mut out, &index)?;
+    Ok(out)
+}
+
+/// The table of the deletion of `u` at 4 alone, of 113 bytes.
+pub fn deletion_table(alloc: Global) -> Result<Vec<u8>> {
+    table_of_one(alloc, &U_DELETED, b"", &U_DELETED, None)
+}
+
+/// Adds the entry of a data block to those of an index, which has a restart at each: a key of nine bytes, and a handle of two.
+fn add_handle(index: &mut Vec<u8>, key: &[u8; 9], handle: BlockHandle) -> Result<()> {
+    index.extend_from_slice(&[0, 9, 2])?;
+    index.extend_from_slice(key)?;
+    handle.push(index)?;
+    Ok(())
+}
+
+/// The places of three entries of 14 bytes, and their number.
+const THREE_RESTARTS: &[u8] = &[0, 0, 0, 0, 14, 0, 0, 0, 28, 0, 0, 0, 3, 0, 0, 0];
+
+/// Stores `u` at 9, 5 and 3 with the value `x`, each in a data block of its own, and answers the block of their index. No key lies between
+/// two of one user key, so that it has the keys themselves.
+fn store_three(alloc: Global, out: &mut Vec<u8>) -> Result<Vec<u8>> {
+    let mut index = Vec::new(alloc);
+    for key in &THREE_PUTS {
+        let handle = store_one(alloc, out, key, b"x")?;
+        add_handle(&mut index, key, handle)?;
+    }
+    index.extend_from_slice(THREE_RESTARTS)?;
+    Ok(index)
+}
+
+/// The table of `u` at 9, 5 and 3, of 202 bytes.
+pub fn three_blocks(alloc: Global) -> Result<Vec<u8>> {
+    let mut out = Vec::new(alloc);
+    let index = store_three(alloc, &mut out)?;
+    close(&mut out, &index)?;
     Ok(out)
 }
 

@@ -35,11 +35,28 @@ pub const FIRST_BLOCK: &[u8] = b"\0\x09\x01a\x01\x01\0\0\0\0\0\0x\0\0\0\0\x01\0\
 
 pub const SECOND_BLOCK: &[u8] = b"\0\x09\x01b\x01\x02\0\0\0\0\0\0y\0\0\0\0\x01\0\0\0";
 
+/// The block of both entries.
+pub const BOTH_ENTRIES: &[u8] =
+    b"\0\x09\x01a\x01\x01\0\0\0\0\0\0x\0\x09\x01b\x01\x02\0\0\0\0\0\0y\0\0\0\0\x01\0\0\0";
+
+/// The block of no entry, which has the one restart 0 too.
+pub const NO_ENTRY: &[u8] = b"\0\0\0\0\x01\0\0\0";
+
 /// Log 3, and then log 4.
 pub const TWO_LOGS: &[u8] = b"\x02\x03\x02\x04";
 
 /// The internal key of a value of `a` at sequence 1.
 pub const KEY: [u8; 9] = [0x61, 1, 1, 0, 0, 0, 0, 0, 0];
+
+/// The internal key of the deletion of `u` at 4.
+pub const U_DELETED: [u8; 9] = [0x75, 0, 4, 0, 0, 0, 0, 0, 0];
+
+/// The internal keys of values of `u` at 9, 5 and 3.
+pub const THREE_PUTS: [[u8; 9]; 3] = [
+    [0x75, 1, 9, 0, 0, 0, 0, 0, 0],
+    [0x75, 1, 5, 0, 0, 0, 0, 0, 0],
+    [0x75, 1, 3, 0, 0, 0, 0, 0, 0],
+];
 
 /// The log of one empty record.
 pub const EMPTY_LOG: [u8; 7] = [0x05, 0x2b, 0x28, 0x43, 0, 0, 1];

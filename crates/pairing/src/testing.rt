@@ -60,7 +60,8 @@ fn test_entry<'k>(
     key: &'k [u8],
     value: &[u8],
 ) -> Result<InternalKey<'k>, Fault>
-    ensures { result_map_both (λ key. key.bytes.now) (λ e. e) result ≡ entry_test (option_map (λ key. key.bytes.now) before.entry) key.now value.now }
+    ensures { result_map_both (λ key. key.bytes.now) (λ e. e) result
+        ≡ entry_test (option_map (λ key. key.bytes.now) before.entry) key.now value.now }
 {
     let key = InternalKey::parse(key)?;
     if value.len() > MAX_VALUE_LEN {

@@ -19,7 +19,7 @@ use Rattle.keep.specs.Readable.{listed_of}
 use Rattle.keep.specs.declared.snapshots.Snapshots.{Snapshots}
 use Rattle.keep.specs.declared.snapshots.Snapshots.TheVariants.{From, Listed}
 use Rattle.request.specs.Passed.{IsPassed, PassedLaw}
-use Rattle.request.specs.Request.{Asked, are_in_limits, has_levels, has_options, has_snapshots, is_snapshot_list, largest_rise, named_by, request_test, rises_by}
+use Rattle.request.specs.Request.{RequestView, are_in_limits, has_levels, has_options, has_snapshots, is_snapshot_list, largest_rise, named_by, request_test, rises_by}
 use Rattle.request.proofs.Rising.{largest_told, limits_told, rise_told}
 
 -- a step that was taken, and what follows it

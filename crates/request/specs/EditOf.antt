@@ -9,7 +9,7 @@ use Rattle.edit.specs.declared.meta.NewFile.{NewFile}
 use Rattle.edit.specs.declared.meta.DeletedFile.{DeletedFile}
 use Rattle.pick.specs.declared.picked.InputFile.{InputFile}
 use Rattle.cut.specs.Plan.{Planned}
-use Rattle.request.specs.Request.{Asked}
+use Rattle.request.specs.Request.{RequestView}
 
 -- the deletion of an input
 abbrev pub deletion_of : InputFile → DeletedFile
@@ -28,7 +28,7 @@ new_file level p = record {
 
 -- The edit of a compaction: the version's counters, the next file behind the outputs, the compact pointer of the level, the
 -- deletion of each input, and the outputs as new files of the next level. It names no comparator.
-abbrev pub edit_of : Asked → List Planned → Edit
+abbrev pub edit_of : RequestView → List Planned → Edit
 edit_of r plan = record {
   comparator = None;
   log_number = Some r.log_number;

@@ -7,12 +7,12 @@ use Rattle.table.specs.Options.{AreInLimits}
 use Rattle.pick.specs.declared.picked.InputFile.{InputFile}
 use Rattle.keep.specs.Marks.{LargestRise}
 use Rattle.keep.specs.Readable.{listed_of}
-use Rattle.request.specs.Request.{Asked, request_test}
+use Rattle.request.specs.Request.{RequestView, request_test}
 
 -- It has an input, at most 256, and a table for each; the level is one from 0 to 5, and each input is of it or of the next;
 -- the options are within their limits, the largest keys of the grandparents and the listed snapshots rise strictly, and the
 -- last sequence is below 2 ^ 56 - 1.
-pub record IsPassed (cmp : List ℕ → List ℕ → Ordering) (r : Asked) : Type 0 where
+pub record IsPassed (cmp : List ℕ → List ℕ → Ordering) (r : RequestView) : Type 0 where
   pub some : r.picked.files ≢ []
   pub few : length r.picked.files ≤ 256
   pub tables : length r.tables ≡ length r.picked.files
@@ -25,4 +25,4 @@ pub record IsPassed (cmp : List ℕ → List ℕ → Ordering) (r : Asked) : Typ
 
 -- each request that passes its tests has all of this
 abbrev pub PassedLaw : (List ℕ → List ℕ → Ordering) → Type 0
-PassedLaw cmp = (r : Asked) → request_test cmp r ≡ Ok tt → IsPassed cmp r
+PassedLaw cmp = (r : RequestView) → request_test cmp r ≡ Ok tt → IsPassed cmp r

@@ -20,7 +20,7 @@ use Rattle.keep.specs.declared.snapshots.Snapshots.TheVariants.{From, Listed}
 use Rattle.request.specs.declared.request.Request.{Request}
 
 -- a request, without where its inputs and tables lie in memory
-pub record Asked : Type 0 where
+pub record RequestView : Type 0 where
   pub picked : Picked
   pub tables : List (List ℕ)
   pub snapshots : Snapshots
@@ -31,8 +31,8 @@ pub record Asked : Type 0 where
   pub options : declared.Options
 
 -- a request of the code
-abbrev pub asked : Request → Asked
-asked r = record {
+abbrev pub request_in : Request → RequestView
+request_in r = record {
   picked = picked_in r.picked.now;
   tables = map (λ t. t.now) r.tables.now;
   snapshots = r.snapshots;
@@ -44,8 +44,8 @@ asked r = record {
 }
 
 -- what merging has to know of a request: which sequences stay readable, the deeper files, and the grandparents
-abbrev pub below_asked : Asked → Below
-below_asked r = record {
+abbrev pub below_request : RequestView → Below
+below_request r = record {
   readable = readable_of r.snapshots r.last_sequence;
   deeper = r.picked.deeper;
   grandparents = r.picked.grandparents;
@@ -73,7 +73,7 @@ largest_rise cmp files = rises_by (λ (f g : FileMeta). is_lt (internal_cmp cmp 
 
 -- whether the options are within their limits, the inputs are 256 at most with a table each, and the largest keys of the
 -- grandparents rise
-abbrev pub has_options : (List ℕ → List ℕ → Ordering) → Asked → Bool
+abbrev pub has_options : (List ℕ → List ℕ → Ordering) → RequestView → Bool
 has_options cmp r =
     are_in_limits r.options && nat_le (length r.picked.files) 256 && nat_eq (length r.tables) (length r.picked.files)
     && largest_rise cmp r.picked.grandparents
@@ -85,7 +85,7 @@ named_by (Listed list) = list.now
 
 -- Whether the snapshots and the last sequence are below 2 ^ 56 - 1. LevelDB starts its last sequence of a user key there, so
 -- that a snapshot of that sequence would drop every entry.
-abbrev pub has_snapshots : Asked → Bool
+abbrev pub has_snapshots : RequestView → Bool
 has_snapshots r = list_all (λ n. nat_lt n (2 ^ 56 - 1)) (r.last_sequence ∷ named_by r.snapshots)
 
 -- whether listed snapshots are 4,096 at most, rise strictly, and none is above the last sequence
@@ -94,7 +94,7 @@ is_snapshot_list (From oldest) last = true
 is_snapshot_list (Listed list) last = nat_le (length list.now) 4096 && rises_by nat_lt list.now && list_all (λ n. nat_le n last) list.now
 
 -- the tests of a request in their order
-abbrev pub request_test : (List ℕ → List ℕ → Ordering) → Asked → Result (Unit {0}) Fault
+abbrev pub request_test : (List ℕ → List ℕ → Ordering) → RequestView → Result (Unit {0}) Fault
 request_test cmp r = do
   _ ← pass (is_some_list r.picked.files) NoInput
   _ ← pass (has_levels r.picked) Level

@@ -1,7 +1,7 @@
 //! A request, and its tests.
 
 ghost use Rattle.std.specs.Prelude.{◌≡◌};
-ghost use Rattle.request.specs.Request.{asked, request_test};
+ghost use Rattle.request.specs.Request.{request_in, request_test};
 
 use crate::testing::{has_levels, has_options, has_snapshots, is_snapshot_list};
 use coding::{Fault, FaultName};
@@ -40,7 +40,7 @@ impl<'a> Request<'a> {
     /// listed one or the last sequence is 2^56 - 1 or more. `SnapshotList` where more than 4,096 snapshots are listed, they
     /// don't rise strictly, or one is above the last sequence.
     pub fn check<C: Comparator>(&self) -> Result<(), Fault>
-        ensures { result ≡ request_test C.cmp (asked self.now) }
+        ensures { result ≡ request_test C.cmp (request_in self.now) }
     {
         if self.picked.files.is_empty() {
             return Err(Fault::of(FaultName::NoInput));

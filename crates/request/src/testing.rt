@@ -4,7 +4,7 @@ ghost use Rattle.std.specs.Prelude.{◌≡◌, nat_eq, nat_lt, nat_le, ◌||◌}
 ghost use Rattle.std.specs.List.{list_all};
 ghost use Rattle.pick.specs.Picked.{picked_in};
 ghost use Rattle.pick.specs.declared.picked.InputFile.{InputFile};
-ghost use Rattle.request.specs.Request.{are_in_limits, asked, has_levels, has_options, has_snapshots, is_snapshot_list, largest_rise, rises_by};
+ghost use Rattle.request.specs.Request.{are_in_limits, has_levels, has_options, has_snapshots, is_snapshot_list, largest_rise, request_in, rises_by};
 
 use crate::request::Request;
 use edit::FileMeta;
@@ -32,7 +32,7 @@ pub(crate) fn has_levels(picked: &Inputs) -> bool
 /// Whether the options are within their limits, the inputs are 256 at most with a table each, and the largest keys of the
 /// grandparents rise strictly.
 pub(crate) fn has_options<C: Comparator>(request: &Request<'_>) -> bool
-    ensures { result ≡ has_options C.cmp (asked request.now) }
+    ensures { result ≡ has_options C.cmp (request_in request.now) }
 {
     are_in_limits(&request.options)
         && request.picked.files.len() <= MAX_INPUTS
@@ -42,7 +42,7 @@ pub(crate) fn has_options<C: Comparator>(request: &Request<'_>) -> bool
 
 /// Whether the snapshots and the last sequence are below 2^56 - 1.
 pub(crate) fn has_snapshots(request: &Request<'_>) -> bool
-    ensures { result ≡ has_snapshots (asked request.now) }
+    ensures { result ≡ has_snapshots (request_in request.now) }
 {
     request.last_sequence < MAX_SEQUENCE
         && match request.snapshots {

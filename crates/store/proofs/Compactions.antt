@@ -16,8 +16,8 @@ use Rattle.reads.specs.Tables.{Numbered}
 use Rattle.checks.specs.LawfulTables.{IsLawfulTables}
 use Rattle.checks.proofs.LawfulLemmas.{sound_checked, sound_lawful}
 use Rattle.request.specs.OneThread.{Answer, compacted, one_thread}
-use Rattle.request.specs.Request.{Asked}
-use Rattle.store.specs.Asking.{asked_of, compaction_of, manifest_of, request_of}
+use Rattle.request.specs.Request.{RequestView}
+use Rattle.store.specs.Asking.{numbered_request, compaction_of, manifest_of, request_of}
 use Rattle.store.specs.Compaction.{Compacted}
 use Rattle.store.specs.Joint.{JointLaw}
 use Rattle.store.specs.declared.settings.Settings.{Settings}
@@ -26,11 +26,11 @@ use Rattle.store.specs.declared.settings.Settings.{Settings}
 pub thread_of : (cmp : List ℕ → List ℕ → Ordering) (separator_of : List ℕ → List ℕ → List ℕ) (successor_of : List ℕ → List ℕ) (v : State) (loaded : List (ℕ × List ℕ)) (p : Picked) (s : Settings) (answer : Answer)
     → compaction_of cmp separator_of successor_of v loaded p s ≡ Ok answer → one_thread cmp separator_of successor_of (request_of v loaded p s) ≡ Ok answer
 thread_of cmp separator_of successor_of v loaded p s answer h =
-    let one = bind_ok (pass (nat_le 1 s.ranges && nat_le s.ranges 4096) SplitCount) (λ _. asked_of v loaded p s >>= λ r. compacted cmp separator_of successor_of s.workers r) answer h in
-    let two = bind_ok (asked_of v loaded p s) (λ (r : Asked). compacted cmp separator_of successor_of s.workers r) answer one.2 in
+    let one = bind_ok (pass (nat_le 1 s.ranges && nat_le s.ranges 4096) SplitCount) (λ _. numbered_request v loaded p s >>= λ r. compacted cmp separator_of successor_of s.workers r) answer h in
+    let two = bind_ok (numbered_request v loaded p s) (λ (r : RequestView). compacted cmp separator_of successor_of s.workers r) answer one.2 in
     let three = bind_ok (pass (nat_lt (manifest_of v) (2 ^ 64 - 1)) Numbers) (λ _. Ok (request_of v loaded p s)) two.0 two.1 in
     let four = bind_ok (pass (nat_le 1 s.workers && nat_le s.workers 64) Workers) (λ _. one_thread cmp separator_of successor_of two.0) answer two.2 in
-    subst (λ (r : Asked). one_thread cmp separator_of successor_of r ≡ Ok answer) (sym (ok_is (request_of v loaded p s) two.0 three.2)) four.2
+    subst (λ (r : RequestView). one_thread cmp separator_of successor_of r ≡ Ok answer) (sym (ok_is (request_of v loaded p s) two.0 three.2)) four.2
 
 -- what a compaction answers is installed
 pub is_compacted : (cmp : List ℕ → List ℕ → Ordering) (separator_of : List ℕ → List ℕ → List ℕ) (successor_of : List ℕ → List ℕ) → JointLaw cmp separator_of successor_of

@@ -25,7 +25,7 @@ use Rattle.cut.specs.Plan.{Planned, assembled}
 use Rattle.request.specs.EditOf.{edit_of, new_file}
 use Rattle.request.specs.OneThread.{Answer, table_for}
 use Rattle.request.specs.Passed.{IsPassed, PassedLaw}
-use Rattle.request.specs.Request.{Asked}
+use Rattle.request.specs.Request.{RequestView}
 use Rattle.install.specs.Install.{IsEditedBy, numbers_of}
 use Rattle.install.proofs.Numbers.{in_files}
 use Rattle.survival.specs.EditAfter.{AreNumbered, EditApplies, new_files, version_after}
@@ -60,7 +60,7 @@ module _ (cmp : List ℕ → List ℕ → Ordering) (total : IsTotalOrder cmp) (
     (order : Order) (v : State) (loaded : List (ℕ × List ℕ)) (tables : List Numbered) (level : ℕ) (p : Picked) (s : Settings) (answer : Answer)
     (checked : tables_reading cmp loaded ≡ Ok tables) (lawful : IsLawful cmp v tables) (low : All (λ (f : NewFile). f.level ≤ 6) v.files) (picked : IsPicked cmp v level p)
     (over : IsOver v tables (request_of v loaded p s)) (held : HoldOutputs cmp separator_of successor_of tables (request_of v loaded p s) answer) where
-  abbrev r : Asked
+  abbrev r : RequestView
   r = request_of v loaded p s
 
   abbrev pub next_version : State

@@ -16,7 +16,7 @@ use Rattle.checks.specs.Checked.{tables_reading}
 use Rattle.checks.proofs.LawfulLemmas.{sound}
 use Rattle.request.specs.OneThread.{Answer, one_thread}
 use Rattle.request.specs.Passed.{PassedLaw}
-use Rattle.request.specs.Request.{Asked}
+use Rattle.request.specs.Request.{RequestView}
 use Rattle.install.specs.Install as install
 use Rattle.survival.specs.EditAfter.{EditApplies, version_after}
 use Rattle.survival.specs.GetsAfter.{GetsAfter}
@@ -34,7 +34,7 @@ use Rattle.store.proofs.TablesAfter.{read_after, reads_after, same_after}
 pub joint : (cmp : List ℕ → List ℕ → Ordering) → IsTotalOrder cmp → IsExact cmp → (separator_of : List ℕ → List ℕ → List ℕ) (successor_of : List ℕ → List ℕ)
     → EditApplies cmp → PassedLaw cmp → OutputsHold cmp separator_of successor_of → StandsAfter cmp separator_of successor_of → GetsAfter cmp → JointLaw cmp separator_of successor_of
 joint cmp total exact separator_of successor_of applies passes outputs stands gets order v loaded tables level p s answer checked lawful low picked log previous answered =
-    let r : Asked = request_of v loaded p s in
+    let r : RequestView = request_of v loaded p s in
     let over : IsOver v tables r = is_over cmp total v loaded tables level p checked lawful picked s log previous in
     let held : HoldOutputs cmp separator_of successor_of tables r answer = outputs v tables level r answer lawful picked over answered in
     let next : State = version_after v r held.plan in

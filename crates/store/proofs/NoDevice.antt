@@ -25,9 +25,9 @@ use Rattle.checks.proofs.LawfulLemmas.{sound_other}
 use Rattle.checks.proofs.TableRefusals.{no_device}
 use Rattle.request.specs.Inputs.{about, input_reading, inputs_reading, is_stated, union_reading}
 use Rattle.request.specs.OneThread.{Answer, compacted, one_thread, table_for}
-use Rattle.request.specs.Request.{Asked, below_asked, has_levels, has_options, has_snapshots, is_snapshot_list, request_test}
+use Rattle.request.specs.Request.{RequestView, below_request, has_levels, has_options, has_snapshots, is_snapshot_list, request_test}
 use Rattle.store.specs.Answers.{IsLoadedCompacted, lines_of}
-use Rattle.store.specs.Asking.{asked_of, compaction_of, manifest_of, request_of}
+use Rattle.store.specs.Asking.{numbered_request, compaction_of, manifest_of, request_of}
 use Rattle.store.specs.declared.settings.Settings.{Settings}
 
 abbrev refusal : {Y : Type 0} → Fault → Result Y Fault
@@ -84,7 +84,7 @@ inputs_other cmp place (i ∷ files) (bytes ∷ given) =
 
 -- ---- the compaction
 
-test_other : (cmp : List ℕ → List ℕ → Ordering) (r : Asked) → AllOther (request_test cmp r)
+test_other : (cmp : List ℕ → List ℕ → Ordering) (r : RequestView) → AllOther (request_test cmp r)
 test_other cmp r =
     bound (pass (is_some_list r.picked.files) NoInput) _ (passes (is_some_list r.picked.files) NoInput (λ same. cc same)) (λ _.
     bound (pass (has_levels r.picked) Level) _ (passes (has_levels r.picked) Level (λ same. cc same)) (λ _.
@@ -93,7 +93,7 @@ test_other cmp r =
     passes (is_snapshot_list r.snapshots r.last_sequence) SnapshotList (λ same. cc same)))))
 
 module _ (cmp : List ℕ → List ℕ → Ordering) (separator_of : List ℕ → List ℕ → List ℕ) (successor_of : List ℕ → List ℕ) where
-  plan_other : (r : Asked) (outs : List (List Entry)) → AllOther (plan_of (table_for cmp separator_of successor_of r) r.options r.first_number outs)
+  plan_other : (r : RequestView) (outs : List (List Entry)) → AllOther (plan_of (table_for cmp separator_of successor_of r) r.options r.first_number outs)
   plan_other r outs =
       bound (pass (nat_lt (r.first_number + length outs) (2 ^ 64)) Numbers) _ (passes (nat_lt (r.first_number + length outs) (2 ^ 64)) Numbers (λ same. cc same)) (λ _.
       bound _ _ (passes _ TooLarge (λ same. cc same)) (λ _. value _))
@@ -101,17 +101,17 @@ module _ (cmp : List ℕ → List ℕ → Ordering) (separator_of : List ℕ →
   union_other : (inputs : List (List Entry)) → AllOther (union_reading cmp inputs)
   union_other inputs = tested (are_distinct (merged cmp inputs)) _ _ (value (merged cmp inputs)) (named _ Duplicate (λ same. cc same))
 
-  thread_other : (r : Asked) → AllOther (one_thread cmp separator_of successor_of r)
+  thread_other : (r : RequestView) → AllOther (one_thread cmp separator_of successor_of r)
   thread_other r =
       bound (request_test cmp r) _ (test_other cmp r) (λ _.
       bound (inputs_reading cmp 0 r.picked.files r.tables) _ (inputs_other cmp 0 r.picked.files r.tables) (λ inputs.
       bound (union_reading cmp inputs) _ (union_other inputs) (λ union.
-      bound _ _ (plan_other r (outputs cmp (below_asked r) r.options union)) (λ plan. value _))))
+      bound _ _ (plan_other r (outputs cmp (below_request r) r.options union)) (λ plan. value _))))
 
   pub compaction_other : (v : State) (loaded : List (ℕ × List ℕ)) (p : Picked) (s : Settings) → AllOther (compaction_of cmp separator_of successor_of v loaded p s)
   compaction_other v loaded p s =
       bound (pass (nat_le 1 s.ranges && nat_le s.ranges 4096) SplitCount) _ (passes (nat_le 1 s.ranges && nat_le s.ranges 4096) SplitCount (λ same. cc same)) (λ _.
-      bound (asked_of v loaded p s) _ (bound (pass (nat_lt (manifest_of v) (2 ^ 64 - 1)) Numbers) _ (passes (nat_lt (manifest_of v) (2 ^ 64 - 1)) Numbers (λ same. cc same)) (λ _. value (request_of v loaded p s))) (λ r.
+      bound (numbered_request v loaded p s) _ (bound (pass (nat_lt (manifest_of v) (2 ^ 64 - 1)) Numbers) _ (passes (nat_lt (manifest_of v) (2 ^ 64 - 1)) Numbers (λ same. cc same)) (λ _. value (request_of v loaded p s))) (λ r.
       bound (pass (nat_le 1 s.workers && nat_le s.workers 64) Workers) _ (passes (nat_le 1 s.workers && nat_le s.workers 64) Workers (λ same. cc same)) (λ _.
       thread_other r)))
 

@@ -23,14 +23,16 @@ lines_of v p answer = answer >>= λ (a : Answer). Ok (compaction_lines a.tables 
 
 -- The answer on a version with the bytes of its tables, by the first refusal: of a table, of the version, which has to be
 -- lawful, of the level, which has to have inputs, and of their compaction; then the lines.
-abbrev pub IsLoadedCompacted : (List ℕ → List ℕ → Ordering) → (List ℕ → List ℕ → List ℕ) → (List ℕ → List ℕ) → State → List (ℕ × List ℕ) → ℕ → Settings → Result (List ℕ) Fault → Type 0
+abbrev pub IsLoadedCompacted : (List ℕ → List ℕ → Ordering) → (List ℕ → List ℕ → List ℕ) → (List ℕ → List ℕ)
+    → State → List (ℕ × List ℕ) → ℕ → Settings → Result (List ℕ) Fault → Type 0
 IsLoadedCompacted cmp separator_of successor_of v loaded level s =
     IsThen (IsLawfulTables cmp v loaded) (λ tables.
     IsThen (IsInputsAnswer cmp v level) (λ p answer.
     answer ≡ lines_of v p (compaction_of cmp separator_of successor_of v loaded p s)))
 
 -- the same, where the tables are in a folder: all of them are read first, by level and in version order
-abbrev pub IsVersionCompacted : (List ℕ → List ℕ → Ordering) → (List ℕ → List ℕ → List ℕ) → (List ℕ → List ℕ) → Files → State → ℕ → Settings → Result (List ℕ) Fault → Type 0
+abbrev pub IsVersionCompacted : (List ℕ → List ℕ → Ordering) → (List ℕ → List ℕ → List ℕ) → (List ℕ → List ℕ)
+    → Files → State → ℕ → Settings → Result (List ℕ) Fault → Type 0
 IsVersionCompacted cmp separator_of successor_of files v level s =
     IsThen (IsLoaded (IsHeldIn files) (file_numbers cmp v)) (λ loaded. IsLoadedCompacted cmp separator_of successor_of v loaded level s)
 

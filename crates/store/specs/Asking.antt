@@ -10,7 +10,7 @@ use Rattle.pick.specs.Picked.{Picked}
 use Rattle.pick.specs.declared.picked.InputFile.{InputFile}
 use Rattle.install.specs.Install.{bytes_of}
 use Rattle.request.specs.OneThread.{Answer, compacted}
-use Rattle.request.specs.Request.{Asked}
+use Rattle.request.specs.Request.{RequestView}
 use Rattle.store.specs.declared.settings.Settings.{Settings}
 
 -- the number of the new manifest: the version's next file, which each version has that a folder opens as
@@ -23,7 +23,7 @@ last_of v = unwrap_or v.last_sequence 0
 
 -- The request for these inputs: the bytes that were loaded of each, the version's counters, and numbers for the outputs behind
 -- the manifest's. A previous log number that was never set is 0.
-abbrev pub request_of : State → List (ℕ × List ℕ) → Picked → Settings → Asked
+abbrev pub request_of : State → List (ℕ × List ℕ) → Picked → Settings → RequestView
 request_of v loaded p s = record {
   picked = p;
   tables = map (λ (i : InputFile). bytes_of loaded i.meta.number) p.files;
@@ -36,13 +36,14 @@ request_of v loaded p s = record {
 }
 
 -- that request, or Numbers where there is no number behind the manifest's
-abbrev pub asked_of : State → List (ℕ × List ℕ) → Picked → Settings → Result Asked Fault
-asked_of v loaded p s = pass (nat_lt (manifest_of v) (2 ^ 64 - 1)) Numbers >>= λ _. Ok (request_of v loaded p s)
+abbrev pub numbered_request : State → List (ℕ × List ℕ) → Picked → Settings → Result RequestView Fault
+numbered_request v loaded p s = pass (nat_lt (manifest_of v) (2 ^ 64 - 1)) Numbers >>= λ _. Ok (request_of v loaded p s)
 
 -- What a compaction of these inputs answers: SplitCount where the ranges are not from 1 to 4,096, then Numbers where there is
 -- no number behind the manifest's, and then what the request for them answers.
-abbrev pub compaction_of : (List ℕ → List ℕ → Ordering) → (List ℕ → List ℕ → List ℕ) → (List ℕ → List ℕ) → State → List (ℕ × List ℕ) → Picked → Settings → Result Answer Fault
+abbrev pub compaction_of : (List ℕ → List ℕ → Ordering) → (List ℕ → List ℕ → List ℕ) → (List ℕ → List ℕ)
+    → State → List (ℕ × List ℕ) → Picked → Settings → Result Answer Fault
 compaction_of cmp separator_of successor_of v loaded p s = do
   _ ← pass (nat_le 1 s.ranges && nat_le s.ranges 4096) SplitCount
-  r ← asked_of v loaded p s
+  r ← numbered_request v loaded p s
   compacted cmp separator_of successor_of s.workers r

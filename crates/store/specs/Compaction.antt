@@ -25,16 +25,19 @@ use Rattle.store.specs.declared.settings.Settings.{Settings}
 -- The edited version of a compaction's answer: the answer's edit makes it of the version, by the manifest of the next file's
 -- number. With the tables that an installation leaves it is lawful, and each get at a sequence that stays readable answers as
 -- before.
-pub record Edited (order : Order) (cmp : List ℕ → List ℕ → Ordering) (v : State) (loaded : List (ℕ × List ℕ)) (tables : List Numbered) (s : Settings) (answer : Answer) : Type 0 where
+pub record Edited (order : Order) (cmp : List ℕ → List ℕ → Ordering) (v : State) (loaded : List (ℕ × List ℕ))
+    (tables : List Numbered) (s : Settings) (answer : Answer) : Type 0 where
   pub next : State
   pub edited : IsEditedBy (order_name order) cmp order v (manifest_of v) answer.tables answer.edit next
   pub tables_next : List Numbered
   pub lawful : IsLawfulTables cmp next (tables_after cmp next answer.tables loaded) (Ok tables_next)
-  pub gets : (user : List ℕ) (at : ℕ) → is_read (readable_of s.snapshots (last_of v)) at ≡ true → get_of next tables_next user at ≡ get_of v tables user at
+  pub gets : (user : List ℕ) (at : ℕ) → is_read (readable_of s.snapshots (last_of v)) at ≡ true →
+      get_of next tables_next user at ≡ get_of v tables user at
 
 -- A compaction of a level of a version with the bytes of its tables: the version is lawful, the inputs are picked, and this is
 -- what their compaction answers, and what it makes.
-pub record Compacted (order : Order) (cmp : List ℕ → List ℕ → Ordering) (separator_of : List ℕ → List ℕ → List ℕ) (successor_of : List ℕ → List ℕ) (v : State) (loaded : List (ℕ × List ℕ)) (level : ℕ) (s : Settings) (answer : Answer) : Type 0 where
+pub record Compacted (order : Order) (cmp : List ℕ → List ℕ → Ordering) (separator_of : List ℕ → List ℕ → List ℕ) (successor_of : List ℕ → List ℕ)
+    (v : State) (loaded : List (ℕ × List ℕ)) (level : ℕ) (s : Settings) (answer : Answer) : Type 0 where
   pub tables : List Numbered
   pub lawful : IsLawfulTables cmp v loaded (Ok tables)
   pub picked : Picked
@@ -43,7 +46,8 @@ pub record Compacted (order : Order) (cmp : List ℕ → List ℕ → Ordering) 
   pub edited : Edited order cmp v loaded tables s answer
 
 -- A compaction of a level of the version that files read as.
-pub record Compaction (order : Order) (cmp : List ℕ → List ℕ → Ordering) (separator_of : List ℕ → List ℕ → List ℕ) (successor_of : List ℕ → List ℕ) (files : Files) (level : ℕ) (s : Settings) : Type 0 where
+pub record Compaction (order : Order) (cmp : List ℕ → List ℕ → Ordering) (separator_of : List ℕ → List ℕ → List ℕ) (successor_of : List ℕ → List ℕ)
+    (files : Files) (level : ℕ) (s : Settings) : Type 0 where
   pub version : State
   pub loaded : List (ℕ × List ℕ)
   pub reads : ReadsAs cmp order version loaded files
@@ -51,7 +55,8 @@ pub record Compaction (order : Order) (cmp : List ℕ → List ℕ → Ordering)
   pub compacted : Compacted order cmp separator_of successor_of version loaded level s answer
 
 -- the edited version of a compaction
-abbrev pub next_of : {order : Order} {cmp : List ℕ → List ℕ → Ordering} {separator_of : List ℕ → List ℕ → List ℕ} {successor_of : List ℕ → List ℕ} {files : Files} {level : ℕ} {s : Settings} → Compaction order cmp separator_of successor_of files level s → State
+abbrev pub next_of : {order : Order} {cmp : List ℕ → List ℕ → Ordering} {separator_of : List ℕ → List ℕ → List ℕ} {successor_of : List ℕ → List ℕ}
+    {files : Files} {level : ℕ} {s : Settings} → Compaction order cmp separator_of successor_of files level s → State
 next_of c = c.compacted.edited.next
 
 -- Nothing that writes was called, and the folder holds what it held.
@@ -70,10 +75,13 @@ pub record IsSynced {T : Type 0} (before after : List Step) (old new : List ℕ 
 
 -- A compaction was installed, from these calls on: a crash at any moment leaves the version before or the edited one, at Ok
 -- it is the edited one, and nothing else is answered but Device and Memory.
-pub record IsInstalled {T : Type 0} (order : Order) (cmp : List ℕ → List ℕ → Ordering) (separator_of : List ℕ → List ℕ → List ℕ) (successor_of : List ℕ → List ℕ) (files : Files) (level : ℕ) (s : Settings)
-    (before after : List Step) (old new : List ℕ → Option (List ℕ) → Type 0) (result : Result T Fault) : Type 0 where
+pub record IsInstalled {T : Type 0} (order : Order) (cmp : List ℕ → List ℕ → Ordering)
+    (separator_of : List ℕ → List ℕ → List ℕ) (successor_of : List ℕ → List ℕ)
+    (files : Files) (level : ℕ) (s : Settings) (before after : List Step)
+    (old new : List ℕ → Option (List ℕ) → Type 0) (result : Result T Fault) : Type 0 where
   pub compaction : Compaction order cmp separator_of successor_of files level s
-  pub survives : Survives cmp order compaction.version compaction.loaded (next_of compaction) (tables_after cmp (next_of compaction) compaction.answer.tables compaction.loaded) before after old new result
+  pub survives : Survives cmp order compaction.version compaction.loaded (next_of compaction)
+      (tables_after cmp (next_of compaction) compaction.answer.tables compaction.loaded) before after old new result
   pub refused : IfErr result (λ e. UnlessMemory e (e ≡ fault Device))
 
 -- what is left of a folder whose version has this order: it is unchanged, or a compaction was installed
@@ -83,22 +91,27 @@ IsVersionLeft order cmp separator_of successor_of files level s before after old
     IsUnchanged before after old new result ⊎ IsInstalled order cmp separator_of successor_of files level s before after old new result
 
 -- the same, in the order that it has
-abbrev pub IsOpenedLeft : {T : Type 0} → Files → ℕ → Settings → List Step → List Step → (List ℕ → Option (List ℕ) → Type 0) → (List ℕ → Option (List ℕ) → Type 0) → Result T Fault → Type 0
+abbrev pub IsOpenedLeft : {T : Type 0} → Files → ℕ → Settings
+    → List Step → List Step → (List ℕ → Option (List ℕ) → Type 0) → (List ℕ → Option (List ℕ) → Type 0) → Result T Fault → Type 0
 IsOpenedLeft files level s before after old new result =
     IsUnchanged before after old new result
-    ⊎ ((order : Order) × IsInstalled order (order_cmp order) (order_separator order) (order_successor order) files level s before after old new result)
+    ⊎ ((order : Order) × IsInstalled order (order_cmp order) (order_separator order) (order_successor order) files level s
+    before after old new result)
 
 -- What is left of a folder that held these files: it holds what it held, or behind a sync of the folder a compaction was
 -- installed.
-abbrev pub IsLeft : {T : Type 0} → Files → ℕ → Settings → List Step → List Step → (List ℕ → Option (List ℕ) → Type 0) → (List ℕ → Option (List ℕ) → Type 0) → Result T Fault → Type 0
+abbrev pub IsLeft : {T : Type 0} → Files → ℕ → Settings
+    → List Step → List Step → (List ℕ → Option (List ℕ) → Type 0) → (List ℕ → Option (List ℕ) → Type 0) → Result T Fault → Type 0
 IsLeft files level s before after old new result =
     IsSynced before after old new result
-    ⊎ ((order : Order) × IsInstalled order (order_cmp order) (order_separator order) (order_successor order) files level s (before ++ Done FolderSynced ∷ []) after old new result)
+    ⊎ ((order : Order) × IsInstalled order (order_cmp order) (order_separator order) (order_successor order) files level s
+    (before ++ Done FolderSynced ∷ []) after old new result)
 
 -- Where what a version rests on is kept by a sync of the folder, as each file is that was synced and each that is missing, the
 -- folder stands for the version behind it.
 abbrev pub SyncLaw : Type 0
 SyncLaw =
     (cmp : List ℕ → List ℕ → Ordering) (order : Order) (v : State) (tables : List (ℕ × List ℕ)) (start : World) (calls : List Step) →
-    ((w : World) → Leads start calls w → ReadsAs cmp order v tables w.shown.files × ((name : List ℕ) → RestsOn cmp v w.shown.files name → IsKept w.shown name)) →
+    ((w : World) → Leads start calls w →
+    ReadsAs cmp order v tables w.shown.files × ((name : List ℕ) → RestsOn cmp v w.shown.files name → IsKept w.shown name)) →
     StandsAfter cmp order v tables start (calls ++ Done FolderSynced ∷ [])

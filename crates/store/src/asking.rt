@@ -4,8 +4,8 @@ ghost use Rattle.std.specs.Prelude.{◌≡◌, ◌<◌, ◌^◌, ℕ, List, map,
 ghost use Rattle.coding.specs.Answers.{EqualOrMemory};
 ghost use Rattle.install.specs.Install.{bytes_of};
 ghost use Rattle.pick.specs.Picked.{picked_in};
-ghost use Rattle.request.specs.Request.{asked};
-ghost use Rattle.store.specs.Asking.{asked_of, manifest_of};
+ghost use Rattle.request.specs.Request.{request_in};
+ghost use Rattle.store.specs.Asking.{manifest_of, numbered_request};
 
 use crate::settings::Settings;
 use coding::{Fault, FaultName};
@@ -28,8 +28,9 @@ pub(crate) fn request_of<'a>(
     tables: &'a [&'a [u8]],
     settings: &Settings<'a>,
 ) -> Result<Request<'a>, Fault>
-    ensures asked { (loaded : List (ℕ × List ℕ)) → map (λ t. t.now) tables.now ≡ map (λ i. bytes_of loaded i.meta.number) picked.now.files.items →
-        EqualOrMemory asked result (asked_of version.now loaded (picked_in picked.now) settings.now) }
+    ensures asked { (loaded : List (ℕ × List ℕ)) →
+        map (λ t. t.now) tables.now ≡ map (λ i. bytes_of loaded i.meta.number) picked.now.files.items →
+        EqualOrMemory request_in result (numbered_request version.now loaded (picked_in picked.now) settings.now) }
     ensures lent { IfOk result (λ r. (r.picked.now ≡ picked.now) × (r.tables.now ≡ tables.now)) }
     ensures logs { (unwrap_or version.now.log_number 0 < 2 ^ 64) × (unwrap_or version.now.previous_log 0 < 2 ^ 64) }
 {

@@ -146,7 +146,8 @@ fn compact_version<C: SharedComparator + 'static, F: Folder, W: Watch + Sync, R:
     ensures answer { (files : Files) → Tells (F.tells folder.old) files →
         FolderAnswers (λ v. v.items) (F.failed folder.old) (F.failed folder.new) result
         (IsVersionCompacted C.cmp C.separator_of C.successor_of files version.now level settings.now) }
-    ensures left { (files : Files) (order : Order) → Tells (F.tells folder.old) files → order_name order ≡ C.name_bytes → IsOpened (IsHeldIn files) (Ok (order, version.now)) →
+    ensures left { (files : Files) (order : Order) → Tells (F.tells folder.old) files → order_name order ≡ C.name_bytes →
+        IsOpened (IsHeldIn files) (Ok (order, version.now)) →
         IsVersionLeft order C.cmp C.separator_of C.successor_of files level settings.now
         (F.calls folder.old) (F.calls folder.new) (F.tells folder.old) (F.tells folder.new) result }
     ensures device { IfErr result (HasDeviceFailed (F.failed folder.old) (F.failed folder.new)) }

@@ -30,7 +30,7 @@ use Rattle.reads.proofs.Orders.{equal_is}
 use Rattle.closure.specs.Closed.{is_input}
 use Rattle.closure.proofs.Closing.{any_at}
 use Rattle.cut.specs.Plan.{Planned}
-use Rattle.request.specs.Request.{Asked}
+use Rattle.request.specs.Request.{RequestView}
 use Rattle.request.specs.EditOf.{deletion_of, deletions_of, edit_of, new_file}
 use Rattle.survival.specs.GetsAfter.{staying}
 use Rattle.survival.specs.EditAfter.{new_files, version_after, AreNumbered, EditApplies}
@@ -185,7 +185,7 @@ distinct_two (x ∷ xs) ys hx hy h = (
     all_two [] k = all_behind ys (λ g j. h x g (first_in x xs) j)
     all_two (z ∷ zs) k = (k.0, all_two zs k.1)
 
-module _ (cmp : List ℕ → List ℕ → Ordering) (total : IsTotalOrder cmp) (v : State) (tables : List Numbered) (level : ℕ) (r : Asked) (plan : List Planned)
+module _ (cmp : List ℕ → List ℕ → Ordering) (total : IsTotalOrder cmp) (v : State) (tables : List Numbered) (level : ℕ) (r : RequestView) (plan : List Planned)
     (lawful : IsLawful cmp v tables) (picked : IsPicked cmp v level r.picked) (high : ForSome v.next_file (λ next. next ≤ r.first_number)) (numbered : AreNumbered r.first_number plan) where
   abbrev files : List InputFile
   files = r.picked.files

@@ -46,7 +46,7 @@ use Rattle.keep.specs.Keeping.{keeps, kept_behind, kept}
 use Rattle.keep.specs.Readable.{Readable, readable_of}
 use Rattle.cut.specs.Outputs.{all_of}
 use Rattle.cut.specs.Plan.{Planned, assembled}
-use Rattle.request.specs.Request.{Asked}
+use Rattle.request.specs.Request.{RequestView}
 use Rattle.request.specs.EditOf.{new_file}
 use Rattle.request.specs.OneThread.{Answer, table_for}
 use Rattle.survival.specs.GetsAfter.{staying, entries_of_inputs, HoldKept}
@@ -106,7 +106,7 @@ one_way x y (inl h) = h
 one_way x y (inr h) = turned x y h
 
 module _ (cmp : List ℕ → List ℕ → Ordering) (total : IsTotalOrder cmp) (exact : IsExact cmp) (separator_of : List ℕ → List ℕ → List ℕ) (successor_of : List ℕ → List ℕ)
-    (v : State) (tables : List Numbered) (level : ℕ) (r : Asked) (answer : Answer)
+    (v : State) (tables : List Numbered) (level : ℕ) (r : RequestView) (answer : Answer)
     (lawful : IsLawful cmp v tables) (low : All (λ (f : NewFile). f.level ≤ 6) v.files) (picked : IsPicked cmp v level r.picked) (over : IsOver v tables r)
     (held : HoldOutputs cmp separator_of successor_of tables r answer) where
   abbrev p : Picked

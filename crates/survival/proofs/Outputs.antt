@@ -51,7 +51,7 @@ use Rattle.keep.proofs.Distinct.{distinct_holds}
 use Rattle.cut.specs.Outputs.{all_of, outputs, UsersRise}
 use Rattle.cut.specs.Plan.{Planned, planned_from, plan_of, parts, assembled}
 use Rattle.cut.proofs.Apart.{whole_law}
-use Rattle.request.specs.Request.{Asked, below_asked, request_test}
+use Rattle.request.specs.Request.{RequestView, below_request, request_test}
 use Rattle.request.specs.Inputs.{about, input_reading, inputs_reading, is_stated, union_reading}
 use Rattle.request.specs.EditOf.{edit_of}
 use Rattle.request.specs.OneThread.{Answer, one_thread, table_for}
@@ -273,13 +273,13 @@ has_plan table_of o first qs plan h =
     }
 
 module _ (cmp : List ℕ → List ℕ → Ordering) (total : IsTotalOrder cmp) (exact : IsExact cmp) (separator_of : List ℕ → List ℕ → List ℕ) (successor_of : List ℕ → List ℕ) (reads_back : ReadBackLaw cmp separator_of successor_of)
-    (v : State) (tables : List Numbered) (level : ℕ) (r : Asked) (answer : Answer)
+    (v : State) (tables : List Numbered) (level : ℕ) (r : RequestView) (answer : Answer)
     (lawful : IsLawful cmp v tables) (picked : IsPicked cmp v level r.picked) (over : IsOver v tables r) (answers : one_thread cmp separator_of successor_of r ≡ Ok answer) where
   abbrev written_by : List Entry → List ℕ
   written_by = table_for cmp separator_of successor_of r
 
   abbrev cut : List Entry → List (List Entry)
-  cut union = outputs cmp (below_asked r) r.options union
+  cut union = outputs cmp (below_request r) r.options union
 
   abbrev answer_of : List Planned → Answer
   answer_of plan = record { tables = assembled written_by plan; edit = edit_bytes (edit_of r plan) }
@@ -344,10 +344,10 @@ module _ (cmp : List ℕ → List ℕ → Ordering) (total : IsTotalOrder cmp) (
   readable = readable_of r.snapshots r.last_sequence
 
   cut_all : all_of (cut union) ≡ kept cmp readable r.picked.deeper union
-  cut_all = (whole_law cmp total exact).all r.picked.grandparents r.options (record { kept = kept cmp readable r.picked.deeper union; marks = heads cmp (below_asked r) union })
+  cut_all = (whole_law cmp total exact).all r.picked.grandparents r.options (record { kept = kept cmp readable r.picked.deeper union; marks = heads cmp (below_request r) union })
 
   cut_some : AllByRecursion (λ (q : List Entry). q ≢ []) (cut union)
-  cut_some = (whole_law cmp total exact).some r.picked.grandparents r.options (record { kept = kept cmp readable r.picked.deeper union; marks = heads cmp (below_asked r) union })
+  cut_some = (whole_law cmp total exact).some r.picked.grandparents r.options (record { kept = kept cmp readable r.picked.deeper union; marks = heads cmp (below_request r) union })
 
   from_cut : (q : List Entry) → Contains (cut union) q → (e : Entry) → Contains q e → Contains union e
   from_cut q at e i = kept_part cmp readable r.picked.deeper None union e (subst (λ (l : List Entry). Contains l e) cut_all (in_flat_map (λ (x : List Entry). x) (cut union) q e at i))
@@ -383,7 +383,7 @@ module _ (cmp : List ℕ → List ℕ → Ordering) (total : IsTotalOrder cmp) (
         numbered = subst (AreNumbered r.first_number) of_plan.is (plan_numbered written_by r.options r.first_number (cut union));
         few = few;
         holds_kept = ap all_of entries_planned ∙ cut_all;
-        users = subst (UsersRise cmp) (sym entries_planned) ((whole_law cmp total exact).users (below_asked r) r.options union is_union.rising);
+        users = subst (UsersRise cmp) (sym entries_planned) ((whole_law cmp total exact).users (below_request r) r.options union is_union.rising);
         lengths = All-from_recursion (λ (p : Planned). p.length ≡ length (written_by p.entries)) plan
             (subst (λ (l : List Planned). AllByRecursion (λ (p : Planned). p.length ≡ length (written_by p.entries)) l) of_plan.is (plan_lengths written_by r.options r.first_number (cut union)));
         written = All-from_recursion (λ (p : Planned). AreWritten cmp (written_by p.entries) p.entries) plan (of_each (λ (p : Planned). AreWritten cmp (written_by p.entries) p.entries) plan written);

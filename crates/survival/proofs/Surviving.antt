@@ -39,7 +39,7 @@ use Rattle.reads.proofs.Members.{later_in, first_in, from_map}
 use Rattle.closure.proofs.BoundaryRanges.{HasLargest, has_largest}
 use Rattle.closure.proofs.ClosedLevels.{upper_input}
 use Rattle.cut.specs.Plan.{Planned}
-use Rattle.request.specs.Request.{Asked, has_levels, has_options, has_snapshots, is_snapshot_list, named_by, request_test}
+use Rattle.request.specs.Request.{RequestView, has_levels, has_options, has_snapshots, is_snapshot_list, named_by, request_test}
 use Rattle.request.specs.EditOf.{deletion_of, deletions_of, edit_of, new_file}
 use Rattle.request.specs.OneThread.{Answer, table_for}
 use Rattle.survival.specs.EditAfter.{new_files, version_after}
@@ -79,11 +79,11 @@ below_told : (m n : ℕ) → nat_lt m n ≡ true → m < n
 below_told m n h = grind (arith, nat_tests)
 
 -- what the tests of a request tell
-record IsTested (r : Asked) : Type 0 where
+record IsTested (r : RequestView) : Type 0 where
   level : r.picked.level ≤ 5
   last_sequence : r.last_sequence < 2 ^ 56 - 1
 
-tested : (cmp : List ℕ → List ℕ → Ordering) (r : Asked) → request_test cmp r ≡ Ok tt → IsTested r
+tested : (cmp : List ℕ → List ℕ → Ordering) (r : RequestView) → request_test cmp r ≡ Ok tt → IsTested r
 tested cmp r h =
     let some = is_some_list r.picked.files in
     let levels = has_levels r.picked in
@@ -100,7 +100,7 @@ tested cmp r h =
     }
 
 module _ (cmp : List ℕ → List ℕ → Ordering) (total : IsTotalOrder cmp) (exact : IsExact cmp) (separator_of : List ℕ → List ℕ → List ℕ) (successor_of : List ℕ → List ℕ)
-    (v : State) (tables : List Numbered) (level : ℕ) (r : Asked) (answer : Answer)
+    (v : State) (tables : List Numbered) (level : ℕ) (r : RequestView) (answer : Answer)
     (lawful : IsLawful cmp v tables) (low : All (λ (f : NewFile). f.level ≤ 6) v.files) (picked : IsPicked cmp v level r.picked) (over : IsOver v tables r)
     (held : HoldOutputs cmp separator_of successor_of tables r answer) where
   abbrev edit : Edit

@@ -9,16 +9,16 @@ use Rattle.pick.specs.Picked.{IsPicked}
 use Rattle.reads.specs.Lawful.{IsLawful}
 use Rattle.reads.specs.Tables.{Numbered}
 use Rattle.cut.specs.Plan.{Planned}
-use Rattle.request.specs.Request.{Asked}
+use Rattle.request.specs.Request.{RequestView}
 use Rattle.request.specs.EditOf.{edit_of, new_file}
 use Rattle.survival.specs.GetsAfter.{staying}
 
 -- the outputs as new files of the level below the compaction's
-abbrev pub new_files : Asked → List Planned → List NewFile
+abbrev pub new_files : RequestView → List Planned → List NewFile
 new_files r plan = map (new_file (r.picked.level + 1)) plan
 
 -- the version with the request's counters, its compact pointer, the files that stay and the outputs
-abbrev pub version_after : State → Asked → List Planned → State
+abbrev pub version_after : State → RequestView → List Planned → State
 version_after v r plan = record {
   log_number = Some r.log_number;
   previous_log = Some r.previous_log;
@@ -36,9 +36,9 @@ AreNumbered number (p ∷ ps) = (p.number ≡ number) × AreNumbered (number + 1
 -- Where the inputs were picked from a lawful version, and the outputs are numbered from its next file on, the edit applies
 -- and makes that version. Its files are those that stay, and the outputs.
 pub record EditApplies (cmp : List ℕ → List ℕ → Ordering) : Type 0 where
-  pub applies : (v : State) (tables : List Numbered) (level : ℕ) (r : Asked) (plan : List Planned) →
+  pub applies : (v : State) (tables : List Numbered) (level : ℕ) (r : RequestView) (plan : List Planned) →
       IsLawful cmp v tables → IsPicked cmp v level r.picked → ForSome v.next_file (λ next. next ≤ r.first_number) → AreNumbered r.first_number plan →
       applied v (edit_of r plan) ≡ Some (version_after v r plan)
-  pub files : (v : State) (tables : List Numbered) (level : ℕ) (r : Asked) (plan : List Planned) →
+  pub files : (v : State) (tables : List Numbered) (level : ℕ) (r : RequestView) (plan : List Planned) →
       IsLawful cmp v tables → IsPicked cmp v level r.picked → ForSome v.next_file (λ next. next ≤ r.first_number) → AreNumbered r.first_number plan →
       IsPermutation (staying v r.picked ++ new_files r plan) (version_after v r plan).files

@@ -19,7 +19,7 @@ use Rattle.keep.specs.Keeping.{kept}
 use Rattle.keep.specs.Readable.{readable_of}
 use Rattle.cut.specs.Outputs.{all_of, UsersRise}
 use Rattle.cut.specs.Plan.{Planned, assembled}
-use Rattle.request.specs.Request.{Asked, request_test}
+use Rattle.request.specs.Request.{RequestView, request_test}
 use Rattle.request.specs.EditOf.{edit_of}
 use Rattle.request.specs.OneThread.{Answer, one_thread, table_for}
 use Rattle.survival.specs.GetsAfter.{entries_of_inputs}
@@ -31,7 +31,7 @@ bytes_of tables i = option_map (λ (t : Contents). t.bytes) (table_of tables i.m
 
 -- A request over a version with its tables: it has the bytes of the inputs' tables, in order, and numbers for its outputs
 -- from the version's next file on; and the numbers of its logs are of 64 bits, as those of each version are.
-pub record IsOver (v : State) (tables : List Numbered) (r : Asked) : Type 0 where
+pub record IsOver (v : State) (tables : List Numbered) (r : RequestView) : Type 0 where
   pub bytes : map (bytes_of tables) r.picked.files ≡ map (λ b. Some b) r.tables
   pub numbers : ForSome v.next_file (λ next. next ≤ r.first_number)
   pub log_number : r.log_number < 2 ^ 64
@@ -52,10 +52,11 @@ pub record AreWritten (cmp : List ℕ → List ℕ → Ordering) (bytes : List �
 abbrev pub planned_entries : List Planned → List (List Entry)
 planned_entries plan = map (λ (p : Planned). p.entries) plan
 
--- What an answer is made of: the request passes its tests, the inputs' tables have a union, the outputs are numbered from the first number on, and hold
--- what is kept of the union, no user key in two of them; each is written as a table, and the edit is that of the outputs.
+-- What an answer is made of: the request passes its tests, the inputs' tables have a union, the outputs are numbered from the
+-- first number on, and hold what is kept of the union, no user key in two of them; each is written as a table, and the edit
+-- is that of the outputs.
 pub record HoldOutputs (cmp : List ℕ → List ℕ → Ordering) (separator_of : List ℕ → List ℕ → List ℕ) (successor_of : List ℕ → List ℕ)
-    (tables : List Numbered) (r : Asked) (answer : Answer) : Type 0 where
+    (tables : List Numbered) (r : RequestView) (answer : Answer) : Type 0 where
   pub tested : request_test cmp r ≡ Ok tt
   pub union : List Entry
   pub plan : List Planned
@@ -72,6 +73,6 @@ pub record HoldOutputs (cmp : List ℕ → List ℕ → Ordering) (separator_of 
 -- so they do, where the inputs were picked from a lawful version and the request is over it
 abbrev pub OutputsHold : (List ℕ → List ℕ → Ordering) → (List ℕ → List ℕ → List ℕ) → (List ℕ → List ℕ) → Type 0
 OutputsHold cmp separator_of successor_of =
-    (v : State) (tables : List Numbered) (level : ℕ) (r : Asked) (answer : Answer) →
+    (v : State) (tables : List Numbered) (level : ℕ) (r : RequestView) (answer : Answer) →
     IsLawful cmp v tables → IsPicked cmp v level r.picked → IsOver v tables r → one_thread cmp separator_of successor_of r ≡ Ok answer →
     HoldOutputs cmp separator_of successor_of tables r answer

@@ -12,7 +12,7 @@ use Rattle.reads.specs.Lawful.{IsLawful}
 use Rattle.reads.specs.Tables.{Numbered}
 use Rattle.closure.specs.Closed.{is_input}
 use Rattle.keep.specs.Readable.{readable_of, is_read}
-use Rattle.request.specs.Request.{Asked}
+use Rattle.request.specs.Request.{RequestView}
 use Rattle.request.specs.OneThread.{Answer, one_thread}
 use Rattle.survival.specs.GetsAfter.{HoldKept}
 use Rattle.survival.specs.EditAfter.{version_after}
@@ -31,17 +31,19 @@ tables_after cmp p answer tables =
 -- they should, the version after is lawful with the tables after, and its files hold the entries of the files that stay and
 -- what is kept of the inputs' union.
 pub record StandsAfter (cmp : List ℕ → List ℕ → Ordering) (separator_of : List ℕ → List ℕ → List ℕ) (successor_of : List ℕ → List ℕ) : Type 0 where
-  pub lawful : (v : State) (tables : List Numbered) (level : ℕ) (r : Asked) (answer : Answer) →
+  pub lawful : (v : State) (tables : List Numbered) (level : ℕ) (r : RequestView) (answer : Answer) →
       IsLawful cmp v tables → All (λ (f : NewFile). f.level ≤ 6) v.files → IsPicked cmp v level r.picked → IsOver v tables r →
       (held : HoldOutputs cmp separator_of successor_of tables r answer) →
       IsLawful cmp (version_after v r held.plan) (tables_after cmp r.picked answer tables)
-  pub holds : (v : State) (tables : List Numbered) (level : ℕ) (r : Asked) (answer : Answer) →
+  pub holds : (v : State) (tables : List Numbered) (level : ℕ) (r : RequestView) (answer : Answer) →
       IsLawful cmp v tables → All (λ (f : NewFile). f.level ≤ 6) v.files → IsPicked cmp v level r.picked → IsOver v tables r →
       (held : HoldOutputs cmp separator_of successor_of tables r answer) →
-      HoldKept cmp v tables r.picked (readable_of r.snapshots r.last_sequence) held.union (version_after v r held.plan) (tables_after cmp r.picked answer tables)
+      HoldKept cmp v tables r.picked (readable_of r.snapshots r.last_sequence) held.union
+      (version_after v r held.plan) (tables_after cmp r.picked answer tables)
 
 -- The version after the edit is there and lawful, and each get at a sequence that stays readable answers as before.
-pub record Survives (cmp : List ℕ → List ℕ → Ordering) (v : State) (tables : List Numbered) (r : Asked) (answer : Answer) (e : Edit) : Type 0 where
+pub record Survives (cmp : List ℕ → List ℕ → Ordering) (v : State) (tables : List Numbered)
+    (r : RequestView) (answer : Answer) (e : Edit) : Type 0 where
   pub after : State
   pub is_after : applied v e ≡ Some after
   pub lawful_after : IsLawful cmp after (tables_after cmp r.picked answer tables)
@@ -50,7 +52,7 @@ pub record Survives (cmp : List ℕ → List ℕ → Ordering) (v : State) (tabl
 
 -- What an answer leaves of each lawful version, whose files stand at levels up to 6, from which the request's inputs were
 -- picked: the bytes of the edit read as an edit, and each that they read as leaves a version that reads survive in.
-pub record LeavesReads (cmp : List ℕ → List ℕ → Ordering) (r : Asked) (answer : Answer) : Type 0 where
+pub record LeavesReads (cmp : List ℕ → List ℕ → Ordering) (r : RequestView) (answer : Answer) : Type 0 where
   pub reads : (v : State) (tables : List Numbered) (level : ℕ) →
       IsLawful cmp v tables → All (λ (f : NewFile). f.level ≤ 6) v.files → IsPicked cmp v level r.picked → IsOver v tables r →
       (e : Edit) × IsEdit answer.edit e
@@ -61,4 +63,4 @@ pub record LeavesReads (cmp : List ℕ → List ℕ → Ordering) (r : Asked) (a
 -- so each answer of one thread does
 abbrev pub ReadsSurvive : (List ℕ → List ℕ → Ordering) → (List ℕ → List ℕ → List ℕ) → (List ℕ → List ℕ) → Type 0
 ReadsSurvive cmp separator_of successor_of =
-    (r : Asked) (answer : Answer) → one_thread cmp separator_of successor_of r ≡ Ok answer → LeavesReads cmp r answer
+    (r : RequestView) (answer : Answer) → one_thread cmp separator_of successor_of r ≡ Ok answer → LeavesReads cmp r answer

@@ -6,7 +6,7 @@ use Rattle.std.specs.declared.cmp.Ordering.{Ordering}
 use Rattle.coding.specs.Answers.{◌>>=◌}
 use Rattle.coding.specs.declared.fault.Fault.{Fault}
 use Rattle.coding.specs.declared.fault.FaultName.TheVariants.{Index}
-use Rattle.coding.proofs.Binds.{done, bind_ok, ok_is}
+use Rattle.coding.proofs.Binds.{done, failed, bind_ok, ok_is}
 use Rattle.block.specs.Piece.{Entry}
 use Rattle.block.specs.Building.{last_key}
 use Rattle.ikey.specs.Order.{internal_cmp}
@@ -138,6 +138,21 @@ next_block_refused cmp x below fits i is d e = in_rest cmp x below fits (i ∷ i
 
 pub next_data_refused : (cmp : List ℕ → List ℕ → Ordering) (x : Ends) (below : List ℕ) (fits : Bool) (i : IndexEntry) (is : List IndexEntry) (q : List Entry) (d : Fault) → block_in i.stored ≡ Ok q → ends_reading cmp (Some x.largest) q ≡ Err d → rest_ends cmp x below fits (i ∷ is) ≡ Err d
 next_data_refused cmp x below fits i is q d e h = in_rest cmp x below fits (i ∷ is) d (data_refused cmp (Some x.largest) i is q d e h)
+
+-- a data block that is refused, or one whose entries are
+pub first_refused : (cmp : List ℕ → List ℕ → Ordering) (i : IndexEntry) (is : List IndexEntry) (d : Fault) → (block_in i.stored >>= ends_reading cmp None) ≡ Err d → all_ends cmp (i ∷ is) ≡ Err d
+first_refused cmp i is d h = by (block_in i.stored) refl h
+  where
+    by : (r : Result (List Entry) Fault) → block_in i.stored ≡ r → (r >>= ends_reading cmp None) ≡ Err d → all_ends cmp (i ∷ is) ≡ Err d
+    by (Ok q) e t = first_data_refused cmp i is q d e t
+    by (Err f) e t = first_block_refused cmp i is d (e ∙ ap (λ (x : Fault). failed x) (let same : f ≡ d = cc in same))
+
+pub next_refused : (cmp : List ℕ → List ℕ → Ordering) (x : Ends) (below : List ℕ) (fits : Bool) (i : IndexEntry) (is : List IndexEntry) (d : Fault) → (block_in i.stored >>= ends_reading cmp (Some x.largest)) ≡ Err d → rest_ends cmp x below fits (i ∷ is) ≡ Err d
+next_refused cmp x below fits i is d h = by (block_in i.stored) refl h
+  where
+    by : (r : Result (List Entry) Fault) → block_in i.stored ≡ r → (r >>= ends_reading cmp (Some x.largest)) ≡ Err d → rest_ends cmp x below fits (i ∷ is) ≡ Err d
+    by (Ok q) e t = next_data_refused cmp x below fits i is q d e t
+    by (Err f) e t = next_block_refused cmp x below fits i is d (e ∙ ap (λ (y : Fault). failed y) (let same : f ≡ d = cc in same))
 
 -- at the end the index keys fit or don't
 pub blocks_done : (cmp : List ℕ → List ℕ → Ordering) (x : Ends) (below : List ℕ) (fits : Bool) → rest_ends cmp x below fits [] ≡ finished fits x

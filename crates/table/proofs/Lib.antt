@@ -7,6 +7,7 @@ pub mod Indexes
 pub mod Cuts
 pub mod Steps
 pub mod DataSteps
+pub mod OneWalk
 pub mod CheckedTables
 pub mod EntryTests
 pub mod Orders

@@ -6,6 +6,7 @@ use Rattle.coding.specs.declared.fault.Fault.{Fault}
 use Rattle.block.specs.Piece.{Entry}
 use Rattle.block.specs.Building.{last_key}
 use Rattle.table.specs.ReadingEntries.{first_key, data_test}
+use Rattle.table.specs.ReadingIndex.{block_in}
 use Rattle.table.specs.Reading.{DataBlock, entries_of}
 
 -- the first and the last key of entries
@@ -22,3 +23,9 @@ ends_reading cmp before entries = do
 -- the first and the last key of data blocks
 abbrev pub ends_of : List DataBlock → Ends
 ends_of blocks = record { smallest = first_key (entries_of blocks); largest = last_key [] (entries_of blocks) }
+
+-- the first and the last key of a data block that is stored in these bytes, after this key
+abbrev pub stored_ends : (List ℕ → List ℕ → Ordering) → Option (List ℕ) → List ℕ → Result Ends Fault
+stored_ends cmp before stored = do
+  entries ← block_in stored
+  ends_reading cmp before entries

@@ -1,22 +1,23 @@
 //! Which bytes are a table.
 
-ghost use Rattle.std.specs.Prelude.{◌≡◌, ◌≤◌, ◌&&◌, not, IfOk, List, length, Ok};
+ghost use Rattle.std.specs.Prelude.{◌≡◌, ◌≤◌, ◌&&◌, not, IfOk, OnOk, IsOk, List, length, Ok};
 ghost use Rattle.std.specs.Option.{option_map};
 ghost use Rattle.std.specs.Ordering.{is_gt};
 ghost use Rattle.std.specs.Result.{result_map_both};
 ghost use Rattle.coding.specs.Answers.{EqualOrMemory};
 ghost use Rattle.block.specs.Piece.{Entry};
+ghost use Rattle.block.specs.ReadingBlocks.{block_reading};
 ghost use Rattle.ikey.specs.Order.{internal_cmp};
 ghost use Rattle.table.specs.ReadingTables.{IsTable, ReadsTables};
 ghost use Rattle.table.specs.ReadingEntries.{is_above, entry_test};
 ghost use Rattle.table.specs.ReadingIndex.{stored_at, block_in, index_entry, index_reading};
 ghost use Rattle.table.specs.Reading.{data_reading, index_in, contents_reading};
-ghost use Rattle.table.specs.Ends.{ends_of, ends_reading};
+ghost use Rattle.table.specs.Ends.{ends_of, ends_reading, stored_ends};
 ghost use Rattle.table.specs.Indexed.{index_entry_of, index_of};
 
 use crate::indexed_block::IndexedBlock;
 use crate::sound_table::{Bounds, SoundTable};
-use block::{BlockCursor, SoundBlock};
+use block::{BlockCursor, CheckingCursor, SoundBlock};
 use coding::{Fault, FaultName};
 use frame::{BlockHandle, FOOTER_LEN, Footer, TRAILER_LEN, contents};
 use ikey::{Comparator, InternalKey, KeyBuf};
@@ -187,18 +188,18 @@ fn test_entry<'k, C: Comparator>(
     }
 }
 
-/// The first and the last key of a data block that stands after this key, where its entries pass their tests. The cursor
-/// walks over them, wherever it was.
-fn bounds_of<'a, C: Comparator>(
+/// The first and the last key of the entries that are still to come, which stand after this key, where they are a block and
+/// pass their tests. What is wrong with one of them may be told before what is wrong with the block.
+fn bounds_ahead<C: Comparator>(
     alloc: Global,
-    cursor: &mut BlockCursor<'a>,
-    block: &SoundBlock<'a>,
+    cursor: &mut CheckingCursor<'_>,
     before: Option<InternalKey<'_>>,
 ) -> Result<Bounds, Fault>
-    ensures { EqualOrMemory (λ b. record { smallest = b.smallest; largest = b.largest }) result
-        (ends_reading C.cmp (option_map (λ key. key.bytes.now) before.entry) block.now.entries) }
+    ensures block { OnOk result (block_reading cursor.old.bytes ≡ Ok cursor.old.all) }
+    ensures ends { IsOk (block_reading cursor.old.bytes)
+        → EqualOrMemory (λ b. record { smallest = b.smallest; largest = b.largest }) result
+        (ends_reading C.cmp (option_map (λ key. key.bytes.now) before.entry) cursor.old.ahead) }
 {
-    cursor.enter(block)?;
     if !cursor.valid() {
         return Err(Fault::of(FaultName::Empty));
     }
@@ -212,6 +213,30 @@ fn bounds_of<'a, C: Comparator>(
         cursor.advance()?;
     }
     Ok(Bounds { smallest, largest })
+}
+
+/// The first and the last key of a stored data block that stands after this key, where it is a block and its entries pass
+/// their tests. The cursor walks over them, wherever it was.
+fn bounds_of<'a, C: Comparator>(
+    alloc: Global,
+    cursor: &mut CheckingCursor<'a>,
+    stored: &'a [u8],
+    before: Option<InternalKey<'_>>,
+) -> Result<Bounds, Fault>
+    requires { 5 ≤ length stored.now }
+    ensures { EqualOrMemory (λ b. record { smallest = b.smallest; largest = b.largest }) result
+        (stored_ends C.cmp (option_map (λ key. key.bytes.now) before.entry) stored.now) }
+{
+    let bytes = contents(stored)?;
+    cursor.enter(bytes)?;
+    match bounds_ahead::<C>(alloc, cursor, before) {
+        Ok(bounds) => Ok(bounds),
+        Err(refused) => {
+            // What is wrong with the block itself comes first.
+            block::check(bytes)?;
+            Err(refused)
+        }
+    }
 }
 
 /// Whether a block of these bounds is above the index key before it, and none of its keys above its own.
@@ -240,13 +265,13 @@ fn bounds_of_all<'a, C: Comparator>(
         return Err(Fault::of(FaultName::Empty));
     };
     // One cursor for all blocks, so that the memory of its key is asked for once.
-    let mut cursor = BlockCursor::none(alloc);
-    let mut bounds = bounds_of::<C>(alloc, &mut cursor, &block_in(first.stored)?, None)?;
+    let mut cursor = CheckingCursor::none(alloc);
+    let mut bounds = bounds_of::<C>(alloc, &mut cursor, first.stored, None)?;
     let mut fits = is_between::<C>(None, &bounds, &first.key);
     let mut below = &first.key;
     for entry in others {
-        let block = block_in(entry.stored)?;
-        let next = bounds_of::<C>(alloc, &mut cursor, &block, Some(bounds.largest.as_key()))?;
+        let before = Some(bounds.largest.as_key());
+        let next = bounds_of::<C>(alloc, &mut cursor, entry.stored, before)?;
         fits = is_between::<C>(Some(below), &next, &entry.key) && fits;
         below = &entry.key;
         bounds.largest = next.largest;

@@ -1,7 +1,6 @@
-ghost use Rattle.std.specs.Prelude.{◌<◌, ◌^◌, length};
-
-use coding::FaultName;
-use ikey::{Bytewise, KeyBuf, Kind};
+use crate::tables::{add, are_bytes, builder, key_of};
+use coding::{Fault, FaultName};
+use ikey::{Bytewise, KeyBuf};
 use std::process::Abort;
 use std::test::Fail;
 use table::{Options, TableBuilder};
@@ -45,86 +44,118 @@ const TWO_BLOCKS: [u8; 166] = [
     0x80, 0x8b, 0x24, 0x75, 0x47, 0xdb,
 ];
 
-#[test]
-fn one_entry(rt: HostRuntime) -> Result<(), Fail> {
-    let key = KeyBuf::new(rt.alloc(), b"a", 1, Kind::Put)?;
-    let mut table = TableBuilder::<Bytewise>::new(rt.alloc(), Options::default());
-    table.add(key.as_key(), b"x")?;
-    assert_eq!(rt; table.flushed(), 0);
-    assert_eq!(rt; table.finish()?.as_slice(), ONE_ENTRY.as_slice());
+/// An entry: its user key of at most four bytes, its sequence, and its value of one byte; none for a deletion.
+type Row = (&'static [u8], u8, Option<u8>);
+
+/// An entry, and the bytes of the blocks that are flushed behind it; none where its key isn't above the last one.
+type Added = (Row, Option<u64>);
+
+/// Tests how many bytes of blocks are flushed behind each entry, and none where its key isn't above the last one.
+fn are_added(
+    rt: &(impl Abort + AllocGlobal),
+    table: &mut TableBuilder<Bytewise>,
+    rows: &[Added],
+) -> Result<(), Fault> {
+    for (row, flushed) in rows {
+        let key = key_of(rt, row.0, row.1, row.2.is_some())?;
+        assert_eq!(rt; add(table, &key, row.2)?, *flushed);
+    }
     Ok(())
 }
+
+/// Tests this, and what the table is in the end.
+fn is_built(
+    rt: &(impl Abort + AllocGlobal),
+    options: Options,
+    rows: &[Added],
+    wanted: &[u8],
+) -> Result<(), Fail> {
+    let mut table = builder(rt, options);
+    are_added(rt, &mut table, rows)?;
+    are_bytes(rt, &table.finish()?, wanted);
+    Ok(())
+}
+
+/// The entry of `ONE_ENTRY`, and that no block is flushed behind it.
+const ONE: [Added; 1] = [((b"a", 1, Some(b'x')), Some(0))];
+
+#[test]
+fn one_entry(rt: HostRuntime) -> Result<(), Fail> {
+    is_built(&rt, Options::default(), &ONE, &ONE_ENTRY)
+}
+
+/// The entries of `TWO_ENTRIES`, and a key that isn't above the last one between them.
+const TWO: [Added; 3] = [
+    ((b"u", 4, None), Some(0)),
+    ((b"u", 4, None), None),
+    ((b"u", 2, Some(b'x')), Some(0)),
+];
 
 #[test]
 fn two_entries(rt: HostRuntime) -> Result<(), Fail> {
-    let first = KeyBuf::new(rt.alloc(), b"u", 4, Kind::Delete)?;
-    let second = KeyBuf::new(rt.alloc(), b"u", 2, Kind::Put)?;
-    let mut table = TableBuilder::<Bytewise>::new(rt.alloc(), Options::default());
-    table.add(first.as_key(), b"")?;
-    assert!(rt; !table.is_above_last(&first.as_key()));
-    if table.is_above_last(&second.as_key()) {
-        table.add(second.as_key(), b"x")?;
-    }
-    assert_eq!(rt; table.finish()?.as_slice(), TWO_ENTRIES.as_slice());
-    Ok(())
+    is_built(&rt, Options::default(), &TWO, &TWO_ENTRIES)
 }
+
+/// Options that end a block with each entry.
+fn block_for_each() -> Options {
+    Options {
+        block_size: 1,
+        ..Options::default()
+    }
+}
+
+/// Entries, and the bytes of the blocks that are flushed behind each of them where it has a block for itself.
+const ROWS: [Added; 3] = [
+    ((b"abcz", 9, Some(b'x')), Some(29)),
+    ((b"abfa", 8, Some(b'y')), Some(58)),
+    ((b"abga", 7, Some(b'z')), Some(87)),
+];
 
 #[test]
 fn a_block_for_each_entry(rt: HostRuntime) -> Result<(), Fail> {
-    let options = Options {
-        block_size: 1,
-        ..Options::default()
-    };
-    assert!(rt; options.are_in_limits());
-    let first = KeyBuf::new(rt.alloc(), b"abcz", 9, Kind::Put)?;
-    let second = KeyBuf::new(rt.alloc(), b"abfa", 8, Kind::Put)?;
-    let mut table = TableBuilder::<Bytewise>::new(rt.alloc(), options);
-    table.add(first.as_key(), b"x")?;
-    assert_eq!(rt; table.flushed(), 29);
-    if table.is_above_last(&second.as_key()) {
-        table.add(second.as_key(), b"y")?;
-    }
-    assert_eq!(rt; table.flushed(), 58);
-    assert_eq!(rt; table.finish()?.as_slice(), TWO_BLOCKS.as_slice());
-    Ok(())
+    is_built(&rt, block_for_each(), &ROWS[..2], &TWO_BLOCKS)
 }
 
-/// Adds an entry above the last one, at a second try where a growth was refused at the first.
+/// Adds an entry, at a second try where a growth was refused at the first.
 fn add_again(
     rt: &impl Abort,
     table: &mut TableBuilder<Bytewise>,
     key: &KeyBuf,
-    value: &[u8],
-) -> Result<(), Fail>
-    requires { length value.now < 2 ^ 24 }
-{
+    value: Option<u8>,
+) -> Result<Option<u64>, Fault> {
     let flushed = table.flushed();
-    assert!(rt; table.is_above_last(&key.as_key()));
-    if let Err(refused) = table.add(key.as_key(), value) {
-        assert_eq!(rt; refused.name, FaultName::Memory);
-        assert_eq!(rt; table.flushed(), flushed);
-        table.add(key.as_key(), value)?;
+    match add(table, key, value) {
+        Ok(answer) => Ok(answer),
+        Err(refused) => {
+            assert_eq!(rt; refused.name, FaultName::Memory);
+            assert_eq!(rt; table.flushed(), flushed);
+            add(table, key, value)
+        }
     }
-    Ok(())
+}
+
+/// A table that these entries were added to, each at a second try where a growth was refused at the first.
+fn grown(rt: &(impl Abort + AllocGlobal), rows: &[Added]) -> Result<TableBuilder<Bytewise>, Fault> {
+    let mut table = builder(rt, block_for_each());
+    for (row, flushed) in rows {
+        let key = key_of(rt, row.0, row.1, row.2.is_some())?;
+        assert_eq!(rt; add_again(rt, &mut table, &key, row.2)?, *flushed);
+    }
+    Ok(table)
+}
+
+/// Whether an answer is this table, or the refusal for want of memory.
+fn is_or_memory(answer: Result<Vec<u8>, Fault>, wanted: &[u8]) -> bool {
+    match answer {
+        Ok(table) => table.as_slice() == wanted,
+        Err(refused) => refused.name == FaultName::Memory,
+    }
 }
 
 #[test]
 fn a_refused_growth_changes_nothing(rt: HostRuntime) -> Result<(), Fail> {
-    let options = Options {
-        block_size: 1,
-        ..Options::default()
-    };
-    assert!(rt; options.are_in_limits());
-    let first = KeyBuf::new(rt.alloc(), b"abcz", 9, Kind::Put)?;
-    let second = KeyBuf::new(rt.alloc(), b"abfa", 8, Kind::Put)?;
-    let mut table = TableBuilder::<Bytewise>::new(rt.alloc(), options);
-    add_again(&rt, &mut table, &first, b"x")?;
-    add_again(&rt, &mut table, &second, b"y")?;
-    assert_eq!(rt; table.flushed(), 58);
-    match table.finish() {
-        Ok(table) => assert_eq!(rt; table.as_slice(), TWO_BLOCKS.as_slice()),
-        Err(refused) => assert_eq!(rt; refused.name, FaultName::Memory),
-    }
+    let table = grown(&rt, &ROWS[..2])?;
+    assert!(rt; is_or_memory(table.finish(), &TWO_BLOCKS));
     Ok(())
 }
 
@@ -134,71 +165,49 @@ const THIRD_BLOCK: [u8; 25] = [
     0x00, 0x00, 0x00, 0x00, 0x01, 0x00, 0x00, 0x00, 0x00,
 ];
 
+/// Whether a table begins with the blocks of `TWO_BLOCKS`, and then has that one.
+fn has_third_block(table: &[u8]) -> bool {
+    table.starts_with(&TWO_BLOCKS[..58]) && table.get(58..83) == Some(THIRD_BLOCK.as_slice())
+}
+
 #[test]
 fn a_third_block(rt: HostRuntime) -> Result<(), Fail> {
-    let options = Options {
-        block_size: 1,
-        ..Options::default()
-    };
-    assert!(rt; options.are_in_limits());
-    let first = KeyBuf::new(rt.alloc(), b"abcz", 9, Kind::Put)?;
-    let second = KeyBuf::new(rt.alloc(), b"abfa", 8, Kind::Put)?;
-    let third = KeyBuf::new(rt.alloc(), b"abga", 7, Kind::Put)?;
-    let mut table = TableBuilder::<Bytewise>::new(rt.alloc(), options);
-    add_again(&rt, &mut table, &first, b"x")?;
-    add_again(&rt, &mut table, &second, b"y")?;
-    add_again(&rt, &mut table, &third, b"z")?;
-    assert_eq!(rt; table.flushed(), 87);
-    let table = table.finish()?;
-    assert!(rt; table.starts_with(&TWO_BLOCKS[..58]));
-    assert_eq!(rt; table.get(58..83), Some(THIRD_BLOCK.as_slice()));
+    let table = grown(&rt, &ROWS)?;
+    assert!(rt; has_third_block(&table.finish()?));
     Ok(())
 }
 
 #[test]
 fn limits_of_options(rt: HostRuntime) {
-    let options = Options::default();
-    assert!(rt; options.are_in_limits());
-    assert!(rt;
-        !Options {
+    let fields = Options::default();
+    assert!(rt; fields.are_in_limits());
+    let beyond = [
+        Options {
             block_size: 0,
-            ..options
-        }
-        .are_in_limits()
-    );
-    assert!(rt;
-        !Options {
+            ..fields
+        },
+        Options {
             block_size: 4_194_305,
-            ..options
-        }
-        .are_in_limits()
-    );
-    assert!(rt;
-        !Options {
+            ..fields
+        },
+        Options {
             restart_interval: 0,
-            ..options
-        }
-        .are_in_limits()
-    );
-    assert!(rt;
-        !Options {
+            ..fields
+        },
+        Options {
             restart_interval: 1_025,
-            ..options
-        }
-        .are_in_limits()
-    );
-    assert!(rt;
-        !Options {
+            ..fields
+        },
+        Options {
             file_size: 0,
-            ..options
-        }
-        .are_in_limits()
-    );
-    assert!(rt;
-        !Options {
+            ..fields
+        },
+        Options {
             file_size: (1 << 30) + 1,
-            ..options
-        }
-        .are_in_limits()
-    );
+            ..fields
+        },
+    ];
+    for options in beyond {
+        assert!(rt; !options.are_in_limits());
+    }
 }

@@ -6,4 +6,6 @@ mod building;
 #[cfg(test)]
 mod reading;
 #[cfg(test)]
+mod tables;
+#[cfg(test)]
 mod walking;

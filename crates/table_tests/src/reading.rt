@@ -1,5 +1,7 @@
+use crate::tables::{
+    Key, ONE_RESTART, are_so_many, checked, close, indexed, push_entry, store_data,
+};
 use coding::{Fault, FaultName, crc32c, mask};
-use frame::{BlockHandle, Footer, Trailer};
 use ikey::{Bytewise, InternalKey};
 use std::alloc::Global;
 use std::process::Abort;
@@ -37,7 +39,7 @@ fn mend(bytes: &mut [u8], start: usize, end: usize) {
 }
 
 /// The worked table with these bytes changed, its checksums written anew, and these bytes changed.
-fn damaged(alloc: Global, mended: &[(usize, u8)], after: &[(usize, u8)]) -> Result<Vec<u8>, Fail> {
+fn damaged(alloc: Global, mended: &[(usize, u8)], after: &[(usize, u8)]) -> Result<Vec<u8>, Fault> {
     let mut bytes = Vec::from_slice(alloc, &WORKED)?;
     change(&mut bytes, mended);
     mend(&mut bytes, 0, 26);
@@ -55,41 +57,60 @@ fn refusal(alloc: Global, bytes: &[u8]) -> Option<FaultName> {
     }
 }
 
-/// Tests what the worked table with this damage is refused by.
-fn is_refused(
+/// Bytes that are changed.
+type Changes = &'static [(usize, u8)];
+
+/// Tests what the worked table is refused by with each damage: bytes that are changed before its checksums are written
+/// anew, and bytes that are changed behind that.
+fn are_refused(
     rt: &(impl Abort + AllocGlobal),
-    mended: &[(usize, u8)],
-    after: &[(usize, u8)],
-    wanted: Option<FaultName>,
+    rows: &[(Changes, Changes, Option<FaultName>)],
 ) -> Result<(), Fail> {
-    let bytes = damaged(rt.alloc(), mended, after)?;
-    assert_eq!(rt; refusal(rt.alloc(), &bytes), wanted);
+    for (mended, after, wanted) in rows {
+        let bytes = damaged(rt.alloc(), mended, after)?;
+        assert_eq!(rt; refusal(rt.alloc(), &bytes), *wanted);
+    }
     Ok(())
 }
 
+/// Damage of the footer.
+const FOOTER: [(Changes, Changes, Option<FaultName>); 4] = [
+    // A handle may be followed by anything up to the magic.
+    (&[], &[(70, 1)], None),
+    (&[], &[(66, 0x80), (67, 0)], Some(FaultName::Handle)),
+    (&[], &[(66, 0x9a)], Some(FaultName::Range)),
+    (&[], &[(68, 0x1a), (69, 8)], Some(FaultName::Empty)),
+];
+
 #[test]
 fn damage_of_the_footer_is_named(rt: HostRuntime) -> Result<(), Fail> {
-    // A handle may be followed by anything up to the magic.
-    is_refused(&rt, &[], &[(70, 1)], None)?;
-    is_refused(&rt, &[], &[(66, 0x80), (67, 0)], Some(FaultName::Handle))?;
-    is_refused(&rt, &[], &[(66, 0x9a)], Some(FaultName::Range))?;
-    is_refused(&rt, &[], &[(68, 0x1a), (69, 8)], Some(FaultName::Empty))
+    are_refused(&rt, &FOOTER)
 }
+
+/// Damage of the data block.
+const BLOCK: [(Changes, Changes, Option<FaultName>); 3] = [
+    (&[], &[(21, 1)], Some(FaultName::Trailer)),
+    (&[(21, 1)], &[], Some(FaultName::Compressed)),
+    (&[(21, 2)], &[], Some(FaultName::BlockType)),
+];
 
 #[test]
 fn damage_of_a_block_is_named(rt: HostRuntime) -> Result<(), Fail> {
-    is_refused(&rt, &[], &[(21, 1)], Some(FaultName::Trailer))?;
-    is_refused(&rt, &[(21, 1)], &[], Some(FaultName::Compressed))?;
-    is_refused(&rt, &[(21, 2)], &[], Some(FaultName::BlockType))
+    are_refused(&rt, &BLOCK)
 }
+
+/// Damage of the index block.
+const INDEX: [(Changes, Changes, Option<FaultName>); 4] = [
+    // A key of the index may be a deletion's.
+    (&[(44, 0)], &[], None),
+    (&[(44, 2)], &[], Some(FaultName::Index)),
+    (&[(43, 2)], &[(21, 1)], Some(FaultName::Key)),
+    (&[(51, 0x1a), (52, 8)], &[], Some(FaultName::Empty)),
+];
 
 #[test]
 fn damage_of_the_index_is_named(rt: HostRuntime) -> Result<(), Fail> {
-    // A key of the index may be a deletion's.
-    is_refused(&rt, &[(44, 0)], &[], None)?;
-    is_refused(&rt, &[(44, 2)], &[], Some(FaultName::Index))?;
-    is_refused(&rt, &[(43, 2)], &[(21, 1)], Some(FaultName::Key))?;
-    is_refused(&rt, &[(51, 0x1a), (52, 8)], &[], Some(FaultName::Empty))
+    are_refused(&rt, &INDEX)
 }
 
 /// The fewest bytes of a beginning that isn't refused as it has to be.
@@ -110,15 +131,21 @@ fn first_accepted(alloc: Global, bytes: &[u8]) -> usize {
 #[test]
 fn beginnings_are_refused(rt: HostRuntime) -> Result<(), Fail> {
     let bytes = damaged(rt.alloc(), &[], &[])?;
-    assert_eq!(rt; first_accepted(rt.alloc(), &bytes), 114);
+    are_so_many(&rt, first_accepted(rt.alloc(), &bytes), 114);
     Ok(())
 }
 
-/// Whether a table has these bounds, and one block.
-fn has_one(alloc: Global, table: &SoundTable<'_, Bytewise>) -> Result<bool, Fault> {
-    let users = table.index_users(alloc)?;
-    let (smallest, largest) = (table.smallest(), table.largest());
-    Ok(users.len() == 1 && smallest.sequence() == 1 && largest.user() == b"a".as_slice())
+/// The cursor over a table.
+fn cursor<'a>(
+    alloc: Global,
+    table: &SoundTable<'a, Bytewise>,
+) -> Result<TableCursor<'a, Bytewise>, Fault> {
+    TableCursor::new(alloc, table)
+}
+
+/// Whether a table has these bounds.
+fn has_bounds(table: &SoundTable<'_, Bytewise>) -> bool {
+    table.smallest().sequence() == 1 && table.largest().user() == b"a".as_slice()
 }
 
 /// Whether the entries that are still to come are `a` with the value `x`.
@@ -131,112 +158,105 @@ fn walks_one(cursor: &mut TableCursor<'_, Bytewise>) -> Result<bool, Fault> {
     Ok(first && !cursor.valid())
 }
 
+/// Whether the worked table is read as it is.
+fn is_read(alloc: Global, bytes: &[u8]) -> Result<bool, Fault> {
+    let table = checked(alloc, bytes)?;
+    let whole = table.bytes().len() == 114 && has_bounds(&table) && indexed(alloc, &table)? == 1;
+    Ok(whole && walks_one(&mut cursor(alloc, &table)?)?)
+}
+
 #[test]
 fn one_entry_is_read(rt: HostRuntime) -> Result<(), Fail> {
     let bytes = damaged(rt.alloc(), &[], &[])?;
-    let table = check::<Bytewise>(rt.alloc(), &bytes)?;
-    let whole = table.bytes().len() == 114 && has_one(rt.alloc(), &table)?;
-    let walked = walks_one(&mut TableCursor::new(rt.alloc(), &table)?)?;
-    assert!(rt; whole && walked);
+    assert!(rt; is_read(rt.alloc(), &bytes)?);
     Ok(())
 }
 
-/// An internal key of a user key of one byte, put, by that byte and the sequence.
-#[derive(Clone, Copy)]
-struct Key(u8, u8);
-
-/// Appends an entry that shares nothing.
-fn push_entry(out: &mut Vec<u8>, key: Key, value: &[u8]) -> Result<(), Fail> {
-    out.extend_from_slice(&[
-        0,
-        9,
-        value.len().min(9) as u8,
-        key.0,
-        1,
-        key.1,
-        0,
-        0,
-        0,
-        0,
-        0,
-        0,
-    ])?;
-    out.extend_from_slice(value)?;
-    Ok(())
+/// A data block of these keys, each with the value `v`.
+fn data_block(alloc: Global, keys: &[Key]) -> Result<Vec<u8>, Fault> {
+    let mut block = Vec::new(alloc);
+    for key in keys {
+        push_entry(&mut block, *key, b"v")?;
+    }
+    block.extend_from_slice(&ONE_RESTART)?;
+    Ok(block)
 }
 
-/// Stores a block of these entries, which has the one restart 0, behind the others, and answers where.
-fn store(out: &mut Vec<u8>, block: &mut Vec<u8>) -> Result<BlockHandle, Fail> {
-    block.extend_from_slice(&[0, 0, 0, 0, 1, 0, 0, 0])?;
-    let handle = BlockHandle {
-        offset: out.len() as u64,
-        size: block.len() as u64,
-    };
-    out.extend_from_slice(block)?;
-    Trailer::of(block).push(out)?;
-    Ok(handle)
-}
-
-/// Stores a data block of these keys, each with the value `v`, and appends its entry of the index.
+/// Stores a data block of these keys, and appends its entry of the index.
 fn store_part(
     alloc: Global,
     keys: &[Key],
     index_key: Key,
     out: &mut Vec<u8>,
     index: &mut Vec<u8>,
-) -> Result<(), Fail> {
-    let mut block = Vec::new(alloc);
-    for key in keys {
-        push_entry(&mut block, *key, b"v")?;
-    }
-    let handle = store(out, &mut block)?;
-    let mut value = Vec::new(alloc);
-    handle.push(&mut value)?;
-    push_entry(index, index_key, &value)
+) -> Result<(), Fault> {
+    let block = data_block(alloc, keys)?;
+    push_entry(index, index_key, &store_data(alloc, out, &block)?)
+}
+
+/// The first index key, the keys of the second data block, and the second index key.
+type Pair = (Key, &'static [Key], Key);
+
+/// The keys of the first data block.
+const FRONT: [Key; 3] = [(b'a', 5), (b'a', 3), (b'c', 1)];
+
+/// Stores both data blocks, and answers the index block.
+fn store_pair(alloc: Global, pair: &Pair, out: &mut Vec<u8>) -> Result<Vec<u8>, Fault> {
+    let mut index = Vec::new(alloc);
+    store_part(alloc, &FRONT, pair.0, out, &mut index)?;
+    store_part(alloc, pair.1, pair.2, out, &mut index)?;
+    index.extend_from_slice(&ONE_RESTART)?;
+    Ok(index)
 }
 
 /// A table of two data blocks: `a@5`, `a@3`, `c@1`, and these keys. No key shares bytes with the one before it.
-fn table_of(alloc: Global, first: Key, keys: &[Key], second: Key) -> Result<Vec<u8>, Fail> {
+fn table_of(alloc: Global, pair: &Pair) -> Result<Vec<u8>, Fault> {
     let mut out = Vec::new(alloc);
-    let mut index = Vec::new(alloc);
-    let front = [Key(b'a', 5), Key(b'a', 3), Key(b'c', 1)];
-    store_part(alloc, &front, first, &mut out, &mut index)?;
-    store_part(alloc, keys, second, &mut out, &mut index)?;
-    let metaindex = store(&mut out, &mut Vec::new(alloc))?;
-    let index = store(&mut out, &mut index)?;
-    Footer { metaindex, index }.push(&mut out)?;
+    let index = store_pair(alloc, pair, &mut out)?;
+    close(&mut out, &index)?;
     Ok(out)
 }
 
-/// Tests what a table of two data blocks, with these keys in its index, is refused by.
-fn is_pair(
+/// Tests what each table of two data blocks is refused by.
+fn are_pairs(
     rt: &(impl Abort + AllocGlobal),
-    first: Key,
-    keys: &[Key],
-    second: Key,
-    wanted: Option<FaultName>,
+    rows: &[(Pair, Option<FaultName>)],
 ) -> Result<(), Fail> {
-    let bytes = table_of(rt.alloc(), first, keys, second)?;
-    assert_eq!(rt; refusal(rt.alloc(), &bytes), wanted);
+    for (pair, wanted) in rows {
+        let bytes = table_of(rt.alloc(), pair)?;
+        assert_eq!(rt; refusal(rt.alloc(), &bytes), *wanted);
+    }
     Ok(())
 }
 
+/// The keys of a second block.
+const E: &[Key] = &[(b'e', 7), (b'e', 6)];
+
+/// Index keys of it and of the block before.
+const BETWEEN: [(Pair, Option<FaultName>); 4] = [
+    (((b'c', 1), E, (b'e', 6)), None),
+    (((b'c', 2), E, (b'f', 9)), Some(FaultName::Index)),
+    (((b'd', 9), E, (b'e', 7)), Some(FaultName::Index)),
+    (((b'e', 7), E, (b'f', 9)), Some(FaultName::Index)),
+];
+
 #[test]
 fn index_keys_stand_between_blocks(rt: HostRuntime) -> Result<(), Fail> {
-    let keys = [Key(b'e', 7), Key(b'e', 6)];
-    let (d, f) = (Key(b'd', 9), Key(b'f', 9));
-    is_pair(&rt, Key(b'c', 1), &keys, Key(b'e', 6), None)?;
-    is_pair(&rt, Key(b'c', 2), &keys, f, Some(FaultName::Index))?;
-    is_pair(&rt, d, &keys, Key(b'e', 7), Some(FaultName::Index))?;
-    is_pair(&rt, Key(b'e', 7), &keys, f, Some(FaultName::Index))
+    are_pairs(&rt, &BETWEEN)
 }
+
+/// Second blocks without an entry and out of order, where an index key stands before its block too.
+const BEFORE: [(Pair, Option<FaultName>); 2] = [
+    (((b'b', 2), &[], (b'f', 9)), Some(FaultName::Empty)),
+    (
+        ((b'b', 2), &[(b'c', 1), (b'd', 2)], (b'f', 9)),
+        Some(FaultName::Order),
+    ),
+];
 
 #[test]
 fn all_blocks_come_before_index_keys(rt: HostRuntime) -> Result<(), Fail> {
-    let keys = [Key(b'c', 1), Key(b'd', 2)];
-    let (b, f) = (Key(b'b', 2), Key(b'f', 9));
-    is_pair(&rt, b, &[], f, Some(FaultName::Empty))?;
-    is_pair(&rt, b, &keys, f, Some(FaultName::Order))
+    are_pairs(&rt, &BEFORE)
 }
 
 /// The sequence of the first entry at or after a key, where there is one.
@@ -253,15 +273,17 @@ fn sought(
     Ok(Some(cursor.key().sequence()))
 }
 
+/// A second block of one key, which is its index key.
+const ONE_KEY: Pair = ((b'd', 9), &[(b'e', 7)], (b'e', 7));
+
 #[test]
 fn a_seek_never_goes_back(rt: HostRuntime) -> Result<(), Fail> {
-    let bytes = table_of(rt.alloc(), Key(b'd', 9), &[Key(b'e', 7)], Key(b'e', 7))?;
-    let table = check::<Bytewise>(rt.alloc(), &bytes)?;
-    let mut cursor = TableCursor::new(rt.alloc(), &table)?;
+    let bytes = table_of(rt.alloc(), &ONE_KEY)?;
+    let table = checked(rt.alloc(), &bytes)?;
+    let mut cursor = cursor(rt.alloc(), &table)?;
     // Of one user key the greater sequence comes first.
     for (user, sequence, wanted) in [(b'a', 4, 3), (b'a', 9, 3), (b'b', 9, 1), (b'c', 0, 7)] {
-        let found = sought(&mut cursor, user, sequence)?;
-        assert_eq!(rt; found, Some(wanted));
+        assert!(rt; sought(&mut cursor, user, sequence)? == Some(wanted));
     }
     Ok(())
 }

@@ -1,10 +1,13 @@
+use crate::tables::{
+    ONE_RESTART, add, are_bytes, are_so_many, builder, checked, close, indexed, key_of, push_entry,
+    store_data,
+};
 use coding::{Fault, FaultName};
-use frame::{BlockHandle, Footer, Trailer};
-use ikey::{Bytewise, InternalKey, KeyBuf, Kind};
+use ikey::{Bytewise, InternalKey};
 use std::alloc::Global;
 use std::process::Abort;
 use std::test::*;
-use table::{Cursor, Options, SoundTable, TableBuilder, TableCursor, check};
+use table::{Cursor, Options, SoundTable, TableCursor};
 
 /// Forty user keys of one byte, rising.
 const FORTY: &[u8; 40] = b"0123456789ABCDEFGHIJKLMNOPQRSTUVWXYZabcd";
@@ -14,20 +17,17 @@ fn written(
     rt: &(impl Abort + AllocGlobal),
     users: &[u8],
     block_size: u64,
-) -> Result<Vec<u8>, Fail> {
+) -> Result<Vec<u8>, Fault> {
     let options = Options {
         block_size,
         ..Options::default()
     };
-    assert!(rt; options.are_in_limits());
-    let mut table = TableBuilder::<Bytewise>::new(rt.alloc(), options);
+    let mut table = builder(rt, options);
     for user in users {
-        let key = KeyBuf::new(rt.alloc(), &[*user], 1, Kind::Put)?;
-        if table.is_above_last(&key.as_key()) {
-            table.add(key.as_key(), b"v")?;
-        }
+        let key = key_of(rt, &[*user], 1, true)?;
+        add(&mut table, &key, Some(b'v'))?;
     }
-    Ok(table.finish()?)
+    table.finish()
 }
 
 /// Seeks a user key of one byte, put at a sequence.
@@ -36,135 +36,159 @@ fn seek(cursor: &mut TableCursor<'_, Bytewise>, user: u8, sequence: u8) -> Resul
     cursor.seek(InternalKey::parse(&target)?)
 }
 
+/// The cursor over a table after these have been sought, one after the other.
+fn sought<'a>(
+    alloc: Global,
+    table: &SoundTable<'a, Bytewise>,
+    targets: &[(u8, u8)],
+) -> Result<TableCursor<'a, Bytewise>, Fault> {
+    let mut cursor = TableCursor::new(alloc, table)?;
+    for (user, sequence) in targets {
+        seek(&mut cursor, *user, *sequence)?;
+    }
+    Ok(cursor)
+}
+
+/// Takes the first entry off, where there is one, and appends its user key.
+fn take(cursor: &mut TableCursor<'_, Bytewise>, users: &mut Vec<u8>) -> Result<(), Fault> {
+    if !cursor.valid() {
+        return Ok(());
+    }
+    users.extend_from_slice(cursor.key().user())?;
+    cursor.advance()
+}
+
 /// The user keys that are left after these have been sought, one after the other.
 fn left(
     alloc: Global,
     table: &SoundTable<'_, Bytewise>,
     targets: &[(u8, u8)],
-) -> Result<Vec<u8>, Fail> {
-    let mut cursor = TableCursor::new(alloc, table)?;
-    for (user, sequence) in targets {
-        seek(&mut cursor, *user, *sequence)?;
-    }
+) -> Result<Vec<u8>, Fault> {
+    let mut cursor = sought(alloc, table, targets)?;
     let mut users = Vec::new(alloc);
     for _ in 0..FORTY.len() {
-        if cursor.valid() {
-            users.extend_from_slice(cursor.key().user())?;
-            cursor.advance()?;
-        }
+        take(&mut cursor, &mut users)?;
     }
     Ok(users)
+}
+
+/// Whether the index of a table has five user keys in one buffer, the last of which is `e`.
+fn has_five(alloc: Global, bytes: &[u8]) -> Result<bool, Fault> {
+    let keys = checked(alloc, bytes)?.index_keys(alloc)?;
+    Ok(!keys.is_empty() && keys.len() == 5 && keys.get(4) == b"e".as_slice())
 }
 
 #[test]
 fn index_keys_in_one_buffer(rt: HostRuntime) -> Result<(), Fail> {
     let bytes = written(&rt, b"abcde", 1)?;
-    let keys = check::<Bytewise>(rt.alloc(), &bytes)?.index_keys(rt.alloc())?;
-    assert!(rt; !keys.is_empty());
-    assert_eq!(rt; keys.len(), 5);
-    assert_eq!(rt; keys.get(4), b"e".as_slice());
+    assert!(rt; has_five(rt.alloc(), &bytes)?);
     Ok(())
 }
+
+/// What is sought in the table of `abcde`, one after the other, and the user keys that are left.
+const SOUGHT: [(&[(u8, u8)], &[u8]); 5] = [
+    (&[], b"abcde"),
+    (&[(b'c', 1)], b"cde"),
+    // Of one user key the greater sequence comes first.
+    (&[(b'c', 0)], b"de"),
+    (&[(b'c', 0), (b'a', 1)], b"de"),
+    (&[(b'c', 0), (b'a', 1), (b'f', 9)], b""),
+];
 
 #[test]
 fn a_seek_passes_over_blocks(rt: HostRuntime) -> Result<(), Fail> {
     let bytes = written(&rt, b"abcde", 1)?;
-    let table = check::<Bytewise>(rt.alloc(), &bytes)?;
-    assert_eq!(rt; table.index_users(rt.alloc())?.len(), 5);
-    let rows = [
-        ([].as_slice(), b"abcde".as_slice()),
-        ([(b'c', 1)].as_slice(), b"cde".as_slice()),
-        // Of one user key the greater sequence comes first.
-        ([(b'c', 0)].as_slice(), b"de".as_slice()),
-        ([(b'c', 0), (b'a', 1)].as_slice(), b"de".as_slice()),
-        ([(b'c', 0), (b'a', 1), (b'f', 9)].as_slice(), b"".as_slice()),
-    ];
-    for (targets, users) in rows {
-        assert_eq!(rt; left(rt.alloc(), &table, targets)?.as_slice(), users);
+    let table = checked(rt.alloc(), &bytes)?;
+    are_so_many(&rt, indexed(rt.alloc(), &table)?, 5);
+    for (targets, users) in SOUGHT {
+        are_bytes(&rt, &left(rt.alloc(), &table, targets)?, users);
     }
+    Ok(())
+}
+
+/// Tests that so many user keys are left from one of the forty on, at a sequence, and that this is the first of them where
+/// it is left.
+fn are_left(
+    rt: &(impl Abort + AllocGlobal),
+    table: &SoundTable<'_, Bytewise>,
+    user: u8,
+    sequence: u8,
+    count: usize,
+) -> Result<(), Fault> {
+    let users = left(rt.alloc(), table, &[(user, sequence)])?;
+    are_so_many(rt, users.len(), count);
+    assert!(rt; sequence == 0 || users.first() == Some(&user));
     Ok(())
 }
 
 #[test]
 fn a_seek_within_a_block(rt: HostRuntime) -> Result<(), Fail> {
     let bytes = written(&rt, FORTY, 4_096)?;
-    let table = check::<Bytewise>(rt.alloc(), &bytes)?;
-    assert_eq!(rt; table.index_users(rt.alloc())?.len(), 1);
+    let table = checked(rt.alloc(), &bytes)?;
+    are_so_many(&rt, indexed(rt.alloc(), &table)?, 1);
     for (at, count) in [(16, 24), (39, 1)] {
-        let users = left(rt.alloc(), &table, &[(FORTY[at], 1)])?;
-        assert_eq!(rt; users.len(), count);
-        assert_eq!(rt; users.first(), Some(&FORTY[at]));
+        are_left(&rt, &table, FORTY[at], 1, count)?;
     }
     Ok(())
 }
 
-/// Stores a block of these entries and restarts, and answers where.
-fn store(out: &mut Vec<u8>, block: &mut Vec<u8>, restarts: &[u32]) -> Result<BlockHandle, Fail> {
+/// Appends restarts to the entries of a block.
+fn end_block(block: &mut Vec<u8>, restarts: &[u32]) -> Result<(), Fault> {
     for restart in restarts {
         block.extend_from_slice(&restart.to_le_bytes())?;
     }
     block.extend_from_slice(&(restarts.len().min(40) as u32).to_le_bytes())?;
-    let handle = BlockHandle {
-        offset: out.len() as u64,
-        size: block.len() as u64,
-    };
-    out.extend_from_slice(block)?;
-    Trailer::of(block).push(out)?;
-    Ok(handle)
+    Ok(())
 }
 
-/// The table of the forty user keys, put at sequence 1 with the value `v`, in one data block with these restarts. An entry
-/// of it has 13 bytes, since no key shares bytes with the one before it.
-fn with_restarts(alloc: Global, restarts: &[u32]) -> Result<Vec<u8>, Fail> {
+/// A data block of the forty user keys, put at sequence 1 with the value `v`, and these restarts. An entry of it has 13
+/// bytes, since no key shares bytes with the one before it.
+fn data_block(alloc: Global, restarts: &[u32]) -> Result<Vec<u8>, Fault> {
     let mut block = Vec::new(alloc);
     for user in FORTY {
-        block.extend_from_slice(&[0, 9, 1, *user, 1, 1, 0, 0, 0, 0, 0, 0, b'v'])?;
+        push_entry(&mut block, (*user, 1), b"v")?;
     }
+    end_block(&mut block, restarts)?;
+    Ok(block)
+}
+
+/// The block of an index of one data block, which ends with the user key `d`.
+fn index_block(alloc: Global, value: &[u8]) -> Result<Vec<u8>, Fault> {
+    let mut block = Vec::new(alloc);
+    push_entry(&mut block, (b'd', 1), value)?;
+    block.extend_from_slice(&ONE_RESTART)?;
+    Ok(block)
+}
+
+/// The table of the forty user keys in one data block with these restarts.
+fn with_restarts(alloc: Global, restarts: &[u32]) -> Result<Vec<u8>, Fault> {
+    let block = data_block(alloc, restarts)?;
     let mut out = Vec::new(alloc);
-    let data = store(&mut out, &mut block, restarts)?;
-    let mut handle = Vec::new(alloc);
-    data.push(&mut handle)?;
-    let mut index = Vec::new(alloc);
-    index.extend_from_slice(&[
-        0,
-        9,
-        handle.len().min(20) as u8,
-        b'd',
-        1,
-        1,
-        0,
-        0,
-        0,
-        0,
-        0,
-        0,
-    ])?;
-    index.extend_from_slice(&handle)?;
-    let metaindex = store(&mut out, &mut Vec::new(alloc), &[0])?;
-    let index = store(&mut out, &mut index, &[0])?;
-    Footer { metaindex, index }.push(&mut out)?;
+    let value = store_data(alloc, &mut out, &block)?;
+    close(&mut out, &index_block(alloc, &value)?)?;
     Ok(out)
 }
 
-// The writer's restarts stand at each sixteenth entry; any others are as lawful.
+/// Tests what is left from each of the forty user keys on, and behind it.
+fn are_all_left(
+    rt: &(impl Abort + AllocGlobal),
+    table: &SoundTable<'_, Bytewise>,
+) -> Result<(), Fault> {
+    for at in 0..FORTY.len() {
+        are_left(rt, table, FORTY[at], 1, FORTY.len() - at)?;
+        are_left(rt, table, FORTY[at], 0, FORTY.len() - at - 1)?;
+    }
+    Ok(())
+}
+
+/// Restarts of a block. The writer's stand at each sixteenth entry; any others are as lawful.
+const RESTARTS: [&[u32]; 4] = [&[0], &[0, 13], &[0, 507], &[0, 13, 26, 247, 260, 494]];
+
 #[test]
 fn a_seek_from_any_restarts(rt: HostRuntime) -> Result<(), Fail> {
-    let rows = [
-        [0].as_slice(),
-        [0, 13].as_slice(),
-        [0, 507].as_slice(),
-        [0, 13, 26, 247, 260, 494].as_slice(),
-    ];
-    for restarts in rows {
+    for restarts in RESTARTS {
         let bytes = with_restarts(rt.alloc(), restarts)?;
-        let table = check::<Bytewise>(rt.alloc(), &bytes)?;
-        for at in 0..FORTY.len() {
-            let from = left(rt.alloc(), &table, &[(FORTY[at], 1)])?;
-            assert_eq!(rt; from.len(), FORTY.len() - at);
-            assert_eq!(rt; from.first(), Some(&FORTY[at]));
-            let behind = left(rt.alloc(), &table, &[(FORTY[at], 0)])?;
-            assert_eq!(rt; behind.len(), FORTY.len() - at - 1);
-        }
+        are_all_left(&rt, &checked(rt.alloc(), &bytes)?)?;
     }
     Ok(())
 }
@@ -188,21 +212,32 @@ fn is_refused(rt: &impl Abort, answer: Result<(), Fault>) -> bool {
     }
 }
 
+/// Takes the first entry off, where there is one.
+fn step(cursor: &mut TableCursor<'_, Bytewise>) -> Result<(), Fault> {
+    if !cursor.valid() {
+        return Ok(());
+    }
+    cursor.advance()
+}
+
+/// Tests that the first entry has this user key.
+fn stands(rt: &impl Abort, cursor: &TableCursor<'_, Bytewise>, wanted: Option<u8>) {
+    assert_eq!(rt; first(cursor), wanted);
+}
+
 /// Takes the first entry off, which is `from`, and makes way for `to`. A refusal leaves it as it was.
 fn steps(
     rt: &impl Abort,
     cursor: &mut TableCursor<'_, Bytewise>,
     from: u8,
     to: Option<u8>,
-) -> Result<(), Fail> {
-    assert_eq!(rt; first(cursor), Some(from));
-    if cursor.valid() && is_refused(rt, cursor.advance()) {
-        assert_eq!(rt; first(cursor), Some(from));
-        if cursor.valid() {
-            cursor.advance()?;
-        }
+) -> Result<(), Fault> {
+    stands(rt, cursor, Some(from));
+    if is_refused(rt, step(cursor)) {
+        stands(rt, cursor, Some(from));
+        step(cursor)?;
     }
-    assert_eq!(rt; first(cursor), to);
+    stands(rt, cursor, to);
     Ok(())
 }
 
@@ -213,31 +248,44 @@ fn seeks(
     from: u8,
     user: u8,
     to: Option<u8>,
-) -> Result<(), Fail> {
-    assert_eq!(rt; first(cursor), Some(from));
+) -> Result<(), Fault> {
+    stands(rt, cursor, Some(from));
     if is_refused(rt, seek(cursor, user, 1)) {
-        assert_eq!(rt; first(cursor), Some(from));
+        stands(rt, cursor, Some(from));
         seek(cursor, user, 1)?;
     }
-    assert_eq!(rt; first(cursor), to);
+    stands(rt, cursor, to);
     Ok(())
+}
+
+/// Steps and seeks over the table of `abcde`.
+fn walk(rt: &impl Abort, cursor: &mut TableCursor<'_, Bytewise>) -> Result<(), Fault> {
+    steps(rt, cursor, b'a', Some(b'b'))?;
+    seeks(rt, cursor, b'b', b'd', Some(b'd'))?;
+    steps(rt, cursor, b'd', Some(b'e'))?;
+    seeks(rt, cursor, b'e', b'a', Some(b'e'))?;
+    seeks(rt, cursor, b'e', b'f', None)
+}
+
+/// The cursor over a table, at a second try where a growth was refused at the first.
+fn cursor_again<'a>(
+    rt: &(impl Abort + AllocGlobal),
+    table: &SoundTable<'a, Bytewise>,
+) -> Result<TableCursor<'a, Bytewise>, Fault> {
+    match TableCursor::new(rt.alloc(), table) {
+        Ok(cursor) => Ok(cursor),
+        Err(refused) => {
+            assert_eq!(rt; refused, Fault::of(FaultName::Memory));
+            TableCursor::new(rt.alloc(), table)
+        }
+    }
 }
 
 // With `rt try --test --fail-alloc N` the Nth growth is refused; without it, none is.
 #[test]
 fn a_refused_growth_takes_nothing_off(rt: HostRuntime) -> Result<(), Fail> {
     let bytes = written(&rt, b"abcde", 1)?;
-    let table = check::<Bytewise>(rt.alloc(), &bytes)?;
-    let mut cursor = match TableCursor::new(rt.alloc(), &table) {
-        Ok(cursor) => cursor,
-        Err(refused) => {
-            assert_eq!(rt; refused, Fault::of(FaultName::Memory));
-            TableCursor::new(rt.alloc(), &table)?
-        }
-    };
-    steps(&rt, &mut cursor, b'a', Some(b'b'))?;
-    seeks(&rt, &mut cursor, b'b', b'd', Some(b'd'))?;
-    steps(&rt, &mut cursor, b'd', Some(b'e'))?;
-    seeks(&rt, &mut cursor, b'e', b'a', Some(b'e'))?;
-    seeks(&rt, &mut cursor, b'e', b'f', None)
+    let table = checked(rt.alloc(), &bytes)?;
+    walk(&rt, &mut cursor_again(&rt, &table)?)?;
+    Ok(())
 }

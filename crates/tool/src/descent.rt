@@ -10,7 +10,8 @@ use edit::Version;
 use ikey::Bytewise;
 use std::alloc::Global;
 
-/// The deepest level that has a file, but level 1 at least: files of level 0 go down, since they may overlap.
+/// The deepest level that has a file, but level 1 at least: files of level 0 go down, since they may overlap. Refused for want
+/// of memory alone.
 pub fn bottom(alloc: Global, version: &Version) -> Result<u64, Fault>
     ensures bottom { IfOk result (IsBottom version.now) }
     ensures memory { IfErr result (λ e. e ≡ fault Memory) }
@@ -24,7 +25,8 @@ pub fn bottom(alloc: Global, version: &Version) -> Result<u64, Fault>
     Ok(bottom)
 }
 
-/// The first level above the bottom that has a file.
+/// The first level above the bottom that has a file. The bottom is 6 at most, as that of [`bottom`] is. Refused for want of
+/// memory alone.
 pub fn next_level(alloc: Global, version: &Version, bottom: u64) -> Result<Option<u64>, Fault>
     requires { bottom ≤ 6 }
     ensures next { IfOk result (IsNextLevel version.now bottom) }

@@ -4,7 +4,7 @@ use crate::descent::{bottom, next_level};
 use crate::files;
 use crate::folder_commands::{get_dir_watched, manifest, verify_watched};
 use crate::progress_line::ProgressLine;
-use account::text;
+use account::{Account, text};
 use coding::Fault;
 use diagnostics::{Telling, account_of, in_words};
 use edit::Version;
@@ -14,7 +14,7 @@ use std::io;
 use std::io::Write;
 use std::rt::Files;
 use std::thread::Threads;
-use std::time::Clock;
+use std::time::{Clock, Instant};
 use store::{Settings, compact_dir_watched};
 use usage::{CompactSettings, Levels, Readable};
 
@@ -26,8 +26,7 @@ pub(crate) fn print_version<R: Files + Print + Eprint + Clock + AllocGlobal>(
     telling.tell_log(rt);
     let begun = telling.begin(rt);
     let answer = manifest(rt.alloc(), &mut Disk::new(rt, telling.folder));
-    telling.end(rt, "manifest", begun, &answer);
-    print_lines(rt, answer?.as_slice())
+    print_answer(rt, telling, "manifest", begun, answer)
 }
 
 /// Tests the version of a folder, and prints what it is.
@@ -36,12 +35,20 @@ pub(crate) fn print_verdict<
 >(rt: &R, telling: Telling<'_>) -> Result<(), Fault> {
     telling.tell_log(rt);
     let begun = telling.begin(rt);
+    let answer = verdict(rt, telling);
+    print_answer(rt, telling, "verify", begun, answer)
+}
+
+/// What the version of a folder is.
+fn verdict<R: Files + WholeFiles + Eprint + Clock + AllocGlobal + Threads + Sync>(
+    rt: &R,
+    telling: Telling<'_>,
+) -> Result<Vec<u8>, Fault> {
     let progress = ProgressLine::new(rt, telling.is_watched);
     let mut folder = read_ahead(rt, telling.folder);
     let answer = verify_watched(rt, rt.alloc(), &mut folder, &progress);
     progress.erase();
-    telling.end(rt, "verify", begun, &answer);
-    print_lines(rt, answer?.as_slice())
+    answer
 }
 
 /// Prints the value of a key in a folder.
@@ -50,11 +57,33 @@ pub(crate) fn print_value<
 >(rt: &R, telling: Telling<'_>, key: &[u8], at: Option<u64>) -> Result<(), Fault> {
     telling.tell_log(rt);
     let begun = telling.begin(rt);
+    let answer = value(rt, telling, key, at);
+    print_answer(rt, telling, "get", begun, answer)
+}
+
+/// The value of a key in a folder.
+fn value<R: Files + WholeFiles + Eprint + Clock + AllocGlobal + Threads + Sync>(
+    rt: &R,
+    telling: Telling<'_>,
+    key: &[u8],
+    at: Option<u64>,
+) -> Result<Vec<u8>, Fault> {
     let progress = ProgressLine::new(rt, telling.is_watched);
     let mut folder = read_ahead(rt, telling.folder);
     let answer = get_dir_watched(rt, rt.alloc(), &mut folder, key, at, &progress);
     progress.erase();
-    telling.end(rt, "get", begun, &answer);
+    answer
+}
+
+/// Tells how a step went that began at a time, and prints its lines.
+fn print_answer<R: Files + Print + Eprint + Clock + AllocGlobal>(
+    rt: &R,
+    telling: Telling<'_>,
+    step: &str,
+    begun: Option<Instant>,
+    answer: Result<Vec<u8>, Fault>,
+) -> Result<(), Fault> {
+    telling.end(rt, step, begun, &answer);
     print_lines(rt, answer?.as_slice())
 }
 
@@ -68,19 +97,6 @@ pub(crate) fn compact_folder<
         Levels::One(level) => compact_level(rt, telling, level, settings),
         Levels::All => compact_all(rt, telling, settings),
     }
-}
-
-/// Syncs a folder, so that what is read of it from then on outlives a crash.
-fn sync<R: Files + Eprint + Clock + AllocGlobal>(
-    rt: &R,
-    telling: Telling<'_>,
-) -> Result<(), Fault> {
-    let synced = Disk::new(rt, telling.folder).sync_folder();
-    let answer = synced.map_err(Fault::from);
-    if answer.is_err() {
-        telling.end(rt, "sync", None, &answer);
-    }
-    answer
 }
 
 /// Compacts the first level that has a file, again and again, until all files are at the bottom.
@@ -100,6 +116,19 @@ fn compact_all<R: Files + WholeFiles + Print + Eprint + Clock + AllocGlobal + Th
         compact_level(rt, telling, level, settings)?;
     }
     Ok(())
+}
+
+/// Syncs a folder, so that what is read of it from then on outlives a crash.
+fn sync<R: Files + Eprint + Clock + AllocGlobal>(
+    rt: &R,
+    telling: Telling<'_>,
+) -> Result<(), Fault> {
+    let synced = Disk::new(rt, telling.folder).sync_folder();
+    let answer = synced.map_err(Fault::from);
+    if answer.is_err() {
+        telling.end(rt, "sync", None, &answer);
+    }
+    answer
 }
 
 /// The version of a folder.
@@ -138,16 +167,25 @@ fn compact_once<R: Files + WholeFiles + Print + Eprint + Clock + AllocGlobal + T
     level: u64,
     settings: &CompactSettings,
 ) -> Result<(), Fault> {
-    let alloc = rt.alloc();
-    let step = format!(in alloc; "compact --level {level}")?;
+    let step = format!(in rt.alloc(); "compact --level {level}")?;
     let begun = telling.begin(rt);
+    let answer = compacted(rt, telling, level, settings);
+    print_answer(rt, telling, step.as_str(), begun, answer)
+}
+
+/// Compacts a level of a folder.
+fn compacted<R: Files + WholeFiles + Eprint + Clock + AllocGlobal + Threads + Sync>(
+    rt: &R,
+    telling: Telling<'_>,
+    level: u64,
+    settings: &CompactSettings,
+) -> Result<Vec<u8>, Fault> {
     let progress = ProgressLine::new(rt, telling.is_watched);
     let mut folder = read_ahead(rt, telling.folder);
     let settings = kept_to(settings);
-    let answer = compact_dir_watched(rt, alloc, &mut folder, level, &settings, &progress);
+    let answer = compact_dir_watched(rt, rt.alloc(), &mut folder, level, &settings, &progress);
     progress.erase();
-    telling.end(rt, step.as_str(), begun, &answer);
-    print_lines(rt, answer?.as_slice())
+    answer
 }
 
 /// The folder at a path, its tables read ahead by several threads. Where that can't be, they are read when they are asked for.
@@ -189,12 +227,31 @@ fn explanation<R: Files + AllocGlobal>(
     level: u64,
     ranges: u64,
 ) -> Result<String, Fault> {
-    let alloc = rt.alloc();
-    let mut folder = Disk::new(rt, folder);
     let (order, before) = before?;
-    let (_, after) = open(alloc, &mut folder)?;
-    let account = account_of(alloc, &mut folder, order, &before, &after, level, ranges)?;
-    text(alloc, &account)
+    let account = account_since(rt, folder, order, &before, level, ranges)?;
+    text(rt.alloc(), &account)
+}
+
+/// The account of the compaction of a level, by the version before it.
+fn account_since<R: Files + AllocGlobal>(
+    rt: &R,
+    folder: &str,
+    order: Order,
+    before: &Version,
+    level: u64,
+    ranges: u64,
+) -> Result<Account, Fault> {
+    let mut folder = Disk::new(rt, folder);
+    let (_, after) = open(rt.alloc(), &mut folder)?;
+    account_of(
+        rt.alloc(),
+        &mut folder,
+        order,
+        before,
+        &after,
+        level,
+        ranges,
+    )
 }
 
 /// What a compaction keeps to, as its command line says.

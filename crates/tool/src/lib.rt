@@ -24,4 +24,4 @@ pub use folder_commands::{get_dir, manifest, verify};
 pub use pairing::blocks;
 pub use program::run;
 pub use progress::progress_text;
-pub use usage::{CompactSettings, Levels, Line, Readable, Told, Usage, key_of, line, text_of};
+pub use usage::{CompactSettings, Levels, Line, Readable, Usage, Verbosity, key_of, line, text_of};

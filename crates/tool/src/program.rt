@@ -75,9 +75,11 @@ fn carry_out<R: Files + WholeFiles + Print + Eprint + Clock + AllocGlobal + Thre
             folder,
             levels,
             settings,
-            told,
+            verbosity,
         } => {
-            let telling = telling(folder, told.verbose, is_watched).explaining(told.explain);
+            let telling = telling(folder, verbosity.verbose, is_watched).explaining(
+                verbosity.explain,
+            );
             compact_folder(rt, telling, levels, &settings)
         }
         Line::Get {
@@ -107,12 +109,22 @@ fn merge<R: Files + Print + AllocGlobal + Threads + Sync>(
     at: &[u8],
     out: &str,
 ) -> Result<(), Fault> {
-    let a = files::read(rt, a)?;
-    let b = files::read(rt, b)?;
-    let (entries, block) = blocks(rt, rt.alloc(), a.as_slice(), b.as_slice(), at)?;
+    let (entries, block) = merged(rt, a, b, at)?;
     files::replace(rt, out, block.as_slice())?;
     let length = block.len();
     println!(rt; "{entries} entries, {length} bytes").map_err(|error| files::failed(&error))
+}
+
+/// The block of the entries of the blocks in two files, and how many entries there are.
+fn merged<R: Files + AllocGlobal + Threads + Sync>(
+    rt: &R,
+    a: &str,
+    b: &str,
+    at: &[u8],
+) -> Result<(u64, Vec<u8>), Fault> {
+    let a = files::read(rt, a)?;
+    let b = files::read(rt, b)?;
+    blocks(rt, rt.alloc(), a.as_slice(), b.as_slice(), at)
 }
 
 /// Tells a refusal, and answers its status.

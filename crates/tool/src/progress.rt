@@ -10,7 +10,7 @@ use std::alloc::Global;
 use store::Work;
 
 /// How far work is, of whose jobs so many are done in both parts together: `ranges merged: 3 of 8` in its first part, which has
-/// so many jobs, and `pieces encoded: 12` in the second.
+/// so many jobs, and `pieces encoded: 12` in the second. Refused for want of memory alone.
 pub fn progress_text(alloc: Global, work: Work, jobs: u64, done: u64) -> Result<String, Fault>
     ensures { EqualOrMemory (λ text. string_bytes text) result (Ok (progress_text work jobs done)) }
 {
@@ -45,7 +45,8 @@ fn second_part(work: Work) -> &'static str
 
 /// Appends how many are done of so many.
 fn push_of(text: &mut String, part: &str, done: u64, jobs: u64) -> Result<(), Fault>
-    ensures ok { OnOk result (string_bytes text.new ≡ string_bytes text.old ++ (part.now ++ codes ": " ++ decimal done ++ codes " of " ++ decimal jobs)) }
+    ensures ok { OnOk result (string_bytes text.new
+        ≡ string_bytes text.old ++ (part.now ++ codes ": " ++ decimal done ++ codes " of " ++ decimal jobs)) }
     ensures memory { IfErr result (λ e. e ≡ fault Memory) }
 {
     write!(text, "{part}: {done} of {jobs}")?;
@@ -54,7 +55,8 @@ fn push_of(text: &mut String, part: &str, done: u64, jobs: u64) -> Result<(), Fa
 
 /// Appends how many are done.
 fn push_count(text: &mut String, part: &str, done: u64) -> Result<(), Fault>
-    ensures ok { OnOk result (string_bytes text.new ≡ string_bytes text.old ++ (part.now ++ codes ": " ++ decimal done)) }
+    ensures ok { OnOk result (string_bytes text.new
+        ≡ string_bytes text.old ++ (part.now ++ codes ": " ++ decimal done)) }
     ensures memory { IfErr result (λ e. e ≡ fault Memory) }
 {
     write!(text, "{part}: {done}")?;

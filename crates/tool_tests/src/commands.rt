@@ -1,7 +1,9 @@
 use crate::texts::TWO_ENTRIES;
+use account::Account;
 use coding::{Fault, FaultName};
 use diagnostics::{account_of, log_with_writes, refused_file};
-use folder::{Failing, Folder, Shelf};
+use edit::Version;
+use folder::{Failing, Folder, Order, Shelf};
 use std::alloc::Global;
 use std::test::Fail;
 use std::thread::Threads;
@@ -9,7 +11,7 @@ use store::{Settings, compact_dir};
 use tool::{FolderFault, bottom, get_dir, manifest, next_level, open, verify};
 
 /// A log of one record: the comparator, the numbers, and file 7 of 125 bytes at level 1, whose keys are all of `u`.
-const ONE_FILE: &[u8] =
+pub(crate) const ONE_FILE: &[u8] =
     b"\x23\x1f\x47\xbe\x3c\0\x01\x01\x1aleveldb.BytewiseComparator\x02\x03\x09\0\x03\x09\x04\x04\x07\x01\x07\x7d\x09u\0\x04\0\0\0\0\0\0\x09u\x01\x02\0\0\0\0\0\0";
 
 /// The same, but that file 7 is said to have 126 bytes.
@@ -17,14 +19,14 @@ const LONGER_FILE: &[u8] =
     b"\x4e\x05\x2d\xba\x3c\0\x01\x01\x1aleveldb.BytewiseComparator\x02\x03\x09\0\x03\x09\x04\x04\x07\x01\x07\x7e\x09u\0\x04\0\0\0\0\0\0\x09u\x01\x02\0\0\0\0\0\0";
 
 /// The first, and file 8 of 113 bytes at level 0, whose one key is of `a` at sequence 3.
-const TWO_FILES: &[u8] =
+pub(crate) const TWO_FILES: &[u8] =
     b"\xf7\x6e\x80\x84\x54\0\x01\x01\x1aleveldb.BytewiseComparator\x02\x03\x09\0\x03\x09\x04\x04\x07\0\x08\x71\x09a\x01\x03\0\0\0\0\0\0\x09a\x01\x03\0\0\0\0\0\0\x07\x01\x07\x7d\x09u\0\x04\0\0\0\0\0\0\x09u\x01\x02\0\0\0\0\0\0";
 
 /// The table of an empty value of `a` at sequence 3.
-const ONE_ENTRY: &[u8] =
+pub(crate) const ONE_ENTRY: &[u8] =
     b"\0\x09\0a\x01\x03\0\0\0\0\0\0\0\0\0\0\x01\0\0\0\0\x45\xed\x3a\x01\0\0\0\0\x01\0\0\0\0\xc0\xf2\xa1\xb0\0\x09\x02a\x01\x03\0\0\0\0\0\0\0\x14\0\0\0\0\x01\0\0\0\0\x2e\xe0\xc8\x85\x19\x08\x26\x16\0\0\0\0\0\0\0\0\0\0\0\0\0\0\0\0\0\0\0\0\0\0\0\0\0\0\0\0\0\0\0\0\0\0\0\0\x57\xfb\x80\x8b\x24\x75\x47\xdb";
 
-const CURRENT: (&str, &[u8]) = ("CURRENT", b"MANIFEST-000005\n");
+pub(crate) const CURRENT: (&str, &[u8]) = ("CURRENT", b"MANIFEST-000005\n");
 
 /// The lines of an answer, or the refusal as the program prints it.
 fn printed(alloc: Global, answer: Result<Vec<u8>, Fault>) -> Result<String, Fail> {
@@ -34,38 +36,51 @@ fn printed(alloc: Global, answer: Result<Vec<u8>, Fault>) -> Result<String, Fail
     }
 }
 
+/// What `verify` answers of a folder of these files.
+fn verdict(
+    rt: &(impl Threads + Sync + AllocGlobal),
+    files: &[(&str, &[u8])],
+) -> Result<Vec<u8>, Fault> {
+    verify(rt, rt.alloc(), &mut Shelf::new(rt.alloc(), files))
+}
+
 /// What `verify` tells of a folder with this manifest, and with tables of these bytes as files 7 and 8.
 fn verified<'x>(
     rt: &(impl Threads + Sync + AllocGlobal),
     manifest: &'x [u8],
     tables: &'x [(&'x str, &'x [u8])],
 ) -> Result<String, Fail> {
-    let alloc = rt.alloc();
-    let mut files = vec![in alloc; CURRENT, ("MANIFEST-000005", manifest)]?;
+    let mut files = vec![in rt.alloc(); CURRENT, ("MANIFEST-000005", manifest)]?;
     files.extend_from_slice(tables)?;
-    let answer = verify(rt, alloc, &mut Shelf::new(alloc, &files));
-    printed(alloc, answer)
+    printed(rt.alloc(), verdict(rt, &files))
 }
 
-/// What `get` tells of a key in the folder of two files.
-fn got(
+/// The folder of two files.
+const TWO: [(&str, &[u8]); 4] = [
+    CURRENT,
+    ("MANIFEST-000005", TWO_FILES),
+    ("000007.ldb", &TWO_ENTRIES),
+    ("000008.sst", ONE_ENTRY),
+];
+
+/// The folder of one file.
+const ONE: [(&str, &[u8]); 3] = [
+    CURRENT,
+    ("MANIFEST-000005", ONE_FILE),
+    ("000007.ldb", &TWO_ENTRIES),
+];
+
+/// What `get` answers of a key in the folder of two files.
+fn value(
     rt: &(impl Threads + Sync + AllocGlobal),
     key: &[u8],
     at: Option<u64>,
-) -> Result<String, Fail> {
-    let alloc = rt.alloc();
-    let files = [
-        CURRENT,
-        ("MANIFEST-000005", TWO_FILES),
-        ("000007.ldb", TWO_ENTRIES.as_slice()),
-        ("000008.sst", ONE_ENTRY),
-    ];
-    let answer = get_dir(rt, alloc, &mut Shelf::new(alloc, &files), key, at);
-    printed(alloc, answer)
+) -> Result<Vec<u8>, Fault> {
+    get_dir(rt, rt.alloc(), &mut Shelf::new(rt.alloc(), &TWO), key, at)
 }
 
 /// A folder of these files, of which one call fails.
-fn failing<'x>(alloc: Global, files: &'x [(&'x str, &'x [u8])], call: u64) -> Shelf<'x> {
+pub(crate) fn failing<'x>(alloc: Global, files: &'x [(&'x str, &'x [u8])], call: u64) -> Shelf<'x> {
     Shelf::new(alloc, files).failing(Failing {
         call,
         fault: FolderFault::Device,
@@ -105,41 +120,58 @@ fn folders_that_are_refused(rt: HostRuntime) -> Result<(), Fail> {
 
 #[test]
 fn values_of_keys(rt: HostRuntime) -> Result<(), Fail> {
-    let cases = [
-        (None, "none\n"),
-        (Some(u64::MAX), "none\n"),
-        (Some(4), "none\n"),
-        (Some(3), "78\n"),
-        (Some(2), "78\n"),
-        (Some(1), "none\n"),
+    let rows = [
+        (b"u".as_slice(), None, "none\n"),
+        (b"u", Some(u64::MAX), "none\n"),
+        (b"u", Some(4), "none\n"),
+        (b"u", Some(3), "78\n"),
+        (b"u", Some(2), "78\n"),
+        (b"u", Some(1), "none\n"),
+        (b"a", None, "-\n"),
+        (b"", None, "none\n"),
     ];
-    for (at, wanted) in cases {
-        assert_eq!(rt; got(&rt, b"u", at)?.as_str(), wanted, "{at:?}");
+    for (key, at, wanted) in rows {
+        let line = printed(rt.alloc(), value(&rt, key, at))?;
+        assert_eq!(rt; line.as_str(), wanted, "{key:?} {at:?}");
     }
-    assert_eq!(rt; got(&rt, b"a", None)?.as_str(), "-\n");
-    assert_eq!(rt; got(&rt, b"", None)?.as_str(), "none\n");
     Ok(())
 }
 
+/// How `verify` is refused where a call fails, and how many calls there were.
+fn verdict_failing(
+    rt: &(impl Threads + Sync + AllocGlobal),
+    call: u64,
+) -> (Option<FaultName>, u64) {
+    let mut folder = failing(rt.alloc(), &ONE, call);
+    let name = refusal(verify(rt, rt.alloc(), &mut folder));
+    (name, folder.calls())
+}
+
+/// How `get` is refused where a call fails, and how often the device failed.
+fn value_failing(rt: &(impl Threads + Sync + AllocGlobal), call: u64) -> (Option<FaultName>, u64) {
+    let mut folder = failing(rt.alloc(), &ONE, call);
+    let name = refusal(get_dir(rt, rt.alloc(), &mut folder, b"u", None));
+    (name, folder.failures())
+}
+
+/// How `manifest` is refused where a call fails, and how often the device failed.
+fn manifest_failing(alloc: Global, call: u64) -> (Option<FaultName>, u64) {
+    let mut folder = failing(alloc, &ONE, call);
+    let name = refusal(manifest(alloc, &mut folder));
+    (name, folder.failures())
+}
+
 #[test]
-fn commands_over_a_device_that_fails(rt: HostRuntime) -> Result<(), Fail> {
-    let alloc = rt.alloc();
-    let files = [
-        CURRENT,
-        ("MANIFEST-000005", ONE_FILE),
-        ("000007.ldb", TWO_ENTRIES.as_slice()),
-    ];
+fn commands_over_a_device_that_fails(rt: HostRuntime) {
+    let device = Some(FaultName::Device);
     for call in 1..4 {
-        let mut folder = failing(alloc, &files, call);
-        let lines = printed(alloc, verify(&rt, alloc, &mut folder))?;
-        assert_eq!(rt; lines.as_str(), "refused: Device");
-        assert_eq!(rt; folder.calls(), call);
-        let mut folder = failing(alloc, &files, call);
-        let line = printed(alloc, get_dir(&rt, alloc, &mut folder, b"u", None))?;
-        assert_eq!(rt; line.as_str(), "refused: Device");
-        assert_eq!(rt; folder.failures(), 1);
+        assert_eq!(rt; verdict_failing(&rt, call), (device, call));
+        assert_eq!(rt; value_failing(&rt, call), (device, 1));
     }
-    Ok(())
+    for call in 1..3 {
+        assert_eq!(rt; manifest_failing(rt.alloc(), call), (device, 1));
+    }
+    assert_eq!(rt; manifest_failing(rt.alloc(), 3), (None, 0));
 }
 
 /// What the compaction of file 7 appends: the numbers, a compact pointer, and the deletion of the file.
@@ -168,34 +200,26 @@ fn refusal(answer: Result<Vec<u8>, Fault>) -> Option<FaultName> {
     }
 }
 
-#[test]
-fn a_folder_as_lines(rt: HostRuntime) -> Result<(), Fail> {
-    let alloc = rt.alloc();
-    assert_eq!(rt; shown(alloc, ONE_FILE)?.as_slice(), ONE_FILE_LINES);
-    let mut both = Vec::from_slice(alloc, ONE_FILE)?;
-    both.extend_from_slice(COMPACTED)?;
-    assert_eq!(rt; shown(alloc, &both)?.as_slice(), COMPACTED_LINES);
-    both.pop();
-    assert_eq!(rt; refusal(shown(alloc, &both)), Some(FaultName::LogShape));
-    assert_eq!(rt; refusal(shown(alloc, b"")), Some(FaultName::Comparator));
-    Ok(())
+/// The lines of the folder of one file, to whose manifest these bytes were appended.
+fn shown_with(alloc: Global, appended: &[u8]) -> Result<Vec<u8>, Fault> {
+    let mut bytes = Vec::from_slice(alloc, ONE_FILE)?;
+    bytes.extend_from_slice(appended)?;
+    shown(alloc, &bytes)
 }
 
 #[test]
-fn calls_that_fail(rt: HostRuntime) {
+fn a_folder_as_lines(rt: HostRuntime) -> Result<(), Fail> {
     let alloc = rt.alloc();
-    let files = [CURRENT, ("MANIFEST-000005", ONE_FILE)];
-    for call in 1..3 {
-        let mut folder = failing(alloc, &files, call);
-        assert_eq!(rt;
-            refusal(manifest(alloc, &mut folder)),
-            Some(FaultName::Device)
-        );
-        assert_eq!(rt; folder.failures(), 1);
+    for (appended, lines) in [
+        (b"".as_slice(), ONE_FILE_LINES),
+        (COMPACTED, COMPACTED_LINES),
+    ] {
+        assert_eq!(rt; shown_with(alloc, appended)?.as_slice(), lines);
     }
-    let mut folder = failing(alloc, &files, 3);
-    assert_eq!(rt; refusal(manifest(alloc, &mut folder)), None);
-    assert_eq!(rt; folder.failures(), 0);
+    let torn = shown_with(alloc, &COMPACTED[..COMPACTED.len() - 1]);
+    assert_eq!(rt; refusal(torn), Some(FaultName::LogShape));
+    assert_eq!(rt; refusal(shown(alloc, b"")), Some(FaultName::Comparator));
+    Ok(())
 }
 
 // With `rt try --test --fail-alloc N` the Nth growth is refused; without it, none is.
@@ -256,34 +280,51 @@ fn a_log_with_writes(rt: HostRuntime) -> Result<(), Fail> {
     Ok(())
 }
 
+/// The bottom of a folder with this manifest, and the level that goes down next where the bottom is level 1.
+fn descent_of(alloc: Global, manifest: &[u8]) -> Result<(u64, Option<u64>), Fault> {
+    let files = [CURRENT, ("MANIFEST-000005", manifest)];
+    let (_, version) = open(alloc, &mut Shelf::new(alloc, &files))?;
+    Ok((bottom(alloc, &version)?, next_level(alloc, &version, 1)?))
+}
+
 #[test]
 fn levels_that_go_down(rt: HostRuntime) -> Result<(), Fail> {
-    let alloc = rt.alloc();
     // A file at level 1 alone, and one at level 0 too.
     for (manifest, wanted) in [(ONE_FILE, None), (TWO_FILES, Some(0))] {
-        let files = [CURRENT, ("MANIFEST-000005", manifest)];
-        let (_, version) = open(alloc, &mut Shelf::new(alloc, &files))?;
-        assert_eq!(rt; bottom(alloc, &version)?, 1);
-        assert_eq!(rt; next_level(alloc, &version, 1)?, wanted);
+        assert_eq!(rt; descent_of(rt.alloc(), manifest)?, (1, wanted));
     }
     Ok(())
 }
 
+/// Compacts a level of a folder.
+fn compact(
+    rt: &(impl Threads + Sync + AllocGlobal),
+    folder: &mut Shelf<'_>,
+    level: u64,
+) -> Result<Vec<u8>, Fault> {
+    compact_dir(rt, rt.alloc(), folder, level, &Settings::default())
+}
+
+/// The account of the compaction of a level of a folder.
+fn account_since(
+    alloc: Global,
+    folder: &mut Shelf<'_>,
+    order: Order,
+    before: &Version,
+    level: u64,
+) -> Result<Account, Fault> {
+    let (_, after) = open(alloc, folder)?;
+    account_of(alloc, folder, order, before, &after, level, 8)
+}
+
 /// How the compaction of a level of the folder of two files is explained.
-fn explained(rt: &(impl Threads + Sync + AllocGlobal), level: u64) -> Result<String, Fail> {
+fn explained(rt: &(impl Threads + Sync + AllocGlobal), level: u64) -> Result<String, Fault> {
     let alloc = rt.alloc();
-    let files = [
-        CURRENT,
-        ("MANIFEST-000005", TWO_FILES),
-        ("000007.ldb", TWO_ENTRIES.as_slice()),
-        ("000008.sst", ONE_ENTRY),
-    ];
-    let mut folder = Shelf::new(alloc, &files);
+    let mut folder = Shelf::new(alloc, &TWO);
     let (order, before) = open(alloc, &mut folder)?;
-    compact_dir(rt, alloc, &mut folder, level, &Settings::default())?;
-    let (_, after) = open(alloc, &mut folder)?;
-    let account = account_of(alloc, &mut folder, order, &before, &after, level, 8)?;
-    Ok(account::text(alloc, &account)?)
+    compact(rt, &mut folder, level)?;
+    let account = account_since(alloc, &mut folder, order, &before, level)?;
+    account::text(alloc, &account)
 }
 
 /// The one entry of level 0 is kept. Its user key begins the second of two ranges.

@@ -23,7 +23,7 @@ use Rattle.usage.specs.declared.compact_texts.CompactNumbers.{CompactNumbers}
 use Rattle.usage.specs.declared.requests.Levels.{Levels}
 use Rattle.usage.specs.declared.requests.Line.{Line}
 use Rattle.usage.specs.declared.requests.Line.TheVariants as line
-use Rattle.usage.specs.declared.requests.Told.{Told}
+use Rattle.usage.specs.declared.requests.Verbosity.{Verbosity}
 use Rattle.usage.specs.Usage.{TurnsInto}
 use Rattle.usage.specs.declared.requests.Usage.{Usage}
 use Rattle.usage.specs.declared.requests.Usage.TheVariants.{Key, Snapshots, Memory, Clap}
@@ -174,30 +174,30 @@ LineGives-get words folder key at verbose (Err Memory) given h = tt
 LineGives-get words folder key at verbose (Err (Clap e)) given h = absurd h
 
 -- the line of the texts of `compact`
-pub LineGives-compact : (words : List Text) (folder : Text) (levels : Levels) (numbers : CompactNumbers) (since : Option ℕ) (listed : Option Text) (told : Told) (r : Result Line Usage)
-    → GivesRows words (codes "compact") (HasCompact folder levels numbers since listed told) → CompactLine folder levels numbers since listed told r → LineGives words r
-LineGives-compact words folder levels numbers since listed told (Ok (line.Compact folder' levels' settings told')) given h = (
+pub LineGives-compact : (words : List Text) (folder : Text) (levels : Levels) (numbers : CompactNumbers) (since : Option ℕ) (listed : Option Text) (verbosity : Verbosity) (r : Result Line Usage)
+    → GivesRows words (codes "compact") (HasCompact folder levels numbers since listed verbosity) → CompactLine folder levels numbers since listed verbosity r → LineGives words r
+LineGives-compact words folder levels numbers since listed verbosity (Ok (line.Compact folder' levels' settings verbosity')) given h = (
   numbers,
   since,
   listed,
   (
-    subst (λ (x : Text). GivesRows words (codes "compact") (HasCompact x levels' numbers since listed told')) (sym h.0)
-        (subst (λ (n : Levels). GivesRows words (codes "compact") (HasCompact folder n numbers since listed told')) (sym h.1.0)
-        (subst (λ (v : Told). GivesRows words (codes "compact") (HasCompact folder levels numbers since listed v)) (sym h.1.1.1) given)),
+    subst (λ (x : Text). GivesRows words (codes "compact") (HasCompact x levels' numbers since listed verbosity')) (sym h.0)
+        (subst (λ (n : Levels). GivesRows words (codes "compact") (HasCompact folder n numbers since listed verbosity')) (sym h.1.0)
+        (subst (λ (v : Verbosity). GivesRows words (codes "compact") (HasCompact folder levels numbers since listed v)) (sym h.1.1.1) given)),
     h.1.1.0,
   ),
 )
-LineGives-compact words folder levels numbers since listed told (Ok (line.Blocks a b k out)) given h = absurd h
-LineGives-compact words folder levels numbers since listed told (Ok (line.Dump table)) given h = absurd h
-LineGives-compact words folder levels numbers since listed told (Ok (line.Manifest f v)) given h = absurd h
-LineGives-compact words folder levels numbers since listed told (Ok (line.Verify f v)) given h = absurd h
-LineGives-compact words folder levels numbers since listed told (Ok (line.Get f key at v)) given h = absurd h
-LineGives-compact words folder levels numbers (Some sequence) listed told (Err Snapshots) given h = absurd h
-LineGives-compact words folder levels numbers None None told (Err Snapshots) given h = absurd h
-LineGives-compact words folder levels numbers None (Some text) told (Err Snapshots) given h = (text, ((folder, levels, numbers, told, given), h))
-LineGives-compact words folder levels numbers since listed told (Err Key) given h = absurd h
-LineGives-compact words folder levels numbers since listed told (Err Memory) given h = tt
-LineGives-compact words folder levels numbers since listed told (Err (Clap e)) given h = absurd h
+LineGives-compact words folder levels numbers since listed verbosity (Ok (line.Blocks a b k out)) given h = absurd h
+LineGives-compact words folder levels numbers since listed verbosity (Ok (line.Dump table)) given h = absurd h
+LineGives-compact words folder levels numbers since listed verbosity (Ok (line.Manifest f v)) given h = absurd h
+LineGives-compact words folder levels numbers since listed verbosity (Ok (line.Verify f v)) given h = absurd h
+LineGives-compact words folder levels numbers since listed verbosity (Ok (line.Get f key at v)) given h = absurd h
+LineGives-compact words folder levels numbers (Some sequence) listed verbosity (Err Snapshots) given h = absurd h
+LineGives-compact words folder levels numbers None None verbosity (Err Snapshots) given h = absurd h
+LineGives-compact words folder levels numbers None (Some text) verbosity (Err Snapshots) given h = (text, ((folder, levels, numbers, verbosity, given), h))
+LineGives-compact words folder levels numbers since listed verbosity (Err Key) given h = absurd h
+LineGives-compact words folder levels numbers since listed verbosity (Err Memory) given h = tt
+LineGives-compact words folder levels numbers since listed verbosity (Err (Clap e)) given h = absurd h
 
 -- none of the commands has its texts
 pub MatchOption-lacking : (parsed : Option (Text × List Row)) (r : Option Given) → r ≡ None → LacksAll parsed → MatchOption r (LacksAll parsed) (GivesCommand parsed)

@@ -10,7 +10,7 @@ use Rattle.usage.specs.declared.requests.Levels.TheVariants.{One, All as AllLeve
 use Rattle.usage.specs.declared.requests.Readable.{Readable}
 use Rattle.usage.specs.declared.requests.Readable.TheVariants.{From, Listed}
 use Rattle.usage.specs.declared.requests.CompactSettings.{CompactSettings}
-use Rattle.usage.specs.declared.requests.Told.{Told}
+use Rattle.usage.specs.declared.requests.Verbosity.{Verbosity}
 use Rattle.usage.specs.declared.compact_texts.CompactNumbers.{CompactNumbers}
 
 -- the rows give these numbers of `--workers`, `--ranges`, `--block-size` and `--file-size`
@@ -45,13 +45,13 @@ LacksLevels rows = IsNoNumber (first_of (codes "level") rows)
     ⊎ ((first_of (codes "level") rows ≢ None) × (is_flagged (codes "all") rows ≡ true)))
 
 -- the rows give this of `--verbose` and of `--explain`
-abbrev pub HasTold : Told → List Row → Type 0
-HasTold told rows = (told.verbose ≡ is_flagged (codes "verbose") rows) × (told.explain ≡ is_flagged (codes "explain") rows)
+abbrev pub HasVerbosity : Verbosity → List Row → Type 0
+HasVerbosity verbosity rows = (verbosity.verbose ≡ is_flagged (codes "verbose") rows) × (verbosity.explain ≡ is_flagged (codes "explain") rows)
 
 -- the rows give this of DIR, these levels, these of the options, and this of what is to be told
-abbrev pub HasCompact : Text → Levels → CompactNumbers → Option ℕ → Option Text → Told → List Row → Type 0
-HasCompact folder levels numbers since listed told rows = (first_of (codes "DIR") rows ≡ Some folder)
-    × HasLevels levels rows × HasNumbers numbers rows × HasReadable since listed rows × HasTold told rows
+abbrev pub HasCompact : Text → Levels → CompactNumbers → Option ℕ → Option Text → Verbosity → List Row → Type 0
+HasCompact folder levels numbers since listed verbosity rows = (first_of (codes "DIR") rows ≡ Some folder)
+    × HasLevels levels rows × HasNumbers numbers rows × HasReadable since listed rows × HasVerbosity verbosity rows
 
 -- the rows give no text of DIR, no levels, or no such options
 abbrev pub LacksCompact : List Row → Type 0

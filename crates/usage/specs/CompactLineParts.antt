@@ -7,7 +7,7 @@ use Rattle.usage.specs.declared.requests.Levels.{Levels}
 use Rattle.usage.specs.declared.requests.Line.{Line}
 use Rattle.usage.specs.declared.requests.Line.TheVariants as line
 use Rattle.usage.specs.declared.requests.Readable.{Readable}
-use Rattle.usage.specs.declared.requests.Told.{Told}
+use Rattle.usage.specs.declared.requests.Verbosity.{Verbosity}
 use Rattle.usage.specs.declared.requests.Usage.{Usage}
 use Rattle.usage.specs.declared.requests.Usage.TheVariants.{Key, Snapshots, Memory, Clap}
 
@@ -26,11 +26,11 @@ IsReadableAnswer since listed (Err Key) = ⊥
 IsReadableAnswer since listed (Err (Clap e)) = ⊥
 
 -- the line of `compact` with these texts and numbers, or Snapshots where the text is no list of numbers
-abbrev pub CompactLine : Text → Levels → CompactNumbers → Option ℕ → Option Text → Told → Result Line Usage → Type 0
-CompactLine folder levels numbers since listed told (Ok (line.Compact folder' levels' settings told')) =
-    (folder'.now ≡ folder) × ((levels' ≡ levels) × (AreSettings numbers since listed settings × (told' ≡ told)))
-CompactLine folder levels numbers since listed told (Ok _) = ⊥
-CompactLine folder levels numbers since listed told (Err Snapshots) = IsNoList since listed
-CompactLine folder levels numbers since listed told (Err Memory) = Unit {0}
-CompactLine folder levels numbers since listed told (Err Key) = ⊥
-CompactLine folder levels numbers since listed told (Err (Clap e)) = ⊥
+abbrev pub CompactLine : Text → Levels → CompactNumbers → Option ℕ → Option Text → Verbosity → Result Line Usage → Type 0
+CompactLine folder levels numbers since listed verbosity (Ok (line.Compact folder' levels' settings verbosity')) =
+    (folder'.now ≡ folder) × ((levels' ≡ levels) × (AreSettings numbers since listed settings × (verbosity' ≡ verbosity)))
+CompactLine folder levels numbers since listed verbosity (Ok _) = ⊥
+CompactLine folder levels numbers since listed verbosity (Err Snapshots) = IsNoList since listed
+CompactLine folder levels numbers since listed verbosity (Err Memory) = Unit {0}
+CompactLine folder levels numbers since listed verbosity (Err Key) = ⊥
+CompactLine folder levels numbers since listed verbosity (Err (Clap e)) = ⊥

@@ -11,7 +11,7 @@ use Rattle.usage.specs.declared.requests.Levels.{Levels}
 use Rattle.usage.specs.declared.compact_texts.CompactNumbers.{CompactNumbers}
 use Rattle.usage.specs.declared.requests.Line.{Line}
 use Rattle.usage.specs.declared.requests.Line.TheVariants as line
-use Rattle.usage.specs.declared.requests.Told.{Told}
+use Rattle.usage.specs.declared.requests.Verbosity.{Verbosity}
 use Rattle.usage.specs.declared.requests.Usage.{Usage}
 use Rattle.usage.specs.declared.requests.Usage.TheVariants.{Key, Snapshots, Memory, Clap}
 
@@ -157,8 +157,8 @@ GivesKeyText words text =
 -- `clap` takes the words, and they give `compact` this text of a list of snapshots
 abbrev pub GivesListText : List Text → Text → Type 0
 GivesListText words text =
-    (folder : Text) × (levels : Levels) × (numbers : CompactNumbers) × (told : Told)
-    × GivesRows words (codes "compact") (HasCompact folder levels numbers None (Some text) told)
+    (folder : Text) × (levels : Levels) × (numbers : CompactNumbers) × (verbosity : Verbosity)
+    × GivesRows words (codes "compact") (HasCompact folder levels numbers None (Some text) verbosity)
 
 -- What a command line asks for: the texts of its command, with the text of a key or of a list read. Key is the answer exactly
 -- where the one is no key's, Snapshots where the other is no list of numbers, and `clap`'s error where it refuses the words.
@@ -171,9 +171,9 @@ LineGives words (Ok (line.Manifest folder verbose)) = GivesRows words (codes "ma
 LineGives words (Ok (line.Verify folder verbose)) = GivesRows words (codes "verify") (HasFolder folder.now verbose)
 LineGives words (Ok (line.Get folder key at verbose)) =
     (text : Text) × (GivesRows words (codes "get") (HasGet folder.now text at verbose) × (bytes_of_text text ≡ Some key.items))
-LineGives words (Ok (line.Compact folder levels settings told)) =
+LineGives words (Ok (line.Compact folder levels settings verbosity)) =
     (numbers : CompactNumbers) × (since : Option ℕ) × (listed : Option Text)
-    × (GivesRows words (codes "compact") (HasCompact folder.now levels numbers since listed told) × AreSettings numbers since listed settings)
+    × (GivesRows words (codes "compact") (HasCompact folder.now levels numbers since listed verbosity) × AreSettings numbers since listed settings)
 LineGives words (Err Snapshots) = (text : Text) × (GivesListText words text × IsNoNumberList text)
 LineGives words (Err Key) = (text : Text) × (GivesKeyText words text × (bytes_of_text text ≡ None))
 LineGives words (Err Memory) = Unit {0}

@@ -21,7 +21,8 @@ GivesCommand parsed (Manifest texts) = HasRows (HasFolder texts.folder.now texts
 GivesCommand parsed (Verify texts) = HasRows (HasFolder texts.folder.now texts.verbose) (rows_under (codes "verify") parsed)
 GivesCommand parsed (Get texts) = HasRows (HasGet texts.folder.now texts.key.now texts.at texts.verbose) (rows_under (codes "get") parsed)
 GivesCommand parsed (Compact texts) =
-    HasRows (HasCompact texts.folder.now texts.levels texts.numbers texts.readable.since (option_map (λ text. text.now) texts.readable.listed) texts.told)
+    HasRows (HasCompact texts.folder.now texts.levels texts.numbers texts.readable.since
+    (option_map (λ text. text.now) texts.readable.listed) texts.verbosity)
     (rows_under (codes "compact") parsed)
 
 -- `clap` takes the words, and they give a command with these texts

@@ -22,7 +22,7 @@ const RANGES: u64 = 8;
 /// The line of `compact`, where the text of its snapshots is a list of numbers.
 pub(crate) fn compact_line<'a>(alloc: Global, texts: CompactTexts<'a>) -> Result<Line<'a>, Usage>
     ensures { CompactLine texts.entry.folder.now texts.entry.levels texts.entry.numbers texts.entry.readable.since
-        (option_map (λ text. text.now) texts.entry.readable.listed) texts.entry.told result }
+        (option_map (λ text. text.now) texts.entry.readable.listed) texts.entry.verbosity result }
 {
     let readable = readable(alloc, texts.readable)?;
     let numbers = texts.numbers;
@@ -40,7 +40,7 @@ pub(crate) fn compact_line<'a>(alloc: Global, texts: CompactTexts<'a>) -> Result
                 file_size: numbers.file_size.unwrap_or(defaults.file_size),
             },
         },
-        told: texts.told,
+        verbosity: texts.verbosity,
     })
 }
 

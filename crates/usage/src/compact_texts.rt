@@ -3,11 +3,11 @@
 ghost use Rattle.std.specs.Prelude.{◌≡◌, ◌≢◌, ◌⊎◌, None, MatchOption, codes};
 ghost use Rattle.std.specs.Option.{option_map};
 ghost use Rattle.clap.specs.Words.{first_of, found_of, rows_of, subcommand_rows_of};
-ghost use Rattle.usage.specs.CompactLine.{HasCompact, HasLevels, HasNumbers, HasReadable, HasTold, LacksCompact, LacksLevels, LacksNumbers, LacksReadable};
+ghost use Rattle.usage.specs.CompactLine.{HasCompact, HasLevels, HasNumbers, HasReadable, HasVerbosity, LacksCompact, LacksLevels, LacksNumbers, LacksReadable};
 ghost use Rattle.usage.specs.Line.{HasRows, LacksRows, rows_under};
 
 use crate::arguments::{first_number, first_text, is_flagged};
-use crate::requests::{Levels, Told};
+use crate::requests::{Levels, Verbosity};
 use clap::ArgMatches;
 
 /// The numbers that options are given, each where it is given one.
@@ -64,7 +64,7 @@ pub(crate) struct CompactTexts<'a> {
     pub levels: Levels,
     pub numbers: CompactNumbers,
     pub readable: ReadableTexts<'a>,
-    pub told: Told,
+    pub verbosity: Verbosity,
 }
 
 impl<'a> CompactTexts<'a> {
@@ -72,23 +72,24 @@ impl<'a> CompactTexts<'a> {
     fn of(values: &ArgMatches<'a>) -> Option<CompactTexts<'a>>
         ensures { let rows = rows_of (found_of values.now) in
             MatchOption result (LacksCompact rows)
-            (λ texts. HasCompact texts.folder.now texts.levels texts.numbers texts.readable.since (option_map (λ text. text.now) texts.readable.listed) texts.told rows) }
+            (λ texts. HasCompact texts.folder.now texts.levels texts.numbers texts.readable.since
+            (option_map (λ text. text.now) texts.readable.listed) texts.verbosity rows) }
     {
         Some(CompactTexts {
             folder: first_text(values, "DIR")?,
             levels: levels_of(values)?,
             numbers: CompactNumbers::of(values)?,
             readable: ReadableTexts::of(values)?,
-            told: told_of(values),
+            verbosity: verbosity_of(values),
         })
     }
 }
 
 /// What is to be told.
-fn told_of(values: &ArgMatches<'_>) -> Told
-    ensures { HasTold result (rows_of (found_of values.now)) }
+fn verbosity_of(values: &ArgMatches<'_>) -> Verbosity
+    ensures { HasVerbosity result (rows_of (found_of values.now)) }
 {
-    Told {
+    Verbosity {
         verbose: is_flagged(values, "verbose"),
         explain: is_flagged(values, "explain"),
     }
@@ -111,7 +112,8 @@ fn levels_of(values: &ArgMatches<'_>) -> Option<Levels>
 pub(crate) fn compact_texts<'a>(matches: &ArgMatches<'a>) -> Option<CompactTexts<'a>>
     ensures { let given = rows_under (codes "compact") (subcommand_rows_of matches.now) in
         MatchOption result (LacksRows LacksCompact given)
-        (λ texts. HasRows (HasCompact texts.folder.now texts.levels texts.numbers texts.readable.since (option_map (λ text. text.now) texts.readable.listed) texts.told) given) }
+        (λ texts. HasRows (HasCompact texts.folder.now texts.levels texts.numbers texts.readable.since
+        (option_map (λ text. text.now) texts.readable.listed) texts.verbosity) given) }
 {
     CompactTexts::of(matches.subcommand_matches("compact")?)
 }

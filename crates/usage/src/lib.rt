@@ -13,5 +13,5 @@ mod requests;
 mod text;
 
 pub use command_line::line;
-pub use requests::{CompactSettings, Levels, Line, Readable, Told, Usage};
+pub use requests::{CompactSettings, Levels, Line, Readable, Usage, Verbosity};
 pub use text::{key_of, text_of};

@@ -61,13 +61,13 @@ pub enum Line<'a> {
         /// What each compaction keeps to.
         settings: CompactSettings,
         /// What is told of it on the standard error.
-        told: Told,
+        verbosity: Verbosity,
     },
 }
 
 /// What is told of a compaction on the standard error.
 #[derive(Clone, Copy, Debug)]
-pub struct Told {
+pub struct Verbosity {
     /// Whether more is told: how long it took, and which file was refused.
     pub verbose: bool,
     /// Whether it is told how it went: its inputs, its ranges, what was kept and dropped, and its outputs.

@@ -65,15 +65,15 @@ fn compactions_are_explained(rt: HostRuntime) -> Result<(), Fail> {
     let rows = [
         (
             ["sedvokt", "compact", "one", "--all", "--explain"],
-            "told: Told { verbose: false, explain: true } }",
+            "verbosity: Verbosity { verbose: false, explain: true } }",
         ),
         (
             ["sedvokt", "compact", "--explain", "one", "--all"],
-            "told: Told { verbose: false, explain: true } }",
+            "verbosity: Verbosity { verbose: false, explain: true } }",
         ),
         (
             ["sedvokt", "compact", "one", "-v", "--all"],
-            "told: Told { verbose: true, explain: false } }",
+            "verbosity: Verbosity { verbose: true, explain: false } }",
         ),
         (["sedvokt", "get", "one", "75", "--explain"], "mistake"),
     ];
@@ -172,7 +172,7 @@ fn lines_of_compact(rt: HostRuntime) -> Result<(), Fail> {
         ["sedvokt", "compact", "one", "--level", "1"].as_slice(),
     )?;
     let wanted =
-        "Compact { folder: \"one\", levels: One(1), settings: CompactSettings { workers: 4, ranges: 8, readable: Listed([]), options: Options { block_size: 4096, restart_interval: 16, file_size: 2097152 } }, told: Told { verbose: false, explain: false } }";
+        "Compact { folder: \"one\", levels: One(1), settings: CompactSettings { workers: 4, ranges: 8, readable: Listed([]), options: Options { block_size: 4096, restart_interval: 16, file_size: 2097152 } }, verbosity: Verbosity { verbose: false, explain: false } }";
     assert_eq!(rt; given.as_str(), wanted);
     let words = [
         "sedvokt",
@@ -192,7 +192,7 @@ fn lines_of_compact(rt: HostRuntime) -> Result<(), Fail> {
     ];
     let given = outcome(alloc, words.as_slice())?;
     let wanted =
-        "Compact { folder: \"one\", levels: One(6), settings: CompactSettings { workers: 0, ranges: 4097, readable: From(3), options: Options { block_size: 7, restart_interval: 16, file_size: 18446744073709551615 } }, told: Told { verbose: false, explain: false } }";
+        "Compact { folder: \"one\", levels: One(6), settings: CompactSettings { workers: 0, ranges: 4097, readable: From(3), options: Options { block_size: 7, restart_interval: 16, file_size: 18446744073709551615 } }, verbosity: Verbosity { verbose: false, explain: false } }";
     assert_eq!(rt; given.as_str(), wanted);
     Ok(())
 }
@@ -203,7 +203,7 @@ fn all_levels(rt: HostRuntime) -> Result<(), Fail> {
     let words = ["sedvokt", "compact", "one", "--all", "-v"];
     let given = outcome(alloc, words.as_slice())?;
     let wanted =
-        "Compact { folder: \"one\", levels: All, settings: CompactSettings { workers: 4, ranges: 8, readable: Listed([]), options: Options { block_size: 4096, restart_interval: 16, file_size: 2097152 } }, told: Told { verbose: true, explain: false } }";
+        "Compact { folder: \"one\", levels: All, settings: CompactSettings { workers: 4, ranges: 8, readable: Listed([]), options: Options { block_size: 4096, restart_interval: 16, file_size: 2097152 } }, verbosity: Verbosity { verbose: true, explain: false } }";
     assert_eq!(rt; given.as_str(), wanted);
     let words = ["sedvokt", "compact", "one", "--all", "--level", "1"];
     assert_eq!(rt; outcome(alloc, words.as_slice())?.as_str(), "mistake");
@@ -234,7 +234,7 @@ fn lists_of_snapshots(rt: HostRuntime) -> Result<(), Fail> {
     ];
     for (text, numbers) in lists {
         let wanted = format!(in alloc;
-            "Compact {{ folder: \"one\", levels: One(1), settings: CompactSettings {{ workers: 4, ranges: 8, readable: Listed({numbers}), options: Options {{ block_size: 4096, restart_interval: 16, file_size: 2097152 }} }}, told: Told {{ verbose: false, explain: false }} }}"
+            "Compact {{ folder: \"one\", levels: One(1), settings: CompactSettings {{ workers: 4, ranges: 8, readable: Listed({numbers}), options: Options {{ block_size: 4096, restart_interval: 16, file_size: 2097152 }} }}, verbosity: Verbosity {{ verbose: false, explain: false }} }}"
         )?;
         assert_eq!(rt; listed(alloc, text)?.as_str(), wanted.as_str());
     }

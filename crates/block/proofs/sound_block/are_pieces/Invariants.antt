@@ -1,5 +1,5 @@
 use Rattle.std.proofs.Common.{length}
-use Rattle.block.proofs.Areas.{Kept}
+use Rattle.block.specs.Passing.{Kept}
 use Rattle.block.proofs.sound_block.are_pieces.Given as goal
 
 abbrev pub invariant-loop-rest : goal.invariant-loop-rest

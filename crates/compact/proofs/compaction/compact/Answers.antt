@@ -8,7 +8,7 @@ use Rattle.table.specs.Reading.{Contents}
 use Rattle.pick.specs.declared.picked.InputFile.{InputFile}
 use Rattle.request.specs.Inputs.{inputs_reading}
 use Rattle.request.specs.OneThread.{Answer, one_thread}
-use Rattle.request.specs.Request.{Asked, asked}
+use Rattle.request.specs.Request.{RequestView, request_in}
 use Rattle.survival.specs.Survive.{LeavesReads}
 use Rattle.compact.specs.Answered.{answer_in}
 use Rattle.compact.specs.Runs.{by_workers}
@@ -20,7 +20,7 @@ read_as inputs = Ok inputs
 
 pub returns-in_err-check_workers : goal.returns-in_err-check_workers
 returns-in_err-check_workers g c =
-    let r : Asked = asked c.args.request.now in
+    let r : RequestView = request_in c.args.request.now in
     let thread : Result Answer Fault = one_thread g.C.Comparator.cmp g.C.Comparator.separator_of g.C.Comparator.successor_of r in
     let p = err_from_is_err_and c.from_residual.result c.from_residual.ensures.1 in
     record {
@@ -33,7 +33,7 @@ returns-in_err-check_workers g c =
 pub returns-in_err-check : goal.returns-in_err-check
 returns-in_err-check g c =
     let cmp = g.C.Comparator.cmp in
-    let r : Asked = asked c.args.request.now in
+    let r : RequestView = request_in c.args.request.now in
     let p = err_from_is_err_and c.from_residual-in_err-check.result c.from_residual-in_err-check.ensures.1 in
     record {
       same = rw (p.1, p.2)
@@ -45,12 +45,12 @@ returns-in_err-check g c =
 
 pub check_inputs-requires-clause-few : goal.check_inputs-requires-clause-few
 check_inputs-requires-clause-few g c κs within =
-    subst (λ (files : List InputFile). length files ≤ 256) (sym c.deref.ensures.value) (c.passed_law.ensures (asked c.args.request.now) (sym c.in_ok-check.ensures)).few
+    subst (λ (files : List InputFile). length files ≤ 256) (sym c.deref.ensures.value) (c.passed_law.ensures (request_in c.args.request.now) (sym c.in_ok-check.ensures)).few
 
 pub returns-in_err-tables : goal.returns-in_err-tables
 returns-in_err-tables g c =
     let cmp = g.C.Comparator.cmp in
-    let r : Asked = asked c.args.request.now in
+    let r : RequestView = request_in c.args.request.now in
     let e : Fault = c.in_err-tables.field-0.0 in
     let passes = sym c.in_ok-check_workers.ensures in
     let thread : Result Answer Fault = one_thread cmp g.C.Comparator.separator_of g.C.Comparator.successor_of r in
@@ -73,7 +73,7 @@ compact_sound-requires-clause-limited g c κs within = few_workers c.args.worker
 pub compact_sound-requires-clause-read : goal.compact_sound-requires-clause-read
 compact_sound-requires-clause-read g c κs within =
     let cmp = g.C.Comparator.cmp in
-    let r : Asked = asked c.args.request.now in
+    let r : RequestView = request_in c.args.request.now in
     sym (inputs_are c.args.workers (sym c.in_ok-check_workers.ensures) (inputs_reading cmp 0 r.picked.files r.tables))
     ∙ ap (λ (files : List InputFile). by_workers c.args.workers (inputs_reading cmp 0 files r.tables)) (sym c.deref.ensures.value)
     ∙ c.in_ok-tables.ensures ∙ ap (λ (ts : List Contents). read_as (map (λ t. t.entries) ts)) (sym c.deref-2.ensures.value)
@@ -81,7 +81,7 @@ compact_sound-requires-clause-read g c κs within =
 pub returns : goal.returns
 returns g c =
     let cmp = g.C.Comparator.cmp in
-    let r : Asked = asked c.args.request.now in
+    let r : RequestView = request_in c.args.request.now in
     let thread : Result Answer Fault = one_thread cmp g.C.Comparator.separator_of g.C.Comparator.successor_of r in
     record {
       same = subst (λ (a : Result Answer Fault). EqualOrMemory answer_in c.compact_sound.result a) (sym (answer_is c.args.workers (sym c.in_ok-check_workers.ensures) thread)) c.compact_sound.ensures;

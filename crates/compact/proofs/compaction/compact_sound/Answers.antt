@@ -10,7 +10,7 @@ use Rattle.keep.specs.Readable.{listed_of}
 use Rattle.keep.specs.Runs.{Run, joined_run}
 use Rattle.cut.specs.Outputs.{outputs_of}
 use Rattle.request.specs.OneThread.{Answer}
-use Rattle.request.specs.Request.{Asked, asked, below_asked}
+use Rattle.request.specs.Request.{RequestView, request_in, below_request}
 use Rattle.compact.specs.Answered.{answer_in, written_of}
 use Rattle.compact.specs.Runs.{by_workers, runs_reading}
 use Rattle.compact.proofs.Joined.{whole_answer, refused_answer}
@@ -18,18 +18,18 @@ use Rattle.compact.proofs.compaction.compact_sound.Goals as goal
 
 pub merge_ranges-requires-clause-listed : goal.merge_ranges-requires-clause-listed
 merge_ranges-requires-clause-listed g c κs within =
-    subst IsStrictlyIncreasing (sym c.listed-listed.ensures) (c.passed_law.ensures (asked c.args.request.now) c.requires.tested).listed
+    subst IsStrictlyIncreasing (sym c.listed-listed.ensures) (c.passed_law.ensures (request_in c.args.request.now) c.requires.tested).listed
 
 pub merge_ranges-requires-clause-grandparents : goal.merge_ranges-requires-clause-grandparents
-merge_ranges-requires-clause-grandparents g c κs within = (c.passed_law.ensures (asked c.args.request.now) c.requires.tested).grandparents
+merge_ranges-requires-clause-grandparents g c κs within = (c.passed_law.ensures (request_in c.args.request.now) c.requires.tested).grandparents
 
 pub returns-in_err-runs : goal.returns-in_err-runs
 returns-in_err-runs g c =
     let cmp = g.C.Comparator.cmp in
-    let r : Asked = asked c.args.request.now in
+    let r : RequestView = request_in c.args.request.now in
     let inputs : List (List Entry) = map (λ t. t.entries) c.args.tables.now in
     let below : Below = below_of c.listed-listed.result.now c.floor-floor.result c.args.request.now.picked.now in
-    let same : below ≡ below_asked r =
+    let same : below ≡ below_request r =
     ap (λ (l : List ℕ). below_of l c.floor-floor.result c.args.request.now.picked.now) c.listed-listed.ensures
     ∙ ap (λ (n : ℕ). below_of (listed_of c.args.request.now.snapshots) n c.args.request.now.picked.now) c.floor-floor.ensures in
     let p = err_from_is_err_and c.from_residual.result c.from_residual.ensures.1 in
@@ -42,14 +42,14 @@ returns g c =
     let cmp = g.C.Comparator.cmp in
     let separator_of = g.C.Comparator.separator_of in
     let successor_of = g.C.Comparator.successor_of in
-    let r : Asked = asked c.args.request.now in
+    let r : RequestView = request_in c.args.request.now in
     let inputs : List (List Entry) = map (λ t. t.entries) c.args.tables.now in
     let below : Below = below_of c.listed-listed.result.now c.floor-floor.result c.args.request.now.picked.now in
-    let same : below ≡ below_asked r =
+    let same : below ≡ below_request r =
     ap (λ (l : List ℕ). below_of l c.floor-floor.result c.args.request.now.picked.now) c.listed-listed.ensures
     ∙ ap (λ (n : ℕ). below_of (listed_of c.args.request.now.snapshots) n c.args.request.now.picked.now) c.floor-floor.ensures in
     let runs : List Run = c.in_ok-runs.runs.items in
-    let merged : by_workers c.args.workers (runs_reading cmp (below_asked r) c.args.split.now inputs) ≡ Ok runs =
+    let merged : by_workers c.args.workers (runs_reading cmp (below_request r) c.args.split.now inputs) ≡ Ok runs =
     subst (λ (b : Below). by_workers c.args.workers (runs_reading cmp b c.args.split.now inputs) ≡ Ok runs) same c.in_ok-runs.ensures in
     let whole = whole_answer cmp separator_of successor_of r inputs c.args.workers c.requires.some c.requires.limited c.requires.tested c.requires.read c.args.split.now
     c.distinct_law.ensures c.ranges_cut.ensures c.split_law.ensures runs merged in

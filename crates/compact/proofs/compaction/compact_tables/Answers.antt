@@ -4,7 +4,7 @@ use Rattle.coding.specs.declared.fault.Fault.{Fault}
 use Rattle.coding.specs.Answers.{◌>>=◌, EqualOrMemory}
 use Rattle.coding.proofs.Refusals.{FailsOrMemory-from}
 use Rattle.request.specs.OneThread.{Answer, one_thread}
-use Rattle.request.specs.Request.{Asked, asked}
+use Rattle.request.specs.Request.{RequestView, request_in}
 use Rattle.survival.specs.Survive.{LeavesReads}
 use Rattle.compact.specs.Answered.{answer_in}
 use Rattle.compact.proofs.Joined.{answer_is, few_workers, if_answered, refused_test, some_worker}
@@ -12,7 +12,7 @@ use Rattle.compact.proofs.compaction.compact_tables.Goals as goal
 
 pub returns-in_err-check_workers : goal.returns-in_err-check_workers
 returns-in_err-check_workers g c =
-    let r : Asked = asked c.args.request.now in
+    let r : RequestView = request_in c.args.request.now in
     let thread : Result Answer Fault = one_thread g.C.Comparator.cmp g.C.Comparator.separator_of g.C.Comparator.successor_of r in
     let p = err_from_is_err_and c.from_residual.result c.from_residual.ensures.1 in
     record {
@@ -25,7 +25,7 @@ returns-in_err-check_workers g c =
 pub returns-in_err-check : goal.returns-in_err-check
 returns-in_err-check g c =
     let cmp = g.C.Comparator.cmp in
-    let r : Asked = asked c.args.request.now in
+    let r : RequestView = request_in c.args.request.now in
     let p = err_from_is_err_and c.from_residual-in_err-check.result c.from_residual-in_err-check.ensures.1 in
     record {
       same = rw (p.1, p.2)
@@ -44,7 +44,7 @@ compact_sound-requires-clause-limited g c κs within = few_workers c.args.worker
 pub returns : goal.returns
 returns g c =
     let cmp = g.C.Comparator.cmp in
-    let r : Asked = asked c.args.request.now in
+    let r : RequestView = request_in c.args.request.now in
     let thread : Result Answer Fault = one_thread cmp g.C.Comparator.separator_of g.C.Comparator.successor_of r in
     record {
       same = subst (λ (a : Result Answer Fault). EqualOrMemory answer_in c.compact_sound.result a) (sym (answer_is c.args.workers (sym c.in_ok-check_workers.ensures) thread)) c.compact_sound.ensures;

@@ -4,7 +4,7 @@ use Rattle.std.specs.Option.{option_map}
 use Rattle.block.specs.Piece.{Entry}
 use Rattle.pieces.specs.declared.planned_block.PlannedBlock.{PlannedBlock}
 use Rattle.cut.specs.Metered.{ended}
-use Rattle.cut.specs.Opened.{entries_of}
+use Rattle.cut.specs.Opened.{entries_in_blocks}
 use Rattle.cut.specs.Sizes.{saturated}
 use Rattle.cut.proofs.BlockSums.{blocks_are}
 use Rattle.cut.proofs.summing.meta_of.Goals as goal
@@ -13,9 +13,9 @@ pub returns : goal.returns
 returns c =
     record {
       number = refl;
-      entries = c.count_entries.ensures ∙ ap (λ (bs : List PlannedBlock). saturated (length (entries_of bs))) c.deref.ensures.value;
+      entries = c.count_entries.ensures ∙ ap (λ (bs : List PlannedBlock). saturated (length (entries_in_blocks bs))) c.deref.ensures.value;
       blocks = omega (arith, c.len.ensures, c.deref.ensures.len, ap length c.deref.ensures.value, blocks_are c.args.output.now.blocks.items);
       len = refl;
-      smallest = sym (ap (λ (bs : List PlannedBlock). option_map (λ (e : Entry). e.key) (slice_get (entries_of bs) 0)) c.deref-2.ensures.value) ∙ c.first_key.ensures;
-      largest = sym (ap (λ (bs : List PlannedBlock). ended (entries_of bs)) c.deref-3.ensures.value) ∙ c.last_key.ensures;
+      smallest = sym (ap (λ (bs : List PlannedBlock). option_map (λ (e : Entry). e.key) (slice_get (entries_in_blocks bs) 0)) c.deref-2.ensures.value) ∙ c.first_key.ensures;
+      largest = sym (ap (λ (bs : List PlannedBlock). ended (entries_in_blocks bs)) c.deref-3.ensures.value) ∙ c.last_key.ensures;
     }

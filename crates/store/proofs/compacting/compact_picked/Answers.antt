@@ -14,9 +14,9 @@ use Rattle.pick.specs.declared.picked.Inputs.{Inputs}
 use Rattle.reads.specs.Tables.{table_of}
 use Rattle.request.specs.Inputs.{inputs_reading}
 use Rattle.request.specs.OneThread.{Answer, compacted}
-use Rattle.request.specs.Request.{Asked, asked}
+use Rattle.request.specs.Request.{RequestView, request_in}
 use Rattle.compact.specs.Answered.{answer_in}
-use Rattle.store.specs.Asking.{asked_of}
+use Rattle.store.specs.Asking.{numbered_request}
 use Rattle.store.proofs.Compactions.{answer_behind, refused_behind}
 use Rattle.store.proofs.Taken.{taken_loaded, taken_read}
 use Rattle.store.proofs.compacting.compact_picked.Goals as goal
@@ -50,8 +50,8 @@ returns-in_err-request-clause-answer g c loaded given =
     ∙ taken_loaded loaded tables files taken given these in
     let p = err_from_is_err_and c.from_residual-in_err-request.result c.from_residual-in_err-request.ensures.1 in
     rw (p.1, p.2)
-    (refused_behind (pass (nat_le 1 c.args.settings.now.ranges && nat_le c.args.settings.now.ranges 4096) SplitCount) (asked_of c.args.version.now loaded (picked_in c.args.picked.now) c.args.settings.now)
-    (λ (r : Asked). compacted g.C.Comparator.cmp g.C.Comparator.separator_of g.C.Comparator.successor_of c.args.settings.now.workers r) c.in_err-request.field-0.0 c.in_ok-split.ensures (c.in_err-request.ensures.asked loaded is))
+    (refused_behind (pass (nat_le 1 c.args.settings.now.ranges && nat_le c.args.settings.now.ranges 4096) SplitCount) (numbered_request c.args.version.now loaded (picked_in c.args.picked.now) c.args.settings.now)
+    (λ (r : RequestView). compacted g.C.Comparator.cmp g.C.Comparator.separator_of g.C.Comparator.successor_of c.args.settings.now.workers r) c.in_err-request.field-0.0 c.in_ok-split.ensures (c.in_err-request.ensures.asked loaded is))
 
 pub returns-clause-answer : goal.returns-clause-answer
 returns-clause-answer g c loaded given =
@@ -64,6 +64,6 @@ returns-clause-answer g c loaded given =
     ap (map (λ (b : Bor (List ℕ)). b.now)) c.deref-4.ensures.value ∙ sym (ok_is _ _ c.in_ok-bytes.ensures) ∙ ap (map (λ (t : Contents). t.bytes)) c.deref-3.ensures.value
     ∙ taken_loaded loaded tables files taken given these in
     subst (λ (a : Result Answer Fault). EqualOrMemory answer_in c.compact_tables.result a)
-    (sym (answer_behind (pass (nat_le 1 c.args.settings.now.ranges && nat_le c.args.settings.now.ranges 4096) SplitCount) (asked_of c.args.version.now loaded (picked_in c.args.picked.now) c.args.settings.now)
-    (λ (r : Asked). compacted g.C.Comparator.cmp g.C.Comparator.separator_of g.C.Comparator.successor_of c.args.settings.now.workers r) (asked c.in_ok-request.request) c.in_ok-split.ensures (c.in_ok-request.ensures.asked loaded is)))
+    (sym (answer_behind (pass (nat_le 1 c.args.settings.now.ranges && nat_le c.args.settings.now.ranges 4096) SplitCount) (numbered_request c.args.version.now loaded (picked_in c.args.picked.now) c.args.settings.now)
+    (λ (r : RequestView). compacted g.C.Comparator.cmp g.C.Comparator.separator_of g.C.Comparator.successor_of c.args.settings.now.workers r) (request_in c.in_ok-request.request) c.in_ok-split.ensures (c.in_ok-request.ensures.asked loaded is)))
     c.compact_tables.ensures.same

@@ -1,48 +1,48 @@
-use Rattle.std.proofs.Common.{◌≡◌, ℕ, ◌+◌, ◌&&◌, Bool, not, List, ◌∷◌, Some, None, Result, Ok, sym, ap, subst, ◌∙◌, drop}
+use Rattle.std.proofs.Common.{◌≡◌, ℕ, ◌+◌, ◌&&◌, Bool, not, List, ◌∷◌, Some, None, Result, sym, ap, subst, ◌∙◌, drop}
 use Rattle.std.specs.Ordering.{is_gt}
 use Rattle.std.proofs.lemmas.Result.{err_from_is_err_and}
+use Rattle.coding.specs.Answers.{◌>>=◌}
 use Rattle.coding.specs.declared.fault.Fault.{Fault}
+use Rattle.coding.proofs.Binds.{bind_ok}
 use Rattle.ikey.specs.Order.{internal_cmp}
 use Rattle.table.specs.ReadingEntries.{is_above}
 use Rattle.table.specs.Ends.{Ends, ends_reading}
-use Rattle.table.specs.ReadingIndex.{IndexEntry}
+use Rattle.table.specs.ReadingIndex.{IndexEntry, block_in}
 use Rattle.table.specs.Indexed.{index_entry_of, index_of}
 use Rattle.table.specs.declared.indexed_block.IndexedBlock.{IndexedBlock}
 use Rattle.table.proofs.Steps.{fails_map, handed_on, next_item, both_hold, one_fails}
-use Rattle.table.proofs.DataSteps.{all_ends, rest_ends, stands, blocks_begin, blocks_go_on, first_data_refused, next_data_refused}
+use Rattle.table.proofs.DataSteps.{all_ends, rest_ends, stands, blocks_begin, blocks_go_on, first_refused, next_refused}
 use Rattle.table.proofs.checking.bounds_of_all.Goals as goal
 use Rattle.table.proofs.checking.bounds_of_all.Goals.{then-is_between, else-is_between}
 
 pub returns-in_err-bounds : goal.returns-in_err-bounds
 returns-in_err-bounds g c =
-    let p = err_from_is_err_and c.from_residual-in_err-bounds.result c.from_residual-in_err-bounds.ensures.1 in
+    let p = err_from_is_err_and c.from_residual.result c.from_residual.ensures.1 in
     let cmp = g.C.Comparator.cmp in
     let d = c.in_err-bounds.field-0.0 in
     let i : IndexEntry = index_entry_of c.in-Some.first.now in
     let is : List IndexEntry = index_of c.in-Some.others.now in
-    let q = c.in_ok-block_in.field-0.entries in
     let total : Result Ends Fault = all_ends cmp (index_of c.args.index.now) in
     let whole : total ≡ all_ends cmp (i ∷ is) = ap (λ (xs : List IndexedBlock). all_ends cmp (index_of xs)) c.in-Some.ensures.cases.0 in
-    handed_on (λ b. record { smallest = b.smallest; largest = b.largest }) c.from_residual-in_err-bounds.result p.0 d total p.1 p.2
-    (fails_map d (ends_reading cmp None q) total (λ h. whole ∙ first_data_refused cmp i is q d c.in_ok-block_in.ensures h) c.in_err-bounds.ensures)
+    handed_on (λ b. record { smallest = b.smallest; largest = b.largest }) c.from_residual.result p.0 d total p.1 p.2
+    (fails_map d (block_in i.stored >>= ends_reading cmp None) total (λ h. whole ∙ first_refused cmp i is d h) c.in_err-bounds.ensures)
 
 pub loop-entry-init : goal.loop-entry-init
 loop-entry-init g c =
     let cmp = g.C.Comparator.cmp in
     let i : IndexEntry = index_entry_of c.in-Some.first.now in
     let is : List IndexEntry = index_of c.in-Some.others.now in
-    let q = c.in_ok-block_in.field-0.entries in
     let y : Ends = record { smallest = c.in_ok-bounds.bounds.smallest; largest = c.in_ok-bounds.bounds.largest } in
+    let q = bind_ok (block_in i.stored) (ends_reading cmp None) y c.in_ok-bounds.ensures in
     let whole : all_ends cmp (index_of c.args.index.now) ≡ all_ends cmp (i ∷ is) = ap (λ (xs : List IndexedBlock). all_ends cmp (index_of xs)) c.in-Some.ensures.cases.0 in
     subst (λ (t : Bool). rest_ends cmp y i.key t is ≡ all_ends cmp (index_of c.args.index.now)) (sym c.is_between-fits.ensures)
-    (blocks_begin cmp i is q y c.in_ok-block_in.ensures (stands cmp None q y c.in_ok-bounds.ensures) ∙ sym whole)
+    (blocks_begin cmp i is q.0 y q.1 (stands cmp None q.0 y q.2) ∙ sym whole)
 
 pub returns-in_err-next : goal.returns-in_err-next
 returns-in_err-next g c =
     let p = err_from_is_err_and c.from_residual-in_err-next.result c.from_residual-in_err-next.ensures.1 in
     let cmp = g.C.Comparator.cmp in
     let d = c.in_err-next.field-0.0 in
-    let q = c.in_ok-block.block.entries in
     let x : Ends = record { smallest = c.loop-entry.bounds.smallest; largest = c.loop-entry.bounds.largest } in
     let i : IndexEntry = index_entry_of c.entry-item.result in
     let is : List IndexEntry = index_of (drop (c.loop-entry.entry-index + 1) c.in-Some.others.now) in
@@ -50,13 +50,12 @@ returns-in_err-next g c =
     let next = next_item c.in-Some.others.now c.loop-entry.entry-index c.entry-item.result c.loop-entry-test.true c.entry-item.is in
     let so_far : rest_ends cmp x c.loop-entry.below.now c.loop-entry.fits (i ∷ is) ≡ total = sym (ap (λ (xs : List IndexedBlock). rest_ends cmp x c.loop-entry.below.now c.loop-entry.fits (index_of xs)) next) ∙ c.loop-entry.invariant in
     handed_on (λ b. record { smallest = b.smallest; largest = b.largest }) c.from_residual-in_err-next.result p.0 d total p.1 p.2
-    (fails_map d (ends_reading cmp (Some c.as_key.result.bytes.now) q) total
-    (λ h. sym so_far ∙ next_data_refused cmp x c.loop-entry.below.now c.loop-entry.fits i is q d c.in_ok-block.ensures (ap (λ (k : List ℕ). ends_reading cmp (Some k) q) (sym c.as_key.ensures) ∙ h)) c.in_err-next.ensures)
+    (fails_map d (block_in i.stored >>= ends_reading cmp (Some c.as_key.result.bytes.now)) total
+    (λ h. sym so_far ∙ next_refused cmp x c.loop-entry.below.now c.loop-entry.fits i is d (ap (λ (k : List ℕ). block_in i.stored >>= ends_reading cmp (Some k)) (sym c.as_key.ensures) ∙ h)) c.in_err-next.ensures)
 
 pub loop-entry-preserved : goal.loop-entry-preserved
 loop-entry-preserved g c =
     let cmp = g.C.Comparator.cmp in
-    let q = c.in_ok-block.block.entries in
     let below = c.loop-entry.below.now in
     let fits = c.loop-entry.fits in
     let x : Ends = record { smallest = c.loop-entry.bounds.smallest; largest = c.loop-entry.bounds.largest } in
@@ -66,7 +65,7 @@ loop-entry-preserved g c =
     let total : Result Ends Fault = all_ends cmp (index_of c.args.index.now) in
     let next = next_item c.in-Some.others.now c.loop-entry.entry-index c.entry-item.result c.loop-entry-test.true c.entry-item.is in
     let so_far : rest_ends cmp x below fits (i ∷ is) ≡ total = sym (ap (λ (xs : List IndexedBlock). rest_ends cmp x below fits (index_of xs)) next) ∙ c.loop-entry.invariant in
-    let read : ends_reading cmp (Some x.largest) q ≡ Ok y = ap (λ (k : List ℕ). ends_reading cmp (Some k) q) (sym c.as_key.ensures) ∙ c.in_ok-next.ensures in
+    let q = bind_ok (block_in i.stored) (ends_reading cmp (Some x.largest)) y (ap (λ (k : List ℕ). block_in i.stored >>= ends_reading cmp (Some k)) (sym c.as_key.ensures) ∙ c.in_ok-next.ensures) in
     let now : c.if-is_between.fits ≡ (c.is_between.result && fits) =
     elim c.if-is_between.branch [
       | then-is_between w ↦ both_hold c.is_between.result fits c.if-is_between.fits w.if-is_between.true w.fits-is
@@ -74,4 +73,4 @@ loop-entry-preserved g c =
     ] in
     let tested : c.if-is_between.fits ≡ ((is_above cmp (Some below) y.smallest && not (is_gt (internal_cmp cmp y.largest i.key))) && fits) = now ∙ ap (λ (t : Bool). t && fits) c.is_between.ensures in
     subst (λ (t : Bool). rest_ends cmp (record { smallest = x.smallest; largest = y.largest }) i.key t is ≡ total) (sym tested)
-    (blocks_go_on cmp x below fits i is q y c.in_ok-block.ensures (stands cmp (Some x.largest) q y read) ∙ so_far)
+    (blocks_go_on cmp x below fits i is q.0 y q.1 (stands cmp (Some x.largest) q.0 y q.2) ∙ so_far)

@@ -22,5 +22,5 @@ pub returns-in-Compact : goal.returns-in-Compact
 returns-in-Compact g c =
     let texts = c.in-Compact.texts in
     let command = subst (GivesCommand (subcommand_of program_app (map g.S.AsStr.text c.args.words.now))) c.in-Compact.is c.in_ok-texts.ensures.1 in
-    LineGives-compact (map g.S.AsStr.text c.args.words.now) texts.folder.now texts.levels texts.numbers texts.readable.since (option_map (λ text. text.now) texts.readable.listed) texts.told c.compact_line.result
+    LineGives-compact (map g.S.AsStr.text c.args.words.now) texts.folder.now texts.levels texts.numbers texts.readable.since (option_map (λ text. text.now) texts.readable.listed) texts.verbosity c.compact_line.result
     (c.in_ok-texts.ensures.0, command) c.compact_line.ensures

@@ -4,7 +4,7 @@ use Rattle.std.proofs.lemmas.Bool.{eqb-true, eqb-false}
 use Rattle.std.proofs.lemmas.List.{map-append, nil_from_length}
 use Rattle.block.specs.Piece.{Entry}
 use Rattle.cut.specs.Cutting.{Cut, outputs_left}
-use Rattle.cut.specs.Opened.{Opened, ArePlanned, entries_of}
+use Rattle.cut.specs.Opened.{Opened, ArePlanned, entries_in_blocks}
 use Rattle.cut.specs.Outputs.{outputs_behind}
 use Rattle.cut.proofs.Cuts.{ended_none, ended_some, same_options, planned_push, planned_are}
 use Rattle.cut.proofs.cutting.Cutting.end_output.Goals as goal
@@ -37,14 +37,14 @@ returns-in_ok-push-clause-ended c =
     let o = was.latest.options in
     let q : List Entry = was.latest.entries in
     let blocks = c.in_ok-blocks.blocks in
-    let before : List (List Entry) = map (λ b. entries_of b.items) was.ended.items in
+    let before : List (List Entry) = map (λ b. entries_in_blocks b.items) was.ended.items in
     let items : c.push.new.self.items ≡ was.ended.items ++ blocks ∷ [] = search rules in
     let some : blocks.items ≡ [] → ⊥ = λ none. omega (arith, eqb-false (vec_len blocks) 0 (sym c.if-not-is_empty.ensures), ap length none) in
-    let outputs : map (λ b. entries_of b.items) c.push.new.self.items ≡ before ++ outputs_behind o q [] =
-    ap (map (λ b. entries_of b.items)) items ∙ map-append (λ b. entries_of b.items) was.ended.items (blocks ∷ []) ∙ ended_some o before q blocks.items c.in_ok-blocks.ensures.blocks some in
+    let outputs : map (λ b. entries_in_blocks b.items) c.push.new.self.items ≡ before ++ outputs_behind o q [] =
+    ap (map (λ b. entries_in_blocks b.items)) items ∙ map-append (λ b. entries_in_blocks b.items) was.ended.items (blocks ∷ []) ∙ ended_some o before q blocks.items c.in_ok-blocks.ensures.blocks some in
     let seen : Opened → List (List Entry) → Cut = λ s ps. record { options = s.options; outputs = ps; latest = s.entries; behind = s.behind } in
     let after : Cut → Cut = λ cut. record { options = cut.options; outputs = outputs_left cut []; latest = []; behind = cut.behind } in
-    ap (λ (s : Opened). seen s (map (λ b. entries_of b.items) c.push.new.self.items)) c.in_ok-blocks.ensures.new
+    ap (λ (s : Opened). seen s (map (λ b. entries_in_blocks b.items) c.push.new.self.items)) c.in_ok-blocks.ensures.new
     ∙ ap (seen (record { options = o; entries = []; behind = was.latest.behind })) outputs
     ∙ ap after c.self.view_is
 
@@ -54,7 +54,7 @@ returns-else-not-is_empty-clause-ended c =
     let o = was.latest.options in
     let q : List Entry = was.latest.entries in
     let blocks = c.in_ok-blocks.blocks in
-    let before : List (List Entry) = map (λ b. entries_of b.items) was.ended.items in
+    let before : List (List Entry) = map (λ b. entries_in_blocks b.items) was.ended.items in
     let none : blocks.items ≡ [] = nil_from_length blocks.items (omega (arith, eqb-true (vec_len blocks) 0 (sym c.if-not-is_empty.ensures))) in
     let outputs : before ≡ before ++ outputs_behind o q [] = ended_none o before q blocks.items c.in_ok-blocks.ensures.blocks none in
     let seen : Opened → List (List Entry) → Cut = λ s ps. record { options = s.options; outputs = ps; latest = s.entries; behind = s.behind } in

@@ -1,7 +1,7 @@
 use Rattle.std.proofs.Common.{◌≡◌, ◌<◌, ℕ, true, List, ◌++◌, map, take, sym, ap, subst, ◌∙◌}
 use Rattle.block.specs.Piece.{Entry}
 use Rattle.cut.specs.Cutting.{Cut, outputs_left}
-use Rattle.cut.specs.Opened.{Opened, entries_of, ends_by}
+use Rattle.cut.specs.Opened.{Opened, entries_in_blocks, ends_by}
 use Rattle.cut.specs.Outputs.{outputs_behind}
 use Rattle.cut.proofs.Cuts.{ended_then, from_three}
 use Rattle.cut.proofs.cutting.Cutting.step.Goals as goal
@@ -11,7 +11,7 @@ pub returns-clause-left : goal.returns-clause-left
 returns-clause-left c =
     let was : Cut = c.args.self.now in
     let s : Cut = c.if-ends_before_next.self in
-    let outs : List (List Entry) = map (λ b. entries_of b.items) c.self-2.inside.ended.items in
+    let outs : List (List Entry) = map (λ b. entries_in_blocks b.items) c.self-2.inside.ended.items in
     let moved : (n : ℕ) → 0 < n → (rest : List Entry) → outputs_left s (take n s.behind ++ rest) ≡ outputs_left was (take n was.behind ++ rest) =
     elim c.if-ends_before_next.branch [
       | then-ends_before_next+in_ok-end_output w ↦ λ n any rest.

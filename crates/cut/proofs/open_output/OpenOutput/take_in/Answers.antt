@@ -4,7 +4,7 @@ use Rattle.block.specs.Piece.{Entry}
 use Rattle.table.specs.DataBlocks.{is_full}
 use Rattle.pieces.specs.declared.planned_block.PlannedBlock.{PlannedBlock}
 use Rattle.cut.specs.Metered.{Metered, grown, ended}
-use Rattle.cut.specs.Opened.{Opened, IsOpen, entries_of, ends_by}
+use Rattle.cut.specs.Opened.{Opened, IsOpen, entries_in_blocks, ends_by}
 use Rattle.cut.specs.Outputs.{outputs_behind}
 use Rattle.cut.proofs.Opened.{ended_behind, some_taken, parts_by, open_grown, open_flushed, left_taken}
 use Rattle.cut.proofs.open_output.OpenOutput.take_in.Goals as goal
@@ -20,7 +20,7 @@ invariant_of-self-then-is_full c =
     let key = option_map (λ key. key.bytes.now) c.last_key-self-inside.result in
     let some : full.entries ≡ [] → ⊥ =
     λ none. some_taken n was.current.entries was.current.behind c.take_in-taken.ensures.some c.take_in-taken.ensures.within (sym (ap (λ (m : Metered). m.entries) c.take_in-taken.ensures.new) ∙ none) in
-    let key_is : key ≡ ended (entries_of was.blocks.items ++ full.entries) = c.last_key-self-inside.ensures ∙ sym (ended_behind (entries_of was.blocks.items) full.entries some) in
+    let key_is : key ≡ ended (entries_in_blocks was.blocks.items ++ full.entries) = c.last_key-self-inside.ensures ∙ sym (ended_behind (entries_in_blocks was.blocks.items) full.entries some) in
     let b : PlannedBlock = c.end-block.result in
     let items : c.push.new.self.items ≡ was.blocks.items ++ b ∷ [] = search rules in
     let size : c.saturating_add-self-inside.result ≡ min (min (was.flushed + b.len) (2 ^ 64 - 1) + 5) (2 ^ 64 - 1) =
@@ -39,7 +39,7 @@ invariant_of-self-else-is_full c =
     let key = option_map (λ key. key.bytes.now) c.last_key-self-inside.result in
     let some : full.entries ≡ [] → ⊥ =
     λ none. some_taken n was.current.entries was.current.behind c.take_in-taken.ensures.some c.take_in-taken.ensures.within (sym (ap (λ (m : Metered). m.entries) c.take_in-taken.ensures.new) ∙ none) in
-    let key_is : key ≡ ended (entries_of was.blocks.items ++ full.entries) = c.last_key-self-inside.ensures ∙ sym (ended_behind (entries_of was.blocks.items) full.entries some) in
+    let key_is : key ≡ ended (entries_in_blocks was.blocks.items ++ full.entries) = c.last_key-self-inside.ensures ∙ sym (ended_behind (entries_in_blocks was.blocks.items) full.entries some) in
     subst (λ blocks. IsOpen was.options blocks was.flushed key full) (sym c.in_ok-reserve.ensures.items)
     (open_grown was.options was.blocks.items was.flushed last key was.current full n c.self.invariant c.take_in-taken.ensures.new parts (sym c.is_full.ensures ∙ c.if-is_full.false) key_is)
 
@@ -49,7 +49,7 @@ returns-then-is_full-clause-left c =
     let n : ℕ = c.take_in-taken.result in
     let last = option_map (λ key. key.bytes.now) was.last in
     let parts : (m : ℕ) → m < n → is_full was.options (grown m was.current).entries ≡ false = parts_by was.options was.current n c.self.invariant.part c.take_in-taken.ensures.part in
-    let first : ends_by was.options (entries_of was.blocks.items ++ was.current.entries) was.current.behind ≡ false =
+    let first : ends_by was.options (entries_in_blocks was.blocks.items ++ was.current.entries) was.current.behind ≡ false =
     subst (λ (s : Opened). ends_by s.options s.entries s.behind ≡ false) (sym c.self.view_is) c.requires.goes_on in
     let below : 1 < n → was.flushed < was.options.file_size =
     elim c.if-self.branch [
@@ -65,7 +65,7 @@ returns-else-is_full-clause-left c =
     let n : ℕ = c.take_in-taken.result in
     let last = option_map (λ key. key.bytes.now) was.last in
     let parts : (m : ℕ) → m < n → is_full was.options (grown m was.current).entries ≡ false = parts_by was.options was.current n c.self.invariant.part c.take_in-taken.ensures.part in
-    let first : ends_by was.options (entries_of was.blocks.items ++ was.current.entries) was.current.behind ≡ false =
+    let first : ends_by was.options (entries_in_blocks was.blocks.items ++ was.current.entries) was.current.behind ≡ false =
     subst (λ (s : Opened). ends_by s.options s.entries s.behind ≡ false) (sym c.self.view_is) c.requires.goes_on in
     let below : 1 < n → was.flushed < was.options.file_size =
     elim c.if-self.branch [

@@ -2,14 +2,14 @@ use Rattle.std.proofs.Common.{◌≡◌, ◌<◌, ◌≤◌, ◌/◌, ◌%◌, L
 use Rattle.std.specs.Prelude.{slice_get}
 use Rattle.std.specs.Option.{option_map}
 use Rattle.block.specs.Piece.{Entry}
-use Rattle.keep.specs.Joined.{joined}
-use Rattle.keep.proofs.Joins.{stands_in}
+use Rattle.keep.specs.KeptPieces.{all_kept}
+use Rattle.keep.proofs.PieceLists.{stands_in}
 use Rattle.keep.proofs.kept_list.KeptList.key.Goals as goal
 
 pub piece_of-piece-requires : goal.piece_of-piece-requires
 piece_of-piece-requires c =
     let was = c.self.inside in
-    let number : length (joined was.full.items was.last) ≡ length c.args.self.now = ap length c.self.view_is in
+    let number : length (all_kept was.full.items was.last) ≡ length c.args.self.now = ap length c.self.view_is in
     let lt : c.args.place < length c.args.self.now = c.requires in
     let stands = stands_in was.full.items was.last (length was.tally.items) c.args.place c.self.invariant (omega (arith, number, lt)) in
     subst (λ (ps : List (List Entry)). c.args.place / 4096 ≤ length ps) (sym c.deref.ensures.value) stands.numbered
@@ -17,7 +17,7 @@ piece_of-piece-requires c =
 pub key-requires : goal.key-requires
 key-requires c =
     let was = c.self.inside in
-    let number : length (joined was.full.items was.last) ≡ length c.args.self.now = ap length c.self.view_is in
+    let number : length (all_kept was.full.items was.last) ≡ length c.args.self.now = ap length c.self.view_is in
     let lt : c.args.place < length c.args.self.now = c.requires in
     let stands = stands_in was.full.items was.last (length was.tally.items) c.args.place c.self.invariant (omega (arith, number, lt)) in
     stands.within c.piece_of-piece.result.now
@@ -26,10 +26,10 @@ key-requires c =
 pub returns : goal.returns
 returns c =
     let was = c.self.inside in
-    let number : length (joined was.full.items was.last) ≡ length c.args.self.now = ap length c.self.view_is in
+    let number : length (all_kept was.full.items was.last) ≡ length c.args.self.now = ap length c.self.view_is in
     let lt : c.args.place < length c.args.self.now = c.requires in
     let stands = stands_in was.full.items was.last (length was.tally.items) c.args.place c.self.invariant (omega (arith, number, lt)) in
-    let is : slice_get c.piece_of-piece.result.now (c.args.place % 4096) ≡ slice_get (joined was.full.items was.last) c.args.place =
+    let is : slice_get c.piece_of-piece.result.now (c.args.place % 4096) ≡ slice_get (all_kept was.full.items was.last) c.args.place =
     stands.same c.piece_of-piece.result.now
     (subst (λ (ps : List (List Entry)). slice_get (ps ++ was.last ∷ []) (c.args.place / 4096) ≡ Some c.piece_of-piece.result.now) c.deref.ensures.value c.piece_of-piece.ensures) in
     ap (λ (es : List Entry). option_map (λ (e : Entry). e.key) (slice_get es c.args.place)) (sym c.self.view_is)

@@ -1,7 +1,7 @@
 use Rattle.std.proofs.Common.{◌≡◌, ◌+◌, List, [], ◌∷◌, ◌++◌, length, sym, ap, subst, ◌∙◌, rules, arith, length-append}
 use Rattle.block.specs.Piece.{Entry}
-use Rattle.keep.specs.Joined.{joined, AreInPieces}
-use Rattle.keep.proofs.Joins.{joined_push, pieces_same, pieces_push}
+use Rattle.keep.specs.KeptPieces.{all_kept, AreInPieces}
+use Rattle.keep.proofs.PieceLists.{all_kept_push, pieces_same, pieces_push}
 use Rattle.keep.proofs.kept_list.KeptList.push.Goals as goal
 
 pub invariant_of-self-2 : goal.invariant_of-self-2
@@ -21,6 +21,6 @@ pub returns-clause-ok : goal.returns-clause-ok
 returns-clause-ok c =
     let full : List (List Entry) = c.make_room.new.full.items in
     let e : Entry = record { key = c.args.key.bytes.now; value = c.args.value.now } in
-    ap (λ (es : List Entry). joined full es) c.in_ok-push.ensures.ok
-    ∙ joined_push full c.make_room.new.last e
+    ap (λ (es : List Entry). all_kept full es) c.in_ok-push.ensures.ok
+    ∙ all_kept_push full c.make_room.new.last e
     ∙ ap (λ (es : List Entry). es ++ e ∷ []) (c.make_room.ensures.same ∙ c.self.view_is)

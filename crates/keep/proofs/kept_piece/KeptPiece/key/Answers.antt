@@ -3,7 +3,7 @@ use Rattle.std.specs.Prelude.{slice_get, slice_range, Some}
 use Rattle.std.specs.Option.{option_map}
 use Rattle.ikey.specs.Key.{IsInternalKey}
 use Rattle.block.specs.Piece.{Entry}
-use Rattle.keep.proofs.Lents.{length-entries, entry_at, start_of, start_first, start_later, part_at, internal_at}
+use Rattle.keep.proofs.KeyBuffers.{length-entries, entry_at, start_of, start_first, start_later, part_at, internal_at}
 use Rattle.keep.proofs.kept_piece.KeptPiece.key.Goals as goal
 use Rattle.keep.proofs.kept_piece.KeptPiece.key.Goals.{then-place-eq0, else-place-eq0}
 

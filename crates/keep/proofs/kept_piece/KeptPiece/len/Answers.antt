@@ -1,5 +1,5 @@
 use Rattle.std.proofs.Common.{◌≡◌, length, sym, ap, ◌∙◌, rules}
-use Rattle.keep.proofs.Lents.{length-entries}
+use Rattle.keep.proofs.KeyBuffers.{length-entries}
 use Rattle.keep.proofs.kept_piece.KeptPiece.len.Goals as goal
 
 pub returns : goal.returns

@@ -1,8 +1,8 @@
 use Rattle.std.proofs.Common.{◌≡◌, List, [], ◌∷◌, ◌++◌, length, sym, ap, subst, ◌∙◌, rules}
 use Rattle.block.specs.Piece.{Entry}
 use Rattle.keep.specs.declared.kept_entry.KeptEntry.{KeptEntry}
-use Rattle.keep.specs.Lent.{entries_at, AreKeys}
-use Rattle.keep.proofs.Lents.{entries_push, keys_push}
+use Rattle.keep.specs.KeyBuffer.{entries_at, AreKeys}
+use Rattle.keep.proofs.KeyBuffers.{entries_push, keys_push}
 use Rattle.keep.proofs.kept_piece.KeptPiece.push.Goals as goal
 
 pub invariant_of-self-2 : goal.invariant_of-self-2

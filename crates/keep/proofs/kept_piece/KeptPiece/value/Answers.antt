@@ -2,7 +2,7 @@ use Rattle.std.proofs.Common.{◌≡◌, ◌<◌, List, length, sym, ap, ◌∙�
 use Rattle.std.specs.Prelude.{slice_get}
 use Rattle.std.specs.Option.{option_map}
 use Rattle.block.specs.Piece.{Entry}
-use Rattle.keep.proofs.Lents.{length-entries, entry_at}
+use Rattle.keep.proofs.KeyBuffers.{length-entries, entry_at}
 use Rattle.keep.proofs.kept_piece.KeptPiece.value.Goals as goal
 
 pub index-requires : goal.index-requires

@@ -1,0 +1,64 @@
+use Rattle.std.proofs.Common.{◌≡◌, ◌≢◌, List, ℕ, true, [], ◌∷◌, length, ap, sym, ◌∙◌}
+use Rattle.std.proofs.lemmas.List.{nil_from_length}
+use Rattle.std.proofs.lemmas.Bool.{eqb-true, eqb-false}
+use Rattle.coding.specs.declared.fault.Fault.{Fault}
+use Rattle.coding.proofs.Binds.{failed}
+use Rattle.coding.proofs.Refusals.{FailsOrMemory-from}
+use Rattle.block.specs.Piece.{key_after}
+use Rattle.block.specs.Front.{front_field}
+use Rattle.block.specs.Behind.{entries_behind}
+use Rattle.block.specs.ReadingBlocks.{block_reading}
+use Rattle.block.proofs.Areas.{kept_none}
+use Rattle.block.proofs.Walks.{first_key_whole}
+use Rattle.block.proofs.CheckingSteps.{not_split, not_area, same_entries, passes_first, passes_nothing, one_behind}
+use Rattle.block.proofs.checking_cursor.CheckingCursor.enter.Goals as goal
+
+pub returns-in_default-clause-refused : goal.returns-in_default-clause-refused
+returns-in_default-clause-refused c =
+    FailsOrMemory-from c.of.result (block_reading c.args.bytes.now) (not_split c.args.bytes.now c.in_default.ensures.none ∙ ap (λ (f : Fault). failed f) (sym c.of.ensures))
+
+pub returns-then-not-are_begun-clause-refused : goal.returns-then-not-are_begun-clause-refused
+returns-then-not-are_begun-clause-refused c =
+    FailsOrMemory-from c.of-then-not-are_begun.result (block_reading c.args.bytes.now)
+    (not_area c.args.bytes.now c.in-Some.parts.area.now c.in-Some.parts.restarts.now c.in-Some.ensures.found (λ h. let yes : c.are_begun.result ≡ true = c.are_begun.ensures.only h in absurd cc) ∙ ap (λ (f : Fault). failed f) (sym c.of-then-not-are_begun.ensures))
+
+pub invariant_of-self : goal.invariant_of-self
+invariant_of-self c =
+    let area = c.in-Some.parts.area.now in
+    let none : area ≡ [] = nil_from_length area (eqb-true _ _ (sym c.is_empty.ensures ∙ c.if-is_empty.true)) in
+    let begun = c.if-not-are_begun.false in
+    passes_nothing c.args.bytes.now area c.in-Some.parts.restarts.now _ _ _ c.in-Some.ensures.found (c.are_begun.ensures.begins begun) (c.are_begun.ensures.nothing begun none)
+
+pub returns-then-is_empty-clause-ahead : goal.returns-then-is_empty-clause-ahead
+returns-then-is_empty-clause-ahead c =
+    let area = c.in-Some.parts.area.now in
+    let none : area ≡ [] = nil_from_length area (eqb-true _ _ (sym c.is_empty.ensures ∙ c.if-is_empty.true)) in
+    sym (ap (entries_behind []) none)
+
+pub returns-then-is_empty-clause-all : goal.returns-then-is_empty-clause-all
+returns-then-is_empty-clause-all c = same_entries c.args.bytes.now c.in-Some.parts.area.now c.in-Some.parts.restarts.now c.in-Some.ensures.found
+
+pub returns-in_default-next_piece-clause-refused : goal.returns-in_default-next_piece-clause-refused
+returns-in_default-next_piece-clause-refused c =
+    let area = c.in-Some.parts.area.now in
+    let restarts = c.in-Some.parts.restarts.now in
+    let some : area ≢ [] = λ e. eqb-false _ _ (sym c.is_empty.ensures ∙ c.if-is_empty.false) (ap length e) in
+    FailsOrMemory-from c.of-in_default-next_piece.result (block_reading c.args.bytes.now)
+    (not_area c.args.bytes.now area restarts c.in-Some.ensures.found (c.in_default-next_piece.ensures.none restarts some (kept_none area restarts some)) ∙ ap (λ (f : Fault). failed f) (sym c.of-in_default-next_piece.ensures))
+
+pub invariant_of-self-2 : goal.invariant_of-self-2
+invariant_of-self-2 c =
+    let area = c.in-Some.parts.area.now in
+    let restarts = c.in-Some.parts.restarts.now in
+    let some : area ≢ [] = λ e. eqb-false _ _ (sym c.is_empty.ensures ∙ c.if-is_empty.false) (ap length e) in
+    passes_first c.args.bytes.now area restarts (front_field c.in-Some-next_piece.first.piece) c.in-Some-next_piece.first.pending.now c.replace_end.new.key.items c.in-Some.ensures.found (c.are_begun.ensures.begins c.if-not-are_begun.false) some c.in-Some-next_piece.ensures.next c.in_ok-replace_end.ensures.ok
+
+pub returns-clause-ahead : goal.returns-clause-ahead
+returns-clause-ahead c =
+    let piece = front_field c.in-Some-next_piece.first.piece in
+    let key : c.replace_end.new.key.items ≡ key_after [] piece.field = c.in_ok-replace_end.ensures.ok ∙ sym (first_key_whole piece.field) in
+    ap (λ (k : List ℕ). record { key = k; value = c.in-Some-next_piece.first.piece.value.now } ∷ entries_behind k c.in-Some-next_piece.first.piece.rest.now) key
+    ∙ sym (one_behind [] c.in-Some.parts.area.now piece c.in-Some-next_piece.ensures.next.read)
+
+pub returns-clause-all : goal.returns-clause-all
+returns-clause-all c = same_entries c.args.bytes.now c.in-Some.parts.area.now c.in-Some.parts.restarts.now c.in-Some.ensures.found

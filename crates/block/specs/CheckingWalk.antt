@@ -1,0 +1,28 @@
+-- A place in bytes that may be a block: the entry there, and what is known of the bytes before it.
+use Rattle.std.specs.Prelude.{◌≡◌, ◌≢◌, ℕ, Bool, true, false, if◌then◌else◌, List, [], ◌∷◌, length}
+use Rattle.block.specs.Behind.{entries_behind}
+use Rattle.block.specs.Kept.{IsArea}
+use Rattle.block.specs.Parts.{BeginsWith, IsSplit}
+use Rattle.block.specs.Passing.{Kept}
+use Rattle.block.specs.Checking.{Checking}
+use Rattle.block.specs.declared.checking_cursor.CheckingCursor.TheInside.{Inside}
+
+-- the entries before the restarts, and of them the entry at the place, where there is one, and those behind it
+abbrev pub tested : Inside → Checking
+tested c = record {
+  bytes = c.bytes.now;
+  all = entries_behind [] c.area.now;
+  ahead = if c.valid then record { key = c.key.items; value = c.value.now } ∷ entries_behind c.key.items c.rest.now else [];
+}
+
+-- The bytes up to the place pass, and all of them where no entry is there.
+pub record Passes (bytes area rest pending key : List ℕ) (valid : Bool) : Type 0 where
+  pub restarts : List ℕ
+  pub split : IsSplit bytes area restarts
+  pub begins : BeginsWith restarts 0
+  pub some : valid ≡ true → area ≢ []
+  pub walks : valid ≡ true → Kept area restarts rest pending (length key)
+  pub ended : valid ≡ false → IsArea area restarts
+
+abbrev pub IsTesting : Inside → Type 0
+IsTesting c = Passes c.bytes.now c.area.now c.rest.now c.pending.now c.key.items c.valid

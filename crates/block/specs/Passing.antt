@@ -1,0 +1,46 @@
+-- One pass over the pieces of bytes that may be a block's, with the restarts beside it.
+use Rattle.std.specs.Prelude.{◌≡◌, ℕ, ◌+◌, ◌-◌, ◌^◌, ◌<◌, ◌≤◌, List, [], ◌∷◌, ◌++◌, length, Some}
+use Rattle.std.specs.List.{flat_map, AllByRecursion}
+use Rattle.byteorder.specs.Endian.{little_bytes}
+use Rattle.block.specs.Piece.{Piece, piece_bytes, restarts_from, ArePieces, BeginsWithRestart}
+use Rattle.block.specs.Reading.{Field, piece_at}
+use Rattle.block.specs.Kept.{IsArea}
+use Rattle.block.specs.Parts.{BeginsWith}
+
+-- the length of the last key, after a key of so many bytes
+abbrev pub key_len_after : ℕ → List Piece → ℕ
+key_len_after before [] = before
+key_len_after before (p ∷ ps) = key_len_after (p.shared + length p.unshared) ps
+
+-- each of the numbers is below the limit
+abbrev pub Below : ℕ → List ℕ → Type 0
+Below limit xs = AllByRecursion (λ x. x < limit) xs
+
+-- What was read so far are lawful pieces with their restarts.
+pub record Read (area restarts rest pending : List ℕ) (key_len : ℕ) : Type 0 where
+  pub done : List Piece
+  pub pieces : ArePieces 0 done
+  pub whole : area ≡ flat_map piece_bytes done ++ rest
+  pub passed : restarts ≡ flat_map (little_bytes 4) (restarts_from 0 done) ++ pending
+  pub last : key_len ≡ key_len_after 0 done
+  pub fit : Below (2 ^ 32) (restarts_from 0 done)
+  pub first : BeginsWithRestart done
+
+-- What is still to be read, where all of it is of a block.
+pub record Ahead (rest pending : List ℕ) (key_len at : ℕ) : Type 0 where
+  pub more : List Piece
+  pub pieces : ArePieces key_len more
+  pub whole : rest ≡ flat_map piece_bytes more
+  pub to_pass : pending ≡ flat_map (little_bytes 4) (restarts_from at more)
+  pub fit : Below (2 ^ 32) (restarts_from at more)
+
+-- what one pass keeps: what it read is lawful, and what is left is of a block where all of it is
+pub record Kept (area restarts rest pending : List ℕ) (key_len : ℕ) : Type 0 where
+  pub so_far : Read area restarts rest pending key_len
+  pub ahead : IsArea area restarts → Ahead rest pending key_len (length area - length rest)
+
+-- This piece stands next, with these restarts behind it: it shares no more than there is, and a pass goes on behind it.
+pub record IsNextPiece (area rest pending : List ℕ) (key_len : ℕ) (x : Field Piece) (others : List ℕ) : Type 0 where
+  pub read : piece_at rest ≡ Some x
+  pub shared : x.field.shared ≤ key_len
+  pub kept : (restarts : List ℕ) → BeginsWith restarts 0 → Kept area restarts rest pending key_len → Kept area restarts x.rest others (x.field.shared + length x.field.unshared)

@@ -1,0 +1,152 @@
+//! The walk over bytes that may be a block.
+
+ghost use Rattle.std.specs.Prelude.{◌≡◌, ◌<◌, ◌↔◌, [], false, length, drop, slice_get, IsTrue, IfOk, IfErr, OnOk, OnErr, Some, Ok};
+ghost use Rattle.std.specs.Option.{option_map};
+ghost use Rattle.coding.specs.Answers.{FailsOrMemory};
+ghost use Rattle.block.specs.ReadingBlocks.{block_reading};
+
+use crate::cursor::replace_end;
+use crate::sound_block::{are_begun, next_piece, split};
+use coding::{Fault, FaultName};
+use std::alloc::Global;
+use std::marker::Model;
+
+/// A place in bytes that may be a block, seen as the bytes, the entries that stand in them, and those of them that are still
+/// to come.
+///
+/// Each step tests one entry more and what restarts say of it, as `check` does. Where no entry is still to come, the bytes
+/// are a block of these entries; until then a step may find that they are none. So a test of the entries themselves can be
+/// made in the same walk.
+///
+/// It lends the bytes, and owns those of one key.
+#[derive(Drop)]
+pub struct CheckingCursor<'a> {
+    bytes: &'a [u8],
+    area: &'a [u8],
+    pending: &'a [u8],
+    rest: &'a [u8],
+    valid: bool,
+    key: Vec<u8>,
+    value: &'a [u8],
+}
+
+impl<'a> Model for CheckingCursor<'a> {
+    ghost use Rattle.block.specs.Checking.{Checking};
+
+    ghost Value = { Checking };
+
+    ghost use Rattle.block.specs.CheckingWalk.{tested, IsTesting};
+
+    ghost view = { tested };
+
+    ghost invariant = { IsTesting };
+}
+
+impl<'a> CheckingCursor<'a> {
+    /// The end of a block without entries. It takes no memory.
+    pub fn none(alloc: Global) -> CheckingCursor<'a>
+        ensures { result.ahead ≡ [] }
+    {
+        CheckingCursor {
+            bytes: &[0, 0, 0, 0, 1, 0, 0, 0],
+            area: &[],
+            pending: &[],
+            rest: &[],
+            valid: false,
+            key: Vec::new(alloc),
+            value: &[],
+        }
+    }
+
+    /// Goes to all entries of other bytes. The key lies in the same memory where that is enough.
+    ///
+    /// Refused as `check` refuses the bytes, where it sees no block at once, or for want of memory. A refusal leaves it as it
+    /// was.
+    pub fn enter(&mut self, bytes: &'a [u8]) -> Result<(), Fault>
+        ensures bytes { OnOk result (self.new.bytes ≡ bytes.now) }
+        ensures ahead { OnOk result (self.new.ahead ≡ self.new.all) }
+        ensures all { OnOk result (IfOk (block_reading bytes.now) (λ entries. self.new.all ≡ entries)) }
+        ensures err { OnErr result (self.new ≡ self.old) }
+        ensures refused { IfErr result (λ e. FailsOrMemory e (block_reading bytes.now)) }
+    {
+        let Some(parts) = split(bytes) else {
+            return Err(Fault::of(FaultName::Block));
+        };
+        if !are_begun(parts.area, parts.restarts) {
+            return Err(Fault::of(FaultName::Block));
+        }
+        if parts.area.is_empty() {
+            self.bytes = bytes;
+            self.area = parts.area;
+            self.valid = false;
+            return Ok(());
+        }
+        let Some(first) = next_piece(parts.area, parts.area, parts.restarts, 0) else {
+            return Err(Fault::of(FaultName::Block));
+        };
+        replace_end(&mut self.key, 0, first.piece.unshared)?;
+        self.bytes = bytes;
+        self.area = parts.area;
+        self.pending = first.pending;
+        self.rest = first.piece.rest;
+        self.valid = true;
+        self.value = first.piece.value;
+        Ok(())
+    }
+
+    /// Whether an entry is still to come. Where none is, the bytes are a block of all entries.
+    pub fn valid(&self) -> bool
+        ensures some { IsTrue result ↔ (0 < length self.now.ahead) }
+        ensures ended { result ≡ false → block_reading self.now.bytes ≡ Ok self.now.all }
+    {
+        self.valid
+    }
+
+    /// The key of the first entry that is still to come, until the next `advance`.
+    pub fn key(&self) -> &[u8]
+        requires { 0 < length self.now.ahead }
+        ensures { option_map (λ e. e.key) (slice_get self.now.ahead 0) ≡ Some result.now }
+    {
+        &self.key
+    }
+
+    /// The value of the first entry that is still to come, a part of the bytes.
+    pub fn value(&self) -> &'a [u8]
+        requires { 0 < length self.now.ahead }
+        ensures { option_map (λ e. e.value) (slice_get self.now.ahead 0) ≡ Some result.now }
+    {
+        self.value
+    }
+
+    /// Takes the first entry off, and tests the next.
+    ///
+    /// Refused as `check` refuses the bytes, where it finds that they are no block, or for want of memory. A refusal leaves it
+    /// as it was.
+    pub fn advance(&mut self) -> Result<(), Fault>
+        requires { 0 < length self.old.ahead }
+        ensures ok { OnOk result (self.new ≡ record {
+          bytes = self.old.bytes;
+          all = self.old.all;
+          ahead = drop 1 self.old.ahead;
+        }) }
+        ensures err { OnErr result (self.new ≡ self.old) }
+        ensures refused { IfErr result (λ e. FailsOrMemory e (block_reading self.old.bytes)) }
+    {
+        if self.rest.is_empty() {
+            if !self.pending.is_empty() {
+                return Err(Fault::of(FaultName::Block));
+            }
+            self.valid = false;
+            return Ok(());
+        }
+        let key_len = self.key.len();
+        let Some(next) = next_piece(self.area, self.rest, self.pending, key_len) else {
+            return Err(Fault::of(FaultName::Block));
+        };
+        replace_end(&mut self.key, next.piece.shared, next.piece.unshared)?;
+        self.pending = next.pending;
+        self.rest = next.piece.rest;
+        self.value = next.piece.value;
+        Ok(())
+    }
+}

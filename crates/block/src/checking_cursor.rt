@@ -95,6 +95,7 @@ impl<'a> CheckingCursor<'a> {
     }
 
     /// Whether an entry is still to come. Where none is, the bytes are a block of all entries.
+    #[inline]
     pub fn valid(&self) -> bool
         ensures some { IsTrue result ↔ (0 < length self.now.ahead) }
         ensures ended { result ≡ false → block_reading self.now.bytes ≡ Ok self.now.all }
@@ -103,6 +104,7 @@ impl<'a> CheckingCursor<'a> {
     }
 
     /// The key of the first entry that is still to come, until the next `advance`.
+    #[inline]
     pub fn key(&self) -> &[u8]
         requires { 0 < length self.now.ahead }
         ensures { option_map (λ e. e.key) (slice_get self.now.ahead 0) ≡ Some result.now }
@@ -111,6 +113,7 @@ impl<'a> CheckingCursor<'a> {
     }
 
     /// The value of the first entry that is still to come, a part of the bytes.
+    #[inline]
     pub fn value(&self) -> &'a [u8]
         requires { 0 < length self.now.ahead }
         ensures { option_map (λ e. e.value) (slice_get self.now.ahead 0) ≡ Some result.now }
@@ -122,6 +125,7 @@ impl<'a> CheckingCursor<'a> {
     ///
     /// Refused as `check` refuses the bytes, where it finds that they are no block, or for want of memory. A refusal leaves it
     /// as it was.
+    #[inline]
     pub fn advance(&mut self) -> Result<(), Fault>
         requires { 0 < length self.old.ahead }
         ensures ok { OnOk result (self.new ≡ record {

@@ -160,6 +160,7 @@ impl<'a> BlockCursor<'a> {
 }
 
 /// Keeps so many bytes of a key and appends the others. Refused for want of memory alone. A refusal leaves it as it was.
+#[inline]
 pub(crate) fn replace_end(key: &mut Vec<u8>, shared: usize, unshared: &[u8]) -> Result<(), Fault>
     ensures ok { OnOk result (key.new.items ≡ take shared key.old.items ++ unshared.now) }
     ensures err { OnErr result (key.new.items ≡ key.old.items) }

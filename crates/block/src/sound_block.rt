@@ -174,6 +174,7 @@ pub(crate) fn split(bytes: &[u8]) -> Option<Parts<'_>>
 }
 
 /// Whether the number of this offset is the next restart.
+#[inline]
 fn is_next(pending: &[u8], at: usize) -> bool
     ensures { IsTrue result ↔ ((at < 2 ^ 32) × BeginsWith pending.now at) }
 {

@@ -128,6 +128,19 @@ const FIRST: u8 = 51;
 
 const LAST: u8 = 90;
 
+/// The numbers of their version.
+const MANY_NUMBERS: &[u8] = b"\x02\x03\x03\x64\x04\x04";
+
+/// A log of three records.
+fn three_records<'a>(
+    alloc: Global,
+    first: &'a [u8],
+    second: &'a [u8],
+    third: &'a [u8],
+) -> Result<Vec<u8>, Fault> {
+    log_of(alloc, &[first, second, third])
+}
+
 /// The version of many files at level 1, whose numbers fall where their keys rise.
 fn many_files(alloc: Global) -> Result<Version, Fault> {
     let mut record = Vec::new(alloc);
@@ -137,8 +150,7 @@ fn many_files(alloc: Global) -> Result<Version, Fault> {
         record.extend_from_slice(&field)?;
         record.extend_from_slice(&field[4..])?;
     }
-    let numbers = b"\x02\x03\x03\x64\x04\x04".as_slice();
-    let manifest = log_of(alloc, &[BYTEWISE, numbers, record.as_slice()])?;
+    let manifest = three_records(alloc, BYTEWISE, MANY_NUMBERS, record.as_slice())?;
     let files = [("CURRENT", FIVE_CURRENT), (FIVE, manifest.as_slice())];
     let (_order, version) = open(alloc, &mut Shelf::new(alloc, &files))?;
     Ok(version)

@@ -8,9 +8,15 @@ use keep::{
 use pick::Inputs;
 use split::{Range, Split};
 use std::alloc::Global;
+use std::fmt::Debug;
 use std::process::Abort;
 use std::test::*;
 use table::{Cursor, Options, TableBuilder, TableCursor, check};
+
+/// Tests that what is found is what is wanted. It stands here once, since what an assertion prints is dear to prove.
+fn same<T: Copy + Debug + PartialEq>(rt: &impl Abort, found: T, wanted: T) {
+    assert_eq!(rt; found, wanted);
+}
 
 /// An entry of a user key of one byte, at a sequence.
 #[derive(Clone, Copy)]
@@ -49,28 +55,55 @@ fn key_of(alloc: Global, row: Row) -> Result<KeyBuf, Fault> {
     KeyBuf::new(alloc, &[row.user], u64::from(row.sequence), row.kind)
 }
 
-/// The table of these entries, each with a value of one byte.
-fn written(rt: &(impl Abort + AllocGlobal), rows: &[Row]) -> Result<Vec<u8>, Fail> {
+/// A builder of a table.
+fn builder(rt: &(impl Abort + AllocGlobal)) -> TableBuilder<Bytewise> {
     let options = Options::default();
     assert!(rt; options.are_in_limits());
-    let mut table = TableBuilder::<Bytewise>::new(rt.alloc(), options);
+    TableBuilder::new(rt.alloc(), options)
+}
+
+/// Adds an entry to a table, above its last one.
+fn add(
+    rt: &impl Abort,
+    table: &mut TableBuilder<Bytewise>,
+    key: &KeyBuf,
+    value: &[u8],
+) -> Result<(), Fault> {
+    assert!(rt; table.is_above_last(&key.as_key()) && value.len() < 1 << 24);
+    table.add(key.as_key(), value)
+}
+
+/// The table of these entries, each with a value of one byte.
+fn written(rt: &(impl Abort + AllocGlobal), rows: &[Row]) -> Result<Vec<u8>, Fault> {
+    let mut table = builder(rt);
     for row in rows {
-        let key = key_of(rt.alloc(), *row)?;
-        assert!(rt; table.is_above_last(&key.as_key()));
-        table.add(key.as_key(), b"x")?;
+        add(rt, &mut table, &key_of(rt.alloc(), *row)?, b"x")?;
     }
-    Ok(table.finish()?)
+    table.finish()
+}
+
+/// A table for each of these entries.
+fn written_each(rt: &(impl Abort + AllocGlobal), rows: &[Row]) -> Result<Vec<Vec<u8>>, Fault> {
+    let mut tables = Vec::new(rt.alloc());
+    for row in rows {
+        tables.push(written(rt, &[*row])?)?;
+    }
+    Ok(tables)
+}
+
+/// The cursor over a table.
+fn entries_of(alloc: Global, bytes: &[u8]) -> Result<TableCursor<'_, Bytewise>, Fault> {
+    TableCursor::new(alloc, &check::<Bytewise>(alloc, bytes)?)
 }
 
 /// The cursors over these tables.
 fn cursors<'a>(
     alloc: Global,
     tables: &'a [Vec<u8>],
-) -> Result<Vec<TableCursor<'a, Bytewise>>, Fail> {
+) -> Result<Vec<TableCursor<'a, Bytewise>>, Fault> {
     let mut cursors = Vec::new(alloc);
     for bytes in tables {
-        let table = check::<Bytewise>(alloc, bytes)?;
-        cursors.push(TableCursor::new(alloc, &table)?)?;
+        cursors.push(entries_of(alloc, bytes)?)?;
     }
     Ok(cursors)
 }
@@ -85,13 +118,9 @@ fn file(alloc: Global, smallest: u8, largest: u8) -> Result<FileMeta, Fault> {
     })
 }
 
-/// Inputs of which only the files below are told: a grandparent of one user key, and a deeper file from one to another.
-fn inputs(
-    alloc: Global,
-    grandparent: Option<u8>,
-    deeper: Option<(u8, u8)>,
-) -> Result<Inputs, Fail> {
-    let mut inputs = Inputs {
+/// Inputs of no file.
+fn no_inputs(alloc: Global) -> Result<Inputs, Fault> {
+    Ok(Inputs {
         level: 1,
         files: Vec::new(alloc),
         grandparents: Vec::new(alloc),
@@ -100,10 +129,21 @@ fn inputs(
             level: 1,
             key: key_of(alloc, put(b'z', 1))?,
         },
-    };
-    if let Some(user) = grandparent {
-        inputs.grandparents.push(file(alloc, user, user)?)?;
-    }
+    })
+}
+
+/// Inputs of which only a grandparent of this user key is told.
+fn over(alloc: Global, grandparent: u8) -> Result<Inputs, Fault> {
+    let mut inputs = no_inputs(alloc)?;
+    inputs
+        .grandparents
+        .push(file(alloc, grandparent, grandparent)?)?;
+    Ok(inputs)
+}
+
+/// Inputs of which only a deeper file is told, from one user key to another, where there is one.
+fn above(alloc: Global, deeper: Option<(u8, u8)>) -> Result<Inputs, Fault> {
+    let mut inputs = no_inputs(alloc)?;
     if let Some((smallest, largest)) = deeper {
         inputs.deeper.push(file(alloc, smallest, largest)?)?;
     }
@@ -135,67 +175,107 @@ fn sequences(alloc: Global, run: &RangeRun<'_>) -> Result<Vec<u64>, Fault> {
     Ok(kept)
 }
 
-/// Which sequences stay of one user key, whose entries lie in a table each.
+/// The sequences that are kept of a range.
+fn kept_in(
+    rt: &(impl Abort + AllocGlobal),
+    cursors: &mut Vec<TableCursor<'_, Bytewise>>,
+    range: Range<'_>,
+    snapshots: Snapshots<'_>,
+    last_sequence: u64,
+    inputs: &Inputs,
+) -> Result<Vec<u64>, Fault> {
+    let run = merged(rt, cursors, range, snapshots, last_sequence, inputs)?;
+    sequences(rt.alloc(), &run)
+}
+
+/// The sequences that are kept of tables.
 fn kept_of(
+    rt: &(impl Abort + AllocGlobal),
+    tables: &[Vec<u8>],
+    snapshots: Snapshots<'_>,
+    last_sequence: u64,
+    inputs: &Inputs,
+) -> Result<Vec<u64>, Fault> {
+    let mut cursors = cursors(rt.alloc(), tables)?;
+    kept_in(rt, &mut cursors, ALL, snapshots, last_sequence, inputs)
+}
+
+/// Tests which sequences stay of the entries of one user key, which lie in a table each.
+fn keeps(
     rt: &(impl Abort + AllocGlobal),
     rows: &[Row],
     snapshots: Snapshots<'_>,
     last_sequence: u64,
     deeper: Option<(u8, u8)>,
-) -> Result<Vec<u64>, Fail> {
-    let mut tables = Vec::new(rt.alloc());
-    for row in rows {
-        tables.push(written(rt, &[*row])?)?;
-    }
-    let mut cursors = cursors(rt.alloc(), &tables)?;
-    let inputs = inputs(rt.alloc(), None, deeper)?;
-    let run = merged(rt, &mut cursors, ALL, snapshots, last_sequence, &inputs)?;
-    Ok(sequences(rt.alloc(), &run)?)
+    wanted: &[u64],
+) -> Result<(), Fault> {
+    let tables = written_each(rt, rows)?;
+    let inputs = above(rt.alloc(), deeper)?;
+    let kept = kept_of(rt, &tables, snapshots, last_sequence, &inputs)?;
+    same(rt, kept.as_slice(), wanted);
+    Ok(())
 }
 
+/// Values of one user key at these sequences.
+fn values_at(alloc: Global, sequences: &[u8]) -> Result<Vec<Row>, Fault> {
+    let mut rows = Vec::new(alloc);
+    for sequence in sequences {
+        rows.push(put(b'u', *sequence))?;
+    }
+    Ok(rows)
+}
+
+/// Tests which sequences stay of values of one user key.
+fn keeps_values(
+    rt: &(impl Abort + AllocGlobal),
+    sequences: &[u8],
+    snapshots: Snapshots<'_>,
+    kept: &[u64],
+) -> Result<(), Fault> {
+    let rows = values_at(rt.alloc(), sequences)?;
+    keeps(rt, &rows, snapshots, 9, None, kept)
+}
+
+/// Sequences of one user key, which of them can be read, and which of them stay.
+const KEPT: [(&[u8], Snapshots<'static>, &[u64]); 8] = [
+    (&[9, 5, 3], Snapshots::From(5), &[9, 5]),
+    (&[9, 5, 3], Snapshots::From(9), &[9]),
+    (&[9, 7, 5, 3], Snapshots::Listed(&[]), &[9]),
+    (&[9, 7, 5, 3], Snapshots::Listed(&[5]), &[9, 5]),
+    (&[9, 7, 5, 3], Snapshots::Listed(&[6]), &[9, 5]),
+    (&[9, 7, 5, 3], Snapshots::Listed(&[7]), &[9, 7]),
+    (&[9, 7, 5, 3], Snapshots::Listed(&[3, 6]), &[9, 5, 3]),
+    (&[12, 9], Snapshots::Listed(&[]), &[12, 9]),
+];
+
 #[test]
-fn sequences_of_one_user_key(rt: HostRuntime) -> Result<(), Fail> {
-    let three = [put(b'u', 9), put(b'u', 5), put(b'u', 3)];
-    let four = [put(b'u', 9), put(b'u', 7), put(b'u', 5), put(b'u', 3)];
-    let above = [put(b'u', 12), put(b'u', 9)];
-    let rows = [
-        (three.as_slice(), Snapshots::From(5), [9, 5].as_slice()),
-        (three.as_slice(), Snapshots::From(9), [9].as_slice()),
-        (four.as_slice(), Snapshots::Listed(&[]), [9].as_slice()),
-        (four.as_slice(), Snapshots::Listed(&[5]), [9, 5].as_slice()),
-        (four.as_slice(), Snapshots::Listed(&[6]), [9, 5].as_slice()),
-        (four.as_slice(), Snapshots::Listed(&[7]), [9, 7].as_slice()),
-        (
-            four.as_slice(),
-            Snapshots::Listed(&[3, 6]),
-            [9, 5, 3].as_slice(),
-        ),
-        (above.as_slice(), Snapshots::Listed(&[]), [12, 9].as_slice()),
-    ];
-    for (rows, snapshots, kept) in rows {
-        assert_eq!(rt; kept_of(&rt, rows, snapshots, 9, None)?.as_slice(), kept);
+fn sequences_of_one_user_key(rt: HostRuntime) -> Result<(), Fault> {
+    for (sequences, snapshots, kept) in &KEPT {
+        keeps_values(&rt, sequences, *snapshots, kept)?;
     }
     Ok(())
 }
 
+/// What can be read of a deletion at 4 and a value at 2, a deeper file, and which of both stay.
+const DELETED: [(Snapshots<'static>, Option<(u8, u8)>, &[u64]); 5] = [
+    (Snapshots::Listed(&[2]), None, &[4, 2]),
+    (Snapshots::Listed(&[]), None, &[]),
+    (Snapshots::From(4), None, &[]),
+    (Snapshots::From(4), Some((b't', b'v')), &[4]),
+    (Snapshots::From(4), Some((b'v', b'w')), &[]),
+];
+
 #[test]
-fn a_deletion_and_what_it_deletes(rt: HostRuntime) -> Result<(), Fail> {
+fn a_deletion_and_what_it_deletes(rt: HostRuntime) -> Result<(), Fault> {
     let rows = [del(b'u', 4), put(b'u', 2)];
-    let cases = [
-        (Snapshots::Listed(&[2]), None, [4, 2].as_slice()),
-        (Snapshots::Listed(&[]), None, [].as_slice()),
-        (Snapshots::From(4), None, [].as_slice()),
-        (Snapshots::From(4), Some((b't', b'v')), [4].as_slice()),
-        (Snapshots::From(4), Some((b'v', b'w')), [].as_slice()),
-    ];
-    for (snapshots, deeper, kept) in cases {
-        assert_eq!(rt; kept_of(&rt, &rows, snapshots, 4, deeper)?.as_slice(), kept);
+    for (snapshots, deeper, kept) in &DELETED {
+        keeps(&rt, &rows, *snapshots, 4, *deeper, kept)?;
     }
     Ok(())
 }
 
 /// Two tables with a@1, u@9, u@5 and z@2, all put.
-fn two(rt: &(impl Abort + AllocGlobal)) -> Result<Vec<Vec<u8>>, Fail> {
+fn two(rt: &(impl Abort + AllocGlobal)) -> Result<Vec<Vec<u8>>, Fault> {
     let mut tables = Vec::new(rt.alloc());
     tables.push(written(rt, &[put(b'a', 1), put(b'u', 5)])?)?;
     tables.push(written(rt, &[put(b'u', 9), put(b'z', 2)])?)?;
@@ -203,149 +283,231 @@ fn two(rt: &(impl Abort + AllocGlobal)) -> Result<Vec<Vec<u8>>, Fail> {
 }
 
 /// The split at these user keys of one byte.
-fn split_at(alloc: Global, users: &[u8]) -> Result<Split<Bytewise>, Fail> {
+fn split_at(alloc: Global, users: &[u8]) -> Result<Split<Bytewise>, Fault> {
     let mut boundaries = Vec::new(alloc);
     for user in users {
         boundaries.push(Vec::from_slice(alloc, &[*user])?)?;
     }
-    Ok(Split::<Bytewise>::from_keys(boundaries)?)
+    Split::from_keys(boundaries)
 }
 
-/// Asserts that a run keeps these sequences, with this mark alone at the first of them.
-fn is_run(
-    rt: &(impl Abort + AllocGlobal),
-    run: &RangeRun<'_>,
-    kept: &[u64],
+/// The number of a range, the sequences that it keeps, and how many grandparents lie below its first entry.
+#[derive(Clone, Copy)]
+struct Part {
+    number: u64,
+    kept: &'static [u64],
     below: usize,
-) -> Result<(), Fail> {
-    assert_eq!(rt; sequences(rt.alloc(), run)?.as_slice(), kept);
-    assert_eq!(rt; run.marks(), [Mark { below, kept: 0 }].as_slice());
-    assert!(rt; run.len() > 0);
-    assert_eq!(rt; run.value(0), b"x".as_slice());
-    Ok(())
 }
 
-#[test]
-fn three_ranges_of_the_same_cursors(rt: HostRuntime) -> Result<(), Fail> {
-    let tables = two(&rt)?;
-    let split = split_at(rt.alloc(), b"uz")?;
-    let inputs = inputs(rt.alloc(), Some(b'm'), None)?;
-    let mut cursors = cursors(rt.alloc(), &tables)?;
-    let rows = [
-        (0, [1].as_slice(), 0),
-        (1, [9, 5].as_slice(), 1),
-        (2, [2].as_slice(), 1),
-    ];
-    for (number, kept, below) in rows {
-        assert!(rt; number < split.len());
-        let range = split.range(number);
-        let run = merged(&rt, &mut cursors, range, Snapshots::From(1), 9, &inputs)?;
-        is_run(&rt, &run, kept, below)?;
-    }
-    Ok(())
-}
+const PARTS: [Part; 3] = [
+    Part {
+        number: 0,
+        kept: &[1],
+        below: 0,
+    },
+    Part {
+        number: 1,
+        kept: &[9, 5],
+        below: 1,
+    },
+    Part {
+        number: 2,
+        kept: &[2],
+        below: 1,
+    },
+];
 
-#[test]
-fn cursors_that_are_sought_before(rt: HostRuntime) -> Result<(), Fail> {
-    let tables = two(&rt)?;
-    let mut cursors = cursors(rt.alloc(), &tables)?;
-    let range = Range {
-        lower: Some(b"u"),
-        upper: Some(b"z"),
+/// Tests that a run keeps what is wanted, with one mark alone at the first entry.
+fn is_run(rt: &(impl Abort + AllocGlobal), run: &RangeRun<'_>, part: Part) -> Result<(), Fault> {
+    let kept = sequences(rt.alloc(), run)?;
+    same(rt, kept.as_slice(), part.kept);
+    let mark = Mark {
+        below: part.below,
+        kept: 0,
     };
-    for cursor in cursors.iter_mut() {
-        seek_range::<Bytewise, _>(rt.alloc(), cursor, range)?;
-        assert!(rt; cursor.valid());
-        assert_eq!(rt; cursor.key().user(), b"u".as_slice());
+    same(rt, run.marks(), [mark].as_slice());
+    assert!(rt; run.len() > 0);
+    same(rt, run.value(0), b"x".as_slice());
+    Ok(())
+}
+
+/// Tests what a range of a split keeps.
+fn is_part(
+    rt: &(impl Abort + AllocGlobal),
+    cursors: &mut Vec<TableCursor<'_, Bytewise>>,
+    split: &Split<Bytewise>,
+    inputs: &Inputs,
+    part: Part,
+) -> Result<(), Fault> {
+    assert!(rt; part.number < split.len());
+    let range = split.range(part.number);
+    let run = merged(rt, cursors, range, Snapshots::From(1), 9, inputs)?;
+    is_run(rt, &run, part)
+}
+
+/// Tests what each range keeps.
+fn are_parts(
+    rt: &(impl Abort + AllocGlobal),
+    cursors: &mut Vec<TableCursor<'_, Bytewise>>,
+    inputs: &Inputs,
+) -> Result<(), Fault> {
+    let split = split_at(rt.alloc(), b"uz")?;
+    for part in &PARTS {
+        is_part(rt, cursors, &split, inputs, *part)?;
     }
-    let inputs = inputs(rt.alloc(), None, None)?;
-    let run = merged(&rt, &mut cursors, range, Snapshots::From(9), 9, &inputs)?;
-    assert_eq!(rt; sequences(rt.alloc(), &run)?.as_slice(), [9].as_slice());
     Ok(())
 }
 
 #[test]
-fn one_user_key_and_sequence_twice(rt: HostRuntime) -> Result<(), Fail> {
-    let mut tables = Vec::new(rt.alloc());
-    tables.push(written(&rt, &[put(b'u', 5)])?)?;
-    tables.push(written(&rt, &[del(b'u', 5)])?)?;
+fn three_ranges_of_the_same_cursors(rt: HostRuntime) -> Result<(), Fault> {
+    let tables = two(&rt)?;
     let mut cursors = cursors(rt.alloc(), &tables)?;
-    let inputs = inputs(rt.alloc(), None, None)?;
-    match merged(&rt, &mut cursors, ALL, Snapshots::From(9), 9, &inputs) {
-        Ok(_) => assert!(rt; false),
-        Err(fault) => assert_eq!(rt; fault, Fault::of(FaultName::Duplicate)),
+    let inputs = over(rt.alloc(), b'm')?;
+    are_parts(&rt, &mut cursors, &inputs)
+}
+
+/// The range from `u` to below `z`.
+const FROM_U: Range<'static> = Range {
+    lower: Some(b"u"),
+    upper: Some(b"z"),
+};
+
+/// Seeks a range, whose first user key is its lower bound.
+fn seek(
+    rt: &(impl Abort + AllocGlobal),
+    cursor: &mut TableCursor<'_, Bytewise>,
+) -> Result<(), Fault> {
+    seek_range::<Bytewise, _>(rt.alloc(), cursor, FROM_U)?;
+    assert!(rt; cursor.valid());
+    same(rt, cursor.key().user(), b"u".as_slice());
+    Ok(())
+}
+
+/// Seeks a range by each cursor.
+fn seek_all(
+    rt: &(impl Abort + AllocGlobal),
+    cursors: &mut Vec<TableCursor<'_, Bytewise>>,
+) -> Result<(), Fault> {
+    for cursor in cursors.iter_mut() {
+        seek(rt, cursor)?;
     }
+    Ok(())
+}
+
+#[test]
+fn cursors_that_are_sought_before(rt: HostRuntime) -> Result<(), Fault> {
+    let tables = two(&rt)?;
+    let mut cursors = cursors(rt.alloc(), &tables)?;
+    seek_all(&rt, &mut cursors)?;
+    let inputs = no_inputs(rt.alloc())?;
+    let kept = kept_in(&rt, &mut cursors, FROM_U, Snapshots::From(9), 9, &inputs)?;
+    same(&rt, kept.as_slice(), [9].as_slice());
+    Ok(())
+}
+
+/// Why tables are not merged.
+fn refused(
+    rt: &(impl Abort + AllocGlobal),
+    tables: &[Vec<u8>],
+    inputs: &Inputs,
+) -> Result<Option<Fault>, Fault> {
+    let mut cursors = cursors(rt.alloc(), tables)?;
+    Ok(merged(rt, &mut cursors, ALL, Snapshots::From(9), 9, inputs).err())
+}
+
+#[test]
+fn one_user_key_and_sequence_twice(rt: HostRuntime) -> Result<(), Fault> {
+    let tables = written_each(&rt, &[put(b'u', 5), del(b'u', 5)])?;
+    let inputs = no_inputs(rt.alloc())?;
+    let fault = refused(&rt, &tables, &inputs)?;
+    same(&rt, fault, Some(Fault::of(FaultName::Duplicate)));
     Ok(())
 }
 
 /// A table of so many entries. Their user keys are the numbers from 0 on in two bytes, the higher one first, and so are the values.
-fn numbered(rt: &(impl Abort + AllocGlobal), count: u16) -> Result<Vec<u8>, Fail> {
-    let options = Options::default();
-    assert!(rt; options.are_in_limits());
-    let mut table = TableBuilder::<Bytewise>::new(rt.alloc(), options);
+fn numbered(rt: &(impl Abort + AllocGlobal), count: u16) -> Result<Vec<u8>, Fault> {
+    let mut table = builder(rt);
     for number in 0..count {
         let user = number.to_be_bytes();
         let key = KeyBuf::new(rt.alloc(), &user, 1, Kind::Put)?;
-        assert!(rt; table.is_above_last(&key.as_key()));
-        table.add(key.as_key(), &user)?;
+        add(rt, &mut table, &key, &user)?;
     }
-    Ok(table.finish()?)
+    table.finish()
+}
+
+/// The run of a table.
+fn run_of<'a>(rt: &(impl Abort + AllocGlobal), bytes: &'a [u8]) -> Result<RangeRun<'a>, Fault> {
+    let inputs = no_inputs(rt.alloc())?;
+    let mut cursors = Vec::new(rt.alloc());
+    cursors.push(entries_of(rt.alloc(), bytes)?)?;
+    merged(rt, &mut cursors, ALL, Snapshots::From(9), 9, &inputs)
+}
+
+/// Tests the entry of a number.
+fn is_numbered(rt: &impl Abort, run: &RangeRun<'_>, number: u16) {
+    let place = usize::from(number);
+    let user = number.to_be_bytes();
+    assert!(rt; place < run.len());
+    same(rt, run.key(place).user(), user.as_slice());
+    same(rt, run.value(place), user.as_slice());
 }
 
 #[test]
-fn entries_of_several_pieces(rt: HostRuntime) -> Result<(), Fail> {
+fn entries_of_several_pieces(rt: HostRuntime) -> Result<(), Fault> {
     let count = 9_000;
-    let mut tables = Vec::new(rt.alloc());
-    tables.push(numbered(&rt, count)?)?;
-    let mut cursors = cursors(rt.alloc(), &tables)?;
-    let inputs = inputs(rt.alloc(), None, None)?;
-    let run = merged(&rt, &mut cursors, ALL, Snapshots::From(9), 9, &inputs)?;
-    assert_eq!(rt; run.len(), usize::from(count));
+    let bytes = numbered(&rt, count)?;
+    let run = run_of(&rt, &bytes)?;
+    same(&rt, run.len(), usize::from(count));
     for number in 0..count {
-        let place = usize::from(number);
-        let user = number.to_be_bytes();
-        assert!(rt; place < run.len());
-        assert_eq!(rt; run.key(place).user(), user.as_slice());
-        assert_eq!(rt; run.value(place), user.as_slice());
+        is_numbered(&rt, &run, number);
     }
     Ok(())
 }
 
 /// The sequences that are kept of all entries that remain, where those from 1 on stay readable.
-fn kept_of_all<'a>(
+fn kept_of_all(
     rt: &(impl Abort + AllocGlobal),
-    cursors: &mut Vec<TableCursor<'a, Bytewise>>,
+    cursors: &mut Vec<TableCursor<'_, Bytewise>>,
     inputs: &Inputs,
 ) -> Result<Vec<u64>, Fault> {
-    let run = merged(rt, cursors, ALL, Snapshots::From(1), 9, inputs)?;
-    sequences(rt.alloc(), &run)
+    kept_in(rt, cursors, ALL, Snapshots::From(1), 9, inputs)
 }
 
-// With `rt try --test --fail-alloc N` the Nth growth is refused; without it, none is.
-#[test]
-fn a_refused_growth_is_memory_and_leaves_what_is_not_merged(rt: HostRuntime) -> Result<(), Fail> {
-    let tables = two(&rt)?;
-    let mut cursors = cursors(rt.alloc(), &tables)?;
-    let inputs = inputs(rt.alloc(), Some(b'm'), None)?;
-    let all = [1, 9, 5, 2];
-    match kept_of_all(&rt, &mut cursors, &inputs) {
-        Ok(kept) => assert_eq!(rt; kept.as_slice(), all.as_slice()),
+/// The sequences of the two tables.
+const TWO: [u64; 4] = [1, 9, 5, 2];
+
+/// Tests that all sequences are kept, or else those that remain at a second try where a growth was refused at the first.
+fn keeps_all(
+    rt: &(impl Abort + AllocGlobal),
+    cursors: &mut Vec<TableCursor<'_, Bytewise>>,
+    inputs: &Inputs,
+) -> Result<(), Fault> {
+    match kept_of_all(rt, cursors, inputs) {
+        Ok(kept) => same(rt, kept.as_slice(), TWO.as_slice()),
         Err(fault) => {
-            assert_eq!(rt; fault, Fault::of(FaultName::Memory));
-            let left = kept_of_all(&rt, &mut cursors, &inputs)?;
-            assert!(rt; all.ends_with(&left));
+            same(rt, fault, Fault::of(FaultName::Memory));
+            let left = kept_of_all(rt, cursors, inputs)?;
+            assert!(rt; TWO.ends_with(&left));
         }
     }
     Ok(())
 }
 
+// With `rt try --test --fail-alloc N` the Nth growth is refused; without it, none is.
 #[test]
-fn laws_are_called(rt: HostRuntime) -> Result<(), Fail> {
+fn a_refused_growth_is_memory_and_leaves_what_is_not_merged(rt: HostRuntime) -> Result<(), Fault> {
+    let tables = two(&rt)?;
+    let mut cursors = cursors(rt.alloc(), &tables)?;
+    let inputs = over(rt.alloc(), b'm')?;
+    keeps_all(&rt, &mut cursors, &inputs)
+}
+
+#[test]
+fn laws_are_called(rt: HostRuntime) {
     begun_law::<Bytewise>();
     distinct_law::<Bytewise>();
     holds_law::<Bytewise>();
     one_key::<Bytewise>();
     ranges_compose::<Bytewise>();
     assert!(rt; is_rising(&[1, 2]) && !is_rising(&[2, 2]));
-    Ok(())
 }

@@ -2,4 +2,8 @@
 #![tactic(auto)]
 
 #[cfg(test)]
-mod tests;
+mod files;
+#[cfg(test)]
+mod gets;
+#[cfg(test)]
+mod versions;

@@ -1,24 +1,54 @@
+use std::alloc::Global;
+use std::process::Abort;
 use std::test::Fail;
 use usage::{key_of, text_of};
 
+/// Tests that a text is this one.
+fn is_text(rt: &impl Abort, found: &str, wanted: &str) {
+    assert_eq!(rt; found, wanted);
+}
+
+/// Bytes, and their texts.
+const BYTES: &[(&[u8], &str)] = &[(&[], "-"), (&[0, 0xab, 0xff], "00abff")];
+
 #[test]
 fn bytes_as_text(rt: HostRuntime) -> Result<(), Fail> {
-    let alloc = rt.alloc();
-    assert_eq!(rt; text_of(alloc, &[])?.as_str(), "-");
-    assert_eq!(rt; text_of(alloc, &[0, 0xab, 0xff])?.as_str(), "00abff");
+    for (bytes, text) in BYTES {
+        is_text(&rt, &text_of(rt.alloc(), bytes)?, text);
+    }
     Ok(())
+}
+
+/// Texts, and the bytes that each stands for; None where it is no key's.
+const TEXTS: &[(&str, Option<&[u8]>)] = &[
+    ("00aBFf", Some(&[0, 0xab, 0xff])),
+    ("-", Some(&[])),
+    ("", None),
+    ("6", None),
+    ("6g", None),
+    ("--", None),
+    ("-62", None),
+    ("62 ", None),
+    ("0x62", None),
+];
+
+/// Whether a text stands for these bytes.
+fn stands_for(alloc: Global, text: &str, bytes: Option<&[u8]>) -> Result<bool, Fail> {
+    Ok(match key_of(alloc, text)? {
+        Some(key) => bytes == Some(key.as_slice()),
+        None => bytes.is_none(),
+    })
+}
+
+/// Tests that a text stood for what was wanted.
+fn stood(rt: &impl Abort, has: bool, text: &str) {
+    assert!(rt; has, "{text}");
 }
 
 #[test]
 fn text_as_bytes(rt: HostRuntime) -> Result<(), Fail> {
-    let alloc = rt.alloc();
-    let key = key_of(alloc, "00aBFf")?.ok_or("digits of both cases")?;
-    assert_eq!(rt; key.as_slice(), [0, 0xab, 0xff].as_slice());
-    let key = key_of(alloc, "-")?.ok_or("no bytes")?;
-    assert!(rt; key.is_empty());
-    for text in ["", "6", "6g", "--", "-62", "62 ", "0x62"] {
-        let found = key_of(alloc, text)?;
-        assert!(rt; found.is_none(), "{text}");
+    for (text, bytes) in TEXTS {
+        stood(&rt, stands_for(rt.alloc(), text, *bytes)?, text);
     }
     Ok(())
 }

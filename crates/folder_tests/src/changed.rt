@@ -2,17 +2,13 @@
 
 use crate::manifests::*;
 use coding::{Fault, FaultName};
-use folder::*;
 use std::alloc::Global;
+use std::process::Abort;
 use std::test::Fail;
 
-/// How a folder is refused whose CURRENT holds this text and names manifest 5, which holds these bytes.
+/// How a folder is refused whose CURRENT holds this text, and whose manifest 5 holds these bytes.
 fn refused(alloc: Global, text: &[u8], bytes: &[u8]) -> Option<FaultName> {
-    let files = [("CURRENT", text), (FIVE, bytes)];
-    match open(alloc, &mut Shelf::new(alloc, &files)) {
-        Ok(_) => None,
-        Err(fault) => Some(fault.name),
-    }
+    refusal(opened_as(alloc, text, bytes))
 }
 
 /// The records of the manifest.
@@ -34,7 +30,7 @@ fn beginnings_of_a_manifest(rt: HostRuntime) -> Result<(), Fail> {
     let manifest = log_of(rt.alloc(), &RECORDS)?;
     for end in 0..manifest.len() + 1 {
         let answer = refused(rt.alloc(), FIVE_CURRENT, &manifest[..end]);
-        assert_eq!(rt; answer, answer_at(end), "{end}");
+        is_refusal(&rt, answer, answer_at(end), end);
     }
     Ok(())
 }
@@ -44,7 +40,7 @@ fn beginnings_of_current(rt: HostRuntime) -> Result<(), Fail> {
     let manifest = log_of(rt.alloc(), &RECORDS)?;
     for end in 0..FIVE_CURRENT.len() {
         let answer = refused(rt.alloc(), &FIVE_CURRENT[..end], &manifest);
-        assert_eq!(rt; answer, Some(FaultName::Apply), "{end}");
+        is_refusal(&rt, answer, Some(FaultName::Apply), end);
     }
     Ok(())
 }
@@ -113,12 +109,17 @@ fn wrong_change(
     Ok(None)
 }
 
+/// Tests that no byte is answered otherwise at a place of a record.
+fn is_none(rt: &impl Abort, wrong: Option<u8>, record: usize, place: usize) {
+    assert_eq!(rt; wrong, None, "{record} {place}");
+}
+
 #[test]
 fn a_byte_of_a_record_is_changed(rt: HostRuntime) -> Result<(), Fail> {
     for (record, places) in ANSWERS.iter().enumerate() {
         for (place, answers) in places.iter().enumerate() {
             let wrong = wrong_change(rt.alloc(), record, place, *answers)?;
-            assert_eq!(rt; wrong, None, "{record} {place}");
+            is_none(&rt, wrong, record, place);
         }
     }
     Ok(())
@@ -158,7 +159,7 @@ fn a_byte_of_a_manifest_is_changed(rt: HostRuntime) -> Result<(), Fail> {
     let manifest = log_of(rt.alloc(), &RECORDS)?;
     for place in 0..manifest.len() {
         let wrong = wrong_byte(rt.alloc(), &manifest, place)?;
-        assert_eq!(rt; wrong, None, "{place}");
+        is_none(&rt, wrong, 0, place);
     }
     Ok(())
 }

@@ -5,8 +5,9 @@ use crate::shelf::fails;
 use coding::{Fault, FaultName};
 use edit::Version;
 use folder::*;
-use ikey::Bytewise;
+use ikey::{Bytewise, Comparator};
 use std::alloc::Global;
+use std::process::Abort;
 use std::test::Fail;
 
 /// New files of one key each: number 5 at level 1, and at level 0 number 3 of `b` and number 8 of `a`.
@@ -15,20 +16,20 @@ const THREE_FILES: &[u8] =
 
 /// The version of these files.
 pub(crate) fn three_files(alloc: Global) -> Result<Version, Fault> {
-    let manifest = log_of(alloc, &[BYTEWISE, NUMBERS, THREE_FILES])?;
-    let files = [("CURRENT", FIVE_CURRENT), (FIVE, manifest.as_slice())];
-    let (_order, version) = open(alloc, &mut Shelf::new(alloc, &files))?;
-    Ok(version)
+    version_of(alloc, &[BYTEWISE, NUMBERS, THREE_FILES])
 }
 
 /// Their tables: that of number 3 has its older name, and that of number 5 both.
 pub(crate) const TABLES: [(&str, &[u8]); 5] = [
-    ("000005.sst", b"five, older"),
-    ("000003.sst", b"three"),
     ("000008.ldb", b"eight"),
+    ("000005.sst", b"five, older"),
     ("000005.ldb", b"five"),
     ("000007.ldb", b"of no file"),
+    ("000003.sst", b"three"),
 ];
+
+/// The tables that are loaded of them, in version order.
+const LOADED: [(u64, &[u8]); 3] = [(8, b"eight"), (3, b"three"), (5, b"five")];
 
 /// How the tables of a version are refused.
 pub(crate) fn refused<F: Folder>(
@@ -43,81 +44,95 @@ pub(crate) fn refused<F: Folder>(
 }
 
 /// Whether tables are these.
-pub(crate) fn are(tables: &[(u64, Vec<u8>)], wanted: &[(u64, &[u8])]) -> bool {
+fn are(tables: &[(u64, Vec<u8>)], wanted: &[(u64, &[u8])]) -> bool {
+    for (table, one) in tables.iter().zip(wanted) {
+        if table.0 != one.0 || table.1.as_slice() != one.1 {
+            return false;
+        }
+    }
     tables.len() == wanted.len()
-        && tables.iter().zip(wanted).all(|(table, one)| table.0 == one.0
-            && table.1.as_slice() == one.1)
+}
+
+/// Whether these tables are loaded from a folder.
+pub(crate) fn loads<C: Comparator, F: Folder>(
+    alloc: Global,
+    folder: &mut F,
+    version: &Version,
+    wanted: &[(u64, &[u8])],
+) -> Result<bool, Fault> {
+    Ok(are(&load::<C, F>(alloc, folder, version)?, wanted))
 }
 
 #[test]
 fn tables_are_loaded(rt: HostRuntime) -> Result<(), Fail> {
-    let tables = round(rt.alloc())?;
-    let want = [
-        (8, b"eight".as_slice()),
-        (3, b"three".as_slice()),
-        (5, b"five".as_slice()),
-    ];
-    assert!(rt; are(&tables, &want));
+    assert!(rt; are(&round(rt.alloc())?, &LOADED));
     Ok(())
 }
 
-/// How many tables of a version without files are loaded, and by how many calls.
-fn loaded_of_none(alloc: Global) -> Result<(usize, u64), Fault> {
-    let mut folder = Shelf::new(alloc, &[]);
-    let version = Version::empty(alloc);
-    let tables = load::<Bytewise, Shelf<'_>>(alloc, &mut folder, &version)?;
-    Ok((tables.len(), folder.calls()))
+/// Whether a version without files has no table in a folder.
+fn loads_none(alloc: Global, folder: &mut Shelf<'_>) -> Result<bool, Fault> {
+    loads::<Bytewise, _>(alloc, folder, &Version::empty(alloc), &[])
 }
 
 #[test]
-fn a_version_without_files_has_no_table(rt: HostRuntime) -> Result<(), Fail> {
-    assert_eq!(rt; loaded_of_none(rt.alloc())?, (0, 0));
-    Ok(())
+fn a_version_without_files_has_no_table(rt: HostRuntime) {
+    let mut folder = Shelf::new(rt.alloc(), &[]);
+    assert!(rt; loads_none(rt.alloc(), &mut folder) == Ok(true));
+    assert!(rt; folder.calls() == 0);
 }
 
-/// How the tables are refused where one file isn't there.
-fn refused_without(alloc: Global, without: &str) -> Result<Option<FaultName>, Fault> {
+/// How the tables are refused of a folder of these files.
+fn refused_of(alloc: Global, files: &[(&str, &[u8])]) -> Result<Option<FaultName>, Fault> {
     let version = three_files(alloc)?;
-    let mut files = Vec::new(alloc);
-    for (name, bytes) in TABLES {
-        if name != without {
-            files.push((name, bytes))?;
-        }
-    }
-    Ok(refused(alloc, &mut Shelf::new(alloc, &files), &version))
+    Ok(refused(alloc, &mut Shelf::new(alloc, files), &version))
 }
 
 #[test]
 fn tables_that_are_missing(rt: HostRuntime) -> Result<(), Fail> {
-    for without in ["000008.ldb", "000003.sst"] {
-        let answer = refused_without(rt.alloc(), without)?;
-        assert_eq!(rt; answer, Some(FaultName::Missing), "{without}");
-    }
+    // Without that of number 8, and without that of number 3.
+    let without_eight = refused_of(rt.alloc(), &TABLES[1..])?;
+    is_refusal(&rt, without_eight, Some(FaultName::Missing), 8);
+    let without_three = refused_of(rt.alloc(), &TABLES[..4])?;
+    is_refusal(&rt, without_three, Some(FaultName::Missing), 3);
     Ok(())
 }
 
-/// What is answered of these files where a call fails, how often the device failed and how many calls were made.
+/// What is answered of these files where a call fails.
 fn answer_failing(
     alloc: Global,
+    version: &Version,
     files: &[(&str, &[u8])],
-    call: u64,
-    fault: FolderFault,
-) -> Result<(Option<FaultName>, u64, u64), Fault> {
-    let version = three_files(alloc)?;
-    let mut folder = Shelf::new(alloc, files).failing(fails(call, fault));
-    let answer = refused(alloc, &mut folder, &version);
-    Ok((answer, folder.failures(), folder.calls()))
+    failing: Failing,
+) -> Answer {
+    let mut folder = Shelf::new(alloc, files).failing(failing);
+    let answer = refused(alloc, &mut folder, version);
+    (answer, folder.failures(), folder.calls())
+}
+
+/// Tests what is answered of these files where a call fails.
+fn answers_failing(
+    rt: &(impl Abort + AllocGlobal),
+    files: &[(&str, &[u8])],
+    failing: Failing,
+    wanted: Answer,
+) -> Result<(), Fault> {
+    let version = three_files(rt.alloc())?;
+    is_answer(
+        rt,
+        answer_failing(rt.alloc(), &version, files, failing),
+        wanted,
+    );
+    Ok(())
 }
 
 #[test]
 fn calls_that_fail(rt: HostRuntime) -> Result<(), Fail> {
-    let device = FolderFault::Device;
     // One call for number 8, two for number 3 and one for number 5.
     for call in 1..5 {
-        let answer = answer_failing(rt.alloc(), &TABLES, call, device)?;
-        assert_eq!(rt; answer, (Some(FaultName::Device), 1, call));
-        let answer = answer_failing(rt.alloc(), &TABLES, call, FolderFault::Memory)?;
-        assert_eq!(rt; answer, (Some(FaultName::Memory), 0, call));
+        let device = (Some(FaultName::Device), 1, call);
+        answers_failing(&rt, &TABLES, fails(call, FolderFault::Device), device)?;
+        let memory = (Some(FaultName::Memory), 0, call);
+        answers_failing(&rt, &TABLES, fails(call, FolderFault::Memory), memory)?;
     }
     Ok(())
 }
@@ -125,13 +140,10 @@ fn calls_that_fail(rt: HostRuntime) -> Result<(), Fail> {
 #[test]
 fn a_call_that_is_not_made_does_not_fail(rt: HostRuntime) -> Result<(), Fail> {
     let device = FolderFault::Device;
-    assert_eq!(rt;
-        answer_failing(rt.alloc(), &TABLES, 5, device)?,
-        (None, 0, 4)
-    );
+    answers_failing(&rt, &TABLES, fails(5, device), (None, 0, 4))?;
     // The first table that isn't there comes before a later call.
-    let answer = answer_failing(rt.alloc(), &[], 3, device)?;
-    assert_eq!(rt; answer, (Some(FaultName::Missing), 0, 2));
+    let missing = (Some(FaultName::Missing), 0, 2);
+    answers_failing(&rt, &[], fails(3, device), missing)?;
     Ok(())
 }
 
@@ -141,11 +153,16 @@ fn round(alloc: Global) -> Result<Vec<(u64, Vec<u8>)>, Fault> {
     load::<Bytewise, Shelf<'_>>(alloc, &mut Shelf::new(alloc, &TABLES), &version)
 }
 
+/// Whether an answer is three tables, or the refusal for want of memory.
+fn are_three_or_memory(answer: Result<Vec<(u64, Vec<u8>)>, Fault>) -> bool {
+    match answer {
+        Ok(tables) => tables.len() == 3,
+        Err(fault) => fault.name == FaultName::Memory,
+    }
+}
+
 // With `rt try --test --fail-alloc N` the Nth growth is refused; without it, none is.
 #[test]
 fn a_refused_growth_is_the_only_other_refusal(rt: HostRuntime) {
-    match round(rt.alloc()) {
-        Ok(tables) => assert_eq!(rt; tables.len(), 3),
-        Err(fault) => assert_eq!(rt; fault.name, FaultName::Memory),
-    }
+    assert!(rt; are_three_or_memory(round(rt.alloc())));
 }

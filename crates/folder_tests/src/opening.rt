@@ -1,95 +1,84 @@
+//! Folders in memory that are opened.
+
 use crate::manifests::*;
 use crate::shelf::{NO_NAMES, fails};
 use coding::{Fault, FaultName};
-use edit::Version;
+use edit::{FileMeta, Version};
 use folder::*;
 use ikey::{Bytewise, Kind};
 use std::alloc::Global;
+use std::process::Abort;
 use std::test::Fail;
-
-/// Which refusal it is, where it is one.
-fn refusal(answer: Result<(Order, Version), Fault>) -> Option<FaultName> {
-    match answer {
-        Ok(_) => None,
-        Err(fault) => Some(fault.name),
-    }
-}
 
 /// How a folder of these files is refused.
 fn refused(alloc: Global, files: &[(&str, &[u8])]) -> Option<FaultName> {
     refusal(open(alloc, &mut Shelf::new(alloc, files)))
 }
 
-/// How a folder is refused whose CURRENT names manifest 5, which holds these bytes.
-fn refused_manifest(alloc: Global, bytes: &[u8]) -> Option<FaultName> {
-    refused(alloc, &[("CURRENT", FIVE_CURRENT), (FIVE, bytes)])
-}
+/// The order of a folder, and its log number, previous log number, next file and last sequence.
+type Opened = (Order, [Option<u64>; 4]);
 
-/// The order, the numbers and the files of level 1 of a folder whose CURRENT names manifest 5, which has these records: log
-/// number, previous log number, next file and last sequence, and each file's number and length.
-fn opened(
-    alloc: Global,
-    records: &[&[u8]],
-) -> Result<(Order, [Option<u64>; 4], Vec<(u64, u64)>), Fault> {
-    let manifest = log_of(alloc, records)?;
-    let files = [("CURRENT", FIVE_CURRENT), (FIVE, manifest.as_slice())];
-    let (order, version) = open(alloc, &mut Shelf::new(alloc, &files))?;
+/// What a folder has whose CURRENT names manifest 5, which has these records.
+fn opened(alloc: Global, records: &[&[u8]]) -> Result<Opened, Fault> {
+    let (order, version) = opened_of(alloc, records)?;
     let numbers = [
         version.log_number(),
         version.previous_log(),
         version.next_file(),
         version.last_sequence(),
     ];
-    Ok((order, numbers, sizes_at_one(alloc, &version)?))
+    Ok((order, numbers))
 }
 
-/// The number and the length of each file of level 1.
-fn sizes_at_one(alloc: Global, version: &Version) -> Result<Vec<(u64, u64)>, Fault> {
-    let mut sizes = Vec::new(alloc);
-    for file in &version.files::<Bytewise>(alloc, 1)? {
-        sizes.push((file.number, file.size))?;
-    }
-    Ok(sizes)
+/// Tests what a folder has.
+fn is_opened(rt: &impl Abort, found: Opened, wanted: Opened) {
+    assert_eq!(rt; found, wanted);
 }
 
 #[test]
 fn a_folder_is_opened(rt: HostRuntime) -> Result<(), Fail> {
-    let (order, numbers, sizes) = opened(rt.alloc(), &[BYTEWISE, NUMBERS, SEVEN])?;
-    assert_eq!(rt; order, Order::Bytewise);
-    let want = [Some(3), Some(0), Some(9), Some(4)];
-    assert_eq!(rt; numbers.as_slice(), want.as_slice());
-    let want = [(7, 125)];
-    assert_eq!(rt; sizes.as_slice(), want.as_slice());
+    let found = opened(rt.alloc(), &[BYTEWISE, NUMBERS, SEVEN])?;
+    let numbers = [Some(3), Some(0), Some(9), Some(4)];
+    is_opened(&rt, found, (Order::Bytewise, numbers));
     Ok(())
 }
+
+/// Log number 3, next file 6, last sequence 4. The manifest's number is just below 6.
+const NO_PREVIOUS: &[u8] = b"\x02\x03\x03\x06\x04\x04";
 
 #[test]
 fn a_previous_log_number_may_be_left_out(rt: HostRuntime) -> Result<(), Fail> {
-    // The manifest's number is just below next file, which is 6.
-    let records = [SHORTLEX, b"\x02\x03\x03\x06\x04\x04".as_slice()];
-    let (order, numbers, _sizes) = opened(rt.alloc(), &records)?;
-    assert_eq!(rt; order, Order::Shortlex);
-    let want = [Some(3), None, Some(6), Some(4)];
-    assert_eq!(rt; numbers.as_slice(), want.as_slice());
+    let found = opened(rt.alloc(), &[SHORTLEX, NO_PREVIOUS])?;
+    let numbers = [Some(3), None, Some(6), Some(4)];
+    is_opened(&rt, found, (Order::Shortlex, numbers));
     Ok(())
 }
 
-/// Whether the keys of the file of `SEVEN` are those that stand there.
-fn has_its_keys(alloc: Global) -> Result<bool, Fault> {
-    let manifest = log_of(alloc, &[BYTEWISE, NUMBERS, SEVEN])?;
-    let files = [("CURRENT", FIVE_CURRENT), (FIVE, manifest.as_slice())];
-    let (_order, version) = open(alloc, &mut Shelf::new(alloc, &files))?;
+/// Whether a file is that of `SEVEN`, with the keys that stand there.
+fn is_seven(file: &FileMeta) -> bool {
+    file.number == 7
+        && file.size == 125
+        && file.smallest.as_key().kind() == Kind::Delete
+        && file.largest.as_key().sequence() == 2
+}
+
+/// Whether that file is the only one of level 1 of a version.
+fn has_seven(alloc: Global, version: &Version) -> Result<bool, Fault> {
     let ones = version.files::<Bytewise>(alloc, 1)?;
-    Ok(
-        ones.iter().all(|file| {
-            file.smallest.as_key().kind() == Kind::Delete && file.largest.as_key().sequence() == 2
-        }),
-    )
+    Ok(match ones.first() {
+        Some(file) => ones.len() == 1 && is_seven(file),
+        None => false,
+    })
+}
+
+/// Whether it is the only one of that level where it is the one that is named.
+fn opens_seven(alloc: Global) -> Result<bool, Fault> {
+    has_seven(alloc, &version_of(alloc, &[BYTEWISE, NUMBERS, SEVEN])?)
 }
 
 #[test]
-fn keys_of_a_file(rt: HostRuntime) -> Result<(), Fail> {
-    assert!(rt; has_its_keys(rt.alloc())?);
+fn a_file_and_its_keys(rt: HostRuntime) -> Result<(), Fail> {
+    assert!(rt; opens_seven(rt.alloc())?);
     Ok(())
 }
 
@@ -140,93 +129,108 @@ fn refused_records(
     let mut manifest = log_of(alloc, records)?;
     manifest.truncate(manifest.len().saturating_sub(cut));
     manifest.extend_from_slice(behind)?;
-    Ok(refused_manifest(alloc, &manifest))
+    Ok(refusal(opened_as(alloc, FIVE_CURRENT, &manifest)))
 }
 
 #[test]
 fn manifests_that_are_refused(rt: HostRuntime) -> Result<(), Fail> {
-    for (records, want) in REFUSED {
-        let answer = refused_records(rt.alloc(), records, 0, b"")?;
-        assert_eq!(rt; answer, Some(want), "{records:?}");
+    for (place, row) in REFUSED.iter().enumerate() {
+        let answer = refused_records(rt.alloc(), row.0, 0, b"")?;
+        is_refusal(&rt, answer, Some(row.1), place);
     }
     Ok(())
 }
+
+/// Records, how many bytes are cut off their log, what stands behind it, and how it is refused.
+const NO_LOGS: [(&[&[u8]], usize, &[u8], Option<FaultName>); 4] = [
+    (&[BYTEWISE, NUMBERS], 1, b"", Some(FaultName::LogShape)),
+    (
+        &[BYTEWISE, NUMBERS],
+        1,
+        b"\x05",
+        Some(FaultName::LogChecksum),
+    ),
+    // A log comes before its records, of which the first has an unknown tag here.
+    (&[b"\x08", NUMBERS], 1, b"", Some(FaultName::LogShape)),
+    (&[BYTEWISE, NUMBERS], 0, b"", None),
+];
 
 #[test]
 fn bytes_that_are_no_log(rt: HostRuntime) -> Result<(), Fail> {
-    let rows = [
-        (BYTEWISE, 1, b"".as_slice(), Some(FaultName::LogShape)),
-        (BYTEWISE, 1, b"\x05", Some(FaultName::LogChecksum)),
-        // A log comes before its records, of which the first has an unknown tag here.
-        (b"\x08", 1, b"", Some(FaultName::LogShape)),
-        (BYTEWISE, 0, b"", None),
-    ];
-    for (first, cut, behind, want) in rows {
-        let answer = refused_records(rt.alloc(), &[first, NUMBERS], cut, behind)?;
-        assert_eq!(rt; answer, want);
+    for (place, row) in NO_LOGS.iter().enumerate() {
+        let answer = refused_records(rt.alloc(), row.0, row.1, row.2)?;
+        is_refusal(&rt, answer, row.3, place);
     }
     Ok(())
 }
 
-#[test]
-fn files_that_are_missing_or_misnamed(rt: HostRuntime) -> Result<(), Fail> {
-    let manifest = log_of(rt.alloc(), &[BYTEWISE, NUMBERS])?;
-    let manifest = manifest.as_slice();
+/// Tests that CURRENT or the manifest that it names is missing, among files of these bytes.
+fn are_missing(rt: &(impl Abort + AllocGlobal), manifest: &[u8]) {
     let files = [
         ("CURRENT", FIVE_CURRENT),
         ("MANIFEST-000006", manifest),
         ("MANIFEST-5", manifest),
         (FIVE, manifest),
     ];
-    for files in [&files[..0], &files[3..], &files[..3]] {
-        assert_eq!(rt; refused(rt.alloc(), files), Some(FaultName::Missing));
-    }
+    let missing = Some(FaultName::Missing);
+    is_refusal(rt, refused(rt.alloc(), &files[..0]), missing, 0);
+    is_refusal(rt, refused(rt.alloc(), &files[3..]), missing, 1);
+    is_refusal(rt, refused(rt.alloc(), &files[..3]), missing, 2);
+}
+
+#[test]
+fn files_that_are_missing_or_misnamed(rt: HostRuntime) -> Result<(), Fail> {
+    let manifest = log_of(rt.alloc(), &[BYTEWISE, NUMBERS])?;
+    are_missing(&rt, &manifest);
     Ok(())
 }
 
 #[test]
 fn names_that_are_no_manifests(rt: HostRuntime) {
     // Its form comes before the manifest's absence.
-    for text in NO_NAMES {
+    for (place, text) in NO_NAMES.iter().enumerate() {
         let answer = refused(rt.alloc(), &[("CURRENT", text.as_bytes())]);
-        assert_eq!(rt; answer, Some(FaultName::Apply), "{text}");
+        is_refusal(&rt, answer, Some(FaultName::Apply), place);
     }
 }
 
-/// What is answered where a call fails, how often the device failed and how many calls were made.
-fn answer_failing(
-    alloc: Global,
-    files: &[(&str, &[u8])],
-    call: u64,
-    fault: FolderFault,
-) -> (Option<FaultName>, u64, u64) {
-    let mut folder = Shelf::new(alloc, files).failing(fails(call, fault));
+/// What is answered of these files where a call fails.
+fn answer_failing(alloc: Global, files: &[(&str, &[u8])], failing: Failing) -> Answer {
+    let mut folder = Shelf::new(alloc, files).failing(failing);
     let answer = refusal(open(alloc, &mut folder));
     (answer, folder.failures(), folder.calls())
+}
+
+/// A call that fails, and what is answered.
+const FAILING: [(u64, FolderFault, Answer); 5] = [
+    (1, FolderFault::Device, (Some(FaultName::Device), 1, 1)),
+    (2, FolderFault::Device, (Some(FaultName::Device), 1, 2)),
+    (3, FolderFault::Device, (None, 0, 2)),
+    (1, FolderFault::Memory, (Some(FaultName::Memory), 0, 1)),
+    (2, FolderFault::Memory, (Some(FaultName::Memory), 0, 2)),
+];
+
+/// Tests what is answered where a call fails, of a folder whose manifest has these bytes.
+fn answers_failing(rt: &(impl Abort + AllocGlobal), manifest: &[u8]) {
+    let files = [("CURRENT", FIVE_CURRENT), (FIVE, manifest)];
+    for (call, fault, want) in &FAILING {
+        let found = answer_failing(rt.alloc(), &files, fails(*call, *fault));
+        is_answer(rt, found, *want);
+    }
 }
 
 #[test]
 fn calls_that_fail(rt: HostRuntime) -> Result<(), Fail> {
     let manifest = log_of(rt.alloc(), &[BYTEWISE, NUMBERS])?;
-    let files = [("CURRENT", FIVE_CURRENT), (FIVE, manifest.as_slice())];
-    let rows = [
-        (1, FolderFault::Device, (Some(FaultName::Device), 1, 1)),
-        (2, FolderFault::Device, (Some(FaultName::Device), 1, 2)),
-        (3, FolderFault::Device, (None, 0, 2)),
-        (1, FolderFault::Memory, (Some(FaultName::Memory), 0, 1)),
-        (2, FolderFault::Memory, (Some(FaultName::Memory), 0, 2)),
-    ];
-    for (call, fault, want) in rows {
-        assert_eq!(rt; answer_failing(rt.alloc(), &files, call, fault), want);
-    }
+    answers_failing(&rt, &manifest);
     Ok(())
 }
 
 // Where a call fails, nothing is known of what is missing.
 #[test]
 fn a_call_fails_in_a_folder_without_files(rt: HostRuntime) {
-    let answer = answer_failing(rt.alloc(), &[], 1, FolderFault::Device);
-    assert_eq!(rt; answer, (Some(FaultName::Device), 1, 1));
+    let found = answer_failing(rt.alloc(), &[], fails(1, FolderFault::Device));
+    is_answer(&rt, found, (Some(FaultName::Device), 1, 1));
 }
 
 #[test]
@@ -237,21 +241,17 @@ fn the_laws_are_called(rt: HostRuntime) {
     crash_laws();
 }
 
-/// Opens the folder of one table.
-fn round(alloc: Global) -> Result<(Order, Version), Fault> {
-    let manifest = log_of(alloc, &[BYTEWISE, NUMBERS, SEVEN])?;
-    let files = [("CURRENT", FIVE_CURRENT), (FIVE, manifest.as_slice())];
-    open(alloc, &mut Shelf::new(alloc, &files))
+/// Whether an answer is the folder of one table, or the refusal for want of memory.
+fn is_one_or_memory(answer: Result<(Order, Version), Fault>) -> bool {
+    match answer {
+        Ok((order, version)) => order == Order::Bytewise && version.last_sequence() == Some(4),
+        Err(fault) => fault.name == FaultName::Memory,
+    }
 }
 
 // With `rt try --test --fail-alloc N` the Nth growth is refused; without it, none is.
 #[test]
 fn a_refused_growth_is_the_only_other_refusal(rt: HostRuntime) {
-    match round(rt.alloc()) {
-        Ok((order, version)) => {
-            assert_eq!(rt; order, Order::Bytewise);
-            assert_eq!(rt; version.last_sequence(), Some(4));
-        }
-        Err(fault) => assert_eq!(rt; fault.name, FaultName::Memory),
-    }
+    let answer = opened_of(rt.alloc(), &[BYTEWISE, NUMBERS, SEVEN]);
+    assert!(rt; is_one_or_memory(answer));
 }

@@ -2,4 +2,8 @@
 #![tactic(auto)]
 
 #[cfg(test)]
-mod tests;
+mod encoding;
+#[cfg(test)]
+mod ends;
+#[cfg(test)]
+mod sources;

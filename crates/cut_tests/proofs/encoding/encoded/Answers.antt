@@ -1,7 +1,7 @@
 use Rattle.std.proofs.Common.{sym, ap, ◌∙◌, arith}
 use Rattle.cut.specs.Planning.{lists_in}
 use Rattle.cut.proofs.Collected.{one_collected, all_collected}
-use Rattle.cut_tests.proofs.tests.encoded.Goals as goal
+use Rattle.cut_tests.proofs.encoding.encoded.Goals as goal
 
 pub loop-job-preserved : goal.loop-job-preserved
 loop-job-preserved g c =

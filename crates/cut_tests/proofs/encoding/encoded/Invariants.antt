@@ -1,7 +1,7 @@
 use Rattle.std.proofs.Common.{◌≡◌, ◌≤◌, map, take}
 use Rattle.cut.specs.Plan.{jobs, encoded}
 use Rattle.cut.specs.Planning.{lists_in}
-use Rattle.cut_tests.proofs.tests.encoded.Given as goal
+use Rattle.cut_tests.proofs.encoding.encoded.Given as goal
 
 abbrev pub invariant-loop-job : goal.invariant-loop-job
 invariant-loop-job g l =

@@ -3,7 +3,8 @@
 ghost use Rattle.std.specs.Prelude.{◌<◌, ◌≡◌, length};
 ghost use Rattle.block.specs.Writing.{block};
 
-use crate::figures::{Call, Figures, Work};
+use crate::figures::{Call, Figures, Run, Work};
+use crate::tables::last_of;
 use anyhow::Result;
 use block::{BlockBuilder, BlockCursor, SoundBlock, check};
 use coding::Fault;
@@ -22,6 +23,28 @@ const INTERVAL: u64 = 16;
 /// The first key: eight bytes that are the same in all keys, and a number, the highest byte first.
 const FIRST_KEY: u128 = 0x6265_6e63_682d_6b65 << 64;
 
+/// Work on blocks.
+#[derive(Clone, Copy)]
+enum Blocks<'a, 'b> {
+    /// Checks them.
+    Check(&'a [Vec<u8>]),
+    /// Walks over them.
+    Walk(Global, &'a [SoundBlock<'b>]),
+    /// Writes those of these values.
+    Write(Global, &'a [u8]),
+}
+
+impl Run for Blocks<'_, '_> {
+    fn run(&mut self) -> Result<u32> {
+        let given = match *self {
+            Blocks::Check(blocks) => check_all(blocks),
+            Blocks::Walk(alloc, blocks) => walk_all(alloc, blocks),
+            Blocks::Write(alloc, values) => write_all(alloc, values),
+        };
+        Ok(given?)
+    }
+}
+
 /// Takes the figures of blocks whose values are pseudo-random bytes, about as many as there are bytes.
 pub fn measure(
     clock: &impl Clock,
@@ -31,38 +54,33 @@ pub fn measure(
 ) -> Result<()> {
     let (values, _) = bytes.split_at(bytes.len() / ENTRY_LEN * VALUE_LEN);
     let blocks = written(alloc, values)?;
-    measure_written(clock, alloc, values, &blocks, figures)
+    let work = Work {
+        call: Call::Check,
+        bytes: len_of(&blocks),
+        entries: values.len() / VALUE_LEN,
+    };
+    measure_written(clock, alloc, &blocks, work, figures)?;
+    let work = over(Call::Builder, work);
+    figures.take(clock, work, &mut Blocks::Write(alloc, values))
 }
 
-/// The same, where the blocks are written.
+/// Takes the figures of these blocks: checked, which is this work, and walked over.
 fn measure_written(
     clock: &impl Clock,
     alloc: Global,
-    values: &[u8],
     blocks: &[Vec<u8>],
+    work: Work,
     figures: &mut Figures,
 ) -> Result<()> {
+    figures.take(clock, work, &mut Blocks::Check(blocks))?;
     let sound = all_sound(alloc, blocks)?;
-    measure_sound(clock, alloc, values, blocks, &sound, figures)
+    let work = over(Call::Cursor, work);
+    figures.take(clock, work, &mut Blocks::Walk(alloc, &sound))
 }
 
-/// The same, where they are checked.
-fn measure_sound(
-    clock: &impl Clock,
-    alloc: Global,
-    values: &[u8],
-    blocks: &[Vec<u8>],
-    sound: &[SoundBlock<'_>],
-    figures: &mut Figures,
-) -> Result<()> {
-    let over = |call| Work {
-        call,
-        bytes: len_of(blocks),
-        entries: values.len() / VALUE_LEN,
-    };
-    figures.take(clock, over(Call::Check), || Ok(check_all(blocks)?))?;
-    figures.take(clock, over(Call::Cursor), || Ok(walk_all(alloc, sound)?))?;
-    figures.take(clock, over(Call::Builder), || Ok(write_all(alloc, values)?))
+/// Another call over as much as this work.
+fn over(call: Call, work: Work) -> Work {
+    Work { call, ..work }
 }
 
 /// Blocks of entries whose keys rise and whose values are these bytes, in turn.
@@ -71,13 +89,30 @@ fn written(alloc: Global, values: &[u8]) -> Result<Vec<Vec<u8>>, Fault> {
     let mut builder = BlockBuilder::new(alloc, INTERVAL);
     let (values, _) = values.as_chunks::<VALUE_LEN>();
     for (i, value) in values.iter().enumerate() {
-        if builder.estimate() >= BLOCK_LEN {
-            blocks.push(taken(alloc, &mut builder)?)?;
-        }
-        add(&mut builder, i, value)?;
+        put(alloc, &mut blocks, &mut builder, i, value)?;
     }
-    blocks.push(builder.finish()?)?;
+    push(&mut blocks, builder.finish())?;
     Ok(blocks)
+}
+
+/// Appends the entry of this number, to the next block where this one is full.
+fn put(
+    alloc: Global,
+    blocks: &mut Vec<Vec<u8>>,
+    builder: &mut BlockBuilder,
+    number: usize,
+    value: &[u8; VALUE_LEN],
+) -> Result<(), Fault> {
+    if builder.estimate() >= BLOCK_LEN {
+        push(blocks, taken(alloc, builder))?;
+    }
+    add(builder, number, value)
+}
+
+/// Appends a block, where memory for it was not refused.
+fn push(blocks: &mut Vec<Vec<u8>>, block: Result<Vec<u8>, Fault>) -> Result<(), Fault> {
+    blocks.push(block?)?;
+    Ok(())
 }
 
 /// Writes the blocks, and gives the number of their bytes modulo 2^32.
@@ -147,9 +182,4 @@ fn walk(alloc: Global, block: &SoundBlock<'_>) -> Result<u32, Fault> {
         cursor.advance()?;
     }
     Ok(folded)
-}
-
-/// The last of some bytes; 0 where there is none.
-fn last_of(bytes: &[u8]) -> u32 {
-    bytes.last().map_or(0, |byte| u32::from(*byte))
 }

@@ -1,10 +1,42 @@
 //! Figures of CRC-32C, and of a copy to hold them against.
 
-use crate::figures::{Call, Figures, Work};
+use crate::figures::{Call, Figures, Run, Work};
+use crate::tables::last_of;
 use anyhow::{Result, ensure};
 use coding::{crc32c, crc32c_plain};
 use std::alloc::Global;
 use std::rt::Clock;
+
+/// A copy of these bytes, over others.
+#[derive(Drop)]
+struct Copying<'a> {
+    target: &'a mut [u8],
+    source: &'a [u8],
+}
+
+impl Run for Copying<'_> {
+    fn run(&mut self) -> Result<u32> {
+        Ok(copied(self.target, self.source))
+    }
+}
+
+/// A sum of bytes.
+#[derive(Clone, Copy)]
+enum Sum<'a> {
+    Crc(&'a [u8]),
+    ByTable(&'a [u32; 256], &'a [u8]),
+    ByBit(&'a [u8]),
+}
+
+impl Run for Sum<'_> {
+    fn run(&mut self) -> Result<u32> {
+        Ok(match *self {
+            Sum::Crc(bytes) => crc32c(bytes),
+            Sum::ByTable(table, bytes) => by_table(table, bytes),
+            Sum::ByBit(bytes) => crc32c_plain(bytes),
+        })
+    }
+}
 
 /// Takes the figures of these bytes.
 pub fn measure(
@@ -13,43 +45,54 @@ pub fn measure(
     bytes: &[u8],
     figures: &mut Figures,
 ) -> Result<()> {
-    let mut target = vec![in alloc; 0; bytes.len()]?;
-    figures.take(
-        clock,
-        over(Call::Copy, bytes.len()),
-        || Ok(copied(&mut target, bytes)),
-    )?;
+    measure_copy(clock, alloc, bytes, figures)?;
     measure_sums(clock, bytes, figures)
+}
+
+/// Takes the figure of a copy of these bytes.
+fn measure_copy(
+    clock: &impl Clock,
+    alloc: Global,
+    bytes: &[u8],
+    figures: &mut Figures,
+) -> Result<()> {
+    let mut target = vec![in alloc; 0; bytes.len()]?;
+    let mut run = Copying {
+        target: &mut target,
+        source: bytes,
+    };
+    figures.take(clock, over(Call::Copy, bytes), &mut run)
 }
 
 /// Takes the figures of the sums of these bytes.
 fn measure_sums(clock: &impl Clock, bytes: &[u8], figures: &mut Figures) -> Result<()> {
-    let len = bytes.len();
-    figures.take(clock, over(Call::Crc, len), || Ok(crc32c(bytes)))?;
-    let table = table();
+    figures.take(clock, over(Call::Crc, bytes), &mut Sum::Crc(bytes))?;
+    measure_by_table(clock, &table(), bytes, figures)?;
+    // A sixteenth is enough for what goes bit by bit.
+    let (part, _) = bytes.split_at(bytes.len() / 16);
+    figures.take(clock, over(Call::CrcByBit, part), &mut Sum::ByBit(part))
+}
+
+/// Takes the figure of the sum of these bytes by a table, which has to be their CRC.
+fn measure_by_table(
+    clock: &impl Clock,
+    table: &[u32; 256],
+    bytes: &[u8],
+    figures: &mut Figures,
+) -> Result<()> {
     ensure!(
-        by_table(&table, bytes) == crc32c(bytes),
+        by_table(table, bytes) == crc32c(bytes),
         "the CRC of the table differs"
     );
-    figures.take(
-        clock,
-        over(Call::CrcByTable, len),
-        || Ok(by_table(&table, bytes)),
-    )?;
-    // A sixteenth is enough for what goes bit by bit.
-    let (part, _) = bytes.split_at(len / 16);
-    figures.take(
-        clock,
-        over(Call::CrcByBit, part.len()),
-        || Ok(crc32c_plain(part)),
-    )
+    let mut run = Sum::ByTable(table, bytes);
+    figures.take(clock, over(Call::CrcByTable, bytes), &mut run)
 }
 
 /// Work over bytes in which there are no entries.
-fn over(call: Call, bytes: usize) -> Work {
+fn over(call: Call, bytes: &[u8]) -> Work {
     Work {
         call,
-        bytes,
+        bytes: bytes.len(),
         entries: 0,
     }
 }
@@ -59,7 +102,7 @@ fn copied(target: &mut [u8], source: &[u8]) -> u32 {
     if target.len() == source.len() {
         target.copy_from_slice(source);
     }
-    target.last().map_or(0, |byte| u32::from(*byte))
+    last_of(target)
 }
 
 /// The usual table of CRC-32C: what eight steps make of each byte.

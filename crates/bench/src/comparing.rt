@@ -1,6 +1,6 @@
 //! Figures of two keys compared, beside a loop that compares them byte by byte.
 
-use crate::figures::{Call, Figures, Work};
+use crate::figures::{Call, Figures, Run, Work};
 use anyhow::{Result, ensure};
 use ikey::{Bytewise, Comparator};
 use std::alloc::Global;
@@ -12,6 +12,22 @@ const KEY_LEN: usize = 16;
 /// The first key: eight bytes that are the same in all keys, and a number, the highest byte first.
 const FIRST_KEY: u128 = 0x6265_6e63_682d_6b65 << 64;
 
+/// A comparison of each of some keys with each.
+#[derive(Clone, Copy)]
+enum Compared<'a> {
+    ByWords(&'a [Vec<u8>]),
+    ByBytes(&'a [Vec<u8>]),
+}
+
+impl Run for Compared<'_> {
+    fn run(&mut self) -> Result<u32> {
+        Ok(match *self {
+            Compared::ByWords(keys) => lesser(keys),
+            Compared::ByBytes(keys) => lesser_by_bytes(keys),
+        })
+    }
+}
+
 /// Takes the figures of so many keys, each compared with each: of keys that differ in their last bytes, and of pseudo-random
 /// ones, most of which differ in the first.
 pub fn measure(
@@ -21,11 +37,12 @@ pub fn measure(
     count: u32,
     figures: &mut Figures,
 ) -> Result<()> {
-    let near = near_keys(alloc, count)?;
-    take(clock, &near, Call::CompareNear, Call::LoopNear, figures)?;
-    let (bytes, _) = bytes.split_at(bytes.len().min(near.len().saturating_mul(KEY_LEN)));
-    let far = far_keys(alloc, bytes)?;
-    take(clock, &far, Call::CompareFar, Call::LoopFar, figures)
+    let near = near_keys(alloc, count);
+    take(clock, near, [Call::CompareNear, Call::LoopNear], figures)?;
+    let len = (count as usize).saturating_mul(KEY_LEN);
+    let (bytes, _) = bytes.split_at(bytes.len().min(len));
+    let far = far_keys(alloc, bytes);
+    take(clock, far, [Call::CompareFar, Call::LoopFar], figures)
 }
 
 /// So many keys with numbers one after the other.
@@ -48,22 +65,36 @@ fn far_keys(alloc: Global, bytes: &[u8]) -> Result<Vec<Vec<u8>>> {
     Ok(keys)
 }
 
-/// Takes the figures of these keys, by both ways.
+/// Takes the figures of these keys, by both ways, where memory for them was not refused.
 fn take(
     clock: &impl Clock,
+    keys: Result<Vec<Vec<u8>>>,
+    calls: [Call; 2],
+    figures: &mut Figures,
+) -> Result<()> {
+    take_both(clock, &keys?, calls, figures)
+}
+
+/// Takes the figures of these keys, by both ways, which have to agree.
+fn take_both(
+    clock: &impl Clock,
     keys: &[Vec<u8>],
-    by_words: Call,
-    by_bytes: Call,
+    calls: [Call; 2],
     figures: &mut Figures,
 ) -> Result<()> {
     ensure!(lesser(keys) == lesser_by_bytes(keys), "the loop differs");
-    let work = |call| Work {
+    let [by_words, by_bytes] = calls;
+    figures.take(clock, over(by_words, keys), &mut Compared::ByWords(keys))?;
+    figures.take(clock, over(by_bytes, keys), &mut Compared::ByBytes(keys))
+}
+
+/// Work on each two of these keys.
+fn over(call: Call, keys: &[Vec<u8>]) -> Work {
+    Work {
         call,
         bytes: 0,
         entries: keys.len().saturating_mul(keys.len()),
-    };
-    figures.take(clock, work(by_words), || Ok(lesser(keys)))?;
-    figures.take(clock, work(by_bytes), || Ok(lesser_by_bytes(keys)))
+    }
 }
 
 /// How many keys are before a key, of all keys, modulo 2^32.

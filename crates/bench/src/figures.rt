@@ -126,15 +126,35 @@ pub struct Work {
     pub entries: usize,
 }
 
-/// Work on something, which a round does so many times over.
-#[derive(Clone, Copy)]
-pub struct Turn<S> {
-    pub on: S,
+/// Work that is timed again and again.
+pub trait Run {
+    /// Does it once. The number that it gives depends on all of it.
+    fn run(&mut self) -> Result<u32>;
+}
+
+/// Work that is timed in turn with such work on something else.
+pub trait Turned {
+    /// What a run takes. It is made before the clock starts.
+    type Source: Drop;
+    /// What a run makes. Its memory is given back when the time is taken.
+    type Made: Drop;
+
+    /// Makes what a run takes.
+    fn source(&self) -> Result<Self::Source>;
+
+    /// Does the work once. The number that it gives depends on all of it.
+    fn run(&self, source: Self::Source) -> Result<(u32, Self::Made)>;
+}
+
+/// Work, which a round does so many times over.
+#[derive(Drop)]
+pub struct Turn<T> {
+    pub run: T,
     pub work: Work,
     pub times: u32,
 }
 
-impl<S> Turn<S> {
+impl<T> Turn<T> {
     /// The time of its fastest round.
     fn figure(&self, time: Duration) -> Figure {
         Figure {
@@ -243,32 +263,31 @@ impl Figures {
         }
     }
 
-    /// Does some work once for each round and keeps the time of the fastest. A run gives a number that
-    /// depends on all of its work.
+    /// How many rounds there are.
+    pub fn rounds(&self) -> u32 {
+        self.rounds
+    }
+
+    /// How many rounds there are of short work: four times as many as of other work.
+    pub fn short_rounds(&self) -> u32 {
+        self.rounds.saturating_mul(SHORT_ROUNDS)
+    }
+
+    /// Does some work once for each round and keeps the time of the fastest.
     ///
     /// Refused where a run, the clock or a growth of memory is.
-    pub fn take<F: FnMut() -> Result<u32>>(
-        &mut self,
-        clock: &impl Clock,
-        work: Work,
-        mut run: F,
-    ) -> Result<()>
-    where
-        F: Drop,
-        requires { F.IsAlwaysCallable run }
-    {
+    pub fn take<R: Run>(&mut self, clock: &impl Clock, work: Work, run: &mut R) -> Result<()> {
         let mut time = Duration::MAX;
         for _round in 0..self.rounds {
-            let start = Instant::now(clock)?;
-            let given = run()?;
-            time = time.min(start.elapsed(clock)?);
+            let (given, told) = timed(clock, run)?;
+            time = time.min(told);
             self.fold(given);
         }
         self.keep(work, time)
     }
 
-    /// Does short work as `take` does, in four times as many rounds. A run also gives what it made, whose memory is given
-    /// back when the time is taken.
+    /// Does short work as `take` does, in as many rounds as short work has. A run also gives what it made, whose memory is
+    /// given back when the time is taken.
     pub fn take_made<G: Drop, F: FnMut() -> Result<(u32, G)>>(
         &mut self,
         clock: &impl Clock,
@@ -280,7 +299,7 @@ impl Figures {
         requires { F.IsAlwaysCallable run }
     {
         let mut time = Duration::MAX;
-        for _round in 0..self.rounds.saturating_mul(SHORT_ROUNDS) {
+        for _round in 0..self.short_rounds() {
             let start = Instant::now(clock)?;
             let (given, made) = run()?;
             time = time.min(start.elapsed(clock)?);
@@ -290,78 +309,37 @@ impl Figures {
         self.keep(work, time)
     }
 
-    /// Does short work as `take_made` does, where a run tells how long the part of it took that counts.
-    pub fn take_told<F: FnMut() -> Result<(u32, Duration)>>(
-        &mut self,
-        work: Work,
-        mut run: F,
-    ) -> Result<()>
-    where
-        F: Drop,
-        requires { F.IsAlwaysCallable run }
-    {
-        let mut time = Duration::MAX;
-        for _round in 0..self.rounds.saturating_mul(SHORT_ROUNDS) {
-            let (given, told) = run()?;
-            time = time.min(told);
-            self.fold(given);
-        }
-        self.keep(work, time)
-    }
-
     /// Does short work as `take_made` does, on two things in turn, so that a machine which changes its speed changes it for
-    /// both. What a run takes is made before the clock starts. The second figure says how many times as long as the first it
-    /// took.
-    pub fn take_in_turn<
-        S: Copy,
-        T: Drop,
-        G: Drop,
-        M: Fn(Turn<S>) -> Result<T>,
-        F: Fn(Turn<S>, T) -> Result<(u32, G)>,
-    >(&mut self, clock: &impl Clock, turns: [Turn<S>; 2], make: M, run: F) -> Result<()>
-    where
-        M: Drop,
-        F: Drop,
-        requires made { M.IsAlwaysCallable make }
-        requires run { F.IsAlwaysCallable run }
-    {
-        let [first, second] = turns;
+    /// both. The second figure says how many times as long as the first it took.
+    pub fn take_in_turn<T: Turned>(
+        &mut self,
+        clock: &impl Clock,
+        first: &Turn<T>,
+        second: &Turn<T>,
+    ) -> Result<()> {
         let mut first_time = Duration::MAX;
         let mut second_time = Duration::MAX;
-        for _round in 0..self.rounds.saturating_mul(SHORT_ROUNDS) {
-            first_time = first_time.min(self.round(clock, first, &make, &run)?);
-            second_time = second_time.min(self.round(clock, second, &make, &run)?);
+        for _round in 0..self.short_rounds() {
+            first_time = first_time.min(self.round(clock, &first.run)?);
+            second_time = second_time.min(self.round(clock, &second.run)?);
         }
         self.keep_grown(first.figure(first_time), second.figure(second_time))
     }
 
     /// Makes what a run takes, does it once, and gives how long the run took.
-    fn round<
-        S: Copy,
-        T: Drop,
-        G: Drop,
-        M: Fn(Turn<S>) -> Result<T>,
-        F: Fn(Turn<S>, T) -> Result<(u32, G)>,
-    >(&mut self, clock: &impl Clock, turn: Turn<S>, make: &M, run: &F) -> Result<Duration>
-        requires made { M.IsAlwaysCallable make.now }
-        requires run { F.IsAlwaysCallable run.now }
-    {
-        let source = make(turn)?;
-        let start = Instant::now(clock)?;
-        let (given, made) = run(turn, source)?;
-        let time = start.elapsed(clock)?;
-        drop(made);
+    fn round<T: Turned>(&mut self, clock: &impl Clock, run: &T) -> Result<Duration> {
+        let (given, told) = timed_turn(clock, run, run.source()?)?;
         self.fold(given);
-        Ok(time)
+        Ok(told)
     }
 
     /// Folds in what a run gave.
-    fn fold(&mut self, given: u32) {
+    pub fn fold(&mut self, given: u32) {
         self.folded = self.folded.rotate_left(1) ^ given;
     }
 
     /// Keeps the time of the fastest round.
-    fn keep(&mut self, work: Work, time: Duration) -> Result<()> {
+    pub fn keep(&mut self, work: Work, time: Duration) -> Result<()> {
         let times = 1;
         self.taken.push(Figure {
             work,
@@ -388,4 +366,24 @@ impl Figures {
         println!(rt; "checksum {:08x}", self.folded)?;
         Ok(())
     }
+}
+
+/// What a run gives, and how long it took.
+fn timed<R: Run>(clock: &impl Clock, run: &mut R) -> Result<(u32, Duration)> {
+    let start = Instant::now(clock)?;
+    let given = run.run()?;
+    Ok((given, start.elapsed(clock)?))
+}
+
+/// The same, of a run that takes this.
+fn timed_turn<T: Turned>(
+    clock: &impl Clock,
+    run: &T,
+    source: T::Source,
+) -> Result<(u32, Duration)> {
+    let start = Instant::now(clock)?;
+    let (given, made) = run.run(source)?;
+    let time = start.elapsed(clock)?;
+    drop(made);
+    Ok((given, time))
 }

@@ -31,22 +31,34 @@ fn new_folder(rt: &HostRuntime) -> Result<String> {
 
 /// Takes the figures of a file of these bytes in a folder.
 fn measure_in(rt: &HostRuntime, path: &str, bytes: &[u8], figures: &mut Figures) -> Result<()> {
+    measure_read(rt, path, bytes, figures)?;
+    let work = over(Call::CopyFile, bytes);
+    figures.take_made(rt, work, || copied(rt.alloc(), bytes))
+}
+
+/// Takes the figure of a read of the file, which is written before.
+fn measure_read(rt: &HostRuntime, path: &str, bytes: &[u8], figures: &mut Figures) -> Result<()> {
     let mut disk = Disk::new(rt, path);
-    disk.create(NAME, bytes).map_err(Fault::from)?;
-    ensure!(holds(&mut disk, bytes)?, "the file differs");
-    let work = |call| Work {
+    write(&mut disk, bytes)?;
+    let work = over(Call::ReadFile, bytes);
+    figures.take_made(rt, work, || read(&mut disk))
+}
+
+/// Work over these bytes.
+fn over(call: Call, bytes: &[u8]) -> Work {
+    Work {
         call,
         bytes: bytes.len(),
         entries: 0,
-    };
-    figures.take_made(rt, work(Call::ReadFile), || read(&mut disk))?;
-    figures.take_made(rt, work(Call::CopyFile), || copied(rt.alloc(), bytes))
+    }
 }
 
-/// Whether the file holds these bytes.
-fn holds(disk: &mut impl Folder, bytes: &[u8]) -> Result<bool> {
+/// Writes the file, and tests that it holds these bytes.
+fn write(disk: &mut impl Folder, bytes: &[u8]) -> Result<()> {
+    disk.create(NAME, bytes).map_err(Fault::from)?;
     let (_, held) = read(disk)?;
-    Ok(held.as_slice() == bytes)
+    ensure!(held.as_slice() == bytes, "the file differs");
+    Ok(())
 }
 
 /// The file's bytes, and the last of them.

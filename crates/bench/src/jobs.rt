@@ -1,6 +1,6 @@
 //! Figures of the board: runs of jobs that do nothing, and a loop of atomic additions to hold them against.
 
-use crate::figures::{Call, Figures, Work};
+use crate::figures::{Call, Figures, Run, Work};
 use anyhow::{Result, bail};
 use board::{Labour, Open, run};
 use coding::Fault;
@@ -8,6 +8,7 @@ use std::alloc::Global;
 use std::rt::Clock;
 use std::sync::atomic::{AtomicU64, Ordering};
 use std::thread::Threads;
+use std::time::{Duration, Instant};
 
 /// Jobs that give their numbers.
 #[derive(Clone, Copy)]
@@ -29,6 +30,26 @@ impl Labour for Numbers {
     }
 }
 
+/// A loop of so many atomic additions.
+#[derive(Clone, Copy)]
+struct Additions<'a> {
+    sum: &'a AtomicU64,
+    times: u32,
+}
+
+impl Run for Additions<'_> {
+    fn run(&mut self) -> Result<u32> {
+        Ok(added(self.sum, self.times))
+    }
+}
+
+/// How many workers there are, and the call of so many.
+const WORKERS: &[(u64, Call)] = &[
+    (1, Call::OneWorker),
+    (2, Call::TwoWorkers),
+    (4, Call::FourWorkers),
+];
+
 /// Takes the figures of so many jobs.
 pub fn measure<R: Clock + Threads + Sync>(
     rt: &R,
@@ -37,14 +58,46 @@ pub fn measure<R: Clock + Threads + Sync>(
     figures: &mut Figures,
 ) -> Result<()> {
     let sum = AtomicU64::new(0);
-    figures.take(rt, over(Call::Additions, jobs), || Ok(added(&sum, jobs)))?;
-    figures.take(rt, over(Call::OneWorker, jobs), || ran(rt, alloc, jobs, 1))?;
-    figures.take(rt, over(Call::TwoWorkers, jobs), || ran(rt, alloc, jobs, 2))?;
-    figures.take(
-        rt,
-        over(Call::FourWorkers, jobs),
-        || ran(rt, alloc, jobs, 4),
-    )
+    let mut run = Additions {
+        sum: &sum,
+        times: jobs,
+    };
+    figures.take(rt, over(Call::Additions, jobs), &mut run)?;
+    for by in WORKERS {
+        measure_board(rt, alloc, jobs, *by, figures)?;
+    }
+    Ok(())
+}
+
+/// Takes the figure of the board with so many workers. It has a loop of its own, since no method of a trait may start threads
+/// by what its `impl` asks of a type.
+fn measure_board<R: Clock + Threads + Sync>(
+    rt: &R,
+    alloc: Global,
+    jobs: u32,
+    by: (u64, Call),
+    figures: &mut Figures,
+) -> Result<()> {
+    let (workers, call) = by;
+    let mut time = Duration::MAX;
+    for _round in 0..figures.rounds() {
+        let (given, told) = timed(rt, alloc, jobs, workers)?;
+        time = time.min(told);
+        figures.fold(given);
+    }
+    figures.keep(over(call, jobs), time)
+}
+
+/// What a run of so many jobs gives, and how long it took.
+fn timed<R: Clock + Threads + Sync>(
+    rt: &R,
+    alloc: Global,
+    jobs: u32,
+    workers: u64,
+) -> Result<(u32, Duration)> {
+    let start = Instant::now(rt)?;
+    let given = ran(rt, alloc, jobs, workers)?;
+    Ok((given, start.elapsed(rt)?))
 }
 
 /// Work of so many jobs, in which no bytes are read.

@@ -23,6 +23,7 @@ use figures::Figures;
 use std::alloc::Global;
 use std::env;
 use std::rt::Clock;
+use std::thread::Threads;
 
 /// How much a run does.
 struct Extent {
@@ -56,7 +57,7 @@ const TINY: Extent = Extent {
 };
 
 /// Takes the figures of pseudo-random bytes and of so many keys.
-fn measure(
+fn measure_bytes(
     clock: &impl Clock,
     alloc: Global,
     bytes: &[u8],
@@ -72,20 +73,45 @@ fn measure(
     comparing::measure(clock, alloc, bytes, keys, figures)
 }
 
+/// Takes the figures of a run that does so much, over these bytes, but those of a file.
+fn measure<R: Clock + Threads + Sync>(
+    rt: &R,
+    alloc: Global,
+    extent: &Extent,
+    bytes: &[u8],
+    figures: &mut Figures,
+) -> Result<()> {
+    measure_bytes(rt, alloc, bytes, extent.keys, figures)?;
+    manifests::measure(rt, alloc, extent.files, figures)?;
+    jobs::measure(rt, alloc, extent.jobs, figures)
+}
+
+/// Takes the figures of a file of these bytes, and prints the table.
+fn end_full(rt: &HostRuntime, bytes: &[u8], figures: &mut Figures) -> Result<()> {
+    files::measure(rt, bytes, figures)?;
+    figures.print(rt)
+}
+
+/// Prints that all figures were taken.
+fn end_tiny(rt: &impl Print) -> Result<()> {
+    println!(rt; "bench: all figures were taken")?;
+    Ok(())
+}
+
+/// Whether a word of the command line is `full`.
+fn is_full(rt: &HostRuntime) -> Result<bool> {
+    Ok(env::args(rt)?.any(|word| word.as_str() == "full"))
+}
+
 fn main(rt: HostRuntime) -> Result<()> {
-    let is_full = env::args(&rt)?.any(|word| word.as_str() == "full");
+    let is_full = is_full(&rt)?;
     let extent = if is_full { &FULL } else { &TINY };
-    let alloc = rt.alloc();
-    let bytes = random::bytes(alloc, extent.bytes)?;
-    let mut figures = Figures::new(alloc, extent.rounds);
-    measure(&rt, alloc, &bytes, extent.keys, &mut figures)?;
-    manifests::measure(&rt, alloc, extent.files, &mut figures)?;
-    jobs::measure(&rt, alloc, extent.jobs, &mut figures)?;
+    let bytes = random::bytes(rt.alloc(), extent.bytes)?;
+    let mut figures = Figures::new(rt.alloc(), extent.rounds);
+    measure(&rt, rt.alloc(), extent, &bytes, &mut figures)?;
     if is_full {
-        files::measure(&rt, &bytes, &mut figures)?;
-        figures.print(&rt)
+        end_full(&rt, &bytes, &mut figures)
     } else {
-        println!(rt; "bench: all figures were taken")?;
-        Ok(())
+        end_tiny(&rt)
     }
 }

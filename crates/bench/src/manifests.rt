@@ -1,8 +1,10 @@
 //! Figures of manifests: their records read, their edits read and applied, and the files of a level put in order.
 
+ghost use Rattle.std.specs.Prelude.{◌<◌, ◌^◌, length};
 ghost use Rattle.edit.specs.Edit.{HasLevels, edit_in};
 
-use crate::figures::{Call, Figures, Turn, Work};
+use crate::figures::{Call, Figures, Turn, Turned, Work};
+use crate::tables::low_bits;
 use anyhow::Result;
 use coding::{push_slice, push_varint};
 use edit::{FileMeta, Version, VersionEdit};
@@ -18,7 +20,7 @@ const SPREAD: u64 = 0x9e37_79b9_7f4a_7c15;
 /// A value at sequence 1, as the last eight bytes of an internal key.
 const TAG: [u8; 8] = [1, 1, 0, 0, 0, 0, 0, 0];
 /// The tag of a new-file field.
-pub const NEW_FILE: u64 = 7;
+const NEW_FILE: u64 = 7;
 /// The level of each file.
 const LEVEL: u64 = 1;
 /// The length of each table, 2 MiB.
@@ -43,15 +45,32 @@ struct Manifests {
 
 impl Manifests {
     /// A turn of work that is as much as all of them.
-    fn turn<S>(&self, call: Call, on: S) -> Turn<S> {
+    fn turn<T>(&self, call: Call, run: T) -> Turn<T> {
         let work = Work {
             call,
-            bytes: self.all.first().map_or(0, |manifest| manifest.log.len()),
+            bytes: self.log_len(),
             entries: self.files as usize,
         };
-        let times = number_of(&self.all);
-        Turn { on, work, times }
+        let times = low_bits(self.all.len());
+        Turn { run, work, times }
     }
+
+    /// The length of a log of theirs; 0 where there is none.
+    fn log_len(&self) -> usize {
+        match self.all.first() {
+            Some(manifest) => manifest.log.len(),
+            None => 0,
+        }
+    }
+}
+
+/// How files stand in a manifest.
+#[derive(Clone, Copy)]
+enum Form {
+    /// All in one record.
+    One,
+    /// Each in a record of its own.
+    Many,
 }
 
 /// An edit that was read.
@@ -61,28 +80,144 @@ struct Decoded {
     ghost levels: { HasLevels (edit_in edit) },
 }
 
+/// Reads the records of each manifest.
+#[derive(Clone, Copy)]
+struct Reading<'a> {
+    alloc: Global,
+    manifests: &'a [Manifest],
+}
+
+impl Turned for Reading<'_> {
+    type Source = ();
+
+    type Made = Vec<Vec<Vec<u8>>>;
+
+    fn source(&self) -> Result<()> {
+        Ok(())
+    }
+
+    fn run(&self, _source: ()) -> Result<(u32, Vec<Vec<Vec<u8>>>)> {
+        read_all(self.alloc, self.manifests)
+    }
+}
+
+/// Reads the edits of each manifest.
+#[derive(Clone, Copy)]
+struct Decoding<'a> {
+    alloc: Global,
+    manifests: &'a [Manifest],
+}
+
+impl Turned for Decoding<'_> {
+    type Source = ();
+
+    type Made = Vec<Vec<Decoded>>;
+
+    fn source(&self) -> Result<()> {
+        Ok(())
+    }
+
+    fn run(&self, _source: ()) -> Result<(u32, Vec<Vec<Decoded>>)> {
+        decode_all(self.alloc, self.manifests)
+    }
+}
+
+/// Applies the edits of each manifest one after the other, each to the version that the last one made. They are read before the
+/// clock starts.
+#[derive(Clone, Copy)]
+struct Applying<'a> {
+    alloc: Global,
+    manifests: &'a [Manifest],
+}
+
+impl Turned for Applying<'_> {
+    type Source = Vec<Vec<Decoded>>;
+
+    type Made = Vec<Version>;
+
+    fn source(&self) -> Result<Vec<Vec<Decoded>>> {
+        edits_of_each(self.alloc, self.manifests)
+    }
+
+    fn run(&self, source: Vec<Vec<Decoded>>) -> Result<(u32, Vec<Version>)> {
+        applied_all(self.alloc, source)
+    }
+}
+
+/// Applies edits each to an empty version, which stays as it is.
+#[derive(Clone, Copy)]
+struct ApplyingEach<'a> {
+    alloc: Global,
+    edits: &'a [Vec<Decoded>],
+}
+
+impl Turned for ApplyingEach<'_> {
+    type Source = ();
+
+    type Made = Vec<Version>;
+
+    fn source(&self) -> Result<()> {
+        Ok(())
+    }
+
+    fn run(&self, _source: ()) -> Result<(u32, Vec<Version>)> {
+        apply_all(self.alloc, self.edits)
+    }
+}
+
+/// Puts the files of each version's level in order.
+#[derive(Clone, Copy)]
+struct Sorting<'a> {
+    alloc: Global,
+    versions: &'a [Version],
+}
+
+impl<'a> Turned for Sorting<'a> {
+    type Source = ();
+
+    type Made = Vec<Vec<&'a FileMeta>>;
+
+    fn source(&self) -> Result<()> {
+        Ok(())
+    }
+
+    fn run(&self, _source: ()) -> Result<(u32, Vec<Vec<&'a FileMeta>>)> {
+        order_all(self.alloc, self.versions)
+    }
+}
+
 /// Takes the figures of a manifest of so many new files, in turn with ten manifests that have a tenth of these files each, so
 /// that a round is as much work over as much memory: all files of a manifest in one record, and a record for each.
 pub fn measure(clock: &impl Clock, alloc: Global, files: u64, figures: &mut Figures) -> Result<()> {
-    measure_one(clock, alloc, files, figures)?;
-    measure_many(clock, alloc, files, figures)
+    measure_form(clock, alloc, files, Form::One, figures)?;
+    measure_form(clock, alloc, files, Form::Many, figures)
+}
+
+/// Takes the figures of manifests that have their files in this form.
+fn measure_form(
+    clock: &impl Clock,
+    alloc: Global,
+    files: u64,
+    form: Form,
+    figures: &mut Figures,
+) -> Result<()> {
+    let tenths = manifests_of(alloc, form, 10, files / 10)?;
+    let whole = manifests_of(alloc, form, 1, files)?;
+    match form {
+        Form::One => measure_one(clock, alloc, [&tenths, &whole], figures),
+        Form::Many => measure_many(clock, alloc, [&tenths, &whole], figures),
+    }
 }
 
 /// Takes the figures of manifests that have all their files in one record.
-fn measure_one(clock: &impl Clock, alloc: Global, files: u64, figures: &mut Figures) -> Result<()> {
-    let tenths = one_record_each(alloc, 10, files / 10)?;
-    let whole = one_record_each(alloc, 1, files)?;
-    measure_whole(clock, alloc, [&tenths, &whole], figures)
-}
-
-/// The same, where they are written.
-fn measure_whole(
+fn measure_one(
     clock: &impl Clock,
     alloc: Global,
     both: [&Manifests; 2],
     figures: &mut Figures,
 ) -> Result<()> {
-    measure_read(clock, alloc, both, [Call::Records, Call::Decode], figures)?;
+    measure_records(clock, alloc, both, Call::Records, figures)?;
+    measure_decode(clock, alloc, both, Call::Decode, figures)?;
     measure_applied(clock, alloc, both, Call::Applied, figures)?;
     measure_apply(clock, alloc, both, figures)?;
     measure_levels(clock, alloc, both, figures)
@@ -92,48 +227,41 @@ fn measure_whole(
 fn measure_many(
     clock: &impl Clock,
     alloc: Global,
-    files: u64,
-    figures: &mut Figures,
-) -> Result<()> {
-    let tenths = many_records_each(alloc, 10, files / 10)?;
-    let whole = many_records_each(alloc, 1, files)?;
-    measure_parted(clock, alloc, [&tenths, &whole], figures)
-}
-
-/// The same, where they are written.
-fn measure_parted(
-    clock: &impl Clock,
-    alloc: Global,
     both: [&Manifests; 2],
     figures: &mut Figures,
 ) -> Result<()> {
-    measure_read(
-        clock,
-        alloc,
-        both,
-        [Call::ManyRecords, Call::ManyDecode],
-        figures,
-    )?;
+    measure_records(clock, alloc, both, Call::ManyRecords, figures)?;
+    measure_decode(clock, alloc, both, Call::ManyDecode, figures)?;
     measure_applied(clock, alloc, both, Call::ManyApplied, figures)
 }
 
-/// So many manifests of so many new files each, in one record, their numbers rising from manifest to manifest.
-fn one_record_each(alloc: Global, count: u64, files: u64) -> Result<Manifests> {
+/// So many manifests of so many new files each, their numbers rising from manifest to manifest.
+fn manifests_of(alloc: Global, form: Form, count: u64, files: u64) -> Result<Manifests> {
     let mut all = Vec::new(alloc);
     for place in 0..count {
-        let fields = fields(alloc, place.saturating_mul(files), files)?;
-        all.push(manifest_of(alloc, vec![in alloc; joined(alloc, &fields)?]?)?)?;
+        let records = records_of(alloc, form, place.saturating_mul(files), files);
+        push_manifest(alloc, &mut all, records)?;
     }
     Ok(Manifests { all, files })
 }
 
-/// So many manifests of so many new files each, a record for each file, their numbers rising from manifest to manifest.
-fn many_records_each(alloc: Global, count: u64, files: u64) -> Result<Manifests> {
-    let mut all = Vec::new(alloc);
-    for place in 0..count {
-        all.push(manifest_of(alloc, fields(alloc, place.saturating_mul(files), files)?)?)?;
+/// Appends the manifest of these records, where memory for them was not refused.
+fn push_manifest(
+    alloc: Global,
+    all: &mut Vec<Manifest>,
+    records: Result<Vec<Vec<u8>>>,
+) -> Result<()> {
+    all.push(manifest_of(alloc, records?)?)?;
+    Ok(())
+}
+
+/// The records of so many new files, with the numbers from one on.
+fn records_of(alloc: Global, form: Form, from: u64, files: u64) -> Result<Vec<Vec<u8>>> {
+    let fields = fields(alloc, from, files)?;
+    match form {
+        Form::One => Ok(vec![in alloc; joined(alloc, &fields)?]?),
+        Form::Many => Ok(fields),
     }
-    Ok(Manifests { all, files })
 }
 
 /// The manifest of the records.
@@ -142,31 +270,39 @@ fn manifest_of(alloc: Global, records: Vec<Vec<u8>>) -> Result<Manifest> {
     Ok(Manifest { log, records })
 }
 
-/// Takes the figures of the manifests' records read, and of their edits read.
-fn measure_read(
+/// Takes the figures of the manifests' records read.
+fn measure_records(
     clock: &impl Clock,
     alloc: Global,
     both: [&Manifests; 2],
-    calls: [Call; 2],
+    call: Call,
     figures: &mut Figures,
 ) -> Result<()> {
-    let [reading, decoding] = calls;
-    figures.take_in_turn(
-        clock,
-        both.map(|manifests| manifests.turn(reading, manifests)),
-        |_| Ok(()),
-        |turn, _| read_all(alloc, &turn.on.all),
-    )?;
-    figures.take_in_turn(
-        clock,
-        both.map(|manifests| manifests.turn(decoding, manifests)),
-        |_| Ok(()),
-        |turn, _| decode_all(alloc, &turn.on.all),
-    )
+    let [tenths, whole] = both;
+    let manifests = &tenths.all;
+    let first = tenths.turn(call, Reading { alloc, manifests });
+    let manifests = &whole.all;
+    let second = whole.turn(call, Reading { alloc, manifests });
+    figures.take_in_turn(clock, &first, &second)
 }
 
-/// Takes the figure of the manifests' edits applied one after the other, each to the version that the last one made. In each
-/// round the edits are read before the clock starts.
+/// Takes the figures of the manifests' edits read.
+fn measure_decode(
+    clock: &impl Clock,
+    alloc: Global,
+    both: [&Manifests; 2],
+    call: Call,
+    figures: &mut Figures,
+) -> Result<()> {
+    let [tenths, whole] = both;
+    let manifests = &tenths.all;
+    let first = tenths.turn(call, Decoding { alloc, manifests });
+    let manifests = &whole.all;
+    let second = whole.turn(call, Decoding { alloc, manifests });
+    figures.take_in_turn(clock, &first, &second)
+}
+
+/// Takes the figures of the manifests' edits applied, each to the version that the last one made.
 fn measure_applied(
     clock: &impl Clock,
     alloc: Global,
@@ -174,15 +310,15 @@ fn measure_applied(
     call: Call,
     figures: &mut Figures,
 ) -> Result<()> {
-    figures.take_in_turn(
-        clock,
-        both.map(|manifests| manifests.turn(call, manifests)),
-        |turn| edits_of_each(alloc, &turn.on.all),
-        |_, edits| applied_all(alloc, edits),
-    )
+    let [tenths, whole] = both;
+    let manifests = &tenths.all;
+    let first = tenths.turn(call, Applying { alloc, manifests });
+    let manifests = &whole.all;
+    let second = whole.turn(call, Applying { alloc, manifests });
+    figures.take_in_turn(clock, &first, &second)
 }
 
-/// Takes the figures of the manifests' edits each applied to an empty version, which stays as it is.
+/// Takes the figures of the manifests' edits each applied to an empty version.
 fn measure_apply(
     clock: &impl Clock,
     alloc: Global,
@@ -190,17 +326,11 @@ fn measure_apply(
     figures: &mut Figures,
 ) -> Result<()> {
     let [tenths, whole] = both;
-    let tenths_edits = edits_of_each(alloc, &tenths.all)?;
-    let whole_edits = edits_of_each(alloc, &whole.all)?;
-    figures.take_in_turn(
-        clock,
-        [
-            tenths.turn(Call::Apply, &tenths_edits),
-            whole.turn(Call::Apply, &whole_edits),
-        ],
-        |_| Ok(()),
-        |turn, _| apply_all(alloc, turn.on),
-    )
+    let edits = &edits_of_each(alloc, &tenths.all)?;
+    let first = tenths.turn(Call::Apply, ApplyingEach { alloc, edits });
+    let edits = &edits_of_each(alloc, &whole.all)?;
+    let second = whole.turn(Call::Apply, ApplyingEach { alloc, edits });
+    figures.take_in_turn(clock, &first, &second)
 }
 
 /// Takes the figures of the files of a level of what the manifests' edits make.
@@ -211,17 +341,11 @@ fn measure_levels(
     figures: &mut Figures,
 ) -> Result<()> {
     let [tenths, whole] = both;
-    let tenths_versions = versions_of(alloc, tenths)?;
-    let whole_versions = versions_of(alloc, whole)?;
-    figures.take_in_turn(
-        clock,
-        [
-            tenths.turn(Call::LevelFiles, &tenths_versions),
-            whole.turn(Call::LevelFiles, &whole_versions),
-        ],
-        |_| Ok(()),
-        |turn, _| order_all(alloc, turn.on),
-    )
+    let versions = &versions_of(alloc, tenths)?;
+    let first = tenths.turn(Call::LevelFiles, Sorting { alloc, versions });
+    let versions = &versions_of(alloc, whole)?;
+    let second = whole.turn(Call::LevelFiles, Sorting { alloc, versions });
+    figures.take_in_turn(clock, &first, &second)
 }
 
 /// The versions that the edits of manifests make of empty ones.
@@ -236,13 +360,13 @@ fn read_all(alloc: Global, manifests: &[Manifest]) -> Result<(u32, Vec<Vec<Vec<u
     for manifest in manifests {
         all.push(records(alloc, &manifest.log)?)?;
     }
-    Ok((number_of(&all), all))
+    Ok((low_bits(all.len()), all))
 }
 
 /// Reads the edits of each manifest.
 fn decode_all(alloc: Global, manifests: &[Manifest]) -> Result<(u32, Vec<Vec<Decoded>>)> {
     let all = edits_of_each(alloc, manifests)?;
-    Ok((number_of(&all), all))
+    Ok((low_bits(all.len()), all))
 }
 
 /// The edits of each manifest.
@@ -270,7 +394,7 @@ fn applied_all(alloc: Global, sources: Vec<Vec<Decoded>>) -> Result<(u32, Vec<Ve
     for edits in sources {
         versions.push(applied(alloc, edits)?)?;
     }
-    Ok((number_of(&versions), versions))
+    Ok((low_bits(versions.len()), versions))
 }
 
 /// The version that the edits make of an empty one.
@@ -289,7 +413,7 @@ fn apply_all(alloc: Global, sources: &[Vec<Decoded>]) -> Result<(u32, Vec<Versio
     for decoded in sources.iter().flatten() {
         versions.push(empty.apply::<Bytewise>(alloc, &decoded.edit)?)?;
     }
-    Ok((number_of(&versions), versions))
+    Ok((low_bits(versions.len()), versions))
 }
 
 /// The files of each version's level in order.
@@ -298,12 +422,7 @@ fn order_all<'a>(alloc: Global, versions: &'a [Version]) -> Result<(u32, Vec<Vec
     for version in versions {
         all.push(version.files::<Bytewise>(alloc, LEVEL)?)?;
     }
-    Ok((number_of(&all), all))
-}
-
-/// How many there are, modulo 2^32.
-fn number_of<T>(items: &[T]) -> u32 {
-    (items.len() % (1 << 32)) as u32
+    Ok((low_bits(all.len()), all))
 }
 
 /// The log of the records. It is written block by block, so that no byte is copied often.
@@ -311,16 +430,20 @@ fn log_of(alloc: Global, records: &[Vec<u8>]) -> Result<Vec<u8>> {
     let mut log = Vec::new(alloc);
     let mut behind = Vec::new(alloc);
     for record in records {
-        behind = append(alloc, &behind, record)?;
-        let (whole, rest) = behind.split_at(behind.len() / BLOCK_LEN * BLOCK_LEN);
-        log.extend_from_slice(whole)?;
-        if !whole.is_empty() {
-            let rest = Vec::from_slice(alloc, rest)?;
-            behind = rest;
-        }
+        behind = without_whole(alloc, &mut log, append(alloc, &behind, record)?)?;
     }
     log.extend_from_slice(&behind)?;
     Ok(log)
+}
+
+/// What is behind the whole blocks of these bytes, which are appended to the log.
+fn without_whole(alloc: Global, log: &mut Vec<u8>, bytes: Vec<u8>) -> Result<Vec<u8>> {
+    let (whole, rest) = bytes.split_at(bytes.len() / BLOCK_LEN * BLOCK_LEN);
+    if whole.is_empty() {
+        return Ok(bytes);
+    }
+    log.extend_from_slice(whole)?;
+    Ok(Vec::from_slice(alloc, rest)?)
 }
 
 /// The fields, one behind the other.
@@ -347,12 +470,26 @@ fn field(alloc: Global, number: u64) -> Result<Vec<u8>> {
     let user = FIRST_KEY + u128::from(number.wrapping_mul(SPREAD));
     key[..16].copy_from_slice(&user.to_be_bytes());
     key[16..].copy_from_slice(&TAG);
-    let mut bytes = Vec::new(alloc);
-    push_varint(&mut bytes, NEW_FILE)?;
-    push_varint(&mut bytes, LEVEL)?;
-    push_varint(&mut bytes, number)?;
-    push_varint(&mut bytes, TABLE_LEN)?;
-    push_slice(&mut bytes, &key)?;
-    push_slice(&mut bytes, &key)?;
-    Ok(bytes)
+    let mut field = Vec::new(alloc);
+    push_file(&mut field, [LEVEL, number, TABLE_LEN], &key, &key)?;
+    Ok(field)
+}
+
+/// Appends a new-file field: the level, the number and the length of a table, and its smallest and its largest key.
+pub fn push_file(
+    fields: &mut Vec<u8>,
+    numbers: [u64; 3],
+    smallest: &[u8],
+    largest: &[u8],
+) -> Result<()>
+    requires smallest { length smallest.now < 2 ^ 32 }
+    requires largest { length largest.now < 2 ^ 32 }
+{
+    push_varint(fields, NEW_FILE)?;
+    for number in numbers.iter() {
+        push_varint(fields, *number)?;
+    }
+    push_slice(fields, smallest)?;
+    push_slice(fields, largest)?;
+    Ok(())
 }

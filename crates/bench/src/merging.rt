@@ -2,7 +2,7 @@
 
 ghost use Rattle.std.specs.Prelude.{◌<◌};
 
-use crate::figures::{Call, Figures, Work};
+use crate::figures::{Call, Figures, Run, Work};
 use crate::tables::{ENTRY_LEN, VALUE_LEN, add, begun, last_of};
 use anyhow::Result;
 use ikey::Bytewise;
@@ -14,12 +14,30 @@ use table::{Cursor, SoundTable, TableCursor, check};
 /// What part of the bytes are the values of the entries that are merged.
 const PART: usize = 8;
 /// How many cursors there are, with the call that merges them and the one that passes over them.
-const NUMBERS: [(usize, Call, Call); 4] = [
+const NUMBERS: &[(usize, Call, Call)] = &[
     (4, Call::MergeFour, Call::PassFour),
     (16, Call::MergeSixteen, Call::PassSixteen),
     (64, Call::MergeSixtyFour, Call::PassSixtyFour),
     (256, Call::MergeMany, Call::PassMany),
 ];
+
+/// How cursors over so many entries are walked as one.
+#[derive(Clone, Copy)]
+enum Walked<'a, 't> {
+    /// By a tournament.
+    Merged(Global, &'a [SoundTable<'t, Bytewise>], usize),
+    /// By a pass over all of them for each entry.
+    Passed(Global, &'a [SoundTable<'t, Bytewise>], usize),
+}
+
+impl Run for Walked<'_, '_> {
+    fn run(&mut self) -> Result<u32> {
+        match *self {
+            Walked::Merged(alloc, tables, entries) => merged(alloc, tables, entries),
+            Walked::Passed(alloc, tables, entries) => passed(alloc, tables, entries),
+        }
+    }
+}
 
 /// Takes the figures of the same entries, dealt out to more and more tables.
 pub fn measure(
@@ -30,43 +48,48 @@ pub fn measure(
 ) -> Result<()> {
     let (values, _) = bytes.split_at(bytes.len() / PART);
     let (values, _) = values.as_chunks::<VALUE_LEN>();
-    for (number, merge, pass) in NUMBERS {
-        let written = dealt(alloc, values, number)?;
-        measure_dealt(clock, alloc, &written, values.len(), [merge, pass], figures)?;
+    for row in NUMBERS {
+        let (number, merge, pass) = *row;
+        let works = [over(merge, values.len()), over(pass, values.len())];
+        measure_dealt(clock, alloc, dealt(alloc, values, number), works, figures)?;
     }
     Ok(())
 }
 
-/// Takes the figures of so many entries that were dealt out to these tables.
+/// Work over so many entries.
+fn over(call: Call, entries: usize) -> Work {
+    Work {
+        call,
+        bytes: 0,
+        entries,
+    }
+}
+
+/// Takes the figures of entries that were dealt out to these tables, where memory for them was not refused.
 fn measure_dealt(
     clock: &impl Clock,
     alloc: Global,
-    written: &[Vec<u8>],
-    entries: usize,
-    calls: [Call; 2],
+    written: Result<Vec<Vec<u8>>>,
+    works: [Work; 2],
     figures: &mut Figures,
 ) -> Result<()> {
-    let tables = sound(alloc, written)?;
-    measure_sound(clock, alloc, &tables, entries, calls, figures)
+    let written = written?;
+    measure_sound(clock, alloc, &sound(alloc, &written)?, works, figures)
 }
 
-/// The same, where the tables are checked.
+/// Takes the figures of the entries of these tables.
 fn measure_sound(
     clock: &impl Clock,
     alloc: Global,
     tables: &[SoundTable<'_, Bytewise>],
-    entries: usize,
-    calls: [Call; 2],
+    works: [Work; 2],
     figures: &mut Figures,
 ) -> Result<()> {
-    let [merge, pass] = calls;
-    let work = |call| Work {
-        call,
-        bytes: 0,
-        entries,
-    };
-    figures.take(clock, work(merge), || merged(alloc, tables, entries))?;
-    figures.take(clock, work(pass), || passed(alloc, tables, entries))
+    let [merge, pass] = works;
+    let mut run = Walked::Merged(alloc, tables, merge.entries);
+    figures.take(clock, merge, &mut run)?;
+    let mut run = Walked::Passed(alloc, tables, pass.entries);
+    figures.take(clock, pass, &mut run)
 }
 
 /// At most so many tables, whose entries have rising keys and these values, each dealt out by the first byte of its value. A table

@@ -44,16 +44,34 @@ fn measure_planned(
     entries: usize,
     figures: &mut Figures,
 ) -> Result<()> {
-    let over = |call| Work {
-        call,
+    let work = Work {
+        call: Call::Encode,
         bytes: table_bytes(plan),
         entries,
     };
-    figures.take_made(clock, over(Call::Encode), || {
+    figures.take_made(clock, work, || {
         let pieces = pieces_of(alloc, plan)?;
         Ok((folded(&pieces), pieces))
     })?;
-    figures.take_told(over(Call::Assemble), || assembled(clock, alloc, plan))
+    let call = Call::Assemble;
+    take_assembled(clock, alloc, plan, Work { call, ..work }, figures)
+}
+
+/// Takes the figure of this work, the outputs of a plan assembled, in as many rounds as short work has.
+fn take_assembled(
+    clock: &impl Clock,
+    alloc: Global,
+    plan: &Plan<'_, '_, Bytewise>,
+    work: Work,
+    figures: &mut Figures,
+) -> Result<()> {
+    let mut time = Duration::MAX;
+    for _round in 0..figures.short_rounds() {
+        let (given, told) = assembled(clock, alloc, plan)?;
+        time = time.min(told);
+        figures.fold(given);
+    }
+    figures.keep(work, time)
 }
 
 /// The plan of the outputs of runs.

@@ -79,15 +79,13 @@ fn measure_range<'a>(
 
 /// Inputs that have no files beside or below them.
 fn no_files(alloc: Global) -> Result<Inputs> {
+    let key = KeyBuf::new(alloc, &[], MAX_SEQUENCE, Kind::Put)?;
     Ok(Inputs {
         level: 0,
         files: Vec::new(alloc),
         grandparents: Vec::new(alloc),
         deeper: Vec::new(alloc),
-        pointer: CompactPointer {
-            level: 0,
-            key: KeyBuf::new(alloc, &[], MAX_SEQUENCE, Kind::Put)?,
-        },
+        pointer: CompactPointer { level: 0, key },
     })
 }
 

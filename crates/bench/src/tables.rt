@@ -1,6 +1,8 @@
 //! Figures of a table: written, checked and walked over.
 
-use crate::figures::{Call, Figures, Work};
+ghost use Rattle.std.specs.Prelude.{◌<◌, length};
+
+use crate::figures::{Call, Figures, Run, Work};
 use anyhow::{Result, ensure};
 use ikey::{Bytewise, InternalKey};
 use std::alloc::Global;
@@ -19,6 +21,30 @@ const SEEKS: usize = 10_000;
 /// A value at sequence 1, as the last eight bytes of an internal key.
 const TAG: [u8; 8] = [1, 1, 0, 0, 0, 0, 0, 0];
 
+/// Work on a table.
+#[derive(Clone, Copy)]
+enum Tables<'a, 't> {
+    /// Checks it.
+    Check(Global, &'a [u8]),
+    /// Walks over it.
+    Walk(Global, &'a SoundTable<'t, Bytewise>),
+    /// Seeks these keys.
+    Seek(Global, &'a SoundTable<'t, Bytewise>, &'a [[u8; 24]]),
+    /// Writes the entries of these values as files.
+    Write(Global, &'a [u8]),
+}
+
+impl Run for Tables<'_, '_> {
+    fn run(&mut self) -> Result<u32> {
+        match *self {
+            Tables::Check(alloc, table) => checked(alloc, table),
+            Tables::Walk(alloc, table) => walk(alloc, table),
+            Tables::Seek(alloc, table, keys) => seek(alloc, table, keys),
+            Tables::Write(alloc, values) => write_files(alloc, values),
+        }
+    }
+}
+
 /// Takes the figures of a table whose values are pseudo-random bytes, about as long as the bytes.
 pub fn measure(
     clock: &impl Clock,
@@ -28,27 +54,50 @@ pub fn measure(
 ) -> Result<()> {
     let (values, _) = bytes.split_at(bytes.len() / ENTRY_LEN * VALUE_LEN);
     let table = written(alloc, values)?;
-    measure_read(clock, alloc, &table, values.len() / VALUE_LEN, figures)?;
-    measure_written(clock, alloc, values, table.len(), figures)
+    let work = Work {
+        call: Call::TableCheck,
+        bytes: table.len(),
+        entries: values.len() / VALUE_LEN,
+    };
+    measure_read(clock, alloc, &table, work, figures)?;
+    measure_written(clock, alloc, values, work, figures)
 }
 
-/// Takes the figures of a table of so many entries that is checked, walked over and searched.
+/// Takes the figures of a table that is checked, which is this work, walked over and searched.
 fn measure_read(
     clock: &impl Clock,
     alloc: Global,
     table: &[u8],
-    entries: usize,
+    work: Work,
     figures: &mut Figures,
 ) -> Result<()> {
-    let work = Work {
-        call: Call::TableCheck,
-        bytes: table.len(),
-        entries,
-    };
-    figures.take(clock, work, || checked(alloc, table))?;
+    figures.take(clock, work, &mut Tables::Check(alloc, table))?;
     let sound = check::<Bytewise>(alloc, table)?;
-    measure_walk(clock, alloc, &sound, entries, figures)?;
-    measure_seeks(clock, alloc, &sound, entries, figures)
+    measure_sound(clock, alloc, &sound, work, figures)
+}
+
+/// Takes the figures of a table that is walked over and searched.
+fn measure_sound(
+    clock: &impl Clock,
+    alloc: Global,
+    table: &SoundTable<'_, Bytewise>,
+    work: Work,
+    figures: &mut Figures,
+) -> Result<()> {
+    let walk = over(Call::TableCursor, work);
+    figures.take(clock, walk, &mut Tables::Walk(alloc, table))?;
+    let keys = spread(alloc, work.entries)?;
+    let seek = Work {
+        call: Call::TableSeek,
+        bytes: 0,
+        entries: keys.len(),
+    };
+    figures.take(clock, seek, &mut Tables::Seek(alloc, table, &keys))
+}
+
+/// Another call over as much as this work.
+fn over(call: Call, work: Work) -> Work {
+    Work { call, ..work }
 }
 
 /// Checks a table, and gives the last byte of its largest key.
@@ -57,61 +106,20 @@ fn checked(alloc: Global, table: &[u8]) -> Result<u32> {
     Ok(last_of(sound.largest().bytes()))
 }
 
-/// Takes the figure of a walk over a table of so many entries.
-fn measure_walk(
-    clock: &impl Clock,
-    alloc: Global,
-    table: &SoundTable<'_, Bytewise>,
-    entries: usize,
-    figures: &mut Figures,
-) -> Result<()> {
-    let work = Work {
-        call: Call::TableCursor,
-        bytes: table.bytes().len(),
-        entries,
-    };
-    figures.take(clock, work, || walk(alloc, table))
-}
-
-/// Takes the figure of seeks in a table of so many entries.
-fn measure_seeks(
-    clock: &impl Clock,
-    alloc: Global,
-    table: &SoundTable<'_, Bytewise>,
-    entries: usize,
-    figures: &mut Figures,
-) -> Result<()> {
-    let keys = spread(alloc, entries)?;
-    let work = Work {
-        call: Call::TableSeek,
-        bytes: 0,
-        entries: keys.len(),
-    };
-    figures.take(clock, work, || seek(alloc, table, &keys))
-}
-
-/// Takes the figures of writing entries of these values: as one table, so many bytes long, and as files.
+/// Takes the figures of writing entries of these values: as one table, and as files.
 fn measure_written(
     clock: &impl Clock,
     alloc: Global,
     values: &[u8],
-    bytes: usize,
+    work: Work,
     figures: &mut Figures,
 ) -> Result<()> {
-    let over = |call| Work {
-        call,
-        bytes,
-        entries: values.len() / VALUE_LEN,
-    };
-    figures.take_made(clock, over(Call::TableBuilder), || {
+    figures.take_made(clock, over(Call::TableBuilder, work), || {
         let table = written(alloc, values)?;
         Ok((last_of(&table), table))
     })?;
-    figures.take(
-        clock,
-        over(Call::FileBuilder),
-        || write_files(alloc, values),
-    )
+    let work = over(Call::FileBuilder, work);
+    figures.take(clock, work, &mut Tables::Write(alloc, values))
 }
 
 /// The table of entries whose keys rise and whose values are these bytes, in turn.
@@ -131,18 +139,19 @@ fn write_files(alloc: Global, values: &[u8]) -> Result<u32> {
     let mut builder = begun(alloc, file_size)?;
     let (values, _) = values.as_chunks::<VALUE_LEN>();
     for (i, value) in values.iter().enumerate() {
-        if builder.flushed() >= file_size {
-            let next = begun(alloc, file_size)?;
-            folded = folded.wrapping_add(ended(&mut builder, next)?);
-        }
+        folded = folded.wrapping_add(ended(alloc, &mut builder, file_size)?);
         add(&mut builder, i, value)?;
     }
     Ok(folded.wrapping_add(last_of(&builder.finish()?)))
 }
 
-/// Ends a table and puts the next one in its place, and gives the last byte of the one that ended.
-fn ended(builder: &mut TableBuilder<Bytewise>, next: TableBuilder<Bytewise>) -> Result<u32> {
-    let table = mem::replace(builder, next).finish()?;
+/// Ends a table that is as long as a file and puts the next one in its place, and gives the last byte of the one that ended; 0
+/// where none did.
+fn ended(alloc: Global, builder: &mut TableBuilder<Bytewise>, file_size: u64) -> Result<u32> {
+    if builder.flushed() < file_size {
+        return Ok(0);
+    }
+    let table = mem::replace(builder, begun(alloc, file_size)?).finish()?;
     Ok(last_of(&table))
 }
 
@@ -182,11 +191,17 @@ fn walk(alloc: Global, table: &SoundTable<'_, Bytewise>) -> Result<u32> {
     let mut cursor = TableCursor::new(alloc, table)?;
     let mut folded = 0u32;
     while cursor.valid() {
-        folded = folded.wrapping_add(last_of(cursor.key().bytes()));
-        folded = folded.wrapping_add(last_of(cursor.value()));
+        folded = folded.wrapping_add(last_of_both(&cursor));
         cursor.advance()?;
     }
     Ok(folded)
+}
+
+/// The sum of the last bytes of the key and the value of a cursor's first entry.
+fn last_of_both(cursor: &TableCursor<'_, Bytewise>) -> u32
+    requires { 0 < length cursor.now }
+{
+    last_of(cursor.key().bytes()).wrapping_add(last_of(cursor.value()))
 }
 
 /// The internal keys of some of so many entries, in equal steps.
@@ -207,17 +222,26 @@ fn seek(alloc: Global, table: &SoundTable<'_, Bytewise>, keys: &[[u8; 24]]) -> R
     let mut cursor = TableCursor::new(alloc, table)?;
     let mut folded = 0u32;
     for key in keys {
-        cursor.seek(InternalKey::parse(key)?)?;
-        if cursor.valid() {
-            folded = folded.wrapping_add(last_of(cursor.key().user()));
-        }
+        folded = folded.wrapping_add(sought(&mut cursor, key)?);
     }
     Ok(folded)
 }
 
+/// Seeks an internal key, and gives the last byte of the user key that it comes to; 0 where there is none.
+fn sought(cursor: &mut TableCursor<'_, Bytewise>, key: &[u8; 24]) -> Result<u32> {
+    cursor.seek(InternalKey::parse(key)?)?;
+    if !cursor.valid() {
+        return Ok(0);
+    }
+    Ok(last_of(cursor.key().user()))
+}
+
 /// The last of some bytes; 0 where there is none.
 pub fn last_of(bytes: &[u8]) -> u32 {
-    bytes.last().map_or(0, |byte| u32::from(*byte))
+    match bytes.last() {
+        Some(byte) => u32::from(*byte),
+        None => 0,
+    }
 }
 
 /// The lowest 32 bits of a number.

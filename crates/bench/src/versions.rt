@@ -1,14 +1,14 @@
 //! Figures of a version's tables: whether they are lawful, beside a check of each two of them, and a split of their user keys,
 //! beside a sort of owned keys.
 
-ghost use Rattle.std.specs.Prelude.{◌<◌};
+ghost use Rattle.std.specs.Prelude.{◌<◌, length};
 
-use crate::figures::{Call, Figures, Work};
-use crate::manifests::NEW_FILE;
+use crate::figures::{Call, Figures, Run, Work};
+use crate::manifests::push_file;
 use crate::merging::sound;
 use crate::tables::{ENTRY_LEN, VALUE_LEN, add, begun, last_of};
 use anyhow::{Result, ensure};
-use coding::{push_slice, push_varint};
+use coding::push_varint;
 use edit::{Version, VersionEdit};
 use ikey::{Bytewise, Comparator};
 use reads::{NumberedTable, lawful};
@@ -27,6 +27,47 @@ const NEXT_FILE: u64 = 3;
 /// How many ranges are wanted of a split.
 const RANGES: usize = 16;
 
+/// A test whether numbered tables are a lawful version.
+#[derive(Clone, Copy)]
+enum Test<'a, 't> {
+    Lawful(Global, &'a Version, &'a [NumberedTable<'t, Bytewise>]),
+    ByPairs(Global, &'a [NumberedTable<'t, Bytewise>]),
+}
+
+impl Run for Test<'_, '_> {
+    fn run(&mut self) -> Result<u32> {
+        match *self {
+            Test::Lawful(alloc, version, tables) => tested(alloc, version, tables),
+            Test::ByPairs(alloc, tables) => tested_by_pairs(alloc, tables),
+        }
+    }
+}
+
+/// A choice of boundaries among the user keys in the indexes of tables.
+#[derive(Clone, Copy)]
+enum Choice<'a, 't> {
+    Split(Global, &'a [SoundTable<'t, Bytewise>]),
+    Sort(Global, &'a [SoundTable<'t, Bytewise>]),
+}
+
+impl Run for Choice<'_, '_> {
+    fn run(&mut self) -> Result<u32> {
+        match *self {
+            Choice::Split(alloc, tables) => chosen(alloc, tables),
+            Choice::Sort(alloc, tables) => sorted(alloc, tables),
+        }
+    }
+}
+
+/// Work over so many entries.
+fn over(call: Call, entries: usize) -> Work {
+    Work {
+        call,
+        bytes: 0,
+        entries,
+    }
+}
+
 /// Takes the figures of entries that are dealt out to the tables of a version, together about as long as the bytes.
 pub fn measure(
     clock: &impl Clock,
@@ -38,7 +79,7 @@ pub fn measure(
     let (values, _) = values.as_chunks::<VALUE_LEN>();
     let written = written(alloc, values)?;
     measure_lawful(clock, alloc, &written, values.len(), figures)?;
-    measure_split(clock, alloc, &written, figures)
+    measure_split(clock, alloc, &sound(alloc, &written)?, figures)
 }
 
 /// The tables of a version, those whose entries are newer first. Half of the entries are at level 0, where all tables overlap.
@@ -92,17 +133,10 @@ fn take_lawful(
     entries: usize,
     figures: &mut Figures,
 ) -> Result<()> {
-    let work = |call| Work {
-        call,
-        bytes: 0,
-        entries,
-    };
-    figures.take(clock, work(Call::Lawful), || tested(alloc, version, tables))?;
-    figures.take(
-        clock,
-        work(Call::LawfulByPairs),
-        || tested_by_pairs(alloc, tables),
-    )
+    let mut run = Test::Lawful(alloc, version, tables);
+    figures.take(clock, over(Call::Lawful, entries), &mut run)?;
+    let mut run = Test::ByPairs(alloc, tables);
+    figures.take(clock, over(Call::LawfulByPairs, entries), &mut run)
 }
 
 /// The tables with falling numbers, the last of which is 1.
@@ -117,30 +151,40 @@ fn numbered<'a>(alloc: Global, written: &'a [Vec<u8>]) -> Result<Vec<NumberedTab
 
 /// The version of tables, the first of which are those of level 0.
 fn version_of(alloc: Global, tables: &[NumberedTable<'_, Bytewise>]) -> Result<Version> {
-    let mut fields = Vec::new(alloc);
-    push_varint(&mut fields, NEXT_FILE)?;
-    push_varint(&mut fields, (tables.len() as u64).saturating_add(1))?;
-    for (place, table) in tables.iter().enumerate() {
-        push_file(&mut fields, if place < UPPER { 0 } else { 1 }, table)?;
-    }
-    let edit = VersionEdit::decode(alloc, &fields)?;
+    let edit = VersionEdit::decode(alloc, &fields(alloc, tables)?)?;
     Ok(Version::empty(alloc).applied::<Bytewise>(edit)?)
 }
 
+/// The fields of its edit.
+fn fields(alloc: Global, tables: &[NumberedTable<'_, Bytewise>]) -> Result<Vec<u8>> {
+    let mut fields = Vec::new(alloc);
+    push_next_file(&mut fields, (tables.len() as u64).saturating_add(1))?;
+    for (place, table) in tables.iter().enumerate() {
+        push_table(&mut fields, if place < UPPER { 0 } else { 1 }, table)?;
+    }
+    Ok(fields)
+}
+
+/// Appends the field of the next file's number.
+fn push_next_file(fields: &mut Vec<u8>, number: u64) -> Result<()> {
+    push_varint(fields, NEXT_FILE)?;
+    push_varint(fields, number)?;
+    Ok(())
+}
+
 /// Appends the new-file field of a table.
-fn push_file(
+fn push_table(
     fields: &mut Vec<u8>,
     level: u64,
     numbered: &NumberedTable<'_, Bytewise>,
 ) -> Result<()> {
     let table = numbered.table();
-    push_varint(fields, NEW_FILE)?;
-    push_varint(fields, level)?;
-    push_varint(fields, numbered.number())?;
-    push_varint(fields, table.bytes().len() as u64)?;
-    push_slice(fields, table.smallest().bytes())?;
-    push_slice(fields, table.largest().bytes())?;
-    Ok(())
+    push_file(
+        fields,
+        [level, numbered.number(), table.bytes().len() as u64],
+        table.smallest().bytes(),
+        table.largest().bytes(),
+    )
 }
 
 /// One where the version is lawful, and else refused.
@@ -166,7 +210,7 @@ fn are_newer(
 ) -> Result<bool> {
     for other in behind {
         let other = other.table();
-        if overlap(table, other) && !has_newer_entries(alloc, table, other)? {
+        if overlap(table, other) && !is_newer(alloc, table, other)? {
             return Ok(false);
         }
     }
@@ -179,61 +223,76 @@ fn overlap(table: &SoundTable<'_, Bytewise>, other: &SoundTable<'_, Bytewise>) -
         && !Bytewise::compare(other.largest().user(), table.smallest().user()).is_lt()
 }
 
-/// Whether each entry of one table has a greater sequence than each entry of its user key in another. It walks over both once.
-fn has_newer_entries(
+/// Whether each entry of one table has a greater sequence than each entry of its user key in another.
+fn is_newer(
     alloc: Global,
     newer: &SoundTable<'_, Bytewise>,
     older: &SoundTable<'_, Bytewise>,
 ) -> Result<bool> {
-    let mut above = TableCursor::new(alloc, newer)?;
-    let mut below = TableCursor::new(alloc, older)?;
+    let above = TableCursor::new(alloc, newer)?;
+    let below = TableCursor::new(alloc, older)?;
+    has_newer_entries(above, below)
+}
+
+/// The same of two cursors. It walks over both once.
+fn has_newer_entries(
+    mut above: TableCursor<'_, Bytewise>,
+    mut below: TableCursor<'_, Bytewise>,
+) -> Result<bool> {
     while above.valid() && below.valid() {
-        let key = above.key();
-        let other = below.key();
-        match Bytewise::compare(key.user(), other.user()) {
-            Ordering::Less => above.advance()?,
-            Ordering::Greater => below.advance()?,
-            Ordering::Equal => {
-                if key.sequence() <= other.sequence() {
-                    return Ok(false);
-                }
-                above.advance()?;
-            }
+        let Some(order) = order_of(&above, &below) else {
+            return Ok(false);
+        };
+        if order.is_gt() {
+            below.advance()?;
+        } else {
+            above.advance()?;
         }
     }
     Ok(true)
+}
+
+/// How the user keys of two cursors' first entries are ordered. None where they are one, and the sequence of the first entry is
+/// not greater than that of the other.
+fn order_of(
+    above: &TableCursor<'_, Bytewise>,
+    below: &TableCursor<'_, Bytewise>,
+) -> Option<Ordering>
+    requires above { 0 < length above.now }
+    requires below { 0 < length below.now }
+{
+    let key = above.key();
+    let other = below.key();
+    let order = Bytewise::compare(key.user(), other.user());
+    if order.is_eq() && key.sequence() <= other.sequence() {
+        None
+    } else {
+        Some(order)
+    }
 }
 
 /// Takes the figures of a split of the user keys in the indexes of these tables.
 fn measure_split(
     clock: &impl Clock,
     alloc: Global,
-    written: &[Vec<u8>],
-    figures: &mut Figures,
-) -> Result<()> {
-    let tables = sound(alloc, written)?;
-    take_split(clock, alloc, &tables, figures)
-}
-
-/// The same, where the tables are checked.
-fn take_split(
-    clock: &impl Clock,
-    alloc: Global,
     tables: &[SoundTable<'_, Bytewise>],
     figures: &mut Figures,
 ) -> Result<()> {
+    test_split(alloc, tables)?;
+    let blocks = number_of_blocks(alloc, tables)?;
+    let mut run = Choice::Split(alloc, tables);
+    figures.take(clock, over(Call::Choose, blocks), &mut run)?;
+    let mut run = Choice::Sort(alloc, tables);
+    figures.take(clock, over(Call::SortedKeys, blocks), &mut run)
+}
+
+/// Tests that both choices are the same.
+fn test_split(alloc: Global, tables: &[SoundTable<'_, Bytewise>]) -> Result<()> {
     ensure!(
         chosen(alloc, tables)? == sorted(alloc, tables)?,
         "the split differs from the sorted keys"
     );
-    let entries = number_of_blocks(alloc, tables)?;
-    let work = |call| Work {
-        call,
-        bytes: 0,
-        entries,
-    };
-    figures.take(clock, work(Call::Choose), || chosen(alloc, tables))?;
-    figures.take(clock, work(Call::SortedKeys), || sorted(alloc, tables))
+    Ok(())
 }
 
 /// How many data blocks these tables have.

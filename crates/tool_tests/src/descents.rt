@@ -3,11 +3,12 @@
 ghost use Rattle.std.specs.Prelude.{◌≤◌, IfOk};
 
 use crate::commands::{CURRENT, ONE_ENTRY, ONE_FILE, TWO_FILES, failing};
-use crate::texts::TWO_ENTRIES;
+use crate::texts::{TWO_ENTRIES, is_text};
 use coding::Fault;
 use folder::Shelf;
 use keep::Snapshots;
 use std::alloc::Global;
+use std::process::Abort;
 use std::test::Fail;
 use std::thread::Threads;
 use store::{Settings, compact_dir};
@@ -21,6 +22,26 @@ const THREE_FILES: &[u8] =
 const OLDEST_ENTRY: &[u8] =
     b"\0\x09\x01u\x01\x01\0\0\0\0\0\0y\0\0\0\0\x01\0\0\0\0\x84\xca\xe7\xfe\0\0\0\0\x01\0\0\0\0\xc0\xf2\xa1\xb0\0\x09\x02u\x01\x01\0\0\0\0\0\0\0\x15\0\0\0\0\x01\0\0\0\0\x2e\xfb\x4f\x03\x1a\x08\x27\x16\0\0\0\0\0\0\0\0\0\0\0\0\0\0\0\0\0\0\0\0\0\0\0\0\0\0\0\0\0\0\0\0\0\0\0\0\x57\xfb\x80\x8b\x24\x75\x47\xdb";
 
+/// The first level above the bottom that has a file, where one has.
+fn next_of(alloc: Global, folder: &mut Shelf<'_>, deepest: u64) -> Result<Option<u64>, Fault>
+    requires { deepest ≤ 6 }
+{
+    let (_order, version) = open(alloc, folder)?;
+    next_level(alloc, &version, deepest)
+}
+
+/// Appends the lines of the compaction of a level.
+fn push_compacted<R: Threads + Sync + AllocGlobal>(
+    rt: &R,
+    folder: &mut Shelf<'_>,
+    settings: &Settings<'_>,
+    level: u64,
+    lines: &mut Vec<u8>,
+) -> Result<(), Fault> {
+    let told = compact_dir(rt, rt.alloc(), folder, level, settings)?;
+    Ok(lines.extend_from_slice(&told)?)
+}
+
 /// Appends the lines of the compaction of the first level above the bottom that has a file, and answers whether there is one.
 fn step<R: Threads + Sync + AllocGlobal>(
     rt: &R,
@@ -31,12 +52,10 @@ fn step<R: Threads + Sync + AllocGlobal>(
 ) -> Result<bool, Fault>
     requires { deepest ≤ 6 }
 {
-    let (_, version) = open(rt.alloc(), folder)?;
-    let Some(level) = next_level(rt.alloc(), &version, deepest)? else {
+    let Some(level) = next_of(rt.alloc(), folder, deepest)? else {
         return Ok(false);
     };
-    let told = compact_dir(rt, rt.alloc(), folder, level, settings)?;
-    lines.extend_from_slice(&told)?;
+    push_compacted(rt, folder, settings, level, lines)?;
     Ok(true)
 }
 
@@ -44,7 +63,7 @@ fn step<R: Threads + Sync + AllocGlobal>(
 fn deepest_of(alloc: Global, folder: &mut Shelf<'_>) -> Result<u64, Fault>
     ensures { IfOk result (λ deepest. deepest ≤ 6) }
 {
-    let (_, version) = open(alloc, folder)?;
+    let (_order, version) = open(alloc, folder)?;
     bottom(alloc, &version)
 }
 
@@ -76,22 +95,31 @@ fn push_held(alloc: Global, lines: &mut Vec<u8>, folder: &mut Shelf<'_>) -> Resu
     Ok(lines.extend_from_slice(&held)?)
 }
 
-/// The lines of the compactions of all levels of a folder, their refusal, and the lines of what the folder holds then.
+/// Appends the lines of the compactions of all levels of a folder, their refusal, and the lines of what the folder holds then.
+fn push_all<R: Threads + Sync + AllocGlobal>(
+    rt: &R,
+    folder: &mut Shelf<'_>,
+    settings: &Settings<'_>,
+    lines: &mut Vec<u8>,
+) -> Result<(), Fault> {
+    if let Err(fault) = descend(rt, folder, settings, lines) {
+        push_refusal(rt.alloc(), lines, &fault)?;
+    }
+    push_held(rt.alloc(), lines, folder)
+}
+
+/// These lines.
 fn descended<R: Threads + Sync + AllocGlobal>(
     rt: &R,
-    folder: Shelf<'_>,
+    folder: &mut Shelf<'_>,
     snapshots: Snapshots<'_>,
 ) -> Result<Vec<u8>, Fault> {
-    let mut folder = folder;
-    let mut lines = Vec::new(rt.alloc());
     let settings = Settings {
         snapshots,
         ..Settings::default()
     };
-    if let Err(fault) = descend(rt, &mut folder, &settings, &mut lines) {
-        push_refusal(rt.alloc(), &mut lines, &fault)?;
-    }
-    push_held(rt.alloc(), &mut lines, &mut folder)?;
+    let mut lines = Vec::new(rt.alloc());
+    push_all(rt, folder, &settings, &mut lines)?;
     Ok(lines)
 }
 
@@ -99,7 +127,9 @@ fn descended<R: Threads + Sync + AllocGlobal>(
 const NONE: u64 = u64::MAX;
 
 /// The manifest of a folder, which sequences stay readable, the call that fails, and what is told.
-const ROWS: [(&[u8], Snapshots<'static>, u64, &str); 5] = [
+type Row = (&'static [u8], Snapshots<'static>, u64, &'static str);
+
+const ROWS: [Row; 5] = [
     // Level 1 has two files when it is its turn. The deletion of `u` meets the oldest entry of `u` at the bottom.
     (
         THREE_FILES,
@@ -209,18 +239,29 @@ file 2 6 114
     ),
 ];
 
+/// Tests what is told.
+fn is_descended<R: Abort + Threads + Sync + AllocGlobal>(
+    rt: &R,
+    (manifest, snapshots, call, wanted): Row,
+    place: usize,
+) -> Result<(), Fault> {
+    let files = [
+        CURRENT,
+        ("MANIFEST-000005", manifest),
+        ("000006.ldb", OLDEST_ENTRY),
+        ("000007.ldb", TWO_ENTRIES.as_slice()),
+        ("000008.ldb", ONE_ENTRY),
+    ];
+    let mut folder = failing(rt.alloc(), &files, call);
+    let lines = descended(rt, &mut folder, snapshots)?;
+    is_text(rt, &lines, wanted, place);
+    Ok(())
+}
+
 #[test]
 fn all_levels_are_compacted(rt: HostRuntime) -> Result<(), Fail> {
-    for (manifest, snapshots, call, wanted) in ROWS {
-        let files = [
-            CURRENT,
-            ("MANIFEST-000005", manifest),
-            ("000006.ldb", OLDEST_ENTRY),
-            ("000007.ldb", TWO_ENTRIES.as_slice()),
-            ("000008.ldb", ONE_ENTRY),
-        ];
-        let lines = descended(&rt, failing(rt.alloc(), &files, call), snapshots)?;
-        assert_eq!(rt; str::from_utf8(&lines)?, wanted);
+    for (place, row) in ROWS.iter().enumerate() {
+        is_descended(&rt, *row, place)?;
     }
     Ok(())
 }

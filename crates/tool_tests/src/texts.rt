@@ -1,37 +1,60 @@
+//! The texts that the program makes of what it answers.
+
 use coding::{Fault, FaultName};
-use std::alloc::Global;
+use std::process::Abort;
 use std::test::Fail;
 use store::Work;
 use tool::{dump, progress_text, status};
 
-#[test]
-fn statuses(rt: HostRuntime) {
-    assert_eq!(rt; status(&Fault::of(FaultName::Device)), 3);
-    assert_eq!(rt; status(&Fault::of(FaultName::Missing)), 1);
+/// Tests the status of a refusal.
+fn is_status(rt: &impl Abort, name: FaultName, wanted: u8) {
+    assert_eq!(rt; status(&Fault::of(name)), wanted);
 }
 
 #[test]
-fn lines_of_progress(rt: HostRuntime) -> Result<(), Fail> {
-    let rows = [
-        (Work::Check, 3, "tables checked: 3 of 8"),
-        (Work::Check, 8, "tables checked: 8 of 8"),
-        (Work::Check, 9, "ranges tested: 1"),
-        (Work::Compact, 0, "ranges merged: 0 of 8"),
-        (Work::Compact, 20, "pieces encoded: 12"),
-    ];
-    for (work, done, wanted) in rows {
-        let text = progress_text(rt.alloc(), work, 8, done)?;
-        assert_eq!(rt; text.as_str(), wanted);
+fn statuses(rt: HostRuntime) {
+    is_status(&rt, FaultName::Device, 3);
+    is_status(&rt, FaultName::Missing, 1);
+}
+
+/// Tests that lines are these, of the row at a place.
+pub(crate) fn is_text(rt: &impl Abort, found: &[u8], wanted: &str, place: usize) {
+    assert_eq!(rt; found, wanted.as_bytes(), "{place}");
+}
+
+/// Tests the lines of an answer, or its refusal as the program prints it.
+pub(crate) fn is_printed(
+    rt: &(impl Abort + AllocGlobal),
+    answer: Result<Vec<u8>, Fault>,
+    wanted: &str,
+    place: usize,
+) -> Result<(), Fault> {
+    match answer {
+        Ok(lines) => is_text(rt, &lines, wanted, place),
+        Err(fault) => {
+            let line = format!(in rt.alloc(); "refused: {fault}")?;
+            is_text(rt, line.as_bytes(), wanted, place);
+        }
     }
     Ok(())
 }
 
-/// The lines of a table, or its refusal.
-fn dumped(alloc: Global, bytes: &[u8]) -> Result<String, Fail> {
-    match dump(alloc, bytes) {
-        Ok(lines) => Ok(String::from_str(alloc, str::from_utf8(&lines)?)?),
-        Err(fault) => Ok(format!(in alloc; "refused: {fault}")?),
+/// Work, how many of 8 jobs of its first part and of its second one are done, and the line that tells so.
+const PROGRESS: [(Work, u64, &str); 5] = [
+    (Work::Check, 3, "tables checked: 3 of 8"),
+    (Work::Check, 8, "tables checked: 8 of 8"),
+    (Work::Check, 9, "ranges tested: 1"),
+    (Work::Compact, 0, "ranges merged: 0 of 8"),
+    (Work::Compact, 20, "pieces encoded: 12"),
+];
+
+#[test]
+fn lines_of_progress(rt: HostRuntime) -> Result<(), Fail> {
+    for (place, row) in PROGRESS.iter().enumerate() {
+        let text = progress_text(rt.alloc(), row.0, 8, row.1)?;
+        is_text(&rt, text.as_bytes(), row.2, place);
     }
+    Ok(())
 }
 
 /// The table of a deletion of `u` at sequence 4 and a value `x` of it at 2.
@@ -48,10 +71,9 @@ pub(crate) const TWO_ENTRIES: [u8; 125] = [
 
 #[test]
 fn a_table_as_lines(rt: HostRuntime) -> Result<(), Fail> {
-    let alloc = rt.alloc();
-    let lines = dumped(alloc, &TWO_ENTRIES)?;
-    assert_eq!(rt; lines.as_str(), "75 4 del\n75 2 put 78\n");
-    assert_eq!(rt; dumped(alloc, &[])?.as_str(), "refused: Short");
-    assert_eq!(rt; dumped(alloc, &[0; 48])?.as_str(), "refused: Magic");
+    let lines = "75 4 del\n75 2 put 78\n";
+    is_printed(&rt, dump(rt.alloc(), &TWO_ENTRIES), lines, 0)?;
+    is_printed(&rt, dump(rt.alloc(), &[]), "refused: Short", 1)?;
+    is_printed(&rt, dump(rt.alloc(), &[0; 48]), "refused: Magic", 2)?;
     Ok(())
 }

@@ -4,7 +4,7 @@ use anyhow::{Context, Result};
 use board::Open;
 use compact::compact;
 use edit::{Outcome, Version};
-use folder::{Disk, load, open};
+use folder::{Disk, Folder, load, open};
 use ikey::Bytewise;
 use keep::Snapshots;
 use pick::{InputFile, Inputs, inputs};
@@ -39,12 +39,19 @@ impl Compaction {
         path: &str,
         ranges: u64,
     ) -> Result<Compaction> {
-        let alloc = rt.alloc();
         let mut disk = Disk::new(rt, path);
-        let (_, version) = open(alloc, &mut disk)?;
-        let loaded = load::<Bytewise, _>(alloc, &mut disk, &version)?;
-        let picked = inputs::<Bytewise>(alloc, &version, LEVEL)?;
-        let tables = tables_of(alloc, &picked.files, loaded)?;
+        let (version, loaded) = read(rt.alloc(), &mut disk)?;
+        Compaction::of_version(rt.alloc(), version, loaded, ranges)
+    }
+
+    /// The same, where these are the version and the tables of the folder.
+    fn of_version(
+        alloc: Global,
+        version: Version,
+        loaded: Vec<(u64, Vec<u8>)>,
+        ranges: u64,
+    ) -> Result<Compaction> {
+        let (picked, tables) = inputs_of(alloc, &version, loaded)?;
         let split = split_of(alloc, &tables, ranges)?;
         Ok(Compaction {
             version,
@@ -81,23 +88,45 @@ impl Compaction {
     }
 }
 
-/// The tables of these inputs, in their order, out of those of a version.
+/// The version of a folder, and its tables with their numbers.
+fn read(alloc: Global, folder: &mut impl Folder) -> Result<(Version, Vec<(u64, Vec<u8>)>)> {
+    let (_, version) = open(alloc, folder)?;
+    let loaded = load::<Bytewise, _>(alloc, folder, &version)?;
+    Ok((version, loaded))
+}
+
+/// The inputs that are picked of a version with these tables, and their tables.
+fn inputs_of(
+    alloc: Global,
+    version: &Version,
+    mut loaded: Vec<(u64, Vec<u8>)>,
+) -> Result<(Inputs, Vec<Vec<u8>>)> {
+    let picked = inputs::<Bytewise>(alloc, version, LEVEL)?;
+    let tables = tables_of(alloc, &picked.files, &mut loaded)?;
+    Ok((picked, tables))
+}
+
+/// The tables of these inputs, in their order, taken out of those of a version.
 fn tables_of(
     alloc: Global,
     files: &[InputFile],
-    mut loaded: Vec<(u64, Vec<u8>)>,
+    loaded: &mut Vec<(u64, Vec<u8>)>,
 ) -> Result<Vec<Vec<u8>>> {
     let mut tables = Vec::with_capacity(alloc, files.len())?;
     for file in files {
-        let number = file.meta.number;
-        let place = loaded
-            .iter()
-            .position(|(other, _)| *other == number)
-            .context("an input without its table")?;
-        let (_, bytes) = loaded.remove(place);
-        tables.push(bytes)?;
+        tables.push(taken(loaded, file.meta.number)?)?;
     }
     Ok(tables)
+}
+
+/// The table of this number, taken out of others.
+fn taken(loaded: &mut Vec<(u64, Vec<u8>)>, number: u64) -> Result<Vec<u8>> {
+    let place = loaded
+        .iter()
+        .position(|(other, _)| *other == number)
+        .context("an input without its table")?;
+    let (_, bytes) = loaded.remove(place);
+    Ok(bytes)
 }
 
 /// The split of the user keys of these tables into at most so many ranges.

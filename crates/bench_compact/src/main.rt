@@ -19,7 +19,7 @@ use std::time::{Duration, Instant};
 /// The folder of the run without words.
 const SMALL: &str = "mixed";
 /// The workers, in the order in which they are timed.
-const WORKERS: [u64; 3] = [1, 2, 4];
+const WORKERS: &[u64] = &[1, 2, 4];
 
 /// What is timed: the words of the command line.
 #[derive(Drop)]
@@ -36,17 +36,21 @@ fn read_words<R: Env + AllocGlobal>(rt: &R) -> Result<Option<Words>> {
     let Some(folder) = words.next() else {
         return Ok(None);
     };
-    let mut number = |otherwise: u64| match words.next() {
-        Some(word) => word.parse().unwrap_or(otherwise),
-        None => otherwise,
-    };
-    let rounds = number(5);
-    let ranges = number(8);
+    let rounds = number(words.next(), 5);
+    let ranges = number(words.next(), 8);
     Ok(Some(Words {
         folder,
         rounds,
         ranges,
     }))
+}
+
+/// The number of a word, or another one where there is none.
+fn number(word: Option<String>, otherwise: u64) -> u64 {
+    match word {
+        Some(word) => word.parse().unwrap_or(otherwise),
+        None => otherwise,
+    }
 }
 
 /// The fastest of so many rounds of each number of workers, which take turns.
@@ -57,14 +61,44 @@ fn fastest<R: Clock + Threads + Sync + AllocGlobal>(
 ) -> Result<[Duration; 3]> {
     let mut times = [Duration::MAX; 3];
     for _round in 0..rounds {
-        for (time, workers) in times.iter_mut().zip(WORKERS) {
-            let start = Instant::now(rt)?;
-            let outcome = compaction.carried_out(rt, workers)?;
-            *time = (*time).min(start.elapsed(rt)?);
-            drop(outcome);
-        }
+        do_round(rt, compaction, &mut times)?;
     }
     Ok(times)
+}
+
+/// Does a round of each number of workers, and keeps the lesser time of each.
+fn do_round<R: Clock + Threads + Sync + AllocGlobal>(
+    rt: &R,
+    compaction: &Compaction,
+    times: &mut [Duration; 3],
+) -> Result<()> {
+    for (time, workers) in times.iter_mut().zip(WORKERS) {
+        *time = (*time).min(timed(rt, compaction, *workers)?);
+    }
+    Ok(())
+}
+
+/// How long the call takes by so many workers. What it makes is given back when the time is taken.
+fn timed<R: Clock + Threads + Sync + AllocGlobal>(
+    rt: &R,
+    compaction: &Compaction,
+    workers: u64,
+) -> Result<Duration> {
+    let start = Instant::now(rt)?;
+    let outcome = compaction.carried_out(rt, workers)?;
+    let time = start.elapsed(rt)?;
+    drop(outcome);
+    Ok(time)
+}
+
+/// What the outputs of so many workers are together.
+fn outputs<R: Threads + Sync + AllocGlobal>(
+    rt: &R,
+    compaction: &Compaction,
+    workers: u64,
+) -> Result<Outputs> {
+    let outcome = compaction.carried_out(rt, workers)?;
+    Ok(Outputs::of(&outcome))
 }
 
 /// Prints what the outputs of one, two and four workers are together, which are the same.
@@ -73,23 +107,34 @@ fn print_outputs<R: Threads + Sync + AllocGlobal + Print>(
     compaction: &Compaction,
 ) -> Result<()> {
     for workers in WORKERS {
-        let outcome = compaction.carried_out(rt, workers)?;
-        let outputs = Outputs::of(&outcome);
+        let outputs = outputs(rt, compaction, *workers)?;
         println!(rt; "{workers}: {outputs}")?;
     }
     Ok(())
 }
 
-fn main(rt: HostRuntime) -> Result<()> {
-    let Some(words) = read_words(&rt)? else {
-        let compaction = Compaction::of_folder(&rt, SMALL, 8)?;
-        return print_outputs(&rt, &compaction);
-    };
-    let compaction = Compaction::of_folder(&rt, &words.folder, words.ranges)?;
-    let times = fastest(&rt, &compaction, words.rounds)?;
+/// Prints these times of one, two and four workers.
+fn print_times(rt: &impl Print, times: &[Duration; 3]) -> Result<()> {
     for (time, workers) in times.iter().zip(WORKERS) {
         let tenths = time.as_micros() / 100;
-        println!(&rt; "{workers}: {}.{} ms", tenths / 10, tenths % 10)?;
+        println!(rt; "{workers}: {}.{} ms", tenths / 10, tenths % 10)?;
     }
-    print_outputs(&rt, &compaction)
+    Ok(())
+}
+
+/// Times the folder that these words name.
+fn time_folder<R: Files + Clock + Threads + Sync + AllocGlobal + Print>(
+    rt: &R,
+    words: &Words,
+) -> Result<()> {
+    let compaction = Compaction::of_folder(rt, &words.folder, words.ranges)?;
+    print_times(rt, &fastest(rt, &compaction, words.rounds)?)?;
+    print_outputs(rt, &compaction)
+}
+
+fn main(rt: HostRuntime) -> Result<()> {
+    match read_words(&rt)? {
+        Some(words) => time_folder(&rt, &words),
+        None => print_outputs(&rt, &Compaction::of_folder(&rt, SMALL, 8)?),
+    }
 }

@@ -1,16 +1,19 @@
+//! Blocks that are planned, encoded and put together over runs.
+
 ghost use Rattle.std.specs.Prelude.{◌≡◌, ◌≤◌, [], length, IfOk};
 ghost use Rattle.block.specs.Building.{last_key};
 ghost use Rattle.block.specs.Writing.{block};
 ghost use Rattle.pieces.specs.Planned.{IsPlanned};
 
 use block::BlockBuilder;
+use coding::Fault;
 use edit::CompactPointer;
 use ikey::{Bytewise, KeyBuf, Kind};
 use keep::{RangeRun, is_rising, largest_rise, merge_range};
 use pick::Inputs;
 use pieces::{PlannedBlock, assemble_table, encode_blocks};
 use runs::{RunsCursor, RunsSlice};
-use split::Split;
+use split::{Range, Split};
 use std::alloc::Global;
 use std::process::Abort;
 use std::test::*;
@@ -95,46 +98,91 @@ const FOUR: [Row<'static>; 4] = [
 const FIVE_RANGES: [&[u8]; 4] = [b"a", b"b", b"u", b"zz"];
 
 /// The internal key of a value.
-fn key_of(rt: &(impl Abort + AllocGlobal), row: Row<'_>) -> Result<KeyBuf, Fail> {
+fn key_of(rt: &(impl Abort + AllocGlobal), row: Row<'_>) -> Result<KeyBuf, Fault> {
     assert!(rt; row.user.len() <= 4);
-    let sequence = u64::from(row.sequence);
-    Ok(KeyBuf::new(rt.alloc(), row.user, sequence, Kind::Put)?)
+    KeyBuf::new(rt.alloc(), row.user, u64::from(row.sequence), Kind::Put)
+}
+
+/// Adds a value to a table.
+fn put(
+    rt: &(impl Abort + AllocGlobal),
+    table: &mut TableBuilder<Bytewise>,
+    row: Row<'_>,
+) -> Result<(), Fault> {
+    let key = key_of(rt, row)?;
+    assert!(rt; table.is_above_last(&key.as_key()) && row.value.len() <= 2);
+    table.add(key.as_key(), row.value)
 }
 
 /// The table of these values.
-fn written(rt: &(impl Abort + AllocGlobal), rows: &[Row<'_>]) -> Result<Vec<u8>, Fail> {
+fn written(rt: &(impl Abort + AllocGlobal), rows: &[Row<'_>]) -> Result<Vec<u8>, Fault> {
     let options = Options::default();
     assert!(rt; options.are_in_limits());
     let mut table = TableBuilder::<Bytewise>::new(rt.alloc(), options);
     for row in rows {
-        let key = key_of(rt, *row)?;
-        assert!(rt; table.is_above_last(&key.as_key()) && row.value.len() <= 2);
-        table.add(key.as_key(), row.value)?;
+        put(rt, &mut table, *row)?;
     }
-    Ok(table.finish()?)
+    table.finish()
 }
 
 /// Inputs that tell of no file below.
-fn inputs(rt: &(impl Abort + AllocGlobal)) -> Result<Inputs, Fail> {
+fn inputs(rt: &(impl Abort + AllocGlobal)) -> Result<Inputs, Fault> {
+    let key = key_of(rt, TWO[0])?;
     Ok(Inputs {
         level: 1,
         files: Vec::new(rt.alloc()),
         grandparents: Vec::new(rt.alloc()),
         deeper: Vec::new(rt.alloc()),
-        pointer: CompactPointer {
-            level: 1,
-            key: key_of(rt, TWO[0])?,
-        },
+        pointer: CompactPointer { level: 1, key },
     })
 }
 
-/// The split at these user keys.
-fn split_at(alloc: Global, users: &[&[u8]]) -> Result<Split<Bytewise>, Fail> {
+/// These user keys, as boundaries.
+fn boundaries(alloc: Global, users: &[&[u8]]) -> Result<Vec<Vec<u8>>, Fault> {
     let mut boundaries = Vec::new(alloc);
     for user in users {
         boundaries.push(Vec::from_slice(alloc, user)?)?;
     }
-    Ok(Split::<Bytewise>::from_keys(boundaries)?)
+    Ok(boundaries)
+}
+
+/// The split at these user keys.
+fn split_at(alloc: Global, users: &[&[u8]]) -> Result<Split<Bytewise>, Fault> {
+    Ok(Split::<Bytewise>::from_keys(boundaries(alloc, users)?)?)
+}
+
+/// The cursor over a table, as the only one.
+fn cursors<'a>(alloc: Global, bytes: &'a [u8]) -> Result<Vec<TableCursor<'a, Bytewise>>, Fault> {
+    let table = check::<Bytewise>(alloc, bytes)?;
+    let cursor = TableCursor::new(alloc, &table)?;
+    let mut cursors = Vec::new(alloc);
+    cursors.push(cursor)?;
+    Ok(cursors)
+}
+
+/// The run of a range.
+fn run_of<'a>(
+    rt: &(impl Abort + AllocGlobal),
+    cursors: &mut Vec<TableCursor<'a, Bytewise>>,
+    range: Range<'_>,
+    inputs: &Inputs,
+) -> Result<RangeRun<'a>, Fault> {
+    assert!(rt; is_rising(&[]) && largest_rise::<Bytewise>(&inputs.grandparents));
+    merge_range::<Bytewise, _>(rt.alloc(), cursors, range, &[], 0, inputs)
+}
+
+/// The runs of the ranges of a split.
+fn runs_of<'a>(
+    rt: &(impl Abort + AllocGlobal),
+    cursors: &mut Vec<TableCursor<'a, Bytewise>>,
+    split: &Split<Bytewise>,
+    inputs: &Inputs,
+) -> Result<Vec<RangeRun<'a>>, Fault> {
+    let mut runs = Vec::new(rt.alloc());
+    for number in 0..split.len() {
+        runs.push(run_of(rt, cursors, split.range(number), inputs)?)?;
+    }
+    Ok(runs)
 }
 
 /// The runs of the ranges between these user keys.
@@ -142,20 +190,10 @@ fn runs<'a>(
     rt: &(impl Abort + AllocGlobal),
     bytes: &'a [u8],
     users: &[&[u8]],
-) -> Result<Vec<RangeRun<'a>>, Fail> {
-    let table = check::<Bytewise>(rt.alloc(), bytes)?;
-    let mut cursors = Vec::new(rt.alloc());
-    cursors.push(TableCursor::new(rt.alloc(), &table)?)?;
-    let split = split_at(rt.alloc(), users)?;
+) -> Result<Vec<RangeRun<'a>>, Fault> {
     let inputs = inputs(rt)?;
-    assert!(rt; is_rising(&[]) && largest_rise::<Bytewise>(&inputs.grandparents));
-    let mut runs = Vec::new(rt.alloc());
-    for number in 0..split.len() {
-        let range = split.range(number);
-        let run = merge_range::<Bytewise, _>(rt.alloc(), &mut cursors, range, &[], 0, &inputs)?;
-        runs.push(run)?;
-    }
-    Ok(runs)
+    let split = split_at(rt.alloc(), users)?;
+    runs_of(rt, &mut cursors(rt.alloc(), bytes)?, &split, &inputs)
 }
 
 /// A value of at most 1,000 bytes.
@@ -217,56 +255,77 @@ fn assembled(
     Ok(assemble_table::<Bytewise>(rt.alloc(), &blocks, 16, pieces)?)
 }
 
+/// Tests that bytes are these.
+fn are_bytes(rt: &impl Abort, found: &[u8], wanted: &[u8]) {
+    assert_eq!(rt; found, wanted);
+}
+
+/// The piece of the first entry's block.
+fn first_piece(rt: &(impl Abort + AllocGlobal), runs: &[RangeRun<'_>]) -> Result<Vec<u8>, Fail> {
+    let cursor = RunsCursor::new(runs);
+    let block = block_at(rt, &cursor)?;
+    let mut blocks = Vec::new(rt.alloc());
+    blocks.push(block)?;
+    Ok(encode_blocks(rt.alloc(), &blocks, 16, 0)?)
+}
+
 #[test]
 fn a_piece_of_one_block(rt: HostRuntime) -> Result<(), Fail> {
     let bytes = written(&rt, &ONE)?;
     let runs = runs(&rt, &bytes, &[b"abd"])?;
-    let cursor = RunsCursor::new(&runs);
-    let block = block_at(&rt, &cursor)?;
-    let mut blocks = Vec::new(rt.alloc());
-    blocks.push(block)?;
-    let piece = encode_blocks(rt.alloc(), &blocks, 16, 0)?;
-    assert_eq!(rt; piece.as_slice(), ONE_BLOCK.as_slice());
+    are_bytes(&rt, &first_piece(&rt, &runs)?, &ONE_BLOCK);
     Ok(())
+}
+
+/// The table of the blocks of the first two entries.
+fn two_pieces(rt: &(impl Abort + AllocGlobal), runs: &[RangeRun<'_>]) -> Result<Vec<u8>, Fail> {
+    let mut cursor = RunsCursor::new(runs);
+    let first = block_at(rt, &cursor)?;
+    assert!(rt; cursor.valid());
+    cursor.advance();
+    let second = block_at(rt, &cursor)?;
+    assembled(rt, first, second)
 }
 
 #[test]
 fn two_pieces_and_their_table(rt: HostRuntime) -> Result<(), Fail> {
     let bytes = written(&rt, &TWO)?;
     let runs = runs(&rt, &bytes, &[b"abd"])?;
-    let mut cursor = RunsCursor::new(&runs);
-    let first = block_at(&rt, &cursor)?;
-    assert!(rt; cursor.valid());
-    cursor.advance();
-    let second = block_at(&rt, &cursor)?;
-    let table = assembled(&rt, first, second)?;
-    assert_eq!(rt; table.as_slice(), TWO_BLOCKS.as_slice());
+    are_bytes(&rt, &two_pieces(&rt, &runs)?, &TWO_BLOCKS);
     Ok(())
+}
+
+/// Tests that the entry that a cursor stands at is this.
+fn stands(rt: &impl Abort, cursor: &RunsCursor<'_, '_>, row: Row<'_>) {
+    assert!(rt; cursor.valid());
+    are_bytes(rt, cursor.key().user(), row.user);
+    assert!(rt; cursor.key().sequence() == u64::from(row.sequence));
+    are_bytes(rt, cursor.value(), row.value);
+    are_bytes(rt, cursor.copy().value(), row.value);
+}
+
+/// Tests that the entries of runs are these.
+fn are_rows(rt: &impl Abort, runs: &[RangeRun<'_>], rows: &[Row<'_>]) {
+    let mut cursor = RunsCursor::new(runs);
+    for row in rows {
+        stands(rt, &cursor, *row);
+        assert!(rt; cursor.valid());
+        cursor.advance();
+    }
+    assert!(rt; !cursor.valid());
 }
 
 #[test]
 fn ranges_without_entries_are_passed(rt: HostRuntime) -> Result<(), Fail> {
     let bytes = written(&rt, &FOUR)?;
-    let runs = runs(&rt, &bytes, &FIVE_RANGES)?;
-    let mut cursor = RunsCursor::new(&runs);
-    for row in FOUR {
-        assert!(rt; cursor.valid());
-        assert_eq!(rt; cursor.key().user(), row.user);
-        assert_eq!(rt; cursor.key().sequence(), u64::from(row.sequence));
-        assert_eq!(rt; cursor.value(), row.value);
-        assert_eq!(rt; cursor.copy().value(), row.value);
-        cursor.advance();
-    }
-    assert!(rt; !cursor.valid());
+    are_rows(&rt, &runs(&rt, &bytes, &FIVE_RANGES)?, &FOUR);
     assert!(rt; !RunsCursor::new(&[]).valid());
     Ok(())
 }
 
-#[test]
-fn a_slice_over_two_runs(rt: HostRuntime) -> Result<(), Fail> {
-    let bytes = written(&rt, &FOUR)?;
-    let runs = runs(&rt, &bytes, &FIVE_RANGES)?;
-    let mut slice = RunsSlice::at(RunsCursor::new(&runs));
+/// Tests that a slice of the first two of the four values is one.
+fn is_slice(rt: &impl Abort, runs: &[RangeRun<'_>]) {
+    let mut slice = RunsSlice::at(RunsCursor::new(runs));
     assert!(rt; slice.is_empty() && slice.last_key().is_none());
     for _ in 0..2 {
         let behind = slice.behind();
@@ -275,12 +334,14 @@ fn a_slice_over_two_runs(rt: HostRuntime) -> Result<(), Fail> {
     }
     assert!(rt; slice.len() == 2 && !slice.is_empty());
     let last = slice.last_key().map(|key| key.bytes());
-    assert_eq!(rt; last, Some(b"u\x01\x09\x00\x00\x00\x00\x00\x00".as_slice()));
-    let first = slice.first();
-    assert!(rt; first.valid());
-    assert_eq!(rt; first.value(), FOUR[0].value);
-    let behind = slice.behind();
-    assert!(rt; behind.valid());
-    assert_eq!(rt; behind.value(), FOUR[2].value);
+    assert!(rt; last == Some(b"u\x01\x09\x00\x00\x00\x00\x00\x00".as_slice()));
+    stands(rt, &slice.first(), FOUR[0]);
+    stands(rt, &slice.behind(), FOUR[2]);
+}
+
+#[test]
+fn a_slice_over_two_runs(rt: HostRuntime) -> Result<(), Fail> {
+    let bytes = written(&rt, &FOUR)?;
+    is_slice(&rt, &runs(&rt, &bytes, &FIVE_RANGES)?);
     Ok(())
 }

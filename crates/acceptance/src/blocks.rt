@@ -1,18 +1,20 @@
 //! Blocks that were cut out of tables, and what comes of their merge.
 
-use crate::file;
-use anyhow::{Result, bail};
+use crate::{file, is_file, print, refused, wanted};
+use anyhow::Result;
+use coding::Fault;
+use std::alloc::Global;
 use std::rt::Files;
 use std::thread::Threads;
 
 /// Two files, `NAME.a` and `NAME.b`, the key at which their ranges part, and what comes of them.
-pub(crate) struct Case {
-    pub name: &'static str,
+struct Case {
+    name: &'static str,
     at: &'static str,
     accepted: bool,
 }
 
-pub(crate) const CASES: [Case; 6] = [
+const CASES: [Case; 6] = [
     Case {
         name: "apart",
         at: "757365723a3030303035303a6e616d65",
@@ -45,24 +47,60 @@ pub(crate) const CASES: [Case; 6] = [
     },
 ];
 
-/// What comes of a case, as the program prints it.
-pub(crate) fn outcome<R: Files + AllocGlobal + Threads + Sync>(
+/// The user key at which a case's ranges part.
+fn boundary(alloc: Global, case: &Case) -> Result<Vec<u8>> {
+    let Some(at) = tool::key_of(alloc, case.at)? else {
+        return refused(case.name, "its boundary is no key");
+    };
+    Ok(at)
+}
+
+/// Two blocks' entries, and their block.
+fn merged<R: AllocGlobal + Threads + Sync>(
+    rt: &R,
+    a: &[u8],
+    b: &[u8],
+    at: &[u8],
+) -> Result<(u64, Vec<u8>), Fault> {
+    tool::blocks(rt, rt.alloc(), a, b, at)
+}
+
+/// What `blocks` answers of a case.
+fn answer<R: Files + AllocGlobal + Threads + Sync>(
     rt: &R,
     case: &Case,
+) -> Result<Result<(u64, Vec<u8>), Fault>> {
+    let at = boundary(rt.alloc(), case)?;
+    let a = file(rt, case.name, "a")?;
+    let b = file(rt, case.name, "b")?;
+    Ok(merged(rt, &a, &b, &at))
+}
+
+/// The line of a block, which has to be the one that is wanted.
+fn line_of<R: Files + AllocGlobal>(
+    rt: &R,
+    case: &Case,
+    entries: u64,
+    block: &[u8],
 ) -> Result<String> {
-    let alloc = rt.alloc();
-    let (a, b) = (file(rt, case.name, "a")?, file(rt, case.name, "b")?);
-    let Some(at) = tool::key_of(alloc, case.at)? else {
-        bail!("{} is no key", case.at);
-    };
-    match tool::blocks(rt, alloc, &a, &b, &at) {
-        Ok((entries, block)) => {
-            if !case.accepted || block.as_slice() != file(rt, case.name, "out")?.as_slice() {
-                bail!("{}: another block was wanted", case.name);
-            }
-            let length = block.len();
-            Ok(format!(in alloc; "{entries} entries, {length} bytes")?)
-        }
-        Err(fault) => Ok(format!(in alloc; "refused: {fault}")?),
+    let is_right = case.accepted && is_file(rt, case.name, "out", block)?;
+    wanted(is_right, case.name, "another block was wanted")?;
+    let length = block.len();
+    Ok(format!(in rt.alloc(); "{entries} entries, {length} bytes")?)
+}
+
+/// What comes of a case, as the program prints it.
+fn outcome<R: Files + AllocGlobal + Threads + Sync>(rt: &R, case: &Case) -> Result<String> {
+    match answer(rt, case)? {
+        Ok((entries, block)) => line_of(rt, case, entries, &block),
+        Err(fault) => Ok(format!(in rt.alloc(); "refused: {fault}")?),
     }
+}
+
+/// Prints what comes of each case.
+pub(crate) fn print_blocks<R: Files + AllocGlobal + Print + Threads + Sync>(rt: &R) -> Result<()> {
+    for case in &CASES {
+        print(rt, case.name, &outcome(rt, case)?)?;
+    }
+    Ok(())
 }

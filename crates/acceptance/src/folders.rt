@@ -1,7 +1,9 @@
 //! Database folders that LevelDB wrote: shown, tested and asked.
 
-use crate::file;
+use crate::calls::{got, shown, tables_of, verified, version_of};
+use crate::{file, is_file, refused, wanted};
 use anyhow::{Context, Result, bail};
+use coding::Fault;
 use edit::Version;
 use ikey::Bytewise;
 use keep::Snapshots;
@@ -10,7 +12,7 @@ use std::alloc::Global;
 use std::rt::Files;
 use std::thread::Threads;
 use table::check;
-use tool::{Disk, get_dir, key_of, load, manifest, open, text_of, verify};
+use tool::{key_of, text_of};
 
 /// The names of the folders.
 pub(crate) const FOLDERS: [&str; 3] = ["level0", "compacted", "mixed"];
@@ -44,6 +46,14 @@ impl Kept {
         }
     }
 
+    /// Which gets have to stay, in words.
+    pub fn gets(self) -> &'static str {
+        match self {
+            Kept::Every => "all gets",
+            Kept::Last => "gets at the last sequence",
+        }
+    }
+
     /// The snapshots with which they stay.
     pub fn snapshots(self) -> Snapshots<'static> {
         match self {
@@ -61,25 +71,50 @@ impl Kept {
     }
 }
 
-/// Compares what the commands answer of a folder with what is wanted, and answers how many gets were compared.
-pub(crate) fn folder_compared<R: Files + AllocGlobal + Threads + Sync>(
+/// Whether the lines of `manifest` are those that are wanted.
+fn is_shown<R: Files + AllocGlobal>(rt: &R, name: &str) -> Result<bool> {
+    let lines = shown(rt, name)?;
+    is_file(rt, name, "manifest", &lines)
+}
+
+/// Whether the line of `verify` is the one that is wanted.
+fn is_verified<R: Files + AllocGlobal + Threads + Sync>(rt: &R, name: &str) -> Result<bool> {
+    let line = verified(rt, name)?;
+    is_file(rt, name, "verify", &line)
+}
+
+/// Compares what a folder answers of the gets of lines, and answers how many there are.
+fn lines_compared<R: Files + AllocGlobal + Threads + Sync>(
     rt: &R,
     name: &str,
+    lines: &str,
 ) -> Result<usize> {
-    let alloc = rt.alloc();
-    let shown = manifest(alloc, &mut Disk::new(rt, name))?;
-    if shown.as_slice() != file(rt, name, "manifest")?.as_slice() {
-        bail!("{name}: other lines were wanted");
-    }
-    let verified = verify(rt, alloc, &mut Disk::new(rt, name))?;
-    if verified.as_slice() != file(rt, name, "verify")?.as_slice() {
-        bail!("{name}: another version was wanted");
-    }
-    let text = file(rt, name, "gets")?;
-    let gets = gets_of(alloc, str::from_utf8(&text)?)?;
+    let gets = gets_of(rt.alloc(), lines)?;
     compare_commands(rt, name, &gets)?;
     compare_gets(rt, name, &gets, Kept::Every)?;
     Ok(gets.len())
+}
+
+/// Compares what a folder answers of its gets, and answers how many there are.
+fn gets_compared<R: Files + AllocGlobal + Threads + Sync>(rt: &R, name: &str) -> Result<usize> {
+    let text = file(rt, name, "gets")?;
+    lines_compared(rt, name, str::from_utf8(&text)?).context(format_args!("in {name}"))
+}
+
+/// Compares what the commands answer of a folder with what is wanted, and answers how many gets were compared.
+fn folder_compared<R: Files + AllocGlobal + Threads + Sync>(rt: &R, name: &str) -> Result<usize> {
+    wanted(is_shown(rt, name)?, name, "other lines were wanted")?;
+    wanted(is_verified(rt, name)?, name, "another version was wanted")?;
+    gets_compared(rt, name)
+}
+
+/// Prints each folder of which the commands answer what is wanted.
+pub(crate) fn print_folders<R: Files + AllocGlobal + Print + Threads + Sync>(rt: &R) -> Result<()> {
+    for name in &FOLDERS {
+        let gets = folder_compared(rt, name)?;
+        println!(rt; "{name}: shown, verified, {gets} gets")?;
+    }
+    Ok(())
 }
 
 /// The gets of lines `KEY SEQ VALUE`, where SEQ is `-` for the version's last sequence.
@@ -91,22 +126,49 @@ pub(crate) fn gets_of(alloc: Global, lines: &str) -> Result<Vec<Get<'_>>> {
     Ok(gets)
 }
 
-/// The get of a line.
-fn get_of(alloc: Global, line: &str) -> Result<Get<'_>> {
+/// The three words of a line. The last one may have spaces.
+fn words_of(line: &str) -> Result<(&str, &str, &str)> {
     let Some((key, rest)) = line.split_once(' ') else {
-        bail!("{line} has no sequence");
+        return refused(line, "no sequence");
     };
     let Some((sequence, wanted)) = rest.split_once(' ') else {
-        bail!("{line} has no value");
+        return refused(line, "no value");
     };
-    let Some(key) = key_of(alloc, key)? else {
-        bail!("{line} has no key");
-    };
-    let at = match sequence {
+    Ok((key, sequence, wanted))
+}
+
+/// The sequence of a word.
+fn sequence_of(word: &str) -> Result<Option<u64>> {
+    Ok(match word {
         "-" => None,
         number => Some(number.parse()?),
+    })
+}
+
+/// The key of a word.
+fn key_in(alloc: Global, word: &str) -> Result<Vec<u8>> {
+    let Some(key) = key_of(alloc, word)? else {
+        return refused(word, "no key");
     };
+    Ok(key)
+}
+
+/// The get of a line.
+fn get_of(alloc: Global, line: &str) -> Result<Get<'_>> {
+    let (key, sequence, wanted) = words_of(line)?;
+    let at = sequence_of(sequence)?;
+    let key = key_in(alloc, key)?;
     Ok(Get { key, at, wanted })
+}
+
+/// Whether the command answers what is wanted of a get.
+fn is_answered<R: Files + AllocGlobal + Threads + Sync>(
+    rt: &R,
+    folder: &str,
+    get: &Get<'_>,
+) -> Result<bool> {
+    let line = got(rt, folder, &get.key, get.at)?;
+    Ok(str::from_utf8(&line)?.strip_suffix("\n") == Some(get.wanted))
 }
 
 /// Compares what the command answers of the first gets.
@@ -116,10 +178,35 @@ fn compare_commands<R: Files + AllocGlobal + Threads + Sync>(
     gets: &[Get<'_>],
 ) -> Result<()> {
     for get in gets.iter().take(BY_COMMAND) {
-        let line = get_dir(rt, rt.alloc(), &mut Disk::new(rt, folder), &get.key, get.at)?;
-        if str::from_utf8(&line)?.strip_suffix("\n") != Some(get.wanted) {
-            let wanted = get.wanted;
-            bail!("{folder}: the value {wanted} was wanted");
+        let is_right = is_answered(rt, folder, get)?;
+        wanted(is_right, get.wanted, "the value that was wanted")?;
+    }
+    Ok(())
+}
+
+/// The tables of these bytes, by their numbers.
+fn numbered(
+    alloc: Global,
+    loaded: &[(u64, Vec<u8>)],
+) -> Result<Vec<NumberedTable<'_, Bytewise>>, Fault> {
+    let mut tables = Vec::new(alloc);
+    for (number, bytes) in loaded {
+        tables.push(NumberedTable::of(*number, check::<Bytewise>(alloc, bytes)?))?;
+    }
+    Ok(tables)
+}
+
+/// Compares what a version answers of the gets that had to stay.
+fn compare_all(
+    alloc: Global,
+    version: &Version,
+    tables: &[NumberedTable<'_, Bytewise>],
+    gets: &[Get<'_>],
+    kept: Kept,
+) -> Result<()> {
+    for get in gets {
+        if kept.holds(get) {
+            compare(alloc, version, tables, get)?;
         }
     }
     Ok(())
@@ -132,18 +219,31 @@ pub(crate) fn compare_gets<R: Files + AllocGlobal>(
     gets: &[Get<'_>],
     kept: Kept,
 ) -> Result<()> {
-    let alloc = rt.alloc();
-    let mut disk = Disk::new(rt, folder);
-    let (_, version) = open(alloc, &mut disk)?;
-    let loaded = load::<Bytewise, _>(alloc, &mut disk, &version)?;
-    let mut tables = Vec::new(alloc);
-    for (number, bytes) in &loaded {
-        tables.push(NumberedTable::of(*number, check::<Bytewise>(alloc, bytes)?))?;
+    let version = version_of(rt, folder)?;
+    let loaded = tables_of(rt, folder, &version)?;
+    let tables = numbered(rt.alloc(), &loaded)?;
+    compare_all(rt.alloc(), &version, &tables, gets, kept)
+}
+
+/// What a version answers of a get, as text.
+fn text_at(
+    alloc: Global,
+    version: &Version,
+    tables: &[NumberedTable<'_, Bytewise>],
+    wanted: &Get<'_>,
+) -> Result<String, Fault> {
+    let last = version.last_sequence().unwrap_or(0);
+    let sequence = wanted.at.unwrap_or(last);
+    match get(alloc, version, tables, &wanted.key, sequence)? {
+        Some(value) => text_of(alloc, value),
+        None => Ok(String::from_str(alloc, "none")?),
     }
-    for get in gets {
-        if kept.holds(get) {
-            compare(alloc, &version, &tables, get).context(format_args!("in {folder}"))?;
-        }
+}
+
+/// Compares the text of a value.
+fn compare_texts(text: &str, wanted: &str) -> Result<()> {
+    if text != wanted {
+        bail!("the value {wanted} was wanted, and is {text}");
     }
     Ok(())
 }
@@ -155,20 +255,6 @@ fn compare(
     tables: &[NumberedTable<'_, Bytewise>],
     wanted: &Get<'_>,
 ) -> Result<()> {
-    let last = version.last_sequence().unwrap_or(0);
-    let text = match get(
-        alloc,
-        version,
-        tables,
-        &wanted.key,
-        wanted.at.unwrap_or(last),
-    )? {
-        Some(value) => text_of(alloc, value)?,
-        None => String::from_str(alloc, "none")?,
-    };
-    if text.as_str() != wanted.wanted {
-        let wanted = wanted.wanted;
-        bail!("the value {wanted} was wanted, and is {text}");
-    }
-    Ok(())
+    let text = text_at(alloc, version, tables, wanted)?;
+    compare_texts(&text, wanted.wanted)
 }

@@ -2,46 +2,58 @@
 #![tactic(auto)]
 
 mod blocks;
+mod calls;
 mod compactions;
 mod folders;
 mod tables;
 
-use anyhow::{Context, Result};
-use blocks::{CASES, outcome};
-use compactions::compacted;
-use folders::{FOLDERS, Kept, folder_compared};
+use anyhow::{Context, Result, bail};
+use blocks::print_blocks;
+use compactions::print_compactions;
+use folders::print_folders;
+use std::alloc::Global;
 use std::fs;
 use std::rt::Files;
-use tables::{TABLES, compared};
+use tables::print_tables;
+
+/// A name with an ending.
+fn with_ending(alloc: Global, name: &str, ending: &str) -> Result<String> {
+    Ok(format!(in alloc; "{name}.{ending}")?)
+}
 
 /// The bytes of the file of this name and ending.
 fn file<R: Files + AllocGlobal>(rt: &R, name: &str, ending: &str) -> Result<Vec<u8>> {
-    let path = format!(in rt.alloc(); "{name}.{ending}")?;
+    let path = with_ending(rt.alloc(), name, ending)?;
     fs::read(rt, path.as_str()).context(format_args!("reading {path}"))
 }
 
-fn main(rt: HostRuntime) -> Result<()> {
-    for case in &CASES {
-        let line = outcome(&rt, case)?;
-        let name = case.name;
-        println!(rt; "{name}: {line}")?;
-    }
-    for table in &TABLES {
-        compared(&rt, table)?;
-        let name = table.name;
-        println!(rt; "{name}: dumped, and built again")?;
-    }
-    for name in FOLDERS {
-        let gets = folder_compared(&rt, name)?;
-        println!(rt; "{name}: shown, verified, {gets} gets")?;
-    }
-    for name in FOLDERS {
-        let (steps, line) = compacted(&rt, name, Kept::Every)?;
-        print!(rt; "{name}: compacted in {steps} steps, all gets as before, {line}")?;
-        let (steps, line) = compacted(&rt, name, Kept::Last)?;
-        print!(rt;
-            "{name}: compacted in {steps} steps, gets at the last sequence as before, {line}"
-        )?;
+/// Whether the file of this name and ending has these bytes.
+fn is_file<R: Files + AllocGlobal>(rt: &R, name: &str, ending: &str, bytes: &[u8]) -> Result<bool> {
+    Ok(file(rt, name, ending)?.as_slice() == bytes)
+}
+
+/// A refusal of something of this name.
+fn refused<T>(name: &str, text: &str) -> Result<T> {
+    bail!("{name}: {text}")
+}
+
+/// Refused where something of this name is not as it has to be, with what was wanted of it.
+fn wanted(is_right: bool, name: &str, text: &str) -> Result<()> {
+    if !is_right {
+        return refused(name, text);
     }
     Ok(())
+}
+
+/// Prints what comes of something of this name.
+fn print<R: Print>(rt: &R, name: &str, text: &str) -> Result<()> {
+    println!(rt; "{name}: {text}")?;
+    Ok(())
+}
+
+fn main(rt: HostRuntime) -> Result<()> {
+    print_blocks(&rt)?;
+    print_tables(&rt)?;
+    print_folders(&rt)?;
+    print_compactions(&rt)
 }

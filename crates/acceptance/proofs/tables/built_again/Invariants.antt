@@ -1,5 +1,5 @@
 use Rattle.std.proofs.Common.{length}
 use Rattle.acceptance.proofs.tables.built_again.Given as goal
 
-abbrev pub decreases-loop-cursor : goal.decreases-loop-cursor
-decreases-loop-cursor l = length l.cursor
+abbrev pub decreases-loop-builder : goal.decreases-loop-builder
+decreases-loop-builder l = length l.cursor

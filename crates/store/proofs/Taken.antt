@@ -1,15 +1,18 @@
 -- Tables that are taken out of others.
-use Rattle.std.proofs.Common.{◌≡◌, ◌≢◌, ℕ, zero, suc, ◌+◌, ◌<◌, ◌≤◌, Bool, true, false, cond, eqb, List, [], ◌∷◌, ◌++◌, map, Ok, take, take-suc, drop, drop-cons, add-one, length, get_or, Some, None, Option, refl, sym, ap, subst, ◌∙◌, arith}
+use Rattle.std.proofs.Common.{append_assoc, ◌≡◌, ◌≢◌, ℕ, ◌+◌, ◌<◌, ◌≤◌, Bool, true, false, cond, eqb, List, [], ◌∷◌, ◌++◌, map, Ok, take, take-suc, add-one, length, get_or, Some, None, Option, refl, sym, ap, subst, ◌∙◌, arith}
 use Rattle.std.specs.Prelude.{Contains}
-use Rattle.std.specs.List.{find, remove}
+use Rattle.std.specs.List.{find}
+use Rattle.std.specs.BTreeMap.{insert_entry}
+use Rattle.std.specs.Ordering.{nat_cmp}
 use Rattle.std.specs.Option.{option_map}
 use Rattle.std.specs.declared.cmp.Ordering.{Ordering}
-use Rattle.std.proofs.lemmas.Bool.{eq-eqb}
 use Rattle.std.proofs.lemmas.List.{map-append}
 use Rattle.std.proofs.lemmas.List.Elements.{All-contains}
 use Rattle.std.proofs.lemmas.Option.{get_or_from_slice_get, none-some, same_Some, slice_get_read}
 use Rattle.table.specs.Reading.{Contents, contents_reading}
 use Rattle.pick.specs.declared.picked.InputFile.{InputFile}
+use Rattle.edit.proofs.Tested.{is_eq-nat_cmp}
+use Rattle.edit.proofs.Together.{found, found_put, same}
 use Rattle.reads.proofs.Members.{first_in, later_in}
 use Rattle.reads.specs.Lawful.{IsFileOf}
 use Rattle.reads.specs.Tables.{Numbered, table_of}
@@ -17,63 +20,38 @@ use Rattle.request.specs.Inputs.{inputs_reading, is_stated}
 use Rattle.compact.specs.Sound.{AreInputs}
 use Rattle.compact.proofs.ReadInputs.{read_inputs, stated_lawful}
 use Rattle.install.specs.Install.{bytes_of}
-use Rattle.store.specs.Taking.{AreLoaded, HaveTables, IsTableAt}
+use Rattle.store.specs.Taking.{AreLoaded, AreNumbered, HaveTables}
 use Rattle.store.proofs.Loaded.{not_equal}
 
--- ---- one table
+-- ---- under their numbers
 
--- the first table, where it has the number, and those behind it, where it has another one
-pub first_has : (x : Numbered) (xs : List Numbered) (n : ℕ) → x.number ≡ n → table_of (x ∷ xs) n ≡ Some x.contents
-first_has x xs n h = rw (eq-eqb x.number n h) refl
+-- the tables so far, of those at the end, are under their numbers
+module _ (tables : List Numbered) where
+  abbrev pub AreNumberedFrom : List Numbered → List (ℕ × Contents) → Type 0
+  AreNumberedFrom rest numbered = (behind : List Numbered) × (tables ≡ rest ++ behind) × AreNumbered behind numbered
 
-pub first_lacks : (x : Numbered) (xs : List Numbered) (n : ℕ) → x.number ≢ n → table_of (x ∷ xs) n ≡ table_of xs n
-first_lacks x xs n h = rw (not_equal x.number n h) refl
+contents_by : (b : Bool) (t : Numbered) (o : Option Numbered) → option_map (λ (x : Numbered). x.contents) (cond b (Some t) o) ≡ cond b (Some t.contents) (option_map (λ (x : Numbered). x.contents) o)
+contents_by true t o = refl
+contents_by false t o = refl
 
-behind_same : (x : Numbered) (xs ys : List Numbered) (n : ℕ) → table_of xs n ≡ table_of ys n → table_of (x ∷ xs) n ≡ table_of (x ∷ ys) n
-behind_same x xs ys n h = by (eqb x.number n)
-  where
-    by : (b : Bool) → option_map (λ (t : Numbered). t.contents) (cond b (Some x) (find (λ (t : Numbered). eqb t.number n) xs)) ≡ option_map (λ (t : Numbered). t.contents) (cond b (Some x) (find (λ (t : Numbered). eqb t.number n) ys))
-    by true = refl
-    by false = h
+-- one more
+one_numbered : (tables rest front : List Numbered) (numbered : List (ℕ × Contents)) (t : Numbered) → rest ≡ front ++ t ∷ [] → AreNumberedFrom tables rest numbered → AreNumberedFrom tables front (insert_entry nat_cmp numbered t.number t.contents)
+one_numbered tables rest front numbered t is so_far = (
+  t ∷ so_far.0,
+  so_far.1 ∙ ap (λ (ts : List Numbered). ts ++ so_far.0) is ∙ append_assoc front (t ∷ []) so_far.0,
+  λ n.
+      found_put numbered t.number t.contents n
+      ∙ ap (λ (o : Option Contents). cond (same t.number n) (Some t.contents) o) (so_far.2 n)
+      ∙ ap (λ (b : Bool). cond b (Some t.contents) (table_of so_far.0 n)) (is_eq-nat_cmp t.number n)
+      ∙ sym (contents_by (eqb t.number n) t (find (λ (x : Numbered). eqb x.number n) so_far.0)),
+)
 
--- no table so far has the number, and the next one has
-pub first_here : (xs : List Numbered) (i : ℕ) (x : Numbered) (n : ℕ) → i < length xs → x ≡ get_or xs i x → x.number ≡ n → table_of (drop i xs) n ≡ table_of xs n → IsTableAt xs n i
-first_here xs i x n lt is has so_far = record { within = lt; number_is = λ d. ap (λ (y : Numbered). y.number) (same d) ∙ has; first = λ d. found ∙ ap (λ (y : Numbered). Some y.contents) (sym (same d)) }
-  where
-    same : (d : Numbered) → get_or xs i d ≡ x
-    same d = get_or_from_slice_get xs i x d (slice_get_read xs (length xs) i x refl lt is)
-
-    found : table_of xs n ≡ Some x.contents
-    found = sym so_far ∙ ap (λ (ts : List Numbered). table_of ts n) (drop-cons xs i x lt) ∙ ap (λ (y : Numbered). table_of (y ∷ drop (suc i) xs) n) (sym is) ∙ first_has x (drop (suc i) xs) n has
-
--- nor has the next one
-pub not_here : (xs : List Numbered) (i : ℕ) (x : Numbered) (n : ℕ) → i < length xs → x ≡ get_or xs i x → x.number ≢ n → table_of (drop i xs) n ≡ table_of xs n → table_of (drop (i + 1) xs) n ≡ table_of xs n
-not_here xs i x n lt is other so_far =
-    ap (λ (j : ℕ). table_of (drop j xs) n) (add-one i) ∙ sym (first_lacks x (drop (suc i) xs) n other) ∙ ap (λ (y : Numbered). table_of (y ∷ drop (suc i) xs) n) is
-    ∙ sym (ap (λ (ts : List Numbered). table_of ts n) (drop-cons xs i x lt)) ∙ so_far
-
--- none of them has it
-pub none_left : (xs : List Numbered) (i : ℕ) (n : ℕ) → length xs ≤ i → table_of (drop i xs) n ≡ table_of xs n → table_of xs n ≡ None
-none_left xs i n past so_far = sym so_far ∙ ap (λ (ts : List Numbered). table_of ts n) (drop_past xs i past)
-  where
-    drop_past : (ys : List Numbered) (j : ℕ) → length ys ≤ j → drop j ys ≡ []
-    drop_past [] zero le = refl
-    drop_past [] (suc j) le = refl
-    drop_past (y ∷ ys) zero le = absurd (omega (arith, le))
-    drop_past (y ∷ ys) (suc j) le = drop_past ys j (omega (arith, le))
-
--- the tables of other numbers stay
-pub others_stay : (xs : List Numbered) (i : ℕ) (d : Numbered) (n : ℕ) → i < length xs → (get_or xs i d).number ≢ n → table_of (remove xs i) n ≡ table_of xs n
-others_stay [] i d n lt other = absurd (omega (arith, lt))
-others_stay (x ∷ xs) zero d n lt other = sym (first_lacks x xs n other)
-others_stay (x ∷ xs) (suc i) d n lt other = behind_same x (remove xs i) xs n (others_stay xs i d n (omega (arith, lt)) other)
-
--- the table that is taken out, and those that stay
-pub taken_at : (xs : List Numbered) (i : ℕ) (x : Numbered) (n : ℕ) → IsTableAt xs n i → x ≡ get_or xs i x → Some x.contents ≡ table_of xs n
-taken_at xs i x n at is = sym (at.first x ∙ ap (λ (y : Numbered). Some y.contents) (sym is))
-
-pub others_taken : (xs : List Numbered) (i : ℕ) (x : Numbered) (n : ℕ) → IsTableAt xs n i → (other : ℕ) → n ≢ other → table_of (remove xs i) other ≡ table_of xs other
-others_taken xs i x n at other apart = others_stay xs i x other at.within (λ same. apart (sym (at.number_is x) ∙ same))
+pub next_numbered : (tables rest front : List Numbered) (before after : List (ℕ × Contents)) (n : ℕ) (x : Contents) (t : Numbered) → rest ≡ front ++ t ∷ [] → n ≡ t.number → x ≡ t.contents → after ≡ insert_entry nat_cmp before n x
+    → AreNumberedFrom tables rest before → AreNumberedFrom tables front after
+next_numbered tables rest front before after n x t is number contents put so_far =
+    let all : after ≡ insert_entry nat_cmp before t.number t.contents =
+    put ∙ ap (λ (m : ℕ). insert_entry nat_cmp before m x) number ∙ ap (λ (y : Contents). insert_entry nat_cmp before t.number y) contents in
+    subst (λ (es : List (ℕ × Contents)). AreNumberedFrom tables front es) (sym all) (one_numbered tables rest front before t is so_far)
 
 -- ---- all of them
 
@@ -82,17 +60,20 @@ pub is_some : (cmp : List ℕ → List ℕ → Ordering) (tables : List Numbered
     → table_of tables (get_or inputs k d).meta.number ≡ None → ⊥
 is_some cmp tables inputs k d h lt none = let f = h.files k d lt in none-some f.table (sym none ∙ f.there)
 
+not_same : (a b : ℕ) → a ≢ b → same a b ≡ false
+not_same a b h = is_eq-nat_cmp a b ∙ not_equal a b h
+
 module _ (tables : List Numbered) where
   -- each of the inputs from a place on has its table still
-  abbrev pub AreLeft : List InputFile → ℕ → List Numbered → Type 0
-  AreLeft inputs k left = (j : ℕ) (d : InputFile) → k ≤ j → j < length inputs → table_of left (get_or inputs j d).meta.number ≡ table_of tables (get_or inputs j d).meta.number
+  abbrev pub AreLeft : List InputFile → ℕ → List (ℕ × Contents) → Type 0
+  AreLeft inputs k left = (j : ℕ) (d : InputFile) → k ≤ j → j < length inputs → found left (get_or inputs j d).meta.number ≡ table_of tables (get_or inputs j d).meta.number
 
-  pub left_next : (cmp : List ℕ → List ℕ → Ordering) (inputs : List InputFile) (k : ℕ) (i : InputFile) (left next : List Numbered) → HaveTables cmp tables inputs → k < length inputs → i ≡ get_or inputs k i
-      → AreLeft inputs k left → ((other : ℕ) → i.meta.number ≢ other → table_of next other ≡ table_of left other) → AreLeft inputs (k + 1) next
+  pub left_next : (cmp : List ℕ → List ℕ → Ordering) (inputs : List InputFile) (k : ℕ) (i : InputFile) (left next : List (ℕ × Contents)) → HaveTables cmp tables inputs → k < length inputs → i ≡ get_or inputs k i
+      → AreLeft inputs k left → ((other : ℕ) → same i.meta.number other ≡ false → found next other ≡ found left other) → AreLeft inputs (k + 1) next
   left_next cmp inputs k i left next have lt is h others j d le below =
       let apart : (get_or inputs k d).meta.number ≢ (get_or inputs j d).meta.number = have.apart k j d (omega (arith, le)) below in
-      let same : get_or inputs k d ≡ i = get_or_from_slice_get inputs k i d (slice_get_read inputs (length inputs) k i refl lt is) in
-      others (get_or inputs j d).meta.number (subst (λ (x : InputFile). x.meta.number ≢ (get_or inputs j d).meta.number) same apart) ∙ h j d (omega (arith, le)) below
+      let here : get_or inputs k d ≡ i = get_or_from_slice_get inputs k i d (slice_get_read inputs (length inputs) k i refl lt is) in
+      others (get_or inputs j d).meta.number (not_same i.meta.number (get_or inputs j d).meta.number (subst (λ (x : InputFile). x.meta.number ≢ (get_or inputs j d).meta.number) here apart)) ∙ h j d (omega (arith, le)) below
 
 -- one more of the inputs, and its table
 pub taken_next : (tables : List Numbered) (inputs : List InputFile) (k : ℕ) (i : InputFile) (taken : List Contents) (t : Contents) → k < length inputs → i ≡ get_or inputs k i → table_of tables i.meta.number ≡ Some t

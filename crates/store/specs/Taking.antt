@@ -1,18 +1,20 @@
 -- The tables of inputs, among the tables of a version.
-use Rattle.std.specs.Prelude.{◌≡◌, ◌≢◌, ℕ, ◌<◌, List, length, slice_index_or, Some, AllPairs}
+use Rattle.std.specs.Prelude.{◌≡◌, ◌≢◌, ℕ, List, Some, AllPairs}
 use Rattle.std.specs.List.{All}
+use Rattle.std.specs.Map.{lookup}
 use Rattle.std.specs.Option.{option_map}
+use Rattle.std.specs.Ordering.{nat_cmp}
+use Rattle.std.specs.BTreeMap.{is_at}
 use Rattle.std.specs.declared.cmp.Ordering.{Ordering}
+use Rattle.table.specs.Reading.{Contents}
 use Rattle.pick.specs.declared.picked.InputFile.{InputFile}
 use Rattle.reads.specs.Lawful.{IsFileOf}
 use Rattle.reads.specs.Tables.{Numbered, table_of}
 use Rattle.install.specs.Install.{bytes_of}
 
--- the first table of a number stands at this place
-pub record IsTableAt (tables : List Numbered) (number place : ℕ) : Type 0 where
-  pub within : place < length tables
-  pub number_is : (d : Numbered) → (slice_index_or tables place d).number ≡ number
-  pub first : (d : Numbered) → table_of tables number ≡ Some (slice_index_or tables place d).contents
+-- under each number stands the first table of it
+abbrev pub AreNumbered : List Numbered → List (ℕ × Contents) → Type 0
+AreNumbered tables numbered = (number : ℕ) → lookup (is_at (nat_cmp number)) numbered ≡ table_of tables number
 
 -- each of the inputs has its table, which is what the version states of it, and no two of them have one number
 pub record HaveTables (cmp : List ℕ → List ℕ → Ordering) (tables : List Numbered) (inputs : List InputFile) : Type 0 where

@@ -8,5 +8,5 @@ use Rattle.store.proofs.taking.take_tables.Given as goal
 abbrev pub invariant-loop-input : goal.invariant-loop-input
 invariant-loop-input g l = record {
   so_far : map (λ (t : Contents). Some t) l.taken.items ≡ map (λ (i : InputFile). table_of l.fn.tables.items i.meta.number) (take l.input-index l.inputs);
-  left : AreLeft l.fn.tables.items l.inputs l.input-index l.tables.items;
+  left : AreLeft l.fn.tables.items l.inputs l.input-index l.numbered.entries;
 }

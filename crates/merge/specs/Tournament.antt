@@ -1,5 +1,7 @@
 -- A tournament of lists: each match is won by the list whose first entry comes first.
-use Rattle.std.specs.Prelude.{◌≡◌, ◌⊎◌, ℕ, zero, suc, ◌+◌, ◌*◌, ◌/◌, ◌<◌, ◌≤◌, List, [], ◌∷◌, length, slice_index, slice_index_or, set}
+use Rattle.std.specs.Prelude.{◌≡◌, ◌⊎◌, ℕ, zero, suc, ◌+◌, ◌*◌, ◌/◌, ◌<◌, ◌≤◌, List, [], ◌∷◌, length, slice_get, slice_index, slice_index_or, set, Bool, true, false, Option, Some, None, nat_lt}
+use Rattle.std.specs.Ordering.{match_ordering}
+use Rattle.std.specs.Option.{option_map}
 use Rattle.std.specs.List.{AllByRecursion}
 use Rattle.std.specs.declared.cmp.Ordering.{Ordering}
 use Rattle.std.specs.declared.cmp.Ordering.TheVariants.{Less, Equal}
@@ -23,6 +25,19 @@ pub record IsWinner (cmp : List ℕ → List ℕ → Ordering) (lists : List (Li
   pub either : (winner ≡ one) ⊎ (winner ≡ other)
   pub over_one : Beats cmp lists winner one
   pub over_other : Beats cmp lists winner other
+
+-- the key of the first entry of the list at a place, where it has one
+abbrev pub first_key : List (List Entry) → ℕ → Option (List ℕ)
+first_key lists place = option_map (λ e. e.key) (slice_get (slice_index_or lists place []) 0)
+
+-- whether a key at a place comes before another one, which may be none, at another place
+abbrev pub comes_first : (List ℕ → List ℕ → Ordering) → List ℕ → ℕ → Option (List ℕ) → ℕ → Bool
+comes_first cmp key place None other = true
+comes_first cmp key place (Some best) other = match_ordering (internal_cmp cmp best key) false (nat_lt place other) true
+
+-- two nodes are the ones below one node
+abbrev pub AreBeside : ℕ → ℕ → Type 0
+AreBeside node other = ((node ≡ 2 * (node / 2)) × (other ≡ 2 * (node / 2) + 1)) ⊎ ((node ≡ 2 * (node / 2) + 1) × (other ≡ 2 * (node / 2)))
 
 -- The winners of a tournament of so many places, a node each. Node 1 is the root, the nodes below node n are 2n and
 -- 2n + 1, and the last nodes are the places themselves. Node 0 stands for nothing.

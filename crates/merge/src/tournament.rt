@@ -1,16 +1,17 @@
 //! A tournament of cursors by their first entries, kept as the winners of its matches.
 
 ghost use Rattle.std.specs.Prelude.{◌≡◌, ◌+◌, ◌<◌, ◌≤◌, ◌⊎◌, map, length, slice_get, IfOk, IsOkUnless};
+ghost use Rattle.std.specs.Option.{option_map};
 ghost use Rattle.std.specs.List.{AllByRecursion};
 ghost use Rattle.coding.specs.Answers.{fault};
 ghost use Rattle.coding.specs.declared.fault.FaultName.TheVariants.{Memory};
 ghost use Rattle.table.specs.ReadingCursors.{NeverFalls};
 ghost use Rattle.merge.specs.Least.{IsMerging};
 ghost use Rattle.merge.specs.Merged.{merged};
-ghost use Rattle.merge.specs.Tournament.{IsWinner, IsBracket, IsPlayed, IsMatch, IsAbove, IsTournament};
+ghost use Rattle.merge.specs.Tournament.{first_key, comes_first, AreBeside, IsWinner, IsBracket, IsPlayed, IsMatch, IsAbove, IsTournament};
 
 use coding::Fault;
-use ikey::Comparator;
+use ikey::{Comparator, InternalKey};
 use std::alloc::Global;
 use std::cmp::Ordering;
 use table::{Cursor, Entries};
@@ -73,7 +74,51 @@ fn play<'c, C: Comparator, S: Cursor<'c, C>>(cursors: &[S], winners: &mut [usize
     winners[node] = winner::<C, S>(cursors, winners[2 * node], winners[2 * node + 1]);
 }
 
+/// The first key of the cursor at a place, where it has one.
+fn key_at<'a, 'c, C: Comparator, S: Cursor<'c, C>>(
+    cursors: &'a [S],
+    place: usize,
+) -> Option<InternalKey<'a>>
+    requires { place < length cursors.now }
+    ensures { option_map (λ key. key.bytes.now) result ≡ first_key (map S.remaining cursors.now) place }
+{
+    let cursor = &cursors[place];
+    if !cursor.valid() {
+        return None;
+    }
+    Some(cursor.key())
+}
+
+/// Whether a key at a place comes before another one, which may be none, at another place: of two that are one, that of the lower place.
+fn comes_first<C: Comparator>(
+    key: InternalKey<'_>,
+    place: usize,
+    best_key: Option<InternalKey<'_>>,
+    best: usize,
+) -> bool
+    ensures { result ≡ comes_first C.cmp key.entry.bytes.now place (option_map (λ key. key.bytes.now) best_key.entry) best }
+{
+    let Some(best_key) = best_key else {
+        return true;
+    };
+    match best_key.compare::<C>(&key) {
+        Ordering::Less => false,
+        Ordering::Greater => true,
+        Ordering::Equal => place < best,
+    }
+}
+
+/// The node that is below the same one as this node.
+fn beside(node: usize) -> usize
+    requires { 0 < node }
+    ensures { AreBeside node result }
+{
+    if node % 2 == 0 { node + 1 } else { node - 1 }
+}
+
 /// Plays the matches above a place again, where all others are played.
+///
+/// The winner so far is held with its key, so that of each match one cursor is asked.
 pub(crate) fn play_path<'c, C: Comparator, S: Cursor<'c, C>>(
     cursors: &[S],
     winners: &mut [usize],
@@ -86,9 +131,18 @@ pub(crate) fn play_path<'c, C: Comparator, S: Cursor<'c, C>>(
     ensures played { IsPlayed C.cmp (map S.remaining cursors.now) winners.new (λ node. ⊥) }
 {
     let mut node = cursors.len() + place;
+    let mut best = place;
+    let mut best_key = key_at::<C, S>(cursors, place);
     while node > 1 {
+        let other = winners[beside(node)];
+        if let Some(key) = key_at::<C, S>(cursors, other) {
+            if comes_first::<C>(key, other, best_key, best) {
+                best = other;
+                best_key = Some(key);
+            }
+        }
         node /= 2;
-        play::<C, S>(cursors, winners, node);
+        winners[node] = best;
     }
 }
 

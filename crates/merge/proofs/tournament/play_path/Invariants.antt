@@ -1,9 +1,17 @@
-use Rattle.std.proofs.Common.{map, length}
+use Rattle.std.proofs.Common.{◌≡◌, map, length, get_or}
+use Rattle.std.specs.Option.{option_map}
+use Rattle.ikey.specs.declared.key.InternalKey.{InternalKey}
+use Rattle.merge.specs.Tournament.{first_key}
 use Rattle.merge.proofs.Tournaments.{IsOnPath}
 use Rattle.merge.proofs.tournament.play_path.Given as goal
 
+-- the winner so far is that of the node, with its key
 abbrev pub invariant-loop-node : goal.invariant-loop-node
-invariant-loop-node g l = IsOnPath g.C.Comparator.cmp (map g.S.Entries.remaining l.cursors) (length l.cursors) l.winners l.node
+invariant-loop-node g l = record {
+  path : IsOnPath g.C.Comparator.cmp (map g.S.Entries.remaining l.cursors) (length l.cursors) l.winners l.node;
+  here : l.best ≡ get_or l.winners l.node 0;
+  key : option_map (λ (key : InternalKey). key.bytes.now) l.best_key ≡ first_key (map g.S.Entries.remaining l.cursors) l.best;
+}
 
 abbrev pub decreases-loop-node : goal.decreases-loop-node
 decreases-loop-node g l = l.node

@@ -20,7 +20,7 @@ count_here blocks i b lt is =
     ∙ length-append b.entries.entries (entries_in_blocks (drop (i + 1) blocks))
 
 pub count_more : (blocks : List PlannedBlock) (i count all : ℕ) (b : PlannedBlock) → i < length blocks → get_or blocks i b ≡ b → saturated (count + length (entries_in_blocks (drop i blocks))) ≡ all
-    → saturated (min (count + min (length b.entries.entries) (2 ^ 64 - 1)) (2 ^ 64 - 1) + length (entries_in_blocks (drop (i + 1) blocks))) ≡ all
+    → saturated (min (count + length b.entries.entries) (2 ^ 64 - 1) + length (entries_in_blocks (drop (i + 1) blocks))) ≡ all
 count_more blocks i count all b lt is h = omega (arith, h, count_here blocks i b lt is)
 
 first_same : (q here there : List Entry) (key : List ℕ) → q ≢ [] → option_map (λ (e : Entry). e.key) (slice_get (q ++ here) 0) ≡ Some key → option_map (λ (e : Entry). e.key) (slice_get (q ++ there) 0) ≡ Some key

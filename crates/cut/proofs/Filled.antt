@@ -2,17 +2,18 @@
 use Rattle.std.proofs.Common.{◌≡◌, ℕ, zero, suc, ◌+◌, ◌-◌, ◌^◌, ◌<◌, ◌≤◌, true, false, List, [], ◌∷◌, ◌++◌, length, take, drop, min, refl, sym, ap, subst, ◌∙◌, append_assoc, append-nil, inl, inr, arith}
 use Rattle.std.specs.Prelude.{Option, Some, slice_get, nat_le}
 use Rattle.std.specs.Option.{option_map}
-use Rattle.std.proofs.lemmas.Bool.{cases_lt, lt-leb}
+use Rattle.std.proofs.lemmas.Bool.{cases_lt, leb-false, lt-leb}
 use Rattle.std.proofs.lemmas.List.{drop-drop, length-drop}
 use Rattle.std.proofs.Math.Seq.{take-add}
 use Rattle.block.specs.Piece.{Entry}
 use Rattle.block.specs.Writing.{block}
 use Rattle.table.specs.declared.options.Options.{Options}
 use Rattle.table.specs.DataBlocks.{is_full}
+use Rattle.pieces.proofs.Lists.{length_le_block}
 use Rattle.runs.proofs.Places.{drop_next}
 use Rattle.cut.specs.Metered.{Metered, IsMetered, grown, ended, next_since, added_size}
 use Rattle.cut.specs.Sizes.{saturated}
-use Rattle.cut.proofs.Metered.{metered_push}
+use Rattle.cut.proofs.Metered.{few_entries, metered_push}
 
 -- so many of the entries behind are taken in, and the block was full before none of them
 pub record IsFilling (o : Options) (m : Metered) (taken : ℕ) (q behind : List Entry) (len since : ℕ) : Type 0 where
@@ -37,6 +38,13 @@ not_full o r (e ∷ es) len since h interval some lt le =
     let len_is : len ≡ saturated (length (block o.restart_interval (e ∷ es))) = h.len_is ∙ ap (λ (i : ℕ). saturated (length (block i (e ∷ es)))) interval in
     lt-leb o.block_size (length (block o.restart_interval (e ∷ es))) (omega (arith, len_is, lt, le))
 
+-- a block that is not full has room for the count of one more
+pub counted_part : (o : Options) (r : ℕ) (q : List Entry) → r ≡ o.restart_interval → o.block_size ≤ 4194304 → is_full o q ≡ false → length q < 2 ^ 64 - 1
+counted_part o r [] interval le part = omega arith
+counted_part o r (e ∷ es) interval le part =
+    let below : length (block o.restart_interval (e ∷ es)) < o.block_size = leb-false o.block_size (length (block o.restart_interval (e ∷ es))) part in
+    omega (arith, below, le, length_le_block o.restart_interval (e ∷ es))
+
 some_more : (p q : List Entry) → (p ≡ [] → ⊥) → p ++ q ≡ [] → ⊥
 some_more [] q some none = some refl
 some_more (x ∷ xs) q some none = omega (arith, ap length none)
@@ -49,7 +57,7 @@ filling_more o m taken q behind len since key value before h le interval any lt 
     let part : is_full o q ≡ false = not_full o m.interval q len since h.metered interval (λ none. some_more m.entries (take taken m.behind) any (sym h.entries ∙ none)) lt le in
     let here : is_full o (m.entries ++ take taken m.behind) ≡ false = ap (is_full o) (sym h.entries) ∙ part in
     record {
-      metered = metered_push m.interval q behind len since key value before h.metered some key_is value_is before_is;
+      metered = metered_push m.interval q behind len since key value before h.metered (few_entries m.interval q len since h.metered (omega (arith, lt, le))) some key_is value_is before_is;
       entries =
           ap (λ (xs : List Entry). xs ++ take 1 behind) h.entries
           ∙ append_assoc m.entries (take taken m.behind) (take 1 behind)

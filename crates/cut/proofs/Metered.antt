@@ -12,6 +12,7 @@ use Rattle.block.specs.Piece.{Entry, Piece, piece_bytes}
 use Rattle.block.specs.Writing.{block}
 use Rattle.block.specs.Building.{last_key}
 use Rattle.block.proofs.Written.{common, piece_at_restart}
+use Rattle.pieces.proofs.Lists.{length_le_block}
 use Rattle.cut.specs.Lengths.{added_len}
 use Rattle.cut.specs.Sizes.{saturated, piece_size}
 use Rattle.cut.specs.Metered.{IsMetered, ended, next_since, left_out, added_size}
@@ -71,15 +72,20 @@ metered_first interval pos le = record {
   limited = le;
   len_is = omega (arith, lengths_law.none interval);
   since_is = sym (zero-mod interval);
+  counted = omega arith;
 }
+
+-- where a block has fewer bytes than the largest number, there are fewer entries
+pub few_entries : (interval : ℕ) (q : List Entry) (len since : ℕ) → IsMetered interval q len since → len < 2 ^ 64 - 1 → length q < 2 ^ 64 - 1
+few_entries interval q len since h lt = omega (arith, h.len_is, lt, length_le_block interval q)
 
 -- both sums stop at the largest number
 sum_saturated : (whole before added : ℕ) → whole ≡ before + added → min (saturated before + saturated added) (2 ^ 64 - 1) ≡ saturated whole
 sum_saturated whole before added is = omega arith
 
-pushed : (interval : ℕ) (q : List Entry) (e : Entry) (len since : ℕ) → IsMetered interval q len since
+pushed : (interval : ℕ) (q : List Entry) (e : Entry) (len since : ℕ) → IsMetered interval q len since → length q < 2 ^ 64 - 1
     → IsMetered interval (q ++ e ∷ []) (min (len + saturated (added_size since (ended q) e.key (length e.value))) (2 ^ 64 - 1)) (next_since interval since)
-pushed interval q e len since h =
+pushed interval q e len since h few =
     let added : added_size since (ended q) e.key (length e.value) ≡ added_len interval q e =
     ap (λ (n : ℕ). added_size n (ended q) e.key (length e.value)) h.since_is ∙ sym (added_is interval q e) in
     record {
@@ -89,17 +95,18 @@ pushed interval q e len since h =
           ap (λ (n : ℕ). min (n + saturated (added_size since (ended q) e.key (length e.value))) (2 ^ 64 - 1)) h.len_is
           ∙ sum_saturated (length (block interval (q ++ e ∷ []))) (length (block interval q)) (added_size since (ended q) e.key (length e.value)) (lengths_law.more interval q e ∙ ap (λ (n : ℕ). length (block interval q) + n) (sym added));
       since_is = ap (next_since interval) h.since_is ∙ next_since-mod interval (length q) h.positive ∙ ap (λ (n : ℕ). n % interval) (sym (length_push q e));
+      counted = omega (arith, few, length_push q e);
     }
 
 -- the first of the entries behind is taken in, of which these are the key and the value
-pub metered_push : (interval : ℕ) (q behind : List Entry) (len since : ℕ) (key value : List ℕ) (before : Option (List ℕ)) → IsMetered interval q len since → 0 < length behind
+pub metered_push : (interval : ℕ) (q behind : List Entry) (len since : ℕ) (key value : List ℕ) (before : Option (List ℕ)) → IsMetered interval q len since → length q < 2 ^ 64 - 1 → 0 < length behind
     → option_map (λ (e : Entry). e.key) (slice_get behind 0) ≡ Some key → option_map (λ (e : Entry). e.value) (slice_get behind 0) ≡ Some value → before ≡ ended q
     → IsMetered interval (q ++ take 1 behind) (min (len + saturated (added_size since before key (length value))) (2 ^ 64 - 1)) (next_since interval since)
-metered_push interval q [] len since key value before h some key_is value_is before_is = absurd (omega arith)
-metered_push interval q (e ∷ es) len since key value before h some key_is value_is before_is =
+metered_push interval q [] len since key value before h few some key_is value_is before_is = absurd (omega arith)
+metered_push interval q (e ∷ es) len since key value before h few some key_is value_is before_is =
     let k : e.key ≡ key = cc in
     let v : e.value ≡ value = cc in
-    rw (before_is, ← k, ← v) (pushed interval q e len since h)
+    rw (before_is, ← k, ← v) (pushed interval q e len since h few)
 
 pub since_below : (interval : ℕ) (q : List Entry) (len since : ℕ) → IsMetered interval q len since → since < interval
 since_below interval q len since h = omega (arith, h.since_is, mod_below (length q) interval h.positive)

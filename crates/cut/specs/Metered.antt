@@ -1,5 +1,5 @@
 -- A data block that is measured entry by entry, with none of its bytes at hand.
-use Rattle.std.specs.Prelude.{◌≡◌, ℕ, ◌+◌, ◌-◌, ◌%◌, ◌≤◌, nat_eq, ◌==◌, ◌&&◌, if◌then◌else◌, List, ◌++◌, length, take, drop, Option, Some, None}
+use Rattle.std.specs.Prelude.{◌≡◌, ℕ, ◌+◌, ◌-◌, ◌%◌, ◌^◌, ◌≤◌, nat_eq, ◌==◌, ◌&&◌, if◌then◌else◌, List, ◌++◌, length, take, drop, Option, Some, None}
 use Rattle.std.specs.List.{common_prefix_len, last_or}
 use Rattle.std.specs.Option.{is_some, option_map}
 use Rattle.block.specs.Piece.{Entry}
@@ -16,12 +16,14 @@ pub record Metered : Type 0 where
 abbrev pub grown : ℕ → Metered → Metered
 grown n m = record { interval = m.interval; entries = m.entries ++ take n m.behind; behind = drop n m.behind }
 
--- what is kept of the block of these entries: its length, and how many of them stand behind the last whole interval
+-- what is kept of the block of these entries: its length, and how many of them stand behind the last whole interval; and
+-- their number is one of 64 bits
 pub record IsMetered (interval : ℕ) (entries : List Entry) (len since : ℕ) : Type 0 where
   pub positive : 1 ≤ interval
   pub limited : interval ≤ 1024
   pub len_is : len ≡ saturated (length (block interval entries))
   pub since_is : since ≡ length entries % interval
+  pub counted : length entries ≤ 2 ^ 64 - 1
 
 -- the entries behind the last whole interval, one entry further on
 abbrev pub next_since : ℕ → ℕ → ℕ

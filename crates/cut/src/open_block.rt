@@ -1,6 +1,6 @@
 //! The data block that takes the next entry of a plan.
 
-ghost use Rattle.std.specs.Prelude.{◌≡◌, ◌≢◌, ℕ, ◌↔◌, ◌≤◌, ◌<◌, false, [], length, IsTrue};
+ghost use Rattle.std.specs.Prelude.{◌≡◌, ◌≢◌, ℕ, ◌↔◌, ◌-◌, ◌^◌, ◌≤◌, ◌<◌, false, [], length, IsTrue};
 ghost use Rattle.std.specs.Option.{option_map};
 ghost use Rattle.block.specs.Writing.{block};
 ghost use Rattle.table.specs.DataBlocks.{is_full};
@@ -103,7 +103,8 @@ impl<'r, 'a> OpenBlock<'r, 'a> {
 
     /// Takes in the first entry behind.
     fn push(&mut self)
-        requires { 0 < length self.old.behind }
+        requires any { 0 < length self.old.behind }
+        requires counted { length self.old.entries < 2 ^ 64 - 1 }
         ensures { self.new ≡ grown 1 self.old }
     {
         let place = self.slice.behind();
@@ -153,6 +154,7 @@ impl<'r, 'a> OpenBlock<'r, 'a> {
         requires interval { self.old.interval ≡ options.restart_interval }
         requires any { 0 < length self.old.behind }
         requires most { 0 < most }
+        requires part { is_full options self.old.entries ≡ false }
         ensures new { self.new ≡ grown result self.old }
         ensures some { 0 < result }
         ensures most { result ≤ most }
@@ -198,8 +200,8 @@ impl<'r, 'a> OpenBlock<'r, 'a> {
         ensures len { result.len ≡ saturated (length (block self.old.interval self.old.entries)) }
         ensures new { self.new ≡ record { interval = self.old.interval; entries = []; behind = self.old.behind } }
     {
-        let next = RunsSlice::at(self.slice.behind());
-        let entries = mem::replace(&mut self.slice, next);
+        let entries = self.slice.part();
+        self.slice = RunsSlice::at(self.slice.behind());
         let len = mem::replace(&mut self.len, EMPTY_LEN);
         self.since = 0;
         PlannedBlock { entries, len }

@@ -9,7 +9,7 @@ ghost use Rattle.block.specs.Piece.{piece_bytes, restarts_from, restart_bytes};
 ghost use Rattle.block.specs.Writing.{pieces_from, block};
 
 use coding::{Fault, common_len, push_varint};
-use runs::RunsSlice;
+use runs::RunsPart;
 
 /// Appends the block of some entries, at a restart interval from 1 to 1,024, or on a refused growth some of it. What the list
 /// of restarts had before is gone: it lends its memory alone.
@@ -18,7 +18,7 @@ use runs::RunsSlice;
 pub(crate) fn push_block(
     out: &mut Vec<u8>,
     restarts: &mut Vec<u32>,
-    entries: &RunsSlice<'_, '_>,
+    entries: &RunsPart<'_, '_>,
     interval: u64,
 ) -> Result<(), Fault>
     requires positive { 1 ≤ interval }
@@ -40,7 +40,7 @@ pub(crate) fn push_block(
 fn push_entries(
     out: &mut Vec<u8>,
     restarts: &mut Vec<u32>,
-    entries: &RunsSlice<'_, '_>,
+    entries: &RunsPart<'_, '_>,
     interval: u64,
 ) -> Result<(), Fault>
     requires positive { 1 ≤ interval }

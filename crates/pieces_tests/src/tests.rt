@@ -12,7 +12,7 @@ use ikey::{Bytewise, KeyBuf, Kind};
 use keep::{RangeRun, is_rising, largest_rise, merge_range};
 use pick::Inputs;
 use pieces::{PlannedBlock, assemble_table, encode_blocks};
-use runs::{RunsCursor, RunsSlice};
+use runs::{RunsCursor, RunsPart, RunsSlice};
 use split::{Range, Split};
 use std::alloc::Global;
 use std::process::Abort;
@@ -225,7 +225,7 @@ fn block_at<'r, 'a>(
     let mut entries = RunsSlice::at(cursor.copy());
     entries.push(key);
     Ok(PlannedBlock {
-        entries,
+        entries: entries.part(),
         len: len as u64,
     })
 }
@@ -332,10 +332,9 @@ fn is_slice(rt: &impl Abort, runs: &[RangeRun<'_>]) {
         assert!(rt; behind.valid());
         slice.push(behind.key());
     }
-    assert!(rt; slice.len() == 2 && !slice.is_empty());
+    assert!(rt; !slice.is_empty());
     let last = slice.last_key().map(|key| key.bytes());
     assert!(rt; last == Some(b"u\x01\x09\x00\x00\x00\x00\x00\x00".as_slice()));
-    stands(rt, &slice.first(), FOUR[0]);
     stands(rt, &slice.behind(), FOUR[2]);
 }
 
@@ -343,5 +342,55 @@ fn is_slice(rt: &impl Abort, runs: &[RangeRun<'_>]) {
 fn a_slice_over_two_runs(rt: HostRuntime) -> Result<(), Fail> {
     let bytes = written(&rt, &FOUR)?;
     is_slice(&rt, &runs(&rt, &bytes, &FIVE_RANGES)?);
+    Ok(())
+}
+
+/// The first two entries from a place on.
+fn two_from<'r, 'a>(rt: &impl Abort, place: &RunsCursor<'r, 'a>) -> RunsPart<'r, 'a> {
+    assert!(rt; place.valid());
+    let mut slice = RunsSlice::at(place.copy());
+    slice.push(place.key());
+    let behind = slice.behind();
+    assert!(rt; behind.valid());
+    slice.push(behind.key());
+    slice.part()
+}
+
+/// Tests that a part of two entries begins with this one and ends with this key.
+fn is_part(rt: &impl Abort, part: &RunsPart<'_, '_>, first: Row<'_>, last: &[u8]) {
+    assert!(rt; part.len() == 2);
+    stands(rt, &part.first(), first);
+    let key = part.last_key().map(|key| key.bytes());
+    assert!(rt; key == Some(last));
+}
+
+/// Tests the parts of the first two and of the last two of the four values, and that of none.
+fn are_parts(rt: &impl Abort, runs: &[RangeRun<'_>]) {
+    let mut place = RunsCursor::new(runs);
+    is_part(
+        rt,
+        &two_from(rt, &place),
+        FOUR[0],
+        b"u\x01\x09\x00\x00\x00\x00\x00\x00",
+    );
+    for _ in 0..2 {
+        assert!(rt; place.valid());
+        place.advance();
+    }
+    is_part(
+        rt,
+        &two_from(rt, &place),
+        FOUR[2],
+        b"z\x01\x02\x00\x00\x00\x00\x00\x00",
+    );
+    let none = RunsSlice::at(place).part();
+    assert!(rt; none.len() == 0 && none.last_key().is_none());
+    stands(rt, &none.first(), FOUR[2]);
+}
+
+#[test]
+fn parts_over_runs(rt: HostRuntime) -> Result<(), Fail> {
+    let bytes = written(&rt, &FOUR)?;
+    are_parts(&rt, &runs(&rt, &bytes, &FIVE_RANGES)?);
     Ok(())
 }

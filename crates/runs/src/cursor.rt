@@ -1,6 +1,6 @@
 //! A place among the kept entries of runs.
 
-ghost use Rattle.std.specs.Prelude.{◌≡◌, ◌<◌, ◌↔◌, length, drop, flat_map, slice_get, IsTrue, Some};
+ghost use Rattle.std.specs.Prelude.{◌≡◌, ◌<◌, ◌≤◌, ◌↔◌, length, drop, flat_map, slice_get, IsTrue, Some};
 ghost use Rattle.std.specs.Option.{option_map};
 ghost use Rattle.runs.specs.Standing.{kept_of, StandsAt};
 
@@ -87,6 +87,25 @@ impl<'r, 'a> RunsCursor<'r, 'a> {
             let (_, later) = self.runs.split_at(1);
             self.runs = from_entry(later);
             self.entry = 0;
+        }
+    }
+
+    /// The place so many entries further, which is found run by run. Takes no memory.
+    pub(crate) fn skip(&self, count: u64) -> RunsCursor<'r, 'a>
+        requires { count ≤ length self.now }
+        ensures { result ≡ drop count self.now }
+    {
+        let runs = self.runs;
+        let mut left = self.entry as u128 + count as u128;
+        let mut passed = 0;
+        while passed < runs.len() && runs[passed].len() as u128 <= left {
+            left -= runs[passed].len() as u128;
+            passed += 1;
+        }
+        let (_, rest) = runs.split_at(passed);
+        RunsCursor {
+            runs: rest,
+            entry: left as usize,
         }
     }
 }

@@ -1,10 +1,11 @@
 //! Consecutive entries of runs.
 
-ghost use Rattle.std.specs.Prelude.{◌≡◌, ◌-◌, ◌^◌, ◌↔◌, [], ◌∷◌, ◌++◌, length, take, drop, min, slice_get, IsTrue, Some, None};
+ghost use Rattle.std.specs.Prelude.{◌≡◌, ◌-◌, ◌^◌, ◌≤◌, ◌↔◌, [], ◌++◌, length, take, drop, slice_get, IsTrue, Some, None};
 ghost use Rattle.std.specs.List.{last_or};
 ghost use Rattle.std.specs.Option.{option_map};
 
 use crate::cursor::RunsCursor;
+use crate::part::RunsPart;
 use ikey::InternalKey;
 use std::marker::Model;
 
@@ -56,13 +57,6 @@ impl<'r, 'a> RunsSlice<'r, 'a> {
         self.last = Some(key);
     }
 
-    /// The number of entries, or 2^64 - 1 where there are more. Takes no memory.
-    pub fn len(&self) -> u64
-        ensures { result ≡ min (length self.now.entries) (2 ^ 64 - 1) }
-    {
-        self.len
-    }
-
     /// Whether there are no entries. Takes no memory.
     pub fn is_empty(&self) -> bool
         ensures { IsTrue result ↔ (self.now.entries ≡ []) }
@@ -77,17 +71,18 @@ impl<'r, 'a> RunsSlice<'r, 'a> {
         self.last
     }
 
-    /// The place of the first entry. Takes no memory.
-    pub fn first(&self) -> RunsCursor<'r, 'a>
-        ensures { result ≡ self.now.entries ++ self.now.behind }
-    {
-        self.start.copy()
-    }
-
     /// The place behind the last entry. Takes no memory.
     pub fn behind(&self) -> RunsCursor<'r, 'a>
         ensures { result ≡ self.now.behind }
     {
         self.behind.copy()
+    }
+
+    /// These entries, held in few bytes, where there are at most 2^64 - 1. Takes no memory.
+    pub fn part(&self) -> RunsPart<'r, 'a>
+        requires { length self.now.entries ≤ 2 ^ 64 - 1 }
+        ensures { result ≡ self.now }
+    {
+        RunsPart::new(self.start.copy(), self.len)
     }
 }

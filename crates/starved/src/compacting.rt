@@ -55,7 +55,7 @@ pub fn runs_cursors(runs: &[RangeRun<'_>]) -> bool {
     is_first && !cursor.valid()
 }
 
-/// A stretch of these, of no entry and then of one.
+/// A stretch of these, of no entry and then of one, and its part.
 pub fn runs_slices(runs: &[RangeRun<'_>]) -> bool {
     let cursor = RunsCursor::new(runs);
     let mut slice = RunsSlice::at(cursor.copy());
@@ -63,10 +63,12 @@ pub fn runs_slices(runs: &[RangeRun<'_>]) -> bool {
         return false;
     }
     slice.push(cursor.key());
-    slice.len() == 1
-        && slice.last_key().is_some()
-        && slice.first().valid()
+    let part = slice.part();
+    slice.last_key().is_some()
         && !slice.behind().valid()
+        && part.len() == 1
+        && part.first().valid()
+        && part.last_key().is_some()
 }
 
 /// Ranges of user keys: one, and three.

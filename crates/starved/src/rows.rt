@@ -96,7 +96,7 @@ pub const ROWS: [(Row, &str); 31] = [
     ),
     (
         Row::RunsSlices,
-        "RunsSlice: at, push, is_empty, len, last_key, first, behind, RunsCursor: copy",
+        "RunsSlice: at, push, is_empty, last_key, behind, part, RunsPart: len, first, last_key, RunsCursor: copy",
     ),
     (Row::Ranges, "Split: from_keys, len, range"),
     (Row::Plans, "Plan: is_empty, jobs, len, output"),

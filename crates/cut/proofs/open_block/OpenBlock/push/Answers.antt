@@ -15,7 +15,8 @@ invariant_of-self c =
     let key : List ℕ = c.key-key.result.bytes.now in
     let value : List ℕ = c.value.result.now in
     let before = option_map (λ k. k.bytes.now) c.last_key.result in
-    let some : 0 < length behind = subst (λ (m : Metered). 0 < length m.behind) (sym c.self.view_is) c.requires in
+    let some : 0 < length behind = subst (λ (m : Metered). 0 < length m.behind) (sym c.self.view_is) c.requires.any in
+    let few : length q < 2 ^ 64 - 1 = subst (λ (m : Metered). length m.entries < 2 ^ 64 - 1) (sym c.self.view_is) c.requires.counted in
     let key_is : option_map (λ (e : Entry). e.key) (slice_get behind 0) ≡ Some key =
     subst (λ (es : List Entry). option_map (λ (e : Entry). e.key) (slice_get es 0) ≡ Some key) c.behind-place.ensures c.key-key.ensures in
     let value_is : option_map (λ (e : Entry). e.value) (slice_get behind 0) ≡ Some value =
@@ -24,7 +25,7 @@ invariant_of-self c =
     let len : c.saturating_add-self-inside.result ≡ min (was.len + saturated (added_size was.since before key (length value))) (2 ^ 64 - 1) =
     c.saturating_add-self-inside.ensures ∙ ap (λ (n : ℕ). min (was.len + n) (2 ^ 64 - 1)) c.added_len-added.ensures in
     let since : c.next_since-self-inside.result ≡ next_since was.interval was.since = c.next_since-self-inside.ensures in
-    rw (entries, len, since) (metered_push was.interval q behind was.len was.since key value before c.self.invariant some key_is value_is c.last_key.ensures)
+    rw (entries, len, since) (metered_push was.interval q behind was.len was.since key value before c.self.invariant few some key_is value_is c.last_key.ensures)
 
 pub next_since-self-inside-requires : goal.next_since-self-inside-requires
 next_since-self-inside-requires c = since_below c.self.inside.interval c.self.inside.slice.entries c.self.inside.len c.self.inside.since c.self.invariant

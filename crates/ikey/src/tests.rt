@@ -1,58 +1,73 @@
 use super::*;
 use coding::{Fault, FaultName};
+use std::alloc::Global;
 use std::cmp::Ordering;
 use std::process::Abort;
 use std::test::*;
 
+/// Tests that bytes are these.
+fn are_bytes(rt: &impl Abort, found: &[u8], wanted: &[u8]) {
+    assert_eq!(rt; found, wanted);
+}
+
+/// Tests that a key is these bytes.
+fn is_key(rt: &impl Abort, key: &KeyBuf, wanted: &[u8]) {
+    are_bytes(rt, key.as_key().bytes(), wanted);
+}
+
+/// Two user keys, and their separator.
+const SEPARATORS: [(&[u8], &[u8], &[u8]); 3] = [
+    (b"abcz", b"abfa", b"abd"),
+    (b"ab", b"abc", b"ab"),
+    (b"a", b"b", b"a"),
+];
+
 #[test]
-fn separators(rt: HostRuntime) -> Result<(), Fail> {
-    for (start, limit, want) in [
-        (b"abcz".as_slice(), b"abfa".as_slice(), b"abd".as_slice()),
-        (b"ab", b"abc", b"ab"),
-        (b"a", b"b", b"a"),
-    ] {
-        let short = Bytewise::separator(rt.alloc(), start, limit)
-            .ok()
-            .ok_or("memory")?;
-        assert_eq!(rt; short.as_slice(), want);
+fn separators(rt: HostRuntime) -> Result<(), Fault> {
+    for (start, limit, wanted) in SEPARATORS {
+        are_bytes(&rt, &Bytewise::separator(rt.alloc(), start, limit)?, wanted);
     }
-    let kept = Shortlex::separator(rt.alloc(), b"b", b"aa")
-        .ok()
-        .ok_or("memory")?;
-    assert_eq!(rt; kept.as_slice(), b"b".as_slice());
+    are_bytes(&rt, &Shortlex::separator(rt.alloc(), b"b", b"aa")?, b"b");
     Ok(())
 }
 
+/// A user key, and its successor.
+const SUCCESSORS: [(&[u8], &[u8]); 3] = [
+    (&[0xff, 0x61], &[0xff, 0x62]),
+    (&[0xff, 0xff], &[0xff, 0xff]),
+    (&[], &[]),
+];
+
 #[test]
-fn successors(rt: HostRuntime) -> Result<(), Fail> {
-    for (key, want) in [
-        ([0xff, 0x61].as_slice(), [0xff, 0x62].as_slice()),
-        (&[0xff, 0xff], &[0xff, 0xff]),
-        (&[], &[]),
-    ] {
-        let short = Bytewise::successor(rt.alloc(), key).ok().ok_or("memory")?;
-        assert_eq!(rt; short.as_slice(), want);
+fn successors(rt: HostRuntime) -> Result<(), Fault> {
+    for (key, wanted) in SUCCESSORS {
+        are_bytes(&rt, &Bytewise::successor(rt.alloc(), key)?, wanted);
     }
-    let kept = Shortlex::successor(rt.alloc(), b"b").ok().ok_or("memory")?;
-    assert_eq!(rt; kept.as_slice(), b"b".as_slice());
+    are_bytes(&rt, &Shortlex::successor(rt.alloc(), b"b")?, b"b");
     Ok(())
+}
+
+/// User keys that differ behind a word of eight bytes, within one, and in two words.
+const RISING: [(&[u8], &[u8]); 4] = [
+    (b"abcdefgh", b"abcdefghi"),
+    (b"abcdefg\x01", b"abcdefg\xff"),
+    (b"\x01bcdefgh\xff", b"\xffbcdefgh\x01"),
+    (b"abcdefghijk\x01mnop", b"abcdefghijk\xffmnop"),
+];
+
+/// Whether one user key is the lesser of two bytewise, the other the greater, and a key equal to itself.
+fn are_rising(lesser: &[u8], greater: &[u8]) -> bool {
+    Bytewise::compare(lesser, greater) == Ordering::Less
+        && Bytewise::compare(greater, lesser) == Ordering::Greater
+        && Bytewise::compare(lesser, lesser) == Ordering::Equal
 }
 
 #[test]
 fn orders_of_user_keys(rt: HostRuntime) {
-    assert_eq!(rt; Bytewise::name(), "leveldb.BytewiseComparator");
-    assert_eq!(rt; Shortlex::name(), "subcompaction.ShortlexComparator");
     assert!(rt; Bytewise::compare(b"aa", b"b") == Ordering::Less);
     assert!(rt; Shortlex::compare(b"b", b"aa") == Ordering::Less);
-    for (lesser, greater) in [
-        (b"abcdefgh".as_slice(), b"abcdefghi".as_slice()),
-        (b"abcdefg\x01", b"abcdefg\xff"),
-        (b"\x01bcdefgh\xff", b"\xffbcdefgh\x01"),
-        (b"abcdefghijk\x01mnop", b"abcdefghijk\xffmnop"),
-    ] {
-        assert!(rt; Bytewise::compare(lesser, greater) == Ordering::Less);
-        assert!(rt; Bytewise::compare(greater, lesser) == Ordering::Greater);
-        assert!(rt; Bytewise::compare(lesser, lesser) == Ordering::Equal);
+    for (lesser, greater) in RISING {
+        assert!(rt; are_rising(lesser, greater));
     }
 }
 
@@ -61,123 +76,143 @@ fn shared_name<C: SharedComparator>() -> &'static str {
     C::name()
 }
 
+/// Tests that a name is this.
+fn is_name(rt: &impl Abort, found: &str, wanted: &str) {
+    assert_eq!(rt; found, wanted);
+}
+
 #[test]
-fn comparators_that_threads_share(rt: HostRuntime) {
-    assert_eq!(rt; shared_name::<Bytewise>(), "leveldb.BytewiseComparator");
-    assert_eq!(rt;
+fn names_of_comparators(rt: HostRuntime) {
+    is_name(&rt, Bytewise::name(), "leveldb.BytewiseComparator");
+    is_name(&rt, Shortlex::name(), "subcompaction.ShortlexComparator");
+    // Threads may share both.
+    is_name(&rt, shared_name::<Bytewise>(), "leveldb.BytewiseComparator");
+    is_name(
+        &rt,
         shared_name::<Shortlex>(),
-        "subcompaction.ShortlexComparator"
+        "subcompaction.ShortlexComparator",
     );
 }
 
-#[test]
-fn spelling(rt: HostRuntime) -> Result<(), Fail> {
-    let put = KeyBuf::new(rt.alloc(), b"a", 1, Kind::Put)
-        .ok()
-        .ok_or("memory")?;
-    assert_eq!(rt;
-        put.as_key().bytes(),
-        [0x61, 1, 1, 0, 0, 0, 0, 0, 0].as_slice()
-    );
-    let delete = KeyBuf::new(rt.alloc(), b"u", 4, Kind::Delete)
-        .ok()
-        .ok_or("memory")?;
-    assert_eq!(rt;
-        delete.as_key().bytes(),
-        [0x75, 0, 4, 0, 0, 0, 0, 0, 0].as_slice()
-    );
-    Ok(())
+/// An internal key: its user key of one byte, its sequence and its type.
+type Parts = (u8, u8, Kind);
+
+/// The internal key of these.
+fn key_of(alloc: Global, parts: Parts) -> Result<KeyBuf, Fault> {
+    KeyBuf::new(alloc, &[parts.0], u64::from(parts.1), parts.2)
 }
 
-#[test]
-fn reading(rt: HostRuntime) -> Result<(), Fail> {
-    let key = InternalKey::parse(&[0x75, 0, 4, 0, 0, 0, 0, 0, 0])
-        .ok()
-        .ok_or("a key")?;
-    assert_eq!(rt; key.user(), b"u".as_slice());
-    assert_eq!(rt; key.sequence(), 4);
-    assert_eq!(rt; key.kind(), Kind::Delete);
-    let copy = KeyBuf::of(rt.alloc(), key).ok().ok_or("memory")?;
-    assert_eq!(rt; copy.as_key().bytes(), key.bytes());
-
-    let refusal = |bytes: &[u8]| InternalKey::parse(bytes).err();
-    assert_eq!(rt; refusal(&[1; 7]), Some(Fault::of(FaultName::Key)));
-    assert_eq!(rt;
-        refusal(&[2, 0, 0, 0, 0, 0, 0, 0]),
-        Some(Fault::of(FaultName::Key))
-    );
-    let long = vec![in rt.alloc(); 0u8; 65_536 + 8]?;
-    assert_eq!(rt; refusal(&long), Some(Fault::of(FaultName::TooLarge)));
-    assert_eq!(rt; refusal(&long[1..]), None);
-    Ok(())
-}
+/// Internal keys, and how they are spelt.
+const SPELLINGS: [(Parts, [u8; 9]); 2] = [
+    ((b'a', 1, Kind::Put), [0x61, 1, 1, 0, 0, 0, 0, 0, 0]),
+    ((b'u', 4, Kind::Delete), [0x75, 0, 4, 0, 0, 0, 0, 0, 0]),
+];
 
 #[test]
-fn orders_of_internal_keys(rt: HostRuntime) -> Result<(), Fail> {
-    let a2 = KeyBuf::new(rt.alloc(), b"a", 2, Kind::Delete)
-        .ok()
-        .ok_or("memory")?;
-    let a1_put = KeyBuf::new(rt.alloc(), b"a", 1, Kind::Put)
-        .ok()
-        .ok_or("memory")?;
-    let a1_delete = KeyBuf::new(rt.alloc(), b"a", 1, Kind::Delete)
-        .ok()
-        .ok_or("memory")?;
-    let b9 = KeyBuf::new(rt.alloc(), b"b", 9, Kind::Put)
-        .ok()
-        .ok_or("memory")?;
-    let rising = [
-        a2.as_key(),
-        a1_put.as_key(),
-        a1_delete.as_key(),
-        b9.as_key(),
-    ];
-    for pair in rising.windows(2) {
-        assert!(rt; pair[0].compare::<Bytewise>(&pair[1]) == Ordering::Less);
-        assert!(rt; pair[1].compare::<Shortlex>(&pair[0]) == Ordering::Greater);
+fn spelling(rt: HostRuntime) -> Result<(), Fault> {
+    for (parts, wanted) in SPELLINGS {
+        is_key(&rt, &key_of(rt.alloc(), parts)?, &wanted);
     }
     Ok(())
 }
 
-#[test]
-fn short_internal_keys(rt: HostRuntime) -> Result<(), Fail> {
-    let start = KeyBuf::new(rt.alloc(), b"abcz", 5, Kind::Put)
-        .ok()
-        .ok_or("memory")?;
-    let limit = KeyBuf::new(rt.alloc(), b"abfa", 3, Kind::Put)
-        .ok()
-        .ok_or("memory")?;
-    let short = internal_separator::<Bytewise>(rt.alloc(), start.as_key(), limit.as_key())
-        .ok()
-        .ok_or("memory")?;
-    assert_eq!(rt;
-        short.as_key().bytes(),
-        b"abd\x01\xff\xff\xff\xff\xff\xff\xff".as_slice()
-    );
+/// Whether a key has these parts.
+fn has_parts(key: InternalKey, user: &[u8], sequence: u64, kind: Kind) -> bool {
+    key.user() == user && key.sequence() == sequence && key.kind() == kind
+}
 
-    let last = KeyBuf::new(rt.alloc(), b"a", 1, Kind::Put)
-        .ok()
-        .ok_or("memory")?;
-    let kept = internal_successor::<Bytewise>(rt.alloc(), last.as_key())
-        .ok()
-        .ok_or("memory")?;
-    assert_eq!(rt; kept.as_key().bytes(), last.as_key().bytes());
+#[test]
+fn reading(rt: HostRuntime) -> Result<(), Fault> {
+    let key = InternalKey::parse(&[0x75, 0, 4, 0, 0, 0, 0, 0, 0])?;
+    assert!(rt; has_parts(key, b"u", 4, Kind::Delete));
+    is_key(&rt, &KeyBuf::of(rt.alloc(), key)?, key.bytes());
     Ok(())
+}
+
+/// Tests how bytes are refused that are read as an internal key.
+fn is_refusal(rt: &impl Abort, bytes: &[u8], wanted: Option<Fault>) {
+    assert_eq!(rt; InternalKey::parse(bytes).err(), wanted);
+}
+
+#[test]
+fn bytes_that_are_no_key(rt: HostRuntime) -> Result<(), Fault> {
+    let no_key = Some(Fault::of(FaultName::Key));
+    is_refusal(&rt, &[1; 7], no_key);
+    is_refusal(&rt, &[2, 0, 0, 0, 0, 0, 0, 0], no_key);
+    let long = vec![in rt.alloc(); 0u8; 65_536 + 8]?;
+    is_refusal(&rt, &long, Some(Fault::of(FaultName::TooLarge)));
+    is_refusal(&rt, &long[1..], None);
+    Ok(())
+}
+
+/// Neighbours in the order of internal keys.
+const NEIGHBOURS: [(Parts, Parts); 3] = [
+    ((b'a', 2, Kind::Delete), (b'a', 1, Kind::Put)),
+    ((b'a', 1, Kind::Put), (b'a', 1, Kind::Delete)),
+    ((b'a', 1, Kind::Delete), (b'b', 9, Kind::Put)),
+];
+
+/// Whether an internal key is the lesser of two bytewise, and the other the greater by length.
+fn is_lesser(lesser: InternalKey, greater: InternalKey) -> bool {
+    lesser.compare::<Bytewise>(&greater) == Ordering::Less
+        && greater.compare::<Shortlex>(&lesser) == Ordering::Greater
+}
+
+/// Whether the first of these is the lesser.
+fn are_neighbours(alloc: Global, lesser: Parts, greater: Parts) -> Result<bool, Fault> {
+    let lesser = key_of(alloc, lesser)?;
+    let greater = key_of(alloc, greater)?;
+    Ok(is_lesser(lesser.as_key(), greater.as_key()))
+}
+
+#[test]
+fn orders_of_internal_keys(rt: HostRuntime) -> Result<(), Fault> {
+    for (lesser, greater) in NEIGHBOURS {
+        assert!(rt; are_neighbours(rt.alloc(), lesser, greater)?);
+    }
+    Ok(())
+}
+
+/// The separator of `abcz` at 5 and `abfa` at 3, both put.
+fn separated(alloc: Global) -> Result<KeyBuf, Fault> {
+    let start = KeyBuf::new(alloc, b"abcz", 5, Kind::Put)?;
+    let limit = KeyBuf::new(alloc, b"abfa", 3, Kind::Put)?;
+    internal_separator::<Bytewise>(alloc, start.as_key(), limit.as_key())
+}
+
+/// Whether `a` at 1, put, is its own successor.
+fn is_kept(alloc: Global) -> Result<bool, Fault> {
+    let last = key_of(alloc, (b'a', 1, Kind::Put))?;
+    let kept = internal_successor::<Bytewise>(alloc, last.as_key())?;
+    Ok(kept.as_key().bytes() == last.as_key().bytes())
+}
+
+#[test]
+fn short_internal_keys(rt: HostRuntime) -> Result<(), Fault> {
+    let wanted = b"abd\x01\xff\xff\xff\xff\xff\xff\xff";
+    is_key(&rt, &separated(rt.alloc())?, wanted);
+    assert!(rt; is_kept(rt.alloc())?);
+    Ok(())
+}
+
+/// Tests that a refusal is for want of memory.
+fn is_memory(rt: &impl Abort, refused: Fault) {
+    assert_eq!(rt; refused, Fault::of(FaultName::Memory));
 }
 
 /// The answer is these bytes, or Memory where a growth was refused.
 fn is_or_memory(rt: &impl Abort, answer: Result<Vec<u8>, Fault>, want: &[u8]) {
     match answer {
-        Ok(bytes) => assert_eq!(rt; bytes.as_slice(), want),
-        Err(refused) => assert_eq!(rt; refused, Fault::of(FaultName::Memory)),
+        Ok(bytes) => are_bytes(rt, &bytes, want),
+        Err(refused) => is_memory(rt, refused),
     }
 }
 
 /// The key is these bytes, or Memory where a growth was refused.
 fn is_key_or_memory(rt: &impl Abort, answer: Result<KeyBuf, Fault>, want: &[u8]) {
     match answer {
-        Ok(key) => assert_eq!(rt; key.as_key().bytes(), want),
-        Err(refused) => assert_eq!(rt; refused, Fault::of(FaultName::Memory)),
+        Ok(key) => is_key(rt, &key, want),
+        Err(refused) => is_memory(rt, refused),
     }
 }
 
@@ -187,33 +222,48 @@ const LIMIT: [u8; 12] = *b"abfa\x01\x03\0\0\0\0\0\0";
 
 // With `rt try --test --fail-alloc N` the Nth growth is refused; without it, none is.
 #[test]
-fn a_refused_growth_is_memory(rt: HostRuntime) -> Result<(), Fault> {
+fn a_refused_growth_is_memory(rt: HostRuntime) {
     let alloc = rt.alloc();
     is_or_memory(&rt, Bytewise::separator(alloc, b"abcz", b"abfa"), b"abd");
     is_or_memory(&rt, Bytewise::successor(alloc, b"ab"), b"b");
     is_or_memory(&rt, Shortlex::separator(alloc, b"b", b"aa"), b"b");
     is_or_memory(&rt, Shortlex::successor(alloc, b"b"), b"b");
+    let made = KeyBuf::new(alloc, b"abcz", 5, Kind::Put);
+    is_key_or_memory(&rt, made, &START);
+}
+
+// With `rt try --test --fail-alloc N` the Nth growth is refused; without it, none is.
+#[test]
+fn a_refused_growth_of_a_short_key_is_memory(rt: HostRuntime) -> Result<(), Fault> {
+    let alloc = rt.alloc();
     let (start, limit) = (InternalKey::parse(&START)?, InternalKey::parse(&LIMIT)?);
     let short = internal_separator::<Bytewise>(alloc, start, limit);
     is_key_or_memory(&rt, short, b"abd\x01\xff\xff\xff\xff\xff\xff\xff");
     let short = internal_successor::<Bytewise>(alloc, start);
     is_key_or_memory(&rt, short, b"b\x01\xff\xff\xff\xff\xff\xff\xff");
     is_key_or_memory(&rt, KeyBuf::of(alloc, start), &START);
-    let made = KeyBuf::new(alloc, b"abcz", 5, Kind::Put);
-    is_key_or_memory(&rt, made, &START);
     Ok(())
+}
+
+/// The key that these bytes are.
+fn own(alloc: Global, bytes: &[u8]) -> Result<KeyBuf, Fault> {
+    KeyBuf::of(alloc, InternalKey::parse(bytes)?)
+}
+
+/// Puts the key that these bytes are in its place.
+fn set(own: &mut KeyBuf, bytes: &[u8]) -> Result<(), Fault> {
+    own.set(InternalKey::parse(bytes)?)
 }
 
 // With `rt try --test --fail-alloc N` the Nth growth is refused; without it, none is.
 #[test]
 fn a_key_gives_way_to_another(rt: HostRuntime) -> Result<(), Fault> {
-    let short = InternalKey::parse(&START[3..])?;
-    let mut own = KeyBuf::of(rt.alloc(), short)?;
-    match own.set(InternalKey::parse(&LIMIT)?) {
-        Ok(()) => assert_eq!(rt; own.as_key().bytes(), LIMIT.as_slice()),
+    let mut own = own(rt.alloc(), &START[3..])?;
+    match set(&mut own, &LIMIT) {
+        Ok(()) => is_key(&rt, &own, &LIMIT),
         Err(refused) => {
-            assert_eq!(rt; refused, Fault::of(FaultName::Memory));
-            assert_eq!(rt; own.as_key().bytes(), &START[3..]);
+            is_memory(&rt, refused);
+            is_key(&rt, &own, &START[3..]);
         }
     }
     Ok(())

@@ -50,15 +50,31 @@ type Row = (&'static [u8], u8, Option<u8>);
 /// An entry, and the bytes of the blocks that are flushed behind it; none where its key isn't above the last one.
 type Added = (Row, Option<u64>);
 
-/// Tests how many bytes of blocks are flushed behind each entry, and none where its key isn't above the last one.
+/// Tests how many bytes of blocks are flushed.
+fn is_flushed(rt: &impl Abort, found: Option<u64>, wanted: Option<u64>) {
+    assert_eq!(rt; found, wanted);
+}
+
+/// Tests how many bytes of blocks are flushed behind an entry, and none where its key isn't above the last one.
+fn is_added(
+    rt: &(impl Abort + AllocGlobal),
+    table: &mut TableBuilder<Bytewise>,
+    row: &Row,
+    flushed: Option<u64>,
+) -> Result<(), Fault> {
+    let key = key_of(rt, row.0, row.1, row.2.is_some())?;
+    is_flushed(rt, add(table, &key, row.2)?, flushed);
+    Ok(())
+}
+
+/// Tests this of each of these.
 fn are_added(
     rt: &(impl Abort + AllocGlobal),
     table: &mut TableBuilder<Bytewise>,
     rows: &[Added],
 ) -> Result<(), Fault> {
     for (row, flushed) in rows {
-        let key = key_of(rt, row.0, row.1, row.2.is_some())?;
-        assert_eq!(rt; add(table, &key, row.2)?, *flushed);
+        is_added(rt, table, row, *flushed)?;
     }
     Ok(())
 }
@@ -116,6 +132,11 @@ fn a_block_for_each_entry(rt: HostRuntime) -> Result<(), Fail> {
     is_built(&rt, block_for_each(), &ROWS[..2], &TWO_BLOCKS)
 }
 
+/// Tests that a refusal is for want of memory.
+fn is_memory(rt: &impl Abort, refused: Fault) {
+    assert_eq!(rt; refused.name, FaultName::Memory);
+}
+
 /// Adds an entry, at a second try where a growth was refused at the first.
 fn add_again(
     rt: &impl Abort,
@@ -127,19 +148,30 @@ fn add_again(
     match add(table, key, value) {
         Ok(answer) => Ok(answer),
         Err(refused) => {
-            assert_eq!(rt; refused.name, FaultName::Memory);
-            assert_eq!(rt; table.flushed(), flushed);
+            is_memory(rt, refused);
+            is_flushed(rt, Some(table.flushed()), Some(flushed));
             add(table, key, value)
         }
     }
+}
+
+/// Tests how many bytes of blocks are flushed behind an entry that is added so.
+fn is_added_again(
+    rt: &(impl Abort + AllocGlobal),
+    table: &mut TableBuilder<Bytewise>,
+    row: &Row,
+    flushed: Option<u64>,
+) -> Result<(), Fault> {
+    let key = key_of(rt, row.0, row.1, row.2.is_some())?;
+    is_flushed(rt, add_again(rt, table, &key, row.2)?, flushed);
+    Ok(())
 }
 
 /// A table that these entries were added to, each at a second try where a growth was refused at the first.
 fn grown(rt: &(impl Abort + AllocGlobal), rows: &[Added]) -> Result<TableBuilder<Bytewise>, Fault> {
     let mut table = builder(rt, block_for_each());
     for (row, flushed) in rows {
-        let key = key_of(rt, row.0, row.1, row.2.is_some())?;
-        assert_eq!(rt; add_again(rt, &mut table, &key, row.2)?, *flushed);
+        is_added_again(rt, &mut table, row, *flushed)?;
     }
     Ok(table)
 }

@@ -57,6 +57,11 @@ fn refusal(alloc: Global, bytes: &[u8]) -> Option<FaultName> {
     }
 }
 
+/// Tests the name that a table is refused by.
+fn is_refusal(rt: &(impl Abort + AllocGlobal), bytes: &[u8], wanted: Option<FaultName>) {
+    assert_eq!(rt; refusal(rt.alloc(), bytes), wanted);
+}
+
 /// Bytes that are changed.
 type Changes = &'static [(usize, u8)];
 
@@ -67,8 +72,7 @@ fn are_refused(
     rows: &[(Changes, Changes, Option<FaultName>)],
 ) -> Result<(), Fail> {
     for (mended, after, wanted) in rows {
-        let bytes = damaged(rt.alloc(), mended, after)?;
-        assert_eq!(rt; refusal(rt.alloc(), &bytes), *wanted);
+        is_refusal(rt, &damaged(rt.alloc(), mended, after)?, *wanted);
     }
     Ok(())
 }
@@ -158,11 +162,21 @@ fn walks_one(cursor: &mut TableCursor<'_, Bytewise>) -> Result<bool, Fault> {
     Ok(first && !cursor.valid())
 }
 
+/// Whether they are all entries of a table.
+fn has_one(alloc: Global, table: &SoundTable<'_, Bytewise>) -> Result<bool, Fault> {
+    walks_one(&mut cursor(alloc, table)?)
+}
+
+/// Whether the index of a table has one user key.
+fn indexes_one(alloc: Global, table: &SoundTable<'_, Bytewise>) -> Result<bool, Fault> {
+    Ok(indexed(alloc, table)? == 1)
+}
+
 /// Whether the worked table is read as it is.
 fn is_read(alloc: Global, bytes: &[u8]) -> Result<bool, Fault> {
     let table = checked(alloc, bytes)?;
-    let whole = table.bytes().len() == 114 && has_bounds(&table) && indexed(alloc, &table)? == 1;
-    Ok(whole && walks_one(&mut cursor(alloc, &table)?)?)
+    let whole = table.bytes().len() == 114 && has_bounds(&table);
+    Ok(whole && indexes_one(alloc, &table)? && has_one(alloc, &table)?)
 }
 
 #[test]
@@ -223,8 +237,7 @@ fn are_pairs(
     rows: &[(Pair, Option<FaultName>)],
 ) -> Result<(), Fail> {
     for (pair, wanted) in rows {
-        let bytes = table_of(rt.alloc(), pair)?;
-        assert_eq!(rt; refusal(rt.alloc(), &bytes), *wanted);
+        is_refusal(rt, &table_of(rt.alloc(), pair)?, *wanted);
     }
     Ok(())
 }
@@ -276,14 +289,27 @@ fn sought(
 /// A second block of one key, which is its index key.
 const ONE_KEY: Pair = ((b'd', 9), &[(b'e', 7)], (b'e', 7));
 
+/// User keys and sequences that are sought one after the other, and the sequence of what is found each time. Of one user
+/// key the greater sequence comes first.
+const SOUGHT: [(u8, u8, u64); 4] = [(b'a', 4, 3), (b'a', 9, 3), (b'b', 9, 1), (b'c', 0, 7)];
+
+/// Tests what is found.
+fn are_found(rt: &impl Abort, cursor: &mut TableCursor<'_, Bytewise>) -> Result<(), Fault> {
+    for (user, sequence, wanted) in SOUGHT {
+        assert!(rt; sought(cursor, user, sequence)? == Some(wanted));
+    }
+    Ok(())
+}
+
+/// Tests what is found in a table.
+fn are_found_in(rt: &(impl Abort + AllocGlobal), bytes: &[u8]) -> Result<(), Fault> {
+    let table = checked(rt.alloc(), bytes)?;
+    are_found(rt, &mut cursor(rt.alloc(), &table)?)
+}
+
 #[test]
 fn a_seek_never_goes_back(rt: HostRuntime) -> Result<(), Fail> {
     let bytes = table_of(rt.alloc(), &ONE_KEY)?;
-    let table = checked(rt.alloc(), &bytes)?;
-    let mut cursor = cursor(rt.alloc(), &table)?;
-    // Of one user key the greater sequence comes first.
-    for (user, sequence, wanted) in [(b'a', 4, 3), (b'a', 9, 3), (b'b', 9, 1), (b'c', 0, 7)] {
-        assert!(rt; sought(&mut cursor, user, sequence)? == Some(wanted));
-    }
+    are_found_in(&rt, &bytes)?;
     Ok(())
 }

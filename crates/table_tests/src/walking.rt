@@ -7,10 +7,21 @@ use ikey::{Bytewise, InternalKey};
 use std::alloc::Global;
 use std::process::Abort;
 use std::test::*;
-use table::{Cursor, Options, SoundTable, TableCursor};
+use table::{Cursor, Options, SoundTable, TableBuilder, TableCursor};
 
 /// Forty user keys of one byte, rising.
 const FORTY: &[u8; 40] = b"0123456789ABCDEFGHIJKLMNOPQRSTUVWXYZabcd";
+
+/// Adds a user key of one byte, put at sequence 1 with the value `v`.
+fn put(
+    rt: &(impl Abort + AllocGlobal),
+    table: &mut TableBuilder<Bytewise>,
+    user: u8,
+) -> Result<(), Fault> {
+    let key = key_of(rt, &[user], 1, true)?;
+    add(table, &key, Some(b'v'))?;
+    Ok(())
+}
 
 /// The table of a user key for each of these bytes, put at sequence 1 with the value `v`, in blocks of this size.
 fn written(
@@ -24,8 +35,7 @@ fn written(
     };
     let mut table = builder(rt, options);
     for user in users {
-        let key = key_of(rt, &[*user], 1, true)?;
-        add(&mut table, &key, Some(b'v'))?;
+        put(rt, &mut table, *user)?;
     }
     table.finish()
 }
@@ -95,14 +105,38 @@ const SOUGHT: [(&[(u8, u8)], &[u8]); 5] = [
     (&[(b'c', 0), (b'a', 1), (b'f', 9)], b""),
 ];
 
+/// Tests how many user keys the index of a table has.
+fn are_indexed(
+    rt: &(impl Abort + AllocGlobal),
+    table: &SoundTable<'_, Bytewise>,
+    count: usize,
+) -> Result<(), Fault> {
+    are_so_many(rt, indexed(rt.alloc(), table)?, count);
+    Ok(())
+}
+
+/// Tests what is left after each of these.
+fn are_sought(
+    rt: &(impl Abort + AllocGlobal),
+    table: &SoundTable<'_, Bytewise>,
+) -> Result<(), Fault> {
+    for (targets, users) in SOUGHT {
+        are_bytes(rt, &left(rt.alloc(), table, targets)?, users);
+    }
+    Ok(())
+}
+
+/// Tests this in a table of five blocks.
+fn are_sought_in(rt: &(impl Abort + AllocGlobal), bytes: &[u8]) -> Result<(), Fault> {
+    let table = checked(rt.alloc(), bytes)?;
+    are_indexed(rt, &table, 5)?;
+    are_sought(rt, &table)
+}
+
 #[test]
 fn a_seek_passes_over_blocks(rt: HostRuntime) -> Result<(), Fail> {
     let bytes = written(&rt, b"abcde", 1)?;
-    let table = checked(rt.alloc(), &bytes)?;
-    are_so_many(&rt, indexed(rt.alloc(), &table)?, 5);
-    for (targets, users) in SOUGHT {
-        are_bytes(&rt, &left(rt.alloc(), &table, targets)?, users);
-    }
+    are_sought_in(&rt, &bytes)?;
     Ok(())
 }
 
@@ -121,14 +155,18 @@ fn are_left(
     Ok(())
 }
 
+/// Tests what is left from the seventeenth of the forty on and from the last, in a table of one block.
+fn are_left_in(rt: &(impl Abort + AllocGlobal), bytes: &[u8]) -> Result<(), Fault> {
+    let table = checked(rt.alloc(), bytes)?;
+    are_indexed(rt, &table, 1)?;
+    are_left(rt, &table, FORTY[16], 1, 24)?;
+    are_left(rt, &table, FORTY[39], 1, 1)
+}
+
 #[test]
 fn a_seek_within_a_block(rt: HostRuntime) -> Result<(), Fail> {
     let bytes = written(&rt, FORTY, 4_096)?;
-    let table = checked(rt.alloc(), &bytes)?;
-    are_so_many(&rt, indexed(rt.alloc(), &table)?, 1);
-    for (at, count) in [(16, 24), (39, 1)] {
-        are_left(&rt, &table, FORTY[at], 1, count)?;
-    }
+    are_left_in(&rt, &bytes)?;
     Ok(())
 }
 
@@ -184,11 +222,15 @@ fn are_all_left(
 /// Restarts of a block. The writer's stand at each sixteenth entry; any others are as lawful.
 const RESTARTS: [&[u32]; 4] = [&[0], &[0, 13], &[0, 507], &[0, 13, 26, 247, 260, 494]];
 
+/// Tests this in a table.
+fn are_all_left_in(rt: &(impl Abort + AllocGlobal), bytes: &[u8]) -> Result<(), Fault> {
+    are_all_left(rt, &checked(rt.alloc(), bytes)?)
+}
+
 #[test]
 fn a_seek_from_any_restarts(rt: HostRuntime) -> Result<(), Fail> {
     for restarts in RESTARTS {
-        let bytes = with_restarts(rt.alloc(), restarts)?;
-        are_all_left(&rt, &checked(rt.alloc(), &bytes)?)?;
+        are_all_left_in(&rt, &with_restarts(rt.alloc(), restarts)?)?;
     }
     Ok(())
 }
@@ -281,11 +323,16 @@ fn cursor_again<'a>(
     }
 }
 
+/// Steps and seeks over these bytes, which are that table.
+fn walk_in(rt: &(impl Abort + AllocGlobal), bytes: &[u8]) -> Result<(), Fault> {
+    let table = checked(rt.alloc(), bytes)?;
+    walk(rt, &mut cursor_again(rt, &table)?)
+}
+
 // With `rt try --test --fail-alloc N` the Nth growth is refused; without it, none is.
 #[test]
 fn a_refused_growth_takes_nothing_off(rt: HostRuntime) -> Result<(), Fail> {
     let bytes = written(&rt, b"abcde", 1)?;
-    let table = checked(rt.alloc(), &bytes)?;
-    walk(&rt, &mut cursor_again(&rt, &table)?)?;
+    walk_in(&rt, &bytes)?;
     Ok(())
 }

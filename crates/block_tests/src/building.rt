@@ -1,9 +1,7 @@
-ghost use Rattle.std.specs.Prelude.{◌≡◌, ◌^◌, ◌≤◌, length, OnOk};
-ghost use Rattle.block.specs.Writing.{block};
-ghost use Rattle.block.specs.Building.{with_entry};
+ghost use Rattle.std.specs.Prelude.{◌≤◌};
 
 use block::BlockBuilder;
-use coding::FaultName;
+use coding::{Fault, FaultName};
 use std::alloc::Global;
 use std::process::Abort;
 use std::test::*;
@@ -27,85 +25,115 @@ const WHOLE: [u8; 38] = [
     0, 0, 0, 0, 13, 0, 0, 0, 2, 0, 0, 0,
 ];
 
+/// Tests that bytes are these.
+fn are_bytes(rt: &impl Abort, found: &[u8], wanted: &[u8]) {
+    assert_eq!(rt; found, wanted);
+}
+
+/// Tests that there are so many.
+fn are_so_many(rt: &impl Abort, found: usize, wanted: usize) {
+    assert_eq!(rt; found, wanted);
+}
+
+/// Adds an entry of ten bytes at most behind others that make so many bytes.
 #[tactic(auto, using(block::proofs::Sizes::fits_with_entry))]
-fn writes_two(rt: &impl Abort, alloc: Global, interval: u64, want: &[u8]) -> Result<(), Fail>
+fn add(
+    rt: &impl Abort,
+    builder: &mut BlockBuilder,
+    estimate: usize,
+    key: &[u8],
+    value: &[u8],
+) -> Result<(), Fault> {
+    assert!(rt; estimate <= 21 && key.len() <= 9 && value.len() <= 1);
+    assert_eq!(rt; builder.estimate(), estimate);
+    builder.add(key, value)
+}
+
+/// Adds both entries to a builder that is empty.
+fn add_both(rt: &impl Abort, builder: &mut BlockBuilder) -> Result<(), Fault> {
+    assert!(rt; builder.is_empty());
+    add(rt, builder, 8, &FIRST_KEY, b"x")?;
+    assert!(rt; !builder.is_empty());
+    add(rt, builder, 21, &SECOND_KEY, b"y")
+}
+
+/// Tests that both entries are written so.
+fn writes_two(rt: &impl Abort, alloc: Global, interval: u64, want: &[u8]) -> Result<(), Fault>
     requires positive { 1 ≤ interval }
     requires limited { interval ≤ 1024 }
 {
     let mut builder = BlockBuilder::new(alloc, interval);
-    assert!(rt; builder.is_empty());
-    assert_eq!(rt; builder.estimate(), 8);
-    builder.add(&FIRST_KEY, b"x")?;
-    assert!(rt; !builder.is_empty());
-    assert_eq!(rt; builder.estimate(), 21);
-    builder.add(&SECOND_KEY, b"y")?;
-    assert_eq!(rt; builder.estimate(), want.len());
-    assert_eq!(rt; builder.finish()?.as_slice(), want);
+    add_both(rt, &mut builder)?;
+    are_so_many(rt, builder.estimate(), want.len());
+    are_bytes(rt, &builder.finish()?, want);
     Ok(())
 }
 
 #[test]
-fn two_entries(rt: HostRuntime) -> Result<(), Fail> {
+fn two_entries(rt: HostRuntime) -> Result<(), Fault> {
     writes_two(&rt, rt.alloc(), 16, &SHARED)?;
     writes_two(&rt, rt.alloc(), 1, &WHOLE)
 }
 
 #[test]
-fn no_entries(rt: HostRuntime) -> Result<(), Fail> {
+fn no_entries(rt: HostRuntime) -> Result<(), Fault> {
     let block = BlockBuilder::new(rt.alloc(), 16).finish()?;
-    assert_eq!(rt; block.as_slice(), [0, 0, 0, 0, 1, 0, 0, 0].as_slice());
+    are_bytes(&rt, &block, &[0, 0, 0, 0, 1, 0, 0, 0]);
+    Ok(())
+}
+
+/// Adds an entry to a builder that is empty, and takes it out again.
+fn add_and_clear(rt: &impl Abort, builder: &mut BlockBuilder) -> Result<(), Fault> {
+    are_bytes(rt, builder.last_key(), b"");
+    add(rt, builder, 8, &SECOND_KEY, b"y")?;
+    are_bytes(rt, builder.last_key(), &SECOND_KEY);
+    builder.clear();
+    are_bytes(rt, builder.last_key(), b"");
     Ok(())
 }
 
 #[test]
-#[tactic(auto, using(block::proofs::Sizes::fits_with_entry))]
-fn an_emptied_builder_writes_again(rt: HostRuntime) -> Result<(), Fail> {
+fn an_emptied_builder_writes_again(rt: HostRuntime) -> Result<(), Fault> {
     let mut builder = BlockBuilder::new(rt.alloc(), 16);
-    assert_eq!(rt; builder.estimate(), 8);
-    assert_eq!(rt; builder.last_key(), b"".as_slice());
-    builder.add(&SECOND_KEY, b"y")?;
-    assert_eq!(rt; builder.last_key(), SECOND_KEY.as_slice());
-    builder.clear();
-    assert!(rt; builder.is_empty());
-    assert_eq!(rt; builder.last_key(), b"".as_slice());
-    assert_eq!(rt; builder.estimate(), 8);
-    builder.add(&FIRST_KEY, b"x")?;
-    assert_eq!(rt; builder.estimate(), 21);
-    builder.add(&SECOND_KEY, b"y")?;
-    assert_eq!(rt; builder.finish()?.as_slice(), SHARED.as_slice());
+    add_and_clear(&rt, &mut builder)?;
+    add_both(&rt, &mut builder)?;
+    are_bytes(&rt, &builder.finish()?, &SHARED);
     Ok(())
 }
 
-/// Adds the entry, at a second try where a growth was refused at the first.
+/// Tests that a refusal is for want of memory.
+fn is_memory(rt: &impl Abort, refused: Fault) {
+    assert_eq!(rt; refused.name, FaultName::Memory);
+}
+
+/// Adds the entry, at a second try where a growth was refused at the first, which changed nothing.
 fn add_again(
     rt: &impl Abort,
     builder: &mut BlockBuilder,
+    estimate: usize,
     key: &[u8],
     value: &[u8],
-) -> Result<(), Fail>
-    requires { length (block builder.old.interval (with_entry builder.old.entries key.now value.now)) ≤ 2 ^ 31 }
-    ensures { OnOk result (builder.new ≡ record { interval = builder.old.interval; entries = with_entry builder.old.entries key.now value.now }) }
-{
-    let length = builder.estimate();
-    if let Err(refused) = builder.add(key, value) {
-        assert_eq!(rt; refused.name, FaultName::Memory);
-        assert_eq!(rt; builder.estimate(), length);
-        builder.add(key, value)?;
+) -> Result<(), Fault> {
+    if let Err(refused) = add(rt, builder, estimate, key, value) {
+        is_memory(rt, refused);
+        add(rt, builder, estimate, key, value)?;
     }
     Ok(())
 }
 
-#[test]
-#[tactic(auto, using(block::proofs::Sizes::fits_with_entry))]
-fn a_refused_growth_changes_nothing(rt: HostRuntime) -> Result<(), Fail> {
-    let mut builder = BlockBuilder::new(rt.alloc(), 16);
-    assert_eq!(rt; builder.estimate(), 8);
-    add_again(&rt, &mut builder, &FIRST_KEY, b"x")?;
-    assert_eq!(rt; builder.estimate(), 21);
-    add_again(&rt, &mut builder, &SECOND_KEY, b"y")?;
-    match builder.finish() {
-        Ok(block) => assert_eq!(rt; block.as_slice(), SHARED.as_slice()),
-        Err(refused) => assert_eq!(rt; refused.name, FaultName::Memory),
+/// Tests that an answer is this block, or the refusal for want of memory.
+fn is_or_memory(rt: &impl Abort, answer: Result<Vec<u8>, Fault>, wanted: &[u8]) {
+    match answer {
+        Ok(block) => are_bytes(rt, &block, wanted),
+        Err(refused) => is_memory(rt, refused),
     }
+}
+
+#[test]
+fn a_refused_growth_changes_nothing(rt: HostRuntime) -> Result<(), Fault> {
+    let mut builder = BlockBuilder::new(rt.alloc(), 16);
+    add_again(&rt, &mut builder, 8, &FIRST_KEY, b"x")?;
+    add_again(&rt, &mut builder, 21, &SECOND_KEY, b"y")?;
+    is_or_memory(&rt, builder.finish(), &SHARED);
     Ok(())
 }

@@ -2,6 +2,7 @@ use coding::{Fault, FaultName};
 use ikey::{Bytewise, Comparator, Shortlex};
 use split::{Split, one_choice};
 use std::alloc::Global;
+use std::process::Abort;
 use std::test::*;
 use table::check;
 
@@ -65,86 +66,161 @@ fn chosen(alloc: Global, want: u64) -> Result<Vec<u8>, Fault> {
     joined(alloc, &Split::choose(alloc, &tables, want)?)
 }
 
+/// Tests that bytes are these.
+fn are_bytes(rt: &impl Abort, found: &[u8], wanted: &[u8]) {
+    assert_eq!(rt; found, wanted);
+}
+
+/// Tests that there are so many.
+fn are_so_many(rt: &impl Abort, found: u64, wanted: u64) {
+    assert_eq!(rt; found, wanted);
+}
+
+/// Tests which refusal it is.
+fn is_refusal(rt: &impl Abort, found: Option<FaultName>, wanted: FaultName) {
+    assert_eq!(rt; found, Some(wanted));
+}
+
+/// Numbers that are wanted, and the boundaries that are chosen.
+const CHOSEN: [(u64, &[u8]); 5] = [
+    (1, b""),
+    (2, b"c"),
+    (3, b"bc"),
+    (8, b"abcd"),
+    (4_096, b"abcd"),
+];
+
 #[test]
-fn places_of_four_keys(rt: HostRuntime) -> Result<(), Fail> {
-    let alloc = rt.alloc();
+fn places_of_four_keys(rt: HostRuntime) -> Result<(), Fault> {
     one_choice::<Bytewise>();
-    assert_eq!(rt; chosen(alloc, 1)?.as_slice(), b"".as_slice());
-    assert_eq!(rt; chosen(alloc, 2)?.as_slice(), b"c".as_slice());
-    assert_eq!(rt; chosen(alloc, 3)?.as_slice(), b"bc".as_slice());
-    assert_eq!(rt; chosen(alloc, 8)?.as_slice(), b"abcd".as_slice());
-    assert_eq!(rt; chosen(alloc, 4_096)?.as_slice(), b"abcd".as_slice());
+    for (want, boundaries) in CHOSEN {
+        are_bytes(&rt, &chosen(rt.alloc(), want)?, boundaries);
+    }
     Ok(())
 }
+
+/// How boundaries are refused, where they are.
+fn refusal<T: Drop>(answer: Result<T, Fault>) -> Option<FaultName> {
+    match answer {
+        Ok(_) => None,
+        Err(refused) => Some(refused.name),
+    }
+}
+
+/// Numbers that may not be wanted.
+const OUTSIDE: [u64; 3] = [0, 4_097, u64::MAX];
 
 #[test]
 fn a_wanted_number_outside_its_limits(rt: HostRuntime) {
-    for want in [0, 4_097, u64::MAX] {
-        let refused = chosen(rt.alloc(), want).err();
-        assert_eq!(rt;
-            refused.map(|fault| fault.name),
-            Some(FaultName::SplitCount)
-        );
+    for want in OUTSIDE {
+        let refused = refusal(chosen(rt.alloc(), want));
+        is_refusal(&rt, refused, FaultName::SplitCount);
     }
 }
 
-#[test]
-fn no_tables_give_one_range(rt: HostRuntime) -> Result<(), Fail> {
-    let split: Split<Bytewise> = Split::choose(rt.alloc(), &[], 8)?;
-    assert_eq!(rt; split.len(), 1);
+/// Whether a split has one range, without bounds.
+fn is_whole(split: &Split<Bytewise>) -> bool {
     let whole = split.range(0);
-    assert!(rt; whole.lower.is_none() && whole.upper.is_none());
-    Ok(())
+    split.len() == 1 && whole.lower.is_none() && whole.upper.is_none()
 }
 
 #[test]
-fn bounds_of_ranges(rt: HostRuntime) -> Result<(), Fail> {
-    let split = Split::<Bytewise>::from_keys(keys(rt.alloc(), &[b"c", b"m"])?)?;
-    assert_eq!(rt; split.len(), 3);
-    let (first, middle, last) = (split.range(0), split.range(1), split.range(2));
-    assert!(rt; first.lower.is_none() && last.upper.is_none());
-    assert_eq!(rt; first.upper, Some(b"c".as_slice()));
-    assert_eq!(rt; middle.lower, Some(b"c".as_slice()));
-    assert_eq!(rt; middle.upper, Some(b"m".as_slice()));
-    assert_eq!(rt; last.lower, Some(b"m".as_slice()));
+fn no_tables_give_one_range(rt: HostRuntime) -> Result<(), Fault> {
+    let split: Split<Bytewise> = Split::choose(rt.alloc(), &[], 8)?;
+    assert!(rt; is_whole(&split));
     Ok(())
 }
 
-#[test]
-fn keys_that_do_not_rise(rt: HostRuntime) -> Result<(), Fail> {
-    for texts in [[b"m".as_slice(), b"m"], [b"n", b"m"]] {
-        let refused = Split::<Bytewise>::from_keys(keys(rt.alloc(), &texts)?).err();
-        assert_eq!(rt;
-            refused.map(|fault| fault.name),
-            Some(FaultName::SplitOrder)
-        );
+/// The split at these boundaries.
+fn split_at(keys: Vec<Vec<u8>>) -> Result<Split<Bytewise>, Fault> {
+    Split::from_keys(keys)
+}
+
+/// The range of each number of the split at `c` and `m`: its lower bound and its upper one.
+const RANGES: [(Option<&[u8]>, Option<&[u8]>); 3] = [
+    (None, Some(b"c")),
+    (Some(b"c"), Some(b"m")),
+    (Some(b"m"), None),
+];
+
+/// Whether the range of a number has these bounds.
+fn has_bounds(
+    split: &Split<Bytewise>,
+    number: u64,
+    lower: Option<&[u8]>,
+    upper: Option<&[u8]>,
+) -> bool {
+    if number >= split.len() {
+        return false;
     }
-    let short_first = keys(rt.alloc(), &[b"b", b"aa"])?;
-    assert_eq!(rt; Split::<Shortlex>::from_keys(short_first)?.len(), 3);
-    Ok(())
+    let range = split.range(number);
+    range.lower == lower && range.upper == upper
+}
+
+/// Tests the bounds of each range of that split.
+fn are_ranges(rt: &impl Abort, split: &Split<Bytewise>) {
+    for number in 0..RANGES.len() {
+        let (lower, upper) = RANGES[number];
+        assert!(rt; has_bounds(split, number as u64, lower, upper));
+    }
 }
 
 #[test]
-fn as_many_boundaries_as_there_may_be(rt: HostRuntime) -> Result<(), Fail> {
-    let split = Split::<Bytewise>::from_keys(many_keys(rt.alloc(), 4_095)?)?;
-    assert_eq!(rt; split.len(), 4_096);
-    let refused = Split::<Bytewise>::from_keys(many_keys(rt.alloc(), 4_096)?).err();
-    assert_eq!(rt;
-        refused.map(|fault| fault.name),
-        Some(FaultName::SplitCount)
-    );
+fn bounds_of_ranges(rt: HostRuntime) -> Result<(), Fault> {
+    let split = split_at(keys(rt.alloc(), &[b"c", b"m"])?)?;
+    are_so_many(&rt, split.len(), 3);
+    are_ranges(&rt, &split);
     Ok(())
 }
 
+/// Boundaries that do not rise strictly.
+const NOT_RISING: [[&[u8]; 2]; 2] = [[b"m", b"m"], [b"n", b"m"]];
+
 #[test]
-fn too_many_before_the_order(rt: HostRuntime) -> Result<(), Fail> {
-    let mut keys = many_keys(rt.alloc(), 4_095)?;
-    keys.push(Vec::new(rt.alloc()))?;
-    let refused = Split::<Bytewise>::from_keys(keys).err();
-    assert_eq!(rt;
-        refused.map(|fault| fault.name),
-        Some(FaultName::SplitCount)
-    );
+fn keys_that_do_not_rise(rt: HostRuntime) -> Result<(), Fault> {
+    for texts in NOT_RISING {
+        let refused = refusal(split_at(keys(rt.alloc(), &texts)?));
+        is_refusal(&rt, refused, FaultName::SplitOrder);
+    }
+    Ok(())
+}
+
+/// How many ranges there are by length between boundaries that rise so.
+fn ranges_by_length(alloc: Global) -> Result<u64, Fault> {
+    let keys = keys(alloc, &[b"b", b"aa"])?;
+    Ok(Split::<Shortlex>::from_keys(keys)?.len())
+}
+
+#[test]
+fn keys_that_rise_by_length(rt: HostRuntime) -> Result<(), Fault> {
+    are_so_many(&rt, ranges_by_length(rt.alloc())?, 3);
+    Ok(())
+}
+
+/// How many ranges there are between so many boundaries.
+fn ranges_between(alloc: Global, count: u16) -> Result<u64, Fault> {
+    Ok(split_at(many_keys(alloc, count)?)?.len())
+}
+
+#[test]
+fn as_many_boundaries_as_there_may_be(rt: HostRuntime) -> Result<(), Fault> {
+    are_so_many(&rt, ranges_between(rt.alloc(), 4_095)?, 4_096);
+    let refused = refusal(split_at(many_keys(rt.alloc(), 4_096)?));
+    is_refusal(&rt, refused, FaultName::SplitCount);
+    Ok(())
+}
+
+/// As many boundaries as there may be, and one more that does not rise.
+fn too_many_keys(alloc: Global) -> Result<Vec<Vec<u8>>, Fault> {
+    let mut keys = many_keys(alloc, 4_095)?;
+    keys.push(Vec::new(alloc))?;
+    Ok(keys)
+}
+
+#[test]
+fn too_many_before_the_order(rt: HostRuntime) -> Result<(), Fault> {
+    let refused = refusal(split_at(too_many_keys(rt.alloc())?));
+    is_refusal(&rt, refused, FaultName::SplitCount);
     Ok(())
 }
 
@@ -152,7 +228,7 @@ fn too_many_before_the_order(rt: HostRuntime) -> Result<(), Fail> {
 #[test]
 fn a_refused_growth_is_memory(rt: HostRuntime) {
     match chosen(rt.alloc(), 8) {
-        Ok(boundaries) => assert_eq!(rt; boundaries.as_slice(), b"abcd".as_slice()),
+        Ok(boundaries) => are_bytes(&rt, &boundaries, b"abcd"),
         Err(refused) => assert_eq!(rt; refused, Fault::of(FaultName::Memory)),
     }
 }

@@ -1,68 +1,115 @@
 use coding::{Fault, FaultName};
 use edit::{FileMeta, Version, VersionEdit};
-use ikey::{Bytewise, Shortlex};
+use ikey::{Bytewise, InternalKey, Shortlex};
 use pick::{Inputs, inputs, is_base, one_choice};
 use std::alloc::Global;
+use std::process::Abort;
 use std::test::*;
 
-/// A file of level, number, and the user keys and sequences of its first and last entry, which are values.
-#[derive(Clone, Copy)]
-struct Row(u8, u8, (u8, u8), (u8, u8));
+/// The user key of one byte and the sequence of an internal key, which is a value's.
+type Key = (u8, u8);
 
-/// Appends a length, and the internal key of one byte of a user key and a value's type.
-fn push_key(bytes: &mut Vec<u8>, key: (u8, u8)) -> Result<(), Fail> {
-    bytes.extend_from_slice(&[9, key.0, 1, key.1, 0, 0, 0, 0, 0, 0])?;
+/// A file of level, number, and the keys of its first and last entry.
+#[derive(Clone, Copy)]
+struct Row(u8, u8, Key, Key);
+
+/// The level of a compact pointer, and its key.
+type Pointer = (u8, Key);
+
+/// Appends a length, and an internal key.
+fn push_key(edit: &mut Vec<u8>, key: Key) -> Result<(), Fault> {
+    edit.extend_from_slice(&[9, key.0, 1, key.1, 0, 0, 0, 0, 0, 0])?;
+    Ok(())
+}
+
+/// Appends the fields of compact pointers.
+fn push_pointers(edit: &mut Vec<u8>, pointers: &[Pointer]) -> Result<(), Fault> {
+    for pointer in pointers {
+        edit.extend_from_slice(&[5, pointer.0])?;
+        push_key(edit, pointer.1)?;
+    }
+    Ok(())
+}
+
+/// Appends the fields of new files.
+fn push_files(edit: &mut Vec<u8>, rows: &[Row]) -> Result<(), Fault> {
+    for row in rows {
+        edit.extend_from_slice(&[7, row.0, row.1, 100])?;
+        push_key(edit, row.2)?;
+        push_key(edit, row.3)?;
+    }
     Ok(())
 }
 
 /// The version that an edit of these files and compact pointers makes of nothing.
-fn version_of(alloc: Global, rows: &[Row], pointers: &[(u8, (u8, u8))]) -> Result<Version, Fail> {
+fn version_of(alloc: Global, rows: &[Row], pointers: &[Pointer]) -> Result<Version, Fault> {
     let mut bytes = Vec::new(alloc);
-    for pointer in pointers {
-        bytes.extend_from_slice(&[5, pointer.0])?;
-        push_key(&mut bytes, pointer.1)?;
-    }
-    for row in rows {
-        bytes.extend_from_slice(&[7, row.0, row.1, 100])?;
-        push_key(&mut bytes, row.2)?;
-        push_key(&mut bytes, row.3)?;
-    }
+    push_pointers(&mut bytes, pointers)?;
+    push_files(&mut bytes, rows)?;
     let edit = VersionEdit::decode(alloc, &bytes)?;
-    Ok(Version::empty(alloc).applied::<Bytewise>(edit)?)
+    Version::empty(alloc).applied::<Bytewise>(edit)
 }
 
-/// The levels and the numbers of the inputs of a compaction of a level.
-fn places_of(alloc: Global, version: &Version, level: u64) -> Result<Vec<(u64, u64)>, Fail> {
-    let chosen = inputs::<Bytewise>(alloc, version, level)?;
-    let mut places = Vec::new(alloc);
-    for file in &chosen.files {
-        places.push((file.level, file.meta.number))?;
+/// What a compaction of a level takes of that version.
+fn chosen(alloc: Global, rows: &[Row], pointers: &[Pointer], level: u64) -> Result<Inputs, Fault> {
+    inputs::<Bytewise>(alloc, &version_of(alloc, rows, pointers)?, level)
+}
+
+/// Tests that a compaction takes these files, by level and number.
+fn takes(rt: &impl Abort, chosen: &Inputs, wanted: &[(u64, u64)]) {
+    assert!(rt; chosen.files.len() == wanted.len());
+    for (file, place) in chosen.files.iter().zip(wanted) {
+        assert!(rt; (file.level, file.meta.number) == *place);
     }
-    Ok(places)
 }
 
-/// The user key and the sequence of the compact pointer that a compaction of a level sets.
-fn pointer_after(alloc: Global, version: &Version, level: u64) -> Result<(Vec<u8>, u64), Fail> {
-    let chosen = inputs::<Bytewise>(alloc, version, level)?;
-    let key = chosen.pointer.key.as_key();
-    Ok((Vec::from_slice(alloc, key.user())?, key.sequence()))
+/// Tests that a compaction of a level of a version takes these files.
+fn chooses(
+    rt: &(impl Abort + AllocGlobal),
+    rows: &[Row],
+    pointers: &[Pointer],
+    level: u64,
+    wanted: &[(u64, u64)],
+) -> Result<(), Fault> {
+    takes(rt, &chosen(rt.alloc(), rows, pointers, level)?, wanted);
+    Ok(())
 }
 
-/// The numbers of files.
-fn numbers(alloc: Global, files: &Vec<FileMeta>) -> Result<Vec<u64>, Fail> {
-    let mut numbers = Vec::new(alloc);
-    for file in files {
-        numbers.push(file.number)?;
+/// Tests that a compact pointer is this key.
+fn is_key(rt: &impl Abort, found: InternalKey<'_>, wanted: Key) {
+    assert!(rt; found.user() == [wanted.0].as_slice());
+    assert!(rt; found.sequence() == u64::from(wanted.1));
+}
+
+/// Tests that files have these numbers.
+fn are_numbered(rt: &impl Abort, files: &[FileMeta], wanted: &[u64]) {
+    assert!(rt; files.len() == wanted.len());
+    for (file, number) in files.iter().zip(wanted) {
+        assert!(rt; file.number == *number);
     }
-    Ok(numbers)
 }
 
-/// Which refusal it is, where it is one.
-fn refusal(answer: Result<Inputs, Fault>) -> Option<FaultName> {
-    match answer {
+/// Whether no deeper file has one of these user keys of one byte, or each of them has one.
+fn are_base(chosen: &Inputs, users: &[u8], wanted: bool) -> bool {
+    for user in users {
+        if is_base::<Bytewise>(chosen, &[*user]) != wanted {
+            return false;
+        }
+    }
+    true
+}
+
+/// How a compaction of a level is refused.
+fn refused(alloc: Global, version: &Version, level: u64) -> Option<FaultName> {
+    match inputs::<Bytewise>(alloc, version, level) {
         Ok(_) => None,
         Err(fault) => Some(fault.name),
     }
+}
+
+/// Tests which refusal it is.
+fn is_refusal(rt: &impl Abort, found: Option<FaultName>, wanted: FaultName) {
+    assert_eq!(rt; found, Some(wanted));
 }
 
 /// Three files of level 0 that overlap one after the other, and one apart.
@@ -74,79 +121,81 @@ const OVERLAPPING: [Row; 4] = [
 ];
 
 #[test]
-fn overlapping_files_of_level_0(rt: HostRuntime) -> Result<(), Fail> {
-    let version = version_of(rt.alloc(), &OVERLAPPING, &[])?;
-    let places = places_of(rt.alloc(), &version, 0)?;
-    assert_eq!(rt; places.as_slice(), [(0, 4), (0, 7), (0, 5)].as_slice());
-    let (user, sequence) = pointer_after(rt.alloc(), &version, 0)?;
-    assert_eq!(rt; user.as_slice(), b"g".as_slice());
-    assert_eq!(rt; sequence, 2);
+fn overlapping_files_of_level_0(rt: HostRuntime) -> Result<(), Fault> {
+    let chosen = chosen(rt.alloc(), &OVERLAPPING, &[], 0)?;
+    takes(&rt, &chosen, &[(0, 4), (0, 7), (0, 5)]);
+    is_key(&rt, chosen.pointer.key.as_key(), (b'g', 2));
     Ok(())
 }
 
-#[test]
-fn level_0_behind_its_pointer(rt: HostRuntime) -> Result<(), Fail> {
-    let version = version_of(rt.alloc(), &OVERLAPPING, &[(0, (b'g', 2))])?;
-    let places = places_of(rt.alloc(), &version, 0)?;
-    assert_eq!(rt; places.as_slice(), [(0, 6)].as_slice());
+/// Compact pointers of level 0, and what is taken behind them.
+const BEHIND: [(Pointer, &[(u64, u64)]); 2] = [
+    ((0, (b'g', 2)), &[(0, 6)]),
     // The first file is that of number 5, and those that overlap it begin before it.
-    let version = version_of(rt.alloc(), &OVERLAPPING, &[(0, (b'e', 4))])?;
-    let places = places_of(rt.alloc(), &version, 0)?;
-    assert_eq!(rt; places.as_slice(), [(0, 4), (0, 7), (0, 5)].as_slice());
+    ((0, (b'e', 4)), &[(0, 4), (0, 7), (0, 5)]),
+];
+
+#[test]
+fn level_0_behind_its_pointer(rt: HostRuntime) -> Result<(), Fault> {
+    for (pointer, wanted) in BEHIND {
+        chooses(&rt, &OVERLAPPING, &[pointer], 0, wanted)?;
+    }
     Ok(())
 }
 
+/// Two files of one user key, and one behind it.
+const OF_ONE_KEY: [Row; 3] = [
+    Row(1, 8, (b'u', 10), (b'u', 10)),
+    Row(1, 9, (b'u', 5), (b'u', 5)),
+    Row(1, 3, (b'v', 4), (b'w', 4)),
+];
+
 #[test]
-fn boundary_files_of_the_level(rt: HostRuntime) -> Result<(), Fail> {
-    let rows = [
-        Row(1, 8, (b'u', 10), (b'u', 10)),
-        Row(1, 9, (b'u', 5), (b'u', 5)),
-        Row(1, 3, (b'v', 4), (b'w', 4)),
-    ];
-    let version = version_of(rt.alloc(), &rows, &[])?;
-    let places = places_of(rt.alloc(), &version, 1)?;
-    assert_eq!(rt; places.as_slice(), [(1, 8), (1, 9)].as_slice());
-    let (user, sequence) = pointer_after(rt.alloc(), &version, 1)?;
-    assert_eq!(rt; user.as_slice(), b"u".as_slice());
-    assert_eq!(rt; sequence, 5);
+fn boundary_files_of_the_level(rt: HostRuntime) -> Result<(), Fault> {
+    let chosen = chosen(rt.alloc(), &OF_ONE_KEY, &[], 1)?;
+    takes(&rt, &chosen, &[(1, 8), (1, 9)]);
+    is_key(&rt, chosen.pointer.key.as_key(), (b'u', 5));
     Ok(())
 }
 
-#[test]
-fn boundary_files_of_boundary_files(rt: HostRuntime) -> Result<(), Fail> {
-    let rows = [
-        Row(1, 8, (b'a', 10), (b'u', 10)),
-        Row(1, 2, (b'u', 5), (b'v', 7)),
-        Row(1, 3, (b'v', 4), (b'v', 2)),
-        Row(1, 4, (b'w', 4), (b'w', 2)),
-    ];
-    let version = version_of(rt.alloc(), &rows, &[])?;
-    let places = places_of(rt.alloc(), &version, 1)?;
-    assert_eq!(rt; places.as_slice(), [(1, 8), (1, 2), (1, 3)].as_slice());
-    Ok(())
-}
+/// Three files of which each shares a user key with the next, and one behind them.
+const CHAINED: [Row; 4] = [
+    Row(1, 8, (b'a', 10), (b'u', 10)),
+    Row(1, 2, (b'u', 5), (b'v', 7)),
+    Row(1, 3, (b'v', 4), (b'v', 2)),
+    Row(1, 4, (b'w', 4), (b'w', 2)),
+];
 
 #[test]
-fn the_first_file_by_the_pointer(rt: HostRuntime) -> Result<(), Fail> {
-    let rows = [
-        Row(2, 4, (b'b', 3), (b'c', 3)),
-        Row(2, 2, (b'e', 5), (b'f', 5)),
-        Row(2, 3, (b'h', 6), (b'i', 6)),
-    ];
-    // Sequences fall: `f` of 6 is before `f` of 5, and `f` of 4 is behind it. Behind all files it is the first one.
-    let wants = [
-        ((b'a', 1), 4),
-        ((b'c', 3), 2),
-        ((b'f', 6), 2),
-        ((b'f', 5), 3),
-        ((b'f', 4), 3),
-        ((b'i', 6), 4),
-        ((b'z', 1), 4),
-    ];
-    for (pointer, number) in wants {
-        let version = version_of(rt.alloc(), &rows, &[(1, (b'e', 1)), (2, pointer)])?;
-        let places = places_of(rt.alloc(), &version, 2)?;
-        assert_eq!(rt; places.as_slice(), [(2, number)].as_slice());
+fn boundary_files_of_boundary_files(rt: HostRuntime) -> Result<(), Fault> {
+    chooses(&rt, &CHAINED, &[], 1, &[(1, 8), (1, 2), (1, 3)])
+}
+
+/// Three files of level 2 that lie apart.
+const APART: [Row; 3] = [
+    Row(2, 4, (b'b', 3), (b'c', 3)),
+    Row(2, 2, (b'e', 5), (b'f', 5)),
+    Row(2, 3, (b'h', 6), (b'i', 6)),
+];
+
+/// Compact pointers of level 2, and the file that is taken.
+///
+/// Sequences fall: `f` of 6 is before `f` of 5, and `f` of 4 is behind it. Behind all files it is the first one.
+const FIRST_FILES: [(Key, u64); 7] = [
+    ((b'a', 1), 4),
+    ((b'c', 3), 2),
+    ((b'f', 6), 2),
+    ((b'f', 5), 3),
+    ((b'f', 4), 3),
+    ((b'i', 6), 4),
+    ((b'z', 1), 4),
+];
+
+#[test]
+fn the_first_file_by_the_pointer(rt: HostRuntime) -> Result<(), Fault> {
+    for (pointer, number) in FIRST_FILES {
+        let pointers = [(1, (b'e', 1)), (2, pointer)];
+        chooses(&rt, &APART, &pointers, 2, &[(2, number)])?;
     }
     Ok(())
 }
@@ -168,66 +217,51 @@ const LEVELS: [Row; 12] = [
 ];
 
 #[test]
-fn files_of_the_levels_below(rt: HostRuntime) -> Result<(), Fail> {
-    let version = version_of(rt.alloc(), &LEVELS, &[])?;
-    let places = places_of(rt.alloc(), &version, 1)?;
-    assert_eq!(rt;
-        places.as_slice(),
-        [(1, 2), (2, 5), (2, 6), (2, 7)].as_slice()
-    );
-    let chosen = inputs::<Bytewise>(rt.alloc(), &version, 1)?;
-    let grandparents = numbers(rt.alloc(), &chosen.grandparents)?;
-    assert_eq!(rt; grandparents.as_slice(), [10].as_slice());
-    let deeper = numbers(rt.alloc(), &chosen.deeper)?;
-    assert_eq!(rt; deeper.as_slice(), [9, 10, 11, 12, 13].as_slice());
+fn files_of_the_levels_below(rt: HostRuntime) -> Result<(), Fault> {
+    let chosen = chosen(rt.alloc(), &LEVELS, &[], 1)?;
+    takes(&rt, &chosen, &[(1, 2), (2, 5), (2, 6), (2, 7)]);
+    are_numbered(&rt, &chosen.grandparents, &[10]);
+    are_numbered(&rt, &chosen.deeper, &[9, 10, 11, 12, 13]);
     Ok(())
 }
 
 #[test]
-fn user_keys_in_the_deeper_levels(rt: HostRuntime) -> Result<(), Fail> {
-    let version = version_of(rt.alloc(), &LEVELS, &[])?;
-    let chosen = inputs::<Bytewise>(rt.alloc(), &version, 1)?;
-    for held in [b"h", b"x", b"y", b"z", b"r", b"s"] {
-        assert!(rt; !is_base::<Bytewise>(&chosen, held.as_slice()));
-    }
-    for other in [b"g", b"j", b"w", b"t", b"q"] {
-        assert!(rt; is_base::<Bytewise>(&chosen, other.as_slice()));
-    }
+fn user_keys_in_the_deeper_levels(rt: HostRuntime) -> Result<(), Fault> {
+    let chosen = chosen(rt.alloc(), &LEVELS, &[], 1)?;
+    assert!(rt; are_base(&chosen, b"hxyzrs", false));
+    assert!(rt; are_base(&chosen, b"gjwtq", true));
     Ok(())
 }
 
 #[test]
-fn nothing_below_the_last_level(rt: HostRuntime) -> Result<(), Fail> {
-    let version = version_of(rt.alloc(), &LEVELS, &[])?;
-    let places = places_of(rt.alloc(), &version, 5)?;
-    assert_eq!(rt; places.as_slice(), [(5, 12)].as_slice());
-    let chosen = inputs::<Bytewise>(rt.alloc(), &version, 5)?;
-    assert_eq!(rt; chosen.grandparents.len(), 0);
-    assert_eq!(rt; chosen.deeper.len(), 0);
-    assert!(rt; is_base::<Bytewise>(&chosen, b"y"));
+fn nothing_below_the_last_level(rt: HostRuntime) -> Result<(), Fault> {
+    let chosen = chosen(rt.alloc(), &LEVELS, &[], 5)?;
+    takes(&rt, &chosen, &[(5, 12)]);
+    are_numbered(&rt, &chosen.grandparents, &[]);
+    are_numbered(&rt, &chosen.deeper, &[]);
+    assert!(rt; are_base(&chosen, b"y", true));
     Ok(())
 }
 
+/// A file of the last level alone.
+const LAST: [Row; 1] = [Row(6, 2, (b'a', 1), (b'b', 1))];
+
+/// Levels, and how their compaction is refused.
+const REFUSED: [(u64, FaultName); 4] = [
+    (6, FaultName::Level),
+    (7, FaultName::Level),
+    (5, FaultName::NoInput),
+    (0, FaultName::NoInput),
+];
+
 #[test]
-fn levels_that_are_refused(rt: HostRuntime) -> Result<(), Fail> {
-    let version = version_of(rt.alloc(), &[Row(6, 2, (b'a', 1), (b'b', 1))], &[])?;
-    let wants = [
-        (6, FaultName::Level),
-        (7, FaultName::Level),
-        (5, FaultName::NoInput),
-        (0, FaultName::NoInput),
-    ];
-    for (level, want) in wants {
-        assert_eq!(rt;
-            refusal(inputs::<Bytewise>(rt.alloc(), &version, level)),
-            Some(want)
-        );
+fn levels_that_are_refused(rt: HostRuntime) -> Result<(), Fault> {
+    let without = refused(rt.alloc(), &Version::empty(rt.alloc()), 6);
+    is_refusal(&rt, without, FaultName::Level);
+    let version = version_of(rt.alloc(), &LAST, &[])?;
+    for (level, wanted) in REFUSED {
+        is_refusal(&rt, refused(rt.alloc(), &version, level), wanted);
     }
-    let none = Version::empty(rt.alloc());
-    assert_eq!(rt;
-        refusal(inputs::<Bytewise>(rt.alloc(), &none, 6)),
-        Some(FaultName::Level)
-    );
     Ok(())
 }
 

@@ -32,12 +32,19 @@ fn byte_at(
     user: u8,
     at: u64,
 ) -> Result<Option<u8>, Fault> {
-    let value = get(alloc, version, tables, &[user], at)?;
-    Ok(value.and_then(|bytes| bytes.first().copied()))
+    match get(alloc, version, tables, &[user], at)? {
+        Some(bytes) => Ok(bytes.first().copied()),
+        None => Ok(None),
+    }
 }
 
 /// A sequence, and the first byte of a value.
 type Found = (u64, Option<u8>);
+
+/// Tests that the first byte of a value is this one.
+fn is_byte(rt: &impl Abort, found: Option<u8>, wanted: Option<u8>) {
+    assert_eq!(rt; found, wanted);
+}
 
 /// Tests the values of a user key of one byte at these sequences.
 fn are_at(
@@ -48,10 +55,8 @@ fn are_at(
     rows: &[Found],
 ) -> Result<(), Fault> {
     for (at, value) in rows {
-        assert!(rt;
-            byte_at(rt.alloc(), version, tables, user, *at)? == *value,
-            "{at}"
-        );
+        let found = byte_at(rt.alloc(), version, tables, user, *at)?;
+        is_byte(rt, found, *value);
     }
     Ok(())
 }
@@ -82,10 +87,9 @@ const IN_SHARED: [Found; 6] = [
 ];
 
 #[test]
-fn one_user_key_in_two_files_of_a_level(rt: HostRuntime) -> Result<(), Fail> {
+fn one_user_key_in_two_files_of_a_level(rt: HostRuntime) -> Result<(), Fault> {
     let version = version_stating(&rt, &SHARED)?;
-    are_got(&rt, &version, &SHARED, b'u', &IN_SHARED)?;
-    Ok(())
+    are_got(&rt, &version, &SHARED, b'u', &IN_SHARED)
 }
 
 /// A file with a deletion above a value, and what their user key has there.
@@ -100,10 +104,9 @@ const IN_DELETED: [Found; 5] = [
 ];
 
 #[test]
-fn a_deletion_above_a_value(rt: HostRuntime) -> Result<(), Fail> {
+fn a_deletion_above_a_value(rt: HostRuntime) -> Result<(), Fault> {
     let version = version_stating(&rt, &DELETED)?;
-    are_got(&rt, &version, &DELETED, b'u', &IN_DELETED)?;
-    Ok(())
+    are_got(&rt, &version, &DELETED, b'u', &IN_DELETED)
 }
 
 /// Three files of level 0, the newest first, and one below them; and what `u` and `x` have there.
@@ -127,60 +130,71 @@ const U_IN_LEVELS: [Found; 7] = [
 const X_IN_LEVELS: [Found; 3] = [(u64::MAX, Some(b'4')), (1, Some(b'4')), (0, None)];
 
 #[test]
-fn newer_files_and_shallower_levels_come_first(rt: HostRuntime) -> Result<(), Fail> {
+fn newer_files_and_shallower_levels_come_first(rt: HostRuntime) -> Result<(), Fault> {
     let version = version_stating(&rt, &LEVELS)?;
     are_got(&rt, &version, &LEVELS, b'u', &U_IN_LEVELS)?;
-    are_got(&rt, &version, &LEVELS, b'x', &X_IN_LEVELS)?;
-    Ok(())
+    are_got(&rt, &version, &LEVELS, b'x', &X_IN_LEVELS)
 }
 
-/// The first of these user keys that has a value, by its place.
-fn first_found(
+/// User keys that no table has.
+const ABSENT: [&[u8]; 5] = [b"", b"a", b"b\0", b"c", b"e"];
+
+/// Whether none of these user keys has a value.
+fn have_none(
     alloc: Global,
     version: &Version,
     tables: &[NumberedTable<'_, Bytewise>],
-    keys: &[&[u8]],
-) -> Result<Option<usize>, Fault> {
-    for (place, key) in keys.iter().enumerate() {
+) -> Result<bool, Fault> {
+    for key in ABSENT {
         if !has(alloc, version, tables, key, u64::MAX, None)? {
-            return Ok(Some(place));
+            return Ok(false);
         }
     }
-    Ok(None)
+    Ok(true)
 }
 
-/// Whether these files hold none of these user keys.
+/// Whether a user key that is longer than any may be has no value.
+fn long_has_none(
+    alloc: Global,
+    version: &Version,
+    tables: &[NumberedTable<'_, Bytewise>],
+) -> Result<bool, Fault> {
+    let mut long = Vec::new(alloc);
+    long.resize(65_536, b'c')?;
+    has(alloc, version, tables, &long, u64::MAX, None)
+}
+
+/// Whether none of these user keys, and none that is too long, has a value in these tables.
 fn are_absent(
+    alloc: Global,
+    version: &Version,
+    tables: &[NumberedTable<'_, Bytewise>],
+) -> Result<bool, Fault> {
+    Ok(have_none(alloc, version, tables)? && long_has_none(alloc, version, tables)?)
+}
+
+/// The same, over the tables of these files.
+fn are_absent_in(
     rt: &(impl Abort + AllocGlobal),
     version: &Version,
     files: &[File],
-    keys: &[&[u8]],
 ) -> Result<bool, Fault> {
     let bytes = all_written(rt, files)?;
     let tables = tables_of(rt.alloc(), files, &bytes)?;
-    Ok(first_found(rt.alloc(), version, &tables, keys)?.is_none())
-}
-
-/// A user key that is longer than any may be.
-fn long(alloc: Global) -> Result<Vec<u8>, Fault> {
-    let mut long = Vec::new(alloc);
-    long.resize(65_536, b'c')?;
-    Ok(long)
+    are_absent(rt.alloc(), version, &tables)
 }
 
 const B_AND_D: [File; 1] = [(1, 7, &[(b'b', 4, Some(b'x')), (b'd', 2, Some(b'y'))])];
 
 #[test]
-fn keys_that_no_table_has(rt: HostRuntime) -> Result<(), Fail> {
-    let long = long(rt.alloc())?;
-    let keys = [b"".as_slice(), b"a", b"b\0", b"c", b"e", &long];
+fn keys_that_no_table_has(rt: HostRuntime) -> Result<(), Fault> {
     let version = version_stating(&rt, &B_AND_D)?;
-    assert!(rt; are_absent(&rt, &version, &B_AND_D, &keys)?);
+    assert!(rt; are_absent_in(&rt, &version, &B_AND_D)?);
     Ok(())
 }
 
 #[test]
-fn a_version_of_no_files(rt: HostRuntime) -> Result<(), Fail> {
+fn a_version_of_no_files(rt: HostRuntime) -> Result<(), Fault> {
     let version = Version::empty(rt.alloc());
     let tables = tables_of(rt.alloc(), &[], &[])?;
     assert!(rt; has(rt.alloc(), &version, &tables, b"u", 9, None)?);
@@ -203,7 +217,7 @@ fn refused_get(
 }
 
 #[test]
-fn a_table_that_is_missing(rt: HostRuntime) -> Result<(), Fail> {
+fn a_table_that_is_missing(rt: HostRuntime) -> Result<(), Fault> {
     let version = version_stating(&rt, &[(1, 7, A_AT_ONE), (5, 8, B_AT_ONE)])?;
     let answer = refused_get(&rt, &version, &[(1, 7, A_AT_ONE)])?;
     is_refusal(&rt, answer, Some(FaultName::Missing));
@@ -231,12 +245,11 @@ const TWO_OF_SEVEN: [File; 3] = [
 fn first_counts(rt: &(impl Abort + AllocGlobal), version: &Version) -> Result<bool, Fault> {
     let bytes = all_written(rt, &TWO_OF_SEVEN)?;
     let tables = tables_of(rt.alloc(), &TWO_OF_SEVEN, &bytes)?;
-    let last = is_last(&tables, 9, &bytes);
-    Ok(last && has(rt.alloc(), version, &tables, b"a", 1, Some(b"x"))?)
+    Ok(is_last(&tables, 9, &bytes) && has(rt.alloc(), version, &tables, b"a", 1, Some(b"x"))?)
 }
 
 #[test]
-fn the_first_table_of_a_number_counts(rt: HostRuntime) -> Result<(), Fail> {
+fn the_first_table_of_a_number_counts(rt: HostRuntime) -> Result<(), Fault> {
     let version = version_stating(&rt, &[(1, 7, A_AT_ONE)])?;
     assert!(rt; first_counts(&rt, &version)?);
     Ok(())
@@ -253,7 +266,7 @@ fn is_without_number(table: NumberedTable<'_, Bytewise>, bytes: &[u8]) -> bool {
 const A_AND_B: &[Row] = &[(b'a', 3, Some(b'x')), (b'b', 2, None)];
 
 #[test]
-fn a_table_without_its_number(rt: HostRuntime) -> Result<(), Fail> {
+fn a_table_without_its_number(rt: HostRuntime) -> Result<(), Fault> {
     let bytes = written(&rt, A_AND_B)?;
     let table = table_of(rt.alloc(), &(1, 7, A_AND_B), &bytes)?;
     assert!(rt; is_without_number(table, &bytes));

@@ -44,7 +44,7 @@ const LAWFUL: [&[File]; 4] = [
 ];
 
 #[test]
-fn lawful_versions(rt: HostRuntime) -> Result<(), Fail> {
+fn lawful_versions(rt: HostRuntime) -> Result<(), Fault> {
     for files in LAWFUL {
         is_refusal(&rt, verdict_of(&rt, files)?, None);
     }
@@ -71,7 +71,7 @@ const LAWLESS: [[File; 2]; 6] = [
 ];
 
 #[test]
-fn entries_out_of_order(rt: HostRuntime) -> Result<(), Fail> {
+fn entries_out_of_order(rt: HostRuntime) -> Result<(), Fault> {
     for files in &LAWLESS {
         is_refusal(&rt, verdict_of(&rt, files)?, Some(FaultName::Lawless));
     }
@@ -120,7 +120,7 @@ const STANDING: [(&[File], &[u64]); 2] = [
 ];
 
 #[test]
-fn tables_as_they_stand(rt: HostRuntime) -> Result<(), Fail> {
+fn tables_as_they_stand(rt: HostRuntime) -> Result<(), Fault> {
     for (files, want) in STANDING {
         let version = version_stating(&rt, files)?;
         assert!(rt; stand(&rt, &version, files, want)?);
@@ -148,7 +148,7 @@ const GIVEN: [(&[File], FaultName); 2] = [
 ];
 
 #[test]
-fn tables_that_do_not_stand(rt: HostRuntime) -> Result<(), Fail> {
+fn tables_that_do_not_stand(rt: HostRuntime) -> Result<(), Fault> {
     let version = version_stating(&rt, &[(1, 7, A_AT_ONE), (5, 8, U_AT_TWO)])?;
     for (given, want) in GIVEN {
         is_refusal(&rt, refused_standing(&rt, &version, given)?, Some(want));
@@ -196,7 +196,7 @@ fn fall_so(alloc: Global, first: &[u8], second: &[u8], row: &Falling) -> Result<
 }
 
 #[test]
-fn entries_that_fall_in_a_range(rt: HostRuntime) -> Result<(), Fail> {
+fn entries_that_fall_in_a_range(rt: HostRuntime) -> Result<(), Fault> {
     let first = written(&rt, &[(b'a', 1, None), (b'u', 5, None)])?;
     let second = written(&rt, &[(b'a', 2, None), (b'u', 3, None)])?;
     for row in &FALLING {
@@ -238,7 +238,7 @@ fn verdict_stating(
 }
 
 #[test]
-fn what_is_stated_of_a_file(rt: HostRuntime) -> Result<(), Fail> {
+fn what_is_stated_of_a_file(rt: HostRuntime) -> Result<(), Fault> {
     let bytes = written(&rt, U_AND_V)?;
     for (more, next, want) in STATED {
         is_refusal(&rt, verdict_stating(&rt, &bytes, more, next)?, want);
@@ -253,7 +253,7 @@ const OTHER_BOUNDS: [&[Row]; 2] = [
 ];
 
 #[test]
-fn bounds_of_another_table(rt: HostRuntime) -> Result<(), Fail> {
+fn bounds_of_another_table(rt: HostRuntime) -> Result<(), Fault> {
     let version = version_stating(&rt, &[(1, 7, U_AND_V)])?;
     for other in OTHER_BOUNDS {
         let answer = verdict(&rt, &version, &[(1, 7, other)])?;

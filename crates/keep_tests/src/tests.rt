@@ -200,6 +200,21 @@ fn kept_of(
     kept_in(rt, &mut cursors, ALL, snapshots, last_sequence, inputs)
 }
 
+/// Tests which sequences stay of tables, over a deeper file where there is one.
+fn keeps_of(
+    rt: &(impl Abort + AllocGlobal),
+    tables: &[Vec<u8>],
+    snapshots: Snapshots<'_>,
+    last_sequence: u64,
+    deeper: Option<(u8, u8)>,
+    wanted: &[u64],
+) -> Result<(), Fault> {
+    let inputs = above(rt.alloc(), deeper)?;
+    let kept = kept_of(rt, tables, snapshots, last_sequence, &inputs)?;
+    same(rt, kept.as_slice(), wanted);
+    Ok(())
+}
+
 /// Tests which sequences stay of the entries of one user key, which lie in a table each.
 fn keeps(
     rt: &(impl Abort + AllocGlobal),
@@ -210,10 +225,7 @@ fn keeps(
     wanted: &[u64],
 ) -> Result<(), Fault> {
     let tables = written_each(rt, rows)?;
-    let inputs = above(rt.alloc(), deeper)?;
-    let kept = kept_of(rt, &tables, snapshots, last_sequence, &inputs)?;
-    same(rt, kept.as_slice(), wanted);
-    Ok(())
+    keeps_of(rt, &tables, snapshots, last_sequence, deeper, wanted)
 }
 
 /// Values of one user key at these sequences.
@@ -267,9 +279,9 @@ const DELETED: [(Snapshots<'static>, Option<(u8, u8)>, &[u64]); 5] = [
 
 #[test]
 fn a_deletion_and_what_it_deletes(rt: HostRuntime) -> Result<(), Fault> {
-    let rows = [del(b'u', 4), put(b'u', 2)];
+    let tables = written_each(&rt, &[del(b'u', 4), put(b'u', 2)])?;
     for (snapshots, deeper, kept) in &DELETED {
-        keeps(&rt, &rows, *snapshots, 4, *deeper, kept)?;
+        keeps_of(&rt, &tables, *snapshots, 4, *deeper, kept)?;
     }
     Ok(())
 }
@@ -277,8 +289,9 @@ fn a_deletion_and_what_it_deletes(rt: HostRuntime) -> Result<(), Fault> {
 /// Two tables with a@1, u@9, u@5 and z@2, all put.
 fn two(rt: &(impl Abort + AllocGlobal)) -> Result<Vec<Vec<u8>>, Fault> {
     let mut tables = Vec::new(rt.alloc());
-    tables.push(written(rt, &[put(b'a', 1), put(b'u', 5)])?)?;
-    tables.push(written(rt, &[put(b'u', 9), put(b'z', 2)])?)?;
+    for (first, second) in [(put(b'a', 1), put(b'u', 5)), (put(b'u', 9), put(b'z', 2))] {
+        tables.push(written(rt, &[first, second])?)?;
+    }
     Ok(tables)
 }
 
@@ -317,10 +330,14 @@ const PARTS: [Part; 3] = [
     },
 ];
 
+/// Whether a run keeps these sequences.
+fn has_sequences(alloc: Global, run: &RangeRun<'_>, wanted: &[u64]) -> Result<bool, Fault> {
+    Ok(sequences(alloc, run)?.as_slice() == wanted)
+}
+
 /// Tests that a run keeps what is wanted, with one mark alone at the first entry.
 fn is_run(rt: &(impl Abort + AllocGlobal), run: &RangeRun<'_>, part: Part) -> Result<(), Fault> {
-    let kept = sequences(rt.alloc(), run)?;
-    same(rt, kept.as_slice(), part.kept);
+    assert!(rt; has_sequences(rt.alloc(), run, part.kept)?);
     let mark = Mark {
         below: part.below,
         kept: 0,
@@ -358,12 +375,17 @@ fn are_parts(
     Ok(())
 }
 
+/// Tests what each range keeps of tables, over a grandparent of `m`.
+fn are_parts_of(rt: &(impl Abort + AllocGlobal), tables: &[Vec<u8>]) -> Result<(), Fault> {
+    let inputs = over(rt.alloc(), b'm')?;
+    let mut cursors = cursors(rt.alloc(), tables)?;
+    are_parts(rt, &mut cursors, &inputs)
+}
+
 #[test]
 fn three_ranges_of_the_same_cursors(rt: HostRuntime) -> Result<(), Fault> {
     let tables = two(&rt)?;
-    let mut cursors = cursors(rt.alloc(), &tables)?;
-    let inputs = over(rt.alloc(), b'm')?;
-    are_parts(&rt, &mut cursors, &inputs)
+    are_parts_of(&rt, &tables)
 }
 
 /// The range from `u` to below `z`.
@@ -394,32 +416,49 @@ fn seek_all(
     Ok(())
 }
 
-#[test]
-fn cursors_that_are_sought_before(rt: HostRuntime) -> Result<(), Fault> {
-    let tables = two(&rt)?;
-    let mut cursors = cursors(rt.alloc(), &tables)?;
-    seek_all(&rt, &mut cursors)?;
+/// Tests that cursors keep sequence 9 alone in the range.
+fn keep_nine(
+    rt: &(impl Abort + AllocGlobal),
+    cursors: &mut Vec<TableCursor<'_, Bytewise>>,
+) -> Result<(), Fault> {
     let inputs = no_inputs(rt.alloc())?;
-    let kept = kept_in(&rt, &mut cursors, FROM_U, Snapshots::From(9), 9, &inputs)?;
-    same(&rt, kept.as_slice(), [9].as_slice());
+    let kept = kept_in(rt, cursors, FROM_U, Snapshots::From(9), 9, &inputs)?;
+    same(rt, kept.as_slice(), [9].as_slice());
     Ok(())
 }
 
-/// Why tables are not merged.
-fn refused(
-    rt: &(impl Abort + AllocGlobal),
-    tables: &[Vec<u8>],
-    inputs: &Inputs,
-) -> Result<Option<Fault>, Fault> {
+/// Tests the same of the cursors over tables, which sought the range before.
+fn sought_keep_nine(rt: &(impl Abort + AllocGlobal), tables: &[Vec<u8>]) -> Result<(), Fault> {
     let mut cursors = cursors(rt.alloc(), tables)?;
-    Ok(merged(rt, &mut cursors, ALL, Snapshots::From(9), 9, inputs).err())
+    seek_all(rt, &mut cursors)?;
+    keep_nine(rt, &mut cursors)
+}
+
+#[test]
+fn cursors_that_are_sought_before(rt: HostRuntime) -> Result<(), Fault> {
+    let tables = two(&rt)?;
+    sought_keep_nine(&rt, &tables)
+}
+
+/// The run of all that cursors have.
+fn merged_all<'a>(
+    rt: &(impl Abort + AllocGlobal),
+    cursors: &mut Vec<TableCursor<'a, Bytewise>>,
+) -> Result<RangeRun<'a>, Fault> {
+    let inputs = no_inputs(rt.alloc())?;
+    merged(rt, cursors, ALL, Snapshots::From(9), 9, &inputs)
+}
+
+/// Why tables are not merged.
+fn refused(rt: &(impl Abort + AllocGlobal), tables: &[Vec<u8>]) -> Result<Option<Fault>, Fault> {
+    let mut cursors = cursors(rt.alloc(), tables)?;
+    Ok(merged_all(rt, &mut cursors).err())
 }
 
 #[test]
 fn one_user_key_and_sequence_twice(rt: HostRuntime) -> Result<(), Fault> {
     let tables = written_each(&rt, &[put(b'u', 5), del(b'u', 5)])?;
-    let inputs = no_inputs(rt.alloc())?;
-    let fault = refused(&rt, &tables, &inputs)?;
+    let fault = refused(&rt, &tables)?;
     same(&rt, fault, Some(Fault::of(FaultName::Duplicate)));
     Ok(())
 }
@@ -437,10 +476,9 @@ fn numbered(rt: &(impl Abort + AllocGlobal), count: u16) -> Result<Vec<u8>, Faul
 
 /// The run of a table.
 fn run_of<'a>(rt: &(impl Abort + AllocGlobal), bytes: &'a [u8]) -> Result<RangeRun<'a>, Fault> {
-    let inputs = no_inputs(rt.alloc())?;
     let mut cursors = Vec::new(rt.alloc());
     cursors.push(entries_of(rt.alloc(), bytes)?)?;
-    merged(rt, &mut cursors, ALL, Snapshots::From(9), 9, &inputs)
+    merged_all(rt, &mut cursors)
 }
 
 /// Tests the entry of a number.
@@ -476,6 +514,17 @@ fn kept_of_all(
 /// The sequences of the two tables.
 const TWO: [u64; 4] = [1, 9, 5, 2];
 
+/// Tests that those sequences that remain are kept.
+fn keeps_the_rest(
+    rt: &(impl Abort + AllocGlobal),
+    cursors: &mut Vec<TableCursor<'_, Bytewise>>,
+    inputs: &Inputs,
+) -> Result<(), Fault> {
+    let left = kept_of_all(rt, cursors, inputs)?;
+    assert!(rt; TWO.ends_with(&left));
+    Ok(())
+}
+
 /// Tests that all sequences are kept, or else those that remain at a second try where a growth was refused at the first.
 fn keeps_all(
     rt: &(impl Abort + AllocGlobal),
@@ -483,23 +532,29 @@ fn keeps_all(
     inputs: &Inputs,
 ) -> Result<(), Fault> {
     match kept_of_all(rt, cursors, inputs) {
-        Ok(kept) => same(rt, kept.as_slice(), TWO.as_slice()),
+        Ok(kept) => {
+            same(rt, kept.as_slice(), TWO.as_slice());
+            Ok(())
+        }
         Err(fault) => {
             same(rt, fault, Fault::of(FaultName::Memory));
-            let left = kept_of_all(rt, cursors, inputs)?;
-            assert!(rt; TWO.ends_with(&left));
+            keeps_the_rest(rt, cursors, inputs)
         }
     }
-    Ok(())
+}
+
+/// Tests the same of the cursors over tables.
+fn keeps_all_of(rt: &(impl Abort + AllocGlobal), tables: &[Vec<u8>]) -> Result<(), Fault> {
+    let inputs = over(rt.alloc(), b'm')?;
+    let mut cursors = cursors(rt.alloc(), tables)?;
+    keeps_all(rt, &mut cursors, &inputs)
 }
 
 // With `rt try --test --fail-alloc N` the Nth growth is refused; without it, none is.
 #[test]
 fn a_refused_growth_is_memory_and_leaves_what_is_not_merged(rt: HostRuntime) -> Result<(), Fault> {
     let tables = two(&rt)?;
-    let mut cursors = cursors(rt.alloc(), &tables)?;
-    let inputs = over(rt.alloc(), b'm')?;
-    keeps_all(&rt, &mut cursors, &inputs)
+    keeps_all_of(&rt, &tables)
 }
 
 #[test]

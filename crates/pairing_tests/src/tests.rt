@@ -73,7 +73,7 @@ const BOTH: &str =
 const NONE: &str = "0 entries, 8 bytes: 0000000001000000";
 
 /// Two files, where the ranges part, and the answer, which is the same wherever that is.
-const MERGED: [(&str, &str, &[u8], &str); 9] = [
+const MERGED: &[(&str, &str, &[u8], &str)] = &[
     (A, B, b"", BOTH),
     (A, B, b"a", BOTH),
     (A, B, b"b", BOTH),
@@ -88,7 +88,7 @@ const MERGED: [(&str, &str, &[u8], &str); 9] = [
 #[test]
 fn two_blocks_into_one(rt: HostRuntime) -> Result<(), Fail> {
     for (first, second, at, wanted) in MERGED {
-        answers(&rt, first, second, at, wanted)?;
+        answers(&rt, *first, *second, *at, *wanted)?;
     }
     Ok(())
 }
@@ -97,7 +97,7 @@ fn two_blocks_into_one(rt: HostRuntime) -> Result<(), Fail> {
 const OF_TYPE_TWO: &str = "000901610201000000000000780000000001000000";
 
 /// Files, and how each of them is refused.
-const REFUSED: [(&str, &str); 7] = [
+const REFUSED: &[(&str, &str)] = &[
     ("", "refused: Block"),
     ("00000000", "refused: Block"),
     // A key of seven bytes, and one of type 2.
@@ -123,14 +123,14 @@ const REFUSED: [(&str, &str); 7] = [
 #[test]
 fn refused_files(rt: HostRuntime) -> Result<(), Fail> {
     for (file, wanted) in REFUSED {
-        answers(&rt, file, EMPTY, b"m", wanted)?;
-        answers(&rt, EMPTY, file, b"m", wanted)?;
+        answers(&rt, *file, EMPTY, b"m", *wanted)?;
+        answers(&rt, EMPTY, *file, b"m", *wanted)?;
     }
     Ok(())
 }
 
 /// Two files, and how their merge is refused.
-const REFUSED_FIRST: [(&str, &str, &str); 4] = [
+const REFUSED_FIRST: &[(&str, &str, &str)] = &[
     (A, A, "refused: Duplicate"),
     (A, "", "refused: Block"),
     // The first file is tested whole before the second.
@@ -141,7 +141,7 @@ const REFUSED_FIRST: [(&str, &str, &str); 4] = [
 #[test]
 fn first_refusal(rt: HostRuntime) -> Result<(), Fail> {
     for (first, second, wanted) in REFUSED_FIRST {
-        answers(&rt, first, second, b"a", wanted)?;
+        answers(&rt, *first, *second, b"a", *wanted)?;
     }
     Ok(())
 }

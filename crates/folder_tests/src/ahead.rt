@@ -2,7 +2,7 @@
 
 use crate::loading::{TABLES, loads, refused, three_files};
 use crate::manifests::*;
-use crate::shelf::{has, new_folder, remove};
+use crate::shelf::{has, new_path, remove};
 use coding::{Fault, FaultName};
 use edit::Version;
 use folder::*;
@@ -14,33 +14,31 @@ use std::rt::Files;
 use std::test::Fail;
 use std::thread::Threads;
 
-/// Makes files, through a handle that is there.
-fn make_through<F: Folder>(disk: &mut F, files: &[(&str, &[u8])]) -> Result<(), FolderFault> {
-    for (name, bytes) in files {
-        disk.create(name, bytes)?;
-    }
-    Ok(())
-}
+/// Files by their names.
+type NamedFiles = &'static [(&'static str, &'static [u8])];
 
-/// Makes files in a folder of the system, through a handle of its own.
-fn make<R: Files + AllocGlobal>(
-    rt: &R,
-    path: &str,
-    files: &[(&str, &[u8])],
-) -> Result<(), FolderFault> {
-    make_through(&mut Disk::new(rt, path), files)
-}
+/// Tables by their numbers.
+type Tables = &'static [(u64, &'static [u8])];
 
-/// A folder of the system, of which the tables of a version were read ahead in an order.
-fn read_ahead<'r, R: Files + WholeFiles + Threads + AllocGlobal>(
-    rt: &'r R,
-    path: &'r str,
-    order: Order,
-    version: &Version,
-) -> Disk<'r, R> {
-    let mut disk = Disk::new(rt, path);
-    disk.read_ahead(order, version);
-    disk
+/// What is asked for between the reading ahead and the loading: a file that is read and what it holds, files that are
+/// made, and the tables that are then loaded.
+type Turn = (&'static str, Option<&'static [u8]>, NamedFiles, Tables);
+
+/// How tables are refused, and how often the device failed.
+type Refused = (Option<FaultName>, u64);
+
+/// What is tried in a folder of the system, some of whose tables somebody writes anew once they were read ahead.
+enum Trial {
+    /// A turn is answered, and tables are loaded twice.
+    Turn(Turn),
+    /// Tables that were read ahead in an order are loaded in the shortlex order.
+    Shortlex(Order, Tables),
+    /// Many tables are loaded twice.
+    Many,
+    /// There is a folder of the first name and no table of the second.
+    Inner(&'static str, &'static str, Refused),
+    /// There is no folder.
+    Absent,
 }
 
 /// Two tables that somebody writes anew.
@@ -55,103 +53,83 @@ const LATER: [(u64, &[u8]); 3] = [(8, b"eight, later"), (3, b"three, later"), (5
 /// The tables that are loaded where those were read ahead that were there.
 const AHEAD: [(u64, &[u8]); 3] = [(8, b"eight"), (3, b"three, later"), (5, b"five")];
 
-/// What is asked for between the reading ahead and the loading: a file that is read and what it holds, files that are
-/// made, and the tables that are then loaded.
-type Turn = (
-    &'static str,
-    Option<&'static [u8]>,
-    &'static [(&'static str, &'static [u8])],
-    &'static [(u64, &'static [u8])],
-);
-
-const TURNS: [Turn; 4] = [
+const TURNS: &[Trial] = &[
     // Names of other files change nothing of it. What was read ahead is handed out. What wasn't there then is looked for again.
-    ("CURRENT", None, &[], &AHEAD),
+    Trial::Turn(("CURRENT", None, &[], &AHEAD)),
     // A file that is made forgets what was read ahead.
-    ("CURRENT", None, &[("CURRENT", b"text")], &LATER),
+    Trial::Turn(("CURRENT", None, &[("CURRENT", b"text")], &LATER)),
     // Tables that are passed over are forgotten: those before the last of them, and all before one that isn't among them.
-    ("000005.ldb", Some(b"five"), &[], &LATER),
-    ("000007.ldb", Some(b"of no file"), &[], &LATER),
+    Trial::Turn(("000005.ldb", Some(b"five"), &[], &LATER)),
+    Trial::Turn(("000007.ldb", Some(b"of no file"), &[], &LATER)),
 ];
 
-/// Whether a turn is answered as it has to be, and whether all tables are looked for again where they are loaded once more.
-fn is_taken<R: Files + AllocGlobal, F: Folder>(
-    rt: &R,
-    path: &str,
+/// New files at level 1, of one key each: number 4 of `aa` and number 6 of `b`, which comes first in the shortlex order.
+const SHORTER_FIRST: &[u8] =
+    b"\x07\x01\x04d\x0aaa\x01\x01\0\0\0\0\0\0\x0aaa\x01\x01\0\0\0\0\0\0\x07\x01\x06d\x09b\x01\x01\0\0\0\0\0\0\x09b\x01\x01\0\0\0\0\0\0";
+
+/// Their tables.
+const TWO: [(&str, &[u8]); 2] = [("000004.ldb", b"four"), ("000006.ldb", b"six")];
+
+/// Their tables, which somebody writes anew.
+const TWO_ANEW: [(&str, &[u8]); 2] = [
+    ("000004.ldb", b"four, later"),
+    ("000006.ldb", b"six, later"),
+];
+
+/// That of number 6 is loaded as it was read ahead.
+const ORDERS: &[Trial] = &[
+    Trial::Shortlex(Order::Shortlex, &[(6, b"six"), (4, b"four")]),
+    // In another order the first of them is passed over.
+    Trial::Shortlex(Order::Bytewise, &[(6, b"six"), (4, b"four, later")]),
+];
+
+const INNER: &[Trial] = &[
+    Trial::Inner("000008.ldb", "000008.ldb", (Some(FaultName::Device), 1)),
+    // The older name is there, but this one comes first.
+    Trial::Inner("000003.ldb", "000007.ldb", (Some(FaultName::Device), 1)),
+    // What is missing before it comes first.
+    Trial::Inner("000003.ldb", "000008.ldb", (Some(FaultName::Missing), 0)),
+];
+
+/// Makes files, and answers whether that was done.
+fn makes(disk: &mut impl Folder, files: &[(&str, &[u8])]) -> bool {
+    for (name, bytes) in files {
+        if disk.create(name, bytes).is_err() {
+            return false;
+        }
+    }
+    true
+}
+
+/// Makes the three tables but for one, and answers whether that was done.
+fn makes_others(disk: &mut impl Folder, without: &str) -> bool {
+    for (name, bytes) in &TABLES {
+        if *name != without && disk.create(name, bytes).is_err() {
+            return false;
+        }
+    }
+    true
+}
+
+/// Whether a turn is answered as it has to be, and all tables are looked for again where they are loaded once more: each is
+/// handed out once.
+fn is_taken<F: Folder>(
+    alloc: Global,
     disk: &mut F,
     version: &Version,
     (name, held, made, wanted): Turn,
-) -> Result<bool, Fault> {
-    disk.sync_folder()?;
-    make(rt, path, &ANEW)?;
-    let is_held = has(disk, name, held)?;
-    make_through(disk, made)?;
-    let is_first = loads::<Bytewise, F>(rt.alloc(), disk, version, wanted)?;
-    // Each is handed out once.
-    let is_again = loads::<Bytewise, F>(rt.alloc(), disk, version, &LATER)?;
-    Ok(is_held && is_first && is_again && disk.failures() == 0)
+) -> bool {
+    disk.sync_folder().is_ok()
+        && has(disk, name, held)
+        && makes(disk, made)
+        && loads::<Bytewise, F>(alloc, disk, version, wanted)
+        && loads::<Bytewise, F>(alloc, disk, version, &LATER)
+        && disk.failures() == 0
 }
 
-/// The same, in a folder without files.
-fn takes<R: Files + WholeFiles + Threads + AllocGlobal>(
-    rt: &R,
-    path: &str,
-    turn: Turn,
-) -> Result<bool, Fault> {
-    make(rt, path, &TABLES)?;
-    let version = three_files(rt.alloc())?;
-    let mut disk = read_ahead(rt, path, Order::Bytewise, &version);
-    is_taken(rt, path, &mut disk, &version, turn)
-}
-
-/// The same, in a folder that is taken away then.
-fn is_turn<R: Files + WholeFiles + Threads + AllocGlobal>(
-    rt: &R,
-    path: String,
-    turn: Turn,
-) -> Result<bool, Fail> {
-    let is_so = takes(rt, path.as_str(), turn)?;
-    remove(rt, path.as_str())?;
-    Ok(is_so)
-}
-
-#[test]
-fn tables_are_read_ahead(rt: HostRuntime) -> Result<(), Fail> {
-    for (place, turn) in TURNS.iter().enumerate() {
-        let path = new_folder(&rt, "ahead")?;
-        assert!(rt; is_turn(&rt, path, *turn)?, "{place}");
-    }
-    Ok(())
-}
-
-/// How the tables in a folder are refused that were read ahead, and how often the device failed.
-fn refused_ahead<R: Files + WholeFiles + Threads + AllocGlobal>(
-    rt: &R,
-    path: &str,
-    version: &Version,
-) -> (Option<FaultName>, u64) {
-    let mut disk = read_ahead(rt, path, Order::Bytewise, version);
-    let answer = refused(rt.alloc(), &mut disk, version);
-    (answer, disk.failures())
-}
-
-/// Tests this of the three files.
-fn is_refused_ahead<R: Files + WholeFiles + Threads + AllocGlobal + Abort>(
-    rt: &R,
-    path: &str,
-    wanted: (Option<FaultName>, u64),
-) -> Result<(), Fault> {
-    let version = three_files(rt.alloc())?;
-    assert_eq!(rt; refused_ahead(rt, path, &version), wanted, "{path}");
-    Ok(())
-}
-
-#[test]
-fn nothing_is_read_ahead_where_no_folder_is(rt: HostRuntime) -> Result<(), Fail> {
-    for path in ["", "/nowhere/at/all"] {
-        is_refused_ahead(&rt, path, (Some(FaultName::Missing), 0))?;
-    }
-    Ok(())
+/// Whether the tables are refused so.
+fn is_refused<F: Folder>(alloc: Global, disk: &mut F, version: &Version, wanted: Refused) -> bool {
+    refused(alloc, disk, version) == wanted.0 && disk.failures() == wanted.1
 }
 
 /// The first and the last number of many files, more than are read at once.
@@ -180,25 +158,26 @@ fn many_files(alloc: Global) -> Result<Vec<u8>, Fault> {
     Ok(record)
 }
 
-/// The log of the manifest of these files.
-fn many_manifest(alloc: Global) -> Result<Vec<u8>, Fault> {
-    let log = log_of(alloc, &[BYTEWISE, MANY_NUMBERS])?;
-    logrec::append(alloc, &log, &many_files(alloc)?)
+/// The version of these files.
+fn many_version(alloc: Global) -> Result<Version, Fault> {
+    let files = many_files(alloc)?;
+    version_of(alloc, &[BYTEWISE, MANY_NUMBERS, files.as_slice()])
 }
 
 /// Makes the table of a number, of one byte.
-fn make_one<F: Folder>(alloc: Global, disk: &mut F, number: u8, byte: u8) -> Result<(), Fault> {
+fn make_one(alloc: Global, disk: &mut impl Folder, number: u8, byte: u8) -> Result<(), Fault> {
     let name = table_name(alloc, number as u64)?;
     Ok(disk.create(name.as_str(), &[byte])?)
 }
 
-/// Makes their tables, each of one byte: its number and so much.
-fn make_many<R: Files + AllocGlobal>(rt: &R, path: &str, more: u8) -> Result<(), Fault> {
-    let mut disk = Disk::new(rt, path);
+/// Makes their tables, each of one byte: its number and so much. Answers whether that was done.
+fn makes_many<F: Folder>(alloc: Global, disk: &mut F, more: u8) -> bool {
     for number in FIRST..LAST + 1 {
-        make_one(rt.alloc(), &mut disk, number, number.wrapping_add(more))?;
+        if make_one(alloc, disk, number, number.wrapping_add(more)).is_err() {
+            return false;
+        }
     }
-    Ok(())
+    true
 }
 
 /// Whether these are their tables in version order.
@@ -213,162 +192,155 @@ fn are_many(tables: &[(u64, Vec<u8>)], more: u8) -> bool {
 }
 
 /// Whether their tables are loaded.
-fn loads_many<F: Folder>(
-    alloc: Global,
-    disk: &mut F,
-    version: &Version,
-    more: u8,
-) -> Result<bool, Fault> {
-    Ok(are_many(&load::<Bytewise, F>(alloc, disk, version)?, more))
+fn loads_many<F: Folder>(alloc: Global, disk: &mut F, version: &Version, more: u8) -> bool {
+    match load::<Bytewise, F>(alloc, disk, version) {
+        Ok(tables) => are_many(&tables, more),
+        Err(_) => false,
+    }
 }
 
-/// Whether each of many tables that were read ahead is handed out once, and then looked for again.
-fn are_handed_out<R: Files + AllocGlobal, F: Folder>(
-    rt: &R,
-    path: &str,
-    disk: &mut F,
-    version: &Version,
-) -> Result<bool, Fault> {
-    make_many(rt, path, 100)?;
-    let is_once = loads_many(rt.alloc(), disk, version, 0)?;
-    let is_again = loads_many(rt.alloc(), disk, version, 100)?;
-    Ok(is_once && is_again)
-}
+impl Trial {
+    /// The version whose tables are read ahead.
+    fn version(&self, alloc: Global) -> Result<Version, Fault> {
+        match self {
+            Trial::Shortlex(_, _) => version_of(alloc, &[SHORTLEX, NUMBERS, SHORTER_FIRST]),
+            Trial::Many => many_version(alloc),
+            _ => three_files(alloc),
+        }
+    }
 
-/// The same, in a folder without files.
-fn many_are_read<R: Files + WholeFiles + Threads + AllocGlobal>(
-    rt: &R,
-    path: &str,
-) -> Result<bool, Fault> {
-    make_many(rt, path, 0)?;
-    let version = version_in(rt.alloc(), &many_manifest(rt.alloc())?)?;
-    let mut disk = read_ahead(rt, path, Order::Bytewise, &version);
-    are_handed_out(rt, path, &mut disk, &version)
-}
+    /// The order in which they are read ahead.
+    fn order(&self) -> Order {
+        match self {
+            Trial::Shortlex(order, _) => *order,
+            _ => Order::Bytewise,
+        }
+    }
 
-#[test]
-fn many_tables_are_read_ahead(rt: HostRuntime) -> Result<(), Fail> {
-    let path = new_folder(&rt, "many")?;
-    assert!(rt; many_are_read(&rt, path.as_str())?);
-    remove(&rt, path.as_str())
-}
+    /// Makes the files that are there then, and answers whether that was done.
+    fn begins<F: Folder>(&self, alloc: Global, disk: &mut F) -> bool {
+        match self {
+            Trial::Turn(_) => makes(disk, &TABLES),
+            Trial::Shortlex(_, _) => makes(disk, &TWO),
+            Trial::Many => makes_many(alloc, disk, 0),
+            Trial::Inner(_, without, _) => makes_others(disk, without),
+            Trial::Absent => true,
+        }
+    }
 
-/// New files at level 1, of one key each: number 4 of `aa` and number 6 of `b`, which comes first in the shortlex order.
-const SHORTER_FIRST: &[u8] =
-    b"\x07\x01\x04d\x0aaa\x01\x01\0\0\0\0\0\0\x0aaa\x01\x01\0\0\0\0\0\0\x07\x01\x06d\x09b\x01\x01\0\0\0\0\0\0\x09b\x01\x01\0\0\0\0\0\0";
+    /// Makes the files that somebody writes anew, and answers whether that was done.
+    fn renews<F: Folder>(&self, alloc: Global, disk: &mut F) -> bool {
+        match self {
+            Trial::Turn(_) => makes(disk, &ANEW),
+            Trial::Shortlex(_, _) => makes(disk, &TWO_ANEW),
+            Trial::Many => makes_many(alloc, disk, 100),
+            Trial::Inner(_, _, _) | Trial::Absent => true,
+        }
+    }
 
-/// Their tables.
-const TWO: [(&str, &[u8]); 2] = [("000004.ldb", b"four"), ("000006.ldb", b"six")];
-
-/// Their tables, which somebody writes anew.
-const TWO_ANEW: [(&str, &[u8]); 2] = [
-    ("000004.ldb", b"four, later"),
-    ("000006.ldb", b"six, later"),
-];
-
-/// Whether their tables are loaded in the shortlex order, that of number 6 as it was read ahead, and this of number 4.
-fn is_shortlex<R: Files + AllocGlobal, F: Folder>(
-    rt: &R,
-    path: &str,
-    disk: &mut F,
-    version: &Version,
-    four: &'static [u8],
-) -> Result<bool, Fault> {
-    make(rt, path, &TWO_ANEW)?;
-    loads::<Shortlex, F>(rt.alloc(), disk, version, &[(6, b"six"), (4, four)])
-}
-
-/// The same, in a folder without files, where they are read ahead in an order.
-fn loads_shortlex<R: Files + WholeFiles + Threads + AllocGlobal>(
-    rt: &R,
-    path: &str,
-    order: Order,
-    four: &'static [u8],
-) -> Result<bool, Fault> {
-    make(rt, path, &TWO)?;
-    let version = version_of(rt.alloc(), &[SHORTLEX, NUMBERS, SHORTER_FIRST])?;
-    let mut disk = read_ahead(rt, path, order, &version);
-    is_shortlex(rt, path, &mut disk, &version, four)
-}
-
-/// The same, in a folder that is taken away then.
-fn is_ordered<R: Files + WholeFiles + Threads + AllocGlobal>(
-    rt: &R,
-    path: String,
-    order: Order,
-    four: &'static [u8],
-) -> Result<bool, Fail> {
-    let is_so = loads_shortlex(rt, path.as_str(), order, four)?;
-    remove(rt, path.as_str())?;
-    Ok(is_so)
-}
-
-#[test]
-fn tables_are_read_ahead_in_their_order(rt: HostRuntime) -> Result<(), Fail> {
-    let path = new_folder(&rt, "shortlex")?;
-    assert!(rt; is_ordered(&rt, path, Order::Shortlex, b"four")?);
-    // In another order the first of them is passed over.
-    let path = new_folder(&rt, "shortlex")?;
-    assert!(rt; is_ordered(&rt, path, Order::Bytewise, b"four, later")?);
-    Ok(())
-}
-
-/// The path of a name in a folder of the system.
-fn place(alloc: Global, path: &str, name: &str) -> Result<String, Fail> {
-    Ok(format!(in alloc; "{path}/{name}")?)
-}
-
-/// Takes the file of a name away.
-fn take_away<R: Files + AllocGlobal>(rt: &R, path: &str, name: &str) -> Result<(), Fail> {
-    let place = place(rt.alloc(), path, name)?;
-    Ok(fs::remove_file(rt, place.as_str())?)
+    /// Whether what is asked for of the folder then is as it has to be. Each of many tables is handed out once, too.
+    fn is_right<F: Folder>(&self, alloc: Global, disk: &mut F, version: &Version) -> bool {
+        match self {
+            Trial::Turn(turn) => is_taken(alloc, disk, version, *turn),
+            Trial::Shortlex(_, wanted) => loads::<Shortlex, F>(alloc, disk, version, wanted),
+            Trial::Many => {
+                loads_many(alloc, disk, version, 0) && loads_many(alloc, disk, version, 100)
+            }
+            Trial::Inner(_, _, wanted) => is_refused(alloc, disk, version, *wanted),
+            Trial::Absent => is_refused(alloc, disk, version, (Some(FaultName::Missing), 0)),
+        }
+    }
 }
 
 /// Makes a folder of a name.
 fn make_folder<R: Files + AllocGlobal>(rt: &R, path: &str, name: &str) -> Result<(), Fail> {
-    let place = place(rt.alloc(), path, name)?;
+    let place = format!(in rt.alloc(); "{path}/{name}")?;
     Ok(fs::create_dir(rt, place.as_str())?)
 }
 
-/// Makes the tables but for one, and a folder of this name beside them.
-fn make_inner<R: Files + AllocGlobal>(
+/// Makes the folder of a trial, and the one in place of a table.
+fn make_folders<R: Files + AllocGlobal>(rt: &R, path: &str, trial: &Trial) -> Result<(), Fail> {
+    fs::create_dir(rt, path)?;
+    match trial {
+        Trial::Inner(name, _, _) => make_folder(rt, path, name),
+        _ => Ok(()),
+    }
+}
+
+/// Whether a trial at a path is right once tables were read ahead. One handle reads, and another one writes.
+fn is_right_ahead<R: Files + WholeFiles + Threads + AllocGlobal>(
     rt: &R,
     path: &str,
-    inner: &str,
-    without: &str,
-) -> Result<(), Fail> {
-    make(rt, path, &TABLES)?;
-    take_away(rt, path, without)?;
-    make_folder(rt, path, inner)
+    trial: &Trial,
+    version: &Version,
+) -> bool {
+    let mut disk = Disk::new(rt, path);
+    disk.read_ahead(trial.order(), version);
+    trial.renews(rt.alloc(), &mut Disk::new(rt, path))
+        && trial.is_right(rt.alloc(), &mut disk, version)
 }
 
-/// Tests how the tables are refused then.
-fn is_inner<R: Files + WholeFiles + Threads + AllocGlobal + Abort>(
+/// Whether a trial at a path is right.
+fn is_right_at<R: Files + WholeFiles + Threads + AllocGlobal>(
     rt: &R,
-    path: String,
-    inner: &str,
-    without: &str,
-    wanted: (Option<FaultName>, u64),
-) -> Result<(), Fail> {
-    make_inner(rt, path.as_str(), inner, without)?;
-    is_refused_ahead(rt, path.as_str(), wanted)?;
-    remove(rt, path.as_str())
+    path: &str,
+    trial: &Trial,
+) -> bool {
+    match trial.version(rt.alloc()) {
+        Ok(version) => {
+            trial.begins(rt.alloc(), &mut Disk::new(rt, path))
+                && is_right_ahead(rt, path, trial, &version)
+        }
+        Err(_) => false,
+    }
 }
 
-/// A folder, a table that isn't there, how the tables are refused and how often the device failed.
-const INNER: [(&str, &str, (Option<FaultName>, u64)); 3] = [
-    ("000008.ldb", "000008.ldb", (Some(FaultName::Device), 1)),
-    // The older name is there, but this one comes first.
-    ("000003.ldb", "000007.ldb", (Some(FaultName::Device), 1)),
-    // What is missing before it comes first.
-    ("000003.ldb", "000008.ldb", (Some(FaultName::Missing), 0)),
-];
+/// Tests a trial in a folder that is made for it, and taken away then.
+fn is_right<R: Files + WholeFiles + Threads + AllocGlobal + Abort>(
+    rt: &R,
+    path: &str,
+    trial: &Trial,
+    place: usize,
+) -> Result<(), Fail> {
+    make_folders(rt, path, trial)?;
+    assert!(rt; is_right_at(rt, path, trial), "{place}");
+    remove(rt, path)
+}
+
+/// Tests each of these trials.
+fn are_right<R: Files + WholeFiles + Threads + AllocGlobal + Abort>(
+    rt: &R,
+    path: &str,
+    trials: &[Trial],
+) -> Result<(), Fail> {
+    for (place, trial) in trials.iter().enumerate() {
+        is_right(rt, path, trial, place)?;
+    }
+    Ok(())
+}
+
+#[test]
+fn tables_are_read_ahead(rt: HostRuntime) -> Result<(), Fail> {
+    are_right(&rt, new_path(&rt, "ahead")?.as_str(), TURNS)
+}
+
+#[test]
+fn many_tables_are_read_ahead(rt: HostRuntime) -> Result<(), Fail> {
+    is_right(&rt, new_path(&rt, "many")?.as_str(), &Trial::Many, 0)
+}
+
+#[test]
+fn tables_are_read_ahead_in_their_order(rt: HostRuntime) -> Result<(), Fail> {
+    are_right(&rt, new_path(&rt, "shortlex")?.as_str(), ORDERS)
+}
 
 #[test]
 fn a_folder_in_place_of_a_table(rt: HostRuntime) -> Result<(), Fail> {
-    for (inner, without, wanted) in &INNER {
-        let path = new_folder(&rt, "inner")?;
-        is_inner(&rt, path, inner, without, *wanted)?;
-    }
-    Ok(())
+    are_right(&rt, new_path(&rt, "inner")?.as_str(), INNER)
+}
+
+#[test]
+fn nothing_is_read_ahead_where_no_folder_is(rt: HostRuntime) {
+    assert!(rt; is_right_at(&rt, "", &Trial::Absent));
+    assert!(rt; is_right_at(&rt, "/nowhere/at/all", &Trial::Absent));
 }

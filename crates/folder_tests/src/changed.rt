@@ -48,38 +48,52 @@ fn beginnings_of_current(rt: HostRuntime) -> Result<(), Fail> {
 /// What one byte is changed to.
 const CHANGES: [u8; 5] = [0, 1, 127, 128, 255];
 
-/// Of each record, what is answered where the byte at each place is changed to each of these and the checksum is mended:
+/// A record, and what is answered where the byte at each place is changed to each of these and the checksum is mended:
 /// `r` where the manifest is read, `t` for `EditTag`, `f` for `EditField`, `c` for `Comparator` and `a` for `Apply`.
-const ANSWERS: [&[&[u8; 5]]; 3] = [
-    &[
-        b"trttt", b"ttfff", b"cccff", b"cccff", b"cccff", b"cccff", b"cccff", b"cccff", b"cccff",
-        b"cccff", b"cccff", b"cccff", b"cccff", b"cccff", b"cccff", b"cccff", b"cccff", b"cccff",
-        b"cccff", b"cccff", b"cccff", b"cccff", b"cccff", b"cccff", b"cccff", b"cccff", b"cccff",
-        b"cccff",
-    ],
-    &[
-        b"tfttt", b"rrrtt", b"tctff", b"rrrff", b"tfttt", b"aarff", b"tfttt", b"rrrff",
-    ],
-    &[
-        b"ttttt", b"rrfff", b"rrrff", b"rrrff", b"fffff", b"rrrrr", b"rrfff", b"rrrrr", b"rrrrr",
-        b"rrrrr", b"rrrrr", b"rrrrr", b"rrrrr", b"rrrrr", b"fffff", b"rrrrr", b"rrfff", b"rrrrr",
-        b"rrrrr", b"rrrrr", b"rrrrr", b"rrrrr", b"rrrrr", b"rrrrr",
-    ],
+type Answered = (&'static [u8], &'static [&'static [u8; 5]]);
+
+const ANSWERS: [Answered; 3] = [
+    (
+        BYTEWISE,
+        &[
+            b"trttt", b"ttfff", b"cccff", b"cccff", b"cccff", b"cccff", b"cccff", b"cccff",
+            b"cccff", b"cccff", b"cccff", b"cccff", b"cccff", b"cccff", b"cccff", b"cccff",
+            b"cccff", b"cccff", b"cccff", b"cccff", b"cccff", b"cccff", b"cccff", b"cccff",
+            b"cccff", b"cccff", b"cccff", b"cccff",
+        ],
+    ),
+    (
+        NUMBERS,
+        &[
+            b"tfttt", b"rrrtt", b"tctff", b"rrrff", b"tfttt", b"aarff", b"tfttt", b"rrrff",
+        ],
+    ),
+    (
+        SEVEN,
+        &[
+            b"ttttt", b"rrfff", b"rrrff", b"rrrff", b"fffff", b"rrrrr", b"rrfff", b"rrrrr",
+            b"rrrrr", b"rrrrr", b"rrrrr", b"rrrrr", b"rrrrr", b"rrrrr", b"fffff", b"rrrrr",
+            b"rrfff", b"rrrrr", b"rrrrr", b"rrrrr", b"rrrrr", b"rrrrr", b"rrrrr", b"rrrrr",
+        ],
+    ),
 ];
 
-/// The manifest, of which a record has another byte at a place.
-fn changed(alloc: Global, record: usize, place: usize, byte: u8) -> Result<Vec<u8>, Fault> {
-    let mut manifest = Vec::new(alloc);
-    for (number, bytes) in RECORDS.iter().enumerate() {
-        let mut bytes = Vec::from_slice(alloc, bytes)?;
-        if number == record {
-            if let Some(old) = bytes.get_mut(place) {
-                *old = byte;
-            }
-        }
-        manifest = logrec::append(alloc, &manifest, &bytes)?;
+/// Bytes, of which the one at a place is another one.
+fn changed(alloc: Global, bytes: &[u8], place: usize, byte: u8) -> Result<Vec<u8>, Fault> {
+    let mut bytes = Vec::from_slice(alloc, bytes)?;
+    if let Some(old) = bytes.get_mut(place) {
+        *old = byte;
     }
-    Ok(manifest)
+    Ok(bytes)
+}
+
+/// How a folder is refused of whose manifest a record is another one.
+fn refused_with(alloc: Global, record: usize, other: &[u8]) -> Option<FaultName> {
+    refusal(match record {
+        0 => opened_of(alloc, &[other, NUMBERS, SEVEN]),
+        1 => opened_of(alloc, &[BYTEWISE, other, SEVEN]),
+        _ => opened_of(alloc, &[BYTEWISE, NUMBERS, other]),
+    })
 }
 
 /// The refusal that a letter stands for.
@@ -93,33 +107,36 @@ fn refusal_of(letter: u8) -> Option<FaultName> {
     }
 }
 
-/// The first of the bytes that is answered otherwise where it stands at a place of a record.
-fn wrong_change(
+/// How a folder is refused of whose manifest a record has another byte at a place.
+fn refused_at(
     alloc: Global,
-    record: usize,
+    (record, bytes): (usize, &[u8]),
     place: usize,
-    answers: &[u8; 5],
-) -> Result<Option<u8>, Fault> {
-    for (byte, answer) in CHANGES.iter().zip(answers.iter()) {
-        let manifest = changed(alloc, record, place, *byte)?;
-        if refused(alloc, FIVE_CURRENT, &manifest) != refusal_of(*answer) {
-            return Ok(Some(*byte));
-        }
-    }
-    Ok(None)
+    byte: u8,
+) -> Result<Option<FaultName>, Fault> {
+    let other = changed(alloc, bytes, place, byte)?;
+    Ok(refused_with(alloc, record, &other))
 }
 
-/// Tests that no byte is answered otherwise at a place of a record.
-fn is_none(rt: &impl Abort, wrong: Option<u8>, record: usize, place: usize) {
-    assert_eq!(rt; wrong, None, "{record} {place}");
+/// Tests what is answered where each of the bytes stands at a place of a record.
+fn are_answered(
+    rt: &(impl Abort + AllocGlobal),
+    record: (usize, &[u8]),
+    place: usize,
+    answers: &[u8; 5],
+) -> Result<(), Fault> {
+    for (byte, letter) in CHANGES.iter().zip(answers.iter()) {
+        let found = refused_at(rt.alloc(), record, place, *byte)?;
+        is_refusal(rt, found, refusal_of(*letter), place);
+    }
+    Ok(())
 }
 
 #[test]
 fn a_byte_of_a_record_is_changed(rt: HostRuntime) -> Result<(), Fail> {
-    for (record, places) in ANSWERS.iter().enumerate() {
+    for (record, (bytes, places)) in ANSWERS.iter().enumerate() {
         for (place, answers) in places.iter().enumerate() {
-            let wrong = wrong_change(rt.alloc(), record, place, *answers)?;
-            is_none(&rt, wrong, record, place);
+            are_answered(&rt, (record, bytes), place, answers)?;
         }
     }
     Ok(())
@@ -135,31 +152,35 @@ fn answer_unmended(place: usize, byte: u8) -> Option<FaultName> {
     }
 }
 
-/// The first of the bytes that is answered otherwise where it stands at a place of the manifest.
-fn wrong_byte(alloc: Global, manifest: &[u8], place: usize) -> Result<Option<u8>, Fault> {
+/// Tests what is answered where each of the bytes stands at a place of the manifest.
+fn are_unmended(
+    rt: &(impl Abort + AllocGlobal),
+    manifest: &[u8],
+    place: usize,
+) -> Result<(), Fault> {
     for byte in CHANGES {
-        let mut bytes = Vec::from_slice(alloc, manifest)?;
-        if let Some(old) = bytes.get_mut(place) {
-            *old = byte;
-        }
-        let want = if bytes.as_slice() == manifest {
+        let other = changed(rt.alloc(), manifest, place, byte)?;
+        let wanted = if other.as_slice() == manifest {
             None
         } else {
             answer_unmended(place, byte)
         };
-        if refused(alloc, FIVE_CURRENT, &bytes) != want {
-            return Ok(Some(byte));
-        }
+        let found = refused(rt.alloc(), FIVE_CURRENT, &other);
+        is_refusal(rt, found, wanted, place);
     }
-    Ok(None)
+    Ok(())
+}
+
+/// Tests this of each place of a manifest.
+fn are_all_unmended(rt: &(impl Abort + AllocGlobal), manifest: &[u8]) -> Result<(), Fault> {
+    for place in 0..manifest.len() {
+        are_unmended(rt, manifest, place)?;
+    }
+    Ok(())
 }
 
 #[test]
 fn a_byte_of_a_manifest_is_changed(rt: HostRuntime) -> Result<(), Fail> {
-    let manifest = log_of(rt.alloc(), &RECORDS)?;
-    for place in 0..manifest.len() {
-        let wrong = wrong_byte(rt.alloc(), &manifest, place)?;
-        is_none(&rt, wrong, 0, place);
-    }
+    are_all_unmended(&rt, &log_of(rt.alloc(), &RECORDS)?)?;
     Ok(())
 }

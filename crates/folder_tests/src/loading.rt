@@ -59,26 +59,35 @@ pub(crate) fn loads<C: Comparator, F: Folder>(
     folder: &mut F,
     version: &Version,
     wanted: &[(u64, &[u8])],
-) -> Result<bool, Fault> {
-    Ok(are(&load::<C, F>(alloc, folder, version)?, wanted))
+) -> bool {
+    match load::<C, F>(alloc, folder, version) {
+        Ok(tables) => are(&tables, wanted),
+        Err(_) => false,
+    }
+}
+
+/// Whether the three tables are loaded.
+fn loads_three(alloc: Global) -> bool {
+    match round(alloc) {
+        Ok(tables) => are(&tables, &LOADED),
+        Err(_) => false,
+    }
 }
 
 #[test]
-fn tables_are_loaded(rt: HostRuntime) -> Result<(), Fail> {
-    assert!(rt; are(&round(rt.alloc())?, &LOADED));
-    Ok(())
+fn tables_are_loaded(rt: HostRuntime) {
+    assert!(rt; loads_three(rt.alloc()));
 }
 
-/// Whether a version without files has no table in a folder.
-fn loads_none(alloc: Global, folder: &mut Shelf<'_>) -> Result<bool, Fault> {
-    loads::<Bytewise, _>(alloc, folder, &Version::empty(alloc), &[])
+/// Whether a version without files has no table, and its folder is asked for nothing.
+fn loads_none(alloc: Global) -> bool {
+    let mut folder = Shelf::new(alloc, &[]);
+    loads::<Bytewise, _>(alloc, &mut folder, &Version::empty(alloc), &[]) && folder.calls() == 0
 }
 
 #[test]
 fn a_version_without_files_has_no_table(rt: HostRuntime) {
-    let mut folder = Shelf::new(rt.alloc(), &[]);
-    assert!(rt; loads_none(rt.alloc(), &mut folder) == Ok(true));
-    assert!(rt; folder.calls() == 0);
+    assert!(rt; loads_none(rt.alloc()));
 }
 
 /// How the tables are refused of a folder of these files.
@@ -109,41 +118,54 @@ fn answer_failing(
     (answer, folder.failures(), folder.calls())
 }
 
-/// Tests what is answered of these files where a call fails.
-fn answers_failing(
+/// Files, a call that fails, and what is answered.
+type Row = (
+    &'static [(&'static str, &'static [u8])],
+    u64,
+    FolderFault,
+    Answer,
+);
+
+const DEVICE: FolderFault = FolderFault::Device;
+
+const MEMORY: FolderFault = FolderFault::Memory;
+
+/// One call is made for number 8, two are for number 3 and one for number 5.
+const FAILING: &[Row] = &[
+    (&TABLES, 1, DEVICE, (Some(FaultName::Device), 1, 1)),
+    (&TABLES, 2, DEVICE, (Some(FaultName::Device), 1, 2)),
+    (&TABLES, 3, DEVICE, (Some(FaultName::Device), 1, 3)),
+    (&TABLES, 4, DEVICE, (Some(FaultName::Device), 1, 4)),
+    (&TABLES, 1, MEMORY, (Some(FaultName::Memory), 0, 1)),
+    (&TABLES, 2, MEMORY, (Some(FaultName::Memory), 0, 2)),
+    (&TABLES, 3, MEMORY, (Some(FaultName::Memory), 0, 3)),
+    (&TABLES, 4, MEMORY, (Some(FaultName::Memory), 0, 4)),
+    // A call that isn't made doesn't fail.
+    (&TABLES, 5, DEVICE, (None, 0, 4)),
+    // The first table that isn't there comes before a later call.
+    (&[], 3, DEVICE, (Some(FaultName::Missing), 0, 2)),
+];
+
+/// Tests what is answered of a row.
+fn is_answered(
     rt: &(impl Abort + AllocGlobal),
-    files: &[(&str, &[u8])],
-    failing: Failing,
-    wanted: Answer,
-) -> Result<(), Fault> {
-    let version = three_files(rt.alloc())?;
-    is_answer(
-        rt,
-        answer_failing(rt.alloc(), &version, files, failing),
-        wanted,
-    );
-    Ok(())
+    version: &Version,
+    (files, call, fault, wanted): Row,
+) {
+    let found = answer_failing(rt.alloc(), version, files, fails(call, fault));
+    is_answer(rt, found, wanted);
+}
+
+/// Tests what is answered of each row.
+fn are_answered(rt: &(impl Abort + AllocGlobal), version: &Version) {
+    for row in FAILING {
+        is_answered(rt, version, *row);
+    }
 }
 
 #[test]
 fn calls_that_fail(rt: HostRuntime) -> Result<(), Fail> {
-    // One call for number 8, two for number 3 and one for number 5.
-    for call in 1..5 {
-        let device = (Some(FaultName::Device), 1, call);
-        answers_failing(&rt, &TABLES, fails(call, FolderFault::Device), device)?;
-        let memory = (Some(FaultName::Memory), 0, call);
-        answers_failing(&rt, &TABLES, fails(call, FolderFault::Memory), memory)?;
-    }
-    Ok(())
-}
-
-#[test]
-fn a_call_that_is_not_made_does_not_fail(rt: HostRuntime) -> Result<(), Fail> {
-    let device = FolderFault::Device;
-    answers_failing(&rt, &TABLES, fails(5, device), (None, 0, 4))?;
-    // The first table that isn't there comes before a later call.
-    let missing = (Some(FaultName::Missing), 0, 2);
-    answers_failing(&rt, &[], fails(3, device), missing)?;
+    are_answered(&rt, &three_files(rt.alloc())?);
     Ok(())
 }
 

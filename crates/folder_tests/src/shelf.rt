@@ -36,7 +36,10 @@ pub(crate) fn fails(call: u64, fault: FolderFault) -> Failing {
 
 /// The number of the manifest that CURRENT names by this text, or the refusal.
 fn named(alloc: Global, text: &str) -> Result<u64, FaultName> {
-    number_in_current(alloc, text.as_bytes()).map_err(|fault| fault.name)
+    match number_in_current(alloc, text.as_bytes()) {
+        Ok(number) => Ok(number),
+        Err(fault) => Err(fault.name),
+    }
 }
 
 /// Texts of CURRENT, and the numbers that they name.
@@ -62,18 +65,20 @@ fn names_of_manifests(rt: HostRuntime) {
     }
 }
 
-/// Tests that a name is this.
-fn is_name(rt: &impl Abort, name: Result<String, Fault>, wanted: &str) -> Result<(), Fault> {
-    assert_eq!(rt; name?.as_str(), wanted);
-    Ok(())
+/// Whether a name is this.
+fn is_name(name: Result<String, Fault>, wanted: &str) -> bool {
+    match name {
+        Ok(name) => name.as_str() == wanted,
+        Err(_) => false,
+    }
 }
 
 #[test]
-fn names_of_other_files(rt: HostRuntime) -> Result<(), Fail> {
-    is_name(&rt, table_name(rt.alloc(), 9), "000009.ldb")?;
-    is_name(&rt, old_table_name(rt.alloc(), 1_234_567), "1234567.sst")?;
-    is_name(&rt, temporary_name(rt.alloc(), 9), "000009.dbtmp")?;
-    Ok(())
+fn names_of_other_files(rt: HostRuntime) {
+    let alloc = rt.alloc();
+    assert!(rt; is_name(table_name(alloc, 9), "000009.ldb"));
+    assert!(rt; is_name(old_table_name(alloc, 1_234_567), "1234567.sst"));
+    assert!(rt; is_name(temporary_name(alloc, 9), "000009.dbtmp"));
 }
 
 /// Tests the fault that a folder's fault is.
@@ -87,14 +92,12 @@ fn faults_of_folders(rt: HostRuntime) {
     is_fault(&rt, FolderFault::Memory, FaultName::Memory);
 }
 
-/// A folder of the system that is made for a test.
-pub(crate) fn new_folder(rt: &HostRuntime, name: &str) -> Result<String, Fail> {
+/// The path of a folder of the system that a test makes.
+pub(crate) fn new_path(rt: &HostRuntime, name: &str) -> Result<String, Fail> {
     let id = process::id(rt.process());
     let base = env::temp_dir(rt)?;
     let base = base.as_str();
-    let path = format!(in rt.alloc(); "{base}/sedvokt-{name}-{id}")?;
-    fs::create_dir(rt, path.as_str())?;
-    Ok(path)
+    Ok(format!(in rt.alloc(); "{base}/sedvokt-{name}-{id}")?)
 }
 
 /// Takes a folder of the system away.
@@ -102,42 +105,43 @@ pub(crate) fn remove<R: Files + AllocGlobal>(rt: &R, path: &str) -> Result<(), F
     Ok(fs::remove_dir_all(rt, path)?)
 }
 
-/// Makes a file twice, and gives it the name CURRENT.
-fn made_and_renamed(disk: &mut impl Folder) -> Result<(), FolderFault> {
-    disk.create("1", b"a longer text")?;
-    disk.create("1", b"text")?;
-    disk.sync("1")?;
-    disk.rename("1", "CURRENT")?;
-    disk.sync_folder()
+/// Makes a file twice, gives it the name CURRENT, and answers whether that was done.
+fn is_made_and_renamed(disk: &mut impl Folder) -> bool {
+    disk.create("1", b"a longer text").is_ok()
+        && disk.create("1", b"text").is_ok()
+        && disk.sync("1").is_ok()
+        && disk.rename("1", "CURRENT").is_ok()
+        && disk.sync_folder().is_ok()
 }
 
 /// Whether a file has these bytes, and None stands for no file.
-pub(crate) fn has(
-    disk: &mut impl Folder,
-    name: &str,
-    wanted: Option<&[u8]>,
-) -> Result<bool, FolderFault> {
-    let held = disk.read(name)?;
-    Ok(match &held {
-        Some(bytes) => wanted == Some(bytes.as_slice()),
-        None => wanted.is_none(),
-    })
+pub(crate) fn has(disk: &mut impl Folder, name: &str, wanted: Option<&[u8]>) -> bool {
+    match disk.read(name) {
+        Ok(Some(bytes)) => wanted == Some(bytes.as_slice()),
+        Ok(None) => wanted.is_none(),
+        Err(_) => false,
+    }
 }
 
 /// Whether a file that is made has its other name then, and that alone.
-fn gets_its_name(disk: &mut impl Folder) -> Result<bool, FolderFault> {
-    let was_none = has(disk, "CURRENT", None)?;
-    made_and_renamed(disk)?;
-    let is_none = has(disk, "1", None)?;
-    let is_renamed = has(disk, "CURRENT", Some(b"text"))?;
-    Ok(was_none && is_none && is_renamed && disk.failures() == 0)
+fn gets_its_name(disk: &mut impl Folder) -> bool {
+    has(disk, "CURRENT", None)
+        && is_made_and_renamed(disk)
+        && has(disk, "1", None)
+        && has(disk, "CURRENT", Some(b"text"))
+        && disk.failures() == 0
+}
+
+/// Tests this in a folder that is made for it, and taken away then.
+fn is_named_in<R: Files + AllocGlobal + Abort>(rt: &R, path: &str) -> Result<(), Fail> {
+    fs::create_dir(rt, path)?;
+    assert!(rt; gets_its_name(&mut Disk::new(rt, path)));
+    remove(rt, path)
 }
 
 #[test]
 fn a_file_is_made_and_gets_another_name(rt: HostRuntime) -> Result<(), Fail> {
-    let path = new_folder(&rt, "made")?;
-    assert!(rt; gets_its_name(&mut Disk::new(&rt, path.as_str()))?);
-    remove(&rt, path.as_str())
+    is_named_in(&rt, new_path(&rt, "made")?.as_str())
 }
 
 /// Whether the system refuses calls on what is no file.
@@ -157,29 +161,31 @@ fn refuses_all(disk: &mut impl Folder) -> bool {
 }
 
 /// Whether the system's refusals are counted in a folder without files, which is taken away then.
-fn counts_refusals(rt: &HostRuntime, path: &str) -> Result<bool, Fail> {
+fn counts_refusals<R: Files + AllocGlobal>(rt: &R, path: &str) -> bool {
     let mut disk = Disk::new(rt, path);
-    let are_refused = refuses_names(&mut disk);
-    remove(rt, path)?;
-    Ok(are_refused && refuses_all(&mut disk))
+    refuses_names(&mut disk) && fs::remove_dir_all(rt, path).is_ok() && refuses_all(&mut disk)
+}
+
+/// Tests this in a folder that is made for it.
+fn are_counted<R: Files + AllocGlobal + Abort>(rt: &R, path: &str) -> Result<(), Fail> {
+    fs::create_dir(rt, path)?;
+    assert!(rt; counts_refusals(rt, path));
+    Ok(())
 }
 
 #[test]
 fn what_the_system_refuses_is_counted(rt: HostRuntime) -> Result<(), Fail> {
-    let path = new_folder(&rt, "refused")?;
-    assert!(rt; counts_refusals(&rt, path.as_str())?);
-    Ok(())
+    are_counted(&rt, new_path(&rt, "refused")?.as_str())
 }
 
 /// Whether a file isn't there, and no call fails.
-fn lacks(disk: &mut impl Folder, name: &str) -> Result<bool, FolderFault> {
-    let is_none = has(disk, name, None)?;
-    Ok(is_none && disk.failures() == 0)
+fn lacks(disk: &mut impl Folder, name: &str) -> bool {
+    has(disk, name, None) && disk.failures() == 0
 }
 
 #[test]
 fn no_folder_has_the_empty_path(rt: HostRuntime) {
-    assert!(rt; lacks(&mut Disk::new(&rt, ""), "tmp") == Ok(true));
+    assert!(rt; lacks(&mut Disk::new(&rt, ""), "tmp"));
 }
 
 /// Whether a folder in memory holds this under a name.
@@ -191,44 +197,57 @@ fn holds(shelf: &Shelf<'_>, name: &str, wanted: Option<&[u8]>) -> bool {
 const FILES: [(&str, &[u8]); 3] = [("1", b"one"), ("2", b"two"), ("1", b"another")];
 
 /// Whether a file that is made takes the name of another one.
-fn takes_a_name(shelf: &mut Shelf<'_>) -> Result<bool, FolderFault> {
-    let is_first = holds(shelf, "1", Some(b"one")) && holds(shelf, "3", None);
-    shelf.create("3", b"three")?;
-    shelf.rename("3", "1")?;
-    Ok(is_first && holds(shelf, "1", Some(b"three")) && holds(shelf, "3", None))
+fn takes_a_name(shelf: &mut Shelf<'_>) -> bool {
+    holds(shelf, "1", Some(b"one"))
+        && holds(shelf, "3", None)
+        && shelf.create("3", b"three").is_ok()
+        && shelf.rename("3", "1").is_ok()
+        && holds(shelf, "1", Some(b"three"))
+        && holds(shelf, "3", None)
 }
 
 /// Whether a file that isn't there takes the other name's file away, and a file may be empty.
-fn loses_a_name(shelf: &mut Shelf<'_>) -> Result<bool, FolderFault> {
-    shelf.rename("3", "2")?;
-    let is_gone = holds(shelf, "2", None);
-    shelf.create("1", b"")?;
-    Ok(is_gone && holds(shelf, "1", Some(b"")))
+fn loses_a_name(shelf: &mut Shelf<'_>) -> bool {
+    shelf.rename("3", "2").is_ok()
+        && holds(shelf, "2", None)
+        && shelf.create("1", b"").is_ok()
+        && holds(shelf, "1", Some(b""))
 }
 
 /// Whether six calls have been made when both calls were that change nothing of what is held.
-fn counts_six(shelf: &mut Shelf<'_>) -> Result<bool, FolderFault> {
-    shelf.sync("1")?;
-    shelf.sync_folder()?;
-    Ok(shelf.calls() == 6 && shelf.steps().len() == 6 && shelf.failures() == 0)
+fn counts_six(shelf: &mut Shelf<'_>) -> bool {
+    shelf.sync("1").is_ok()
+        && shelf.sync_folder().is_ok()
+        && shelf.calls() == 6
+        && shelf.steps().len() == 6
+        && shelf.failures() == 0
+}
+
+/// Whether all of this is so of a folder in memory of those files.
+fn holds_what_was_written(alloc: Global) -> bool {
+    let mut shelf = Shelf::new(alloc, &FILES);
+    takes_a_name(&mut shelf) && loses_a_name(&mut shelf) && counts_six(&mut shelf)
 }
 
 #[test]
 fn a_shelf_holds_what_was_written(rt: HostRuntime) {
-    let mut shelf = Shelf::new(rt.alloc(), &FILES);
-    assert!(rt; takes_a_name(&mut shelf) == Ok(true));
-    assert!(rt; loses_a_name(&mut shelf) == Ok(true));
-    assert!(rt; counts_six(&mut shelf) == Ok(true));
+    assert!(rt; holds_what_was_written(rt.alloc()));
+}
+
+/// Whether a call that fails leaves this of file 1.
+fn leaves(shelf: &mut Shelf<'_>, held: &[u8]) -> bool {
+    shelf.create("1", b"three") == Err(FolderFault::Device)
+        && shelf.failures() == 1
+        && holds(shelf, "1", Some(held))
 }
 
 /// Whether the second call fails, which leaves this of file 1, and the calls beside it are done.
-fn second_fails(shelf: &mut Shelf<'_>, held: &[u8]) -> Result<bool, FolderFault> {
-    shelf.sync("1")?;
-    let is_refused = shelf.create("1", b"three") == Err(FolderFault::Device);
-    let is_left = shelf.failures() == 1 && holds(shelf, "1", Some(held));
-    shelf.create("1", b"four")?;
-    let is_done = shelf.failures() == 1 && holds(shelf, "1", Some(b"four"));
-    Ok(is_refused && is_left && is_done)
+fn second_fails(shelf: &mut Shelf<'_>, held: &[u8]) -> bool {
+    shelf.sync("1").is_ok()
+        && leaves(shelf, held)
+        && shelf.create("1", b"four").is_ok()
+        && shelf.failures() == 1
+        && holds(shelf, "1", Some(b"four"))
 }
 
 /// Whether of three calls the second was not done, and shows so.
@@ -242,27 +261,18 @@ fn are_steps(steps: &[ShelfStep], is_shown: bool) -> bool {
     steps.len() == 3
 }
 
-/// A folder in memory of these files, whose second call fails.
-fn failing_second<'x>(
-    alloc: Global,
-    files: &'x [(&'x str, &'x [u8])],
-    is_half_done: bool,
-) -> Shelf<'x> {
-    Shelf::new(alloc, files).failing(Failing {
+/// Whether that is so of a folder in memory of the first file, whose second call fails.
+fn is_half_done(alloc: Global, is_half_done: bool, held: &[u8]) -> bool {
+    let mut shelf = Shelf::new(alloc, &FILES[..1]).failing(Failing {
         call: 2,
         fault: FolderFault::Device,
         is_half_done,
-    })
+    });
+    second_fails(&mut shelf, held) && are_steps(shelf.steps(), is_half_done)
 }
-
-/// How a call is done that fails, and what it leaves of a file.
-const HALVES: [(bool, &[u8]); 2] = [(false, b"one"), (true, b"th")];
 
 #[test]
 fn a_call_of_a_shelf_fails(rt: HostRuntime) {
-    for (is_half_done, held) in &HALVES {
-        let mut shelf = failing_second(rt.alloc(), &FILES[..1], *is_half_done);
-        assert!(rt; second_fails(&mut shelf, held) == Ok(true));
-        assert!(rt; are_steps(shelf.steps(), *is_half_done));
-    }
+    assert!(rt; is_half_done(rt.alloc(), false, b"one"));
+    assert!(rt; is_half_done(rt.alloc(), true, b"th"));
 }

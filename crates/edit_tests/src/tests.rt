@@ -87,13 +87,20 @@ fn numbers_in(alloc: Global, bytes: &[u8]) -> Result<Numbers, Fault> {
     ])
 }
 
-/// Whether the edit of these bytes names this comparator.
-fn is_named(alloc: Global, bytes: &[u8], wanted: Option<&str>) -> Result<bool, Fault> {
-    let edit = VersionEdit::decode(alloc, bytes)?;
-    Ok(match &edit.comparator {
+/// Whether an edit names this comparator.
+fn has_comparator(edit: &VersionEdit, wanted: Option<&str>) -> bool {
+    match &edit.comparator {
         Some(name) => wanted == Some(name.as_str()),
         None => wanted.is_none(),
-    })
+    }
+}
+
+/// Whether that of these bytes does.
+fn is_named(alloc: Global, bytes: &[u8], wanted: Option<&str>) -> bool {
+    match VersionEdit::decode(alloc, bytes) {
+        Ok(edit) => has_comparator(&edit, wanted),
+        Err(_) => false,
+    }
 }
 
 /// Whether an edit has the one compact pointer of `REPLACING`: at level 1, with a key at sequence 2.
@@ -129,21 +136,32 @@ fn are_nine(added: &[NewFile]) -> bool {
     }
 }
 
-/// Whether `REPLACING` has that pointer, and takes out and puts in those files alone.
-fn replaces(alloc: Global) -> Result<bool, Fault> {
-    let edit = VersionEdit::decode(alloc, REPLACING)?;
+/// Whether an edit has that pointer, and takes out and puts in those files alone.
+fn has_fields(edit: &VersionEdit) -> bool {
     let takes_out = edit.deleted.len() == 1 && edit.deleted.contains(&SEVEN);
-    Ok(has_pointer(&edit) && takes_out && are_nine(&edit.added))
+    has_pointer(edit) && takes_out && are_nine(&edit.added)
+}
+
+/// Whether `REPLACING` does.
+fn replaces(alloc: Global) -> bool {
+    match VersionEdit::decode(alloc, REPLACING) {
+        Ok(edit) => has_fields(&edit),
+        Err(_) => false,
+    }
 }
 
 #[test]
 fn fields_of_an_edit(rt: HostRuntime) -> Result<(), Fail> {
     let numbers = [Some(3), Some(0), Some(10), Some(4)];
     are_numbers(&rt, &numbers_in(rt.alloc(), REPLACING)?, &numbers);
-    assert!(rt; replaces(rt.alloc())?);
-    assert!(rt; is_named(rt.alloc(), REPLACING, None)?);
-    assert!(rt; is_named(rt.alloc(), COMPACTED, Some("leveldb.BytewiseComparator"))?);
+    assert!(rt; replaces(rt.alloc()));
     Ok(())
+}
+
+#[test]
+fn comparators_that_are_named(rt: HostRuntime) {
+    assert!(rt; is_named(rt.alloc(), REPLACING, None));
+    assert!(rt; is_named(rt.alloc(), COMPACTED, Some("leveldb.BytewiseComparator")));
 }
 
 #[test]
@@ -256,11 +274,15 @@ fn numbers_of(version: &Version) -> Numbers {
     ]
 }
 
+/// Those of the second database.
+fn numbers_mixed(alloc: Global) -> Result<Numbers, Fault> {
+    Ok(numbers_of(&version_of_two(alloc, MIXED, MIXED_NEXT)?))
+}
+
 #[test]
 fn numbers_of_a_version(rt: HostRuntime) -> Result<(), Fail> {
-    let version = version_of_two(rt.alloc(), MIXED, MIXED_NEXT)?;
     let numbers = [Some(26), Some(0), Some(27), Some(1200)];
-    are_numbers(&rt, &numbers_of(&version), &numbers);
+    are_numbers(&rt, &numbers_mixed(rt.alloc())?, &numbers);
     Ok(())
 }
 
@@ -274,12 +296,17 @@ fn is_pointed(version: &Version, level: u64, user: &[u8]) -> bool
     }
 }
 
+/// Whether the second database has a compact pointer at level 0 alone of the two levels that have files.
+fn are_pointers_mixed(alloc: Global) -> bool {
+    match version_of_two(alloc, MIXED, MIXED_NEXT) {
+        Ok(version) => is_pointed(&version, 0, b"k00399") && version.pointer(1).is_none(),
+        Err(_) => false,
+    }
+}
+
 #[test]
-fn pointers_of_a_version(rt: HostRuntime) -> Result<(), Fail> {
-    let version = version_of_two(rt.alloc(), MIXED, MIXED_NEXT)?;
-    assert!(rt; is_pointed(&version, 0, b"k00399"));
-    assert!(rt; version.pointer(1).is_none());
-    Ok(())
+fn pointers_of_a_version(rt: HostRuntime) {
+    assert!(rt; are_pointers_mixed(rt.alloc()));
 }
 
 /// The number and size of each file of a level, in version order.
@@ -314,19 +341,24 @@ fn sizes_mixed(level: u64) -> &'static [(u64, u64)] {
     }
 }
 
-/// Tests that the files of each level are these.
-fn are_mixed(rt: &(impl Abort + AllocGlobal), version: &Version) -> Result<(), Fault> {
+/// Whether the files of each level are these.
+fn are_mixed(alloc: Global, version: &Version) -> Result<bool, Fault> {
     for level in 0..7 {
-        assert!(rt; are_sizes(rt.alloc(), version, level, sizes_mixed(level))?);
+        if !are_sizes(alloc, version, level, sizes_mixed(level))? {
+            return Ok(false);
+        }
     }
-    Ok(())
+    Ok(true)
+}
+
+/// Whether those of the second database are.
+fn has_mixed(alloc: Global) -> Result<bool, Fault> {
+    are_mixed(alloc, &version_of_two(alloc, MIXED, MIXED_NEXT)?)
 }
 
 #[test]
-fn files_of_a_version(rt: HostRuntime) -> Result<(), Fail> {
-    let version = version_of_two(rt.alloc(), MIXED, MIXED_NEXT)?;
-    are_mixed(&rt, &version)?;
-    Ok(())
+fn files_of_a_version(rt: HostRuntime) {
+    assert!(rt; has_mixed(rt.alloc()) == Ok(true));
 }
 
 /// The bytes of the snapshot edit of a version.
@@ -381,24 +413,17 @@ fn two_files(alloc: Global) -> Result<Version, Fault> {
 }
 
 /// How the edit of these bytes is refused over a version that stays.
-fn refused_beside(
-    alloc: Global,
-    version: &Version,
-    bytes: &[u8],
-) -> Result<Option<FaultName>, Fault> {
-    let edit = VersionEdit::decode(alloc, bytes)?;
-    Ok(refusal(version.apply::<Shortlex>(alloc, &edit)))
-}
-
-/// How it is refused over a version that it uses up.
-fn refused_over(alloc: Global, version: Version, bytes: &[u8]) -> Result<Option<FaultName>, Fault> {
-    let edit = VersionEdit::decode(alloc, bytes)?;
-    Ok(refusal(version.applied::<Shortlex>(edit)))
+fn refused_beside(alloc: Global, version: &Version, bytes: &[u8]) -> Option<FaultName> {
+    match VersionEdit::decode(alloc, bytes) {
+        Ok(edit) => refusal(version.apply::<Shortlex>(alloc, &edit)),
+        Err(fault) => Some(fault.name),
+    }
 }
 
 /// How it is refused over the version of the two files, which it uses up.
-fn refused_over_two(alloc: Global, bytes: &[u8]) -> Result<Option<FaultName>, Fault> {
-    refused_over(alloc, two_files(alloc)?, bytes)
+fn refused_over(alloc: Global, bytes: &[u8]) -> Result<Option<FaultName>, Fault> {
+    let edit = VersionEdit::decode(alloc, bytes)?;
+    Ok(refusal(two_files(alloc)?.applied::<Shortlex>(edit)))
 }
 
 /// Edits, and how they are refused over the version of the two files.
@@ -418,16 +443,15 @@ const OVER_TWO_FILES: [(&[u8], Option<FaultName>); 7] = [
 /// Tests how edits are refused over the version of the two files.
 fn are_refused(rt: &(impl Abort + AllocGlobal), version: &Version) -> Result<(), Fault> {
     for (bytes, want) in OVER_TWO_FILES {
-        is_refusal(rt, refused_beside(rt.alloc(), version, bytes)?, want);
-        is_refusal(rt, refused_over_two(rt.alloc(), bytes)?, want);
+        is_refusal(rt, refused_beside(rt.alloc(), version, bytes), want);
+        is_refusal(rt, refused_over(rt.alloc(), bytes)?, want);
     }
     Ok(())
 }
 
 #[test]
 fn edits_that_do_not_fit(rt: HostRuntime) -> Result<(), Fail> {
-    let version = two_files(rt.alloc())?;
-    are_refused(&rt, &version)?;
+    are_refused(&rt, &two_files(rt.alloc())?)?;
     Ok(())
 }
 
@@ -461,19 +485,24 @@ fn files_moved(level: u64) -> &'static [First] {
     }
 }
 
-/// Tests that the files of each level are these.
-fn are_moved(rt: &(impl Abort + AllocGlobal), version: &Version) -> Result<(), Fault> {
+/// Whether the files of each level are these.
+fn are_moved(alloc: Global, version: &Version) -> Result<bool, Fault> {
     for level in 0..7 {
-        assert!(rt; are_files(rt.alloc(), version, level, files_moved(level))?);
+        if !are_files(alloc, version, level, files_moved(level))? {
+            return Ok(false);
+        }
     }
-    Ok(())
+    Ok(true)
+}
+
+/// Whether they are where number 7 goes there.
+fn goes_there(alloc: Global) -> Result<bool, Fault> {
+    are_moved(alloc, &version_of_two(alloc, TWO_FILES, SEVEN_MOVED)?)
 }
 
 #[test]
-fn a_file_goes_to_another_level(rt: HostRuntime) -> Result<(), Fail> {
-    let version = version_of_two(rt.alloc(), TWO_FILES, SEVEN_MOVED)?;
-    are_moved(&rt, &version)?;
-    Ok(())
+fn a_file_goes_to_another_level(rt: HostRuntime) {
+    assert!(rt; goes_there(rt.alloc()) == Ok(true));
 }
 
 /// The odd numbers below 35, and the even ones, falling. They are so many that they go into a version together.
@@ -569,12 +598,20 @@ fn files_are_taken_out_of_many(rt: HostRuntime) -> Result<(), Fail> {
     Ok(())
 }
 
+/// Two compact pointers of level 3.
+const TWO_POINTERS: &[u8] = b"\x05\x03\x09a\x01\x01\0\0\0\0\0\0\x05\x03\x09b\x01\x01\0\0\0\0\0\0";
+
+/// Whether the version that has both has the later one.
+fn has_the_later(alloc: Global) -> bool {
+    match next_version(alloc, &Version::empty(alloc), TWO_POINTERS) {
+        Ok(version) => is_pointed(&version, 3, b"b"),
+        Err(_) => false,
+    }
+}
+
 #[test]
-fn the_later_of_two_pointers_counts(rt: HostRuntime) -> Result<(), Fail> {
-    let bytes = b"\x05\x03\x09a\x01\x01\0\0\0\0\0\0\x05\x03\x09b\x01\x01\0\0\0\0\0\0";
-    let version = next_version(rt.alloc(), &Version::empty(rt.alloc()), bytes)?;
-    assert!(rt; is_pointed(&version, 3, b"b"));
-    Ok(())
+fn the_later_of_two_pointers_counts(rt: HostRuntime) {
+    assert!(rt; has_the_later(rt.alloc()));
 }
 
 #[test]

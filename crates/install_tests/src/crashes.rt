@@ -5,10 +5,10 @@ use folder::{ShelfCall, ShelfStep};
 use std::alloc::Global;
 
 /// A file, and whether it was synced since it got its bytes.
-#[derive(Drop)]
-pub(crate) struct Sheet {
-    name: String,
-    bytes: Vec<u8>,
+#[derive(Clone, Copy, Drop)]
+pub(crate) struct Sheet<'x> {
+    name: &'x str,
+    bytes: &'x [u8],
     is_synced: bool,
 }
 
@@ -46,111 +46,114 @@ fn garbage(bytes: &[u8], picked: u64) -> Option<&[u8]> {
 }
 
 /// Takes a file out.
-fn take_out(files: &mut Vec<Sheet>, name: &str) -> Option<Sheet> {
-    let place = files.iter().position(|file| file.name.as_str() == name)?;
+fn take_out<'x>(files: &mut Vec<Sheet<'x>>, name: &str) -> Option<Sheet<'x>> {
+    let place = files.iter().position(|file| file.name == name)?;
     Some(files.remove(place))
 }
 
-/// A file of these bytes.
-fn make_sheet(alloc: Global, name: &str, bytes: &[u8], is_synced: bool) -> Result<Sheet, Fault> {
-    let name = String::from_str(alloc, name)?;
-    let bytes = Vec::from_slice(alloc, bytes)?;
-    Ok(Sheet {
-        name,
-        bytes,
-        is_synced,
-    })
-}
-
 /// Puts in what is held under a name, in place of what was.
-fn put(
-    alloc: Global,
-    files: &mut Vec<Sheet>,
-    name: &str,
-    held: Option<&[u8]>,
-) -> Result<(), Fault> {
+fn put<'x>(files: &mut Vec<Sheet<'x>>, name: &'x str, held: Option<&'x [u8]>) -> Result<(), Fault> {
     take_out(files, name);
     if let Some(bytes) = held {
-        files.push(make_sheet(alloc, name, bytes, false)?)?;
+        files.push(Sheet {
+            name,
+            bytes,
+            is_synced: false,
+        })?;
     }
     Ok(())
 }
 
 /// Gives what is held under a name another name.
-fn change_name(alloc: Global, files: &mut Vec<Sheet>, from: &str, to: &str) -> Result<(), Fault> {
+fn change_name<'x>(files: &mut Vec<Sheet<'x>>, from: &str, to: &'x str) -> Result<(), Fault> {
     let moved = take_out(files, from);
     take_out(files, to);
-    if let Some(mut file) = moved {
-        file.name = String::from_str(alloc, to)?;
-        files.push(file)?;
+    if let Some(file) = moved {
+        files.push(Sheet { name: to, ..file })?;
+    }
+    Ok(())
+}
+
+/// Syncs a file.
+fn sync(files: &mut Vec<Sheet<'_>>, name: &str) -> Result<(), Fault> {
+    if let Some(file) = take_out(files, name) {
+        files.push(Sheet {
+            is_synced: true,
+            ..file
+        })?;
     }
     Ok(())
 }
 
 /// Makes a call on files.
-fn apply(alloc: Global, files: &mut Vec<Sheet>, call: &ShelfCall) -> Result<(), Fault> {
+fn apply<'x>(files: &mut Vec<Sheet<'x>>, call: &'x ShelfCall) -> Result<(), Fault> {
     match call {
-        ShelfCall::Create(name, bytes) => put(alloc, files, name.as_str(), Some(bytes)),
-        ShelfCall::Rename(from, to) => change_name(alloc, files, from.as_str(), to.as_str()),
-        ShelfCall::Sync(name) => {
-            if let Some(mut file) = take_out(files, name.as_str()) {
-                file.is_synced = true;
-                files.push(file)?;
-            }
-            Ok(())
-        }
+        ShelfCall::Create(name, bytes) => put(files, name.as_str(), Some(bytes)),
+        ShelfCall::Rename(from, to) => change_name(files, from.as_str(), to.as_str()),
+        ShelfCall::Sync(name) => sync(files, name.as_str()),
         ShelfCall::SyncFolder => Ok(()),
     }
 }
 
 /// Makes what a crash leaves of a call that no sync of the folder keeps.
-fn tear(
-    alloc: Global,
-    files: &mut Vec<Sheet>,
-    call: &ShelfCall,
+fn tear<'x>(
+    files: &mut Vec<Sheet<'x>>,
+    call: &'x ShelfCall,
     chooser: &mut Chooser,
 ) -> Result<(), Fault> {
     match call {
         ShelfCall::Create(name, bytes) => {
-            put(alloc, files, name.as_str(), garbage(bytes, chooser.five()))
+            put(files, name.as_str(), garbage(bytes, chooser.five()))
         }
         ShelfCall::Rename(from, to) if chooser.two() => {
-            change_name(alloc, files, from.as_str(), to.as_str())
+            change_name(files, from.as_str(), to.as_str())
         }
         _ => Ok(()),
     }
 }
 
 /// Files that were synced.
-fn synced(alloc: Global, files: &[(&str, &[u8])]) -> Result<Vec<Sheet>, Fault> {
+fn synced<'x>(alloc: Global, files: &[(&'x str, &'x [u8])]) -> Result<Vec<Sheet<'x>>, Fault> {
     let mut sheets = Vec::with_capacity(alloc, files.len())?;
     for (name, bytes) in files {
-        sheets.push(make_sheet(alloc, name, bytes, true)?)?;
+        sheets.push(Sheet {
+            name,
+            bytes,
+            is_synced: true,
+        })?;
     }
     Ok(sheets)
 }
 
 /// These files after the steps, the newest of which is first, where no crash comes.
-fn shown(alloc: Global, files: &[(&str, &[u8])], steps: &[ShelfStep]) -> Result<Vec<Sheet>, Fault> {
+fn shown<'x>(
+    alloc: Global,
+    files: &[(&'x str, &'x [u8])],
+    steps: &'x [ShelfStep],
+) -> Result<Vec<Sheet<'x>>, Fault> {
     let mut sheets = synced(alloc, files)?;
     for step in steps.iter().rev() {
         if step.is_shown {
-            apply(alloc, &mut sheets, &step.call)?;
+            apply(&mut sheets, &step.call)?;
         }
     }
     Ok(sheets)
 }
 
 /// What a sync of the folder keeps of these files.
-fn kept(alloc: Global, files: &[Sheet], chooser: &mut Chooser) -> Result<Vec<Sheet>, Fault> {
+fn kept<'x>(
+    alloc: Global,
+    files: &[Sheet<'x>],
+    chooser: &mut Chooser,
+) -> Result<Vec<Sheet<'x>>, Fault> {
     let mut kept = Vec::with_capacity(alloc, files.len())?;
     for file in files {
         let held = if file.is_synced {
-            Some(file.bytes.as_slice())
+            Some(file.bytes)
         } else {
-            garbage(&file.bytes, chooser.five())
+            garbage(file.bytes, chooser.five())
         };
-        put(alloc, &mut kept, file.name.as_str(), held)?;
+        put(&mut kept, file.name, held)?;
     }
     Ok(kept)
 }
@@ -200,21 +203,32 @@ fn is_torn(call: &ShelfCall) -> bool {
     matches!(call, ShelfCall::Create(_, _) | ShelfCall::Rename(_, _))
 }
 
+/// What a sync of the folder kept before the calls of a moment that a crash may tear.
+fn settled<'x>(
+    alloc: Global,
+    files: &[(&'x str, &'x [u8])],
+    moment: Moment<'x>,
+    chooser: &mut Chooser,
+) -> Result<Vec<Sheet<'x>>, Fault> {
+    // What was torn before the folder was synced is settled by that.
+    let (_newer, older) = moment.parts();
+    kept(alloc, &shown(alloc, files, older)?, chooser)
+}
+
 /// What a crash leaves at a moment, as the choice picks it. None where the choice is past the last.
 ///
 /// At first all that is there outlives a crash.
-pub(crate) fn crashed(
+pub(crate) fn crashed<'x>(
     alloc: Global,
-    files: &[(&str, &[u8])],
-    moment: Moment<'_>,
+    files: &[(&'x str, &'x [u8])],
+    moment: Moment<'x>,
     choice: u64,
-) -> Result<Option<Vec<Sheet>>, Fault> {
+) -> Result<Option<Vec<Sheet<'x>>>, Fault> {
     let mut chooser = Chooser { left: choice };
-    // What was torn before the folder was synced is settled by that.
-    let (newer, older) = moment.parts();
-    let mut left = kept(alloc, &shown(alloc, files, older)?, &mut chooser)?;
+    let (newer, _older) = moment.parts();
+    let mut left = settled(alloc, files, moment, &mut chooser)?;
     for step in newer.iter().rev().chain(moment.under_way) {
-        tear(alloc, &mut left, &step.call, &mut chooser)?;
+        tear(&mut left, &step.call, &mut chooser)?;
     }
     Ok((chooser.left == 0).then_some(left))
 }
@@ -222,11 +236,11 @@ pub(crate) fn crashed(
 /// Files by their names and bytes.
 pub(crate) fn lent<'x>(
     alloc: Global,
-    files: &'x [Sheet],
+    files: &[Sheet<'x>],
 ) -> Result<Vec<(&'x str, &'x [u8])>, Fault> {
     let mut lent = Vec::with_capacity(alloc, files.len())?;
     for file in files {
-        lent.push((file.name.as_str(), file.bytes.as_slice()))?;
+        lent.push((file.name, file.bytes))?;
     }
     Ok(lent)
 }

@@ -1,10 +1,11 @@
-use crate::crashes::{Moment, Sheet, crashed, lent};
+use crate::crashes::{Moment, crashed, lent};
 use coding::{Fault, FaultName};
 use edit::{Outcome, Version};
 use folder::{Failing, Folder, FolderFault, Order, Shelf, ShelfStep, load, open};
 use ikey::Bytewise;
 use install::install;
 use std::alloc::Global;
+use std::process::Abort;
 use std::test::Fail;
 
 const BYTEWISE: &[u8] = b"\x01\x1aleveldb.BytewiseComparator";
@@ -58,16 +59,11 @@ const VERSIONS: [(u64, Reads, &[(u64, &[u8])]); 5] = [
     (13, Reads::Second, &[(6, b"six"), (12, b"twelve")]),
 ];
 
-/// A log with one more record.
-fn with_record(alloc: Global, log: &[u8], record: &[u8]) -> Result<Vec<u8>, Fault> {
-    logrec::append(alloc, log, record)
-}
-
 /// The manifest of the version before.
 fn manifest_before(alloc: Global) -> Result<Vec<u8>, Fault> {
     let mut log = Vec::new(alloc);
     for record in [BYTEWISE, NUMBERS, SIX, SEVEN] {
-        log = with_record(alloc, &log, record)?;
+        log = logrec::append(alloc, &log, record)?;
     }
     Ok(log)
 }
@@ -83,22 +79,53 @@ fn files_before<'x>(manifest: &'x [u8]) -> [(&'x str, &'x [u8]); 5] {
     ]
 }
 
-/// An outcome of these tables.
-fn outcome_of(
-    alloc: Global,
-    numbers: &[u8],
-    tables: &[(u64, &[u8], &[u8])],
-) -> Result<Outcome, Fault> {
-    let mut outcome = Outcome {
-        tables: Vec::new(alloc),
-        edit: Vec::from_slice(alloc, numbers)?,
-    };
-    for (number, bytes, field) in tables {
-        let bytes = Vec::from_slice(alloc, bytes)?;
-        outcome.tables.push((*number, bytes))?;
-        outcome.edit.extend_from_slice(field)?;
+/// A table of an outcome: its number, its bytes, and its field of the edit.
+type Output = (u64, &'static [u8], &'static [u8]);
+
+/// The numbers of an outcome's edit, its tables, and how many calls its installation makes.
+type Row = (&'static [u8], &'static [Output], u64);
+
+/// The outcomes of no output, of one and of three.
+const ROWS: [Row; 3] = [
+    (NEXT_NINE, &[], 7),
+    (NEXT_TEN, &[(9, b"nine", NINE)], 9),
+    (
+        NEXT_TWELVE,
+        &[
+            (9, b"nine", NINE),
+            (10, b"ten", TEN),
+            (11, b"eleven", ELEVEN),
+        ],
+        13,
+    ),
+];
+
+/// The outcome of a second installation.
+const SECOND_ROW: Row = (SECOND, &[(12, b"twelve", b"")], 9);
+
+/// The numbers and bytes of outputs.
+fn tables_in(alloc: Global, outputs: &[Output]) -> Result<Vec<(u64, Vec<u8>)>, Fault> {
+    let mut tables = Vec::new(alloc);
+    for (number, bytes, _field) in outputs {
+        tables.push((*number, Vec::from_slice(alloc, bytes)?))?;
     }
-    Ok(outcome)
+    Ok(tables)
+}
+
+/// An edit of these numbers and of the fields of outputs.
+fn edit_in(alloc: Global, numbers: &[u8], outputs: &[Output]) -> Result<Vec<u8>, Fault> {
+    let mut edit = Vec::from_slice(alloc, numbers)?;
+    for (_number, _bytes, field) in outputs {
+        edit.extend_from_slice(field)?;
+    }
+    Ok(edit)
+}
+
+/// The outcome of a row.
+fn outcome_of(alloc: Global, (numbers, outputs, _calls): Row) -> Result<Outcome, Fault> {
+    let tables = tables_in(alloc, outputs)?;
+    let edit = edit_in(alloc, numbers, outputs)?;
+    Ok(Outcome { tables, edit })
 }
 
 /// Whether a table is this one.
@@ -157,17 +184,29 @@ fn opened(alloc: Global, folder: &mut Shelf<'_>) -> Result<Reads, Fault> {
 }
 
 /// What a folder reads as.
-fn read_as(alloc: Global, folder: &mut Shelf<'_>) -> Result<Reads, Fault> {
+fn read_as(alloc: Global, folder: &mut Shelf<'_>) -> Reads {
     match opened(alloc, folder) {
-        Err(fault) if fault.name != FaultName::Memory => Ok(Reads::Neither),
-        answer => answer,
+        Ok(reads) => reads,
+        Err(_) => Reads::Neither,
     }
 }
 
-/// What a folder reads as of files that a crash left.
-fn read_sheets(alloc: Global, sheets: &[Sheet]) -> Result<Reads, Fault> {
-    let files = lent(alloc, sheets)?;
-    read_as(alloc, &mut folder_of(alloc, &files))
+/// What a folder of these files reads as.
+fn read_files(alloc: Global, files: &[(&str, &[u8])]) -> Reads {
+    read_as(alloc, &mut folder_of(alloc, files))
+}
+
+/// What a folder reads as that a crash leaves at a moment, as the choice picks it. None where the choice is past the last.
+fn read_crashed(
+    alloc: Global,
+    files: &[(&str, &[u8])],
+    moment: Moment<'_>,
+    choice: u64,
+) -> Result<Option<Reads>, Fault> {
+    Ok(match crashed(alloc, files, moment, choice)? {
+        Some(sheets) => Some(read_files(alloc, &lent(alloc, &sheets)?)),
+        None => None,
+    })
 }
 
 /// Whether the version before is among what crashes leave, the edited one and that of the second installation. None where a
@@ -178,70 +217,92 @@ type Found = Option<(bool, bool, bool)>;
 fn found_at(alloc: Global, files: &[(&str, &[u8])], moment: Moment<'_>) -> Result<Found, Fault> {
     let mut found = (false, false, false);
     for choice in 0..u64::MAX {
-        let Some(sheets) = crashed(alloc, files, moment, choice)? else {
-            break;
-        };
-        match read_sheets(alloc, &sheets)? {
-            Reads::Before => found.0 = true,
-            Reads::Edited => found.1 = true,
-            Reads::Second => found.2 = true,
-            Reads::Neither => return Ok(None),
+        match read_crashed(alloc, files, moment, choice)? {
+            None => break,
+            Some(Reads::Before) => found.0 = true,
+            Some(Reads::Edited) => found.1 = true,
+            Some(Reads::Second) => found.2 = true,
+            Some(Reads::Neither) => return Ok(None),
         }
     }
     Ok(Some(found))
 }
 
-/// What crashes leave after so many calls, or inside the next.
-#[derive(Clone, Copy, Drop)]
-struct Finding {
-    done: usize,
-    is_inside: bool,
-    found: Found,
+/// What crashes leave at a moment, and how many calls are settled and torn there.
+type Finding = ((usize, usize), Found);
+
+/// What crashes leave at a moment behind another one. Where no call came in between that a crash tears or that settles others,
+/// the folders of the moment before are not read again.
+fn found_behind(
+    alloc: Global,
+    files: &[(&str, &[u8])],
+    moment: Moment<'_>,
+    last: Option<Finding>,
+) -> Result<Finding, Fault> {
+    let torn = moment.torn();
+    let found = match last {
+        Some((before, found)) if before == torn => found,
+        _ => found_at(alloc, files, moment)?,
+    };
+    Ok((torn, found))
 }
 
-/// What crashes leave at each moment of these calls, from so many on. Where no call came in between that a crash tears or
-/// that settles others, the folders of the moment before are not read again.
-fn findings(
+/// What a crash leaves, by the calls that are left: where more are left than the last, the version before; between the
+/// rename and the last, or inside one of these, either; behind the last the edited version.
+fn wanted(calls_left: usize, is_inside: bool) -> Found {
+    let is_before = calls_left > 0;
+    let is_edited = calls_left < 2 || (calls_left == 2 && is_inside);
+    Some((is_before, is_edited, false))
+}
+
+/// What a crash leaves of nine calls of which the last failed, a sync of the folder and nine calls of a second run, by how
+/// many of them are done: before that sync the version before may be left, and behind it never again.
+fn wanted_of_two(done: usize, is_inside: bool) -> Found {
+    let is_before = done < 10;
+    let is_edited = done < 19;
+    let is_second = done > 17 || (done == 17 && is_inside);
+    Some((is_before, is_edited, is_second))
+}
+
+/// What a crash leaves of the calls of one installation, or of a failed one and a second run, by how many of them are done.
+fn wanted_at(calls: usize, done: usize, is_inside: bool, are_two: bool) -> Found {
+    if are_two {
+        wanted_of_two(done, is_inside)
+    } else {
+        wanted(calls.saturating_sub(done), is_inside)
+    }
+}
+
+/// The first moment of such calls, by those that are done, at which a crash leaves what it should not, from so many on.
+fn wrong_moment(
     alloc: Global,
     files: &[(&str, &[u8])],
     steps: &[ShelfStep],
     first: usize,
-) -> Result<Vec<Finding>, Fault> {
-    let mut all = Vec::new(alloc);
+    are_two: bool,
+) -> Result<Option<u64>, Fault> {
+    let calls = steps.len();
     let mut last = None;
-    for done in first..steps.len() + 1 {
-        for is_inside in [false, true] {
-            let moment = Moment::of(steps, done, is_inside);
-            let found = match last {
-                Some((torn, found)) if torn == moment.torn() => found,
-                _ => found_at(alloc, files, moment)?,
-            };
-            last = Some((moment.torn(), found));
-            all.push(Finding {
-                done,
-                is_inside,
-                found,
-            })?;
+    for done in first..calls + 1 {
+        let before = found_behind(alloc, files, Moment::of(steps, done, false), last)?;
+        let inside = found_behind(alloc, files, Moment::of(steps, done, true), Some(before))?;
+        if before.1 != wanted_at(calls, done, false, are_two)
+            || inside.1 != wanted_at(calls, done, true, are_two)
+        {
+            return Ok(Some(done as u64));
         }
+        last = Some(inside);
     }
-    Ok(all)
+    Ok(None)
 }
 
-/// The version before with its manifest, and the outcomes of no output, of one and of three.
+/// The version before with its manifest, and an outcome with the calls that its installation makes.
 #[derive(Drop)]
 struct Case {
     manifest: Vec<u8>,
     version: Version,
-    none: Outcome,
-    one: Outcome,
-    three: Outcome,
-}
-
-impl Case {
-    /// The outcomes, and how many calls the installation of each makes.
-    fn rows(&self) -> [(&Outcome, u64); 3] {
-        [(&self.none, 7), (&self.one, 9), (&self.three, 13)]
-    }
+    outcome: Outcome,
+    calls: u64,
 }
 
 /// The version of the files before.
@@ -251,17 +312,16 @@ fn version_before(alloc: Global, manifest: &[u8]) -> Result<Version, Fault> {
     Ok(version)
 }
 
-fn make_case(alloc: Global) -> Result<Case, Fault> {
-    let nine = (9, b"nine".as_slice(), NINE);
-    let ten = (10, b"ten".as_slice(), TEN);
-    let eleven = (11, b"eleven".as_slice(), ELEVEN);
+/// The case of a row.
+fn make_case(alloc: Global, row: Row) -> Result<Case, Fault> {
     let manifest = manifest_before(alloc)?;
+    let version = version_before(alloc, &manifest)?;
+    let outcome = outcome_of(alloc, row)?;
     Ok(Case {
-        version: version_before(alloc, &manifest)?,
         manifest,
-        none: outcome_of(alloc, NEXT_NINE, &[])?,
-        one: outcome_of(alloc, NEXT_TEN, &[nine])?,
-        three: outcome_of(alloc, NEXT_TWELVE, &[nine, ten, eleven])?,
+        version,
+        outcome,
+        calls: row.2,
     })
 }
 
@@ -276,12 +336,9 @@ fn installed(
     install::<Bytewise, Shelf<'_>>(alloc, shelf, version, manifest_number, outcome)
 }
 
-/// What a crash leaves, by the calls that are left: where more are left than the last, the version before; between the
-/// rename and the last, or inside one of these, either; behind the last the edited version.
-fn wanted(calls_left: usize, is_inside: bool) -> Found {
-    let is_before = calls_left > 0;
-    let is_edited = calls_left < 2 || (calls_left == 2 && is_inside);
-    Some((is_before, is_edited, false))
+/// Installs the outcome of a case.
+fn installed_of(alloc: Global, shelf: &mut Shelf<'_>, case: &Case) -> Result<(), Fault> {
+    installed(alloc, shelf, &case.version, 8, &case.outcome)
 }
 
 /// How many calls a folder was asked for, and how many failed.
@@ -291,77 +348,31 @@ fn counts(shelf: &Shelf<'_>) -> (u64, u64) {
 
 /// Whether CURRENT names the new manifest.
 fn is_named(shelf: &Shelf<'_>) -> bool {
-    shelf.held("CURRENT")
-        == Some(b"MANIFEST-000008
-"
-            .as_slice())
+    shelf.held("CURRENT") == Some(b"MANIFEST-000008\n".as_slice())
 }
 
 /// Whether an installation makes so many calls of which none fails, CURRENT names the new manifest, and the folder reads as
 /// the edited version.
-fn makes(alloc: Global, case: &Case, outcome: &Outcome, calls: u64) -> Result<bool, Fault> {
+fn is_made(alloc: Global, shelf: &mut Shelf<'_>, case: &Case) -> bool {
+    installed_of(alloc, shelf, case).is_ok()
+        && counts(shelf) == (case.calls, 0)
+        && is_named(shelf)
+        && read_as(alloc, shelf) == Reads::Edited
+}
+
+/// Whether the folder reads as the version before, and then the installation makes its calls.
+fn makes(alloc: Global, case: &Case) -> bool {
     let files = files_before(&case.manifest);
-    let mut shelf = folder_of(alloc, &files);
-    installed(alloc, &mut shelf, &case.version, 8, outcome)?;
-    let counts = counts(&shelf);
-    let reads = read_as(alloc, &mut shelf)?;
-    Ok(counts == (calls, 0) && is_named(&shelf) && reads == Reads::Edited)
-}
-
-/// What the folder reads as before an installation.
-fn read_before(alloc: Global, case: &Case) -> Result<Reads, Fault> {
-    let files = files_before(&case.manifest);
-    read_as(alloc, &mut folder_of(alloc, &files))
-}
-
-/// Whether the folder reads as the version before, and each installation makes its calls.
-fn makes_its_calls(alloc: Global) -> Result<bool, Fault> {
-    let case = make_case(alloc)?;
-    for (outcome, calls) in &case.rows() {
-        if !makes(alloc, &case, outcome, *calls)? {
-            return Ok(false);
-        }
-    }
-    Ok(read_before(alloc, &case)? == Reads::Before)
-}
-
-#[test]
-fn an_installation_makes_its_calls(rt: HostRuntime) -> Result<(), Fail> {
-    assert!(rt; makes_its_calls(rt.alloc())?);
-    Ok(())
+    read_files(alloc, &files) == Reads::Before
+        && is_made(alloc, &mut folder_of(alloc, &files), case)
 }
 
 /// The first moment of an installation, by the calls that are done, at which a crash leaves what it should not.
-fn wrong_crash(alloc: Global, case: &Case, outcome: &Outcome) -> Result<Option<usize>, Fault> {
+fn wrong_crash(alloc: Global, case: &Case) -> Result<Option<u64>, Fault> {
     let files = files_before(&case.manifest);
     let mut shelf = folder_of(alloc, &files);
-    installed(alloc, &mut shelf, &case.version, 8, outcome)?;
-    let steps = shelf.steps();
-    for finding in &findings(alloc, &files, steps, 0)? {
-        let calls_left = steps.len().saturating_sub(finding.done);
-        if finding.found != wanted(calls_left, finding.is_inside) {
-            return Ok(Some(finding.done));
-        }
-    }
-    Ok(None)
-}
-
-/// The first such moment of all installations.
-fn wrong_crashes(alloc: Global) -> Result<Option<usize>, Fault> {
-    let case = make_case(alloc)?;
-    for (outcome, _calls) in &case.rows() {
-        let wrong = wrong_crash(alloc, &case, outcome)?;
-        if wrong.is_some() {
-            return Ok(wrong);
-        }
-    }
-    Ok(None)
-}
-
-#[test]
-fn a_crash_leaves_one_of_the_two(rt: HostRuntime) -> Result<(), Fail> {
-    assert_eq!(rt; wrong_crashes(rt.alloc())?, None);
-    Ok(())
+    installed_of(alloc, &mut shelf, case)?;
+    wrong_moment(alloc, &files, shelf.steps(), 0, false)
 }
 
 /// The ways in which a call fails.
@@ -371,25 +382,6 @@ const FAILURES: [(FolderFault, bool); 4] = [
     (FolderFault::Memory, false),
     (FolderFault::Memory, true),
 ];
-
-/// Each of so many calls, failing in each of these ways.
-fn all_failures(
-    alloc: Global,
-    calls: u64,
-    ways: &[(FolderFault, bool)],
-) -> Result<Vec<Failing>, Fault> {
-    let mut failures = Vec::new(alloc);
-    for earlier in 0..calls {
-        for (fault, is_half_done) in ways {
-            failures.push(Failing {
-                call: earlier + 1,
-                fault: *fault,
-                is_half_done: *is_half_done,
-            })?;
-        }
-    }
-    Ok(failures)
-}
 
 /// Whether the rename was made of an installation of so many calls, of which one failed.
 fn is_renamed(calls: u64, failing: Failing) -> bool {
@@ -413,105 +405,28 @@ fn wanted_counts(failing: Failing) -> (u64, u64) {
     }
 }
 
-/// Whether an installation of so many calls, of which one fails, ends there with that fault, and leaves what it should.
-fn ends(
+/// Whether an installation of so many calls, of which one fails, ended there with that fault, and left what it should.
+fn ended(
     alloc: Global,
-    case: &Case,
-    (outcome, calls): (&Outcome, u64),
-    failing: Failing,
-) -> Result<bool, Fault> {
-    let files = files_before(&case.manifest);
-    let mut shelf = folder_of(alloc, &files).failing(failing);
-    let answer = installed(alloc, &mut shelf, &case.version, 8, outcome);
-    let counts = counts(&shelf);
-    let reads = read_as(alloc, &mut shelf)?;
-    Ok(
-        answer == Err(Fault::from(failing.fault))
-            && counts == wanted_counts(failing)
-            && reads == wanted_end(calls, failing),
-    )
+    shelf: &mut Shelf<'_>,
+    answer: Result<(), Fault>,
+    (calls, failing): (u64, Failing),
+) -> bool {
+    answer == Err(Fault::from(failing.fault))
+        && counts(shelf) == wanted_counts(failing)
+        && read_as(alloc, shelf) == wanted_end(calls, failing)
 }
 
-/// The first call behind whose failure an installation of so many calls does not end as it should.
-fn wrong_end(
-    alloc: Global,
-    case: &Case,
-    (outcome, calls): (&Outcome, u64),
-) -> Result<Option<u64>, Fault> {
-    for failing in &all_failures(alloc, calls, &FAILURES)? {
-        if !ends(alloc, case, (outcome, calls), *failing)? {
-            return Ok(Some(failing.call));
-        }
-    }
-    Ok(None)
-}
-
-/// The first such call of all installations.
-fn wrong_ends(alloc: Global) -> Result<Option<u64>, Fault> {
-    let case = make_case(alloc)?;
-    for row in &case.rows() {
-        let wrong = wrong_end(alloc, &case, *row)?;
-        if wrong.is_some() {
-            return Ok(wrong);
-        }
-    }
-    Ok(None)
-}
-
-#[test]
-fn a_call_that_fails_ends_it(rt: HostRuntime) -> Result<(), Fail> {
-    assert_eq!(rt; wrong_ends(rt.alloc())?, None);
-    Ok(())
-}
-
-/// What a crash leaves behind an installation of which a call fails.
+/// Whether a crash leaves what it should behind these calls of an installation of so many, of which one failed.
 fn left_behind(
     alloc: Global,
-    case: &Case,
-    outcome: &Outcome,
-    failing: Failing,
-) -> Result<Found, Fault> {
-    let files = files_before(&case.manifest);
-    let mut shelf = folder_of(alloc, &files).failing(failing);
-    if installed(alloc, &mut shelf, &case.version, 8, outcome).is_ok() {
-        return Ok(None);
-    }
-    let steps = shelf.steps();
-    found_at(alloc, &files, Moment::of(steps, steps.len(), false))
-}
-
-/// The first call behind whose failure in one of these ways a crash leaves what it should not, of an installation of so many
-/// calls.
-fn wrong_left(
-    alloc: Global,
-    case: &Case,
-    (outcome, calls): (&Outcome, u64),
-    ways: &[(FolderFault, bool)],
-) -> Result<Option<u64>, Fault> {
-    for failing in &all_failures(alloc, calls, ways)? {
-        let wanted = (true, failing.call.saturating_add(1) >= calls, false);
-        if left_behind(alloc, case, outcome, *failing)? != Some(wanted) {
-            return Ok(Some(failing.call));
-        }
-    }
-    Ok(None)
-}
-
-/// The first such call of the installations of no output and of one.
-fn wrong_behind(alloc: Global) -> Result<Option<u64>, Fault> {
-    let case = make_case(alloc)?;
-    let [none, one, _] = case.rows();
-    let wrong = wrong_left(alloc, &case, none, &FAILURES)?;
-    if wrong.is_some() {
-        return Ok(wrong);
-    }
-    wrong_left(alloc, &case, one, &FAILURES)
-}
-
-#[test]
-fn a_crash_behind_a_failed_call(rt: HostRuntime) -> Result<(), Fail> {
-    assert_eq!(rt; wrong_behind(rt.alloc())?, None);
-    Ok(())
+    files: &[(&str, &[u8])],
+    steps: &[ShelfStep],
+    (calls, failing): (u64, Failing),
+) -> bool {
+    let wanted = (true, failing.call.saturating_add(1) >= calls, false);
+    let moment = Moment::of(steps, steps.len(), false);
+    found_at(alloc, files, moment) == Ok(Some(wanted))
 }
 
 /// The version of a folder after a failure, its names written through first.
@@ -523,83 +438,97 @@ fn version_again(alloc: Global, shelf: &mut Shelf<'_>) -> Result<Version, Fault>
 
 /// Installs the second outcome over the edited version.
 fn install_second(alloc: Global, shelf: &mut Shelf<'_>, version: &Version) -> Result<(), Fault> {
-    let twelve = (12, b"twelve".as_slice(), b"".as_slice());
-    let second = outcome_of(alloc, SECOND, &[twelve])?;
+    let second = outcome_of(alloc, SECOND_ROW)?;
     installed(alloc, shelf, version, 10, &second)
 }
 
 /// Opens a folder after a failure and installs again: the same outcome where the folder reads as the version before, and
 /// where it reads as the edited one the second outcome.
-fn run_again(alloc: Global, shelf: &mut Shelf<'_>, same: &Outcome) -> Result<Reads, Fault> {
+fn install_again(alloc: Global, shelf: &mut Shelf<'_>, same: &Outcome) -> Result<(), Fault> {
     let version = version_again(alloc, shelf)?;
     if version.next_file() == Some(8) {
-        installed(alloc, shelf, &version, 8, same)?;
+        installed(alloc, shelf, &version, 8, same)
     } else {
-        install_second(alloc, shelf, &version)?;
+        install_second(alloc, shelf, &version)
     }
-    read_as(alloc, shelf)
 }
 
-/// What a second run leaves behind an installation of nine calls of which one fails.
-fn wanted_again(failing: Failing) -> Reads {
-    if is_renamed(9, failing) {
+/// What a folder reads as behind such a second run.
+fn run_again(alloc: Global, shelf: &mut Shelf<'_>, same: &Outcome) -> Reads {
+    match install_again(alloc, shelf, same) {
+        Ok(()) => read_as(alloc, shelf),
+        Err(_) => Reads::Neither,
+    }
+}
+
+/// What a second run leaves behind an installation of so many calls of which one fails.
+fn wanted_again(calls: u64, failing: Failing) -> Reads {
+    if is_renamed(calls, failing) {
         Reads::Second
     } else {
         Reads::Edited
     }
 }
 
-/// Whether a second run behind a failure of the nine calls for one output ends as it should.
-fn ends_again(alloc: Global, case: &Case, failing: Failing) -> Result<bool, Fault> {
-    let files = files_before(&case.manifest);
-    let mut shelf = folder_of(alloc, &files).failing(failing);
-    if installed(alloc, &mut shelf, &case.version, 8, &case.one).is_ok() {
-        return Ok(false);
-    }
-    Ok(run_again(alloc, &mut shelf, &case.one)? == wanted_again(failing))
+/// What is looked at behind a call that fails: how the installation ends, what a crash leaves then, and what a second run does.
+enum Behind {
+    End,
+    Crash,
+    SecondRun,
 }
 
-/// The first call behind whose failure a second run does not end as it should.
-fn wrong_second_run(alloc: Global) -> Result<Option<u64>, Fault> {
-    let case = make_case(alloc)?;
-    for failing in &all_failures(alloc, 9, &FAILURES)? {
-        if !ends_again(alloc, &case, *failing)? {
-            return Ok(Some(failing.call));
+impl Behind {
+    /// Whether that is as it should be of an installation that gave this answer.
+    fn is_right(
+        &self,
+        alloc: Global,
+        (files, shelf): (&[(&str, &[u8])], &mut Shelf<'_>),
+        (case, failing): (&Case, Failing),
+        answer: Result<(), Fault>,
+    ) -> bool {
+        let failed = (case.calls, failing);
+        match self {
+            Behind::End => ended(alloc, shelf, answer, failed),
+            Behind::Crash => answer.is_err() && left_behind(alloc, files, shelf.steps(), failed),
+            Behind::SecondRun => {
+                let wanted = wanted_again(case.calls, failing);
+                answer.is_err() && run_again(alloc, shelf, &case.outcome) == wanted
+            }
         }
     }
-    Ok(None)
-}
 
-#[test]
-fn a_second_run_after_a_failure(rt: HostRuntime) -> Result<(), Fail> {
-    assert_eq!(rt; wrong_second_run(rt.alloc())?, None);
-    Ok(())
-}
-
-/// What a crash leaves of nine calls of which the last failed, a sync of the folder and nine calls of a second run, by how
-/// many of them are done: before that sync the version before may be left, and behind it never again.
-fn wanted_of_two(done: usize, is_inside: bool) -> Found {
-    let is_before = done < 10;
-    let is_edited = done < 19;
-    let is_second = done > 17 || (done == 17 && is_inside);
-    Some((is_before, is_edited, is_second))
-}
-
-/// The first moment of these calls at which a crash leaves what it should not.
-fn wrong_of_two(
-    alloc: Global,
-    files: &[(&str, &[u8])],
-    steps: &[ShelfStep],
-) -> Result<Option<usize>, Fault> {
-    if steps.len() != 19 {
-        return Ok(Some(0));
+    /// The same, of the installation of a case of which a call fails.
+    fn is_right_of(&self, alloc: Global, case: &Case, failing: Failing) -> bool {
+        let files = files_before(&case.manifest);
+        let mut shelf = folder_of(alloc, &files).failing(failing);
+        let answer = installed_of(alloc, &mut shelf, case);
+        self.is_right(alloc, (&files, &mut shelf), (case, failing), answer)
     }
-    for finding in &findings(alloc, files, steps, 9)? {
-        if finding.found != wanted_of_two(finding.done, finding.is_inside) {
-            return Ok(Some(finding.done));
+
+    /// The same, of each way in which a call fails.
+    fn is_right_at(&self, alloc: Global, case: &Case, call: u64) -> bool {
+        for (fault, is_half_done) in FAILURES {
+            let failing = Failing {
+                call,
+                fault,
+                is_half_done,
+            };
+            if !self.is_right_of(alloc, case, failing) {
+                return false;
+            }
         }
+        true
     }
-    Ok(None)
+
+    /// The first call of the installation behind whose failure it is not as it should be.
+    fn wrong_call(&self, alloc: Global, case: &Case) -> Option<u64> {
+        for earlier in 0..case.calls {
+            if !self.is_right_at(alloc, case, earlier + 1) {
+                return Some(earlier + 1);
+            }
+        }
+        None
+    }
 }
 
 /// The failure of the last of nine calls.
@@ -609,56 +538,143 @@ const LAST_SYNC_FAILS: Failing = Failing {
     is_half_done: false,
 };
 
-/// The first moment of a failed installation and a second run at which a crash leaves what it should not.
-fn wrong_after_the_last_sync(alloc: Global) -> Result<Option<usize>, Fault> {
-    let case = make_case(alloc)?;
+/// Whether the last call of an installation fails, and a second run makes ten calls more and installs the second outcome.
+fn runs_twice(alloc: Global, shelf: &mut Shelf<'_>, case: &Case) -> bool {
+    installed_of(alloc, shelf, case).is_err()
+        && run_again(alloc, shelf, &case.outcome) == Reads::Second
+        && shelf.steps().len() == 19
+}
+
+/// The first moment of such a failed installation and a second run at which a crash leaves what it should not.
+fn wrong_after_the_last_sync(alloc: Global, case: &Case) -> Result<Option<u64>, Fault> {
     let files = files_before(&case.manifest);
     let mut shelf = folder_of(alloc, &files).failing(LAST_SYNC_FAILS);
-    if installed(alloc, &mut shelf, &case.version, 8, &case.one).is_ok() {
+    if !runs_twice(alloc, &mut shelf, case) {
         return Ok(Some(0));
     }
-    if run_again(alloc, &mut shelf, &case.one)? != Reads::Second {
-        return Ok(Some(0));
+    wrong_moment(alloc, &files, shelf.steps(), 9, true)
+}
+
+/// Opens a folder, loads its tables and installs.
+fn open_and_install(alloc: Global, shelf: &mut Shelf<'_>, outcome: &Outcome) -> Result<(), Fault> {
+    let (_order, version) = version_of(alloc, shelf)?;
+    tables_of(alloc, shelf, &version)?;
+    installed(alloc, shelf, &version, 8, outcome)
+}
+
+/// The same, and then it opens and loads again.
+fn round(alloc: Global, shelf: &mut Shelf<'_>, outcome: &Outcome) -> Result<Reads, Fault> {
+    open_and_install(alloc, shelf, outcome)?;
+    opened(alloc, shelf)
+}
+
+/// Whether a folder reads as one of the two.
+fn is_one_of_the_two(reads: Reads) -> bool {
+    reads == Reads::Before || reads == Reads::Edited
+}
+
+/// Whether that ends well, or is refused for want of memory and leaves one of the two. One growth alone is refused.
+fn ends_well(alloc: Global, case: &Case) -> bool {
+    let files = files_before(&case.manifest);
+    let mut shelf = folder_of(alloc, &files);
+    match round(alloc, &mut shelf, &case.outcome) {
+        Ok(reads) => reads == Reads::Edited,
+        Err(fault) => {
+            fault.name == FaultName::Memory && is_one_of_the_two(read_as(alloc, &mut shelf))
+        }
     }
-    wrong_of_two(alloc, &files, shelf.steps())
+}
+
+/// What is tried of a case.
+enum Trial {
+    Calls,
+    Crashes,
+    Failures(Behind),
+    LastSync,
+    Growth,
+}
+
+/// No call where it is so, and else call 0.
+fn zero_unless(is_so: bool) -> Option<u64> {
+    if is_so { None } else { Some(0) }
+}
+
+impl Trial {
+    /// The first call, by its number or by the calls that are done, at which a case is not as it should be.
+    fn wrong(&self, alloc: Global, case: &Case) -> Result<Option<u64>, Fault> {
+        match self {
+            Trial::Calls => Ok(zero_unless(makes(alloc, case))),
+            Trial::Crashes => wrong_crash(alloc, case),
+            Trial::Failures(behind) => Ok(behind.wrong_call(alloc, case)),
+            Trial::LastSync => wrong_after_the_last_sync(alloc, case),
+            Trial::Growth => Ok(zero_unless(ends_well(alloc, case))),
+        }
+    }
+
+    /// The same, of the case of a row.
+    fn wrong_of(&self, alloc: Global, row: Row) -> Result<Option<u64>, Fault> {
+        let case = make_case(alloc, row)?;
+        self.wrong(alloc, &case)
+    }
+}
+
+/// Tests that nothing is wrong with a row.
+fn is_none(rt: &impl Abort, wrong: Option<u64>, row: Row) {
+    assert_eq!(rt; wrong, None, "of {} calls", row.2);
+}
+
+/// Tests what is tried of each of these rows.
+fn are_right(rt: &(impl Abort + AllocGlobal), rows: &[Row], trial: &Trial) -> Result<(), Fault> {
+    for row in rows {
+        is_none(rt, trial.wrong_of(rt.alloc(), *row)?, *row);
+    }
+    Ok(())
+}
+
+#[test]
+fn an_installation_makes_its_calls(rt: HostRuntime) -> Result<(), Fail> {
+    Ok(are_right(&rt, &ROWS, &Trial::Calls)?)
+}
+
+#[test]
+fn a_crash_leaves_one_of_the_two(rt: HostRuntime) -> Result<(), Fail> {
+    Ok(are_right(&rt, &ROWS, &Trial::Crashes)?)
+}
+
+#[test]
+fn a_call_that_fails_ends_it(rt: HostRuntime) -> Result<(), Fail> {
+    Ok(are_right(&rt, &ROWS, &Trial::Failures(Behind::End))?)
+}
+
+// Of no output and of one.
+#[test]
+fn a_crash_behind_a_failed_call(rt: HostRuntime) -> Result<(), Fail> {
+    Ok(are_right(&rt, &ROWS[..2], &Trial::Failures(Behind::Crash))?)
+}
+
+// Of one output.
+#[test]
+fn a_second_run_after_a_failure(rt: HostRuntime) -> Result<(), Fail> {
+    Ok(are_right(&rt, &ROWS[1..2], &Trial::Failures(Behind::SecondRun))?)
 }
 
 #[test]
 fn folder_not_synced_first(rt: HostRuntime) -> Result<(), Fail> {
-    assert_eq!(rt; wrong_after_the_last_sync(rt.alloc())?, None);
-    Ok(())
+    Ok(are_right(&rt, &ROWS[1..2], &Trial::LastSync)?)
 }
 
-/// Opens a folder, loads its tables and installs, and opens and loads again.
-fn round(alloc: Global, shelf: &mut Shelf<'_>, outcome: &Outcome) -> Result<Reads, Fault> {
-    let (_order, version) = version_of(alloc, shelf)?;
-    tables_of(alloc, shelf, &version)?;
-    installed(alloc, shelf, &version, 8, outcome)?;
-    opened(alloc, shelf)
-}
-
-/// Whether a fault is want of memory, and the folder reads as one of the two.
-fn is_one_of_the_two(fault: Fault, reads: Result<Reads, Fault>) -> bool {
-    fault.name == FaultName::Memory && (reads == Ok(Reads::Before) || reads == Ok(Reads::Edited))
-}
-
-/// Whether that ends well, or is refused for want of memory and leaves one of the two. One growth alone is refused.
-fn ends_well(alloc: Global, case: &Case, outcome: &Outcome) -> bool {
-    let files = files_before(&case.manifest);
-    let mut shelf = folder_of(alloc, &files);
-    match round(alloc, &mut shelf, outcome) {
-        Ok(reads) => reads == Reads::Edited,
-        Err(fault) => is_one_of_the_two(fault, read_as(alloc, &mut shelf)),
+/// Whether nothing is wrong, or memory ran out.
+fn is_well_or_memory(answer: Result<Option<u64>, Fault>) -> bool {
+    match answer {
+        Ok(wrong) => wrong.is_none(),
+        Err(fault) => fault.name == FaultName::Memory,
     }
 }
 
-/// Whether the installations of no output, of one and of three do, one behind the other.
+/// Whether that is so of each row.
 fn all_end_well(alloc: Global) -> bool {
-    let Ok(case) = make_case(alloc) else {
-        return true;
-    };
-    for (outcome, _calls) in &case.rows() {
-        if !ends_well(alloc, &case, outcome) {
+    for row in ROWS {
+        if !is_well_or_memory(Trial::Growth.wrong_of(alloc, row)) {
             return false;
         }
     }

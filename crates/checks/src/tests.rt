@@ -8,7 +8,6 @@ use reads::NumberedTable;
 use split::Split;
 use std::alloc::Global;
 use std::process::Abort;
-use std::test::Fail;
 use std::thread::Threads;
 use table::{SoundTable, check};
 
@@ -36,8 +35,11 @@ const ONE_FILE: &[u8] =
 const LONGER_FILE: &[u8] =
     b"\x01\x1aleveldb.BytewiseComparator\x02\x03\x09\0\x03\x09\x04\x04\x07\x01\x07\x7e\x09u\0\x04\0\0\0\0\0\0\x09u\x01\x02\0\0\0\0\0\0";
 
+/// The number of a table, and its bytes.
+type Given = (u64, &'static [u8]);
+
 /// The numbers and bytes of tables, as a folder gives them.
-fn loaded(alloc: Global, tables: &[(u64, &[u8])]) -> Result<Vec<(u64, Vec<u8>)>, Fault> {
+fn loaded(alloc: Global, tables: &[Given]) -> Result<Vec<(u64, Vec<u8>)>, Fault> {
     let mut loaded = Vec::new(alloc);
     for (number, bytes) in tables {
         loaded.push((*number, Vec::from_slice(alloc, bytes)?))?;
@@ -45,31 +47,45 @@ fn loaded(alloc: Global, tables: &[(u64, &[u8])]) -> Result<Vec<(u64, Vec<u8>)>,
     Ok(loaded)
 }
 
-/// Each table's number and first key in hexadecimal digits, or the refusal as the program prints it.
+/// Appends the line of a table: its number, and the sequence of its first key.
+fn push_line(text: &mut String, table: &NumberedTable<'_, Bytewise>) -> Result<(), Fault> {
+    let number = table.number();
+    let sequence = table.table().smallest().sequence();
+    writeln!(text, "{number} at {sequence}")?;
+    Ok(())
+}
+
+/// The lines of tables.
+fn lines_of(alloc: Global, tables: &[NumberedTable<'_, Bytewise>]) -> Result<String, Fault> {
+    let mut text = String::new(alloc);
+    for table in tables {
+        push_line(&mut text, table)?;
+    }
+    Ok(text)
+}
+
+/// Each table's number and the sequence of its first key, or the refusal as the program prints it.
 fn told(
     alloc: Global,
     answer: Result<Vec<NumberedTable<'_, Bytewise>>, Fault>,
-) -> Result<String, Fail> {
+) -> Result<String, Fault> {
     match answer {
-        Ok(tables) => {
-            let mut text = String::new(alloc);
-            for table in &tables {
-                let number = table.number();
-                let sequence = table.table().smallest().sequence();
-                writeln!(text, "{number} at {sequence}")?;
-            }
-            Ok(text)
-        }
+        Ok(tables) => lines_of(alloc, &tables),
         Err(fault) => Ok(format!(in alloc; "refused: {fault}")?),
     }
+}
+
+/// Tests that a text is this one.
+fn is_text(rt: &impl Abort, found: &str, wanted: &str) {
+    assert_eq!(rt; found, wanted);
 }
 
 /// What so many workers tell of tables.
 fn checked(
     rt: &(impl Threads + Sync + Abort + AllocGlobal),
-    tables: &[(u64, &[u8])],
+    tables: &[Given],
     workers: u64,
-) -> Result<String, Fail> {
+) -> Result<String, Fault> {
     assert!(rt; workers > 0 && workers <= 64);
     let loaded = loaded(rt.alloc(), tables)?;
     told(
@@ -78,69 +94,115 @@ fn checked(
     )
 }
 
-#[test]
-fn tables_in_order(rt: HostRuntime) -> Result<(), Fail> {
-    let tables = [(8, ONE_ENTRY), (7, TWO_ENTRIES.as_slice()), (9, ONE_ENTRY)];
+/// Tests what 1, 4 and 64 workers tell of tables.
+fn tell(
+    rt: &(impl Threads + Sync + Abort + AllocGlobal),
+    tables: &[Given],
+    wanted: &str,
+) -> Result<(), Fault> {
     for workers in [1, 4, 64] {
-        let told = checked(&rt, &tables, workers)?;
-        assert_eq!(rt; told.as_str(), "8 at 3\n7 at 4\n9 at 3\n");
-        assert_eq!(rt; checked(&rt, &[], workers)?.as_str(), "");
+        is_text(rt, checked(rt, tables, workers)?.as_str(), wanted);
     }
     Ok(())
 }
 
+/// Three tables, not by their numbers.
+const IN_ORDER: &[Given] = &[(8, ONE_ENTRY), (7, &TWO_ENTRIES), (9, ONE_ENTRY)];
+
 #[test]
-fn the_first_refusal(rt: HostRuntime) -> Result<(), Fail> {
-    let (damaged, blank) = (b"damaged".as_slice(), [0; 48].as_slice());
-    for workers in [1, 4, 64] {
-        let tables = [(8, ONE_ENTRY), (7, damaged), (9, blank)];
-        let told = checked(&rt, &tables, workers)?;
-        assert_eq!(rt; told.as_str(), "refused: Short");
-        let tables = [(8, blank), (7, damaged), (9, ONE_ENTRY)];
-        let told = checked(&rt, &tables, workers)?;
-        assert_eq!(rt; told.as_str(), "refused: Magic");
+fn tables_in_order(rt: HostRuntime) -> Result<(), Fault> {
+    tell(&rt, IN_ORDER, "8 at 3\n7 at 4\n9 at 3\n")?;
+    tell(&rt, &[], "")
+}
+
+/// Bytes that are too short for a table, and bytes that don't end as a table.
+const DAMAGED: &[u8] = b"damaged";
+
+const BLANK: &[u8] = &[0; 48];
+
+/// Tables of which two are refused, and the refusal of the one that stands first.
+const REFUSED: &[(&[Given], &str)] = &[
+    (
+        &[(8, ONE_ENTRY), (7, DAMAGED), (9, BLANK)],
+        "refused: Short",
+    ),
+    (
+        &[(8, BLANK), (7, DAMAGED), (9, ONE_ENTRY)],
+        "refused: Magic",
+    ),
+];
+
+#[test]
+fn the_first_refusal(rt: HostRuntime) -> Result<(), Fault> {
+    for (tables, wanted) in REFUSED {
+        tell(&rt, *tables, *wanted)?;
     }
     Ok(())
+}
+
+/// The version after an edit.
+fn version_after(alloc: Global, edit: &[u8]) -> Result<Version, Fault> {
+    let edit = VersionEdit::decode(alloc, edit)?;
+    Version::empty(alloc).applied::<Bytewise>(edit)
 }
 
 /// What four workers tell of the tables of a version.
-fn lawful(
+fn told_of(
     rt: &(impl Threads + Sync + AllocGlobal),
-    edit: &[u8],
-    tables: &[(u64, &[u8])],
-) -> Result<String, Fail> {
-    let alloc = rt.alloc();
-    let edit = VersionEdit::decode(alloc, edit)?;
-    let version = Version::empty(alloc).applied::<Bytewise>(edit)?;
-    let loaded = loaded(alloc, tables)?;
-    told(alloc, lawful_tables(rt, alloc, &version, &loaded, 4, &Open))
+    version: &Version,
+    tables: &[Given],
+) -> Result<String, Fault> {
+    let loaded = loaded(rt.alloc(), tables)?;
+    told(
+        rt.alloc(),
+        lawful_tables(rt, rt.alloc(), version, &loaded, 4, &Open),
+    )
 }
 
-#[test]
-fn tables_of_a_version(rt: HostRuntime) -> Result<(), Fail> {
-    let seven = (7, TWO_ENTRIES.as_slice());
-    assert_eq!(rt; lawful(&rt, ONE_FILE, &[seven])?.as_str(), "7 at 4\n");
-    let missing = lawful(&rt, ONE_FILE, &[(8, ONE_ENTRY)])?;
-    assert_eq!(rt; missing.as_str(), "refused: Missing");
-    let lawless = lawful(&rt, LONGER_FILE, &[seven])?;
-    assert_eq!(rt; lawless.as_str(), "refused: Lawless");
+/// The same of the version after an edit.
+fn told_after(
+    rt: &(impl Threads + Sync + AllocGlobal),
+    edit: &[u8],
+    tables: &[Given],
+) -> Result<String, Fault> {
+    let version = version_after(rt.alloc(), edit)?;
+    told_of(rt, &version, tables)
+}
+
+/// An edit, the tables that are given, and what is told of them.
+type OfVersion = (&'static [u8], &'static [Given], &'static str);
+
+const OF_VERSIONS: &[OfVersion] = &[
+    (ONE_FILE, &[(7, &TWO_ENTRIES)], "7 at 4\n"),
+    (ONE_FILE, &[(8, ONE_ENTRY)], "refused: Missing"),
+    (LONGER_FILE, &[(7, &TWO_ENTRIES)], "refused: Lawless"),
     // A damaged table comes before a version that isn't lawful.
-    let short = lawful(&rt, LONGER_FILE, &[seven, (8, b"damaged")])?;
-    assert_eq!(rt; short.as_str(), "refused: Short");
+    (
+        LONGER_FILE,
+        &[(7, &TWO_ENTRIES), (8, DAMAGED)],
+        "refused: Short",
+    ),
+];
+
+#[test]
+fn tables_of_a_version(rt: HostRuntime) -> Result<(), Fault> {
+    for (edit, tables, wanted) in OF_VERSIONS {
+        is_text(&rt, told_after(&rt, *edit, *tables)?.as_str(), *wanted);
+    }
     Ok(())
 }
 
 /// The split at these user keys of one byte.
-fn split_at(alloc: Global, users: &[u8]) -> Result<Split<Bytewise>, Fail> {
+fn split_at(alloc: Global, users: &[u8]) -> Result<Split<Bytewise>, Fault> {
     let mut keys = Vec::new(alloc);
     for user in users {
         keys.push(Vec::from_slice(alloc, &[*user])?)?;
     }
-    Ok(Split::from_keys(keys)?)
+    Split::from_keys(keys)
 }
 
 /// The tables of these bytes.
-fn sound<'t>(alloc: Global, tables: &[&'t [u8]]) -> Result<Vec<SoundTable<'t, Bytewise>>, Fail> {
+fn sound<'t>(alloc: Global, tables: &[&'t [u8]]) -> Result<Vec<SoundTable<'t, Bytewise>>, Fault> {
     let mut sound = Vec::new(alloc);
     for bytes in tables {
         sound.push(check::<Bytewise>(alloc, bytes)?)?;
@@ -149,26 +211,35 @@ fn sound<'t>(alloc: Global, tables: &[&'t [u8]]) -> Result<Vec<SoundTable<'t, By
 }
 
 /// Whether so many workers tell that the entries of tables which stand one before the other fall, a range of a split a job.
+fn fall_over(
+    rt: &(impl Threads + Sync + Abort + AllocGlobal),
+    tables: &[SoundTable<'_, Bytewise>],
+    split: &Split<Bytewise>,
+    workers: u64,
+) -> Result<bool, Fault> {
+    assert!(rt; workers > 0 && workers <= 64);
+    let mut standing = Vec::new(rt.alloc());
+    for table in tables {
+        standing.push(table)?;
+    }
+    entries_fall(rt, rt.alloc(), &standing, split, workers, &Open)
+}
+
+/// The same of the tables of these bytes, over the split at these user keys.
 fn fall(
     rt: &(impl Threads + Sync + Abort + AllocGlobal),
     tables: &[&[u8]],
     users: &[u8],
     workers: u64,
-) -> Result<bool, Fail> {
-    assert!(rt; workers > 0 && workers <= 64);
-    let alloc = rt.alloc();
-    let split = split_at(alloc, users)?;
-    let sound = sound(alloc, tables)?;
-    let mut standing = Vec::new(alloc);
-    for table in &sound {
-        standing.push(table)?;
-    }
-    Ok(entries_fall(rt, alloc, &standing, &split, workers, &Open)?)
+) -> Result<bool, Fault> {
+    let split = split_at(rt.alloc(), users)?;
+    let sound = sound(rt.alloc(), tables)?;
+    fall_over(rt, &sound, &split, workers)
 }
 
 /// Tables, and whether their entries fall. The last two have the entries of a user key twice: in the first range of several, and in
 /// the last.
-const FALLING: [(&[&[u8]], bool); 5] = [
+const FALLING: &[(&[&[u8]], bool)] = &[
     (&[], true),
     (&[ONE_ENTRY, &TWO_ENTRIES], true),
     (&[&TWO_ENTRIES, ONE_ENTRY], true),
@@ -176,39 +247,59 @@ const FALLING: [(&[&[u8]], bool); 5] = [
     (&[&TWO_ENTRIES, ONE_ENTRY, &TWO_ENTRIES], false),
 ];
 
-/// Asserts the same of tables over splits into 1, 2 and 5 ranges, by 1, 4 and 64 workers.
+/// Where user keys are split, into 1, 2, 2 and 5 ranges, and how many workers there are.
+const RANGES: &[(&[u8], u64)] = &[
+    (b"", 1),
+    (b"", 4),
+    (b"", 64),
+    (b"m", 1),
+    (b"m", 4),
+    (b"m", 64),
+    (b"u", 1),
+    (b"u", 4),
+    (b"u", 64),
+    (b"amuz", 1),
+    (b"amuz", 4),
+    (b"amuz", 64),
+];
+
+/// Tests whether entries fall, over each of these splits.
 fn all_fall(
     rt: &(impl Threads + Sync + Abort + AllocGlobal),
     tables: &[&[u8]],
     falls: bool,
-) -> Result<(), Fail> {
-    for users in [b"".as_slice(), b"m", b"u", b"amuz"] {
-        for workers in [1, 4, 64] {
-            assert_eq!(rt; fall(rt, tables, users, workers)?, falls);
-        }
+) -> Result<(), Fault> {
+    for (users, workers) in RANGES {
+        assert!(rt; fall(rt, tables, *users, *workers)? == falls);
     }
     Ok(())
 }
 
 #[test]
-fn entries_fall_in_each_range(rt: HostRuntime) -> Result<(), Fail> {
+fn entries_fall_in_each_range(rt: HostRuntime) -> Result<(), Fault> {
     for (tables, falls) in FALLING {
-        all_fall(&rt, tables, falls)?;
+        all_fall(&rt, *tables, *falls)?;
     }
     Ok(())
+}
+
+/// Tests that two tables are answered, or want of memory.
+fn are_two_or_memory(rt: &impl Abort, answer: Result<Vec<NumberedTable<'_, Bytewise>>, Fault>) {
+    match answer {
+        Ok(tables) => assert!(rt; tables.len() == 2),
+        Err(fault) => assert!(rt; fault.name == FaultName::Memory),
+    }
+}
+
+/// Tests what four workers answer of tables where a growth may be refused.
+fn may_lack_memory(rt: &(impl Threads + Sync + Abort + AllocGlobal), loaded: &[(u64, Vec<u8>)]) {
+    are_two_or_memory(rt, check_tables(rt, rt.alloc(), loaded, 4, &Open));
 }
 
 // With `rt try --test --fail-alloc N` the Nth growth is refused; without it, none is.
 #[test]
-fn a_refused_growth_is_memory(rt: HostRuntime) -> Result<(), Fail> {
-    let alloc = rt.alloc();
-    let loaded = match loaded(alloc, &[(8, ONE_ENTRY), (7, TWO_ENTRIES.as_slice())]) {
-        Ok(loaded) => loaded,
-        Err(_) => return Ok(()),
-    };
-    match check_tables::<Bytewise, Open, _>(&rt, alloc, &loaded, 4, &Open) {
-        Ok(tables) => assert_eq!(rt; tables.len(), 2),
-        Err(fault) => assert_eq!(rt; fault.name, FaultName::Memory),
+fn a_refused_growth_is_memory(rt: HostRuntime) {
+    if let Ok(loaded) = loaded(rt.alloc(), &[(8, ONE_ENTRY), (7, &TWO_ENTRIES)]) {
+        may_lack_memory(&rt, &loaded);
     }
-    Ok(())
 }

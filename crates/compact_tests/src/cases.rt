@@ -33,11 +33,7 @@ fn value_of(row: Row) -> &'static [u8]
 }
 
 /// What an input is made of: its entries, and how its bytes and what is stated of them are spoilt.
-#[derive(Clone, Copy)]
-pub(crate) struct Input {
-    pub(crate) rows: &'static [Row],
-    pub(crate) spoilt: Spoilt,
-}
+pub(crate) type Input = (&'static [Row], Spoilt);
 
 #[derive(Clone, Copy, PartialEq, Eq)]
 pub(crate) enum Spoilt {
@@ -51,14 +47,6 @@ pub(crate) enum Spoilt {
     Size,
     /// The largest key that the version states.
     Largest,
-}
-
-/// An input that is not spoilt.
-pub(crate) fn sound(rows: &'static [Row]) -> Input {
-    Input {
-        rows,
-        spoilt: Spoilt::No,
-    }
 }
 
 /// The internal key of an entry.
@@ -110,13 +98,19 @@ fn spoil(rt: &impl Abort, bytes: &mut [u8], spoilt: Spoilt) {
     }
 }
 
+/// The bytes of an input.
+fn table_of(rt: &(impl Abort + AllocGlobal), input: &Input) -> Result<Vec<u8>, Fault> {
+    let (rows, spoilt) = *input;
+    let mut bytes = written(rt, rows, 4_096)?;
+    spoil(rt, &mut bytes, spoilt);
+    Ok(bytes)
+}
+
 /// The bytes of each input.
 fn tables(rt: &(impl Abort + AllocGlobal), inputs: &[Input]) -> Result<Vec<Vec<u8>>, Fault> {
     let mut tables = Vec::new(rt.alloc());
     for input in inputs {
-        let mut bytes = written(rt, input.rows, 4_096)?;
-        spoil(rt, &mut bytes, input.spoilt);
-        tables.push(bytes)?;
+        tables.push(table_of(rt, input)?)?;
     }
     Ok(tables)
 }
@@ -128,22 +122,21 @@ fn meta_of(
     size: u64,
     (first, last): (Row, Row),
 ) -> Result<FileMeta, Fault> {
-    let smallest = key_of(alloc, first)?;
-    let largest = key_of(alloc, last)?;
     Ok(FileMeta {
         number,
         size,
-        smallest,
-        largest,
+        smallest: key_of(alloc, first)?,
+        largest: key_of(alloc, last)?,
     })
 }
 
 /// What a version states of an input.
 fn file_of(alloc: Global, input: &Input, len: usize) -> Result<InputFile, Fault> {
-    let (Some(first), Some(last)) = (input.rows.first(), input.rows.last()) else {
+    let (rows, spoilt) = *input;
+    let (Some(first), Some(last)) = (rows.first(), rows.last()) else {
         return Err(Fault::of(FaultName::NoInput));
     };
-    let (size, largest) = match input.spoilt {
+    let (size, largest) = match spoilt {
         Spoilt::Size => (1, *last),
         Spoilt::Largest => (len as u64, ("~", 1, Put)),
         _ => (len as u64, *last),
@@ -152,13 +145,17 @@ fn file_of(alloc: Global, input: &Input, len: usize) -> Result<InputFile, Fault>
     Ok(InputFile { level: 1, meta })
 }
 
-/// What a version states of each input.
-fn files(alloc: Global, inputs: &[Input], tables: &[Vec<u8>]) -> Result<Vec<InputFile>, Fault> {
-    let mut files = Vec::new(alloc);
+/// Appends what a version states of each input.
+fn push_files(
+    alloc: Global,
+    files: &mut Vec<InputFile>,
+    inputs: &[Input],
+    tables: &[Vec<u8>],
+) -> Result<(), Fault> {
     for (input, bytes) in inputs.iter().zip(tables) {
         files.push(file_of(alloc, input, bytes.len())?)?;
     }
-    Ok(files)
+    Ok(())
 }
 
 /// The bytes, lent.
@@ -176,25 +173,20 @@ pub(crate) fn split_at(alloc: Global, boundaries: &[u8]) -> Result<Split<Bytewis
     for boundary in boundaries {
         keys.push(Vec::from_slice(alloc, &[*boundary])?)?;
     }
-    Ok(Split::from_keys(keys)?)
+    Split::from_keys(keys)
 }
 
 /// A file of another level: its first and its last key, and its size.
-#[derive(Clone, Copy)]
-pub(crate) struct Other {
-    pub(crate) smallest: Row,
-    pub(crate) largest: Row,
-    pub(crate) size: u64,
-}
+pub(crate) type Other = (Row, Row, u64);
 
 /// A compaction that is asked for. The inputs are files 7 of level 1, the last sequence also is the edit's.
 #[derive(Clone, Copy)]
-pub(crate) struct Case<'c> {
-    pub(crate) inputs: &'c [Input],
+pub(crate) struct Case {
+    pub(crate) inputs: &'static [Input],
     pub(crate) level: u64,
-    pub(crate) grandparents: &'c [Other],
-    pub(crate) deeper: &'c [Other],
-    pub(crate) snapshots: Snapshots<'c>,
+    pub(crate) grandparents: &'static [Other],
+    pub(crate) deeper: &'static [Other],
+    pub(crate) snapshots: Snapshots<'static>,
     pub(crate) last_sequence: u64,
     pub(crate) first_number: u64,
     pub(crate) block_size: u64,
@@ -202,84 +194,70 @@ pub(crate) struct Case<'c> {
 }
 
 /// An output: its number, its length and its entries.
-#[derive(Clone, Copy)]
-pub(crate) struct Output {
-    pub(crate) number: u64,
-    pub(crate) len: usize,
-    pub(crate) rows: &'static [Row],
-}
+pub(crate) type Output = (u64, usize, &'static [Row]);
 
 /// A case and its answer: its outputs, and its edit where that is not empty.
 #[derive(Clone, Copy)]
-pub(crate) struct Answered<'c> {
-    pub(crate) case: Case<'c>,
-    pub(crate) outputs: &'c [Output],
+pub(crate) struct Answered {
+    pub(crate) case: Case,
+    pub(crate) outputs: &'static [Output],
     pub(crate) edit: &'static [u8],
 }
 
-/// A case of level 1 without other files, from sequence 1 on, of options that are the default.
-pub(crate) fn plain(inputs: &[Input]) -> Case<'_> {
-    Case {
-        inputs,
-        level: 1,
-        grandparents: &[],
-        deeper: &[],
-        snapshots: Snapshots::From(1),
-        last_sequence: 9,
-        first_number: 9,
-        block_size: 4_096,
-        file_size: 2_097_152,
-    }
-}
+/// A case of level 1 without files, from sequence 1 on, of options that are the default.
+pub(crate) const PLAIN: Case = Case {
+    inputs: &[],
+    level: 1,
+    grandparents: &[],
+    deeper: &[],
+    snapshots: Snapshots::From(1),
+    last_sequence: 9,
+    first_number: 9,
+    block_size: 4_096,
+    file_size: 2_097_152,
+};
 
 /// A case of the smallest blocks and files, whose outputs begin at number 5.
-pub(crate) fn small(inputs: &[Input]) -> Case<'_> {
-    Case {
-        first_number: 5,
-        block_size: 1,
-        file_size: 1,
-        ..plain(inputs)
+pub(crate) const SMALL: Case = Case {
+    first_number: 5,
+    block_size: 1,
+    file_size: 1,
+    ..PLAIN
+};
+
+/// Appends the stated keys and lengths of other files.
+fn push_others(alloc: Global, all: &mut Vec<FileMeta>, files: &[Other]) -> Result<(), Fault> {
+    for (smallest, largest, size) in files {
+        all.push(meta_of(alloc, 3, *size, (*smallest, *largest))?)?;
     }
+    Ok(())
 }
 
-/// A case with these outputs.
-pub(crate) fn with_outputs<'c>(case: Case<'c>, outputs: &'c [Output]) -> Answered<'c> {
-    Answered {
-        case,
-        outputs,
-        edit: b"",
-    }
-}
-
-/// The stated keys and lengths of other files.
-fn others(alloc: Global, files: &[Other]) -> Result<Vec<FileMeta>, Fault> {
-    let mut all = Vec::new(alloc);
-    for file in files {
-        all.push(meta_of(alloc, 3, file.size, (file.smallest, file.largest))?)?;
-    }
-    Ok(all)
-}
-
-/// The inputs of a case, over these tables. The compact pointer is a put of u at 2.
-fn picked(alloc: Global, case: &Case<'_>, tables: &[Vec<u8>]) -> Result<Inputs, Fault> {
-    let key = key_of(alloc, ("u", 2, Put))?;
-    let grandparents = others(alloc, case.grandparents)?;
-    let deeper = others(alloc, case.deeper)?;
-    let files = files(alloc, case.inputs, tables)?;
+/// Inputs of no file. The compact pointer is a put of u at 2.
+fn no_inputs(alloc: Global, level: u64) -> Result<Inputs, Fault> {
     Ok(Inputs {
-        level: case.level,
-        files,
-        grandparents,
-        deeper,
+        level,
+        files: Vec::new(alloc),
+        grandparents: Vec::new(alloc),
+        deeper: Vec::new(alloc),
         pointer: CompactPointer {
-            level: case.level,
-            key,
+            level,
+            key: key_of(alloc, ("u", 2, Put))?,
         },
     })
 }
 
+/// The inputs of a case, over these tables.
+fn picked(alloc: Global, case: &Case, tables: &[Vec<u8>]) -> Result<Inputs, Fault> {
+    let mut inputs = no_inputs(alloc, case.level)?;
+    push_others(alloc, &mut inputs.grandparents, case.grandparents)?;
+    push_others(alloc, &mut inputs.deeper, case.deeper)?;
+    push_files(alloc, &mut inputs.files, case.inputs, tables)?;
+    Ok(inputs)
+}
+
 /// What a case asks for, of these inputs and their tables.
-fn asked<'x>(case: &Case<'x>, picked: &'x Inputs, tables: &'x [&'x [u8]]) -> Request<'x> {
+fn asked<'x>(case: &Case, picked: &'x Inputs, tables: &'x [&'x [u8]]) -> Request<'x> {
     Request {
         picked,
         tables,
@@ -299,7 +277,7 @@ fn asked<'x>(case: &Case<'x>, picked: &'x Inputs, tables: &'x [&'x [u8]]) -> Req
 /// What a compaction of these inputs over tables answers.
 fn answer_over<R: Threads + Sync + AllocGlobal, G: Gate + Sync>(
     rt: &R,
-    case: &Case<'_>,
+    case: &Case,
     (picked, tables): (&Inputs, &[Vec<u8>]),
     split: &Split<Bytewise>,
     workers: u64,
@@ -313,7 +291,7 @@ fn answer_over<R: Threads + Sync + AllocGlobal, G: Gate + Sync>(
 /// What a compaction answers. A growth of the test itself may be refused too.
 pub(crate) fn answer<R: Abort + AllocGlobal + Threads + Sync, G: Gate + Sync>(
     rt: &R,
-    case: &Case<'_>,
+    case: &Case,
     split: &Split<Bytewise>,
     workers: u64,
     gate: &G,
@@ -333,13 +311,27 @@ fn many_keys(alloc: Global) -> Result<Vec<Vec<u8>>, Fault> {
     Ok(keys)
 }
 
-/// Splits into 1, 3 and 4,096 ranges: without a boundary, at `c` and `f`, and at these many keys.
-fn splits(alloc: Global) -> Result<Vec<Split<Bytewise>>, Fault> {
-    let mut splits = Vec::new(alloc);
-    splits.push(split_at(alloc, b"")?)?;
-    splits.push(split_at(alloc, b"cf")?)?;
-    splits.push(Split::from_keys(many_keys(alloc)?)?)?;
-    Ok(splits)
+/// Where user keys are split.
+#[derive(Clone, Copy)]
+enum Parting {
+    /// Into one range, without a boundary.
+    Nowhere,
+    /// Into three ranges, at `c` and `f`.
+    AtTwoKeys,
+    /// Into 4,096 ranges, at these many keys.
+    AtManyKeys,
+}
+
+/// Splits into 1, 3 and 4,096 ranges.
+const PARTINGS: &[Parting] = &[Parting::Nowhere, Parting::AtTwoKeys, Parting::AtManyKeys];
+
+/// The split there.
+fn split_of(alloc: Global, parting: Parting) -> Result<Split<Bytewise>, Fault> {
+    match parting {
+        Parting::Nowhere => split_at(alloc, b""),
+        Parting::AtTwoKeys => split_at(alloc, b"cf"),
+        Parting::AtManyKeys => Split::from_keys(many_keys(alloc)?),
+    }
 }
 
 /// Whether a table has this number and is the output.
@@ -349,16 +341,13 @@ fn is_output(
     (number, bytes): &(u64, Vec<u8>),
     output: &Output,
 ) -> Result<bool, Fault> {
-    let table = written(rt, output.rows, block_size)?;
-    Ok(
-        *number == output.number
-            && bytes.len() == output.len
-            && bytes.as_slice() == table.as_slice(),
-    )
+    let (wanted, len, rows) = *output;
+    let table = written(rt, rows, block_size)?;
+    Ok(*number == wanted && bytes.len() == len && bytes.as_slice() == table.as_slice())
 }
 
 /// Whether an edit names the number behind the last output as the next file, and has so many new files.
-fn names_outputs(alloc: Global, case: &Case<'_>, edit: &[u8], count: usize) -> Result<bool, Fault> {
+fn names_outputs(alloc: Global, case: &Case, edit: &[u8], count: usize) -> Result<bool, Fault> {
     let edit = VersionEdit::decode(alloc, edit)?;
     let next = case.first_number.checked_add(count as u64);
     Ok(edit.next_file == next && edit.added.len() == count)
@@ -368,7 +357,7 @@ fn names_outputs(alloc: Global, case: &Case<'_>, edit: &[u8], count: usize) -> R
 /// is named; and whether it names the number behind the last output as the next file.
 fn is_answer(
     rt: &(impl Abort + AllocGlobal),
-    row: &Answered<'_>,
+    row: &Answered,
     outcome: &Outcome,
 ) -> Result<bool, Fault> {
     let is_edit = row.edit.is_empty() || outcome.edit.as_slice() == row.edit;
@@ -386,7 +375,7 @@ fn is_answer(
 /// Whether a case has its answer over a split.
 pub(crate) fn gives_over<R: Abort + AllocGlobal + Threads + Sync, G: Gate + Sync>(
     rt: &R,
-    row: &Answered<'_>,
+    row: &Answered,
     split: &Split<Bytewise>,
     workers: u64,
     gate: &G,
@@ -395,62 +384,73 @@ pub(crate) fn gives_over<R: Abort + AllocGlobal + Threads + Sync, G: Gate + Sync
     is_answer(rt, row, &outcome)
 }
 
-/// Tests that a case has its answer over all splits, by 1, 2 and 64 workers.
-pub(crate) fn gives<R: Abort + AllocGlobal + Threads + Sync>(
+/// Tests that a case has its answer over a split, by 1, 2 and 64 workers.
+fn gives_by_each<R: Abort + AllocGlobal + Threads + Sync>(
     rt: &R,
-    row: &Answered<'_>,
-) -> Result<(), Fail> {
-    for split in &splits(rt.alloc())? {
-        for workers in [1, 2, 64] {
-            assert!(rt; gives_over(rt, row, split, workers, &Open)?);
-        }
+    row: &Answered,
+    split: &Split<Bytewise>,
+) -> Result<(), Fault> {
+    for workers in [1, 2, 64] {
+        assert!(rt; gives_over(rt, row, split, workers, &Open)?);
     }
     Ok(())
 }
 
-/// A case that is refused, for each of these numbers of workers.
-#[derive(Clone, Copy)]
-pub(crate) struct Refused<'c> {
-    pub(crate) case: Case<'c>,
-    pub(crate) workers: &'static [u64],
-    pub(crate) fault: Fault,
+/// Tests that a case has its answer over all splits.
+pub(crate) fn gives<R: Abort + AllocGlobal + Threads + Sync>(
+    rt: &R,
+    row: &Answered,
+) -> Result<(), Fault> {
+    for parting in PARTINGS {
+        gives_by_each(rt, row, &split_of(rt.alloc(), *parting)?)?;
+    }
+    Ok(())
+}
+
+/// A case that is refused for each of these numbers of workers, by which name, and for which input where it is about one.
+pub(crate) type Refused = (Case, &'static [u64], FaultName, Option<u64>);
+
+/// The refusal of a case, where it is refused.
+pub(crate) fn refusal<R: Abort + AllocGlobal + Threads + Sync, G: Gate + Sync>(
+    rt: &R,
+    case: &Case,
+    split: &Split<Bytewise>,
+    workers: u64,
+    gate: &G,
+) -> Option<Fault> {
+    match answer(rt, case, split, workers, gate) {
+        Ok(_) => None,
+        Err(fault) => Some(fault),
+    }
+}
+
+/// Tests which refusal it is.
+fn is_refusal(rt: &impl Abort, found: Option<Fault>, wanted: Fault) {
+    assert_eq!(rt; found, Some(wanted));
 }
 
 /// Tests that a case is refused over a split.
 fn refuses_over<R: Abort + AllocGlobal + Threads + Sync, G: Gate + Sync>(
     rt: &R,
-    row: &Refused<'_>,
+    row: &Refused,
     split: &Split<Bytewise>,
     gate: &G,
 ) {
-    for workers in row.workers {
-        let found = answer(rt, &row.case, split, *workers, gate).err();
-        assert_eq!(rt; found, Some(row.fault));
+    let (case, workers, name, input) = *row;
+    for workers in workers {
+        let found = refusal(rt, &case, split, *workers, gate);
+        is_refusal(rt, found, Fault { name, input });
     }
 }
 
 /// Tests that a case is refused over all splits.
 pub(crate) fn refuses<R: Abort + AllocGlobal + Threads + Sync, G: Gate + Sync>(
     rt: &R,
-    row: &Refused<'_>,
+    row: &Refused,
     gate: &G,
-) -> Result<(), Fail> {
-    for split in &splits(rt.alloc())? {
-        refuses_over(rt, row, split, gate);
+) -> Result<(), Fault> {
+    for parting in PARTINGS {
+        refuses_over(rt, row, &split_of(rt.alloc(), *parting)?, gate);
     }
     Ok(())
-}
-
-/// A file of one user key.
-pub(crate) fn single(user: &'static str, sequence: u8, size: u64) -> Other {
-    Other {
-        smallest: (user, sequence, Put),
-        largest: (user, sequence, Put),
-        size,
-    }
-}
-
-/// An output of these entries.
-pub(crate) fn written_as(number: u64, len: usize, rows: &'static [Row]) -> Output {
-    Output { number, len, rows }
 }

@@ -8,12 +8,13 @@ use ikey::Bytewise;
 use ikey::Kind::{Delete, Put};
 use keep::Snapshots;
 use split::Range;
+use std::alloc::Global;
 use std::process::Abort;
 use std::sync::atomic::{AtomicU64, Ordering};
 use std::test::*;
 use std::thread;
 use std::thread::Threads;
-use table::{Cursor, check};
+use table::{Cursor, TableCursor, check};
 
 /// How often a worker that is held looks whether it may go on.
 const TURNS: u64 = 1_000_000;
@@ -33,47 +34,43 @@ const NOTHING_LEFT: &[u8] =
 const DELETION_LEFT: &[u8] =
     b"\x02\x03\x09\x00\x03\x0a\x04\x04\x05\x01\x09\x75\x01\x02\0\0\0\0\0\0\x06\x01\x07\x07\x02\x09\x71\x09\x75\x00\x04\0\0\0\0\0\0\x09\x75\x00\x04\0\0\0\0\0\0";
 
-/// Tests that each of these cases has its answer.
-fn all_give<R: Abort + AllocGlobal + Threads + Sync>(
-    rt: &R,
-    rows: &[Answered<'_>],
-) -> Result<(), Fail> {
-    for row in rows {
-        gives(rt, row)?;
+/// A file of level 3 from t to v.
+const T_TO_V: &[Other] = &[(("t", 1, Put), ("v", 1, Put), 1)];
+
+/// A deletion of u over an older value, without a deeper file.
+const DELETED_ALONE: Case = Case {
+    inputs: &[(DELETED, Spoilt::No)],
+    snapshots: Snapshots::From(4),
+    last_sequence: 4,
+    ..PLAIN
+};
+
+/// The same with a file of level 3 in whose range u lies, which so is a grandparent too.
+const DELETED_ABOVE: Case = Case {
+    grandparents: T_TO_V,
+    deeper: T_TO_V,
+    ..DELETED_ALONE
+};
+
+const DELETIONS: &[Answered] = &[
+    Answered {
+        case: DELETED_ALONE,
+        outputs: &[],
+        edit: NOTHING_LEFT,
+    },
+    Answered {
+        case: DELETED_ABOVE,
+        outputs: &[(9, 113, DELETION)],
+        edit: DELETION_LEFT,
+    },
+];
+
+#[test]
+fn a_deletion_and_the_edit(rt: HostRuntime) -> Result<(), Fault> {
+    for row in DELETIONS {
+        gives(&rt, row)?;
     }
     Ok(())
-}
-
-/// A deletion of u over an older value, without a deeper file, and with one of level 3 in whose range u lies, which so is a
-/// grandparent too.
-#[test]
-fn a_deletion_and_the_edit(rt: HostRuntime) -> Result<(), Fail> {
-    let inputs = [sound(DELETED)];
-    let alone = Case {
-        snapshots: Snapshots::From(4),
-        last_sequence: 4,
-        ..plain(&inputs)
-    };
-    let lower = [Other {
-        smallest: ("t", 1, Put),
-        largest: ("v", 1, Put),
-        size: 1,
-    }];
-    let above = Case {
-        grandparents: &lower,
-        deeper: &lower,
-        ..alone
-    };
-    let nothing = Answered {
-        edit: NOTHING_LEFT,
-        ..with_outputs(alone, &[])
-    };
-    let outputs = [written_as(9, 113, DELETION)];
-    let deletion = Answered {
-        edit: DELETION_LEFT,
-        ..with_outputs(above, &outputs)
-    };
-    all_give(&rt, &[nothing, deletion])
 }
 
 const AF: &[Row] = &[("a", 1, Put), ("f", 4, Put)];
@@ -95,58 +92,57 @@ const A_FF_G: &[Row] = &[("a", 1, Put), ("f", 9, Put), ("f", 4, Put), ("g", 5, P
 /// Whether a case has its answer over three ranges by two workers where job 0 is held until job 2 has left.
 fn gives_held<R: Abort + AllocGlobal + Threads + Sync>(
     rt: &R,
-    row: &Answered<'_>,
+    row: &Answered,
 ) -> Result<bool, Fault> {
     let gate = Held::new();
     let split = split_at(rt.alloc(), b"cf")?;
-    let is_given = gives_over(rt, row, &split, 2, &gate)?;
-    Ok(is_given && gate.has_held())
+    Ok(gives_over(rt, row, &split, 2, &gate)? && gate.has_held())
 }
 
-/// A case of level 0 with these grandparents, whose outputs begin at number 5 and are full at ten bytes.
-fn above<'c>(inputs: &'c [Input], grandparents: &'c [Other]) -> Case<'c> {
-    Case {
-        level: 0,
-        grandparents,
-        first_number: 5,
-        file_size: 10,
-        ..plain(inputs)
-    }
-}
+/// A case of level 0 whose outputs begin at number 5 and are full at ten bytes.
+const TEN_BYTES: Case = Case {
+    level: 0,
+    first_number: 5,
+    file_size: 10,
+    ..PLAIN
+};
 
-#[test]
-fn outputs_end_at_grandparents(rt: HostRuntime) -> Result<(), Fail> {
-    let inputs = [sound(AF), sound(BG), sound(C_DELETED)];
-    let grandparents = [
-        single("bb", 1, 120),
-        single("d", 1, 60),
-        single("ff", 1, 60),
-    ];
-    let apart = Case {
+const APART: &Answered = &Answered {
+    case: Case {
+        inputs: &[(AF, Spoilt::No), (BG, Spoilt::No), (C_DELETED, Spoilt::No)],
+        grandparents: &[
+            (("bb", 1, Put), ("bb", 1, Put), 120),
+            (("d", 1, Put), ("d", 1, Put), 60),
+            (("ff", 1, Put), ("ff", 1, Put), 60),
+        ],
         snapshots: Snapshots::From(9),
-        ..above(&inputs, &grandparents)
-    };
-    let three = [
-        written_as(5, 127, AB),
-        written_as(6, 114, ONLY_F),
-        written_as(7, 114, ONLY_G),
-    ];
-    let row = with_outputs(apart, &three);
-    assert!(rt; gives_held(&rt, &row)?);
-    gives(&rt, &row)
+        ..TEN_BYTES
+    },
+    outputs: &[(5, 127, AB), (6, 114, ONLY_F), (7, 114, ONLY_G)],
+    edit: b"",
+};
+
+#[test]
+fn outputs_end_at_grandparents(rt: HostRuntime) -> Result<(), Fault> {
+    assert!(rt; gives_held(&rt, APART)?);
+    gives(&rt, APART)
 }
 
-// The stop lies between two versions of f.
-#[test]
-fn a_stop_waits_for_the_next_user_key(rt: HostRuntime) -> Result<(), Fail> {
-    let inputs = [sound(A_FF_G)];
-    let grandparents = [single("f", 6, 120)];
-    let waits = Case {
+/// The stop lies between two versions of f.
+const WAITING: &Answered = &Answered {
+    case: Case {
+        inputs: &[(A_FF_G, Spoilt::No)],
+        grandparents: &[(("f", 6, Put), ("f", 6, Put), 120)],
         snapshots: Snapshots::From(0),
-        ..above(&inputs, &grandparents)
-    };
-    let two = [written_as(5, 138, A_FF), written_as(6, 114, ONLY_G)];
-    gives(&rt, &with_outputs(waits, &two))
+        ..TEN_BYTES
+    },
+    outputs: &[(5, 138, A_FF), (6, 114, ONLY_G)],
+    edit: b"",
+};
+
+#[test]
+fn a_stop_waits_for_the_next_user_key(rt: HostRuntime) -> Result<(), Fault> {
+    gives(&rt, WAITING)
 }
 
 const ONLY_A: &[Row] = &[("a", 1, Put)];
@@ -161,228 +157,279 @@ const U_THRICE: &[Row] = &[("u", 9, Put), ("u", 5, Put), ("u", 3, Put)];
 
 const ONLY_V: &[Row] = &[("v", 1, Put)];
 
+/// Three entries, each of which is an output.
+const EACH: Answered = Answered {
+    case: Case {
+        inputs: &[
+            (ONLY_A, Spoilt::No),
+            (ONLY_C, Spoilt::No),
+            (ONLY_B, Spoilt::No),
+        ],
+        ..SMALL
+    },
+    outputs: &[(5, 114, ONLY_A), (6, 114, ONLY_B), (7, 114, ONLY_C)],
+    edit: b"",
+};
+
 /// A small case whose oldest snapshot is 2.
-fn seen_from_two(inputs: &[Input]) -> Case<'_> {
-    Case {
-        snapshots: Snapshots::From(2),
-        ..small(inputs)
-    }
-}
+const SEEN_FROM_TWO: Case = Case {
+    snapshots: Snapshots::From(2),
+    ..SMALL
+};
 
-#[test]
-fn full_outputs_end_between_user_keys(rt: HostRuntime) -> Result<(), Fail> {
-    let each = [sound(ONLY_A), sound(ONLY_C), sound(ONLY_B)];
-    let three = [
-        written_as(5, 114, ONLY_A),
-        written_as(6, 114, ONLY_B),
-        written_as(7, 114, ONLY_C),
-    ];
-    let versions = [sound(U_THRICE)];
-    let one = [written_as(5, 202, U_THRICE)];
-    let both = [sound(U_THRICE), sound(ONLY_V)];
-    let two = [written_as(5, 202, U_THRICE), written_as(6, 114, ONLY_V)];
-    let rows = [
-        with_outputs(small(&each), &three),
-        with_outputs(seen_from_two(&versions), &one),
-        with_outputs(seen_from_two(&both), &two),
-    ];
-    all_give(&rt, &rows)
-}
-
-const NEWER: &[Row] = &[("u", 9, Put), ("u", 5, Put)];
-
-const OLDER: &[Row] = &[("u", 7, Put), ("u", 3, Put)];
-
-/// Lists of snapshots, with the length of the one output and its entries.
-const KEPT: &[(&[u64], usize, &[Row])] = &[
-    (&[], 114, &[("u", 9, Put)]),
-    (&[5], 125, &[("u", 9, Put), ("u", 5, Put)]),
-    (&[6], 125, &[("u", 9, Put), ("u", 5, Put)]),
-    (&[7], 125, &[("u", 9, Put), ("u", 7, Put)]),
-    (&[3, 6], 136, &[("u", 9, Put), ("u", 5, Put), ("u", 3, Put)]),
+const FULL: &[Answered] = &[
+    EACH,
+    Answered {
+        case: Case {
+            inputs: &[(U_THRICE, Spoilt::No)],
+            ..SEEN_FROM_TWO
+        },
+        outputs: &[(5, 202, U_THRICE)],
+        edit: b"",
+    },
+    Answered {
+        case: Case {
+            inputs: &[(U_THRICE, Spoilt::No), (ONLY_V, Spoilt::No)],
+            ..SEEN_FROM_TWO
+        },
+        outputs: &[(5, 202, U_THRICE), (6, 114, ONLY_V)],
+        edit: b"",
+    },
 ];
 
-const ABOVE_LAST: &[Row] = &[("u", 12, Put), ("u", 9, Put)];
-
-/// Tests that an input of newer entries and one of older ones leave one output, of these entries, where a list is read.
-fn keeps<R: Abort + AllocGlobal + Threads + Sync>(
-    rt: &R,
-    (list, len, kept): (&'static [u64], usize, &'static [Row]),
-) -> Result<(), Fail> {
-    let inputs = [sound(NEWER), sound(OLDER)];
-    let listed = Case {
-        snapshots: Snapshots::Listed(list),
-        ..plain(&inputs)
-    };
-    gives(rt, &with_outputs(listed, &[written_as(9, len, kept)]))
-}
-
 #[test]
-fn listed_snapshots_see_what_they_saw(rt: HostRuntime) -> Result<(), Fail> {
-    for row in KEPT {
-        keeps(&rt, *row)?;
-    }
-    let deleted = [sound(DELETED)];
-    let both = Case {
-        snapshots: Snapshots::Listed(&[2]),
-        last_sequence: 4,
-        ..plain(&deleted)
-    };
-    let none = Case {
-        snapshots: Snapshots::Listed(&[]),
-        ..both
-    };
-    let above = [sound(ABOVE_LAST)];
-    let later = Case {
-        snapshots: Snapshots::Listed(&[]),
-        ..plain(&above)
-    };
-    let two = [written_as(9, 125, DELETED)];
-    let newest = [written_as(9, 125, ABOVE_LAST)];
-    let rows = [
-        with_outputs(both, &two),
-        with_outputs(none, &[]),
-        with_outputs(later, &newest),
-    ];
-    all_give(&rt, &rows)
-}
-
-/// The input of a, whose block fails its checksum.
-const BAD_BLOCK: Input = Input {
-    rows: &[("a", 1, Put)],
-    spoilt: Spoilt::Block,
-};
-
-/// The input of a, whose magic is another.
-const BAD_MAGIC: Input = Input {
-    rows: &[("a", 1, Put)],
-    spoilt: Spoilt::Magic,
-};
-
-/// The input of a, of whose file another size is stated.
-const BAD_SIZE: Input = Input {
-    rows: &[("a", 1, Put)],
-    spoilt: Spoilt::Size,
-};
-
-/// The input of a, of whose file another largest key is stated.
-const BAD_LARGEST: Input = Input {
-    rows: &[("a", 1, Put)],
-    spoilt: Spoilt::Largest,
-};
-
-/// A refusal that is about an input.
-fn about(name: FaultName, place: u64) -> Fault {
-    Fault {
-        name,
-        input: Some(place),
-    }
-}
-
-/// The numbers of workers of a row that names none.
-const WORKERS: &[u64] = &[1, 2, 64];
-
-/// A case that is refused by a fault that is about no input.
-fn refused_by<'c>(case: Case<'c>, workers: &'static [u64], name: FaultName) -> Refused<'c> {
-    Refused {
-        case,
-        workers,
-        fault: Fault::of(name),
-    }
-}
-
-/// A case that is refused for an input.
-fn refused_at(case: Case<'_>, name: FaultName, place: u64) -> Refused<'_> {
-    Refused {
-        case,
-        workers: WORKERS,
-        fault: about(name, place),
-    }
-}
-
-/// Tests that each of these cases is refused.
-fn all_refuse<R: Abort + AllocGlobal + Threads + Sync>(
-    rt: &R,
-    rows: &[Refused<'_>],
-) -> Result<(), Fail> {
-    for row in rows {
-        refuses(rt, row, &Open)?;
+fn full_outputs_end_between_user_keys(rt: HostRuntime) -> Result<(), Fault> {
+    for row in FULL {
+        gives(&rt, row)?;
     }
     Ok(())
 }
 
-#[test]
-fn the_first_refusal_of_a_request(rt: HostRuntime) -> Result<(), Fail> {
-    let none = plain(&[]);
-    let level = Case { level: 6, ..none };
-    let inputs = [BAD_BLOCK, sound(ONLY_U)];
-    let high = Case {
-        snapshots: Snapshots::From(NO_SNAPSHOT),
-        ..plain(&inputs)
-    };
-    let high_last = Case {
-        last_sequence: NO_SNAPSHOT,
-        ..plain(&inputs)
-    };
-    let repeated = Case {
-        snapshots: Snapshots::Listed(&[6, 6]),
-        ..plain(&inputs)
-    };
-    let above = Case {
-        snapshots: Snapshots::Listed(&[10]),
-        ..plain(&inputs)
-    };
-    let rows = [
-        refused_by(level, &[0], FaultName::Workers),
-        refused_by(none, &[0, 65], FaultName::Workers),
-        refused_by(none, WORKERS, FaultName::NoInput),
-        refused_by(level, WORKERS, FaultName::NoInput),
-        refused_by(high, WORKERS, FaultName::Snapshot),
-        refused_by(high_last, WORKERS, FaultName::Snapshot),
-        refused_by(repeated, WORKERS, FaultName::SnapshotList),
-        refused_by(above, WORKERS, FaultName::SnapshotList),
-    ];
-    all_refuse(&rt, &rows)
+/// Newer entries of u, and older ones.
+const NEWER_AND_OLDER: Case = Case {
+    inputs: &[
+        (&[("u", 9, Put), ("u", 5, Put)], Spoilt::No),
+        (&[("u", 7, Put), ("u", 3, Put)], Spoilt::No),
+    ],
+    ..PLAIN
+};
+
+/// Lists of snapshots, with the one output of newer and older entries.
+const KEPT: &[(&[u64], &[Output])] = &[
+    (&[], &[(9, 114, &[("u", 9, Put)])]),
+    (&[5], &[(9, 125, &[("u", 9, Put), ("u", 5, Put)])]),
+    (&[6], &[(9, 125, &[("u", 9, Put), ("u", 5, Put)])]),
+    (&[7], &[(9, 125, &[("u", 9, Put), ("u", 7, Put)])]),
+    (
+        &[3, 6],
+        &[(9, 136, &[("u", 9, Put), ("u", 5, Put), ("u", 3, Put)])],
+    ),
+];
+
+/// Newer and older entries where these snapshots are listed, and their outputs.
+fn listing(list: &'static [u64], outputs: &'static [Output]) -> Answered {
+    Answered {
+        case: Case {
+            snapshots: Snapshots::Listed(list),
+            ..NEWER_AND_OLDER
+        },
+        outputs,
+        edit: b"",
+    }
 }
 
 #[test]
-fn the_least_input_is_refused_first(rt: HostRuntime) -> Result<(), Fail> {
-    let outer = [BAD_BLOCK, sound(ONLY_U), BAD_BLOCK];
+fn listed_snapshots_see_what_they_saw(rt: HostRuntime) -> Result<(), Fault> {
+    for (list, outputs) in KEPT {
+        gives(&rt, &listing(*list, *outputs))?;
+    }
+    Ok(())
+}
+
+const ABOVE_LAST: &[Row] = &[("u", 12, Put), ("u", 9, Put)];
+
+/// A deletion of u over an older value, with the last sequence 4.
+const DELETED_LISTED: Case = Case {
+    inputs: &[(DELETED, Spoilt::No)],
+    last_sequence: 4,
+    ..PLAIN
+};
+
+const LISTED: &[Answered] = &[
+    Answered {
+        case: Case {
+            snapshots: Snapshots::Listed(&[2]),
+            ..DELETED_LISTED
+        },
+        outputs: &[(9, 125, DELETED)],
+        edit: b"",
+    },
+    Answered {
+        case: Case {
+            snapshots: Snapshots::Listed(&[]),
+            ..DELETED_LISTED
+        },
+        outputs: &[],
+        edit: b"",
+    },
+    // An entry above the last sequence, and one at it.
+    Answered {
+        case: Case {
+            inputs: &[(ABOVE_LAST, Spoilt::No)],
+            snapshots: Snapshots::Listed(&[]),
+            ..PLAIN
+        },
+        outputs: &[(9, 125, ABOVE_LAST)],
+        edit: b"",
+    },
+];
+
+#[test]
+fn deletions_and_later_entries_of_listed_snapshots(rt: HostRuntime) -> Result<(), Fault> {
+    for row in LISTED {
+        gives(&rt, row)?;
+    }
+    Ok(())
+}
+
+/// The input of a, whose block fails its checksum.
+const BAD_BLOCK: Input = (ONLY_A, Spoilt::Block);
+
+/// The input of a, whose magic is another.
+const BAD_MAGIC: Input = (ONLY_A, Spoilt::Magic);
+
+/// The input of a, of whose file another size is stated.
+const BAD_SIZE: Input = (ONLY_A, Spoilt::Size);
+
+/// The input of a, of whose file another largest key is stated.
+const BAD_LARGEST: Input = (ONLY_A, Spoilt::Largest);
+
+/// The input of u.
+const GOOD: Input = (ONLY_U, Spoilt::No);
+
+/// The numbers of workers of a row that names none of its own.
+const WORKERS: &[u64] = &[1, 2, 64];
+
+/// A case of level 6 without inputs.
+const LEVEL_SIX: Case = Case { level: 6, ..PLAIN };
+
+/// A case whose first input is spoilt.
+const FIRST_SPOILT: Case = Case {
+    inputs: &[BAD_BLOCK, GOOD],
+    ..PLAIN
+};
+
+/// The same with too high an oldest snapshot.
+const HIGH_OLDEST: Case = Case {
+    snapshots: Snapshots::From(NO_SNAPSHOT),
+    ..FIRST_SPOILT
+};
+
+/// The same with too high a last sequence.
+const HIGH_LAST: Case = Case {
+    last_sequence: NO_SNAPSHOT,
+    ..FIRST_SPOILT
+};
+
+/// The same with a snapshot that is listed twice.
+const LISTED_TWICE: Case = Case {
+    snapshots: Snapshots::Listed(&[6, 6]),
+    ..FIRST_SPOILT
+};
+
+/// The same with a snapshot above the last sequence.
+const LISTED_ABOVE: Case = Case {
+    snapshots: Snapshots::Listed(&[10]),
+    ..FIRST_SPOILT
+};
+
+const REFUSED_REQUESTS: &[Refused] = &[
+    (LEVEL_SIX, &[0], FaultName::Workers, None),
+    (PLAIN, &[0, 65], FaultName::Workers, None),
+    (PLAIN, WORKERS, FaultName::NoInput, None),
+    (LEVEL_SIX, WORKERS, FaultName::NoInput, None),
+    (HIGH_OLDEST, WORKERS, FaultName::Snapshot, None),
+    (HIGH_LAST, WORKERS, FaultName::Snapshot, None),
+    (LISTED_TWICE, WORKERS, FaultName::SnapshotList, None),
+    (LISTED_ABOVE, WORKERS, FaultName::SnapshotList, None),
+];
+
+#[test]
+fn the_first_refusal_of_a_request(rt: HostRuntime) -> Result<(), Fault> {
+    for row in REFUSED_REQUESTS {
+        refuses(&rt, row, &Open)?;
+    }
+    Ok(())
+}
+
+/// A case whose first and last input are spoilt.
+const OUTER_SPOILT: Case = Case {
+    inputs: &[BAD_BLOCK, GOOD, BAD_BLOCK],
+    ..PLAIN
+};
+
+const REFUSED_OUTER: &Refused = &(OUTER_SPOILT, &[2], FaultName::Trailer, Some(0));
+
+#[test]
+fn the_least_input_is_refused_first(rt: HostRuntime) -> Result<(), Fault> {
     let gate = Held::new();
-    let by_two = Refused {
-        workers: &[2],
-        ..refused_at(plain(&outer), FaultName::Trailer, 0)
-    };
-    refuses(&rt, &by_two, &gate)?;
+    refuses(&rt, REFUSED_OUTER, &gate)?;
     assert!(rt; gate.has_held());
     Ok(())
 }
 
+/// Two inputs that are spoilt.
+const BOTH_SPOILT: Case = Case {
+    inputs: &[BAD_BLOCK, BAD_BLOCK],
+    ..PLAIN
+};
+
+/// A spoilt input between two that are not.
+const MIDDLE_SPOILT: Case = Case {
+    inputs: &[GOOD, BAD_MAGIC, GOOD],
+    ..PLAIN
+};
+
+/// An input of which another size is stated, behind one that is not spoilt.
+const SIZE_STATED: Case = Case {
+    inputs: &[GOOD, BAD_SIZE],
+    ..PLAIN
+};
+
+/// An input of which another largest key is stated, before one that is spoilt.
+const LARGEST_STATED: Case = Case {
+    inputs: &[BAD_LARGEST, BAD_BLOCK],
+    ..PLAIN
+};
+
+/// An entry that two inputs have, where the numbers run out.
+const TWICE: Case = Case {
+    inputs: &[GOOD, GOOD],
+    first_number: u64::MAX,
+    ..PLAIN
+};
+
+/// An entry that one input has, where the numbers run out.
+const ONCE: Case = Case {
+    inputs: &[GOOD],
+    ..TWICE
+};
+
+const REFUSED_INPUTS: &[Refused] = &[
+    (BOTH_SPOILT, WORKERS, FaultName::Trailer, Some(0)),
+    (MIDDLE_SPOILT, WORKERS, FaultName::Magic, Some(1)),
+    (SIZE_STATED, WORKERS, FaultName::Bounds, Some(1)),
+    (LARGEST_STATED, WORKERS, FaultName::Bounds, Some(0)),
+    (TWICE, WORKERS, FaultName::Duplicate, None),
+    (ONCE, WORKERS, FaultName::Numbers, None),
+];
+
 #[test]
-fn the_first_refusal_of_inputs(rt: HostRuntime) -> Result<(), Fail> {
-    let both = [BAD_BLOCK, BAD_BLOCK];
-    let middle = [sound(ONLY_U), BAD_MAGIC, sound(ONLY_U)];
-    let stated = [sound(ONLY_U), BAD_SIZE];
-    let first = [BAD_LARGEST, BAD_BLOCK];
-    let twice = [sound(ONLY_U), sound(ONLY_U)];
-    let numbers = Case {
-        first_number: u64::MAX,
-        ..plain(&twice)
-    };
-    let once = [sound(ONLY_U)];
-    let run_out = Case {
-        inputs: &once,
-        ..numbers
-    };
-    let rows = [
-        refused_at(plain(&both), FaultName::Trailer, 0),
-        refused_at(plain(&middle), FaultName::Magic, 1),
-        refused_at(plain(&stated), FaultName::Bounds, 1),
-        refused_at(plain(&first), FaultName::Bounds, 0),
-        refused_by(numbers, WORKERS, FaultName::Duplicate),
-        refused_by(run_out, WORKERS, FaultName::Numbers),
-    ];
-    all_refuse(&rt, &rows)
+fn the_first_refusal_of_inputs(rt: HostRuntime) -> Result<(), Fault> {
+    for row in REFUSED_INPUTS {
+        refuses(&rt, row, &Open)?;
+    }
+    Ok(())
 }
 
 /// Holds job 0 until job 2 has left, as often as it comes.
@@ -467,53 +514,39 @@ fn have_met(gate: &Meeting, often: u64) -> bool {
 /// Whether a case has its answer over two ranges by two workers that meet in each run, three times.
 fn gives_meeting<R: Abort + AllocGlobal + Threads + Sync>(
     rt: &R,
-    row: &Answered<'_>,
+    row: &Answered,
 ) -> Result<bool, Fault> {
     let gate = Meeting {
         come: [AtomicU64::new(0), AtomicU64::new(0)],
         given_up: AtomicU64::new(0),
     };
     let split = split_at(rt.alloc(), b"c")?;
-    let is_given = gives_over(rt, row, &split, 2, &gate)?;
-    Ok(is_given && have_met(&gate, 3))
+    Ok(gives_over(rt, row, &split, 2, &gate)? && have_met(&gate, 3))
 }
+
+/// An entry of each of two ranges, each of which is an output.
+const ONE_IN_EACH_RANGE: &Answered = &Answered {
+    case: Case {
+        inputs: &[(ONLY_A, Spoilt::No), GOOD],
+        first_number: 9,
+        ..SMALL
+    },
+    outputs: &[(9, 114, ONLY_A), (10, 114, ONLY_U)],
+    edit: b"",
+};
 
 /// A caller that does all jobs of a run itself would give up here.
 #[test]
-fn two_workers_meet_in_each_run(rt: HostRuntime) -> Result<(), Fail> {
-    let inputs = [sound(ONLY_A), sound(ONLY_U)];
-    let case = Case {
-        first_number: 9,
-        ..small(&inputs)
-    };
-    let two = [written_as(9, 114, ONLY_A), written_as(10, 114, ONLY_U)];
-    assert!(rt; gives_meeting(&rt, &with_outputs(case, &two))?);
+fn two_workers_meet_in_each_run(rt: HostRuntime) -> Result<(), Fault> {
+    assert!(rt; gives_meeting(&rt, ONE_IN_EACH_RANGE)?);
     Ok(())
-}
-
-/// Whether a case has its answer over three ranges by two workers.
-fn gives_by_two<R: Abort + AllocGlobal + Threads + Sync>(
-    rt: &R,
-    row: &Answered<'_>,
-) -> Result<bool, Fault> {
-    let split = split_at(rt.alloc(), b"cf")?;
-    gives_over(rt, row, &split, 2, &Open)
-}
-
-/// The refusal of a case over three ranges by two workers.
-fn refusal_by_two<R: Abort + AllocGlobal + Threads + Sync>(
-    rt: &R,
-    case: &Case<'_>,
-) -> Result<Option<Fault>, Fault> {
-    let split = split_at(rt.alloc(), b"cf")?;
-    Ok(answer(rt, case, &split, 2, &Open).err())
 }
 
 /// Where a range begins and ends, and the first user key of each cursor that is put over the tables.
 type Reached = (Option<&'static [u8]>, Option<&'static [u8]>, &'static [u8]);
 
 /// Of a table of a and f, and one of b and g.
-const REACHED: [Reached; 8] = [
+const REACHED: &[Reached] = &[
     (None, None, b"ab"),
     (None, Some(b"a"), b""),
     (None, Some(b"b"), b"a"),
@@ -524,52 +557,107 @@ const REACHED: [Reached; 8] = [
     (Some(b"h"), None, b""),
 ];
 
-/// The first user key of each cursor that is put over tables for a range.
-fn first_keys(
-    rt: &(impl Abort + AllocGlobal),
-    tables: &[&[u8]],
+/// The cursors that are put over tables for a range.
+fn cursors_over<'a>(
+    alloc: Global,
+    tables: &[&'a [u8]],
     range: Range<'_>,
-) -> Result<Vec<u8>, Fail> {
-    let mut cursors = Vec::new(rt.alloc());
+) -> Result<Vec<TableCursor<'a, Bytewise>>, Fault> {
+    let mut cursors = Vec::new(alloc);
     for bytes in tables {
-        let table = check::<Bytewise>(rt.alloc(), bytes)?;
-        add_cursor(rt.alloc(), &mut cursors, &table, range)?;
+        add_cursor(
+            alloc,
+            &mut cursors,
+            &check::<Bytewise>(alloc, bytes)?,
+            range,
+        )?;
     }
-    let mut users = Vec::new(rt.alloc());
-    for cursor in &cursors {
-        assert!(rt; cursor.valid());
-        users.extend_from_slice(cursor.key().user())?;
-    }
-    Ok(users)
+    Ok(cursors)
 }
 
-#[test]
-fn tables_that_reach_into_a_range(rt: HostRuntime) -> Result<(), Fail> {
-    let first = written(&rt, AF, 4_096)?;
-    let second = written(&rt, BG, 4_096)?;
-    for (lower, upper, users) in REACHED {
-        let range = Range { lower, upper };
-        let found = first_keys(&rt, &[&first, &second], range)?;
-        assert_eq!(rt; found.as_slice(), users);
+/// Whether cursors stand at these user keys of one byte.
+fn stand_at(cursors: &[TableCursor<'_, Bytewise>], users: &[u8]) -> bool {
+    for (cursor, user) in cursors.iter().zip(users) {
+        if !cursor.valid() || cursor.key().user() != [*user].as_slice() {
+            return false;
+        }
+    }
+    cursors.len() == users.len()
+}
+
+/// Whether the cursors that are put over tables for a range stand at the user keys of a row.
+fn reach(alloc: Global, tables: &[&[u8]], row: &Reached) -> Result<bool, Fault> {
+    let (lower, upper, users) = *row;
+    let cursors = cursors_over(alloc, tables, Range { lower, upper })?;
+    Ok(stand_at(&cursors, users))
+}
+
+/// Tests that two tables reach into these ranges.
+fn all_reach(rt: &(impl Abort + AllocGlobal), first: &[u8], second: &[u8]) -> Result<(), Fault> {
+    for row in REACHED {
+        assert!(rt; reach(rt.alloc(), &[first, second], row)?);
     }
     Ok(())
 }
 
+#[test]
+fn tables_that_reach_into_a_range(rt: HostRuntime) -> Result<(), Fault> {
+    let first = written(&rt, AF, 4_096)?;
+    let second = written(&rt, BG, 4_096)?;
+    all_reach(&rt, &first, &second)
+}
+
+/// Whether a case has its answer over three ranges by two workers.
+fn gives_by_two<R: Abort + AllocGlobal + Threads + Sync>(
+    rt: &R,
+    row: &Answered,
+) -> Result<bool, Fault> {
+    let split = split_at(rt.alloc(), b"cf")?;
+    gives_over(rt, row, &split, 2, &Open)
+}
+
+/// Whether a case over three ranges by two workers has its answer, or is refused for want of memory.
+fn gives_or_memory<R: Abort + AllocGlobal + Threads + Sync>(rt: &R, row: &Answered) -> bool {
+    match gives_by_two(rt, row) {
+        Ok(is_given) => is_given,
+        Err(fault) => fault == Fault::of(FaultName::Memory),
+    }
+}
+
+/// The refusal of a case over three ranges by two workers.
+fn refusal_by_two<R: Abort + AllocGlobal + Threads + Sync>(
+    rt: &R,
+    case: &Case,
+) -> Result<Option<Fault>, Fault> {
+    let split = split_at(rt.alloc(), b"cf")?;
+    Ok(refusal(rt, case, &split, 2, &Open))
+}
+
+/// Whether a case over three ranges by two workers is refused for input 0 as Trailer, or for want of memory.
+fn refuses_or_memory<R: Abort + AllocGlobal + Threads + Sync>(rt: &R, case: &Case) -> bool {
+    let trailer = Fault {
+        name: FaultName::Trailer,
+        input: Some(0),
+    };
+    match refusal_by_two(rt, case) {
+        Ok(Some(fault)) => fault == trailer || fault == Fault::of(FaultName::Memory),
+        Ok(None) => false,
+        Err(fault) => fault == Fault::of(FaultName::Memory),
+    }
+}
+
+/// The case of three outputs.
+const EACH_ALONE: &Answered = &EACH;
+
+/// A spoilt input before and behind one of b.
+const OUTER_SPOILT_OF_B: &Case = &Case {
+    inputs: &[BAD_BLOCK, (ONLY_B, Spoilt::No), BAD_BLOCK],
+    ..PLAIN
+};
+
 // With `rt try --test --fail-alloc N` the Nth growth is refused; without it, none is.
 #[test]
 fn a_refused_growth_is_memory(rt: HostRuntime) {
-    let each = [sound(ONLY_A), sound(ONLY_C), sound(ONLY_B)];
-    let three = [
-        written_as(5, 114, ONLY_A),
-        written_as(6, 114, ONLY_B),
-        written_as(7, 114, ONLY_C),
-    ];
-    let memory = Fault::of(FaultName::Memory);
-    let given = gives_by_two(&rt, &with_outputs(small(&each), &three));
-    assert!(rt; given == Ok(true) || given == Err(memory));
-    let outer = [BAD_BLOCK, sound(ONLY_B), BAD_BLOCK];
-    let trailer = about(FaultName::Trailer, 0);
-    let refused = refusal_by_two(&rt, &plain(&outer));
-    let is_memory = refused == Err(memory) || refused == Ok(Some(memory));
-    assert!(rt; is_memory || refused == Ok(Some(trailer)));
+    assert!(rt; gives_or_memory(&rt, EACH_ALONE));
+    assert!(rt; refuses_or_memory(&rt, OUTER_SPOILT_OF_B));
 }

@@ -4,7 +4,7 @@ ghost use Rattle.std.specs.Prelude.{◌≡◌, map, IfOk};
 ghost use Rattle.cut.specs.Plan.{encoded};
 ghost use Rattle.cut.specs.Planning.{lists_in};
 
-use crate::sources::{SIX, inputs, no_inputs, plan_of, put, runs_of, same, three, written};
+use crate::sources::{ABC, SIX, THREE, inputs, no_inputs, plan_of, runs_of, same, written};
 use coding::{Fault, FaultName};
 use cut::Plan;
 use ikey::Bytewise;
@@ -89,12 +89,17 @@ fn are_tables(rt: &(impl Abort + AllocGlobal), tables: &[(u64, Vec<u8>)]) {
     assert!(rt; tables.len() == 3 && tables[0].1.as_slice() == ONE_ENTRY.as_slice());
 }
 
+/// The tables of a table of three entries, which are merged in two ranges.
+fn tables_of(rt: &(impl Abort + AllocGlobal), bytes: &[u8]) -> Result<Vec<(u64, Vec<u8>)>, Fault> {
+    let inputs = no_inputs(rt)?;
+    let runs = runs_of(rt, bytes, Some(b"b"), &inputs)?;
+    tables_of_three(rt, &runs)
+}
+
 #[test]
 fn pieces_make_the_tables(rt: HostRuntime) -> Result<(), Fault> {
-    let bytes = written(&rt, &[put(b"a", 1), put(b"b", 2), put(b"c", 3)], b"x")?;
-    let inputs = no_inputs(&rt)?;
-    let runs = runs_of(&rt, &bytes, Some(b"b"), &inputs)?;
-    are_tables(&rt, &tables_of_three(&rt, &runs)?);
+    let bytes = written(&rt, ABC, b"x")?;
+    are_tables(&rt, &tables_of(&rt, &bytes)?);
     Ok(())
 }
 
@@ -134,22 +139,22 @@ fn are_same(
     }
 }
 
-/// Whether the tables of a table's two runs are the same when they are asked for again, or one answer is refused for want of
-/// memory.
-fn are_same_again(
-    rt: &(impl Abort + AllocGlobal),
-    bytes: &[u8],
-    inputs: &Inputs,
-) -> Result<bool, Fault> {
-    let runs = runs_of(rt, bytes, Some(b"b"), inputs)?;
-    Ok(are_same(tables(rt, &runs, inputs), tables(rt, &runs, inputs)))
+/// Whether the tables of runs are the same when they are asked for again, or one answer is refused for want of memory.
+fn are_same_again(rt: &(impl Abort + AllocGlobal), runs: &[RangeRun<'_>], inputs: &Inputs) -> bool {
+    are_same(tables(rt, runs, inputs), tables(rt, runs, inputs))
+}
+
+/// The same of the two runs of a table over three grandparents.
+fn are_same_again_of(rt: &(impl Abort + AllocGlobal), bytes: &[u8]) -> Result<bool, Fault> {
+    let inputs = inputs(rt, THREE)?;
+    let runs = runs_of(rt, bytes, Some(b"b"), &inputs)?;
+    Ok(are_same_again(rt, &runs, &inputs))
 }
 
 // With `rt try --test --fail-alloc N` the Nth growth is refused; without it, none is.
 #[test]
 fn a_refused_growth_is_memory(rt: HostRuntime) -> Result<(), Fault> {
-    let inputs = inputs(&rt, &three())?;
-    let bytes = written(&rt, &SIX, b"x")?;
-    assert!(rt; are_same_again(&rt, &bytes, &inputs)?);
+    let bytes = written(&rt, SIX, b"x")?;
+    assert!(rt; are_same_again_of(&rt, &bytes)?);
     Ok(())
 }

@@ -1,11 +1,12 @@
 //! Where outputs end, and what a plan tells of them.
 
 use crate::sources::{
-    Grandparent, MAX_VALUE, Row, cursors_over, default_plan, del, inputs, merged, no_inputs,
-    plan_of, put, runs_of, same, sound, three, written,
+    ABC, Grandparent, MAX_VALUE, Row, THREE, cursors_over, default_plan, inputs, merged, no_inputs,
+    plan_of, runs_of, same, sound, written,
 };
 use coding::{Fault, FaultName};
 use cut::{Plan, lengths_law, outputs_law, pieces_law, ranges_cut, stops_law, whole_law};
+use ikey::Kind::{Delete, Put};
 use ikey::{Bytewise, Shortlex};
 use keep::RangeRun;
 use pick::Inputs;
@@ -16,9 +17,9 @@ use table::{Options, SoundTable};
 
 /// A plan that is asked for: of these entries, which are merged in one range or in two.
 #[derive(Clone, Copy)]
-struct Case<'c> {
-    rows: &'c [Row],
-    grandparents: &'c [Grandparent],
+struct Case {
+    rows: &'static [Row],
+    grandparents: &'static [Grandparent],
     boundary: Option<&'static [u8]>,
     block_size: u64,
     file_size: u64,
@@ -53,7 +54,7 @@ fn outputs_in(
 /// The outputs of the runs of a case.
 fn outputs_over(
     rt: &(impl Abort + AllocGlobal),
-    case: &Case<'_>,
+    case: &Case,
     runs: &[RangeRun<'_>],
     inputs: &Inputs,
 ) -> Result<Vec<Output>, Fault> {
@@ -69,7 +70,7 @@ fn outputs_over(
 /// The outputs of a case, whose entries are in a table.
 fn outputs_of(
     rt: &(impl Abort + AllocGlobal),
-    case: &Case<'_>,
+    case: &Case,
     bytes: &[u8],
 ) -> Result<Vec<Output>, Fault> {
     let inputs = inputs(rt, case.grandparents)?;
@@ -78,41 +79,29 @@ fn outputs_of(
 }
 
 /// The outputs of a case.
-fn outputs(rt: &(impl Abort + AllocGlobal), case: &Case<'_>) -> Result<Vec<Output>, Fault> {
+fn outputs(rt: &(impl Abort + AllocGlobal), case: &Case) -> Result<Vec<Output>, Fault> {
     let bytes = written(rt, case.rows, b"x")?;
     outputs_of(rt, case, &bytes)
 }
 
-/// How many entries each output has.
-fn counts(rt: &(impl Abort + AllocGlobal), outputs: &[Output]) -> Result<Vec<u64>, Fault> {
-    let mut counts = Vec::new(rt.alloc());
-    for output in outputs {
-        counts.push(output.entries)?;
+/// Tests how many entries each output has.
+fn have_entries(rt: &impl Abort, outputs: &[Output], wanted: &[u64]) {
+    assert!(rt; outputs.len() == wanted.len());
+    for (output, entries) in outputs.iter().zip(wanted) {
+        same(rt, output.entries, *entries);
     }
-    Ok(counts)
-}
-
-/// How many entries each output of a case has.
-fn entries(rt: &(impl Abort + AllocGlobal), case: &Case<'_>) -> Result<Vec<u64>, Fault> {
-    let outputs = outputs(rt, case)?;
-    counts(rt, &outputs)
 }
 
 /// Tests how many entries each output of a case has.
-fn has_entries(
-    rt: &(impl Abort + AllocGlobal),
-    case: &Case<'_>,
-    wanted: &[u64],
-) -> Result<(), Fault> {
-    let entries = entries(rt, case)?;
-    same(rt, entries.as_slice(), wanted);
+fn has_entries(rt: &(impl Abort + AllocGlobal), case: &Case, wanted: &[u64]) -> Result<(), Fault> {
+    have_entries(rt, &outputs(rt, case)?, wanted);
     Ok(())
 }
 
 /// Tests the outputs of a case.
 fn has_outputs(
     rt: &(impl Abort + AllocGlobal),
-    case: &Case<'_>,
+    case: &Case,
     wanted: &[Output],
 ) -> Result<(), Fault> {
     let outputs = outputs(rt, case)?;
@@ -120,98 +109,130 @@ fn has_outputs(
     Ok(())
 }
 
+/// Five entries, of which the third is dropped, over three grandparents.
+const DROPPED: Case = Case {
+    rows: &[
+        (b"a", 1, Put),
+        (b"b", 2, Put),
+        (b"c", 3, Delete),
+        (b"f", 4, Put),
+        (b"g", 5, Put),
+    ],
+    grandparents: THREE,
+    boundary: None,
+    block_size: 4_096,
+    file_size: 10,
+    first_number: 5,
+};
+
+/// No boundary, and boundaries at the dropped key and at a stop.
+const BOUNDARIES: &[Option<&[u8]>] = &[None, Some(b"c"), Some(b"f")];
+
 #[test]
 fn stops_are_asked_at_dropped_keys_too(rt: HostRuntime) -> Result<(), Fault> {
-    let rows = [
-        put(b"a", 1),
-        put(b"b", 2),
-        del(b"c", 3),
-        put(b"f", 4),
-        put(b"g", 5),
-    ];
-    let grandparents = three();
-    for boundary in &[None, Some(b"c".as_slice()), Some(b"f".as_slice())] {
+    for boundary in BOUNDARIES {
         let case = Case {
-            rows: &rows,
-            grandparents: &grandparents,
             boundary: *boundary,
-            block_size: 4_096,
-            file_size: 10,
-            first_number: 5,
+            ..DROPPED
         };
         has_entries(&rt, &case, &[2, 1, 1])?;
     }
     Ok(())
 }
 
+/// A stop between two versions of `f`.
+const WAITING: &Case = &Case {
+    rows: &[
+        (b"a", 1, Put),
+        (b"f", 9, Put),
+        (b"f", 4, Put),
+        (b"g", 5, Put),
+    ],
+    grandparents: &[Grandparent {
+        key: (b"f", 6, Put),
+        size: 120,
+    }],
+    ..DROPPED
+};
+
 #[test]
 fn a_stop_waits_for_the_next_user_key(rt: HostRuntime) -> Result<(), Fault> {
-    let rows = [put(b"a", 1), put(b"f", 9), put(b"f", 4), put(b"g", 5)];
-    let grandparents = [Grandparent {
-        key: put(b"f", 6),
-        size: 120,
-    }];
-    let case = Case {
-        rows: &rows,
-        grandparents: &grandparents,
-        boundary: None,
-        block_size: 4_096,
-        file_size: 10,
-        first_number: 5,
-    };
-    has_entries(&rt, &case, &[3, 1])
+    has_entries(&rt, WAITING, &[3, 1])
 }
 
-/// An output that is wanted.
-fn output_with(number: u64, entries: u64, len: u64) -> Output {
+/// Three user keys, of which each fills a block and a file.
+const EACH: Case = Case {
+    rows: ABC,
+    grandparents: &[],
+    boundary: Some(b"b"),
+    block_size: 1,
+    file_size: 1,
+    first_number: 5,
+};
+
+const EACH_OUTPUTS: &[Output] = &[
     Output {
-        number,
-        entries,
-        len,
-    }
-}
+        number: 5,
+        entries: 1,
+        len: 114,
+    },
+    Output {
+        number: 6,
+        entries: 1,
+        len: 114,
+    },
+    Output {
+        number: 7,
+        entries: 1,
+        len: 114,
+    },
+];
+
+/// Three versions of a user key, and another user key.
+const VERSIONS: Case = Case {
+    rows: &[
+        (b"u", 9, Put),
+        (b"u", 5, Put),
+        (b"u", 3, Put),
+        (b"v", 1, Put),
+    ],
+    ..EACH
+};
+
+const VERSIONS_OUTPUTS: &[Output] = &[
+    Output {
+        number: 5,
+        entries: 3,
+        len: 202,
+    },
+    Output {
+        number: 6,
+        entries: 1,
+        len: 114,
+    },
+];
+
+/// Full files, and the outputs.
+const FULL: &[(Case, &[Output])] = &[(EACH, EACH_OUTPUTS), (VERSIONS, VERSIONS_OUTPUTS)];
 
 #[test]
 fn full_files_end_between_user_keys(rt: HostRuntime) -> Result<(), Fault> {
-    let each = [put(b"a", 1), put(b"b", 2), put(b"c", 3)];
-    let case = Case {
-        rows: &each,
-        grandparents: &[],
-        boundary: Some(b"b"),
-        block_size: 1,
-        file_size: 1,
-        first_number: 5,
-    };
-    let wanted = [
-        output_with(5, 1, 114),
-        output_with(6, 1, 114),
-        output_with(7, 1, 114),
-    ];
-    has_outputs(&rt, &case, &wanted)?;
-    let versions = [put(b"u", 9), put(b"u", 5), put(b"u", 3), put(b"v", 1)];
-    let case = Case {
-        rows: &versions,
-        ..case
-    };
-    has_outputs(
-        &rt,
-        &case,
-        &[output_with(5, 3, 202), output_with(6, 1, 114)],
-    )
+    for (case, wanted) in FULL {
+        has_outputs(&rt, case, *wanted)?;
+    }
+    Ok(())
 }
+
+/// Three user keys in one block.
+const OPEN: &Case = &Case {
+    block_size: 4_096,
+    file_size: 10,
+    ..EACH
+};
 
 #[test]
 fn an_open_block_is_not_counted(rt: HostRuntime) -> Result<(), Fault> {
-    let rows = [put(b"a", 1), put(b"b", 2), put(b"c", 3)];
-    let case = Case {
-        rows: &rows,
-        grandparents: &[],
-        boundary: Some(b"b"),
-        block_size: 4_096,
-        file_size: 10,
-        first_number: 5,
-    };
-    has_entries(&rt, &case, &[3])
+    has_entries(&rt, OPEN, &[3])
 }
 
 /// How many outputs and jobs the plan of runs has, whose outputs are numbered from a number on.
@@ -238,7 +259,7 @@ fn planned_of(
 
 #[test]
 fn numbers_run_out(rt: HostRuntime) -> Result<(), Fault> {
-    let bytes = written(&rt, &[put(b"a", 1)], b"x")?;
+    let bytes = written(&rt, &[(b"a", 1, Put)], b"x")?;
     let fault = Fault::of(FaultName::Numbers);
     same(&rt, planned_of(&rt, &bytes, u64::MAX), Err(fault));
     same(&rt, planned(&rt, &[], u64::MAX), Ok((0, 0)));
@@ -247,28 +268,32 @@ fn numbers_run_out(rt: HostRuntime) -> Result<(), Fault> {
 
 #[test]
 fn what_keeps_no_entry_has_no_job(rt: HostRuntime) -> Result<(), Fault> {
-    let bytes = written(&rt, &[del(b"c", 3)], b"")?;
+    let bytes = written(&rt, &[(b"c", 3, Delete)], b"")?;
     same(&rt, planned_of(&rt, &bytes, 5), Ok((0, 0)));
     Ok(())
 }
 
-/// Tests that runs have one output, of one block, from `a` to `c`.
-fn is_whole(rt: &(impl Abort + AllocGlobal), runs: &[RangeRun<'_>]) -> Result<(), Fault> {
-    let plan = default_plan(rt, runs, 7)?;
+/// Tests that a plan has one output, of one block, from `a` to `c`.
+fn is_one(rt: &impl Abort, plan: &Plan<'_, '_, Bytewise>) {
     assert!(rt; plan.len() == 1);
     let meta = plan.output(0);
     same(rt, meta.smallest.user(), b"a".as_slice());
     same(rt, meta.largest.user(), b"c".as_slice());
     same(rt, meta.blocks, 1);
+}
+
+/// Tests that the plan of a table's two runs has that output.
+fn is_one_of(rt: &(impl Abort + AllocGlobal), bytes: &[u8]) -> Result<(), Fault> {
+    let inputs = no_inputs(rt)?;
+    let runs = runs_of(rt, bytes, Some(b"b"), &inputs)?;
+    is_one(rt, &default_plan(rt, &runs, 7)?);
     Ok(())
 }
 
 #[test]
 fn an_output_tells_its_bounds(rt: HostRuntime) -> Result<(), Fault> {
-    let bytes = written(&rt, &[put(b"a", 1), put(b"b", 2), put(b"c", 3)], b"x")?;
-    let inputs = no_inputs(&rt)?;
-    let runs = runs_of(&rt, &bytes, Some(b"b"), &inputs)?;
-    is_whole(&rt, &runs)
+    let bytes = written(&rt, ABC, b"x")?;
+    is_one_of(&rt, &bytes)
 }
 
 /// The run of a table, all in one range.
@@ -327,22 +352,26 @@ fn repeated_len(
 /// The table of a value of 2^20 bytes.
 fn long_table(rt: &(impl Abort + AllocGlobal)) -> Result<Vec<u8>, Fault> {
     let value = vec![in rt.alloc(); 7u8; MAX_VALUE]?;
-    written(rt, &[put(b"a", 1)], &value)
+    written(rt, &[(b"a", 1, Put)], &value)
 }
 
-// Each entry has a data block of 2^20 + 22 bytes, with its trailer 2^20 + 27. Of 1,023 the index has entries of 15 bytes and the
-// spelling of the offset: one byte for the first, three for the second, four for 254 and five for 767.
+/// Tests that an output may have 1,023 of a long table's entries, and not one more.
+///
+/// Each entry has a data block of 2^20 + 22 bytes, with its trailer 2^20 + 27. Of 1,023 the index has entries of 15 bytes and the
+/// spelling of the offset: one byte for the first, three for the second, four for 254 and five for 767.
+fn has_most_entries(rt: &(impl Abort + AllocGlobal), bytes: &[u8]) -> Result<(), Fault> {
+    let inputs = no_inputs(rt)?;
+    let most = repeated_len(rt, bytes, 1_023, &inputs);
+    same(rt, most, Ok(Some(1_072_745_231)));
+    let more = repeated_len(rt, bytes, 1_024, &inputs);
+    same(rt, more, Err(Fault::of(FaultName::TooLarge)));
+    Ok(())
+}
+
 #[test]
 fn an_output_has_at_most_2_to_30_bytes(rt: HostRuntime) -> Result<(), Fault> {
-    let inputs = no_inputs(&rt)?;
     let bytes = long_table(&rt)?;
-    for (count, len) in &[
-        (1_023, Ok(Some(1_072_745_231))),
-        (1_024, Err(Fault::of(FaultName::TooLarge))),
-    ] {
-        same(&rt, repeated_len(&rt, &bytes, *count, &inputs), *len);
-    }
-    Ok(())
+    has_most_entries(&rt, &bytes)
 }
 
 #[test]

@@ -3,6 +3,7 @@
 use coding::Fault;
 use cut::{Plan, plan};
 use edit::{CompactPointer, FileMeta};
+use ikey::Kind::Put;
 use ikey::{Bytewise, KeyBuf, Kind, MAX_USER_KEY};
 use keep::{RangeRun, is_rising, largest_rise, merge_range};
 use pick::Inputs;
@@ -16,64 +17,20 @@ pub(crate) fn same<T: Copy + Debug + PartialEq>(rt: &impl Abort, found: T, wante
     assert_eq!(rt; found, wanted);
 }
 
-/// An entry of a user key at a sequence.
-#[derive(Clone, Copy)]
-pub(crate) struct Row {
-    user: &'static [u8],
-    sequence: u8,
-    kind: Kind,
-}
+/// An entry: its user key, its sequence and its kind.
+pub(crate) type Row = (&'static [u8], u8, Kind);
 
-/// A value of a user key.
-pub(crate) fn put(user: &'static [u8], sequence: u8) -> Row {
-    Row {
-        user,
-        sequence,
-        kind: Kind::Put,
-    }
-}
-
-/// A deletion of a user key.
-pub(crate) fn del(user: &'static [u8], sequence: u8) -> Row {
-    Row {
-        user,
-        sequence,
-        kind: Kind::Delete,
-    }
-}
+/// Values of three user keys.
+pub(crate) const ABC: &[Row] = &[(b"a", 1, Put), (b"b", 2, Put), (b"c", 3, Put)];
 
 /// Values of six user keys.
-pub(crate) const SIX: [Row; 6] = [
-    Row {
-        user: b"a",
-        sequence: 1,
-        kind: Kind::Put,
-    },
-    Row {
-        user: b"b",
-        sequence: 2,
-        kind: Kind::Put,
-    },
-    Row {
-        user: b"c",
-        sequence: 3,
-        kind: Kind::Put,
-    },
-    Row {
-        user: b"d",
-        sequence: 4,
-        kind: Kind::Put,
-    },
-    Row {
-        user: b"e",
-        sequence: 5,
-        kind: Kind::Put,
-    },
-    Row {
-        user: b"f",
-        sequence: 6,
-        kind: Kind::Put,
-    },
+pub(crate) const SIX: &[Row] = &[
+    (b"a", 1, Put),
+    (b"b", 2, Put),
+    (b"c", 3, Put),
+    (b"d", 4, Put),
+    (b"e", 5, Put),
+    (b"f", 6, Put),
 ];
 
 /// A grandparent of one key, and its size.
@@ -83,15 +40,32 @@ pub(crate) struct Grandparent {
     pub size: u64,
 }
 
+/// Three grandparents of one user key each, with the second and the third as large as the first.
+pub(crate) const THREE: &[Grandparent] = &[
+    Grandparent {
+        key: (b"bb", 1, Put),
+        size: 120,
+    },
+    Grandparent {
+        key: (b"d", 1, Put),
+        size: 60,
+    },
+    Grandparent {
+        key: (b"ff", 1, Put),
+        size: 60,
+    },
+];
+
 /// The sequences that stay readable in all cases: 3, 4, 5 and all from 9 on.
-const LISTED: [u64; 3] = [3, 4, 5];
+const LISTED: &[u64] = &[3, 4, 5];
 
 const FLOOR: u64 = 9;
 
 /// The internal key of an entry.
 fn key_of(rt: &(impl Abort + AllocGlobal), row: Row) -> Result<KeyBuf, Fault> {
-    assert!(rt; row.user.len() <= MAX_USER_KEY);
-    KeyBuf::new(rt.alloc(), row.user, u64::from(row.sequence), row.kind)
+    let (user, sequence, kind) = row;
+    assert!(rt; user.len() <= MAX_USER_KEY);
+    KeyBuf::new(rt.alloc(), user, u64::from(sequence), kind)
 }
 
 /// The most bytes of a value.
@@ -147,7 +121,7 @@ pub(crate) fn no_inputs(rt: &(impl Abort + AllocGlobal)) -> Result<Inputs, Fault
         deeper: Vec::new(rt.alloc()),
         pointer: CompactPointer {
             level: 1,
-            key: key_of(rt, put(b"z", 1))?,
+            key: key_of(rt, (b"z", 1, Put))?,
         },
     })
 }
@@ -171,9 +145,9 @@ pub(crate) fn merged<'a>(
     range: Range<'_>,
     inputs: &Inputs,
 ) -> Result<RangeRun<'a>, Fault> {
-    assert!(rt; is_rising(&LISTED));
+    assert!(rt; is_rising(LISTED));
     assert!(rt; largest_rise::<Bytewise>(&inputs.grandparents));
-    merge_range::<Bytewise, _>(rt.alloc(), cursors, range, &LISTED, FLOOR, inputs)
+    merge_range::<Bytewise, _>(rt.alloc(), cursors, range, LISTED, FLOOR, inputs)
 }
 
 /// A table that is tested.
@@ -202,6 +176,18 @@ fn cursors<'a>(
     cursors_over(rt, &sound(rt, bytes)?)
 }
 
+/// Appends the run of a range.
+fn push_run<'a>(
+    rt: &(impl Abort + AllocGlobal),
+    runs: &mut Vec<RangeRun<'a>>,
+    cursors: &mut Vec<TableCursor<'a, Bytewise>>,
+    range: Range<'_>,
+    inputs: &Inputs,
+) -> Result<(), Fault> {
+    runs.push(merged(rt, cursors, range, inputs)?)?;
+    Ok(())
+}
+
 /// The runs of what cursors have, of one range or of two.
 fn runs_by<'a>(
     rt: &(impl Abort + AllocGlobal),
@@ -215,13 +201,13 @@ fn runs_by<'a>(
             lower: None,
             upper: boundary,
         };
-        runs.push(merged(rt, cursors, first, inputs)?)?;
+        push_run(rt, &mut runs, cursors, first, inputs)?;
     }
     let last = Range {
         lower: boundary,
         upper: None,
     };
-    runs.push(merged(rt, cursors, last, inputs)?)?;
+    push_run(rt, &mut runs, cursors, last, inputs)?;
     Ok(runs)
 }
 
@@ -246,24 +232,6 @@ pub(crate) fn plan_of<'r, 'a>(
 ) -> Result<Plan<'r, 'a, Bytewise>, Fault> {
     assert!(rt; options.are_in_limits());
     plan::<Bytewise>(rt.alloc(), runs, grandparents, options, first_number)
-}
-
-/// Three grandparents of one user key each, with the second and the third as large as the first.
-pub(crate) fn three() -> [Grandparent; 3] {
-    [
-        Grandparent {
-            key: put(b"bb", 1),
-            size: 120,
-        },
-        Grandparent {
-            key: put(b"d", 1),
-            size: 60,
-        },
-        Grandparent {
-            key: put(b"ff", 1),
-            size: 60,
-        },
-    ]
 }
 
 /// The plan of runs by default, over no grandparent.

@@ -12,5 +12,6 @@ pub mod Kept
 pub mod Parts
 pub mod Front
 pub mod Walking
+pub mod ReadingAhead
 pub mod Passing
 pub mod CheckingWalk

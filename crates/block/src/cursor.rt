@@ -7,6 +7,7 @@ ghost use Rattle.coding.specs.Answers.{fault};
 ghost use Rattle.coding.specs.declared.fault.FaultName.TheVariants.{Memory};
 
 use crate::piece::piece_at;
+use crate::read_ahead::ReadAhead;
 use crate::sound_block::SoundBlock;
 use coding::Fault;
 use std::alloc::Global;
@@ -21,6 +22,7 @@ pub struct BlockCursor<'a> {
     key: Vec<u8>,
     value: &'a [u8],
     rest: &'a [u8],
+    ahead: ReadAhead,
 }
 
 impl<'a> Model for BlockCursor<'a> {
@@ -67,6 +69,7 @@ impl<'a> BlockCursor<'a> {
             key: Vec::new(alloc),
             value: &[],
             rest: &[],
+            ahead: ReadAhead::nothing(),
         }
     }
 
@@ -117,6 +120,7 @@ impl<'a> BlockCursor<'a> {
         replace_end(&mut self.key, piece.shared, piece.unshared)?;
         self.value = piece.value;
         self.rest = piece.rest;
+        self.ahead.reach(piece.rest);
         Ok(())
     }
 
@@ -136,6 +140,7 @@ impl<'a> BlockCursor<'a> {
         self.valid = true;
         self.value = first.value;
         self.rest = first.rest;
+        self.ahead = ReadAhead::nothing();
         Ok(())
     }
 
@@ -155,6 +160,7 @@ impl<'a> BlockCursor<'a> {
             key,
             value: piece.value,
             rest: piece.rest,
+            ahead: ReadAhead::nothing(),
         })
     }
 }

@@ -11,6 +11,7 @@ mod checking_cursor;
 mod cursor;
 mod front;
 mod piece;
+mod read_ahead;
 mod sound_block;
 
 pub use builder::BlockBuilder;

@@ -23,7 +23,8 @@ pub(crate) struct ReadAhead {
 impl ReadAhead {
     /// Nothing was read ahead.
     pub(crate) fn nothing() -> ReadAhead
-        ensures { result.left ≡ 0xffffffffffffffff }
+        ensures left { result.left ≡ 0xffffffffffffffff }
+        ensures folded { result.folded ≡ 0 }
     {
         ReadAhead {
             left: usize::MAX,

@@ -5,7 +5,3 @@
 mod building;
 #[cfg(test)]
 mod reading;
-#[cfg(test)]
-mod tables;
-#[cfg(test)]
-mod walking;

@@ -1,273 +1,215 @@
 use coding::{Fault, FaultName};
 use edit::{FileMeta, Version, VersionEdit};
-use ikey::{Bytewise, InternalKey, Shortlex};
-use pick::{Inputs, inputs, is_base, one_choice};
+use ikey::{Bytewise, Shortlex};
+use pick::{InputFile, Inputs, inputs, is_base, one_choice};
 use std::alloc::Global;
 use std::process::Abort;
 use std::test::*;
 
-/// The user key of one byte and the sequence of an internal key, which is a value's.
-type Key = (u8, u8);
+// Edits that make the versions, as their bytes: a file has a level, a number, a size, and the internal keys of its first and
+// its last entry.
 
-/// A file of level, number, and the keys of its first and last entry.
-#[derive(Clone, Copy)]
-struct Row(u8, u8, Key, Key);
+/// Three files of level 0 that overlap one after the other, and one apart.
+const OVERLAPPING: &[u8] = b"\
+    \x07\0\x07d\x09c\x01\x04\0\0\0\0\0\0\x09e\x01\x04\0\0\0\0\0\0\
+    \x07\0\x05d\x09e\x01\x02\0\0\0\0\0\0\x09g\x01\x02\0\0\0\0\0\0\
+    \x07\0\x04d\x09a\x01\x01\0\0\0\0\0\0\x09c\x01\x01\0\0\0\0\0\0\
+    \x07\0\x06d\x09x\x01\x03\0\0\0\0\0\0\x09z\x01\x03\0\0\0\0\0\0";
 
-/// The level of a compact pointer, and its key.
-type Pointer = (u8, Key);
+/// Two files of one user key, and one behind it.
+const OF_ONE_KEY: &[u8] = b"\
+    \x07\x01\x08d\x09u\x01\x0a\0\0\0\0\0\0\x09u\x01\x0a\0\0\0\0\0\0\
+    \x07\x01\x09d\x09u\x01\x05\0\0\0\0\0\0\x09u\x01\x05\0\0\0\0\0\0\
+    \x07\x01\x03d\x09v\x01\x04\0\0\0\0\0\0\x09w\x01\x04\0\0\0\0\0\0";
 
-/// Appends a length, and an internal key.
-fn push_key(edit: &mut Vec<u8>, key: Key) -> Result<(), Fault> {
-    edit.extend_from_slice(&[9, key.0, 1, key.1, 0, 0, 0, 0, 0, 0])?;
-    Ok(())
-}
+/// Three files of which each shares a user key with the next, and one behind them.
+const CHAINED: &[u8] = b"\
+    \x07\x01\x08d\x09a\x01\x0a\0\0\0\0\0\0\x09u\x01\x0a\0\0\0\0\0\0\
+    \x07\x01\x02d\x09u\x01\x05\0\0\0\0\0\0\x09v\x01\x07\0\0\0\0\0\0\
+    \x07\x01\x03d\x09v\x01\x04\0\0\0\0\0\0\x09v\x01\x02\0\0\0\0\0\0\
+    \x07\x01\x04d\x09w\x01\x04\0\0\0\0\0\0\x09w\x01\x02\0\0\0\0\0\0";
 
-/// Appends the fields of compact pointers.
-fn push_pointers(edit: &mut Vec<u8>, pointers: &[Pointer]) -> Result<(), Fault> {
-    for pointer in pointers {
-        edit.extend_from_slice(&[5, pointer.0])?;
-        push_key(edit, pointer.1)?;
-    }
-    Ok(())
-}
+/// Compact pointers of level 1 and level 2, and three files of level 2, the second of which ends at its pointer.
+const POINTED: &[u8] = b"\
+    \x05\x01\x09b\x01\x01\0\0\0\0\0\0\
+    \x05\x02\x09f\x01\x05\0\0\0\0\0\0\
+    \x07\x02\x04d\x09b\x01\x03\0\0\0\0\0\0\x09c\x01\x03\0\0\0\0\0\0\
+    \x07\x02\x02d\x09e\x01\x05\0\0\0\0\0\0\x09f\x01\x05\0\0\0\0\0\0\
+    \x07\x02\x03d\x09h\x01\x06\0\0\0\0\0\0\x09i\x01\x06\0\0\0\0\0\0";
 
-/// Appends the fields of new files.
-fn push_files(edit: &mut Vec<u8>, rows: &[Row]) -> Result<(), Fault> {
-    for row in rows {
-        edit.extend_from_slice(&[7, row.0, row.1, 100])?;
-        push_key(edit, row.2)?;
-        push_key(edit, row.3)?;
-    }
-    Ok(())
-}
+/// Files of five levels.
+const LEVELS: &[u8] = b"\
+    \x07\x01\x02d\x09c\x01\x09\0\0\0\0\0\0\x09e\x01\x09\0\0\0\0\0\0\
+    \x07\x01\x03d\x09p\x01\x09\0\0\0\0\0\0\x09q\x01\x09\0\0\0\0\0\0\
+    \x07\x02\x04d\x09a\x01\x08\0\0\0\0\0\0\x09b\x01\x08\0\0\0\0\0\0\
+    \x07\x02\x05d\x09b\x01\x07\0\0\0\0\0\0\x09c\x01\x08\0\0\0\0\0\0\
+    \x07\x02\x06d\x09d\x01\x08\0\0\0\0\0\0\x09g\x01\x08\0\0\0\0\0\0\
+    \x07\x02\x07d\x09g\x01\x07\0\0\0\0\0\0\x09h\x01\x07\0\0\0\0\0\0\
+    \x07\x02\x08d\x09i\x01\x08\0\0\0\0\0\0\x09j\x01\x08\0\0\0\0\0\0\
+    \x07\x03\x09d\x09a\x01\x04\0\0\0\0\0\0\x09a\x01\x04\0\0\0\0\0\0\
+    \x07\x03\x0ad\x09h\x01\x04\0\0\0\0\0\0\x09h\x01\x04\0\0\0\0\0\0\
+    \x07\x03\x0bd\x09i\x01\x04\0\0\0\0\0\0\x09i\x01\x04\0\0\0\0\0\0\
+    \x07\x05\x0cd\x09x\x01\x03\0\0\0\0\0\0\x09z\x01\x03\0\0\0\0\0\0\
+    \x07\x06\x0dd\x09r\x01\x02\0\0\0\0\0\0\x09s\x01\x02\0\0\0\0\0\0";
 
-/// The version that an edit of these files and compact pointers makes of nothing.
-fn version_of(alloc: Global, rows: &[Row], pointers: &[Pointer]) -> Result<Version, Fault> {
-    let mut bytes = Vec::new(alloc);
-    push_pointers(&mut bytes, pointers)?;
-    push_files(&mut bytes, rows)?;
-    let edit = VersionEdit::decode(alloc, &bytes)?;
-    Version::empty(alloc).applied::<Bytewise>(edit)
+/// The version that an edit makes of nothing.
+fn version_of(alloc: Global, edit: &[u8]) -> Result<Version, Fault> {
+    Version::empty(alloc).applied::<Bytewise>(VersionEdit::decode(alloc, edit)?)
 }
 
 /// What a compaction of a level takes of that version.
-fn chosen(alloc: Global, rows: &[Row], pointers: &[Pointer], level: u64) -> Result<Inputs, Fault> {
-    inputs::<Bytewise>(alloc, &version_of(alloc, rows, pointers)?, level)
+fn chosen(alloc: Global, edit: &[u8], level: u64) -> Result<Inputs, Fault> {
+    inputs::<Bytewise>(alloc, &version_of(alloc, edit)?, level)
 }
 
-/// Tests that a compaction takes these files, by level and number.
-fn takes(rt: &impl Abort, chosen: &Inputs, wanted: &[(u64, u64)]) {
-    assert!(rt; chosen.files.len() == wanted.len());
-    for (file, place) in chosen.files.iter().zip(wanted) {
-        assert!(rt; (file.level, file.meta.number) == *place);
+/// A compaction of a level, and what it takes.
+struct Choice {
+    edit: &'static [u8],
+    level: u64,
+    /// The levels and the numbers of its files.
+    files: &'static [(u64, u64)],
+    /// The internal key of its compact pointer.
+    pointer: &'static [u8],
+    /// The numbers of the grandparents, and of the deeper files.
+    grandparents: &'static [u64],
+    deeper: &'static [u64],
+}
+
+const CHOICES: &[Choice] = &[
+    Choice {
+        edit: OVERLAPPING,
+        level: 0,
+        files: &[(0, 4), (0, 7), (0, 5)],
+        pointer: b"g\x01\x02\0\0\0\0\0\0",
+        grandparents: &[],
+        deeper: &[],
+    },
+    Choice {
+        edit: OF_ONE_KEY,
+        level: 1,
+        files: &[(1, 8), (1, 9)],
+        pointer: b"u\x01\x05\0\0\0\0\0\0",
+        grandparents: &[],
+        deeper: &[],
+    },
+    Choice {
+        edit: CHAINED,
+        level: 1,
+        files: &[(1, 8), (1, 2), (1, 3)],
+        pointer: b"v\x01\x02\0\0\0\0\0\0",
+        grandparents: &[],
+        deeper: &[],
+    },
+    Choice {
+        edit: POINTED,
+        level: 2,
+        files: &[(2, 3)],
+        pointer: b"i\x01\x06\0\0\0\0\0\0",
+        grandparents: &[],
+        deeper: &[],
+    },
+    Choice {
+        edit: LEVELS,
+        level: 1,
+        files: &[(1, 2), (2, 5), (2, 6), (2, 7)],
+        pointer: b"e\x01\x09\0\0\0\0\0\0",
+        grandparents: &[10],
+        deeper: &[9, 10, 11, 12, 13],
+    },
+    // Nothing lies below the last level.
+    Choice {
+        edit: LEVELS,
+        level: 5,
+        files: &[(5, 12)],
+        pointer: b"z\x01\x03\0\0\0\0\0\0",
+        grandparents: &[],
+        deeper: &[],
+    },
+];
+
+/// Whether inputs have these levels and numbers.
+fn are_files(found: &[InputFile], wanted: &[(u64, u64)]) -> bool {
+    for (file, place) in found.iter().zip(wanted) {
+        if (file.level, file.meta.number) != *place {
+            return false;
+        }
+    }
+    found.len() == wanted.len()
+}
+
+/// Whether files have these numbers.
+fn are_numbered(found: &[FileMeta], wanted: &[u64]) -> bool {
+    for (file, number) in found.iter().zip(wanted) {
+        if file.number != *number {
+            return false;
+        }
+    }
+    found.len() == wanted.len()
+}
+
+/// Whether a compaction takes this.
+fn is_chosen(alloc: Global, wanted: &Choice) -> Result<bool, Fault> {
+    let found = chosen(alloc, wanted.edit, wanted.level)?;
+    Ok(
+        found.level == wanted.level
+            && found.pointer.level == wanted.level
+            && are_files(&found.files, wanted.files)
+            && found.pointer.key.as_key().bytes() == wanted.pointer
+            && are_numbered(&found.grandparents, wanted.grandparents)
+            && are_numbered(&found.deeper, wanted.deeper),
+    )
+}
+
+#[test]
+fn files_that_a_compaction_takes(rt: HostRuntime) {
+    one_choice::<Bytewise>();
+    one_choice::<Shortlex>();
+    for wanted in CHOICES {
+        assert!(rt;
+            is_chosen(rt.alloc(), wanted) == Ok(true),
+            "{:?}",
+            wanted.files
+        );
     }
 }
 
-/// Tests that a compaction of a level of a version takes these files.
-fn chooses(
-    rt: &(impl Abort + AllocGlobal),
-    rows: &[Row],
-    pointers: &[Pointer],
-    level: u64,
-    wanted: &[(u64, u64)],
-) -> Result<(), Fault> {
-    takes(rt, &chosen(rt.alloc(), rows, pointers, level)?, wanted);
-    Ok(())
-}
+/// Levels of `CHAINED`, which has files at level 1 alone, and how their compaction is refused.
+const REFUSED: &[(u64, FaultName)] = &[
+    (0, FaultName::NoInput),
+    (2, FaultName::NoInput),
+    (5, FaultName::NoInput),
+    (6, FaultName::Level),
+    (7, FaultName::Level),
+];
 
-/// Tests that a compact pointer is this key.
-fn is_key(rt: &impl Abort, found: InternalKey<'_>, wanted: Key) {
-    assert!(rt; found.user() == [wanted.0].as_slice());
-    assert!(rt; found.sequence() == u64::from(wanted.1));
-}
-
-/// Tests that files have these numbers.
-fn are_numbered(rt: &impl Abort, files: &[FileMeta], wanted: &[u64]) {
-    assert!(rt; files.len() == wanted.len());
-    for (file, number) in files.iter().zip(wanted) {
-        assert!(rt; file.number == *number);
+/// Whether it is refused so.
+fn is_refused(alloc: Global, level: u64, wanted: FaultName) -> bool {
+    match chosen(alloc, CHAINED, level) {
+        Ok(_) => false,
+        Err(refused) => refused.name == wanted,
     }
 }
 
 /// Whether no deeper file has one of these user keys of one byte, or each of them has one.
-fn are_base(chosen: &Inputs, users: &[u8], wanted: bool) -> bool {
+fn are_base(found: &Inputs, users: &[u8], wanted: bool) -> bool {
     for user in users {
-        if is_base::<Bytewise>(chosen, &[*user]) != wanted {
+        if is_base::<Bytewise>(found, &[*user]) != wanted {
             return false;
         }
     }
     true
 }
 
-/// How a compaction of a level is refused.
-fn refused(alloc: Global, version: &Version, level: u64) -> Option<FaultName> {
-    match inputs::<Bytewise>(alloc, version, level) {
-        Ok(_) => None,
-        Err(fault) => Some(fault.name),
-    }
-}
-
-/// Tests which refusal it is.
-fn is_refusal(rt: &impl Abort, found: Option<FaultName>, wanted: FaultName) {
-    assert_eq!(rt; found, Some(wanted));
-}
-
-/// Three files of level 0 that overlap one after the other, and one apart.
-const OVERLAPPING: [Row; 4] = [
-    Row(0, 7, (b'c', 4), (b'e', 4)),
-    Row(0, 5, (b'e', 2), (b'g', 2)),
-    Row(0, 4, (b'a', 1), (b'c', 1)),
-    Row(0, 6, (b'x', 3), (b'z', 3)),
-];
-
-#[test]
-fn overlapping_files_of_level_0(rt: HostRuntime) -> Result<(), Fault> {
-    let chosen = chosen(rt.alloc(), &OVERLAPPING, &[], 0)?;
-    takes(&rt, &chosen, &[(0, 4), (0, 7), (0, 5)]);
-    is_key(&rt, chosen.pointer.key.as_key(), (b'g', 2));
-    Ok(())
-}
-
-/// Compact pointers of level 0, and what is taken behind them.
-const BEHIND: [(Pointer, &[(u64, u64)]); 2] = [
-    ((0, (b'g', 2)), &[(0, 6)]),
-    // The first file is that of number 5, and those that overlap it begin before it.
-    ((0, (b'e', 4)), &[(0, 4), (0, 7), (0, 5)]),
-];
-
-#[test]
-fn level_0_behind_its_pointer(rt: HostRuntime) -> Result<(), Fault> {
-    for (pointer, wanted) in BEHIND {
-        chooses(&rt, &OVERLAPPING, &[pointer], 0, wanted)?;
-    }
-    Ok(())
-}
-
-/// Two files of one user key, and one behind it.
-const OF_ONE_KEY: [Row; 3] = [
-    Row(1, 8, (b'u', 10), (b'u', 10)),
-    Row(1, 9, (b'u', 5), (b'u', 5)),
-    Row(1, 3, (b'v', 4), (b'w', 4)),
-];
-
-#[test]
-fn boundary_files_of_the_level(rt: HostRuntime) -> Result<(), Fault> {
-    let chosen = chosen(rt.alloc(), &OF_ONE_KEY, &[], 1)?;
-    takes(&rt, &chosen, &[(1, 8), (1, 9)]);
-    is_key(&rt, chosen.pointer.key.as_key(), (b'u', 5));
-    Ok(())
-}
-
-/// Three files of which each shares a user key with the next, and one behind them.
-const CHAINED: [Row; 4] = [
-    Row(1, 8, (b'a', 10), (b'u', 10)),
-    Row(1, 2, (b'u', 5), (b'v', 7)),
-    Row(1, 3, (b'v', 4), (b'v', 2)),
-    Row(1, 4, (b'w', 4), (b'w', 2)),
-];
-
-#[test]
-fn boundary_files_of_boundary_files(rt: HostRuntime) -> Result<(), Fault> {
-    chooses(&rt, &CHAINED, &[], 1, &[(1, 8), (1, 2), (1, 3)])
-}
-
-/// Three files of level 2 that lie apart.
-const APART: [Row; 3] = [
-    Row(2, 4, (b'b', 3), (b'c', 3)),
-    Row(2, 2, (b'e', 5), (b'f', 5)),
-    Row(2, 3, (b'h', 6), (b'i', 6)),
-];
-
-/// Compact pointers of level 2, and the file that is taken.
-///
-/// Sequences fall: `f` of 6 is before `f` of 5, and `f` of 4 is behind it. Behind all files it is the first one.
-const FIRST_FILES: [(Key, u64); 7] = [
-    ((b'a', 1), 4),
-    ((b'c', 3), 2),
-    ((b'f', 6), 2),
-    ((b'f', 5), 3),
-    ((b'f', 4), 3),
-    ((b'i', 6), 4),
-    ((b'z', 1), 4),
-];
-
-#[test]
-fn the_first_file_by_the_pointer(rt: HostRuntime) -> Result<(), Fault> {
-    for (pointer, number) in FIRST_FILES {
-        let pointers = [(1, (b'e', 1)), (2, pointer)];
-        chooses(&rt, &APART, &pointers, 2, &[(2, number)])?;
-    }
-    Ok(())
-}
-
-/// Files of five levels.
-const LEVELS: [Row; 12] = [
-    Row(1, 2, (b'c', 9), (b'e', 9)),
-    Row(1, 3, (b'p', 9), (b'q', 9)),
-    Row(2, 4, (b'a', 8), (b'b', 8)),
-    Row(2, 5, (b'b', 7), (b'c', 8)),
-    Row(2, 6, (b'd', 8), (b'g', 8)),
-    Row(2, 7, (b'g', 7), (b'h', 7)),
-    Row(2, 8, (b'i', 8), (b'j', 8)),
-    Row(3, 9, (b'a', 4), (b'a', 4)),
-    Row(3, 10, (b'h', 4), (b'h', 4)),
-    Row(3, 11, (b'i', 4), (b'i', 4)),
-    Row(5, 12, (b'x', 3), (b'z', 3)),
-    Row(6, 13, (b'r', 2), (b's', 2)),
-];
-
-#[test]
-fn files_of_the_levels_below(rt: HostRuntime) -> Result<(), Fault> {
-    let chosen = chosen(rt.alloc(), &LEVELS, &[], 1)?;
-    takes(&rt, &chosen, &[(1, 2), (2, 5), (2, 6), (2, 7)]);
-    are_numbered(&rt, &chosen.grandparents, &[10]);
-    are_numbered(&rt, &chosen.deeper, &[9, 10, 11, 12, 13]);
-    Ok(())
+/// Whether some deeper file has each of `h`, `x`, `y`, `z`, `r` and `s`, and none has `g`, `j`, `w`, `t` or `q`.
+fn are_told(alloc: Global) -> Result<bool, Fault> {
+    let found = chosen(alloc, LEVELS, 1)?;
+    Ok(are_base(&found, b"hxyzrs", false) && are_base(&found, b"gjwtq", true))
 }
 
 #[test]
-fn user_keys_in_the_deeper_levels(rt: HostRuntime) -> Result<(), Fault> {
-    let chosen = chosen(rt.alloc(), &LEVELS, &[], 1)?;
-    assert!(rt; are_base(&chosen, b"hxyzrs", false));
-    assert!(rt; are_base(&chosen, b"gjwtq", true));
-    Ok(())
-}
-
-#[test]
-fn nothing_below_the_last_level(rt: HostRuntime) -> Result<(), Fault> {
-    let chosen = chosen(rt.alloc(), &LEVELS, &[], 5)?;
-    takes(&rt, &chosen, &[(5, 12)]);
-    are_numbered(&rt, &chosen.grandparents, &[]);
-    are_numbered(&rt, &chosen.deeper, &[]);
-    assert!(rt; are_base(&chosen, b"y", true));
-    Ok(())
-}
-
-/// A file of the last level alone.
-const LAST: [Row; 1] = [Row(6, 2, (b'a', 1), (b'b', 1))];
-
-/// Levels, and how their compaction is refused.
-const REFUSED: [(u64, FaultName); 4] = [
-    (6, FaultName::Level),
-    (7, FaultName::Level),
-    (5, FaultName::NoInput),
-    (0, FaultName::NoInput),
-];
-
-#[test]
-fn levels_that_are_refused(rt: HostRuntime) -> Result<(), Fault> {
-    let without = refused(rt.alloc(), &Version::empty(rt.alloc()), 6);
-    is_refusal(&rt, without, FaultName::Level);
-    let version = version_of(rt.alloc(), &LAST, &[])?;
+fn refused_levels_and_user_keys_below(rt: HostRuntime) {
     for (level, wanted) in REFUSED {
-        is_refusal(&rt, refused(rt.alloc(), &version, level), wanted);
+        assert!(rt; is_refused(rt.alloc(), *level, *wanted), "{level}");
     }
-    Ok(())
-}
-
-#[test]
-fn the_law_is_called(rt: HostRuntime) {
-    one_choice::<Bytewise>();
-    one_choice::<Shortlex>();
-    assert!(rt; true);
+    assert!(rt; are_told(rt.alloc()) == Ok(true));
 }

@@ -1,5 +1,5 @@
 use coding::{Fault, FaultName};
-use ikey::{Bytewise, Comparator, Shortlex};
+use ikey::Bytewise;
 use split::{Split, one_choice};
 use std::alloc::Global;
 use std::process::Abort;
@@ -7,228 +7,125 @@ use std::test::*;
 use table::check;
 
 /// The table of `a@1 put x` and `c@1 put x`, a block each.
-const A_AND_C: [u8; 158] = [
-    0, 9, 1, 0x61, 1, 1, 0, 0, 0, 0, 0, 0, 0x78, 0, 0, 0, 0, 1, 0, 0, 0, 0, 0x84, 0xdd, 0x88, 0x74,
-    0, 9, 1, 0x63, 1, 1, 0, 0, 0, 0, 0, 0, 0x78, 0, 0, 0, 0, 1, 0, 0, 0, 0, 0x71, 8, 0xfe, 0xae, 0,
-    0, 0, 0, 1, 0, 0, 0, 0, 0xc0, 0xf2, 0xa1, 0xb0, 0, 9, 2, 0x61, 1, 1, 0, 0, 0, 0, 0, 0, 0, 0x15,
-    0, 9, 2, 0x63, 1, 1, 0, 0, 0, 0, 0, 0, 0x1a, 0x15, 0, 0, 0, 0, 0x0e, 0, 0, 0, 2, 0, 0, 0, 0,
-    0xf4, 0x6c, 0xe2, 0xb5, 0x34, 8, 0x41, 0x28, 0, 0, 0, 0, 0, 0, 0, 0, 0, 0, 0, 0, 0, 0, 0, 0, 0,
-    0, 0, 0, 0, 0, 0, 0, 0, 0, 0, 0, 0, 0, 0, 0, 0, 0, 0, 0, 0x57, 0xfb, 0x80, 0x8b, 0x24, 0x75,
-    0x47, 0xdb,
-];
+const A_AND_C: &[u8] =
+    b"\0\x09\x01a\x01\x01\0\0\0\0\0\0x\0\0\0\0\x01\0\0\0\0\x84\xdd\x88t\0\x09\x01c\x01\x01\0\0\0\0\0\0x\0\0\0\0\x01\0\0\0\0q\x08\xfe\xae\0\0\0\0\x01\0\0\0\0\xc0\xf2\xa1\xb0\0\x09\x02a\x01\x01\0\0\0\0\0\0\0\x15\0\x09\x02c\x01\x01\0\0\0\0\0\0\x1a\x15\0\0\0\0\x0e\0\0\0\x02\0\0\0\0\xf4l\xe2\xb54\x08A(\0\0\0\0\0\0\0\0\0\0\0\0\0\0\0\0\0\0\0\0\0\0\0\0\0\0\0\0\0\0\0\0\0\0\0\0W\xfb\x80\x8b$uG\xdb";
 
 /// The table of `b@1 put x` and `d@1 put x`, a block each.
-const B_AND_D: [u8; 158] = [
-    0, 9, 1, 0x62, 1, 1, 0, 0, 0, 0, 0, 0, 0x78, 0, 0, 0, 0, 1, 0, 0, 0, 0, 0xc7, 0x5a, 0x37, 0x38,
-    0, 9, 1, 0x64, 1, 1, 0, 0, 0, 0, 0, 0, 0x78, 0, 0, 0, 0, 1, 0, 0, 0, 0, 0x89, 0x49, 0xba, 0x99,
-    0, 0, 0, 0, 1, 0, 0, 0, 0, 0xc0, 0xf2, 0xa1, 0xb0, 0, 9, 2, 0x62, 1, 1, 0, 0, 0, 0, 0, 0, 0,
-    0x15, 0, 9, 2, 0x64, 1, 1, 0, 0, 0, 0, 0, 0, 0x1a, 0x15, 0, 0, 0, 0, 0x0e, 0, 0, 0, 2, 0, 0, 0,
-    0, 0x62, 0x43, 0x6f, 0x21, 0x34, 8, 0x41, 0x28, 0, 0, 0, 0, 0, 0, 0, 0, 0, 0, 0, 0, 0, 0, 0, 0,
-    0, 0, 0, 0, 0, 0, 0, 0, 0, 0, 0, 0, 0, 0, 0, 0, 0, 0, 0, 0, 0x57, 0xfb, 0x80, 0x8b, 0x24, 0x75,
-    0x47, 0xdb,
-];
+const B_AND_D: &[u8] =
+    b"\0\x09\x01b\x01\x01\0\0\0\0\0\0x\0\0\0\0\x01\0\0\0\0\xc7Z78\0\x09\x01d\x01\x01\0\0\0\0\0\0x\0\0\0\0\x01\0\0\0\0\x89I\xba\x99\0\0\0\0\x01\0\0\0\0\xc0\xf2\xa1\xb0\0\x09\x02b\x01\x01\0\0\0\0\0\0\0\x15\0\x09\x02d\x01\x01\0\0\0\0\0\0\x1a\x15\0\0\0\0\x0e\0\0\0\x02\0\0\0\0bCo!4\x08A(\0\0\0\0\0\0\0\0\0\0\0\0\0\0\0\0\0\0\0\0\0\0\0\0\0\0\0\0\0\0\0\0\0\0\0\0W\xfb\x80\x8b$uG\xdb";
 
-/// Keys that own their bytes.
-fn keys(alloc: Global, texts: &[&[u8]]) -> Result<Vec<Vec<u8>>, Fault> {
-    let mut keys = Vec::new(alloc);
-    for text in texts {
-        keys.push(Vec::from_slice(alloc, text)?)?;
-    }
-    Ok(keys)
+/// The boundaries that are chosen where the index has the user keys a, c and b, d.
+fn chosen(alloc: Global, want: u64) -> Result<Split<Bytewise>, Fault> {
+    let tables = [
+        check::<Bytewise>(alloc, A_AND_C)?,
+        check::<Bytewise>(alloc, B_AND_D)?,
+    ];
+    Split::choose(alloc, &tables, want)
 }
-
-/// So many keys of two bytes that rise strictly.
-fn many_keys(alloc: Global, count: u16) -> Result<Vec<Vec<u8>>, Fault> {
-    let mut keys = Vec::new(alloc);
-    for number in 0..count {
-        keys.push(Vec::from_slice(alloc, &number.to_be_bytes())?)?;
-    }
-    Ok(keys)
-}
-
-/// The boundaries of a split, one behind the other.
-fn joined<C: Comparator>(alloc: Global, split: &Split<C>) -> Result<Vec<u8>, Fault> {
-    let mut joined = Vec::new(alloc);
-    for number in 0..split.len() {
-        if let Some(lower) = split.range(number).lower {
-            joined.extend_from_slice(lower)?;
-        }
-    }
-    Ok(joined)
-}
-
-/// The boundaries that are chosen where the index has the user keys a, c and b, d and a, c again.
-fn chosen(alloc: Global, want: u64) -> Result<Vec<u8>, Fault> {
-    let mut tables = Vec::new(alloc);
-    for bytes in [&A_AND_C, &B_AND_D, &A_AND_C] {
-        tables.push(check::<Bytewise>(alloc, bytes)?)?;
-    }
-    joined(alloc, &Split::choose(alloc, &tables, want)?)
-}
-
-/// Tests that bytes are these.
-fn are_bytes(rt: &impl Abort, found: &[u8], wanted: &[u8]) {
-    assert_eq!(rt; found, wanted);
-}
-
-/// Tests that there are so many.
-fn are_so_many(rt: &impl Abort, found: u64, wanted: u64) {
-    assert_eq!(rt; found, wanted);
-}
-
-/// Tests which refusal it is.
-fn is_refusal(rt: &impl Abort, found: Option<FaultName>, wanted: FaultName) {
-    assert_eq!(rt; found, Some(wanted));
-}
-
-/// Numbers that are wanted, and the boundaries that are chosen.
-const CHOSEN: [(u64, &[u8]); 5] = [
-    (1, b""),
-    (2, b"c"),
-    (3, b"bc"),
-    (8, b"abcd"),
-    (4_096, b"abcd"),
-];
-
-#[test]
-fn places_of_four_keys(rt: HostRuntime) -> Result<(), Fault> {
-    one_choice::<Bytewise>();
-    for (want, boundaries) in CHOSEN {
-        are_bytes(&rt, &chosen(rt.alloc(), want)?, boundaries);
-    }
-    Ok(())
-}
-
-/// How boundaries are refused, where they are.
-fn refusal<T: Drop>(answer: Result<T, Fault>) -> Option<FaultName> {
-    match answer {
-        Ok(_) => None,
-        Err(refused) => Some(refused.name),
-    }
-}
-
-/// Numbers that may not be wanted.
-const OUTSIDE: [u64; 3] = [0, 4_097, u64::MAX];
-
-#[test]
-fn a_wanted_number_outside_its_limits(rt: HostRuntime) {
-    for want in OUTSIDE {
-        let refused = refusal(chosen(rt.alloc(), want));
-        is_refusal(&rt, refused, FaultName::SplitCount);
-    }
-}
-
-/// Whether a split has one range, without bounds.
-fn is_whole(split: &Split<Bytewise>) -> bool {
-    let whole = split.range(0);
-    split.len() == 1 && whole.lower.is_none() && whole.upper.is_none()
-}
-
-#[test]
-fn no_tables_give_one_range(rt: HostRuntime) -> Result<(), Fault> {
-    let split: Split<Bytewise> = Split::choose(rt.alloc(), &[], 8)?;
-    assert!(rt; is_whole(&split));
-    Ok(())
-}
-
-/// The split at these boundaries.
-fn split_at(keys: Vec<Vec<u8>>) -> Result<Split<Bytewise>, Fault> {
-    Split::from_keys(keys)
-}
-
-/// The range of each number of the split at `c` and `m`: its lower bound and its upper one.
-const RANGES: [(Option<&[u8]>, Option<&[u8]>); 3] = [
-    (None, Some(b"c")),
-    (Some(b"c"), Some(b"m")),
-    (Some(b"m"), None),
-];
 
 /// Whether the range of a number has these bounds.
 fn has_bounds(
     split: &Split<Bytewise>,
-    number: u64,
+    number: usize,
     lower: Option<&[u8]>,
     upper: Option<&[u8]>,
 ) -> bool {
-    if number >= split.len() {
+    if number as u64 >= split.len() {
         return false;
     }
-    let range = split.range(number);
+    let range = split.range(number as u64);
     range.lower == lower && range.upper == upper
 }
 
-/// Tests the bounds of each range of that split.
-fn are_ranges(rt: &impl Abort, split: &Split<Bytewise>) {
-    for number in 0..RANGES.len() {
-        let (lower, upper) = RANGES[number];
-        assert!(rt; has_bounds(split, number as u64, lower, upper));
+/// Whether a split has these boundaries: each ends a range and begins the next.
+fn has_boundaries(split: &Split<Bytewise>, boundaries: &[&[u8]]) -> bool {
+    let mut lower = None;
+    for (number, boundary) in boundaries.iter().enumerate() {
+        if !has_bounds(split, number, lower, Some(*boundary)) {
+            return false;
+        }
+        lower = Some(*boundary);
+    }
+    has_bounds(split, boundaries.len(), lower, None)
+}
+
+/// Boundaries, or how they are refused.
+type Wanted = Result<&'static [&'static [u8]], FaultName>;
+
+/// Whether an answer is the wanted one.
+fn is_answer(answer: Result<Split<Bytewise>, Fault>, wanted: &Wanted) -> bool {
+    match (answer, wanted) {
+        (Ok(split), Ok(boundaries)) => has_boundaries(&split, *boundaries),
+        (Err(refused), Err(name)) => refused == Fault::of(*name),
+        _ => false,
     }
 }
 
-#[test]
-fn bounds_of_ranges(rt: HostRuntime) -> Result<(), Fault> {
-    let split = split_at(keys(rt.alloc(), &[b"c", b"m"])?)?;
-    are_so_many(&rt, split.len(), 3);
-    are_ranges(&rt, &split);
-    Ok(())
-}
+/// How many ranges are wanted, and the boundaries that are chosen.
+const CHOSEN: &[(u64, Wanted)] = &[
+    (0, Err(FaultName::SplitCount)),
+    (1, Ok(&[])),
+    (2, Ok(&[b"c"])),
+    (3, Ok(&[b"b", b"c"])),
+    (8, Ok(&[b"a", b"b", b"c", b"d"])),
+    (4_096, Ok(&[b"a", b"b", b"c", b"d"])),
+    (4_097, Err(FaultName::SplitCount)),
+];
 
-/// Boundaries that do not rise strictly.
-const NOT_RISING: [[&[u8]; 2]; 2] = [[b"m", b"m"], [b"n", b"m"]];
-
 #[test]
-fn keys_that_do_not_rise(rt: HostRuntime) -> Result<(), Fault> {
-    for texts in NOT_RISING {
-        let refused = refusal(split_at(keys(rt.alloc(), &texts)?));
-        is_refusal(&rt, refused, FaultName::SplitOrder);
+fn boundaries_that_are_chosen(rt: HostRuntime) {
+    one_choice::<Bytewise>();
+    for (want, wanted) in CHOSEN {
+        assert!(rt;
+            is_answer(chosen(rt.alloc(), *want), wanted),
+            "{want} ranges"
+        );
     }
-    Ok(())
 }
 
-/// How many ranges there are by length between boundaries that rise so.
-fn ranges_by_length(alloc: Global) -> Result<u64, Fault> {
-    let keys = keys(alloc, &[b"b", b"aa"])?;
-    Ok(Split::<Shortlex>::from_keys(keys)?.len())
+/// Boundaries of two bytes: the first, how far each is above the one before it, and how many there are. A second byte that is 0
+/// is left out.
+type Parting = (u16, u16, u16);
+
+/// How many ranges there are between them.
+fn ranges_between(alloc: Global, parting: &Parting) -> Result<u64, Fault> {
+    let mut keys = Vec::new(alloc);
+    for number in 0..parting.2 {
+        let key = parting
+            .0
+            .wrapping_add(parting.1.wrapping_mul(number))
+            .to_be_bytes();
+        let len = if key[1] == 0 { 1 } else { 2 };
+        keys.push(Vec::from_slice(alloc, &key[..len])?)?;
+    }
+    let split = Split::<Bytewise>::from_keys(keys)?;
+    Ok(split.len())
 }
+
+/// The refusal of boundaries that do not rise.
+const NOT_RISING: Fault = Fault {
+    name: FaultName::SplitOrder,
+    input: None,
+};
+
+/// That of too many.
+const TOO_MANY: Fault = Fault {
+    name: FaultName::SplitCount,
+    input: None,
+};
+
+/// Boundaries that are given, and how many ranges there are between them.
+const GIVEN: &[(&str, Parting, Result<u64, Fault>)] = &[
+    ("c and m", (0x6300, 0x0a00, 2), Ok(3)),
+    ("m and m", (0x6d00, 0, 2), Err(NOT_RISING)),
+    ("n and m", (0x6e00, 0xff00, 2), Err(NOT_RISING)),
+    ("as many as there may be", (0, 1, 4_095), Ok(4_096)),
+    ("one too many", (0, 1, 4_096), Err(TOO_MANY)),
+];
 
 #[test]
-fn keys_that_rise_by_length(rt: HostRuntime) -> Result<(), Fault> {
-    are_so_many(&rt, ranges_by_length(rt.alloc())?, 3);
-    Ok(())
-}
-
-/// How many ranges there are between so many boundaries.
-fn ranges_between(alloc: Global, count: u16) -> Result<u64, Fault> {
-    Ok(split_at(many_keys(alloc, count)?)?.len())
-}
-
-#[test]
-fn as_many_boundaries_as_there_may_be(rt: HostRuntime) -> Result<(), Fault> {
-    are_so_many(&rt, ranges_between(rt.alloc(), 4_095)?, 4_096);
-    let refused = refusal(split_at(many_keys(rt.alloc(), 4_096)?));
-    is_refusal(&rt, refused, FaultName::SplitCount);
-    Ok(())
-}
-
-/// As many boundaries as there may be, and one more that does not rise.
-fn too_many_keys(alloc: Global) -> Result<Vec<Vec<u8>>, Fault> {
-    let mut keys = many_keys(alloc, 4_095)?;
-    keys.push(Vec::new(alloc))?;
-    Ok(keys)
-}
-
-#[test]
-fn too_many_before_the_order(rt: HostRuntime) -> Result<(), Fault> {
-    let refused = refusal(split_at(too_many_keys(rt.alloc())?));
-    is_refusal(&rt, refused, FaultName::SplitCount);
-    Ok(())
-}
-
-// With `rt try --test --fail-alloc N` the Nth growth is refused; without it, none is.
-#[test]
-fn a_refused_growth_is_memory(rt: HostRuntime) {
-    match chosen(rt.alloc(), 8) {
-        Ok(boundaries) => are_bytes(&rt, &boundaries, b"abcd"),
-        Err(refused) => assert_eq!(rt; refused, Fault::of(FaultName::Memory)),
+fn boundaries_that_are_given(rt: HostRuntime) {
+    for (name, parting, wanted) in GIVEN {
+        assert!(rt; ranges_between(rt.alloc(), parting) == *wanted, "{name}");
     }
 }

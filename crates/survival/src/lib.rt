@@ -7,6 +7,3 @@
 mod laws;
 
 pub use laws::{edit_applies, gets_after, outputs_hold, reads_survive, stands_after};
-
-#[cfg(test)]
-mod tests;

@@ -1,38 +1,20 @@
-// What no clause says: which seat draws what, that two threads run, that calls succeed, and the rows of the rules.
-ghost use Rattle.std.specs.Prelude.{◌≡◌, ◌≤◌, ◌^◌, All, IfSome, IfOk, drop, length, slice_index_or};
+ghost use Rattle.std.specs.Prelude.{◌≡◌, ◌≤◌, ◌^◌, All, IfSome};
 
 use board::{Board, Gate, Labour, Open, RunFault, Seat, Tally, run};
 use coding::{Fault, FaultName};
-use std::alloc::{AllocError, Global};
+use std::alloc::Global;
 use std::process::Abort;
 use std::sync::atomic::{AtomicU64, Ordering};
 use std::test::*;
 use std::thread;
 use std::thread::Threads;
 
-// How often a thread looks whether another has come.
+// What no clause says: which seat draws what, that two threads run, that calls succeed, and the rows of the rules.
+
+/// How often a thread looks whether another has come.
 const TURNS: u64 = 1_000_000;
 
-// Tests that a number is this.
-fn is_number(rt: &impl Abort, found: u64, wanted: u64) {
-    assert_eq!(rt; found, wanted);
-}
-
-// Tests that numbers are these.
-fn are_numbers(rt: &impl Abort, found: &[u64], wanted: &[u64]) {
-    assert_eq!(rt; found, wanted);
-}
-
-// Tests which is the least job that failed.
-fn is_least(rt: &impl Abort, found: Option<u64>, wanted: Option<u64>) {
-    assert_eq!(rt; found, wanted);
-}
-
-// Tests what was done at a board.
-fn is_tally(rt: &impl Abort, found: Tally, wanted: Tally) {
-    assert_eq!(rt; found, wanted);
-}
-
+/// The last seat, where one is left.
 fn take_last(board: &Board, seats: &mut Vec<Seat>) -> Option<Seat>
     requires { All (λ p. p.board ≡ board.now) seats.old.items }
     ensures seat { IfSome result (λ p. p.board ≡ board.now) }
@@ -41,166 +23,143 @@ fn take_last(board: &Board, seats: &mut Vec<Seat>) -> Option<Seat>
     seats.pop()
 }
 
-fn give_back(board: &Board, seats: &mut Vec<Seat>, seat: Seat) -> Result<(), AllocError>
+/// Puts a seat behind the others, where there is room for it.
+fn put_back(board: &Board, seats: &mut Vec<Seat>, seat: Seat)
     requires { All (λ p. p.board ≡ board.now) seats.old.items × (seat.board ≡ board.now) }
     ensures { All (λ p. p.board ≡ board.now) seats.new.items }
 {
     let _ = board;
-    seats.push(seat)?;
-    Ok(())
+    let _pushed = seats.push(seat);
 }
 
-fn give_both(
-    board: &Board,
-    seats: &mut Vec<Seat>,
-    first: Seat,
-    second: Seat,
-) -> Result<(), AllocError>
-    requires rest { All (λ p. p.board ≡ board.now) seats.old.items }
-    requires both { (first.board ≡ board.now) × (second.board ≡ board.now) }
-    ensures { All (λ p. p.board ≡ board.now) seats.new.items }
-{
-    give_back(board, seats, first)?;
-    give_back(board, seats, second)
-}
-
-// Draws up to ten jobs.
-fn draw_ten(board: &Board, mut seat: Seat, all: &mut Vec<u64>) -> Result<(), AllocError>
+/// Whether a seat draws these jobs in this order, and then none.
+fn draws(board: &Board, mut seat: Seat, numbers: &[u64]) -> bool
     requires { seat.board ≡ board.now }
 {
-    for _ in 0..10 {
+    for number in numbers {
         let Some(job) = board.draw(&mut seat) else {
-            break;
+            return false;
         };
-        let number = job.number();
+        let is_next = job.number() == *number;
         board.done(&mut seat, job);
-        all.push(number)?;
+        if !is_next {
+            return false;
+        }
     }
-    Ok(())
+    let Some(job) = board.draw(&mut seat) else {
+        return true;
+    };
+    board.done(&mut seat, job);
+    false
 }
 
-// What the seat of this number draws. The seats stand in the order of their numbers, so that as many are before it.
-fn draw_at(
-    board: &Board,
-    mut made: Vec<Seat>,
-    at: u64,
-    all: &mut Vec<u64>,
-) -> Result<(), AllocError>
+/// Whether the seat of a number does. The seats stand in the order of their numbers, so that as many are before it.
+fn draws_at(board: &Board, mut made: Vec<Seat>, at: u64, numbers: &[u64]) -> bool
     requires { All (λ p. p.board ≡ board.now) made.items }
 {
     for _ in 0..64 {
         let Some(seat) = take_last(board, &mut made) else {
-            break;
+            return false;
         };
         if made.len() as u64 == at {
-            draw_ten(board, seat, all)?;
+            return draws(board, seat, numbers);
         }
     }
-    Ok(())
+    false
 }
 
-fn drawn_alone(alloc: Global, jobs: u8, seats: u64, at: u64) -> Result<Vec<u64>, Fault> {
-    let mut all = Vec::new(alloc);
-    let (board, made) = Board::new(alloc, u64::from(jobs), seats)?;
-    draw_at(&board, made, at, &mut all)?;
-    Ok(all)
+/// A seat that draws alone: the jobs and seats of its board, its number, and what it draws.
+struct Drawn {
+    name: &'static str,
+    jobs: u8,
+    seats: u64,
+    at: u64,
+    numbers: &'static [u64],
 }
 
-// Jobs, seats, the number of the one that draws, and what it draws.
-const DRAWN: [(u8, u64, u64, &[u64]); 5] = [
-    (5, 2, 0, &[0, 1, 2, 3, 4]),
-    (5, 2, 1, &[2, 3, 4, 0, 1]),
-    (3, 64, 0, &[0, 1, 2]),
-    (3, 64, 22, &[1, 2, 0]),
-    (0, 1, 0, &[]),
+const DRAWN: &[Drawn] = &[
+    Drawn {
+        name: "the first of two, of five jobs",
+        jobs: 5,
+        seats: 2,
+        at: 0,
+        numbers: &[0, 1, 2, 3, 4],
+    },
+    Drawn {
+        name: "the second of two, of five jobs",
+        jobs: 5,
+        seats: 2,
+        at: 1,
+        numbers: &[2, 3, 4, 0, 1],
+    },
+    Drawn {
+        name: "the first of 64, of three jobs",
+        jobs: 3,
+        seats: 64,
+        at: 0,
+        numbers: &[0, 1, 2],
+    },
+    Drawn {
+        name: "seat 22 of 64, of three jobs",
+        jobs: 3,
+        seats: 64,
+        at: 22,
+        numbers: &[1, 2, 0],
+    },
+    Drawn {
+        name: "a lone one, of no jobs",
+        jobs: 0,
+        seats: 1,
+        at: 0,
+        numbers: &[],
+    },
 ];
 
-#[test]
-fn a_seat_draws_its_own_share_first(rt: HostRuntime) -> Result<(), Fault> {
-    for (jobs, seats, at, numbers) in DRAWN {
-        are_numbers(&rt, &drawn_alone(rt.alloc(), jobs, seats, at)?, numbers);
-    }
-    Ok(())
-}
-
-// Draws this job, and spends it where it comes back.
-fn skip_next<R: Abort>(rt: &R, board: &Board, seat: &mut Seat, number: u64, comes_back: bool)
-    requires { seat.old.board ≡ board.now }
-    ensures { seat.new.board ≡ board.now }
-{
-    let Some(job) = board.draw(seat) else {
-        return;
-    };
-    is_number(rt, job.number(), number);
-    let back = board.skip(seat, job);
-    assert!(rt; back.is_some() == comes_back);
-    if let Some(job) = back {
-        board.done(seat, job);
+/// Whether a seat draws so, where no other does.
+fn draws_alone(alloc: Global, row: &Drawn) -> bool {
+    match Board::new(alloc, u64::from(row.jobs), row.seats) {
+        Ok((board, made)) => draws_at(&board, made, row.at, row.numbers),
+        Err(_) => false,
     }
 }
 
-// Jobs that are skipped, and whether they come back.
-const SKIPPED: [(u64, bool); 4] = [(4, false), (0, true), (1, true), (2, true)];
-
-// Draws jobs 4, 0, 1, 2, and spends those that come back.
-fn skip_each<R: Abort>(rt: &R, board: &Board, mut seat: Seat) -> Seat
-    requires { seat.board ≡ board.now }
-    ensures { result.board ≡ board.now }
-{
-    for (number, comes_back) in SKIPPED {
-        skip_next(rt, board, &mut seat, number, comes_back);
-    }
-    seat
-}
-
-// Draws job 3 at a seat and fails it, which another seat sees too.
-fn fail_one<R: Abort>(rt: &R, board: &Board, seat: &mut Seat, other: &mut Seat)
+/// Whether a seat draws job 3 and fails it, which another one sees too.
+fn is_seen(board: &Board, seat: &mut Seat, other: &mut Seat) -> bool
     requires { (seat.old.board ≡ board.now) × (other.old.board ≡ board.now) }
-    ensures { (seat.new.board ≡ board.now) × (other.new.board ≡ board.now) }
 {
-    is_least(rt, board.least_fault(other), None);
-    if let Some(job) = board.draw(seat) {
-        is_number(rt, job.number(), 3);
-        board.fail(seat, job);
+    if board.least_fault(other).is_some() {
+        return false;
     }
-    is_least(rt, board.least_fault(seat), Some(3));
-    is_least(rt, board.least_fault(other), Some(3));
+    let Some(job) = board.draw(seat) else {
+        return false;
+    };
+    let is_third = job.number() == 3;
+    board.fail(seat, job);
+    is_third && board.least_fault(seat) == Some(3) && board.least_fault(other) == Some(3)
 }
 
-// Does so at the last seat but one, and draws and skips at the last.
-fn fail_and_skip<R: Abort>(rt: &R, board: &Board, seats: &mut Vec<Seat>) -> Result<(), AllocError>
+/// Whether the last of a board's seats sees that the one before it fails job 3.
+fn is_seen_by_last(board: &Board, seats: &mut Vec<Seat>) -> bool
     requires { All (λ p. p.board ≡ board.now) seats.old.items }
-    ensures { All (λ p. p.board ≡ board.now) seats.new.items }
 {
-    let Some(mut other) = take_last(board, seats) else {
-        return Ok(assert!(rt; false));
+    let Some(mut last) = take_last(board, seats) else {
+        return false;
     };
-    let Some(mut seat) = take_last(board, seats) else {
-        return Ok(assert!(rt; false));
+    let Some(mut before) = take_last(board, seats) else {
+        return false;
     };
-    fail_one(rt, board, &mut seat, &mut other);
-    let other = skip_each(rt, board, other);
-    give_both(board, seats, seat, other)
+    is_seen(board, &mut before, &mut last)
 }
 
-// What was done where job 3 of five failed.
-const FAILED: Tally = Tally {
-    done: 3,
-    failed: 1,
-    skipped: 1,
-    least: Some(3),
-};
-
-// Seat 3 of five jobs and seats fails job 3, and seat 4 then draws 4, 0, 1, 2.
-#[test]
-fn another_seat_sees_a_failure(rt: HostRuntime) -> Result<(), Fault> {
-    let (board, mut seats) = Board::new(rt.alloc(), 5, 5)?;
-    fail_and_skip(&rt, &board, &mut seats)?;
-    is_tally(&rt, board.close(seats), FAILED);
-    Ok(())
+/// Whether the last of five seats sees so. Job 3 is the share of the one before it.
+fn is_failure_seen(alloc: Global) -> bool {
+    match Board::new(alloc, 5, 5) {
+        Ok((board, mut seats)) => is_seen_by_last(&board, &mut seats),
+        Err(_) => false,
+    }
 }
 
-// Draws and spends until there is no job.
+/// Draws and spends until there is no job.
 fn spend_all(board: &Board, mut seat: Seat) -> Seat
     requires { seat.board ≡ board.now }
     ensures { result.board ≡ board.now }
@@ -211,6 +170,7 @@ fn spend_all(board: &Board, mut seat: Seat) -> Seat
     seat
 }
 
+/// Does so at two seats, by two threads.
 fn spend_by_two<R: Threads>(rt: &R, board: &Board, first: Seat, second: Seat) -> (Seat, Seat)
     requires { (first.board ≡ board.now) × (second.board ≡ board.now) }
     ensures { (result.0.board ≡ board.now) × (result.1.board ≡ board.now) }
@@ -228,26 +188,23 @@ fn spend_by_two<R: Threads>(rt: &R, board: &Board, first: Seat, second: Seat) ->
     )
 }
 
-// Draws and spends by two threads at the last two seats.
-fn spend_at_two<R: Threads + Abort>(
-    rt: &R,
-    board: &Board,
-    seats: &mut Vec<Seat>,
-) -> Result<(), AllocError>
+/// Does so at the last two seats.
+fn spend_at_two<R: Threads>(rt: &R, board: &Board, seats: &mut Vec<Seat>)
     requires { All (λ p. p.board ≡ board.now) seats.old.items }
     ensures { All (λ p. p.board ≡ board.now) seats.new.items }
 {
     let Some(second) = take_last(board, seats) else {
-        return Ok(assert!(rt; false));
+        return;
     };
     let Some(first) = take_last(board, seats) else {
-        return Ok(assert!(rt; false));
+        return;
     };
     let (first, second) = spend_by_two(rt, board, first, second);
-    give_both(board, seats, first, second)
+    put_back(board, seats, first);
+    put_back(board, seats, second);
 }
 
-// What was done where each of ten thousand jobs was spent.
+/// What was done where each of ten thousand jobs was spent.
 const SPENT: Tally = Tally {
     done: 10_000,
     failed: 0,
@@ -255,50 +212,113 @@ const SPENT: Tally = Tally {
     least: None,
 };
 
+/// Whether two threads draw each of ten thousand jobs once.
+fn are_spent<R: Threads>(rt: &R, alloc: Global) -> bool {
+    match Board::new(alloc, 10_000, 2) {
+        Ok((board, mut seats)) => {
+            spend_at_two(rt, &board, &mut seats);
+            board.close(seats) == SPENT
+        }
+        Err(_) => false,
+    }
+}
+
 #[test]
-fn two_threads_draw_each_job_once(rt: HostRuntime) -> Result<(), Fault> {
-    let (board, mut seats) = Board::new(rt.alloc(), 10_000, 2)?;
-    spend_at_two(&rt, &board, &mut seats)?;
-    is_tally(&rt, board.close(seats), SPENT);
-    Ok(())
+fn seats_draw_each_job_once(rt: HostRuntime) {
+    for row in DRAWN {
+        assert!(rt; draws_alone(rt.alloc(), row), "{}", row.name);
+    }
+    assert!(rt; is_failure_seen(rt.alloc()));
+    assert!(rt; are_spent(&rt, rt.alloc()));
 }
 
-// Holds each of two until the other has come.
+/// Jobs that are held until others have come and others have left. Each of eight jobs has a byte in each number.
+#[derive(Clone, Copy)]
+struct Held {
+    jobs: u64,
+    come: u64,
+    left: u64,
+}
+
+/// No job is held.
+const FREE: Held = Held {
+    jobs: 0,
+    come: 0,
+    left: 0,
+};
+
+/// Each of two jobs is held until both have come.
+const MEETING: Held = Held {
+    jobs: 0x0101,
+    come: 0x0101,
+    left: 0,
+};
+
+/// Counts how often each of eight jobs comes and leaves, in a byte each, and holds some of them.
 #[derive(Drop)]
-struct Meeting {
+struct Watch {
     come: AtomicU64,
+    left: AtomicU64,
     given_up: AtomicU64,
+    held: Held,
 }
 
-impl Meeting {
-    fn new() -> Meeting {
-        Meeting {
+/// One in the byte of a job.
+fn byte_of(job: u64) -> u64 {
+    1 << (8 * (job % 8))
+}
+
+impl Watch {
+    fn new(held: Held) -> Watch {
+        Watch {
             come: AtomicU64::new(0),
+            left: AtomicU64::new(0),
             given_up: AtomicU64::new(0),
+            held,
         }
     }
 
-    fn hold(&self) {
-        self.come.fetch_add(1, Ordering::SeqCst);
+    /// Whether those have come and left for which jobs are held.
+    fn is_free(&self) -> bool {
+        let come = self.come.load(Ordering::SeqCst);
+        let left = self.left.load(Ordering::SeqCst);
+        come & self.held.come == self.held.come && left & self.held.left == self.held.left
+    }
+
+    /// Holds a job, where it is one that is held.
+    fn hold(&self, job: u64) {
+        self.come.fetch_add(byte_of(job), Ordering::SeqCst);
+        if self.held.jobs & byte_of(job) == 0 {
+            return;
+        }
         for _ in 0..TURNS {
-            if self.come.load(Ordering::SeqCst) >= 2 {
+            if self.is_free() {
                 return;
             }
             thread::yield_now();
         }
         self.given_up.fetch_add(1, Ordering::SeqCst);
     }
+
+    /// Whether no hold was given up, and jobs came and left so often.
+    fn has_counted(&self, come: u64, left: u64) -> bool {
+        self.given_up.load(Ordering::SeqCst) == 0
+            && self.come.load(Ordering::SeqCst) == come
+            && self.left.load(Ordering::SeqCst) == left
+    }
 }
 
-impl Gate for Meeting {
-    fn pass(&self, _seat: u32, _job: u64) {
-        self.hold();
+impl Gate for Watch {
+    fn pass(&self, _seat: u32, job: u64) {
+        self.hold(job);
     }
 
-    fn left(&self, _seat: u32, _job: u64) {}
+    fn left(&self, _seat: u32, job: u64) {
+        self.left.fetch_add(byte_of(job), Ordering::SeqCst);
+    }
 }
 
-impl Labour for Meeting {
+impl Labour for Watch {
     type Out = u64;
 
     ghost use Rattle.std.specs.Prelude.{◌≡◌, ◌^◌, None};
@@ -310,12 +330,12 @@ impl Labour for Meeting {
     ghost gives = { λ _ job out. out ≡ job };
 
     fn work(&self, job: u64) -> Result<u64, Fault> {
-        self.hold();
+        self.hold(job);
         Ok(job)
     }
 }
 
-// Refuses one job by name, and one for want of memory.
+/// Refuses one job by name, and one for want of memory.
 #[derive(Clone, Copy)]
 struct Refusing {
     by_name: u64,
@@ -346,288 +366,189 @@ impl Labour for Refusing {
     }
 }
 
-// Refuses no job.
+/// Refuses no job.
 const WILLING: Refusing = Refusing {
     by_name: u64::MAX,
     for_memory: u64::MAX,
 };
 
-// Gives what is left of lent bytes from each place on.
-#[derive(Clone, Copy)]
-struct Endings<'t> {
-    bytes: &'t [u8],
-}
-
-impl<'t> Labour for Endings<'t> {
-    type Out = &'t [u8];
-
-    ghost use Rattle.std.specs.Prelude.{◌≡◌, None, drop, length};
-
-    ghost jobs = { λ s. length s.bytes.now };
-
-    ghost refusal = { λ _ _. None };
-
-    ghost gives = { λ s job out. out.now ≡ drop job s.bytes.now };
-
-    fn work(&self, job: u64) -> Result<&'t [u8], Fault> {
-        Ok(&self.bytes[job as usize..])
-    }
-}
-
-// What each of two jobs gives of bytes that the caller still lends.
-fn two_endings<'t, R: Threads + Sync>(
-    rt: &R,
-    alloc: Global,
-    bytes: &'t [u8],
-) -> Result<Vec<&'t [u8]>, RunFault>
-    requires { 2 ≤ length bytes.now }
-    ensures { IfOk result (λ v.
-        (length v.items ≡ 2)
-        × ((d : _) → (slice_index_or v.items 1 d).now ≡ drop 1 bytes.now)) }
-{
-    run(rt, alloc, &Endings { bytes }, 2, 2, &Open)
-}
-
-// Whether these are the two endings of `ab`.
-fn are_endings(all: &[&[u8]]) -> bool {
-    all.len() == 2 && all[0] == b"ab".as_slice() && all[1] == b"b".as_slice()
-}
-
-#[test]
-fn results_may_borrow(rt: HostRuntime) {
-    match two_endings(&rt, rt.alloc(), b"ab") {
-        Ok(all) => assert!(rt; are_endings(&all)),
-        Err(_) => assert!(rt; false),
-    }
-}
-
-fn gives(answer: Result<Vec<u64>, RunFault>, results: &[u64]) -> bool {
-    match answer {
-        Ok(all) => all.as_slice() == results,
-        Err(_) => false,
-    }
-}
-
-fn fails(answer: Result<Vec<u64>, RunFault>, fault: RunFault) -> bool {
-    match answer {
-        Ok(_) => false,
-        Err(found) => found == fault,
-    }
-}
-
-// A caller that does all jobs itself would give up here.
-#[test]
-fn two_workers_meet_at_the_gate(rt: HostRuntime) {
-    let gate = Meeting::new();
-    assert!(rt; gives(run(&rt, rt.alloc(), &WILLING, 2, 2, &gate), &[0, 1]));
-    is_number(&rt, gate.given_up.load(Ordering::SeqCst), 0);
-}
-
-#[test]
-fn two_workers_meet_at_work(rt: HostRuntime) {
-    let labour = Meeting::new();
-    assert!(rt; gives(run(&rt, rt.alloc(), &labour, 2, 2, &Open), &[0, 1]));
-    is_number(&rt, labour.given_up.load(Ordering::SeqCst), 0);
-}
-
-// What is answered where no job is refused.
-fn all_of<R: Threads + Sync>(
-    rt: &R,
-    alloc: Global,
-    jobs: u8,
-    workers: u64,
-) -> Result<Vec<u64>, RunFault> {
-    run(rt, alloc, &WILLING, u64::from(jobs), workers, &Open)
-}
-
-// Jobs, workers, and what they give.
-const GIVEN: [(u8, u64, &[u64]); 3] = [
-    (0, 3, &[]),
-    (5, 64, &[0, 1, 2, 3, 4]),
-    (7, 3, &[0, 1, 2, 3, 4, 5, 6]),
-];
-
-#[test]
-fn workers_are_from_1_to_64(rt: HostRuntime) {
-    for (jobs, workers, results) in GIVEN {
-        assert!(rt; gives(all_of(&rt, rt.alloc(), jobs, workers), results));
-    }
-    assert!(rt; fails(all_of(&rt, rt.alloc(), 5, 65), RunFault::Workers));
-    assert!(rt; fails(all_of(&rt, rt.alloc(), 5, 0), RunFault::Workers));
-}
-
-// Counts how often each of four jobs passes and leaves.
-#[derive(Drop)]
-struct Counting {
-    passed: [AtomicU64; 4],
-    left: [AtomicU64; 4],
-}
-
-fn zeros() -> [AtomicU64; 4] {
-    [
-        AtomicU64::new(0),
-        AtomicU64::new(0),
-        AtomicU64::new(0),
-        AtomicU64::new(0),
-    ]
-}
-
-impl Gate for Counting {
-    fn pass(&self, _seat: u32, job: u64) {
-        if job < 4 {
-            self.passed[job as usize].fetch_add(1, Ordering::SeqCst);
-        }
-    }
-
-    fn left(&self, _seat: u32, job: u64) {
-        if job < 4 {
-            self.left[job as usize].fetch_add(1, Ordering::SeqCst);
-        }
-    }
-}
-
-// Tests that a job was counted once.
-fn is_once(rt: &impl Abort, count: u64, job: usize) {
-    assert_eq!(rt; count, 1, "job {job}");
-}
-
-// Tests that each job passed and left once.
-fn are_once(rt: &impl Abort, gate: &Counting) {
-    for job in 0..4 {
-        is_once(rt, gate.passed[job].load(Ordering::SeqCst), job);
-        is_once(rt, gate.left[job].load(Ordering::SeqCst), job);
-    }
-}
-
-// Refuses the first job, so that a lone worker skips the others.
+/// Refuses the first job, so that a lone worker skips the others.
 const FIRST: Refusing = Refusing {
     by_name: 0,
     for_memory: u64::MAX,
 };
 
-#[test]
-fn each_job_passes_and_leaves_once(rt: HostRuntime) {
-    let fault = Fault::of(FaultName::Options);
-    for workers in [1, 3] {
-        let gate = Counting {
-            passed: zeros(),
-            left: zeros(),
-        };
-        let answer = run(&rt, rt.alloc(), &FIRST, 4, workers, &gate);
-        assert!(rt; fails(answer, RunFault::Job { job: 0, fault }));
-        are_once(&rt, &gate);
-    }
-}
+/// Refuses job 2 by name, and the first for want of memory.
+const FIRST_FOR_MEMORY: Refusing = Refusing {
+    by_name: 2,
+    for_memory: 0,
+};
 
-// Holds one job until another has left.
-#[derive(Drop)]
-struct Late {
-    late: u64,
-    first: u64,
-    gone: AtomicU64,
-}
+/// Refuses job 2 by name, and job 5 for want of memory.
+const THIRD_BY_NAME: Refusing = Refusing {
+    by_name: 2,
+    for_memory: 5,
+};
 
-impl Gate for Late {
-    fn pass(&self, _seat: u32, job: u64) {
-        if job != self.late {
-            return;
-        }
-        for _ in 0..TURNS {
-            if self.gone.load(Ordering::SeqCst) > 0 {
-                return;
-            }
-            thread::yield_now();
-        }
-    }
+/// The fault of a job that is refused by name.
+const NAMED: Fault = Fault {
+    name: FaultName::Options,
+    input: None,
+};
 
-    fn left(&self, _seat: u32, job: u64) {
-        if job == self.first {
-            self.gone.fetch_add(1, Ordering::SeqCst);
-        }
-    }
-}
+/// That of one that is refused for want of memory.
+const MEMORY: Fault = Fault {
+    name: FaultName::Memory,
+    input: None,
+};
 
-// Jobs of which two fail, the greater first, and the fault of the lesser.
-struct Failing {
+/// Jobs that workers do, which of them are held, how often each job comes and leaves, and the answer.
+struct Row {
+    name: &'static str,
     labour: Refusing,
     jobs: u8,
-    lesser: u64,
-    greater: u64,
-    name: FaultName,
+    workers: u64,
+    held: Held,
+    each: u64,
+    wanted: Result<&'static [u64], RunFault>,
 }
 
-// The greater stands in the share of the second worker.
-const FAILING: [Failing; 2] = [
-    Failing {
-        labour: Refusing {
-            by_name: 2,
-            for_memory: 0,
-        },
-        jobs: 4,
-        lesser: 0,
-        greater: 2,
-        name: FaultName::Memory,
+const ROWS: &[Row] = &[
+    Row {
+        name: "no jobs",
+        labour: WILLING,
+        jobs: 0,
+        workers: 3,
+        held: FREE,
+        each: 0,
+        wanted: Ok(&[]),
     },
-    Failing {
-        labour: Refusing {
-            by_name: 2,
-            for_memory: 5,
+    Row {
+        name: "as many workers as there may be",
+        labour: WILLING,
+        jobs: 5,
+        workers: 64,
+        held: FREE,
+        each: 0x01_0101_0101,
+        wanted: Ok(&[0, 1, 2, 3, 4]),
+    },
+    Row {
+        name: "one worker too many",
+        labour: WILLING,
+        jobs: 5,
+        workers: 65,
+        held: FREE,
+        each: 0,
+        wanted: Err(RunFault::Workers),
+    },
+    Row {
+        name: "no worker",
+        labour: WILLING,
+        jobs: 5,
+        workers: 0,
+        held: FREE,
+        each: 0,
+        wanted: Err(RunFault::Workers),
+    },
+    // A caller that does all jobs itself would give up here.
+    Row {
+        name: "two workers meet at the gate",
+        labour: WILLING,
+        jobs: 2,
+        workers: 2,
+        held: MEETING,
+        each: 0x0101,
+        wanted: Ok(&[0, 1]),
+    },
+    Row {
+        name: "a lone worker skips what is above a failed job",
+        labour: FIRST,
+        jobs: 4,
+        workers: 1,
+        held: FREE,
+        each: 0x0101_0101,
+        wanted: Err(RunFault::Job {
+            job: 0,
+            fault: NAMED,
+        }),
+    },
+    Row {
+        name: "so do three workers",
+        labour: FIRST,
+        jobs: 4,
+        workers: 3,
+        held: FREE,
+        each: 0x0101_0101,
+        wanted: Err(RunFault::Job {
+            job: 0,
+            fault: NAMED,
+        }),
+    },
+    Row {
+        name: "job 0 lacks memory once job 2 was refused by name",
+        labour: FIRST_FOR_MEMORY,
+        jobs: 4,
+        workers: 2,
+        held: Held {
+            jobs: 0x01,
+            come: 0,
+            left: 0x01_0000,
         },
+        each: 0x0101_0101,
+        wanted: Err(RunFault::Job {
+            job: 0,
+            fault: MEMORY,
+        }),
+    },
+    Row {
+        name: "job 2 is refused by name once job 5 lacked memory",
+        labour: THIRD_BY_NAME,
         jobs: 6,
-        lesser: 2,
-        greater: 5,
-        name: FaultName::Options,
+        workers: 2,
+        held: Held {
+            jobs: 0x01_0000,
+            come: 0,
+            left: 0x0100_0000_0000,
+        },
+        each: 0x0101_0101_0101,
+        wanted: Err(RunFault::Job {
+            job: 2,
+            fault: NAMED,
+        }),
     },
 ];
 
-// Whether two workers answer the lesser of the two jobs, which is held until the greater has left.
-fn answers_lesser<R: Threads + Sync>(rt: &R, alloc: Global, failing: &Failing) -> bool {
-    let gate = Late {
-        late: failing.lesser,
-        first: failing.greater,
-        gone: AtomicU64::new(0),
-    };
-    let job = failing.lesser;
-    let fault = Fault::of(failing.name);
-    let answer = run(
-        rt,
-        alloc,
-        &failing.labour,
-        u64::from(failing.jobs),
-        2,
-        &gate,
-    );
-    fails(answer, RunFault::Job { job, fault })
+/// Whether an answer is the wanted one.
+fn is_answer(
+    answer: Result<Vec<u64>, RunFault>,
+    wanted: &Result<&'static [u64], RunFault>,
+) -> bool {
+    match (answer, wanted) {
+        (Ok(results), Ok(numbers)) => results.as_slice() == *numbers,
+        (Err(found), Err(fault)) => found == *fault,
+        _ => false,
+    }
+}
+
+/// Whether workers answer so, and each job comes and leaves so often.
+fn is_done<R: Threads + Sync>(rt: &R, alloc: Global, row: &Row) -> bool {
+    let gate = Watch::new(row.held);
+    let jobs = u64::from(row.jobs);
+    let answer = run(rt, alloc, &row.labour, jobs, row.workers, &gate);
+    is_answer(answer, &row.wanted) && gate.has_counted(row.each, row.each)
+}
+
+/// Whether two workers meet at work.
+fn meet_at_work<R: Threads + Sync>(rt: &R, alloc: Global) -> bool {
+    let labour = Watch::new(MEETING);
+    let answer = run(rt, alloc, &labour, 2, 2, &Open);
+    is_answer(answer, &Ok(&[0, 1])) && labour.has_counted(0x0101, 0)
 }
 
 #[test]
-fn the_least_job_that_failed_is_answered(rt: HostRuntime) {
-    for failing in &FAILING {
-        assert!(rt; answers_lesser(&rt, rt.alloc(), failing));
+fn workers_do_all_jobs(rt: HostRuntime) {
+    for row in ROWS {
+        assert!(rt; is_done(&rt, rt.alloc(), row), "{}", row.name);
     }
-}
-
-// Whether an answer is these results, or Memory.
-fn gives_or_memory(answer: Result<Vec<u64>, RunFault>, results: &[u64]) -> bool {
-    match answer {
-        Ok(all) => all.as_slice() == results,
-        Err(RunFault::Workers) => false,
-        Err(RunFault::Memory) => true,
-        Err(RunFault::Job { job: _, fault }) => fault.name == FaultName::Memory,
-    }
-}
-
-// Whether a board is made, or Memory is answered.
-fn is_made_or_memory(answer: Result<(Board, Vec<Seat>), Fault>) -> bool {
-    match answer {
-        Ok(_) => true,
-        Err(fault) => fault == Fault::of(FaultName::Memory),
-    }
-}
-
-// With any one growth refused (`rt try --test --fail-alloc N`) it still passes: the answer is Memory, or the right one.
-#[test]
-fn a_refused_growth_gives_no_third_answer(rt: HostRuntime) {
-    assert!(rt; is_made_or_memory(Board::new(rt.alloc(), 5, 5)));
-    assert!(rt; gives_or_memory(all_of(&rt, rt.alloc(), 5, 3), &[0, 1, 2, 3, 4]));
+    assert!(rt; meet_at_work(&rt, rt.alloc()));
 }

@@ -1,308 +1,208 @@
 use coding::{Fault, FaultName};
-use edit::{CompactPointer, DeletedFile, FileMeta, NewFile};
-use ikey::{Bytewise, KeyBuf, Kind, Shortlex};
+use edit::{DeletedFile, Version, VersionEdit};
+use ikey::Bytewise;
 use keep::Snapshots;
-use pick::{InputFile, Inputs};
-use request::{Request, passed_law};
+use pick::{Inputs, inputs};
+use request::Request;
 use std::alloc::Global;
-use std::test::*;
 use table::Options;
+
+/// The new file 7 of level 1, of 125 bytes, from a deletion of `u` at 4 to a value at 2.
+const INPUT: &[u8] = b"\x07\x01\x07\x7d\x09u\0\x04\0\0\0\0\0\0\x09u\x01\x02\0\0\0\0\0\0";
 
 /// The first sequence that no snapshot may have, 2^56 - 1.
 const TOO_HIGH: u64 = 72_057_594_037_927_935;
 
-/// The internal key of a user key of one byte at a sequence, which is a value.
-fn key_of(alloc: Global, user: u8, sequence: u8) -> Result<KeyBuf, Fault> {
-    KeyBuf::new(alloc, &[user], u64::from(sequence), Kind::Put)
-}
-
-/// A file whose smallest and largest key are that of one user key at a sequence.
-fn file(alloc: Global, number: u64, user: u8, sequence: u8) -> Result<FileMeta, Fault> {
-    Ok(FileMeta {
-        number,
-        size: 113,
-        smallest: key_of(alloc, user, sequence)?,
-        largest: key_of(alloc, user, sequence)?,
-    })
-}
-
-/// What a compaction of a level takes: so many files of a level, and files of these user keys as grandparents.
-fn inputs(
-    alloc: Global,
+/// A request over the input or over none, and how it is refused.
+#[derive(Clone, Copy)]
+struct Row {
+    name: &'static str,
     level: u64,
-    files: u64,
-    input_level: u64,
-    grandparents: &[u8],
-) -> Result<Inputs, Fail> {
-    let mut inputs = Inputs {
-        level,
-        files: Vec::new(alloc),
-        grandparents: Vec::new(alloc),
-        deeper: Vec::new(alloc),
-        pointer: CompactPointer {
-            level,
-            key: key_of(alloc, b'u', 2)?,
-        },
-    };
-    for number in 0..files {
-        let meta = file(alloc, number, b'u', 2)?;
-        inputs.files.push(InputFile {
-            level: input_level,
-            meta,
-        })?;
-    }
-    for user in grandparents {
-        inputs.grandparents.push(file(alloc, 3, *user, 1)?)?;
-    }
-    Ok(inputs)
+    files: usize,
+    tables: &'static [&'static [u8]],
+    block_size: u64,
+    snapshots: Snapshots<'static>,
+    last_sequence: u64,
+    refused: Option<FaultName>,
 }
 
-/// A request with so many tables, which are no bytes, and default options.
-fn request<'a>(
-    picked: &'a Inputs,
-    tables: &'a [&'a [u8]],
-    snapshots: Snapshots<'a>,
-    last_sequence: u64,
-) -> Request<'a> {
+/// What is asked of the input and its table.
+const ACCEPTED: Row = Row {
+    name: "accepted",
+    level: 1,
+    files: 1,
+    tables: &[b""],
+    block_size: 4_096,
+    snapshots: Snapshots::From(4),
+    last_sequence: 4,
+    refused: None,
+};
+
+/// Everything is wrong, and then what is refused first is mended, row by row.
+const NO_INPUT: Row = Row {
+    name: "no input",
+    level: 6,
+    files: 0,
+    block_size: 0,
+    snapshots: Snapshots::Listed(&[6, 6, TOO_HIGH]),
+    refused: Some(FaultName::NoInput),
+    ..ACCEPTED
+};
+
+const LEVEL_SIX: Row = Row {
+    name: "level 6",
+    files: 1,
+    refused: Some(FaultName::Level),
+    ..NO_INPUT
+};
+
+const NO_BLOCKS: Row = Row {
+    name: "a block size of 0",
+    level: 1,
+    refused: Some(FaultName::Options),
+    ..LEVEL_SIX
+};
+
+const HIGH_SNAPSHOT: Row = Row {
+    name: "a high snapshot in a list that does not rise",
+    block_size: 4_096,
+    refused: Some(FaultName::Snapshot),
+    ..NO_BLOCKS
+};
+
+const LISTED_TWICE: Row = Row {
+    name: "a snapshot that is listed twice",
+    snapshots: Snapshots::Listed(&[6, 6]),
+    last_sequence: 9,
+    refused: Some(FaultName::SnapshotList),
+    ..HIGH_SNAPSHOT
+};
+
+const ROWS: &[Row] = &[
+    NO_INPUT,
+    LEVEL_SIX,
+    NO_BLOCKS,
+    HIGH_SNAPSHOT,
+    LISTED_TWICE,
+    ACCEPTED,
+    Row {
+        name: "an input of another level",
+        level: 3,
+        refused: Some(FaultName::Level),
+        ..ACCEPTED
+    },
+    Row {
+        name: "an input without a table",
+        tables: &[],
+        refused: Some(FaultName::Options),
+        ..ACCEPTED
+    },
+    Row {
+        name: "the highest snapshot",
+        snapshots: Snapshots::From(TOO_HIGH - 1),
+        ..ACCEPTED
+    },
+    Row {
+        name: "a high snapshot",
+        snapshots: Snapshots::From(TOO_HIGH),
+        refused: Some(FaultName::Snapshot),
+        ..ACCEPTED
+    },
+    Row {
+        name: "a high last sequence",
+        last_sequence: TOO_HIGH,
+        refused: Some(FaultName::Snapshot),
+        ..ACCEPTED
+    },
+    Row {
+        name: "a list up to the last sequence",
+        snapshots: Snapshots::Listed(&[1, 4]),
+        ..ACCEPTED
+    },
+    Row {
+        name: "a list that goes beyond it",
+        snapshots: Snapshots::Listed(&[5]),
+        refused: Some(FaultName::SnapshotList),
+        ..ACCEPTED
+    },
+];
+
+/// The version of the one file.
+fn version_of(alloc: Global) -> Result<Version, Fault> {
+    Version::empty(alloc).applied::<Bytewise>(VersionEdit::decode(alloc, INPUT)?)
+}
+
+/// The inputs of a row.
+fn picked(alloc: Global, row: &Row) -> Result<Inputs, Fault> {
+    let mut picked = inputs::<Bytewise>(alloc, &version_of(alloc)?, 1)?;
+    picked.level = row.level;
+    picked.files.truncate(row.files);
+    Ok(picked)
+}
+
+/// The request of a row.
+fn asked<'x>(row: &Row, picked: &'x Inputs) -> Request<'x> {
     Request {
         picked,
-        tables,
-        snapshots,
+        tables: row.tables,
+        snapshots: row.snapshots,
         first_number: 9,
         log_number: 3,
         previous_log: 0,
-        last_sequence,
-        options: Options::default(),
+        last_sequence: row.last_sequence,
+        options: Options {
+            block_size: row.block_size,
+            restart_interval: 16,
+            file_size: 2_097_152,
+        },
     }
 }
 
-/// Which refusal the test of a request is, where it is one.
-fn refusal(request: Request<'_>) -> Option<FaultName> {
-    request.check::<Bytewise>().err().map(|fault| fault.name)
+/// Whether a request is refused so.
+fn is_refused(alloc: Global, row: &Row) -> Result<bool, Fault> {
+    let picked = picked(alloc, row)?;
+    let refused = asked(row, &picked).check::<Bytewise>().err();
+    Ok(refused == row.refused.map(Fault::of))
 }
 
-/// So many tables of no bytes.
-fn tables<'a>(alloc: Global, count: u64) -> Result<Vec<&'a [u8]>, Fail> {
-    let mut tables = Vec::new(alloc);
-    for _ in 0..count {
-        let none: &[u8] = &[];
-        tables.push(none)?;
-    }
-    Ok(tables)
-}
-
-#[test]
-fn snapshots_and_their_limits(rt: HostRuntime) -> Result<(), Fail> {
-    let picked = inputs(rt.alloc(), 1, 1, 1, &[])?;
-    let tables = tables(rt.alloc(), 1)?;
-    let rows = [
-        (Snapshots::From(4), 4, None),
-        (Snapshots::From(9), 4, None),
-        (Snapshots::From(TOO_HIGH - 1), 4, None),
-        (Snapshots::From(TOO_HIGH), 4, Some(FaultName::Snapshot)),
-        (Snapshots::From(4), TOO_HIGH, Some(FaultName::Snapshot)),
-        (Snapshots::Listed(&[]), 9, None),
-        (Snapshots::Listed(&[3, 6, 9]), 9, None),
-        (Snapshots::Listed(&[6, 6]), 9, Some(FaultName::SnapshotList)),
-        (Snapshots::Listed(&[6, 3]), 9, Some(FaultName::SnapshotList)),
-        (Snapshots::Listed(&[10]), 9, Some(FaultName::SnapshotList)),
-        (Snapshots::Listed(&[TOO_HIGH]), 9, Some(FaultName::Snapshot)),
-        (
-            Snapshots::Listed(&[6, 6]),
-            TOO_HIGH,
-            Some(FaultName::Snapshot),
-        ),
+/// Whether an edit has the numbers of the request with next file 9, the compact pointer of level 1 at `u` at 2, takes file 7 of
+/// level 1 out, and puts none in.
+fn is_edit(edit: &VersionEdit) -> bool {
+    let numbers = [
+        edit.log_number,
+        edit.previous_log,
+        edit.next_file,
+        edit.last_sequence,
     ];
-    for (snapshots, last, refused) in rows {
-        assert_eq!(rt;
-            refusal(request(&picked, &tables, snapshots, last)),
-            refused
-        );
-    }
-    Ok(())
-}
-
-/// Numbers that rise from 0 on.
-fn rising(alloc: Global, count: u64) -> Result<Vec<u64>, Fail> {
-    let mut numbers = Vec::new(alloc);
-    for number in 0..count {
-        numbers.push(number)?;
-    }
-    Ok(numbers)
-}
-
-#[test]
-fn snapshots_are_4096_at_most(rt: HostRuntime) -> Result<(), Fail> {
-    let picked = inputs(rt.alloc(), 1, 1, 1, &[])?;
-    let tables = tables(rt.alloc(), 1)?;
-    let list = rising(rt.alloc(), 4_096)?;
-    let asked = request(&picked, &tables, Snapshots::Listed(&list), 5_000);
-    assert_eq!(rt; refusal(asked), None);
-    let longer = rising(rt.alloc(), 4_097)?;
-    let asked = request(&picked, &tables, Snapshots::Listed(&longer), 5_000);
-    assert_eq!(rt; refusal(asked), Some(FaultName::SnapshotList));
-    Ok(())
-}
-
-#[test]
-fn levels_inputs_and_tables(rt: HostRuntime) -> Result<(), Fail> {
-    // The level, how many inputs of which level, and how many tables.
-    let rows = [
-        (0, 1, 0, 1, None),
-        (0, 1, 1, 1, None),
-        (5, 1, 6, 1, None),
-        (6, 1, 6, 1, Some(FaultName::Level)),
-        (6, 0, 6, 0, Some(FaultName::NoInput)),
-        (1, 1, 0, 1, Some(FaultName::Level)),
-        (1, 1, 3, 0, Some(FaultName::Level)),
-        (1, 1, 1, 0, Some(FaultName::Options)),
-        (1, 1, 1, 2, Some(FaultName::Options)),
-        (1, 256, 1, 256, None),
-        (1, 257, 1, 257, Some(FaultName::Options)),
-    ];
-    for (level, files, input_level, count, refused) in rows {
-        let picked = inputs(rt.alloc(), level, files, input_level, &[])?;
-        let tables = tables(rt.alloc(), count)?;
-        let asked = request(&picked, &tables, Snapshots::From(4), 4);
-        assert_eq!(rt; refusal(asked), refused);
-    }
-    Ok(())
-}
-
-#[test]
-fn grandparents_rise(rt: HostRuntime) -> Result<(), Fail> {
-    let tables = tables(rt.alloc(), 1)?;
-    let rows = [
-        (b"ab".as_slice(), None),
-        (b"aa".as_slice(), Some(FaultName::Options)),
-        (b"ba".as_slice(), Some(FaultName::Options)),
-    ];
-    for (users, refused) in rows {
-        let picked = inputs(rt.alloc(), 1, 1, 1, users)?;
-        let asked = request(&picked, &tables, Snapshots::From(4), 4);
-        assert_eq!(rt; refusal(asked), refused);
-    }
-    Ok(())
-}
-
-#[test]
-fn options_and_the_first_refusal(rt: HostRuntime) -> Result<(), Fail> {
-    let picked = inputs(rt.alloc(), 1, 1, 1, &[])?;
-    let tables = tables(rt.alloc(), 1)?;
-    let kept = Options::default();
-    let rows = [
-        (
-            Options {
-                block_size: 0,
-                ..kept
-            },
-            Some(FaultName::Options),
-        ),
-        (
-            Options {
-                block_size: 4_194_304,
-                ..kept
-            },
-            None,
-        ),
-        (
-            Options {
-                block_size: 4_194_305,
-                ..kept
-            },
-            Some(FaultName::Options),
-        ),
-        (
-            Options {
-                restart_interval: 0,
-                ..kept
-            },
-            Some(FaultName::Options),
-        ),
-        (
-            Options {
-                restart_interval: 1_025,
-                ..kept
-            },
-            Some(FaultName::Options),
-        ),
-        (
-            Options {
-                file_size: 0,
-                ..kept
-            },
-            Some(FaultName::Options),
-        ),
-        (
-            Options {
-                file_size: 1_073_741_824,
-                ..kept
-            },
-            None,
-        ),
-        (
-            Options {
-                file_size: 1_073_741_825,
-                ..kept
-            },
-            Some(FaultName::Options),
-        ),
-    ];
-    for (options, refused) in rows {
-        // The options come before the snapshots.
-        let snapshots = Snapshots::From(TOO_HIGH);
-        let expected = Some(refused.unwrap_or(FaultName::Snapshot));
-        let asked = Request {
-            options,
-            ..request(&picked, &tables, snapshots, 4)
-        };
-        assert_eq!(rt; refusal(asked), expected);
-        let asked = Request {
-            options,
-            ..request(&picked, &tables, Snapshots::From(4), 4)
-        };
-        assert_eq!(rt; refusal(asked), refused);
-    }
-    Ok(())
-}
-
-#[test]
-fn the_edit_of_one_output(rt: HostRuntime) -> Result<(), Fail> {
-    let picked = inputs(rt.alloc(), 1, 1, 1, &[])?;
-    let tables = tables(rt.alloc(), 1)?;
-    let asked = request(&picked, &tables, Snapshots::From(4), 4);
-    let mut outputs = Vec::new(rt.alloc());
-    outputs.push(NewFile {
-        level: 2,
-        meta: file(rt.alloc(), 9, b'u', 4)?,
-    })?;
-    assert!(rt; asked.first_number < 10 && outputs.len() < 10);
-    let edit = asked.edit(rt.alloc(), outputs)?;
-    assert!(rt; edit.comparator.is_none());
-    assert_eq!(rt; edit.log_number, Some(3));
-    assert_eq!(rt; edit.previous_log, Some(0));
-    assert_eq!(rt; edit.next_file, Some(10));
-    assert_eq!(rt; edit.last_sequence, Some(4));
-    assert_eq!(rt; edit.pointers.len(), 1);
-    for pointer in &edit.pointers {
-        assert_eq!(rt; (pointer.level, pointer.key.as_key().sequence()), (1, 2));
-    }
     let deleted = DeletedFile {
         level: 1,
-        number: 0,
+        number: 7,
     };
-    assert_eq!(rt; edit.deleted.len(), 1);
-    assert!(rt; edit.deleted.contains(&deleted));
-    assert_eq!(rt; edit.added.len(), 1);
-    for file in &edit.added {
-        assert_eq!(rt; (file.level, file.meta.number), (2, 9));
+    let is_pointed = match edit.pointers.first() {
+        Some(pointer) => pointer.key.as_key().bytes() == b"u\x01\x02\0\0\0\0\0\0".as_slice(),
+        None => false,
+    };
+    numbers == [Some(3), Some(0), Some(9), Some(4)]
+        && is_pointed
+        && edit.deleted.contains(&deleted)
+        && (edit.pointers.len(), edit.deleted.len(), edit.added.len()) == (1, 1, 0)
+}
+
+/// Whether the edit of no output is that one.
+fn is_edited(alloc: Global) -> Result<bool, Fault> {
+    let picked = picked(alloc, &ACCEPTED)?;
+    let asked = asked(&ACCEPTED, &picked);
+    if asked.first_number != 9 {
+        return Ok(false);
     }
-    Ok(())
+    Ok(is_edit(&asked.edit(alloc, Vec::new(alloc))?))
 }
 
 #[test]
-fn the_law_is_called(rt: HostRuntime) {
-    passed_law::<Bytewise>();
-    passed_law::<Shortlex>();
-    assert!(rt; true);
+fn the_first_refusal_and_the_edit(rt: HostRuntime) -> Result<(), Fault> {
+    for row in ROWS {
+        assert!(rt; is_refused(rt.alloc(), row)?, "{}", row.name);
+    }
+    assert!(rt; is_edited(rt.alloc())?);
+    Ok(())
 }

@@ -62,10 +62,8 @@ fn chosen(alloc: Global, edit: &[u8], level: u64) -> Result<Inputs, Fault> {
     inputs::<Bytewise>(alloc, &version_of(alloc, edit)?, level)
 }
 
-/// A compaction of a level, and what it takes.
-struct Choice {
-    edit: &'static [u8],
-    level: u64,
+/// What a compaction takes.
+struct Taken {
     /// The levels and the numbers of its files.
     files: &'static [(u64, u64)],
     /// The internal key of its compact pointer.
@@ -75,56 +73,78 @@ struct Choice {
     deeper: &'static [u64],
 }
 
-const CHOICES: &[Choice] = &[
-    Choice {
-        edit: OVERLAPPING,
-        level: 0,
-        files: &[(0, 4), (0, 7), (0, 5)],
-        pointer: b"g\x01\x02\0\0\0\0\0\0",
-        grandparents: &[],
-        deeper: &[],
-    },
-    Choice {
-        edit: OF_ONE_KEY,
-        level: 1,
-        files: &[(1, 8), (1, 9)],
-        pointer: b"u\x01\x05\0\0\0\0\0\0",
-        grandparents: &[],
-        deeper: &[],
-    },
-    Choice {
-        edit: CHAINED,
-        level: 1,
-        files: &[(1, 8), (1, 2), (1, 3)],
-        pointer: b"v\x01\x02\0\0\0\0\0\0",
-        grandparents: &[],
-        deeper: &[],
-    },
-    Choice {
-        edit: POINTED,
-        level: 2,
-        files: &[(2, 3)],
-        pointer: b"i\x01\x06\0\0\0\0\0\0",
-        grandparents: &[],
-        deeper: &[],
-    },
-    Choice {
-        edit: LEVELS,
-        level: 1,
-        files: &[(1, 2), (2, 5), (2, 6), (2, 7)],
-        pointer: b"e\x01\x09\0\0\0\0\0\0",
-        grandparents: &[10],
-        deeper: &[9, 10, 11, 12, 13],
-    },
+/// A version, a level, and what its compaction takes or is refused by.
+type Row = (&'static [u8], u64, Result<Taken, FaultName>);
+
+const ROWS: &[Row] = &[
+    (
+        OVERLAPPING,
+        0,
+        Ok(Taken {
+            files: &[(0, 4), (0, 7), (0, 5)],
+            pointer: b"g\x01\x02\0\0\0\0\0\0",
+            grandparents: &[],
+            deeper: &[],
+        }),
+    ),
+    (
+        OF_ONE_KEY,
+        1,
+        Ok(Taken {
+            files: &[(1, 8), (1, 9)],
+            pointer: b"u\x01\x05\0\0\0\0\0\0",
+            grandparents: &[],
+            deeper: &[],
+        }),
+    ),
+    (
+        CHAINED,
+        1,
+        Ok(Taken {
+            files: &[(1, 8), (1, 2), (1, 3)],
+            pointer: b"v\x01\x02\0\0\0\0\0\0",
+            grandparents: &[],
+            deeper: &[],
+        }),
+    ),
+    (
+        POINTED,
+        2,
+        Ok(Taken {
+            files: &[(2, 3)],
+            pointer: b"i\x01\x06\0\0\0\0\0\0",
+            grandparents: &[],
+            deeper: &[],
+        }),
+    ),
+    (
+        LEVELS,
+        1,
+        Ok(Taken {
+            files: &[(1, 2), (2, 5), (2, 6), (2, 7)],
+            pointer: b"e\x01\x09\0\0\0\0\0\0",
+            grandparents: &[10],
+            deeper: &[9, 10, 11, 12, 13],
+        }),
+    ),
     // Nothing lies below the last level.
-    Choice {
-        edit: LEVELS,
-        level: 5,
-        files: &[(5, 12)],
-        pointer: b"z\x01\x03\0\0\0\0\0\0",
-        grandparents: &[],
-        deeper: &[],
-    },
+    (
+        LEVELS,
+        5,
+        Ok(Taken {
+            files: &[(5, 12)],
+            pointer: b"z\x01\x03\0\0\0\0\0\0",
+            grandparents: &[],
+            deeper: &[],
+        }),
+    ),
+    // A level without files, and one that has none below it.
+    (CHAINED, 0, Err(FaultName::NoInput)),
+    (CHAINED, 2, Err(FaultName::NoInput)),
+    (CHAINED, 5, Err(FaultName::NoInput)),
+    (CHAINED, 6, Err(FaultName::Level)),
+    (CHAINED, 7, Err(FaultName::Level)),
+    (b"", 6, Err(FaultName::Level)),
 ];
 
 /// Whether inputs have these levels and numbers.
@@ -147,46 +167,22 @@ fn are_numbered(found: &[FileMeta], wanted: &[u64]) -> bool {
     found.len() == wanted.len()
 }
 
-/// Whether a compaction takes this.
-fn is_chosen(alloc: Global, wanted: &Choice) -> Result<bool, Fault> {
-    let found = chosen(alloc, wanted.edit, wanted.level)?;
-    Ok(
-        found.level == wanted.level
-            && found.pointer.level == wanted.level
-            && are_files(&found.files, wanted.files)
-            && found.pointer.key.as_key().bytes() == wanted.pointer
-            && are_numbered(&found.grandparents, wanted.grandparents)
-            && are_numbered(&found.deeper, wanted.deeper),
-    )
+/// Whether inputs are these, of a compaction of a level.
+fn are_taken(found: &Inputs, level: u64, wanted: &Taken) -> bool {
+    found.level == level
+        && found.pointer.level == level
+        && found.pointer.key.as_key().bytes() == wanted.pointer
+        && are_files(&found.files, wanted.files)
+        && are_numbered(&found.grandparents, wanted.grandparents)
+        && are_numbered(&found.deeper, wanted.deeper)
 }
 
-#[test]
-fn files_that_a_compaction_takes(rt: HostRuntime) {
-    one_choice::<Bytewise>();
-    one_choice::<Shortlex>();
-    for wanted in CHOICES {
-        assert!(rt;
-            is_chosen(rt.alloc(), wanted) == Ok(true),
-            "{:?}",
-            wanted.files
-        );
-    }
-}
-
-/// Levels of `CHAINED`, which has files at level 1 alone, and how their compaction is refused.
-const REFUSED: &[(u64, FaultName)] = &[
-    (0, FaultName::NoInput),
-    (2, FaultName::NoInput),
-    (5, FaultName::NoInput),
-    (6, FaultName::Level),
-    (7, FaultName::Level),
-];
-
-/// Whether it is refused so.
-fn is_refused(alloc: Global, level: u64, wanted: FaultName) -> bool {
-    match chosen(alloc, CHAINED, level) {
-        Ok(_) => false,
-        Err(refused) => refused.name == wanted,
+/// Whether a compaction takes what it has to, or is refused so.
+fn is_answered(alloc: Global, row: &Row) -> bool {
+    match (chosen(alloc, row.0, row.1), &row.2) {
+        (Ok(found), Ok(wanted)) => are_taken(&found, row.1, wanted),
+        (Err(refused), Err(wanted)) => refused.name == *wanted,
+        _ => false,
     }
 }
 
@@ -207,9 +203,11 @@ fn are_told(alloc: Global) -> Result<bool, Fault> {
 }
 
 #[test]
-fn refused_levels_and_user_keys_below(rt: HostRuntime) {
-    for (level, wanted) in REFUSED {
-        assert!(rt; is_refused(rt.alloc(), *level, *wanted), "{level}");
-    }
+fn inputs_and_user_keys_below_them(rt: HostRuntime) {
+    one_choice::<Bytewise>();
+    one_choice::<Shortlex>();
     assert!(rt; are_told(rt.alloc()) == Ok(true));
+    for (place, row) in ROWS.iter().enumerate() {
+        assert!(rt; is_answered(rt.alloc(), row), "row {place}");
+    }
 }

@@ -2,8 +2,4 @@
 #![tactic(auto)]
 
 #[cfg(test)]
-mod files;
-#[cfg(test)]
-mod gets;
-#[cfg(test)]
-mod versions;
+mod tests;

@@ -138,7 +138,7 @@ const ROWS: &[Row] = &[
             deeper: &[],
         }),
     ),
-    // A level without files, and one that has none below it.
+    // Levels without a file, and levels above 5.
     (CHAINED, 0, Err(FaultName::NoInput)),
     (CHAINED, 2, Err(FaultName::NoInput)),
     (CHAINED, 5, Err(FaultName::NoInput)),

@@ -1,4 +1,4 @@
-use crate::crashes::{Moment, crashed, lent};
+use crate::crashes::{made_at, make_left};
 use coding::{Fault, FaultName};
 use edit::{Outcome, Version};
 use folder::{Failing, Folder, FolderFault, Order, Shelf, ShelfStep, load, open};
@@ -6,160 +6,110 @@ use ikey::Bytewise;
 use install::install;
 use std::alloc::Global;
 use std::process::Abort;
-use std::test::Fail;
 
-const BYTEWISE: &[u8] = b"\x01\x1aleveldb.BytewiseComparator";
-
-/// Log number 3, previous log number 0, next file 8, last sequence 4.
-const NUMBERS: &[u8] = b"\x02\x03\x09\0\x03\x08\x04\x04";
-
-/// New files at level 1: number 6 of 3 bytes for `t`, and number 7 of 5 bytes for `u`.
-const SIX: &[u8] = b"\x07\x01\x06\x03\x09t\x01\x01\0\0\0\0\0\0\x09t\x01\x01\0\0\0\0\0\0";
-
-const SEVEN: &[u8] = b"\x07\x01\x07\x05\x09u\x01\x02\0\0\0\0\0\0\x09u\x01\x02\0\0\0\0\0\0";
-
-/// The numbers of the edited version, where next file is 9, 10 or 12, and the deletion of file 7 at level 1.
-const NEXT_NINE: &[u8] = b"\x02\x03\x09\0\x03\x09\x04\x04\x06\x01\x07";
-
-const NEXT_TEN: &[u8] = b"\x02\x03\x09\0\x03\x0a\x04\x04\x06\x01\x07";
-
-const NEXT_TWELVE: &[u8] = b"\x02\x03\x09\0\x03\x0c\x04\x04\x06\x01\x07";
-
-/// New files at level 2: number 9 of 4 bytes for `u`, number 10 of 3 bytes for `v`, number 11 of 6 bytes for `w`.
-const NINE: &[u8] = b"\x07\x02\x09\x04\x09u\x01\x02\0\0\0\0\0\0\x09u\x01\x02\0\0\0\0\0\0";
-
-const TEN: &[u8] = b"\x07\x02\x0a\x03\x09v\x01\x03\0\0\0\0\0\0\x09v\x01\x03\0\0\0\0\0\0";
-
-const ELEVEN: &[u8] = b"\x07\x02\x0b\x06\x09w\x01\x04\0\0\0\0\0\0\x09w\x01\x04\0\0\0\0\0\0";
-
-/// The edit of a second installation: next file is 13, file 9 at level 2 is deleted, and number 12 of 6 bytes for `u` is
-/// new there.
-const SECOND: &[u8] =
-    b"\x02\x03\x09\0\x03\x0d\x04\x04\x06\x02\x09\x07\x02\x0c\x06\x09u\x01\x02\0\0\0\0\0\0\x09u\x01\x02\0\0\0\0\0\0";
-
-/// What a folder reads as: the version before, the edited one, or that of the second installation.
-#[derive(Clone, Copy, Debug, PartialEq, Eq)]
-enum Reads {
-    Before,
-    Edited,
-    Second,
-    Neither,
-}
-
-/// Versions by their next file, with their tables.
-const VERSIONS: [(u64, Reads, &[(u64, &[u8])]); 5] = [
-    (8, Reads::Before, &[(6, b"six"), (7, b"seven")]),
-    (9, Reads::Edited, &[(6, b"six")]),
-    (10, Reads::Edited, &[(6, b"six"), (9, b"nine")]),
-    (
-        12,
-        Reads::Edited,
-        &[(6, b"six"), (9, b"nine"), (10, b"ten"), (11, b"eleven")],
-    ),
-    (13, Reads::Second, &[(6, b"six"), (12, b"twelve")]),
-];
-
-/// The manifest of the version before.
-fn manifest_before(alloc: Global) -> Result<Vec<u8>, Fault> {
-    let mut log = Vec::new(alloc);
-    for record in [BYTEWISE, NUMBERS, SIX, SEVEN] {
-        log = logrec::append(alloc, &log, record)?;
-    }
-    Ok(log)
-}
+/// A log of one record: the comparator, log number 3, previous log number 0, next file 8, last sequence 4, and new files at
+/// level 1, number 6 of 3 bytes for `t` and number 7 of 5 bytes for `u`.
+const MANIFEST: &[u8] =
+    b"\xb7\xaf\x65\x81\x54\0\x01\x01\x1aleveldb.BytewiseComparator\x02\x03\x09\0\x03\x08\x04\x04\x07\x01\x06\x03\x09t\x01\x01\0\0\0\0\0\0\x09t\x01\x01\0\0\0\0\0\0\x07\x01\x07\x05\x09u\x01\x02\0\0\0\0\0\0\x09u\x01\x02\0\0\0\0\0\0";
 
 /// The files of the version before: file 6 has its older name, and file 9 was left by an earlier failure.
-fn files_before<'x>(manifest: &'x [u8]) -> [(&'x str, &'x [u8]); 5] {
-    [
-        ("CURRENT", b"MANIFEST-000005\n"),
-        ("MANIFEST-000005", manifest),
-        ("000006.sst", b"six"),
-        ("000007.ldb", b"seven"),
-        ("000009.ldb", b"left behind"),
-    ]
-}
-
-/// A table of an outcome: its number, its bytes, and its field of the edit.
-type Output = (u64, &'static [u8], &'static [u8]);
-
-/// The numbers of an outcome's edit, its tables, and how many calls its installation makes.
-type Row = (&'static [u8], &'static [Output], u64);
-
-/// The outcomes of no output, of one and of three.
-const ROWS: [Row; 3] = [
-    (NEXT_NINE, &[], 7),
-    (NEXT_TEN, &[(9, b"nine", NINE)], 9),
-    (
-        NEXT_TWELVE,
-        &[
-            (9, b"nine", NINE),
-            (10, b"ten", TEN),
-            (11, b"eleven", ELEVEN),
-        ],
-        13,
-    ),
+const FILES: &[(&str, &[u8])] = &[
+    ("CURRENT", b"MANIFEST-000005\n"),
+    ("MANIFEST-000005", MANIFEST),
+    ("000006.sst", b"six"),
+    ("000007.ldb", b"seven"),
+    ("000009.ldb", b"left behind"),
 ];
 
-/// The outcome of a second installation.
-const SECOND_ROW: Row = (SECOND, &[(12, b"twelve", b"")], 9);
+/// How many calls open that folder and load its tables. That of file 6 is looked for by both of its names.
+const READS: u64 = 5;
 
-/// The numbers and bytes of outputs.
-fn tables_in(alloc: Global, outputs: &[Output]) -> Result<Vec<(u64, Vec<u8>)>, Fault> {
-    let mut tables = Vec::new(alloc);
-    for (number, bytes, _field) in outputs {
-        tables.push((*number, Vec::from_slice(alloc, bytes)?))?;
-    }
-    Ok(tables)
+/// Tables by their numbers.
+type Tables = &'static [(u64, &'static [u8])];
+
+/// The next file of the version before.
+const BEFORE: u64 = 8;
+
+/// The versions that are known, by their next file, with their tables: the one before, the edited ones, and one that is edited
+/// a second time.
+const VERSIONS: &[(u64, Tables)] = &[
+    (BEFORE, &[(6, b"six"), (7, b"seven")]),
+    (9, &[(6, b"six")]),
+    (10, &[(6, b"six"), (9, b"nine")]),
+    (
+        12,
+        &[(6, b"six"), (9, b"nine"), (10, b"ten"), (11, b"eleven")],
+    ),
+    (13, &[(6, b"six"), (12, b"twelve")]),
+];
+
+/// An outcome and its installation.
+#[derive(Drop)]
+struct Row {
+    /// The number of the manifest that is written.
+    manifest: u64,
+    edit: &'static [u8],
+    tables: Tables,
+    /// How many calls are made that write.
+    calls: u64,
+    /// The next file of the edited version.
+    edited: u64,
+    /// That of the version behind a second run, which begins with the edited one.
+    again: u64,
 }
 
-/// An edit of these numbers and of the fields of outputs.
-fn edit_in(alloc: Global, numbers: &[u8], outputs: &[Output]) -> Result<Vec<u8>, Fault> {
-    let mut edit = Vec::from_slice(alloc, numbers)?;
-    for (_number, _bytes, field) in outputs {
-        edit.extend_from_slice(field)?;
-    }
-    Ok(edit)
-}
+/// The outcomes of no output, of one and of three. Their edits set log number 3, previous log number 0, next file and last
+/// sequence 4, and delete file 7 at level 1. New at level 2 are number 9 of 4 bytes for `u`, number 10 of 3 bytes for `v` and
+/// number 11 of 6 bytes for `w`.
+const ROWS: &[Row] = &[
+    Row {
+        manifest: BEFORE,
+        edit: b"\x02\x03\x09\0\x03\x09\x04\x04\x06\x01\x07",
+        tables: &[],
+        calls: 7,
+        edited: 9,
+        again: 9,
+    },
+    ONE,
+    Row {
+        manifest: BEFORE,
+        edit: b"\x02\x03\x09\0\x03\x0c\x04\x04\x06\x01\x07\x07\x02\x09\x04\x09u\x01\x02\0\0\0\0\0\0\x09u\x01\x02\0\0\0\0\0\0\x07\x02\x0a\x03\x09v\x01\x03\0\0\0\0\0\0\x09v\x01\x03\0\0\0\0\0\0\x07\x02\x0b\x06\x09w\x01\x04\0\0\0\0\0\0\x09w\x01\x04\0\0\0\0\0\0",
+        tables: &[(9, b"nine"), (10, b"ten"), (11, b"eleven")],
+        calls: 13,
+        edited: 12,
+        again: 12,
+    },
+];
+
+/// That of one output.
+const ONE: Row = Row {
+    manifest: BEFORE,
+    edit: b"\x02\x03\x09\0\x03\x0a\x04\x04\x06\x01\x07\x07\x02\x09\x04\x09u\x01\x02\0\0\0\0\0\0\x09u\x01\x02\0\0\0\0\0\0",
+    tables: &[(9, b"nine")],
+    calls: 9,
+    edited: 10,
+    again: 13,
+};
+
+/// The outcome of a second run over the version of one output: next file is 13, file 9 at level 2 is deleted, and number 12 of
+/// 6 bytes for `u` is new there.
+const SECOND: Row = Row {
+    manifest: 10,
+    edit: b"\x02\x03\x09\0\x03\x0d\x04\x04\x06\x02\x09\x07\x02\x0c\x06\x09u\x01\x02\0\0\0\0\0\0\x09u\x01\x02\0\0\0\0\0\0",
+    tables: &[(12, b"twelve")],
+    calls: 9,
+    edited: 13,
+    again: 13,
+};
 
 /// The outcome of a row.
-fn outcome_of(alloc: Global, (numbers, outputs, _calls): Row) -> Result<Outcome, Fault> {
-    let tables = tables_in(alloc, outputs)?;
-    let edit = edit_in(alloc, numbers, outputs)?;
+fn outcome_of(alloc: Global, row: &Row) -> Result<Outcome, Fault> {
+    let mut tables = Vec::new(alloc);
+    for (number, bytes) in row.tables {
+        tables.push((*number, Vec::from_slice(alloc, bytes)?))?;
+    }
+    let edit = Vec::from_slice(alloc, row.edit)?;
     Ok(Outcome { tables, edit })
-}
-
-/// Whether a table is this one.
-fn is_table(table: &(u64, Vec<u8>), wanted: &(u64, &[u8])) -> bool {
-    table.0 == wanted.0 && table.1.as_slice() == wanted.1
-}
-
-/// Whether the tables are these.
-fn are(tables: &[(u64, Vec<u8>)], wanted: &[(u64, &[u8])]) -> bool {
-    for (table, one) in tables.iter().zip(wanted) {
-        if !is_table(table, one) {
-            return false;
-        }
-    }
-    tables.len() == wanted.len()
-}
-
-/// Which of the versions that are known this is, with these tables.
-fn known(order: Order, version: &Version, tables: &[(u64, Vec<u8>)]) -> Reads {
-    for (next_file, reads, wanted) in VERSIONS {
-        if version.next_file() == Some(next_file)
-            && order == Order::Bytewise
-            && version.last_sequence() == Some(4)
-            && are(tables, wanted)
-        {
-            return reads;
-        }
-    }
-    Reads::Neither
-}
-
-/// A folder of these files.
-fn folder_of<'x>(alloc: Global, files: &'x [(&'x str, &'x [u8])]) -> Shelf<'x> {
-    Shelf::new(alloc, files)
 }
 
 /// The version of a folder, with its order.
@@ -176,155 +126,6 @@ fn tables_of(
     load::<Bytewise, Shelf<'_>>(alloc, folder, version)
 }
 
-/// The version of a folder and its tables, as one of those that are known.
-fn opened(alloc: Global, folder: &mut Shelf<'_>) -> Result<Reads, Fault> {
-    let (order, version) = version_of(alloc, folder)?;
-    let tables = tables_of(alloc, folder, &version)?;
-    Ok(known(order, &version, &tables))
-}
-
-/// What a folder reads as.
-fn read_as(alloc: Global, folder: &mut Shelf<'_>) -> Reads {
-    match opened(alloc, folder) {
-        Ok(reads) => reads,
-        Err(_) => Reads::Neither,
-    }
-}
-
-/// What a folder of these files reads as.
-fn read_files(alloc: Global, files: &[(&str, &[u8])]) -> Reads {
-    read_as(alloc, &mut folder_of(alloc, files))
-}
-
-/// What a folder reads as that a crash leaves at a moment, as the choice picks it. None where the choice is past the last.
-fn read_crashed(
-    alloc: Global,
-    files: &[(&str, &[u8])],
-    moment: Moment<'_>,
-    choice: u64,
-) -> Result<Option<Reads>, Fault> {
-    Ok(match crashed(alloc, files, moment, choice)? {
-        Some(sheets) => Some(read_files(alloc, &lent(alloc, &sheets)?)),
-        None => None,
-    })
-}
-
-/// Whether the version before is among what crashes leave, the edited one and that of the second installation. None where a
-/// folder is left that reads as none of them.
-type Found = Option<(bool, bool, bool)>;
-
-/// What crashes leave at a moment.
-fn found_at(alloc: Global, files: &[(&str, &[u8])], moment: Moment<'_>) -> Result<Found, Fault> {
-    let mut found = (false, false, false);
-    for choice in 0..u64::MAX {
-        match read_crashed(alloc, files, moment, choice)? {
-            None => break,
-            Some(Reads::Before) => found.0 = true,
-            Some(Reads::Edited) => found.1 = true,
-            Some(Reads::Second) => found.2 = true,
-            Some(Reads::Neither) => return Ok(None),
-        }
-    }
-    Ok(Some(found))
-}
-
-/// What crashes leave at a moment, and how many calls are settled and torn there.
-type Finding = ((usize, usize), Found);
-
-/// What crashes leave at a moment behind another one. Where no call came in between that a crash tears or that settles others,
-/// the folders of the moment before are not read again.
-fn found_behind(
-    alloc: Global,
-    files: &[(&str, &[u8])],
-    moment: Moment<'_>,
-    last: Option<Finding>,
-) -> Result<Finding, Fault> {
-    let torn = moment.torn();
-    let found = match last {
-        Some((before, found)) if before == torn => found,
-        _ => found_at(alloc, files, moment)?,
-    };
-    Ok((torn, found))
-}
-
-/// What a crash leaves, by the calls that are left: where more are left than the last, the version before; between the
-/// rename and the last, or inside one of these, either; behind the last the edited version.
-fn wanted(calls_left: usize, is_inside: bool) -> Found {
-    let is_before = calls_left > 0;
-    let is_edited = calls_left < 2 || (calls_left == 2 && is_inside);
-    Some((is_before, is_edited, false))
-}
-
-/// What a crash leaves of nine calls of which the last failed, a sync of the folder and nine calls of a second run, by how
-/// many of them are done: before that sync the version before may be left, and behind it never again.
-fn wanted_of_two(done: usize, is_inside: bool) -> Found {
-    let is_before = done < 10;
-    let is_edited = done < 19;
-    let is_second = done > 17 || (done == 17 && is_inside);
-    Some((is_before, is_edited, is_second))
-}
-
-/// What a crash leaves of the calls of one installation, or of a failed one and a second run, by how many of them are done.
-fn wanted_at(calls: usize, done: usize, is_inside: bool, are_two: bool) -> Found {
-    if are_two {
-        wanted_of_two(done, is_inside)
-    } else {
-        wanted(calls.saturating_sub(done), is_inside)
-    }
-}
-
-/// The first moment of such calls, by those that are done, at which a crash leaves what it should not, from so many on.
-fn wrong_moment(
-    alloc: Global,
-    files: &[(&str, &[u8])],
-    steps: &[ShelfStep],
-    first: usize,
-    are_two: bool,
-) -> Result<Option<u64>, Fault> {
-    let calls = steps.len();
-    let mut last = None;
-    for done in first..calls + 1 {
-        let before = found_behind(alloc, files, Moment::of(steps, done, false), last)?;
-        let inside = found_behind(alloc, files, Moment::of(steps, done, true), Some(before))?;
-        if before.1 != wanted_at(calls, done, false, are_two)
-            || inside.1 != wanted_at(calls, done, true, are_two)
-        {
-            return Ok(Some(done as u64));
-        }
-        last = Some(inside);
-    }
-    Ok(None)
-}
-
-/// The version before with its manifest, and an outcome with the calls that its installation makes.
-#[derive(Drop)]
-struct Case {
-    manifest: Vec<u8>,
-    version: Version,
-    outcome: Outcome,
-    calls: u64,
-}
-
-/// The version of the files before.
-fn version_before(alloc: Global, manifest: &[u8]) -> Result<Version, Fault> {
-    let files = files_before(manifest);
-    let (_order, version) = version_of(alloc, &mut folder_of(alloc, &files))?;
-    Ok(version)
-}
-
-/// The case of a row.
-fn make_case(alloc: Global, row: Row) -> Result<Case, Fault> {
-    let manifest = manifest_before(alloc)?;
-    let version = version_before(alloc, &manifest)?;
-    let outcome = outcome_of(alloc, row)?;
-    Ok(Case {
-        manifest,
-        version,
-        outcome,
-        calls: row.2,
-    })
-}
-
 /// Installs over a version.
 fn installed(
     alloc: Global,
@@ -336,353 +137,251 @@ fn installed(
     install::<Bytewise, Shelf<'_>>(alloc, shelf, version, manifest_number, outcome)
 }
 
-/// Installs the outcome of a case.
-fn installed_of(alloc: Global, shelf: &mut Shelf<'_>, case: &Case) -> Result<(), Fault> {
-    installed(alloc, shelf, &case.version, 8, &case.outcome)
+/// Whether the tables are these.
+fn are(tables: &[(u64, Vec<u8>)], wanted: &[(u64, &[u8])]) -> bool {
+    for (table, one) in tables.iter().zip(wanted) {
+        if table.0 != one.0 || table.1.as_slice() != one.1 {
+            return false;
+        }
+    }
+    tables.len() == wanted.len()
 }
 
-/// How many calls a folder was asked for, and how many failed.
-fn counts(shelf: &Shelf<'_>) -> (u64, u64) {
-    (shelf.calls(), shelf.failures())
+/// The next file of a version that is known, with these tables, and else 0.
+fn known(order: Order, version: &Version, tables: &[(u64, Vec<u8>)]) -> u64 {
+    for (next_file, wanted) in VERSIONS {
+        if version.next_file() == Some(*next_file)
+            && order == Order::Bytewise
+            && version.last_sequence() == Some(4)
+            && are(tables, wanted)
+        {
+            return *next_file;
+        }
+    }
+    0
 }
 
-/// Whether CURRENT names the new manifest.
-fn is_named(shelf: &Shelf<'_>) -> bool {
-    shelf.held("CURRENT") == Some(b"MANIFEST-000008\n".as_slice())
+/// Opens a folder and loads its tables. Its version, and its next file where it is known, and else 0.
+fn opened(alloc: Global, folder: &mut Shelf<'_>) -> Result<(Version, u64), Fault> {
+    let (order, version) = version_of(alloc, folder)?;
+    let tables = tables_of(alloc, folder, &version)?;
+    let number = known(order, &version, &tables);
+    Ok((version, number))
 }
 
-/// Whether an installation makes so many calls of which none fails, CURRENT names the new manifest, and the folder reads as
-/// the edited version.
-fn is_made(alloc: Global, shelf: &mut Shelf<'_>, case: &Case) -> bool {
-    installed_of(alloc, shelf, case).is_ok()
-        && counts(shelf) == (case.calls, 0)
-        && is_named(shelf)
-        && read_as(alloc, shelf) == Reads::Edited
-}
-
-/// Whether the folder reads as the version before, and then the installation makes its calls.
-fn makes(alloc: Global, case: &Case) -> bool {
-    let files = files_before(&case.manifest);
-    read_files(alloc, &files) == Reads::Before
-        && is_made(alloc, &mut folder_of(alloc, &files), case)
-}
-
-/// The first moment of an installation, by the calls that are done, at which a crash leaves what it should not.
-fn wrong_crash(alloc: Global, case: &Case) -> Result<Option<u64>, Fault> {
-    let files = files_before(&case.manifest);
-    let mut shelf = folder_of(alloc, &files);
-    installed_of(alloc, &mut shelf, case)?;
-    wrong_moment(alloc, &files, shelf.steps(), 0, false)
-}
-
-/// The ways in which a call fails.
-const FAILURES: [(FolderFault, bool); 4] = [
-    (FolderFault::Device, false),
-    (FolderFault::Device, true),
-    (FolderFault::Memory, false),
-    (FolderFault::Memory, true),
-];
-
-/// Whether the rename was made of an installation of so many calls, of which one failed.
-fn is_renamed(calls: u64, failing: Failing) -> bool {
-    failing.call == calls || (failing.call.saturating_add(1) == calls && failing.is_half_done)
-}
-
-/// What an installation leaves of which one call fails.
-fn wanted_end(calls: u64, failing: Failing) -> Reads {
-    if is_renamed(calls, failing) {
-        Reads::Edited
-    } else {
-        Reads::Before
+/// The next file of the known version that a folder reads as, and 0 where it reads as none.
+fn read_as(alloc: Global, folder: &mut Shelf<'_>) -> u64 {
+    match opened(alloc, folder) {
+        Ok((_version, number)) => number,
+        Err(_) => 0,
     }
 }
 
-/// How many calls are made up to one that fails, and how many the device failed.
-fn wanted_counts(failing: Failing) -> (u64, u64) {
-    match failing.fault {
-        FolderFault::Device => (failing.call, 1),
-        FolderFault::Memory => (failing.call, 0),
+/// Opens a folder, loads its tables and installs the outcome of a row.
+fn install_row(alloc: Global, shelf: &mut Shelf<'_>, row: &Row) -> Result<(), Fault> {
+    let (version, _number) = opened(alloc, shelf)?;
+    let outcome = outcome_of(alloc, row)?;
+    installed(alloc, shelf, &version, row.manifest, &outcome)
+}
+
+/// The same, and then opens it and loads its tables again. What it reads as.
+fn round(alloc: Global, shelf: &mut Shelf<'_>, row: &Row) -> Result<u64, Fault> {
+    install_row(alloc, shelf, row)?;
+    let (_version, number) = opened(alloc, shelf)?;
+    Ok(number)
+}
+
+/// What a folder reads as of which a crash leaves these calls, as the choice picks it. None where the choice is past the last.
+fn read_crashed(alloc: Global, steps: &[ShelfStep], choice: u64) -> Option<u64> {
+    let mut shelf = Shelf::new(alloc, FILES);
+    match make_left(&mut shelf, steps, choice) {
+        Ok(true) => Some(read_as(alloc, &mut shelf)),
+        Ok(false) => None,
+        Err(_) => Some(0),
     }
 }
 
-/// Whether an installation of so many calls, of which one fails, ended there with that fault, and left what it should.
-fn ended(
-    alloc: Global,
-    shelf: &mut Shelf<'_>,
-    answer: Result<(), Fault>,
-    (calls, failing): (u64, Failing),
-) -> bool {
-    answer == Err(Fault::from(failing.fault))
-        && counts(shelf) == wanted_counts(failing)
-        && read_as(alloc, shelf) == wanted_end(calls, failing)
+/// Whether the older of two versions is among what crashes leave of these calls, and whether the newer one is. None where a
+/// folder is left that reads as neither.
+fn found(alloc: Global, steps: &[ShelfStep], (older, newer): (u64, u64)) -> Option<(bool, bool)> {
+    let mut found = (false, false);
+    for choice in 0..u64::MAX {
+        match read_crashed(alloc, steps, choice) {
+            None => break,
+            Some(number) if number == older => found.0 = true,
+            Some(number) if number == newer => found.1 = true,
+            Some(_) => return None,
+        }
+    }
+    Some(found)
 }
 
-/// Whether a crash leaves what it should behind these calls of an installation of so many, of which one failed.
-fn left_behind(
+/// The first moment of these calls, from one on, at which a crash leaves what it should not: before the rename, which is the
+/// last but one, the older version; from inside it on to the end either; and behind the last the newer one.
+fn wrong_moment(
     alloc: Global,
-    files: &[(&str, &[u8])],
     steps: &[ShelfStep],
-    (calls, failing): (u64, Failing),
-) -> bool {
-    let wanted = (true, failing.call.saturating_add(1) >= calls, false);
-    let moment = Moment::of(steps, steps.len(), false);
-    found_at(alloc, files, moment) == Ok(Some(wanted))
+    first: usize,
+    versions: (u64, u64),
+) -> Option<usize> {
+    let end = steps.len().saturating_mul(2);
+    for moment in first..end.saturating_add(1) {
+        let wanted = (moment < end, moment.saturating_add(3) >= end);
+        if found(alloc, made_at(steps, moment), versions) != Some(wanted) {
+            return Some(moment);
+        }
+    }
+    None
 }
 
-/// The version of a folder after a failure, its names written through first.
-fn version_again(alloc: Global, shelf: &mut Shelf<'_>) -> Result<Version, Fault> {
-    shelf.sync_folder()?;
-    let (_order, version) = version_of(alloc, shelf)?;
-    Ok(version)
+/// The first moment of the installation of a row at which a crash leaves what it should not.
+fn wrong_crash(alloc: Global, row: &Row) -> Option<usize> {
+    let mut shelf = Shelf::new(alloc, FILES);
+    if install_row(alloc, &mut shelf, row).is_err() {
+        return Some(0);
+    }
+    wrong_moment(alloc, shelf.steps(), 0, (BEFORE, row.edited))
 }
 
-/// Installs the second outcome over the edited version.
-fn install_second(alloc: Global, shelf: &mut Shelf<'_>, version: &Version) -> Result<(), Fault> {
-    let second = outcome_of(alloc, SECOND_ROW)?;
-    installed(alloc, shelf, version, 10, &second)
+/// Syncs a folder after a failure and installs again: the same outcome where it reads as the version before, and the second
+/// one over that of one output. What the folder reads as then.
+fn run_again(alloc: Global, shelf: &mut Shelf<'_>, row: &Row) -> u64 {
+    if shelf.sync_folder().is_err() {
+        return 0;
+    }
+    match read_as(alloc, shelf) {
+        BEFORE => round(alloc, shelf, row).unwrap_or(0),
+        10 => round(alloc, shelf, &SECOND).unwrap_or(0),
+        other => other,
+    }
 }
 
-/// Opens a folder after a failure and installs again: the same outcome where the folder reads as the version before, and
-/// where it reads as the edited one the second outcome.
-fn install_again(alloc: Global, shelf: &mut Shelf<'_>, same: &Outcome) -> Result<(), Fault> {
-    let version = version_again(alloc, shelf)?;
-    if version.next_file() == Some(8) {
-        installed(alloc, shelf, &version, 8, same)
+/// Whether an answer is the fault of the call that fails, none was made behind it, and the device failed where it did.
+fn is_last(shelf: &Shelf<'_>, answer: Result<(), Fault>, failing: Failing) -> bool {
+    let failures = match failing.fault {
+        FolderFault::Device => 1,
+        FolderFault::Memory => 0,
+    };
+    answer == Err(Fault::from(failing.fault))
+        && shelf.calls() == failing.call
+        && shelf.failures() == failures
+}
+
+/// Whether an installation of which a call fails ends there; a crash then leaves the version before, or from the rename on
+/// either; the folder reads as the version before, or behind the rename as the edited one; and a second run goes on from it.
+fn ends_there(alloc: Global, shelf: &mut Shelf<'_>, row: &Row, failing: Failing) -> bool {
+    let answer = install_row(alloc, shelf, row);
+    let rename = READS.saturating_add(row.calls).saturating_sub(1);
+    let is_renamed = failing.call > rename || (failing.call == rename && failing.is_half_done);
+    let (read, again) = if is_renamed {
+        (row.edited, row.again)
     } else {
-        install_second(alloc, shelf, &version)
-    }
+        (BEFORE, row.edited)
+    };
+    let left = Some((true, failing.call >= rename));
+    is_last(shelf, answer, failing)
+        && found(alloc, shelf.steps(), (BEFORE, row.edited)) == left
+        && read_as(alloc, shelf) == read
+        && run_again(alloc, shelf, row) == again
 }
 
-/// What a folder reads as behind such a second run.
-fn run_again(alloc: Global, shelf: &mut Shelf<'_>, same: &Outcome) -> Reads {
-    match install_again(alloc, shelf, same) {
-        Ok(()) => read_as(alloc, shelf),
-        Err(_) => Reads::Neither,
-    }
-}
-
-/// What a second run leaves behind an installation of so many calls of which one fails.
-fn wanted_again(calls: u64, failing: Failing) -> Reads {
-    if is_renamed(calls, failing) {
-        Reads::Second
-    } else {
-        Reads::Edited
-    }
-}
-
-/// What is looked at behind a call that fails: how the installation ends, what a crash leaves then, and what a second run does.
-enum Behind {
-    End,
-    Crash,
-    SecondRun,
-}
-
-impl Behind {
-    /// Whether that is as it should be of an installation that gave this answer.
-    fn is_right(
-        &self,
-        alloc: Global,
-        (files, shelf): (&[(&str, &[u8])], &mut Shelf<'_>),
-        (case, failing): (&Case, Failing),
-        answer: Result<(), Fault>,
-    ) -> bool {
-        let failed = (case.calls, failing);
-        match self {
-            Behind::End => ended(alloc, shelf, answer, failed),
-            Behind::Crash => answer.is_err() && left_behind(alloc, files, shelf.steps(), failed),
-            Behind::SecondRun => {
-                let wanted = wanted_again(case.calls, failing);
-                answer.is_err() && run_again(alloc, shelf, &case.outcome) == wanted
-            }
+/// The first call of the reading and the installation of a row behind whose failure it is not so: by the device or by memory,
+/// half done or not at all.
+fn wrong_failure(alloc: Global, row: &Row) -> Option<usize> {
+    let calls = READS.saturating_add(row.calls);
+    for way in 0..calls.saturating_mul(4) {
+        let failing = Failing {
+            call: way / 4 + 1,
+            fault: if way % 2 == 0 {
+                FolderFault::Device
+            } else {
+                FolderFault::Memory
+            },
+            is_half_done: way % 4 > 1,
+        };
+        if !ends_there(
+            alloc,
+            &mut Shelf::new(alloc, FILES).failing(failing),
+            row,
+            failing,
+        ) {
+            return Some(failing.call as usize);
         }
     }
+    None
+}
 
-    /// The same, of the installation of a case of which a call fails.
-    fn is_right_of(&self, alloc: Global, case: &Case, failing: Failing) -> bool {
-        let files = files_before(&case.manifest);
-        let mut shelf = folder_of(alloc, &files).failing(failing);
-        let answer = installed_of(alloc, &mut shelf, case);
-        self.is_right(alloc, (&files, &mut shelf), (case, failing), answer)
-    }
+/// Tests that nothing is wrong with a row.
+fn is_none(rt: &impl Abort, wrong: Option<usize>, row: &Row) {
+    assert_eq!(rt; wrong, None, "of {} calls", row.calls);
+}
 
-    /// The same, of each way in which a call fails.
-    fn is_right_at(&self, alloc: Global, case: &Case, call: u64) -> bool {
-        for (fault, is_half_done) in FAILURES {
-            let failing = Failing {
-                call,
-                fault,
-                is_half_done,
-            };
-            if !self.is_right_of(alloc, case, failing) {
-                return false;
-            }
-        }
-        true
-    }
-
-    /// The first call of the installation behind whose failure it is not as it should be.
-    fn wrong_call(&self, alloc: Global, case: &Case) -> Option<u64> {
-        for earlier in 0..case.calls {
-            if !self.is_right_at(alloc, case, earlier + 1) {
-                return Some(earlier + 1);
-            }
-        }
-        None
+#[test]
+fn crashes_and_calls_that_fail(rt: HostRuntime) {
+    for row in ROWS {
+        is_none(&rt, wrong_crash(rt.alloc(), row), row);
+        is_none(&rt, wrong_failure(rt.alloc(), row), row);
     }
 }
 
-/// The failure of the last of nine calls.
-const LAST_SYNC_FAILS: Failing = Failing {
-    call: 9,
+/// The failure of the last call.
+const LAST_SYNC: Failing = Failing {
+    call: READS + 9,
     fault: FolderFault::Device,
     is_half_done: false,
 };
 
-/// Whether the last call of an installation fails, and a second run makes ten calls more and installs the second outcome.
-fn runs_twice(alloc: Global, shelf: &mut Shelf<'_>, case: &Case) -> bool {
-    installed_of(alloc, shelf, case).is_err()
-        && run_again(alloc, shelf, &case.outcome) == Reads::Second
+/// The first moment at which a crash leaves what it should not, of a second run behind an installation whose last call failed.
+/// Behind its sync of the folder, the tenth call, that is never the version before.
+fn wrong_after_the_last_sync(alloc: Global, shelf: &mut Shelf<'_>) -> Option<usize> {
+    if install_row(alloc, shelf, &ONE).is_err()
+        && run_again(alloc, shelf, &ONE) == SECOND.edited
         && shelf.steps().len() == 19
-}
-
-/// The first moment of such a failed installation and a second run at which a crash leaves what it should not.
-fn wrong_after_the_last_sync(alloc: Global, case: &Case) -> Result<Option<u64>, Fault> {
-    let files = files_before(&case.manifest);
-    let mut shelf = folder_of(alloc, &files).failing(LAST_SYNC_FAILS);
-    if !runs_twice(alloc, &mut shelf, case) {
-        return Ok(Some(0));
+    {
+        wrong_moment(alloc, shelf.steps(), 20, (ONE.edited, SECOND.edited))
+    } else {
+        Some(0)
     }
-    wrong_moment(alloc, &files, shelf.steps(), 9, true)
 }
 
-/// Opens a folder, loads its tables and installs.
-fn open_and_install(alloc: Global, shelf: &mut Shelf<'_>, outcome: &Outcome) -> Result<(), Fault> {
-    let (_order, version) = version_of(alloc, shelf)?;
-    tables_of(alloc, shelf, &version)?;
-    installed(alloc, shelf, &version, 8, outcome)
+#[test]
+fn folder_not_synced_first(rt: HostRuntime) {
+    let mut shelf = Shelf::new(rt.alloc(), FILES).failing(LAST_SYNC);
+    is_none(
+        &rt,
+        wrong_after_the_last_sync(rt.alloc(), &mut shelf),
+        &SECOND,
+    );
 }
 
-/// The same, and then it opens and loads again.
-fn round(alloc: Global, shelf: &mut Shelf<'_>, outcome: &Outcome) -> Result<Reads, Fault> {
-    open_and_install(alloc, shelf, outcome)?;
-    opened(alloc, shelf)
+/// Whether so many calls were made that write, none failed, and CURRENT names the new manifest.
+fn is_made(shelf: &Shelf<'_>, row: &Row) -> bool {
+    shelf.steps().len() as u64 == row.calls
+        && shelf.failures() == 0
+        && shelf.held("CURRENT") == Some(b"MANIFEST-000008\n".as_slice())
 }
 
-/// Whether a folder reads as one of the two.
-fn is_one_of_the_two(reads: Reads) -> bool {
-    reads == Reads::Before || reads == Reads::Edited
-}
-
-/// Whether that ends well, or is refused for want of memory and leaves one of the two. One growth alone is refused.
-fn ends_well(alloc: Global, case: &Case) -> bool {
-    let files = files_before(&case.manifest);
-    let mut shelf = folder_of(alloc, &files);
-    match round(alloc, &mut shelf, &case.outcome) {
-        Ok(reads) => reads == Reads::Edited,
+/// Whether an installation makes its calls and the folder then reads as the edited version, or it is refused for want of memory
+/// and leaves one of the two. One growth alone is refused.
+fn ends_well(alloc: Global, shelf: &mut Shelf<'_>, row: &Row) -> bool {
+    match round(alloc, shelf, row) {
+        Ok(number) => number == row.edited && is_made(shelf, row),
         Err(fault) => {
-            fault.name == FaultName::Memory && is_one_of_the_two(read_as(alloc, &mut shelf))
+            let number = read_as(alloc, shelf);
+            fault.name == FaultName::Memory && (number == BEFORE || number == row.edited)
         }
     }
-}
-
-/// What is tried of a case.
-enum Trial {
-    Calls,
-    Crashes,
-    Failures(Behind),
-    LastSync,
-    Growth,
-}
-
-/// No call where it is so, and else call 0.
-fn zero_unless(is_so: bool) -> Option<u64> {
-    if is_so { None } else { Some(0) }
-}
-
-impl Trial {
-    /// The first call, by its number or by the calls that are done, at which a case is not as it should be.
-    fn wrong(&self, alloc: Global, case: &Case) -> Result<Option<u64>, Fault> {
-        match self {
-            Trial::Calls => Ok(zero_unless(makes(alloc, case))),
-            Trial::Crashes => wrong_crash(alloc, case),
-            Trial::Failures(behind) => Ok(behind.wrong_call(alloc, case)),
-            Trial::LastSync => wrong_after_the_last_sync(alloc, case),
-            Trial::Growth => Ok(zero_unless(ends_well(alloc, case))),
-        }
-    }
-
-    /// The same, of the case of a row.
-    fn wrong_of(&self, alloc: Global, row: Row) -> Result<Option<u64>, Fault> {
-        let case = make_case(alloc, row)?;
-        self.wrong(alloc, &case)
-    }
-}
-
-/// Tests that nothing is wrong with a row.
-fn is_none(rt: &impl Abort, wrong: Option<u64>, row: Row) {
-    assert_eq!(rt; wrong, None, "of {} calls", row.2);
-}
-
-/// Tests what is tried of each of these rows.
-fn are_right(rt: &(impl Abort + AllocGlobal), rows: &[Row], trial: &Trial) -> Result<(), Fault> {
-    for row in rows {
-        is_none(rt, trial.wrong_of(rt.alloc(), *row)?, *row);
-    }
-    Ok(())
-}
-
-#[test]
-fn an_installation_makes_its_calls(rt: HostRuntime) -> Result<(), Fail> {
-    Ok(are_right(&rt, &ROWS, &Trial::Calls)?)
-}
-
-#[test]
-fn a_crash_leaves_one_of_the_two(rt: HostRuntime) -> Result<(), Fail> {
-    Ok(are_right(&rt, &ROWS, &Trial::Crashes)?)
-}
-
-#[test]
-fn a_call_that_fails_ends_it(rt: HostRuntime) -> Result<(), Fail> {
-    Ok(are_right(&rt, &ROWS, &Trial::Failures(Behind::End))?)
-}
-
-// Of no output and of one.
-#[test]
-fn a_crash_behind_a_failed_call(rt: HostRuntime) -> Result<(), Fail> {
-    Ok(are_right(&rt, &ROWS[..2], &Trial::Failures(Behind::Crash))?)
-}
-
-// Of one output.
-#[test]
-fn a_second_run_after_a_failure(rt: HostRuntime) -> Result<(), Fail> {
-    Ok(are_right(&rt, &ROWS[1..2], &Trial::Failures(Behind::SecondRun))?)
-}
-
-#[test]
-fn folder_not_synced_first(rt: HostRuntime) -> Result<(), Fail> {
-    Ok(are_right(&rt, &ROWS[1..2], &Trial::LastSync)?)
-}
-
-/// Whether nothing is wrong, or memory ran out.
-fn is_well_or_memory(answer: Result<Option<u64>, Fault>) -> bool {
-    match answer {
-        Ok(wrong) => wrong.is_none(),
-        Err(fault) => fault.name == FaultName::Memory,
-    }
-}
-
-/// Whether that is so of each row.
-fn all_end_well(alloc: Global) -> bool {
-    for row in ROWS {
-        if !is_well_or_memory(Trial::Growth.wrong_of(alloc, row)) {
-            return false;
-        }
-    }
-    true
 }
 
 // With `rt try --test --fail-alloc N` the Nth growth is refused; without it, none is.
 #[test]
 fn a_refused_growth_is_memory(rt: HostRuntime) {
-    assert!(rt; all_end_well(rt.alloc()));
+    for row in ROWS {
+        let mut shelf = Shelf::new(rt.alloc(), FILES);
+        assert!(rt;
+            ends_well(rt.alloc(), &mut shelf, row),
+            "of {} calls",
+            row.calls
+        );
+    }
 }

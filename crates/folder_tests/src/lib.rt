@@ -4,11 +4,7 @@
 #[cfg(test)]
 mod ahead;
 #[cfg(test)]
-mod changed;
-#[cfg(test)]
-mod loading;
-#[cfg(test)]
-mod manifests;
+mod disk;
 #[cfg(test)]
 mod opening;
 #[cfg(test)]

@@ -1,26 +1,117 @@
-//! Folders in memory that are opened.
+//! Folders in memory, opened and loaded.
 
-use crate::manifests::*;
-use crate::shelf::{NO_NAMES, fails};
 use coding::{Fault, FaultName};
-use edit::{FileMeta, Version};
+use edit::Version;
 use folder::*;
-use ikey::{Bytewise, Kind};
+use ikey::Bytewise;
 use std::alloc::Global;
 use std::process::Abort;
-use std::test::Fail;
 
-/// How a folder of these files is refused.
-fn refused(alloc: Global, files: &[(&str, &[u8])]) -> Option<FaultName> {
-    refusal(open(alloc, &mut Shelf::new(alloc, files)))
-}
+/// The field of the bytewise comparator's name.
+const BYTEWISE: &[u8] = b"\x01\x1aleveldb.BytewiseComparator";
+
+/// The field of the shortlex comparator's name.
+const SHORTLEX: &[u8] = b"\x01\x20subcompaction.ShortlexComparator";
+
+/// The field of another comparator's name.
+const ANOTHER: &[u8] = b"\x01\x05other";
+
+/// Log number 3, previous log number 0, next file 9, last sequence 4.
+const NUMBERS: &[u8] = b"\x02\x03\x09\0\x03\x09\x04\x04";
+
+/// Log number 3, next file 6, last sequence 4. The manifest's number is just below 6.
+const NO_PREVIOUS: &[u8] = b"\x02\x03\x03\x06\x04\x04";
+
+/// A new file at level 1, of number 7 and 125 bytes, from a deletion of `u` at sequence 4 to a value of it at 2.
+const SEVEN: &[u8] = b"\x07\x01\x07\x7d\x09u\0\x04\0\0\0\0\0\0\x09u\x01\x02\0\0\0\0\0\0";
+
+/// The deletion of a file that isn't there.
+const ABSENT: &[u8] = b"\x06\x01\x08";
 
 /// The order of a folder, and its log number, previous log number, next file and last sequence.
 type Opened = (Order, [Option<u64>; 4]);
 
-/// What a folder has whose CURRENT names manifest 5, which has these records.
+/// The same, as a row has it, or how a folder is refused.
+type Wanted = Result<(Order, &'static [Option<u64>]), FaultName>;
+
+/// Records of a manifest, and what its folder has.
+type Records = (&'static [&'static [u8]], Wanted);
+
+const RECORDS: &[Records] = &[
+    (
+        &[BYTEWISE, NUMBERS, SEVEN],
+        Ok((Order::Bytewise, &[Some(3), Some(0), Some(9), Some(4)])),
+    ),
+    // A previous log number may be left out.
+    (
+        &[SHORTLEX, NO_PREVIOUS],
+        Ok((Order::Shortlex, &[Some(3), None, Some(6), Some(4)])),
+    ),
+    // A tag that isn't listed, and a number without a reading; the first record decides.
+    (&[BYTEWISE, NUMBERS, b"\x08"], Err(FaultName::EditTag)),
+    (&[BYTEWISE, NUMBERS, b"\x02\x80"], Err(FaultName::EditField)),
+    (&[b"\x02\x80", b"\x08"], Err(FaultName::EditField)),
+    (&[b"\x08", b"\x02\x80"], Err(FaultName::EditTag)),
+    // All records are read before a comparator is looked for, and before an edit is applied.
+    (&[ANOTHER, b"\x08"], Err(FaultName::EditTag)),
+    (&[BYTEWISE, ABSENT, b"\x02\x80"], Err(FaultName::EditField)),
+    // No record, no name, and another's.
+    (&[], Err(FaultName::Comparator)),
+    (&[NUMBERS, SEVEN], Err(FaultName::Comparator)),
+    (&[ANOTHER, NUMBERS], Err(FaultName::Comparator)),
+    // The first name decides, before an edit is applied.
+    (
+        &[ABSENT, ANOTHER, BYTEWISE, NUMBERS],
+        Err(FaultName::Comparator),
+    ),
+    (&[NUMBERS, BYTEWISE, SHORTLEX], Err(FaultName::Comparator)),
+    (&[NUMBERS, SHORTLEX, BYTEWISE], Err(FaultName::Comparator)),
+    // The first edit that doesn't fit decides.
+    (&[BYTEWISE, NUMBERS, ABSENT], Err(FaultName::Apply)),
+    (&[BYTEWISE, NUMBERS, SEVEN, SEVEN], Err(FaultName::Apply)),
+    (&[BYTEWISE, ABSENT, ANOTHER], Err(FaultName::Apply)),
+    (&[BYTEWISE, ANOTHER, ABSENT], Err(FaultName::Comparator)),
+    // No log number, no next file, no last sequence.
+    (
+        &[BYTEWISE, b"\x09\0\x03\x09\x04\x04"],
+        Err(FaultName::Apply),
+    ),
+    (
+        &[BYTEWISE, b"\x02\x03\x09\0\x04\x04"],
+        Err(FaultName::Apply),
+    ),
+    (
+        &[BYTEWISE, b"\x02\x03\x09\0\x03\x09"],
+        Err(FaultName::Apply),
+    ),
+    // The manifest has the number of the next file.
+    (&[BYTEWISE, NUMBERS, b"\x03\x05"], Err(FaultName::Apply)),
+];
+
+/// The log of these records.
+fn log_of(alloc: Global, records: &[&[u8]]) -> Result<Vec<u8>, Fault> {
+    let mut log = Vec::new(alloc);
+    for record in records {
+        log = logrec::append(alloc, &log, record)?;
+    }
+    Ok(log)
+}
+
+/// The order and the version of a folder whose manifest has these bytes.
+fn opened_of(alloc: Global, manifest: &[u8]) -> Result<(Order, Version), Fault> {
+    let files = [CURRENT_FIVE, ("MANIFEST-000005", manifest)];
+    open(alloc, &mut Shelf::new(alloc, &files))
+}
+
+/// The version of a folder whose manifest has these bytes.
+pub(crate) fn version_of(alloc: Global, manifest: &[u8]) -> Result<Version, Fault> {
+    let (_order, version) = opened_of(alloc, manifest)?;
+    Ok(version)
+}
+
+/// What a folder has whose manifest has these records.
 fn opened(alloc: Global, records: &[&[u8]]) -> Result<Opened, Fault> {
-    let (order, version) = opened_of(alloc, records)?;
+    let (order, version) = opened_of(alloc, &log_of(alloc, records)?)?;
     let numbers = [
         version.log_number(),
         version.previous_log(),
@@ -30,232 +121,210 @@ fn opened(alloc: Global, records: &[&[u8]]) -> Result<Opened, Fault> {
     Ok((order, numbers))
 }
 
-/// Tests what a folder has.
-fn is_opened(rt: &impl Abort, found: Opened, wanted: Opened) {
-    assert_eq!(rt; found, wanted);
+/// Whether a folder has what it should, or is refused so.
+fn is_opened(found: Result<Opened, Fault>, wanted: &Wanted) -> bool {
+    match (found, wanted) {
+        (Ok(found), Ok(wanted)) => found.0 == wanted.0 && found.1.as_slice() == wanted.1,
+        (Err(fault), Err(name)) => fault.name == *name,
+        _ => false,
+    }
 }
 
-/// Log number 3, next file 6, last sequence 4. The manifest's number is just below 6.
-const NO_PREVIOUS: &[u8] = b"\x02\x03\x03\x06\x04\x04";
+#[test]
+fn records_of_a_manifest(rt: HostRuntime) {
+    for (place, (records, wanted)) in RECORDS.iter().enumerate() {
+        assert!(rt; is_opened(opened(rt.alloc(), records), wanted), "{place}");
+    }
+}
 
-/// Records of a manifest, and what its folder has.
-const OPENED: [(&[&[u8]], Opened); 2] = [
+/// Files by their names.
+pub(crate) type NamedFiles = &'static [(&'static str, &'static [u8])];
+
+/// Tables by their numbers.
+pub(crate) type Tables = &'static [(u64, &'static [u8])];
+
+const CURRENT_FIVE: (&str, &[u8]) = ("CURRENT", b"MANIFEST-000005\n");
+
+/// A log of one record: the bytewise comparator, the same numbers, and new files of one key each: number 5 at level 1, and at
+/// level 0 number 3 of `b` and number 8 of `a`.
+pub(crate) const THREE_FILES: &[u8] = b"\
+    \x86\x09\xdb\x83\x6c\0\x01\x01\x1aleveldb.BytewiseComparator\x02\x03\x09\0\x03\x09\x04\x04\
+    \x07\x01\x05d\x09a\x01\x01\0\0\0\0\0\0\x09a\x01\x01\0\0\0\0\0\0\
+    \x07\0\x03d\x09b\x01\x01\0\0\0\0\0\0\x09b\x01\x01\0\0\0\0\0\0\
+    \x07\0\x08d\x09a\x01\x02\0\0\0\0\0\0\x09a\x01\x02\0\0\0\0\0\0";
+
+/// The same without a file.
+const NO_FILE: &[u8] =
+    b"\xcd\xf0\xe1\x42\x24\0\x01\x01\x1aleveldb.BytewiseComparator\x02\x03\x09\0\x03\x09\x04\x04";
+
+/// The same without its last byte.
+const TORN: &[u8] =
+    b"\xcd\xf0\xe1\x42\x24\0\x01\x01\x1aleveldb.BytewiseComparator\x02\x03\x09\0\x03\x09\x04";
+
+/// The same with another byte for it.
+const DAMAGED: &[u8] =
+    b"\xcd\xf0\xe1\x42\x24\0\x01\x01\x1aleveldb.BytewiseComparator\x02\x03\x09\0\x03\x09\x04\x05";
+
+/// A log of one record of an unknown tag, and then not all of another one.
+const UNKNOWN_AND_TORN: &[u8] = b"\x0d\xbb\x57\x11\x01\0\x01\x08\0";
+
+const MANIFEST: (&str, &[u8]) = ("MANIFEST-000005", THREE_FILES);
+
+const EIGHT: (&str, &[u8]) = ("000008.ldb", b"eight");
+
+const FIVE: (&str, &[u8]) = ("000005.ldb", b"five");
+
+const OLD_FIVE: (&str, &[u8]) = ("000005.sst", b"five, older");
+
+const OLD_THREE: (&str, &[u8]) = ("000003.sst", b"three");
+
+/// A folder with its tables: that of number 3 has its older name, and that of number 5 both.
+const ALL: NamedFiles = &[
+    CURRENT_FIVE,
+    MANIFEST,
+    EIGHT,
+    OLD_FIVE,
+    FIVE,
+    ("000007.ldb", b"of no file"),
+    OLD_THREE,
+];
+
+/// The tables that are loaded of it, in version order.
+const LOADED: Tables = &[(8, b"eight"), (3, b"three"), (5, b"five")];
+
+const DEVICE: FolderFault = FolderFault::Device;
+
+const MEMORY: FolderFault = FolderFault::Memory;
+
+/// Files of a folder, a call that fails and how; the tables that are loaded or the refusal, how often the device failed, and
+/// how many calls were made.
+type Row = (
+    NamedFiles,
+    (u64, FolderFault),
+    Result<Tables, FaultName>,
+    (u64, u64),
+);
+
+const FOLDERS: &[Row] = &[
+    // Two calls open the folder. Then one is made for number 8, two are for number 3 and one for number 5. A call that isn't
+    // made doesn't fail.
+    (ALL, (7, DEVICE), Ok(LOADED), (0, 6)),
+    (ALL, (1, DEVICE), Err(FaultName::Device), (1, 1)),
+    (ALL, (2, DEVICE), Err(FaultName::Device), (1, 2)),
+    (ALL, (3, DEVICE), Err(FaultName::Device), (1, 3)),
+    (ALL, (4, DEVICE), Err(FaultName::Device), (1, 4)),
+    (ALL, (5, DEVICE), Err(FaultName::Device), (1, 5)),
+    (ALL, (6, DEVICE), Err(FaultName::Device), (1, 6)),
+    (ALL, (1, MEMORY), Err(FaultName::Memory), (0, 1)),
+    (ALL, (2, MEMORY), Err(FaultName::Memory), (0, 2)),
+    (ALL, (3, MEMORY), Err(FaultName::Memory), (0, 3)),
+    (ALL, (4, MEMORY), Err(FaultName::Memory), (0, 4)),
+    (ALL, (5, MEMORY), Err(FaultName::Memory), (0, 5)),
+    (ALL, (6, MEMORY), Err(FaultName::Memory), (0, 6)),
+    // A version without files has no table.
     (
-        &[BYTEWISE, NUMBERS, SEVEN],
-        (Order::Bytewise, [Some(3), Some(0), Some(9), Some(4)]),
+        &[CURRENT_FIVE, ("MANIFEST-000005", NO_FILE)],
+        (3, DEVICE),
+        Ok(&[]),
+        (0, 2),
     ),
-    // A previous log number may be left out.
+    // Without the table of number 8, and without that of number 3. The first that is missing comes before a later call.
     (
-        &[SHORTLEX, NO_PREVIOUS],
-        (Order::Shortlex, [Some(3), None, Some(6), Some(4)]),
+        &[CURRENT_FIVE, MANIFEST, FIVE, OLD_THREE],
+        (5, DEVICE),
+        Err(FaultName::Missing),
+        (0, 4),
     ),
-];
-
-#[test]
-fn folders_that_are_opened(rt: HostRuntime) -> Result<(), Fail> {
-    for (records, wanted) in &OPENED {
-        is_opened(&rt, opened(rt.alloc(), records)?, *wanted);
-    }
-    Ok(())
-}
-
-/// Whether a file is that of `SEVEN`, with the keys that stand there.
-fn is_seven(file: &FileMeta) -> bool {
-    file.number == 7
-        && file.size == 125
-        && file.smallest.as_key().kind() == Kind::Delete
-        && file.largest.as_key().sequence() == 2
-}
-
-/// Whether that file is the only one of level 1 of a version.
-fn has_seven(alloc: Global, version: &Version) -> Result<bool, Fault> {
-    let ones = version.files::<Bytewise>(alloc, 1)?;
-    Ok(match ones.first() {
-        Some(file) => ones.len() == 1 && is_seven(file),
-        None => false,
-    })
-}
-
-/// Whether it is the only one of that level where it is the one that is named.
-fn opens_seven(alloc: Global) -> Result<bool, Fault> {
-    has_seven(alloc, &version_of(alloc, &[BYTEWISE, NUMBERS, SEVEN])?)
-}
-
-#[test]
-fn a_file_and_its_keys(rt: HostRuntime) {
-    assert!(rt; opens_seven(rt.alloc()) == Ok(true));
-}
-
-/// The field of another comparator's name.
-const ANOTHER: &[u8] = b"\x01\x05other";
-
-/// The deletion of a file that isn't there.
-const ABSENT: &[u8] = b"\x06\x01\x08";
-
-/// Records of a manifest, and how it is refused.
-const REFUSED: [(&[&[u8]], FaultName); 20] = [
-    // A tag that isn't listed, and a number without a reading; the first record decides.
-    (&[BYTEWISE, NUMBERS, b"\x08"], FaultName::EditTag),
-    (&[BYTEWISE, NUMBERS, b"\x02\x80"], FaultName::EditField),
-    (&[b"\x02\x80", b"\x08"], FaultName::EditField),
-    (&[b"\x08", b"\x02\x80"], FaultName::EditTag),
-    // All records are read before a comparator is looked for, and before an edit is applied.
-    (&[ANOTHER, b"\x08"], FaultName::EditTag),
-    (&[BYTEWISE, ABSENT, b"\x02\x80"], FaultName::EditField),
-    // No record, no name, and another's.
-    (&[], FaultName::Comparator),
-    (&[NUMBERS, SEVEN], FaultName::Comparator),
-    (&[ANOTHER, NUMBERS], FaultName::Comparator),
-    // The first name decides, before an edit is applied.
-    (&[ABSENT, ANOTHER, BYTEWISE, NUMBERS], FaultName::Comparator),
-    (&[NUMBERS, BYTEWISE, SHORTLEX], FaultName::Comparator),
-    (&[NUMBERS, SHORTLEX, BYTEWISE], FaultName::Comparator),
-    // The first edit that doesn't fit decides.
-    (&[BYTEWISE, NUMBERS, ABSENT], FaultName::Apply),
-    (&[BYTEWISE, NUMBERS, SEVEN, SEVEN], FaultName::Apply),
-    (&[BYTEWISE, ABSENT, ANOTHER], FaultName::Apply),
-    (&[BYTEWISE, ANOTHER, ABSENT], FaultName::Comparator),
-    // No log number, no next file, no last sequence.
-    (&[BYTEWISE, b"\x09\0\x03\x09\x04\x04"], FaultName::Apply),
-    (&[BYTEWISE, b"\x02\x03\x09\0\x04\x04"], FaultName::Apply),
-    (&[BYTEWISE, b"\x02\x03\x09\0\x03\x09"], FaultName::Apply),
-    // The manifest has the number of the next file.
-    (&[BYTEWISE, NUMBERS, b"\x03\x05"], FaultName::Apply),
-];
-
-/// How a folder is refused whose manifest has these records, without its last bytes, and behind them others.
-fn refused_records(
-    alloc: Global,
-    records: &[&[u8]],
-    cut: usize,
-    behind: &[u8],
-) -> Result<Option<FaultName>, Fault> {
-    let mut manifest = log_of(alloc, records)?;
-    manifest.truncate(manifest.len().saturating_sub(cut));
-    manifest.extend_from_slice(behind)?;
-    Ok(refusal(opened_as(alloc, FIVE_CURRENT, &manifest)))
-}
-
-#[test]
-fn manifests_that_are_refused(rt: HostRuntime) -> Result<(), Fail> {
-    for (place, row) in REFUSED.iter().enumerate() {
-        let answer = refused_records(rt.alloc(), row.0, 0, b"")?;
-        is_refusal(&rt, answer, Some(row.1), place);
-    }
-    Ok(())
-}
-
-/// Records, how many bytes are cut off their log, what stands behind it, and how it is refused.
-const NO_LOGS: [(&[&[u8]], usize, &[u8], Option<FaultName>); 4] = [
-    (&[BYTEWISE, NUMBERS], 1, b"", Some(FaultName::LogShape)),
     (
-        &[BYTEWISE, NUMBERS],
-        1,
-        b"\x05",
-        Some(FaultName::LogChecksum),
+        &[CURRENT_FIVE, MANIFEST, EIGHT, FIVE],
+        (6, DEVICE),
+        Err(FaultName::Missing),
+        (0, 5),
     ),
-    // A log comes before its records, of which the first has an unknown tag here.
-    (&[b"\x08", NUMBERS], 1, b"", Some(FaultName::LogShape)),
-    (&[BYTEWISE, NUMBERS], 0, b"", None),
+    // No CURRENT. Where a call fails, nothing is known of what is missing.
+    (&[MANIFEST], (2, DEVICE), Err(FaultName::Missing), (0, 1)),
+    (&[], (1, DEVICE), Err(FaultName::Device), (1, 1)),
+    // No manifest of its name.
+    (
+        &[
+            CURRENT_FIVE,
+            ("MANIFEST-000006", THREE_FILES),
+            ("MANIFEST-5", THREE_FILES),
+        ],
+        (3, DEVICE),
+        Err(FaultName::Missing),
+        (0, 2),
+    ),
+    // The form of CURRENT comes before that.
+    (
+        &[("CURRENT", b"MANIFEST-000005"), MANIFEST],
+        (2, DEVICE),
+        Err(FaultName::Apply),
+        (0, 1),
+    ),
+    // Bytes that are no log. A log comes before its records.
+    (
+        &[CURRENT_FIVE, ("MANIFEST-000005", TORN)],
+        (3, DEVICE),
+        Err(FaultName::LogShape),
+        (0, 2),
+    ),
+    (
+        &[CURRENT_FIVE, ("MANIFEST-000005", DAMAGED)],
+        (3, DEVICE),
+        Err(FaultName::LogChecksum),
+        (0, 2),
+    ),
+    (
+        &[CURRENT_FIVE, ("MANIFEST-000005", UNKNOWN_AND_TORN)],
+        (3, DEVICE),
+        Err(FaultName::LogShape),
+        (0, 2),
+    ),
 ];
 
-#[test]
-fn bytes_that_are_no_log(rt: HostRuntime) -> Result<(), Fail> {
-    for (place, row) in NO_LOGS.iter().enumerate() {
-        let answer = refused_records(rt.alloc(), row.0, row.1, row.2)?;
-        is_refusal(&rt, answer, row.3, place);
+/// Opens a folder and loads its tables.
+fn loaded(alloc: Global, folder: &mut Shelf<'_>) -> Result<Vec<(u64, Vec<u8>)>, Fault> {
+    let (_order, version) = open(alloc, folder)?;
+    load::<Bytewise, Shelf<'_>>(alloc, folder, &version)
+}
+
+/// Whether tables are these.
+fn are(tables: &[(u64, Vec<u8>)], wanted: &[(u64, &[u8])]) -> bool {
+    for (table, one) in tables.iter().zip(wanted) {
+        if table.0 != one.0 || table.1.as_slice() != one.1 {
+            return false;
+        }
     }
-    Ok(())
+    tables.len() == wanted.len()
 }
 
-/// Tests that CURRENT or the manifest that it names is missing, among files of these bytes.
-fn are_missing(rt: &(impl Abort + AllocGlobal), manifest: &[u8]) {
-    let files = [
-        ("CURRENT", FIVE_CURRENT),
-        ("MANIFEST-000006", manifest),
-        ("MANIFEST-5", manifest),
-        (FIVE, manifest),
-    ];
-    let missing = Some(FaultName::Missing);
-    is_refusal(rt, refused(rt.alloc(), &files[..0]), missing, 0);
-    is_refusal(rt, refused(rt.alloc(), &files[3..]), missing, 1);
-    is_refusal(rt, refused(rt.alloc(), &files[..3]), missing, 2);
-}
-
-#[test]
-fn files_that_are_missing_or_misnamed(rt: HostRuntime) -> Result<(), Fail> {
-    let manifest = log_of(rt.alloc(), &[BYTEWISE, NUMBERS])?;
-    are_missing(&rt, &manifest);
-    Ok(())
-}
-
-#[test]
-fn names_that_are_no_manifests(rt: HostRuntime) {
-    // Its form comes before the manifest's absence.
-    for (place, text) in NO_NAMES.iter().enumerate() {
-        let answer = refused(rt.alloc(), &[("CURRENT", text.as_bytes())]);
-        is_refusal(&rt, answer, Some(FaultName::Apply), place);
+/// Whether these tables are loaded, or refused so.
+pub(crate) fn are_loaded(
+    answer: Result<Vec<(u64, Vec<u8>)>, Fault>,
+    wanted: Result<Tables, FaultName>,
+) -> bool {
+    match (answer, wanted) {
+        (Ok(tables), Ok(wanted)) => are(&tables, wanted),
+        (Err(fault), Err(name)) => fault.name == name,
+        _ => false,
     }
 }
 
-/// What is answered of these files where a call fails.
-fn answer_failing(alloc: Global, files: &[(&str, &[u8])], failing: Failing) -> Answer {
-    let mut folder = Shelf::new(alloc, files).failing(failing);
-    let answer = refusal(open(alloc, &mut folder));
-    (answer, folder.failures(), folder.calls())
+/// Whether a folder is answered as its row has it.
+fn is_answered(alloc: Global, (files, (call, fault), wanted, counts): Row) -> bool {
+    let mut folder = Shelf::new(alloc, files).failing(Failing {
+        call,
+        fault,
+        is_half_done: false,
+    });
+    let answer = loaded(alloc, &mut folder);
+    are_loaded(answer, wanted) && (folder.failures(), folder.calls()) == counts
 }
 
-/// A call that fails, and what is answered.
-const FAILING: [(u64, FolderFault, Answer); 5] = [
-    (1, FolderFault::Device, (Some(FaultName::Device), 1, 1)),
-    (2, FolderFault::Device, (Some(FaultName::Device), 1, 2)),
-    (3, FolderFault::Device, (None, 0, 2)),
-    (1, FolderFault::Memory, (Some(FaultName::Memory), 0, 1)),
-    (2, FolderFault::Memory, (Some(FaultName::Memory), 0, 2)),
-];
-
-/// Tests what is answered where a call fails, of a folder whose manifest has these bytes.
-fn answers_failing(rt: &(impl Abort + AllocGlobal), manifest: &[u8]) {
-    let files = [("CURRENT", FIVE_CURRENT), (FIVE, manifest)];
-    for (call, fault, want) in &FAILING {
-        let found = answer_failing(rt.alloc(), &files, fails(*call, *fault));
-        is_answer(rt, found, *want);
+#[test]
+fn folders_in_memory(rt: HostRuntime) {
+    for (place, row) in FOLDERS.iter().enumerate() {
+        assert!(rt; is_answered(rt.alloc(), *row), "{place}");
     }
-}
-
-#[test]
-fn calls_that_fail(rt: HostRuntime) -> Result<(), Fail> {
-    let manifest = log_of(rt.alloc(), &[BYTEWISE, NUMBERS])?;
-    answers_failing(&rt, &manifest);
-    Ok(())
-}
-
-// Where a call fails, nothing is known of what is missing.
-#[test]
-fn a_call_fails_in_a_folder_without_files(rt: HostRuntime) {
-    let found = answer_failing(rt.alloc(), &[], fails(1, FolderFault::Device));
-    is_answer(&rt, found, (Some(FaultName::Device), 1, 1));
-}
-
-#[test]
-fn the_laws_are_called(rt: HostRuntime) {
-    let folder = Shelf::new(rt.alloc(), &[]);
-    folder_laws(&folder);
-    reading_laws(&folder);
-    crash_laws();
-}
-
-/// Whether an answer is the folder of one table, or the refusal for want of memory.
-fn is_one_or_memory(answer: Result<(Order, Version), Fault>) -> bool {
-    match answer {
-        Ok((order, version)) => order == Order::Bytewise && version.last_sequence() == Some(4),
-        Err(fault) => fault.name == FaultName::Memory,
-    }
-}
-
-// With `rt try --test --fail-alloc N` the Nth growth is refused; without it, none is.
-#[test]
-fn a_refused_growth_is_the_only_other_refusal(rt: HostRuntime) {
-    let answer = opened_of(rt.alloc(), &[BYTEWISE, NUMBERS, SEVEN]);
-    assert!(rt; is_one_or_memory(answer));
 }

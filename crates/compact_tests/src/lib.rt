@@ -2,6 +2,10 @@
 #![tactic(auto)]
 
 #[cfg(test)]
-mod cases;
+mod gates;
+#[cfg(test)]
+mod rows;
+#[cfg(test)]
+mod tables;
 #[cfg(test)]
 mod tests;

@@ -1,241 +1,168 @@
-//! Blocks that are planned, encoded and put together over runs.
+//! Blocks that are planned, encoded and put together over runs, and the entries of runs as one list.
 
-ghost use Rattle.std.specs.Prelude.{◌≡◌, ◌≤◌, [], length, IfOk};
-ghost use Rattle.block.specs.Building.{last_key};
+ghost use Rattle.std.specs.Prelude.{◌≡◌, ◌≤◌, ◌^◌, [], ◌++◌, length, flat_map, IfOk};
+ghost use Rattle.std.specs.List.{AllByRecursion};
+ghost use Rattle.block.specs.Building.{last_key, with_entry};
 ghost use Rattle.block.specs.Writing.{block};
-ghost use Rattle.pieces.specs.Planned.{IsPlanned};
+ghost use Rattle.table.specs.Table.{stored_blocks};
+ghost use Rattle.pieces.specs.Planned.{IsPlanned, parts_of};
 
 use block::BlockBuilder;
-use coding::Fault;
+use coding::{Fault, FaultName};
 use edit::CompactPointer;
-use ikey::{Bytewise, KeyBuf, Kind};
+use ikey::{Bytewise, InternalKey, KeyBuf, Kind};
 use keep::{RangeRun, is_rising, largest_rise, merge_range};
 use pick::Inputs;
 use pieces::{PlannedBlock, assemble_table, encode_blocks};
 use runs::{RunsCursor, RunsPart, RunsSlice};
-use split::{Range, Split};
+use split::Range;
 use std::alloc::Global;
 use std::process::Abort;
 use std::test::*;
-use table::{Options, TableBuilder, TableCursor, check};
+use table::{TableCursor, check};
 
-/// The table of a value `x` of `a` at sequence 1, of which the first 26 bytes are its data block.
-const ONE_BLOCK: [u8; 26] = [
-    0x00, 0x09, 0x01, 0x61, 0x01, 0x01, 0x00, 0x00, 0x00, 0x00, 0x00, 0x00, 0x78, 0x00, 0x00, 0x00,
-    0x00, 0x01, 0x00, 0x00, 0x00, 0x00, 0x84, 0xdd, 0x88, 0x74,
-];
+/// The table of a value `x` of `abcz` at sequence 9 and a value `y` of `abfa` at 8, in a block each: a line for each block and for
+/// the footer.
+const TWO_BLOCKS: &[u8] = b"\
+\0\x0c\x01abcz\x01\x09\0\0\0\0\0\0x\0\0\0\0\x01\0\0\0\0\xaf\x09\xa4\xac\
+\0\x0c\x01abfa\x01\x08\0\0\0\0\0\0y\0\0\0\0\x01\0\0\0\0y\x97\xbd\xa3\
+\0\0\0\0\x01\0\0\0\0\xc0\xf2\xa1\xb0\
+\0\x0b\x02abd\x01\xff\xff\xff\xff\xff\xff\xff\0\x18\0\x09\x02b\x01\xff\xff\xff\xff\xff\xff\xff\x1d\x18\0\0\0\0\x10\0\0\0\x02\0\0\0\0\x7f6J4\
+:\x08G*\0\0\0\0\0\0\0\0\0\0\0\0\0\0\0\0\0\0\0\0\0\0\0\0\0\0\0\0\0\0\0\0\0\0\0\0W\xfb\x80\x8b$uG\xdb";
 
-/// The table of a value `x` of `abcz` at sequence 9 and a value `y` of `abfa` at 8, in a block each.
-const TWO_BLOCKS: [u8; 166] = [
-    0x00, 0x0c, 0x01, 0x61, 0x62, 0x63, 0x7a, 0x01, 0x09, 0x00, 0x00, 0x00, 0x00, 0x00, 0x00, 0x78,
-    0x00, 0x00, 0x00, 0x00, 0x01, 0x00, 0x00, 0x00, 0x00, 0xaf, 0x09, 0xa4, 0xac, 0x00, 0x0c, 0x01,
-    0x61, 0x62, 0x66, 0x61, 0x01, 0x08, 0x00, 0x00, 0x00, 0x00, 0x00, 0x00, 0x79, 0x00, 0x00, 0x00,
-    0x00, 0x01, 0x00, 0x00, 0x00, 0x00, 0x79, 0x97, 0xbd, 0xa3, 0x00, 0x00, 0x00, 0x00, 0x01, 0x00,
-    0x00, 0x00, 0x00, 0xc0, 0xf2, 0xa1, 0xb0, 0x00, 0x0b, 0x02, 0x61, 0x62, 0x64, 0x01, 0xff, 0xff,
-    0xff, 0xff, 0xff, 0xff, 0xff, 0x00, 0x18, 0x00, 0x09, 0x02, 0x62, 0x01, 0xff, 0xff, 0xff, 0xff,
-    0xff, 0xff, 0xff, 0x1d, 0x18, 0x00, 0x00, 0x00, 0x00, 0x10, 0x00, 0x00, 0x00, 0x02, 0x00, 0x00,
-    0x00, 0x00, 0x7f, 0x36, 0x4a, 0x34, 0x3a, 0x08, 0x47, 0x2a, 0x00, 0x00, 0x00, 0x00, 0x00, 0x00,
-    0x00, 0x00, 0x00, 0x00, 0x00, 0x00, 0x00, 0x00, 0x00, 0x00, 0x00, 0x00, 0x00, 0x00, 0x00, 0x00,
-    0x00, 0x00, 0x00, 0x00, 0x00, 0x00, 0x00, 0x00, 0x00, 0x00, 0x00, 0x00, 0x00, 0x00, 0x57, 0xfb,
-    0x80, 0x8b, 0x24, 0x75, 0x47, 0xdb,
-];
+/// The first user key, and the second internal key.
+const FIRST: &[u8] = b"abcz";
 
-/// A value of a user key.
-#[derive(Clone, Copy)]
-struct Row<'a> {
-    user: &'a [u8],
-    sequence: u8,
-    value: &'a [u8],
-}
+const LAST: &[u8] = b"abfa\x01\x08\0\0\0\0\0\0";
 
-/// One value.
-const ONE: [Row<'static>; 1] = [Row {
-    user: b"a",
-    sequence: 1,
-    value: b"x",
-}];
-
-/// Two values, of which each comes to a data block and a range of its own.
-const TWO: [Row<'static>; 2] = [
-    Row {
-        user: b"abcz",
-        sequence: 9,
-        value: b"x",
+/// Ranges that hold all user keys. The first, the third and the last hold none of the table's.
+const RANGES: &[Range<'static>] = &[
+    Range {
+        lower: None,
+        upper: Some(b"a"),
     },
-    Row {
-        user: b"abfa",
-        sequence: 8,
-        value: b"y",
+    Range {
+        lower: Some(b"a"),
+        upper: Some(b"abd"),
+    },
+    Range {
+        lower: Some(b"abd"),
+        upper: Some(b"abf"),
+    },
+    Range {
+        lower: Some(b"abf"),
+        upper: Some(b"b"),
+    },
+    Range {
+        lower: Some(b"b"),
+        upper: None,
     },
 ];
-
-/// Four values of three user keys, each of its user key and its sequence.
-const FOUR: [Row<'static>; 4] = [
-    Row {
-        user: b"a",
-        sequence: 1,
-        value: b"a\x01",
-    },
-    Row {
-        user: b"u",
-        sequence: 9,
-        value: b"u\x09",
-    },
-    Row {
-        user: b"u",
-        sequence: 5,
-        value: b"u\x05",
-    },
-    Row {
-        user: b"z",
-        sequence: 2,
-        value: b"z\x02",
-    },
-];
-
-/// Boundaries of the ranges to a, from a to b, from b to u, from u to zz and from zz on: the first, third and last keep nothing
-/// of the four values.
-const FIVE_RANGES: [&[u8]; 4] = [b"a", b"b", b"u", b"zz"];
-
-/// The internal key of a value.
-fn key_of(rt: &(impl Abort + AllocGlobal), row: Row<'_>) -> Result<KeyBuf, Fault> {
-    assert!(rt; row.user.len() <= 4);
-    KeyBuf::new(rt.alloc(), row.user, u64::from(row.sequence), Kind::Put)
-}
-
-/// Adds a value to a table.
-fn put(
-    rt: &(impl Abort + AllocGlobal),
-    table: &mut TableBuilder<Bytewise>,
-    row: Row<'_>,
-) -> Result<(), Fault> {
-    let key = key_of(rt, row)?;
-    assert!(rt; table.is_above_last(&key.as_key()) && row.value.len() <= 2);
-    table.add(key.as_key(), row.value)
-}
-
-/// The table of these values.
-fn written(rt: &(impl Abort + AllocGlobal), rows: &[Row<'_>]) -> Result<Vec<u8>, Fault> {
-    let options = Options::default();
-    assert!(rt; options.are_in_limits());
-    let mut table = TableBuilder::<Bytewise>::new(rt.alloc(), options);
-    for row in rows {
-        put(rt, &mut table, *row)?;
-    }
-    table.finish()
-}
 
 /// Inputs that tell of no file below.
-fn inputs(rt: &(impl Abort + AllocGlobal)) -> Result<Inputs, Fault> {
-    let key = key_of(rt, TWO[0])?;
+fn inputs(alloc: Global) -> Result<Inputs, Fault> {
+    let key = KeyBuf::new(alloc, b"b", 1, Kind::Put)?;
     Ok(Inputs {
         level: 1,
-        files: Vec::new(rt.alloc()),
-        grandparents: Vec::new(rt.alloc()),
-        deeper: Vec::new(rt.alloc()),
+        files: Vec::new(alloc),
+        grandparents: Vec::new(alloc),
+        deeper: Vec::new(alloc),
         pointer: CompactPointer { level: 1, key },
     })
 }
 
-/// These user keys, as boundaries.
-fn boundaries(alloc: Global, users: &[&[u8]]) -> Result<Vec<Vec<u8>>, Fault> {
-    let mut boundaries = Vec::new(alloc);
-    for user in users {
-        boundaries.push(Vec::from_slice(alloc, user)?)?;
+/// The cursor over the table.
+fn cursor(alloc: Global) -> Result<TableCursor<'static, Bytewise>, Fault> {
+    TableCursor::new(alloc, &check::<Bytewise>(alloc, TWO_BLOCKS)?)
+}
+
+/// The run of a range over the table.
+fn run_of(
+    alloc: Global,
+    range: Range<'static>,
+    inputs: &Inputs,
+) -> Result<RangeRun<'static>, Fault> {
+    if !is_rising(&[]) || !largest_rise::<Bytewise>(&inputs.grandparents) {
+        return Err(Fault::of(FaultName::Options));
     }
-    Ok(boundaries)
-}
-
-/// The split at these user keys.
-fn split_at(alloc: Global, users: &[&[u8]]) -> Result<Split<Bytewise>, Fault> {
-    Ok(Split::<Bytewise>::from_keys(boundaries(alloc, users)?)?)
-}
-
-/// The cursor over a table, as the only one.
-fn cursors<'a>(alloc: Global, bytes: &'a [u8]) -> Result<Vec<TableCursor<'a, Bytewise>>, Fault> {
-    let table = check::<Bytewise>(alloc, bytes)?;
-    let cursor = TableCursor::new(alloc, &table)?;
     let mut cursors = Vec::new(alloc);
-    cursors.push(cursor)?;
-    Ok(cursors)
+    cursors.push(cursor(alloc)?)?;
+    merge_range::<Bytewise, _>(alloc, &mut cursors, range, &[], 0, inputs)
 }
 
-/// The run of a range.
-fn run_of<'a>(
-    rt: &(impl Abort + AllocGlobal),
-    cursors: &mut Vec<TableCursor<'a, Bytewise>>,
-    range: Range<'_>,
-    inputs: &Inputs,
-) -> Result<RangeRun<'a>, Fault> {
-    assert!(rt; is_rising(&[]) && largest_rise::<Bytewise>(&inputs.grandparents));
-    merge_range::<Bytewise, _>(rt.alloc(), cursors, range, &[], 0, inputs)
-}
-
-/// The runs of the ranges of a split.
-fn runs_of<'a>(
-    rt: &(impl Abort + AllocGlobal),
-    cursors: &mut Vec<TableCursor<'a, Bytewise>>,
-    split: &Split<Bytewise>,
-    inputs: &Inputs,
-) -> Result<Vec<RangeRun<'a>>, Fault> {
-    let mut runs = Vec::new(rt.alloc());
-    for number in 0..split.len() {
-        runs.push(run_of(rt, cursors, split.range(number), inputs)?)?;
+/// The runs of all ranges.
+fn runs(alloc: Global) -> Result<Vec<RangeRun<'static>>, Fault> {
+    let inputs = inputs(alloc)?;
+    let mut runs = Vec::new(alloc);
+    for range in RANGES {
+        runs.push(run_of(alloc, *range, &inputs)?)?;
     }
     Ok(runs)
 }
 
-/// The runs of the ranges between these user keys.
-fn runs<'a>(
-    rt: &(impl Abort + AllocGlobal),
-    bytes: &'a [u8],
-    users: &[&[u8]],
-) -> Result<Vec<RangeRun<'a>>, Fault> {
-    let inputs = inputs(rt)?;
-    let split = split_at(rt.alloc(), users)?;
-    runs_of(rt, &mut cursors(rt.alloc(), bytes)?, &split, &inputs)
-}
-
-/// A value of at most 1,000 bytes.
-fn short<'a>(rt: &impl Abort, value: &'a [u8]) -> &'a [u8]
-    ensures same { result.now ≡ value.now }
-    ensures short { length result.now ≤ 1000 }
+/// The length of the block of one entry.
+fn len_of(alloc: Global, key: &[u8], value: &[u8]) -> Result<u64, Fault>
+    requires key { length key.now ≤ 1000 }
+    requires value { length value.now ≤ 1000 }
+    ensures { IfOk result (λ len. len ≡ length (block 16 (with_entry [] key.now value.now))) }
 {
-    assert!(rt; value.len() <= 1000);
-    value
+    let mut builder = BlockBuilder::new(alloc, 16);
+    builder.add(key, value)?;
+    Ok(builder.estimate() as u64)
 }
 
-/// The data block of one entry, that at a place.
+/// The data block of one entry, that at a place, which is a short one.
 fn block_at<'r, 'a>(
-    rt: &(impl Abort + AllocGlobal),
+    alloc: Global,
     cursor: &RunsCursor<'r, 'a>,
-) -> Result<PlannedBlock<'r, 'a>, Fail>
+) -> Result<PlannedBlock<'r, 'a>, Fault>
     ensures planned { IfOk result (λ b. IsPlanned 16 b) }
     ensures short { IfOk result (λ b. length (block 16 b.entries.entries) ≤ 1000) }
     ensures key { IfOk result (λ b. length (last_key [] b.entries.entries) ≤ 1000) }
 {
-    assert!(rt; cursor.valid());
+    if !cursor.valid() {
+        return Err(Fault::of(FaultName::Missing));
+    }
     let key = cursor.key();
-    assert!(rt; key.bytes().len() <= 1000);
-    let value = short(rt, cursor.value());
-    let mut builder = BlockBuilder::new(rt.alloc(), 16);
-    builder.add(key.bytes(), value)?;
-    let len = builder.estimate();
-    assert!(rt; len <= 1000);
+    let value = cursor.value();
+    if key.bytes().len() > 1000 || value.len() > 1000 {
+        return Err(Fault::of(FaultName::TooLarge));
+    }
+    let len = len_of(alloc, key.bytes(), value)?;
+    if len > 1000 {
+        return Err(Fault::of(FaultName::TooLarge));
+    }
     let mut entries = RunsSlice::at(cursor.copy());
     entries.push(key);
     Ok(PlannedBlock {
         entries: entries.part(),
-        len: len as u64,
+        len,
     })
+}
+
+/// A piece of some blocks, and one of others.
+fn pieces_of(
+    alloc: Global,
+    front: &[PlannedBlock<'_, '_>],
+    back: &[PlannedBlock<'_, '_>],
+) -> Result<Vec<Vec<u8>>, Fault>
+    requires front { AllByRecursion (λ b. length (block 16 b.entries.entries) ≤ 2 ^ 31) front.now }
+    requires back { AllByRecursion (λ b. length (block 16 b.entries.entries) ≤ 2 ^ 31) back.now }
+    ensures { IfOk result (λ v. flat_map (λ p. p.items) v.items
+        ≡ stored_blocks 16 (parts_of front.now) ++ stored_blocks 16 (parts_of back.now)) }
+{
+    let mut pieces = Vec::new(alloc);
+    pieces.push(encode_blocks(alloc, front, 16, TWO_BLOCKS.len())?)?;
+    pieces.push(encode_blocks(alloc, back, 16, 0)?)?;
+    Ok(pieces)
 }
 
 /// The table of two blocks, each of which is a piece.
 fn assembled(
-    rt: &(impl Abort + AllocGlobal),
+    alloc: Global,
     first: PlannedBlock<'_, '_>,
     second: PlannedBlock<'_, '_>,
-) -> Result<Vec<u8>, Fail>
+) -> Result<Vec<u8>, Fault>
     requires first_planned { IsPlanned 16 first }
     requires first_short { length (block 16 first.entries.entries) ≤ 1000 }
     requires first_key { length (last_key [] first.entries.entries) ≤ 1000 }
@@ -243,154 +170,63 @@ fn assembled(
     requires second_short { length (block 16 second.entries.entries) ≤ 1000 }
     requires second_key { length (last_key [] second.entries.entries) ≤ 1000 }
 {
-    let mut blocks = Vec::new(rt.alloc());
-    blocks.push(first)?;
-    blocks.push(second)?;
+    let blocks = [first, second];
     let (front, back) = blocks.split_at(1);
-    let front = encode_blocks(rt.alloc(), front, 16, TWO_BLOCKS.len())?;
-    let back = encode_blocks(rt.alloc(), back, 16, 0)?;
-    let mut pieces = Vec::new(rt.alloc());
-    pieces.push(front)?;
-    pieces.push(back)?;
-    Ok(assemble_table::<Bytewise>(rt.alloc(), &blocks, 16, pieces)?)
+    let pieces = pieces_of(alloc, front, back)?;
+    assemble_table::<Bytewise>(alloc, &blocks, 16, pieces)
 }
 
-/// Tests that bytes are these.
-fn are_bytes(rt: &impl Abort, found: &[u8], wanted: &[u8]) {
-    assert_eq!(rt; found, wanted);
-}
-
-/// The piece of the first entry's block.
-fn first_piece(rt: &(impl Abort + AllocGlobal), runs: &[RangeRun<'_>]) -> Result<Vec<u8>, Fail> {
-    let cursor = RunsCursor::new(runs);
-    let block = block_at(rt, &cursor)?;
-    let mut blocks = Vec::new(rt.alloc());
-    blocks.push(block)?;
-    Ok(encode_blocks(rt.alloc(), &blocks, 16, 0)?)
-}
-
-#[test]
-fn a_piece_of_one_block(rt: HostRuntime) -> Result<(), Fail> {
-    let bytes = written(&rt, &ONE)?;
-    let runs = runs(&rt, &bytes, &[b"abd"])?;
-    are_bytes(&rt, &first_piece(&rt, &runs)?, &ONE_BLOCK);
-    Ok(())
-}
-
-/// The table of the blocks of the first two entries.
-fn two_pieces(rt: &(impl Abort + AllocGlobal), runs: &[RangeRun<'_>]) -> Result<Vec<u8>, Fail> {
+/// Whether the blocks of the first two entries, each a piece, make the table again.
+fn make_the_table(alloc: Global, runs: &[RangeRun<'_>]) -> Result<bool, Fault> {
     let mut cursor = RunsCursor::new(runs);
-    let first = block_at(rt, &cursor)?;
-    assert!(rt; cursor.valid());
+    let first = block_at(alloc, &cursor)?;
+    if !cursor.valid() {
+        return Ok(false);
+    }
     cursor.advance();
-    let second = block_at(rt, &cursor)?;
-    assembled(rt, first, second)
+    let second = block_at(alloc, &cursor)?;
+    Ok(assembled(alloc, first, second)?.as_slice() == TWO_BLOCKS)
 }
 
-#[test]
-fn two_pieces_and_their_table(rt: HostRuntime) -> Result<(), Fail> {
-    let bytes = written(&rt, &TWO)?;
-    let runs = runs(&rt, &bytes, &[b"abd"])?;
-    are_bytes(&rt, &two_pieces(&rt, &runs)?, &TWO_BLOCKS);
-    Ok(())
-}
-
-/// Tests that the entry that a cursor stands at is this.
-fn stands(rt: &impl Abort, cursor: &RunsCursor<'_, '_>, row: Row<'_>) {
-    assert!(rt; cursor.valid());
-    are_bytes(rt, cursor.key().user(), row.user);
-    assert!(rt; cursor.key().sequence() == u64::from(row.sequence));
-    are_bytes(rt, cursor.value(), row.value);
-    are_bytes(rt, cursor.copy().value(), row.value);
-}
-
-/// Tests that the entries of runs are these.
-fn are_rows(rt: &impl Abort, runs: &[RangeRun<'_>], rows: &[Row<'_>]) {
-    let mut cursor = RunsCursor::new(runs);
-    for row in rows {
-        stands(rt, &cursor, *row);
-        assert!(rt; cursor.valid());
-        cursor.advance();
+/// Whether a key is the second one.
+fn is_last(key: Option<InternalKey<'_>>) -> bool {
+    match key {
+        Some(key) => key.bytes() == LAST,
+        None => false,
     }
-    assert!(rt; !cursor.valid());
 }
 
-#[test]
-fn ranges_without_entries_are_passed(rt: HostRuntime) -> Result<(), Fail> {
-    let bytes = written(&rt, &FOUR)?;
-    are_rows(&rt, &runs(&rt, &bytes, &FIVE_RANGES)?, &FOUR);
-    assert!(rt; !RunsCursor::new(&[]).valid());
-    Ok(())
+/// Whether a part is both entries.
+fn is_part(part: &RunsPart<'_, '_>) -> bool {
+    let first = part.first();
+    part.len() == 2
+        && is_last(part.last_key())
+        && first.valid()
+        && first.key().user() == FIRST
+        && first.value() == b"x".as_slice()
 }
 
-/// Tests that a slice of the first two of the four values is one.
-fn is_slice(rt: &impl Abort, runs: &[RangeRun<'_>]) {
-    let mut slice = RunsSlice::at(RunsCursor::new(runs));
-    assert!(rt; slice.is_empty() && slice.last_key().is_none());
-    for _ in 0..2 {
-        let behind = slice.behind();
-        assert!(rt; behind.valid());
-        slice.push(behind.key());
+/// Whether a slice from a place on is one of no entry, and then of both.
+fn is_slice(first: &RunsCursor<'_, '_>) -> bool {
+    let mut slice = RunsSlice::at(first.copy());
+    let is_none = slice.is_empty() && slice.last_key().is_none();
+    if !first.valid() {
+        return false;
     }
-    assert!(rt; !slice.is_empty());
-    let last = slice.last_key().map(|key| key.bytes());
-    assert!(rt; last == Some(b"u\x01\x09\x00\x00\x00\x00\x00\x00".as_slice()));
-    stands(rt, &slice.behind(), FOUR[2]);
-}
-
-#[test]
-fn a_slice_over_two_runs(rt: HostRuntime) -> Result<(), Fail> {
-    let bytes = written(&rt, &FOUR)?;
-    is_slice(&rt, &runs(&rt, &bytes, &FIVE_RANGES)?);
-    Ok(())
-}
-
-/// The first two entries from a place on.
-fn two_from<'r, 'a>(rt: &impl Abort, place: &RunsCursor<'r, 'a>) -> RunsPart<'r, 'a> {
-    assert!(rt; place.valid());
-    let mut slice = RunsSlice::at(place.copy());
-    slice.push(place.key());
-    let behind = slice.behind();
-    assert!(rt; behind.valid());
-    slice.push(behind.key());
-    slice.part()
-}
-
-/// Tests that a part of two entries begins with this one and ends with this key.
-fn is_part(rt: &impl Abort, part: &RunsPart<'_, '_>, first: Row<'_>, last: &[u8]) {
-    assert!(rt; part.len() == 2);
-    stands(rt, &part.first(), first);
-    let key = part.last_key().map(|key| key.bytes());
-    assert!(rt; key == Some(last));
-}
-
-/// Tests the parts of the first two and of the last two of the four values, and that of none.
-fn are_parts(rt: &impl Abort, runs: &[RangeRun<'_>]) {
-    let mut place = RunsCursor::new(runs);
-    is_part(
-        rt,
-        &two_from(rt, &place),
-        FOUR[0],
-        b"u\x01\x09\x00\x00\x00\x00\x00\x00",
-    );
-    for _ in 0..2 {
-        assert!(rt; place.valid());
-        place.advance();
+    slice.push(first.key());
+    let second = slice.behind();
+    if !second.valid() {
+        return false;
     }
-    is_part(
-        rt,
-        &two_from(rt, &place),
-        FOUR[2],
-        b"z\x01\x02\x00\x00\x00\x00\x00\x00",
-    );
-    let none = RunsSlice::at(place).part();
-    assert!(rt; none.len() == 0 && none.last_key().is_none());
-    stands(rt, &none.first(), FOUR[2]);
+    slice.push(second.key());
+    let is_both = is_last(slice.last_key()) && !slice.behind().valid();
+    is_none && !slice.is_empty() && is_both && is_part(&slice.part())
 }
 
 #[test]
-fn parts_over_runs(rt: HostRuntime) -> Result<(), Fail> {
-    let bytes = written(&rt, &FOUR)?;
-    are_parts(&rt, &runs(&rt, &bytes, &FIVE_RANGES)?);
+fn two_pieces_of_runs_make_their_table(rt: HostRuntime) -> Result<(), Fault> {
+    let runs = runs(rt.alloc())?;
+    assert!(rt; is_slice(&RunsCursor::new(&runs)));
+    assert!(rt; make_the_table(rt.alloc(), &runs)?);
     Ok(())
 }

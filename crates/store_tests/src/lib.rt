@@ -2,6 +2,6 @@
 #![tactic(auto)]
 
 #[cfg(test)]
-mod one_table;
+mod rows;
 #[cfg(test)]
-mod outputs;
+mod tests;

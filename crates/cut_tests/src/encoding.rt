@@ -1,160 +1,150 @@
-//! The pieces of a plan, and the tables that are made of them.
+//! The outputs of plans, and the tables that are made of their pieces.
 
 ghost use Rattle.std.specs.Prelude.{◌≡◌, map, IfOk};
 ghost use Rattle.cut.specs.Plan.{encoded};
 ghost use Rattle.cut.specs.Planning.{lists_in};
 
-use crate::sources::{ABC, SIX, THREE, inputs, no_inputs, plan_of, runs_of, same, written};
+use crate::rows::{ALL, Answer, Output, REPEATED, ROWS, Row};
+use crate::runs::{picked, plan_of, runs_of};
+use crate::tables::{LONG_HEAD, LONG_TAIL};
 use coding::{Fault, FaultName};
 use cut::Plan;
 use ikey::Bytewise;
 use keep::RangeRun;
 use pick::Inputs;
+use std::alloc::Global;
 use std::process::Abort;
 use std::test::*;
-use table::{Options, check};
 
 /// The pieces of a plan, in the order of their jobs.
-fn encoded(
-    rt: &(impl Abort + AllocGlobal),
-    plan: &Plan<'_, '_, Bytewise>,
-) -> Result<Vec<Vec<u8>>, Fault>
+fn encoded(alloc: Global, plan: &Plan<'_, '_, Bytewise>) -> Result<Vec<Vec<u8>>, Fault>
     ensures { IfOk result (λ pieces. map (λ p. p.items) pieces.items ≡ encoded plan.now.options (lists_in plan.now.outputs)) }
 {
-    let mut pieces = Vec::new(rt.alloc());
+    let mut pieces = Vec::new(alloc);
     for job in 0..plan.jobs() {
-        let piece = plan.encode(rt.alloc(), job)?;
+        let piece = plan.encode(alloc, job)?;
         pieces.push(piece)?;
     }
     Ok(pieces)
 }
 
-/// The table of the value `x` of `a` at sequence 1. Its data block and that block's trailer are the first 26 bytes.
-const ONE_ENTRY: [u8; 114] = [
-    0x00, 0x09, 0x01, 0x61, 0x01, 0x01, 0x00, 0x00, 0x00, 0x00, 0x00, 0x00, 0x78, 0x00, 0x00, 0x00,
-    0x00, 0x01, 0x00, 0x00, 0x00, 0x00, 0x84, 0xdd, 0x88, 0x74, 0x00, 0x00, 0x00, 0x00, 0x01, 0x00,
-    0x00, 0x00, 0x00, 0xc0, 0xf2, 0xa1, 0xb0, 0x00, 0x09, 0x02, 0x61, 0x01, 0x01, 0x00, 0x00, 0x00,
-    0x00, 0x00, 0x00, 0x00, 0x15, 0x00, 0x00, 0x00, 0x00, 0x01, 0x00, 0x00, 0x00, 0x00, 0x36, 0x49,
-    0x25, 0xbf, 0x1a, 0x08, 0x27, 0x16, 0x00, 0x00, 0x00, 0x00, 0x00, 0x00, 0x00, 0x00, 0x00, 0x00,
-    0x00, 0x00, 0x00, 0x00, 0x00, 0x00, 0x00, 0x00, 0x00, 0x00, 0x00, 0x00, 0x00, 0x00, 0x00, 0x00,
-    0x00, 0x00, 0x00, 0x00, 0x00, 0x00, 0x00, 0x00, 0x00, 0x00, 0x57, 0xfb, 0x80, 0x8b, 0x24, 0x75,
-    0x47, 0xdb,
-];
-
-/// Tests that the pieces of three entries have 26 bytes each, and what the first one is.
-fn are_pieces(rt: &impl Abort, pieces: &[Vec<u8>]) {
-    for piece in pieces {
-        same(rt, piece.len(), 26);
-    }
-    assert!(rt; pieces.len() == 3 && ONE_ENTRY.starts_with(&pieces[0]));
-}
-
-/// The tables of a plan of three jobs.
-fn three_tables(
-    rt: &(impl Abort + AllocGlobal),
+/// Whether a plan tells of these outputs, of which these are the tables.
+fn are_outputs(
     plan: &Plan<'_, '_, Bytewise>,
-) -> Result<Vec<(u64, Vec<u8>)>, Fault> {
-    same(rt, plan.jobs(), 3);
-    let pieces = encoded(rt, plan)?;
-    are_pieces(rt, &pieces);
-    plan.assemble(rt.alloc(), pieces)
-}
-
-/// The tables of the runs of three entries, each of which is a block and an output.
-fn tables_of_three(
-    rt: &(impl Abort + AllocGlobal),
-    runs: &[RangeRun<'_>],
-) -> Result<Vec<(u64, Vec<u8>)>, Fault> {
-    let options = Options {
-        block_size: 1,
-        restart_interval: 16,
-        file_size: 1,
-    };
-    let plan = plan_of(rt, runs, &[], options, 5)?;
-    three_tables(rt, &plan)
-}
-
-/// Tests a table of one entry, and its number.
-fn is_table(rt: &(impl Abort + AllocGlobal), table: &(u64, Vec<u8>), number: u64) {
-    same(rt, table.0, number);
-    same(rt, table.1.len(), 114);
-    assert!(rt; check::<Bytewise>(rt.alloc(), &table.1).is_ok());
-}
-
-/// Tests the tables of three entries.
-fn are_tables(rt: &(impl Abort + AllocGlobal), tables: &[(u64, Vec<u8>)]) {
-    for (table, number) in tables.iter().zip(&[5, 6, 7]) {
-        is_table(rt, table, *number);
+    tables: &[(u64, Vec<u8>)],
+    outputs: &[Output],
+) -> bool {
+    if plan.len() != outputs.len() || tables.len() != outputs.len() {
+        return false;
     }
-    assert!(rt; tables.len() == 3 && tables[0].1.as_slice() == ONE_ENTRY.as_slice());
+    for place in 0..plan.len() {
+        let meta = plan.output(place);
+        let table = &tables[place];
+        let output = &outputs[place];
+        let told = (meta.number, meta.entries, meta.blocks, meta.len);
+        if told != (output.0, output.1, output.2, output.3.len() as u64)
+            || table.0 != output.0
+            || table.1.as_slice() != output.3
+        {
+            return false;
+        }
+    }
+    plan.is_empty() == outputs.is_empty()
 }
 
-/// The tables of a table of three entries, which are merged in two ranges.
-fn tables_of(rt: &(impl Abort + AllocGlobal), bytes: &[u8]) -> Result<Vec<(u64, Vec<u8>)>, Fault> {
-    let inputs = no_inputs(rt)?;
-    let runs = runs_of(rt, bytes, Some(b"b"), &inputs)?;
-    tables_of_three(rt, &runs)
+/// Whether the first piece has so many bytes, with which the table of the first output begins.
+fn begins(pieces: &[Vec<u8>], outputs: &[Output], len: usize) -> bool {
+    match (pieces.first(), outputs.first()) {
+        (Some(piece), Some(output)) => piece.len() == len && output.3.starts_with(piece),
+        (None, None) => true,
+        _ => false,
+    }
 }
 
-#[test]
-fn pieces_make_the_tables(rt: HostRuntime) -> Result<(), Fault> {
-    let bytes = written(&rt, ABC, b"x")?;
-    are_tables(&rt, &tables_of(&rt, &bytes)?);
-    Ok(())
-}
-
-/// The tables of a plan.
-fn assembled(
-    rt: &(impl Abort + AllocGlobal),
+/// Whether a plan has these outputs, of so many pieces, of which the first has so many bytes.
+fn has_outputs(
+    alloc: Global,
     plan: &Plan<'_, '_, Bytewise>,
-) -> Result<Vec<(u64, Vec<u8>)>, Fault> {
-    let pieces = encoded(rt, plan)?;
-    plan.assemble(rt.alloc(), pieces)
+    outputs: &[Output],
+    (count, len): (usize, usize),
+) -> Result<bool, Fault> {
+    let pieces = encoded(alloc, plan)?;
+    if pieces.len() != count || !begins(&pieces, outputs, len) {
+        return Ok(false);
+    }
+    Ok(are_outputs(plan, &plan.assemble(alloc, pieces)?, outputs))
 }
 
-/// The tables of runs, with a data block for each entry and outputs that end at 80 bytes of these.
-fn tables(
-    rt: &(impl Abort + AllocGlobal),
+/// Whether a plan is this one.
+fn is_plan(alloc: Global, plan: &Plan<'_, '_, Bytewise>, wanted: Answer) -> Result<bool, Fault> {
+    match wanted {
+        Answer::Outputs(outputs, pieces) => has_outputs(alloc, plan, outputs, pieces),
+        Answer::Length(len) => Ok(plan.len() == 1 && plan.output(0).len == len),
+        Answer::Refused(_) => Ok(false),
+    }
+}
+
+/// Whether the plan of runs is the one that a row has to have.
+fn is_planned(
+    alloc: Global,
+    row: &Row<'_>,
     runs: &[RangeRun<'_>],
     inputs: &Inputs,
-) -> Result<Vec<(u64, Vec<u8>)>, Fault> {
-    let options = Options {
-        block_size: 1,
-        restart_interval: 16,
-        file_size: 80,
-    };
-    let plan = plan_of(rt, runs, &inputs.grandparents, options, 5)?;
-    assembled(rt, &plan)
-}
-
-/// Whether two answers are the same, or one of them is refused for want of memory.
-fn are_same(
-    first: Result<Vec<(u64, Vec<u8>)>, Fault>,
-    second: Result<Vec<(u64, Vec<u8>)>, Fault>,
-) -> bool {
-    match (first, second) {
-        (Ok(first), Ok(second)) => first == second,
-        (Err(fault), Ok(_)) | (Ok(_), Err(fault)) => fault.name == FaultName::Memory,
-        (Err(_), Err(_)) => false,
+) -> Result<bool, Fault> {
+    let sizes = (row.block_size, row.file_size, row.first_number);
+    match plan_of(alloc, runs, inputs, sizes) {
+        Ok(plan) => is_plan(alloc, &plan, row.answer),
+        Err(fault) => Ok(matches!(row.answer, Answer::Refused(name) if fault == Fault::of(name))),
     }
 }
 
-/// Whether the tables of runs are the same when they are asked for again, or one answer is refused for want of memory.
-fn are_same_again(rt: &(impl Abort + AllocGlobal), runs: &[RangeRun<'_>], inputs: &Inputs) -> bool {
-    are_same(tables(rt, runs, inputs), tables(rt, runs, inputs))
+/// Whether a row's plan is the one that it has to have.
+fn has_answer(alloc: Global, row: &Row<'_>) -> Result<bool, Fault> {
+    let inputs = picked(alloc, row.files)?;
+    let runs = runs_of(alloc, row, &inputs)?;
+    is_planned(alloc, row, &runs, &inputs)
 }
 
-/// The same of the two runs of a table over three grandparents.
-fn are_same_again_of(rt: &(impl Abort + AllocGlobal), bytes: &[u8]) -> Result<bool, Fault> {
-    let inputs = inputs(rt, THREE)?;
-    let runs = runs_of(rt, bytes, Some(b"b"), &inputs)?;
-    Ok(are_same_again(rt, &runs, &inputs))
+/// The table of one entry with a value of 2^20 bytes.
+fn long_table(alloc: Global) -> Result<Vec<u8>, Fault> {
+    let value = vec![in alloc; 7u8; 1 << 20]?;
+    let mut bytes = Vec::from_slice(alloc, LONG_HEAD)?;
+    bytes.extend_from_slice(&value)?;
+    bytes.extend_from_slice(LONG_TAIL)?;
+    Ok(bytes)
 }
 
-// With `rt try --test --fail-alloc N` the Nth growth is refused; without it, none is.
+/// Whether the plan of so many entries of 2^20 bytes each is this one.
+fn has_answer_repeated(alloc: Global, count: usize, answer: Answer) -> Result<bool, Fault> {
+    let table = long_table(alloc)?;
+    let ranges = vec![in alloc; ALL; count]?;
+    let row = Row {
+        table: &table,
+        ranges: &ranges,
+        answer,
+        ..REPEATED
+    };
+    has_answer(alloc, &row)
+}
+
+/// How many bytes an output of 1,023 entries of 2^20 bytes has.
+///
+/// Each entry has a data block of 2^20 + 22 bytes, with its trailer 2^20 + 27. The index has entries of 15 bytes and the spelling
+/// of the offset: one byte for the first, three for the second, four for 254 and five for 767.
+const LONGEST: u64 = 1_072_745_231;
+
+/// Whether an output may have 1,023 such entries, and not one more: it has at most 2^30 bytes.
+fn are_limited(alloc: Global) -> Result<bool, Fault> {
+    let longest = has_answer_repeated(alloc, 1_023, Answer::Length(LONGEST))?;
+    let longer = has_answer_repeated(alloc, 1_024, Answer::Refused(FaultName::TooLarge))?;
+    Ok(longest && longer)
+}
+
 #[test]
-fn a_refused_growth_is_memory(rt: HostRuntime) -> Result<(), Fault> {
-    let bytes = written(&rt, SIX, b"x")?;
-    assert!(rt; are_same_again_of(&rt, &bytes)?);
+fn plans_and_their_tables(rt: HostRuntime) -> Result<(), Fault> {
+    for row in ROWS {
+        assert!(rt; has_answer(rt.alloc(), row)?, "{}", row.name);
+    }
+    assert!(rt; are_limited(rt.alloc())?);
     Ok(())
 }

@@ -4,6 +4,8 @@
 #[cfg(test)]
 mod encoding;
 #[cfg(test)]
-mod ends;
+mod rows;
 #[cfg(test)]
-mod sources;
+mod runs;
+#[cfg(test)]
+mod tables;

@@ -4,6 +4,6 @@ use Rattle.cut.specs.Planning.{lists_in}
 use Rattle.cut_tests.proofs.encoding.encoded.Given as goal
 
 abbrev pub invariant-loop-job : goal.invariant-loop-job
-invariant-loop-job g l =
+invariant-loop-job l =
     (map (λ p. p.items) l.pieces.items ≡ take l.job (encoded l.plan.options (lists_in l.plan.outputs)))
     × (l.job-end ≡ jobs l.plan.options (lists_in l.plan.outputs))

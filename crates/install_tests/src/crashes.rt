@@ -3,16 +3,21 @@
 use folder::{Folder, FolderFault, Shelf, ShelfCall, ShelfStep};
 
 /// The calls of a moment, of which the newest is first. At an even moment half as many are done; at an odd one the crash comes
-/// inside the call that follows, which is then among them.
-pub(crate) fn made_at(steps: &[ShelfStep], moment: usize) -> &[ShelfStep] {
+/// inside the call that follows, which is then among them. None where a crash leaves what it leaves at the moment before: a
+/// call that makes a file or renames one counts from inside it on, a sync of the folder once it is done, and that of a file
+/// with the next one.
+pub(crate) fn made_at(steps: &[ShelfStep], moment: usize) -> Option<&[ShelfStep]> {
     let taken = moment.saturating_add(1) / 2;
     let (_later, made) = steps.split_at(steps.len().saturating_sub(taken));
-    match made.split_first() {
-        // A sync of the folder that is under way keeps nothing.
-        Some((newest, older)) if moment % 2 == 1 && matches!(newest.call, ShelfCall::SyncFolder) =>
-            { older }
-        _ => made,
-    }
+    let is_another = match made.first() {
+        Some(newest) => match newest.call {
+            ShelfCall::Create(_, _) | ShelfCall::Rename(_, _) => moment % 2 == 1,
+            ShelfCall::SyncFolder => moment % 2 == 0,
+            ShelfCall::Sync(_) => false,
+        },
+        None => true,
+    };
+    is_another.then_some(made)
 }
 
 /// Whether a crash leaves all of a call, behind which these were made, the newest of which is first: what it writes was synced,

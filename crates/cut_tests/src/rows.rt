@@ -10,9 +10,7 @@ pub(crate) const ALL: Range<'static> = Range {
     upper: None,
 };
 
-/// One range, and three, which part at the dropped key and at a stop.
-const WHOLE: &[Range<'static>] = &[ALL];
-
+/// Three ranges, which part at the dropped key and at a stop.
 const AT_C_AND_F: &[Range<'static>] = &[
     Range {
         lower: None,
@@ -69,7 +67,7 @@ const DROPPED: Row<'static> = Row {
     name: "a stop at a dropped key",
     files: DROPPED_FILES,
     table: DROPPED_TABLE,
-    ranges: WHOLE,
+    ranges: AT_C_AND_F,
     block_size: 4_096,
     file_size: 10,
     first_number: 5,
@@ -112,11 +110,6 @@ const NOTHING: Row<'static> = Row {
 pub(crate) const ROWS: &[Row<'static>] = &[
     DROPPED,
     Row {
-        name: "a stop at a dropped key, in three ranges",
-        ranges: AT_C_AND_F,
-        ..DROPPED
-    },
-    Row {
         name: "a stop between two versions",
         files: WAITING_FILES,
         table: A_F_F_G,
@@ -128,13 +121,6 @@ pub(crate) const ROWS: &[Row<'static>] = &[
         name: "three versions and another user key",
         table: VERSIONS_TABLE,
         answer: Answer::Outputs(&[(5, 3, 3, U_APART), (6, 1, 1, V)], (4, 26)),
-        ..EACH
-    },
-    Row {
-        name: "an open block, which is not counted",
-        block_size: 4_096,
-        file_size: 10,
-        answer: Answer::Outputs(&[(5, 3, 1, A_B_C)], (1, 52)),
         ..EACH
     },
     NOTHING,

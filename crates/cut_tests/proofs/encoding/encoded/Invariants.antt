@@ -1,4 +1,4 @@
-use Rattle.std.proofs.Common.{◌≡◌, ◌≤◌, map, take}
+use Rattle.std.proofs.Common.{◌≡◌, map, take}
 use Rattle.cut.specs.Plan.{jobs, encoded}
 use Rattle.cut.specs.Planning.{lists_in}
 use Rattle.cut_tests.proofs.encoding.encoded.Given as goal

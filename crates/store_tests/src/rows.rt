@@ -12,6 +12,7 @@ pub(crate) type Files = &'static [(&'static str, &'static [u8])];
 #[derive(Clone, Copy)]
 pub(crate) struct Row {
     pub name: &'static str,
+    /// No bytes stand for `ONE_FILE`, and for `TWO_ENTRIES` as file 7.
     pub manifest: &'static [u8],
     pub seven: &'static [u8],
     pub eight: &'static [u8],
@@ -23,9 +24,6 @@ pub(crate) struct Row {
 
 /// What CURRENT holds before the compaction.
 pub(crate) const CURRENT: &[u8] = b"MANIFEST-000005\n";
-
-/// CURRENT as it was.
-pub(crate) const KEPT: Files = &[("CURRENT", CURRENT)];
 
 /// CURRENT of manifest 9.
 const NINE: (&str, &[u8]) = ("CURRENT", b"MANIFEST-000009\n");
@@ -73,23 +71,21 @@ const GREATEST: Settings<'static> = Settings {
 
 /// A log of one record: the comparator, log 3, previous log 0, next file 9, last sequence 4, and file 7 of 125 bytes at level 1,
 /// whose keys are all of `u`.
-const ONE_FILE: &[u8] =
+pub(crate) const ONE_FILE: &[u8] =
     b"\x23\x1f\x47\xbe\x3c\0\x01\x01\x1aleveldb.BytewiseComparator\x02\x03\x09\0\x03\x09\x04\x04\x07\x01\x07\x7d\x09u\0\x04\0\0\0\0\0\0\x09u\x01\x02\0\0\0\0\0\0";
 
 /// The table of a deletion of `u` at 4 and a value `x` of it at 2.
-const TWO_ENTRIES: &[u8] =
+pub(crate) const TWO_ENTRIES: &[u8] =
     b"\0\x09\0u\0\x04\0\0\0\0\0\0\x01\x08\x01\x01\x02\0\0\0\0\0\0x\0\0\0\0\x01\0\0\0\0\xef\xe0\xe5\x28\0\0\0\0\x01\0\0\0\0\xc0\xf2\xa1\xb0\0\x09\x02u\x01\x02\0\0\0\0\0\0\0\x20\0\0\0\0\x01\0\0\0\0\x0a\xb0\x5c\x0c\x25\x08\x32\x16\0\0\0\0\0\0\0\0\0\0\0\0\0\0\0\0\0\0\0\0\0\0\0\0\0\0\0\0\0\0\0\0\0\0\0\0\x57\xfb\x80\x8b\x24\x75\x47\xdb";
 
-/// A log of two records: the comparator and file 7, and then log 3, previous log 0, next file 10, last sequence 4, the compact
-/// pointer of level 1 at `u` at 2, and file 7 deleted.
-const NOTHING_LEFT: &[u8] =
-    b"\x93\xd7\x68\x1c\x34\0\x01\x01\x1aleveldb.BytewiseComparator\x07\x01\x07\x7d\x09u\0\x04\0\0\0\0\0\0\x09u\x01\x02\0\0\0\0\0\0\x64\xcd\xa2\xed\x17\0\x01\x02\x03\x09\0\x03\x0a\x04\x04\x05\x01\x09u\x01\x02\0\0\0\0\0\0\x06\x01\x07";
+/// The lines of the compaction of level 1 of the folder of that one file, which drops both entries.
+pub(crate) const LINES: &str = "deleted 1 7\ninstalled MANIFEST-000009\n";
 
-/// Level 1 of the folder of that one file is compacted, and both entries are dropped.
-pub(crate) const DELETED: Row = Row {
-    name: "a deletion",
-    manifest: ONE_FILE,
-    seven: TWO_ENTRIES,
+/// That compaction.
+pub(crate) const PLAIN: Row = Row {
+    name: "",
+    manifest: b"",
+    seven: b"",
     eight: b"",
     level: 1,
     settings: DEFAULTS,
@@ -97,8 +93,16 @@ pub(crate) const DELETED: Row = Row {
     left: &[NINE],
 };
 
-/// The lines of that compaction.
-pub(crate) const LINES: &str = "deleted 1 7\ninstalled MANIFEST-000009\n";
+/// One that is refused, and leaves CURRENT as it was.
+const REFUSED: Row = Row {
+    left: &[("CURRENT", CURRENT)],
+    ..PLAIN
+};
+
+/// A log of two records: the comparator and file 7, and then log 3, previous log 0, next file 10, last sequence 4, the compact
+/// pointer of level 1 at `u` at 2, and file 7 deleted.
+const NOTHING_LEFT: &[u8] =
+    b"\x93\xd7\x68\x1c\x34\0\x01\x01\x1aleveldb.BytewiseComparator\x07\x01\x07\x7d\x09u\0\x04\0\0\0\0\0\0\x09u\x01\x02\0\0\0\0\0\0\x64\xcd\xa2\xed\x17\0\x01\x02\x03\x09\0\x03\x0a\x04\x04\x05\x01\x09u\x01\x02\0\0\0\0\0\0\x06\x01\x07";
 
 /// The manifest of that folder, but with next file 2^64 - 1, 2^64 - 2 and 2^64 - 3.
 const AT_END: &[u8] =
@@ -193,110 +197,6 @@ const ABOVE_LAST: Settings<'static> = Settings {
     ..DEFAULTS
 };
 
-/// A manifest in place of that one, a level, settings, and what the compaction tells.
-pub(crate) type Asked = (
-    &'static str,
-    &'static [u8],
-    u64,
-    Settings<'static>,
-    Result<&'static str, FaultName>,
-);
-
-/// The settings at their limits and past them, and the order of the refusals, also where few numbers are left.
-pub(crate) const ASKED: &[Asked] = &[
-    ("the least settings", ONE_FILE, 1, SMALLEST, Ok(LINES)),
-    ("the greatest settings", ONE_FILE, 1, GREATEST, Ok(LINES)),
-    ("the highest snapshot", ONE_FILE, 1, HIGHEST, Ok(LINES)),
-    ("the last sequence, listed", ONE_FILE, 1, LAST, Ok(LINES)),
-    ("level 6", ONE_FILE, 6, NONE_OF_BOTH, Err(FaultName::Level)),
-    ("no input", ONE_FILE, 2, DEFAULTS, Err(FaultName::NoInput)),
-    (
-        "no input first",
-        AT_END,
-        2,
-        NONE_OF_BOTH,
-        Err(FaultName::NoInput),
-    ),
-    (
-        "no ranges",
-        AT_END,
-        1,
-        NONE_OF_BOTH,
-        Err(FaultName::SplitCount),
-    ),
-    (
-        "too many ranges",
-        ONE_FILE,
-        1,
-        MANY_RANGES,
-        Err(FaultName::SplitCount),
-    ),
-    ("no number", AT_END, 1, NO_WORKERS, Err(FaultName::Numbers)),
-    (
-        "no workers",
-        ONE_FILE,
-        1,
-        NO_WORKERS,
-        Err(FaultName::Workers),
-    ),
-    (
-        "too many workers",
-        ONE_FILE,
-        1,
-        MANY_WORKERS,
-        Err(FaultName::Workers),
-    ),
-    (
-        "too small blocks",
-        ONE_FILE,
-        1,
-        NO_BLOCKS,
-        Err(FaultName::Options),
-    ),
-    (
-        "too large blocks",
-        ONE_FILE,
-        1,
-        LARGE_BLOCKS,
-        Err(FaultName::Options),
-    ),
-    (
-        "too small files",
-        ONE_FILE,
-        1,
-        NO_FILES,
-        Err(FaultName::Options),
-    ),
-    (
-        "too large files",
-        ONE_FILE,
-        1,
-        LARGE_FILES,
-        Err(FaultName::Options),
-    ),
-    (
-        "too high a snapshot",
-        ONE_FILE,
-        1,
-        TOO_HIGH,
-        Err(FaultName::Snapshot),
-    ),
-    (
-        "too high a listed one",
-        ONE_FILE,
-        1,
-        ABOVE_LAST,
-        Err(FaultName::SnapshotList),
-    ),
-    (
-        "no number for an output",
-        BEFORE_END,
-        1,
-        KEEPS,
-        Err(FaultName::Numbers),
-    ),
-];
-
 /// The manifest of that folder with file 8 of level 3 too, which is that of `t` and `v` at 1.
 const FILE_ABOVE: &[u8] =
     b"\xb3\xf7\x8e\x0e\x54\0\x01\x01\x1aleveldb.BytewiseComparator\x02\x03\x09\0\x03\x09\x04\x04\x07\x01\x07\x7d\x09u\0\x04\0\0\0\0\0\0\x09u\x01\x02\0\0\0\0\0\0\x07\x03\x08\x7f\x09t\x01\x01\0\0\0\0\0\0\x09v\x01\x01\0\0\0\0\0\0";
@@ -365,14 +265,131 @@ const SHORTLEX: &[u8] =
 const AA: &[u8] =
     b"\0\x0a\x01aa\x01\x01\0\0\0\0\0\0x\0\0\0\0\x01\0\0\0\0\xd4\x48\x7a\x14\0\0\0\0\x01\0\0\0\0\xc0\xf2\xa1\xb0\0\x0a\x02aa\x01\x01\0\0\0\0\0\0\0\x16\0\0\0\0\x01\0\0\0\0\xfc\x09\x1b\x5d\x1b\x08\x28\x17\0\0\0\0\0\0\0\0\0\0\0\0\0\0\0\0\0\0\0\0\0\0\0\0\0\0\0\0\0\0\0\0\0\0\0\0\x57\xfb\x80\x8b\x24\x75\x47\xdb";
 
-/// What tables and manifests are left.
-pub(crate) const WRITTEN: &[Row] = &[
+/// The settings at their limits and past them, and the order of the refusals, also where few numbers are left; and what tables and
+/// manifests are left.
+pub(crate) const ROWS: &[Row] = &[
+    Row {
+        name: "the least settings",
+        settings: SMALLEST,
+        ..PLAIN
+    },
+    Row {
+        name: "the greatest settings",
+        settings: GREATEST,
+        ..PLAIN
+    },
+    Row {
+        name: "the highest snapshot",
+        settings: HIGHEST,
+        ..PLAIN
+    },
+    Row {
+        name: "the last sequence, listed",
+        settings: LAST,
+        ..PLAIN
+    },
+    Row {
+        name: "level 6",
+        level: 6,
+        settings: NONE_OF_BOTH,
+        answer: Err(FaultName::Level),
+        ..REFUSED
+    },
+    Row {
+        name: "no input",
+        level: 2,
+        answer: Err(FaultName::NoInput),
+        ..REFUSED
+    },
+    Row {
+        name: "no input first",
+        manifest: AT_END,
+        level: 2,
+        settings: NONE_OF_BOTH,
+        answer: Err(FaultName::NoInput),
+        ..REFUSED
+    },
+    Row {
+        name: "no ranges",
+        manifest: AT_END,
+        settings: NONE_OF_BOTH,
+        answer: Err(FaultName::SplitCount),
+        ..REFUSED
+    },
+    Row {
+        name: "too many ranges",
+        settings: MANY_RANGES,
+        answer: Err(FaultName::SplitCount),
+        ..REFUSED
+    },
+    Row {
+        name: "no number",
+        manifest: AT_END,
+        settings: NO_WORKERS,
+        answer: Err(FaultName::Numbers),
+        ..REFUSED
+    },
+    Row {
+        name: "no workers",
+        settings: NO_WORKERS,
+        answer: Err(FaultName::Workers),
+        ..REFUSED
+    },
+    Row {
+        name: "too many workers",
+        settings: MANY_WORKERS,
+        answer: Err(FaultName::Workers),
+        ..REFUSED
+    },
+    Row {
+        name: "too small blocks",
+        settings: NO_BLOCKS,
+        answer: Err(FaultName::Options),
+        ..REFUSED
+    },
+    Row {
+        name: "too large blocks",
+        settings: LARGE_BLOCKS,
+        answer: Err(FaultName::Options),
+        ..REFUSED
+    },
+    Row {
+        name: "too small files",
+        settings: NO_FILES,
+        answer: Err(FaultName::Options),
+        ..REFUSED
+    },
+    Row {
+        name: "too large files",
+        settings: LARGE_FILES,
+        answer: Err(FaultName::Options),
+        ..REFUSED
+    },
+    Row {
+        name: "too high a snapshot",
+        settings: TOO_HIGH,
+        answer: Err(FaultName::Snapshot),
+        ..REFUSED
+    },
+    Row {
+        name: "too high a listed snapshot",
+        settings: ABOVE_LAST,
+        answer: Err(FaultName::SnapshotList),
+        ..REFUSED
+    },
+    Row {
+        name: "no number for an output",
+        manifest: BEFORE_END,
+        settings: KEEPS,
+        answer: Err(FaultName::Numbers),
+        ..REFUSED
+    },
     Row {
         name: "one number",
         manifest: BEFORE_END,
         answer: Ok("deleted 1 7\ninstalled MANIFEST-18446744073709551614\n"),
         left: &[("CURRENT", b"MANIFEST-18446744073709551614\n")],
-        ..DELETED
+        ..PLAIN
     },
     Row {
         name: "two numbers and an output",
@@ -385,12 +402,12 @@ pub(crate) const WRITTEN: &[Row] = &[
             ("CURRENT", b"MANIFEST-18446744073709551613\n"),
             ("18446744073709551614.ldb", TWO_ENTRIES),
         ],
-        ..DELETED
+        ..PLAIN
     },
     Row {
         name: "a deletion, and its manifest",
         left: &[NINE, ("MANIFEST-000009", NOTHING_LEFT)],
-        ..DELETED
+        ..PLAIN
     },
     Row {
         name: "a deletion that a deeper file keeps",
@@ -402,7 +419,7 @@ pub(crate) const WRITTEN: &[Row] = &[
             ("MANIFEST-000009", DELETION_LEFT),
             ("000010.ldb", U4_DELETED),
         ],
-        ..DELETED
+        ..PLAIN
     },
     Row {
         name: "a boundary file",
@@ -415,7 +432,7 @@ pub(crate) const WRITTEN: &[Row] = &[
             ("MANIFEST-000009", BOUNDARY_LEFT),
             ("000010.ldb", U10),
         ],
-        ..DELETED
+        ..PLAIN
     },
     Row {
         name: "inputs told by level, and not by number",
@@ -424,7 +441,7 @@ pub(crate) const WRITTEN: &[Row] = &[
         eight: U9,
         answer: Ok("output 10 114\ndeleted 1 8\ndeleted 2 7\ninstalled MANIFEST-000009\n"),
         left: &[NINE, ("000010.ldb", U9)],
-        ..DELETED
+        ..PLAIN
     },
     Row {
         name: "an output for each entry",
@@ -440,7 +457,7 @@ pub(crate) const WRITTEN: &[Row] = &[
             ("000011.ldb", B),
             ("000012.ldb", C),
         ],
-        ..DELETED
+        ..PLAIN
     },
     // `b` comes before `aa`.
     Row {
@@ -450,6 +467,6 @@ pub(crate) const WRITTEN: &[Row] = &[
         settings: SMALLEST,
         answer: Ok("output 10 114\noutput 11 116\ndeleted 1 7\ninstalled MANIFEST-000009\n"),
         left: &[NINE, ("000010.ldb", B), ("000011.ldb", AA)],
-        ..DELETED
+        ..PLAIN
     },
 ];

@@ -1,6 +1,6 @@
 //! Compactions of folders in memory.
 
-use crate::rows::{ASKED, Asked, CURRENT, DEFAULTS, DELETED, Files, KEPT, LINES, Row, WRITTEN};
+use crate::rows::{CURRENT, DEFAULTS, Files, LINES, ONE_FILE, PLAIN, ROWS, Row, TWO_ENTRIES};
 use coding::{Fault, FaultName};
 use folder::{Failing, FolderFault, Shelf};
 use keep::Snapshots;
@@ -8,12 +8,17 @@ use std::test::*;
 use std::thread::Threads;
 use store::{Settings, compact_dir};
 
+/// Bytes, or others where there are none.
+fn or(bytes: &'static [u8], others: &'static [u8]) -> &'static [u8] {
+    if bytes.is_empty() { others } else { bytes }
+}
+
 /// The files of the folder of a row.
 fn files_of(row: &Row) -> [(&'static str, &'static [u8]); 4] {
     [
         ("CURRENT", CURRENT),
-        ("MANIFEST-000005", row.manifest),
-        ("000007.ldb", row.seven),
+        ("MANIFEST-000005", or(row.manifest, ONE_FILE)),
+        ("000007.ldb", or(row.seven, TWO_ENTRIES)),
         ("000008.ldb", row.eight),
     ]
 }
@@ -70,35 +75,10 @@ fn are_defaults(settings: &Settings<'_>) -> bool {
         && settings.options == DEFAULTS.options
 }
 
-/// What is asked of the folder of one file. It keeps its CURRENT where that is refused.
-fn row_of((name, manifest, level, settings, answer): Asked) -> Row {
-    Row {
-        name,
-        manifest,
-        level,
-        settings,
-        answer,
-        left: if answer.is_ok() { DELETED.left } else { KEPT },
-        ..DELETED
-    }
-}
-
-/// The first that is asked of the folder of one file and is not answered as it has to be.
-fn wrong_answer<R: AllocGlobal + Threads + Sync>(rt: &R) -> Option<&'static str> {
-    for asked in ASKED {
-        if !is_compacted(rt, &row_of(*asked)) {
-            return Some(asked.0);
-        }
-    }
-    None
-}
-
 #[test]
 fn folders_that_are_compacted(rt: HostRuntime) {
     assert!(rt; are_defaults(&Settings::default()));
-    let wrong = wrong_answer(&rt).unwrap_or("");
-    assert!(rt; wrong.is_empty(), "{wrong}");
-    for row in WRITTEN {
+    for row in ROWS {
         assert!(rt; is_compacted(&rt, row), "{}", row.name);
     }
 }
@@ -129,7 +109,7 @@ fn ends_well<R: AllocGlobal + Threads + Sync>(
     call: u64,
     (fault, is_half_done, name): (FolderFault, bool, FaultName),
 ) -> bool {
-    let row = &DELETED;
+    let row = &PLAIN;
     let files = files_of(row);
     let mut folder = Shelf::new(rt.alloc(), &files).failing(Failing {
         call,

@@ -10,10 +10,10 @@
 //!   5 and 17: at 5 the one restart of the first would not be 0, and the two of the second would not fit; at 17 it is the whole. In
 //!   that of both it stands at 5, 18 and 30: at 5 and 18 the first restart would not be 0. In that of no entry it stands at the end.
 //! - A table of fewer than 48 bytes is Short, and one that does not end with the magic is Magic, whose first byte stands in
-//!   the worked table once: 48 and 66 of 114 beginnings. So it is with the table of two entries: 48 and 77 of 125. Those of one
-//!   deletion and of three blocks are put together, and are accepted as wholes of 113 and 202 bytes. No byte of the magic is 0, and of
-//!   eight bytes of theirs one is, but for the magic and for the last checksum with the handles behind it, whose last byte is no
-//!   magic's: 48 and 65, and 48 and 154. A compaction over each of these tables answers the same, of input 0.
+//!   the worked table once: 48 and 66 of 114 beginnings. So it is with the table of two entries: 48 and 77 of 125, with that of one
+//!   deletion: 48 and 65 of 113, and with that of three blocks: 48 and 154 of 202. No byte of the magic is 0, and of eight bytes of theirs
+//!   one is, but for the magic and for the last checksum with the handles behind it, whose last byte is no magic's. A compaction over
+//!   each of these tables answers the same, of input 0.
 //! - A log may end behind each of its records. That of one empty record has one such place before its end, that of a record
 //!   of 32,754 bytes and one of 1 byte two, 0 and 32,761; a manifest of records of 52 and 8 bytes has 0 and 59. Each other
 //!   beginning ends inside a record.
@@ -22,115 +22,222 @@
 //! - CURRENT ends with a newline. A manifest without a record names no comparator; one that ends behind its first record sets
 //!   no number.
 
-use crate::calls::{Call, answer};
-use crate::counts::Counts;
-use crate::tables::{deletion_table, mended_pair, mended_table, three_blocks};
+use crate::call::Call;
+use crate::row::Part::{Bytes, Fill};
+use crate::row::{Row, Way};
 use crate::worked::{
-    BLOCK, BOTH_ENTRIES, CURRENT_FIVE, DELETION_LEFT, EMPTY_LOG, EMPTY_SNAPSHOT, FIRST_BLOCK, KEY,
-    NO_ENTRY, NOTHING_LEFT, NUMBERS, ONE_FILE, SECOND_BLOCK, TWO_LOGS,
+    A_AT_ONE, BLOCK, BOTH_ENTRIES, CURRENT_FIVE, DELETION_LEFT, EMPTY_LOG, EMPTY_SNAPSHOT,
+    FIRST_BLOCK, MANIFEST, NO_ENTRY, NOTHING_LEFT, SECOND_BLOCK, TABLE, TABLE_THREE_BLOCKS,
+    TABLE_U_DELETED, TABLE_U_TWICE, TWO_LOGS,
 };
-use anyhow::{Result, ensure};
-use coding::Fault;
-use logrec::append;
-use std::alloc::Global;
-use std::thread::Threads;
+use coding::FaultName::{Apply, Block, Comparator, EditField, Key, LogShape, Magic, Short};
 
-/// The log of these two records.
-pub fn log_of(alloc: Global, first: &[u8], second: &[u8]) -> Result<Vec<u8>, Fault> {
-    let log = append(alloc, &[], first)?;
-    append(alloc, &log, second)
-}
-
-/// Calls with each beginning of the bytes but the whole, and prints how often each answer came.
-fn sweep<R: AllocGlobal + Print + Threads + Sync>(
-    rt: &R,
-    name: &str,
-    call: Call,
-    bytes: &[u8],
-) -> Result<()> {
-    let mut counts = Counts::new(rt.alloc());
-    for end in 0..bytes.len() {
-        counts.add(answer(rt, call, &bytes[..end]))?;
-    }
-    println!(rt; "{name}: beginnings {}: {counts}", counts.total())?;
-    Ok(())
-}
-
-/// Calls with each beginning of the worked table.
-fn tables<R: AllocGlobal + Print + Threads + Sync>(rt: &R) -> Result<()> {
-    let table = mended_table(rt.alloc())?;
-    sweep(rt, "table", Call::Table, &table)?;
-    sweep(rt, "compact", Call::Compact, &table)
-}
-
-/// Calls with each beginning of the table of two entries.
-fn pairs<R: AllocGlobal + Print + Threads + Sync>(rt: &R) -> Result<()> {
-    let table = mended_pair(rt.alloc())?;
-    sweep(rt, "table of two entries", Call::Table, &table)?;
-    sweep(rt, "compact of two entries", Call::Compact, &table)
-}
-
-/// Calls with each beginning of a table that was put together of blocks, and is accepted as a whole of this length.
-fn whole_tables<R: AllocGlobal + Print + Threads + Sync>(
-    rt: &R,
-    (name, compact_name): (&str, &str),
-    table: &[u8],
-    len: usize,
-) -> Result<()> {
-    let is_whole = table.len() == len && answer(rt, Call::Table, table) == None;
-    ensure!(is_whole, "a table that is not whole");
-    sweep(rt, name, Call::Table, table)?;
-    sweep(rt, compact_name, Call::Compact, table)
-}
-
-/// Calls with each beginning of the table of one deletion, and of that of three blocks.
-fn further_tables<R: AllocGlobal + Print + Threads + Sync>(rt: &R) -> Result<()> {
-    let names = ("table of a deletion", "compact of a deletion");
-    whole_tables(rt, names, &deletion_table(rt.alloc())?, 113)?;
-    let names = ("table of three blocks", "compact of three blocks");
-    whole_tables(rt, names, &three_blocks(rt.alloc())?, 202)
-}
-
-/// Calls with each beginning of blocks.
-fn blocks<R: AllocGlobal + Print + Threads + Sync>(rt: &R) -> Result<()> {
-    sweep(rt, "block", Call::Block, &BLOCK)?;
-    sweep(rt, "block of a", Call::Block, FIRST_BLOCK)?;
-    sweep(rt, "block of b", Call::Block, SECOND_BLOCK)?;
-    sweep(rt, "block of both", Call::Block, BOTH_ENTRIES)?;
-    sweep(rt, "block of no entry", Call::Block, NO_ENTRY)
-}
-
-/// Calls with each beginning of edits.
-fn edits<R: AllocGlobal + Print + Threads + Sync>(rt: &R) -> Result<()> {
-    sweep(rt, "edit of no output", Call::Decode, NOTHING_LEFT)?;
-    sweep(rt, "edit of one output", Call::Decode, DELETION_LEFT)?;
-    sweep(rt, "edit of two log numbers", Call::Decode, TWO_LOGS)?;
-    sweep(rt, "edit of a name", Call::Decode, EMPTY_SNAPSHOT)
-}
-
-/// Calls with each beginning of a log over the end of a block.
-fn long_log<R: AllocGlobal + Print + Threads + Sync>(rt: &R) -> Result<()> {
-    let first = vec![in rt.alloc(); 7_u8; 32_754]?;
-    let log = log_of(rt.alloc(), &first, b"x")?;
-    sweep(rt, "log over a block's end", Call::Records, &log)
-}
-
-/// Calls with each beginning of a manifest.
-fn manifest<R: AllocGlobal + Print + Threads + Sync>(rt: &R) -> Result<()> {
-    let log = log_of(rt.alloc(), ONE_FILE, NUMBERS)?;
-    sweep(rt, "manifest", Call::Manifest, &log)
-}
-
-/// Calls with each beginning of all worked bytes.
-pub fn run<R: AllocGlobal + Print + Threads + Sync>(rt: &R) -> Result<()> {
-    sweep(rt, "key", Call::Key, &KEY)?;
-    blocks(rt)?;
-    tables(rt)?;
-    pairs(rt)?;
-    further_tables(rt)?;
-    sweep(rt, "log of an empty record", Call::Records, &EMPTY_LOG)?;
-    long_log(rt)?;
-    edits(rt)?;
-    sweep(rt, "CURRENT", Call::Current, CURRENT_FIVE)?;
-    manifest(rt)
-}
+/// Each beginning of worked bytes, but for the whole.
+pub const BEGINNINGS: &[Row] = &[
+    Row {
+        line: "key: beginnings 9: Key 9",
+        call: Call::Key,
+        parts: &[Bytes(&A_AT_ONE)],
+        way: Way::Beginnings,
+        steps: 9,
+        claimed: 0,
+        want: &[(Some(Key), 9)],
+    },
+    Row {
+        line: "block: beginnings 32: Block 32",
+        call: Call::Block,
+        parts: &[Bytes(BLOCK)],
+        way: Way::Beginnings,
+        steps: 32,
+        claimed: 0,
+        want: &[(Some(Block), 32)],
+    },
+    Row {
+        line: "block of a: beginnings 21: Block 21",
+        call: Call::Block,
+        parts: &[Bytes(FIRST_BLOCK)],
+        way: Way::Beginnings,
+        steps: 21,
+        claimed: 0,
+        want: &[(Some(Block), 21)],
+    },
+    Row {
+        line: "block of b: beginnings 21: Block 21",
+        call: Call::Block,
+        parts: &[Bytes(SECOND_BLOCK)],
+        way: Way::Beginnings,
+        steps: 21,
+        claimed: 0,
+        want: &[(Some(Block), 21)],
+    },
+    Row {
+        line: "block of both: beginnings 34: Block 34",
+        call: Call::Block,
+        parts: &[Bytes(BOTH_ENTRIES)],
+        way: Way::Beginnings,
+        steps: 34,
+        claimed: 0,
+        want: &[(Some(Block), 34)],
+    },
+    Row {
+        line: "block of no entry: beginnings 8: Block 8",
+        call: Call::Block,
+        parts: &[Bytes(NO_ENTRY)],
+        way: Way::Beginnings,
+        steps: 8,
+        claimed: 0,
+        want: &[(Some(Block), 8)],
+    },
+    Row {
+        line: "table: beginnings 114: Short 48, Magic 66",
+        call: Call::Table,
+        parts: &[Bytes(TABLE)],
+        way: Way::Beginnings,
+        steps: 114,
+        claimed: 0,
+        want: &[(Some(Short), 48), (Some(Magic), 66)],
+    },
+    Row {
+        line: "compact: beginnings 114: Short 48, Magic 66",
+        call: Call::Compact,
+        parts: &[Bytes(TABLE)],
+        way: Way::Beginnings,
+        steps: 114,
+        claimed: 0,
+        want: &[(Some(Short), 48), (Some(Magic), 66)],
+    },
+    Row {
+        line: "table of two entries: beginnings 125: Short 48, Magic 77",
+        call: Call::Table,
+        parts: &[Bytes(TABLE_U_TWICE)],
+        way: Way::Beginnings,
+        steps: 125,
+        claimed: 0,
+        want: &[(Some(Short), 48), (Some(Magic), 77)],
+    },
+    Row {
+        line: "compact of two entries: beginnings 125: Short 48, Magic 77",
+        call: Call::Compact,
+        parts: &[Bytes(TABLE_U_TWICE)],
+        way: Way::Beginnings,
+        steps: 125,
+        claimed: 0,
+        want: &[(Some(Short), 48), (Some(Magic), 77)],
+    },
+    Row {
+        line: "table of a deletion: beginnings 113: Short 48, Magic 65",
+        call: Call::Table,
+        parts: &[Bytes(TABLE_U_DELETED)],
+        way: Way::Beginnings,
+        steps: 113,
+        claimed: 0,
+        want: &[(Some(Short), 48), (Some(Magic), 65)],
+    },
+    Row {
+        line: "compact of a deletion: beginnings 113: Short 48, Magic 65",
+        call: Call::Compact,
+        parts: &[Bytes(TABLE_U_DELETED)],
+        way: Way::Beginnings,
+        steps: 113,
+        claimed: 0,
+        want: &[(Some(Short), 48), (Some(Magic), 65)],
+    },
+    Row {
+        line: "table of three blocks: beginnings 202: Short 48, Magic 154",
+        call: Call::Table,
+        parts: &[Bytes(TABLE_THREE_BLOCKS)],
+        way: Way::Beginnings,
+        steps: 202,
+        claimed: 0,
+        want: &[(Some(Short), 48), (Some(Magic), 154)],
+    },
+    Row {
+        line: "compact of three blocks: beginnings 202: Short 48, Magic 154",
+        call: Call::Compact,
+        parts: &[Bytes(TABLE_THREE_BLOCKS)],
+        way: Way::Beginnings,
+        steps: 202,
+        claimed: 0,
+        want: &[(Some(Short), 48), (Some(Magic), 154)],
+    },
+    Row {
+        line: "log of an empty record: beginnings 7: accepted 1, LogShape 6",
+        call: Call::Records,
+        parts: &[Bytes(EMPTY_LOG)],
+        way: Way::Beginnings,
+        steps: 7,
+        claimed: 0,
+        want: &[(None, 1), (Some(LogShape), 6)],
+    },
+    Row {
+        line: "log over a block's end: beginnings 32776: accepted 2, LogShape 32774",
+        call: Call::Records,
+        parts: &[
+            Bytes(b"\xb6d\x5c\x18\xf2\x7f\x01"),
+            Fill(7, 32_754),
+            Bytes(b"dQ\xd0\xe9\0\0\x02,t\x1b\xd8\x01\0\x04x"),
+        ],
+        way: Way::Beginnings,
+        steps: 32_776,
+        claimed: 0,
+        want: &[(None, 2), (Some(LogShape), 32_774)],
+    },
+    Row {
+        line: "edit of no output: beginnings 23: accepted 6, EditField 17",
+        call: Call::Decode,
+        parts: &[Bytes(NOTHING_LEFT)],
+        way: Way::Beginnings,
+        steps: 23,
+        claimed: 0,
+        want: &[(None, 6), (Some(EditField), 17)],
+    },
+    Row {
+        line: "edit of one output: beginnings 47: accepted 7, EditField 40",
+        call: Call::Decode,
+        parts: &[Bytes(DELETION_LEFT)],
+        way: Way::Beginnings,
+        steps: 47,
+        claimed: 0,
+        want: &[(None, 7), (Some(EditField), 40)],
+    },
+    Row {
+        line: "edit of two log numbers: beginnings 4: accepted 2, EditField 2",
+        call: Call::Decode,
+        parts: &[Bytes(TWO_LOGS)],
+        way: Way::Beginnings,
+        steps: 4,
+        claimed: 0,
+        want: &[(None, 2), (Some(EditField), 2)],
+    },
+    Row {
+        line: "edit of a name: beginnings 28: accepted 1, EditField 27",
+        call: Call::Decode,
+        parts: &[Bytes(EMPTY_SNAPSHOT)],
+        way: Way::Beginnings,
+        steps: 28,
+        claimed: 0,
+        want: &[(None, 1), (Some(EditField), 27)],
+    },
+    Row {
+        line: "CURRENT: beginnings 16: Apply 16",
+        call: Call::Current,
+        parts: &[Bytes(CURRENT_FIVE)],
+        way: Way::Beginnings,
+        steps: 16,
+        claimed: 0,
+        want: &[(Some(Apply), 16)],
+    },
+    Row {
+        line: "manifest: beginnings 74: Comparator 1, LogShape 72, Apply 1",
+        call: Call::Manifest,
+        parts: &[Bytes(MANIFEST)],
+        way: Way::Beginnings,
+        steps: 74,
+        claimed: 0,
+        want: &[
+            (Some(Comparator), 1),
+            (Some(LogShape), 72),
+            (Some(Apply), 1),
+        ],
+    },
+];

@@ -1,222 +1,284 @@
-//! Each single byte of small worked bytes changed to 0, 1, 127, 128 and 255.
+//! Each single byte of small worked bytes changed to 0, 1, 127, 128 and 255, but for the value that it has.
 //!
-//! Where the format tells each answer, the answers are counted:
+//! What has to come is told by the formats, counted place by place:
 //!
 //! - In the key, the user key and the sequence may be any: of the nine bytes only the kind's is refused, but for 0 and 1.
+//! - In the block, the key's and the values' bytes may be any, 76 changes, and the second entry may share 0 or 1 bytes. Each other length
+//!   makes its entries not end where the restarts begin, and each other restart or number of restarts is refused.
 //! - A checksum finds each change of one byte, so all that a checksum is written over, or that is one, is Trailer in a table
-//!   and LogChecksum in a log. What stands behind the handles of a footer up to the magic is free; in the magic each change
-//!   is Magic.
+//!   and LogChecksum in a log. Each handle of a footer that is changed leads to another checksum, behind the blocks, or has no reading.
+//!   What stands behind the handles up to the magic is free; in the magic each change is Magic.
+//! - In a table whose checksums are mended, lengths, restarts and their numbers are Block, types Compressed or BlockType. The data
+//!   block's key may have a lower user key or a higher sequence, so that it stays before the index key, and the index key a higher user
+//!   key, a lower sequence or the kind of a deletion; else they are Index or, by their kinds, Key. The handle in the index is as those of
+//!   the footer. The value is free, and so are the checksums, which are written over. A compaction answers the same, but for Bounds where
+//!   the entry is another.
 //! - None of the five bytes stands in a manifest's name.
 //! - The length of a log's only fragment, which is 0, is made to pass the end by each change: LogShape. So is, once the
-//!   checksum is mended, another type than FULL.
+//!   checksum is mended, another type than FULL. So it is with the lengths of a manifest's fragments, of which one alone, 14 changes,
+//!   passes the end before its checksum is tested.
+//! - Of a manifest's fields, once their checksum is mended: a tag becomes another one, EditTag, or that of a field that does not end
+//!   there, EditField. A length, a level and a kind become EditField. A number that is made to go on takes its neighbour in, so that what
+//!   stands behind it has no reading. A name of 26 bytes becomes another comparator's by the three lowest values, and no text by the two
+//!   others. A next file of 0 or 1 is not above the manifest's number: Apply. So it is with edits by themselves, where a name and a next
+//!   file are as any other.
 //!
-//! Elsewhere what has to hold of each answer is tested, and how many changes there were is printed: the refusal is one that
-//! the format has, and what is accepted means what the bytes say.
+//! Its first fragment has 59 bytes, and its second 15. Each begins with its checksum of four bytes. Behind the second's stand
+//! 08 00 01 02 03 09 00 03 09 04 04: eleven bytes, of which three have one of the five values, so that they are changed 52 times.
 
-use crate::beginnings::log_of;
-use crate::calls::{Call, answer};
-use crate::counts::{Answer, Counts};
-use crate::holding::holds;
-use crate::tables::{mend_table, mended_table};
+use crate::call::Call;
+use crate::row::Part::Bytes;
+use crate::row::{Mend, Row, Way};
 use crate::worked::{
-    BLOCK, CURRENT_FIVE, DELETION_LEFT, EMPTY_LOG, KEY, NOTHING_LEFT, NUMBERS, ONE_FILE,
+    A_AT_ONE, BLOCK, BLOCK_ENDS, CURRENT_FIVE, DELETION_LEFT, EMPTY_LOG, MANIFEST, NOTHING_LEFT,
+    TABLE,
 };
-use anyhow::{Result, ensure};
-use coding::{crc32c, mask};
-use std::alloc::Global;
-use std::ops::Range;
-use std::thread::Threads;
+use coding::FaultName::{
+    Apply, Block, BlockType, Bounds, Comparator, Compressed, EditField, EditTag, Handle, Index,
+    Key, LogChecksum, LogShape, Magic, Range, Trailer,
+};
 
-/// What a byte is changed to.
-const VALUES: [u8; 5] = [0, 1, 127, 128, 255];
-
-/// Which checksums are written anew behind a change.
-#[derive(Clone, Copy)]
-enum Mend {
-    No,
-    /// Those of the worked table.
-    Table,
-    /// That of a log's fragment that starts at this place.
-    Fragment(usize),
-}
-
-/// Writes the checksum of the fragment that begins these bytes anew, as far as its length lies within them.
-fn mend_first(bytes: &mut [u8]) {
-    if let Some((checksum, behind)) = bytes.split_first_chunk_mut::<4>() {
-        if let Some((length, rest)) = behind.split_first_chunk::<2>() {
-            let summed = usize::from(u16::from_le_bytes(*length)) + 1;
-            let summed = rest.get(0..summed).unwrap_or(rest);
-            *checksum = mask(crc32c(summed)).to_le_bytes();
-        }
-    }
-}
-
-/// Writes the checksum of a log's fragment anew, of which the start is given.
-fn mend_fragment(bytes: &mut [u8], start: usize) {
-    if start <= bytes.len() {
-        mend_first(&mut bytes[start..]);
-    }
-}
-
-/// Bytes and how they are changed.
-#[derive(Clone, Copy)]
-struct Sweep<'b> {
-    call: Call,
-    bytes: &'b [u8],
-    mend: Mend,
-}
-
-/// The bytes with the byte at a place changed to a value, and the checksums mended. None where it has that value.
-fn changed(alloc: Global, sweep: Sweep<'_>, place: usize, value: u8) -> Result<Option<Vec<u8>>> {
-    let mut changed = Vec::from_slice(alloc, sweep.bytes)?;
-    match changed.get_mut(place) {
-        Some(byte) if *byte != value => *byte = value,
-        _ => return Ok(None),
-    }
-    match sweep.mend {
-        Mend::No => {}
-        Mend::Table => mend_table(&mut changed),
-        Mend::Fragment(start) => mend_fragment(&mut changed, start),
-    }
-    Ok(Some(changed))
-}
-
-/// What is answered of changed bytes, after what has to hold of it is tested.
-fn tested<R: AllocGlobal + Threads + Sync>(rt: &R, call: Call, changed: &[u8]) -> Result<Answer> {
-    let given = answer(rt, call, changed);
-    ensure!(
-        holds(rt, call, changed, given)?,
-        "an answer that must not be"
-    );
-    Ok(given)
-}
-
-/// Calls with the byte at a place changed to each value that it has not, and counts the answers.
-fn change<R: AllocGlobal + Threads + Sync>(
-    rt: &R,
-    sweep: Sweep<'_>,
-    place: usize,
-    counts: &mut Counts,
-) -> Result<()> {
-    for value in VALUES {
-        if let Some(changed) = changed(rt.alloc(), sweep, place, value)? {
-            counts.add(tested(rt, sweep.call, &changed)?)?;
-        }
-    }
-    Ok(())
-}
-
-/// Changes each byte in these places, and answers how often each answer came.
-fn changes<R: AllocGlobal + Threads + Sync>(
-    rt: &R,
-    sweep: Sweep<'_>,
-    places: Range<usize>,
-) -> Result<Counts> {
-    let mut counts = Counts::new(rt.alloc());
-    for place in places {
-        change(rt, sweep, place, &mut counts)?;
-    }
-    Ok(counts)
-}
-
-/// Changes each byte in these places, and prints how often each answer came.
-fn counted<R: AllocGlobal + Print + Threads + Sync>(
-    rt: &R,
-    name: &str,
-    sweep: Sweep<'_>,
-    places: Range<usize>,
-) -> Result<()> {
-    let counts = changes(rt, sweep, places)?;
-    println!(rt; "{name}: changes {}: {counts}", counts.total())?;
-    Ok(())
-}
-
-/// Changes each byte in these places, and prints how many changes there were.
-fn held<R: AllocGlobal + Print + Threads + Sync>(
-    rt: &R,
-    name: &str,
-    sweep: Sweep<'_>,
-    places: Range<usize>,
-) -> Result<()> {
-    let counts = changes(rt, sweep, places)?;
-    println!(rt; "{name}: changes {}: held", counts.total())?;
-    Ok(())
-}
-
-/// Changes without a checksum mended.
-fn plain(call: Call, bytes: &[u8]) -> Sweep<'_> {
-    Sweep {
-        call,
-        bytes,
-        mend: Mend::No,
-    }
-}
-
-/// Changes with the checksums mended behind each.
-fn mending<'b>(sweep: Sweep<'b>, mend: Mend) -> Sweep<'b> {
-    Sweep { mend, ..sweep }
-}
-
-/// Changes the bytes of the worked table, as a call takes it.
-fn table_changes<R: AllocGlobal + Print + Threads + Sync>(
-    rt: &R,
-    name: &str,
-    damaged: Sweep<'_>,
-) -> Result<()> {
-    counted(rt, name, damaged, 0..66)?;
-    held(rt, name, damaged, 66..70)?;
-    counted(rt, name, damaged, 70..106)?;
-    counted(rt, name, damaged, 106..114)?;
-    held(rt, name, mending(damaged, Mend::Table), 0..66)
-}
-
-/// Changes the bytes of the worked table.
-fn tables<R: AllocGlobal + Print + Threads + Sync>(rt: &R) -> Result<()> {
-    let table = mended_table(rt.alloc())?;
-    table_changes(rt, "table", plain(Call::Table, &table))?;
-    table_changes(rt, "compact", plain(Call::Compact, &table))
-}
-
-/// Changes the bytes of a manifest, as a call takes it. Its first fragment has 59 bytes, and its second 15. Each begins with its
-/// checksum of four bytes. Behind the second's stand 08 00 01 02 03 09 00 03 09 04 04: eleven bytes, of which three have one of the
-/// five values, so that they are changed 52 times.
-fn manifest_changes<R: AllocGlobal + Print + Threads + Sync>(
-    rt: &R,
-    name: &str,
-    damaged: Sweep<'_>,
-) -> Result<()> {
-    held(rt, name, damaged, 0..74)?;
-    held(rt, name, mending(damaged, Mend::Fragment(0)), 4..59)?;
-    held(rt, name, mending(damaged, Mend::Fragment(59)), 63..74)
-}
-
-/// Changes the bytes of logs.
-fn logs<R: AllocGlobal + Print + Threads + Sync>(rt: &R) -> Result<()> {
-    let damaged = plain(Call::Records, &EMPTY_LOG);
-    counted(rt, "log", damaged, 0..7)?;
-    counted(rt, "log, mended", mending(damaged, Mend::Fragment(0)), 4..7)?;
-    let log = log_of(rt.alloc(), ONE_FILE, NUMBERS)?;
-    manifest_changes(rt, "manifest's log", plain(Call::Records, &log))?;
-    manifest_changes(rt, "manifest", plain(Call::Manifest, &log))
-}
-
-/// Changes each byte of the worked bytes.
-pub fn run<R: AllocGlobal + Print + Threads + Sync>(rt: &R) -> Result<()> {
-    counted(rt, "key", plain(Call::Key, &KEY), 0..9)?;
-    held(rt, "block", plain(Call::Block, &BLOCK), 0..32)?;
-    tables(rt)?;
-    logs(rt)?;
-    held(
-        rt,
-        "edit of no output",
-        plain(Call::Decode, NOTHING_LEFT),
-        0..23,
-    )?;
-    held(
-        rt,
-        "edit of one output",
-        plain(Call::Decode, DELETION_LEFT),
-        0..47,
-    )?;
-    counted(rt, "CURRENT", plain(Call::Current, CURRENT_FIVE), 0..16)
-}
+/// Each byte of worked bytes, changed.
+pub const CHANGES: &[Row] = &[
+    Row {
+        line: "key: changes 37: accepted 34, Key 3",
+        call: Call::Key,
+        parts: &[Bytes(&A_AT_ONE)],
+        way: Way::Changes(0, Mend::No),
+        steps: 45,
+        claimed: 0,
+        want: &[(None, 34), (Some(Key), 3)],
+    },
+    Row {
+        line: "block: changes 135: held",
+        call: Call::Block,
+        parts: &[Bytes(BLOCK)],
+        way: Way::Changes(0, Mend::No),
+        steps: 160,
+        claimed: 0,
+        want: &[(Some(Block), 57), (None, 78)],
+    },
+    Row {
+        line: "table: changes 283: Trailer 283",
+        call: Call::Table,
+        parts: &[Bytes(TABLE)],
+        way: Way::Changes(0, Mend::No),
+        steps: 330,
+        claimed: 0,
+        want: &[(Some(Trailer), 283)],
+    },
+    Row {
+        line: "table: changes 20: held",
+        call: Call::Table,
+        parts: &[Bytes(TABLE)],
+        way: Way::Changes(66, Mend::No),
+        steps: 20,
+        claimed: 0,
+        want: &[(Some(Trailer), 8), (Some(Range), 10), (Some(Handle), 2)],
+    },
+    Row {
+        line: "table: changes 144: accepted 144",
+        call: Call::Table,
+        parts: &[Bytes(TABLE)],
+        way: Way::Changes(70, Mend::No),
+        steps: 180,
+        claimed: 0,
+        want: &[(None, 144)],
+    },
+    Row {
+        line: "table: changes 39: Magic 39",
+        call: Call::Table,
+        parts: &[Bytes(TABLE)],
+        way: Way::Changes(106, Mend::No),
+        steps: 40,
+        claimed: 0,
+        want: &[(Some(Magic), 39)],
+    },
+    Row {
+        line: "table: changes 283: held",
+        call: Call::Table,
+        parts: &[Bytes(TABLE)],
+        way: Way::Changes(0, Mend::Blocks(BLOCK_ENDS)),
+        steps: 330,
+        claimed: 0,
+        want: &[
+            (Some(Block), 123),
+            (None, 99),
+            (Some(Index), 34),
+            (Some(Key), 6),
+            (Some(Compressed), 3),
+            (Some(BlockType), 9),
+            (Some(Trailer), 3),
+            (Some(Range), 2),
+            (Some(Handle), 4),
+        ],
+    },
+    Row {
+        line: "compact: changes 283: Trailer 283",
+        call: Call::Compact,
+        parts: &[Bytes(TABLE)],
+        way: Way::Changes(0, Mend::No),
+        steps: 330,
+        claimed: 0,
+        want: &[(Some(Trailer), 283)],
+    },
+    Row {
+        line: "compact: changes 20: held",
+        call: Call::Compact,
+        parts: &[Bytes(TABLE)],
+        way: Way::Changes(66, Mend::No),
+        steps: 20,
+        claimed: 0,
+        want: &[(Some(Trailer), 8), (Some(Range), 10), (Some(Handle), 2)],
+    },
+    Row {
+        line: "compact: changes 144: accepted 144",
+        call: Call::Compact,
+        parts: &[Bytes(TABLE)],
+        way: Way::Changes(70, Mend::No),
+        steps: 180,
+        claimed: 0,
+        want: &[(None, 144)],
+    },
+    Row {
+        line: "compact: changes 39: Magic 39",
+        call: Call::Compact,
+        parts: &[Bytes(TABLE)],
+        way: Way::Changes(106, Mend::No),
+        steps: 40,
+        claimed: 0,
+        want: &[(Some(Magic), 39)],
+    },
+    Row {
+        line: "compact: changes 283: held",
+        call: Call::Compact,
+        parts: &[Bytes(TABLE)],
+        way: Way::Changes(0, Mend::Blocks(BLOCK_ENDS)),
+        steps: 330,
+        claimed: 0,
+        want: &[
+            (Some(Block), 123),
+            (Some(Bounds), 29),
+            (Some(Index), 34),
+            (Some(Key), 6),
+            (None, 70),
+            (Some(Compressed), 3),
+            (Some(BlockType), 9),
+            (Some(Trailer), 3),
+            (Some(Range), 2),
+            (Some(Handle), 4),
+        ],
+    },
+    Row {
+        line: "log: changes 32: LogChecksum 24, LogShape 8",
+        call: Call::Records,
+        parts: &[Bytes(EMPTY_LOG)],
+        way: Way::Changes(0, Mend::No),
+        steps: 35,
+        claimed: 0,
+        want: &[(Some(LogChecksum), 24), (Some(LogShape), 8)],
+    },
+    Row {
+        line: "log, mended: changes 12: LogShape 12",
+        call: Call::Records,
+        parts: &[Bytes(EMPTY_LOG)],
+        way: Way::Changes(4, Mend::Fragment(0)),
+        steps: 15,
+        claimed: 0,
+        want: &[(Some(LogShape), 12)],
+    },
+    Row {
+        line: "manifest's log: changes 349: held",
+        call: Call::Records,
+        parts: &[Bytes(MANIFEST)],
+        way: Way::Changes(0, Mend::No),
+        steps: 370,
+        claimed: 0,
+        want: &[(Some(LogChecksum), 335), (Some(LogShape), 14)],
+    },
+    Row {
+        line: "manifest's log: changes 257: held",
+        call: Call::Records,
+        parts: &[Bytes(MANIFEST)],
+        way: Way::Changes(4, Mend::Fragment(0)),
+        steps: 275,
+        claimed: 0,
+        want: &[(Some(LogShape), 13), (None, 244)],
+    },
+    Row {
+        line: "manifest's log: changes 52: held",
+        call: Call::Records,
+        parts: &[Bytes(MANIFEST)],
+        way: Way::Changes(63, Mend::Fragment(59)),
+        steps: 55,
+        claimed: 0,
+        want: &[(Some(LogShape), 13), (None, 39)],
+    },
+    Row {
+        line: "manifest: changes 349: held",
+        call: Call::Manifest,
+        parts: &[Bytes(MANIFEST)],
+        way: Way::Changes(0, Mend::No),
+        steps: 370,
+        claimed: 0,
+        want: &[(Some(LogChecksum), 335), (Some(LogShape), 14)],
+    },
+    Row {
+        line: "manifest: changes 257: held",
+        call: Call::Manifest,
+        parts: &[Bytes(MANIFEST)],
+        way: Way::Changes(4, Mend::Fragment(0)),
+        steps: 275,
+        claimed: 0,
+        want: &[
+            (Some(LogShape), 13),
+            (Some(EditTag), 11),
+            (Some(EditField), 78),
+            (Some(Comparator), 78),
+            (None, 77),
+        ],
+    },
+    Row {
+        line: "manifest: changes 52: held",
+        call: Call::Manifest,
+        parts: &[Bytes(MANIFEST)],
+        way: Way::Changes(63, Mend::Fragment(59)),
+        steps: 55,
+        claimed: 0,
+        want: &[
+            (Some(LogShape), 13),
+            (Some(EditTag), 16),
+            (Some(EditField), 11),
+            (None, 9),
+            (Some(Comparator), 1),
+            (Some(Apply), 2),
+        ],
+    },
+    Row {
+        line: "edit of no output: changes 105: held",
+        call: Call::Decode,
+        parts: &[Bytes(NOTHING_LEFT)],
+        way: Way::Changes(0, Mend::No),
+        steps: 115,
+        claimed: 0,
+        want: &[(Some(EditTag), 27), (None, 60), (Some(EditField), 18)],
+    },
+    Row {
+        line: "edit of one output: changes 211: held",
+        call: Call::Decode,
+        parts: &[Bytes(DELETION_LEFT)],
+        way: Way::Changes(0, Mend::No),
+        steps: 235,
+        claimed: 0,
+        want: &[(Some(EditTag), 37), (None, 135), (Some(EditField), 39)],
+    },
+    Row {
+        line: "CURRENT: changes 80: Apply 80",
+        call: Call::Current,
+        parts: &[Bytes(CURRENT_FIVE)],
+        way: Way::Changes(0, Mend::No),
+        steps: 80,
+        claimed: 0,
+        want: &[(Some(Apply), 80)],
+    },
+];

@@ -1,32 +1,52 @@
 //! Calls over bytes that lie: what each call that takes bytes answers to bytes that were cut off, changed, or claim more than is there.
 //!
-//! [`run`] makes all calls and prints what each answers; what has to come is worked out beside them from the formats.
-//! [`print_claims`] makes those alone whose bytes claim more than is there, [`print_claims_short`] the same while there is memory for
-//! little more than the bytes, and [`print_values`] those with values of 2^24 bytes.
+//! [`run`] makes all calls and prints each row whose answers are right; what has to come is worked out from the formats and stands beside
+//! the bytes. [`print_claims`] makes those alone whose bytes claim more than is there, also while memory is short.
 //!
-//! [`UsedUp`] is memory that is taken, and [`Shortage`] all of it but for some bytes, for the programs that make calls while each request
-//! for it is refused, or most are.
+//! [`Memory`] may be taken but for some bytes, [`Held`] holds a worker back, and [`Case`] is a compaction with what has to come of it, for
+//! the program that makes calls while memory is short or refused.
 #![tactic(auto)]
 
 mod beginnings;
-mod calls;
+mod call;
+mod case;
 mod changes;
 mod claims;
-mod compactions;
-mod counts;
-mod holding;
-mod quick;
-mod requests;
+mod fault;
+mod held;
+mod limits;
+mod memory;
+mod row;
 mod rows;
-mod shortage;
-mod tables;
-mod used_up;
 pub mod worked;
 
-pub use beginnings::log_of;
-pub use claims::{print_claims, print_claims_short, print_values};
-pub use compactions::{lent, no_inputs, put};
-pub use quick::run;
-pub use shortage::Shortage;
-pub use tables::mended_table;
-pub use used_up::{LARGEST, UsedUp};
+use anyhow::Result;
+use beginnings::BEGINNINGS;
+pub use case::{Case, Meta, Want, add_file, carried, compacted, is_answer, picked, three_ranges};
+use changes::CHANGES;
+use claims::CLAIMS;
+pub use fault::wanted;
+pub use held::Held;
+use limits::LIMITS;
+pub use memory::{Memory, pieces};
+pub use row::mend_blocks;
+use row::print_rows;
+use rows::ROWS;
+use std::thread::Threads;
+
+/// Makes the calls whose bytes claim more than is there, and prints each row.
+pub fn print_claims<R: AllocGlobal + Print + Threads + Sync>(
+    rt: &R,
+    memory: &mut Memory,
+) -> Result<()> {
+    print_rows(rt, memory, CLAIMS)
+}
+
+/// Makes all calls with memory to spare, and prints each row.
+pub fn run<R: AllocGlobal + Print + Threads + Sync>(rt: &R) -> Result<()> {
+    let mut memory = Memory::ample(rt.alloc());
+    for rows in [BEGINNINGS, CHANGES, ROWS, CLAIMS, LIMITS] {
+        print_rows(rt, &mut memory, rows)?;
+    }
+    Ok(())
+}

@@ -1,219 +1,291 @@
-//! Rows of changed bytes, each with the answer that the format has for it.
+//! Changed bytes of the worked table, and few bytes, each with the answer that the format has for it.
+//!
+//! The table is that of `a` at 1 with the value `x`: its data block at 0, its metaindex block at 26, its index block at 39 and its footer
+//! at 66. Where a change is mended, the checksum of the block in which it stands is that of the changed block.
 
-use crate::calls::{Call, answer};
-use crate::counts::Answer;
-use crate::holding::holds;
-use crate::tables::{mend_table, mended_table};
-use anyhow::{Result, ensure};
-use std::thread::Threads;
+use crate::call::Call;
+use crate::row::Part::Bytes;
+use crate::row::{Row, Way};
+use crate::worked::CURRENT_FIVE;
+use coding::FaultName::{
+    Block, BlockType, Compressed, EditField, EditTag, Empty, Handle, Index, Key, LogChecksum,
+    LogShape, Missing, Range, Short, Trailer,
+};
 
-/// Bytes that are changed in the worked table: before its checksums are written anew, and behind that.
-struct Change {
-    text: &'static str,
-    mended: &'static [(usize, u8)],
-    after: &'static [(usize, u8)],
-}
-
-const CHANGES: [Change; 11] = [
-    Change {
-        text: "byte 70 is 01",
-        mended: &[],
-        after: &[(70, 1)],
-    },
-    Change {
-        text: "bytes 66, 67 are 8000",
-        mended: &[],
-        after: &[(66, 0x80), (67, 0)],
-    },
-    Change {
-        text: "byte 66 is 9a",
-        mended: &[],
-        after: &[(66, 0x9a)],
-    },
-    Change {
-        text: "bytes 68, 69 are 1a08",
-        mended: &[],
-        after: &[(68, 0x1a), (69, 8)],
-    },
-    Change {
-        text: "byte 21 is 01",
-        mended: &[],
-        after: &[(21, 1)],
-    },
-    Change {
-        text: "byte 21 is 01, mended",
-        mended: &[(21, 1)],
-        after: &[],
-    },
-    Change {
-        text: "byte 21 is 02, mended",
-        mended: &[(21, 2)],
-        after: &[],
-    },
-    Change {
-        text: "byte 43 is 02, mended, and byte 21 is 01",
-        mended: &[(43, 2)],
-        after: &[(21, 1)],
-    },
-    Change {
-        text: "bytes 51, 52 are 1a08, mended",
-        mended: &[(51, 0x1a), (52, 8)],
-        after: &[],
-    },
-    Change {
-        text: "byte 44 is 02, mended",
-        mended: &[(44, 2)],
-        after: &[],
-    },
-    Change {
-        text: "byte 44 is 00, mended",
-        mended: &[(44, 0)],
-        after: &[],
-    },
-];
-
-/// Bytes that a call gets as they are.
-struct Row {
-    call: Call,
-    text: &'static str,
-    bytes: &'static [u8],
-}
-
-const ROWS: [Row; 17] = [
+/// Changed and few bytes.
+pub const ROWS: &[Row] = &[
     Row {
+        line: "byte 70 is 01: accepted",
+        call: Call::List,
+        parts: &[Bytes(
+            b"\0\x09\x01a\x01\x01\0\0\0\0\0\0x\0\0\0\0\x01\0\0\0\0\x84\xdd\x88t\0\0\0\0\x01\0\0\0\0\xc0\xf2\xa1\xb0\0\x09\x02a\x01\x01\0\0\0\0\0\0\0\x15\0\0\0\0\x01\0\0\0\06I%\xbf\x1a\x08'\x16\x01\0\0\0\0\0\0\0\0\0\0\0\0\0\0\0\0\0\0\0\0\0\0\0\0\0\0\0\0\0\0\0\0\0\0\0W\xfb\x80\x8b$uG\xdb",
+        )],
+        way: Way::Whole,
+        steps: 1,
+        claimed: 0,
+        want: &[(None, 1)],
+    },
+    Row {
+        line: "bytes 66, 67 are 8000: Handle",
+        call: Call::List,
+        parts: &[Bytes(
+            b"\0\x09\x01a\x01\x01\0\0\0\0\0\0x\0\0\0\0\x01\0\0\0\0\x84\xdd\x88t\0\0\0\0\x01\0\0\0\0\xc0\xf2\xa1\xb0\0\x09\x02a\x01\x01\0\0\0\0\0\0\0\x15\0\0\0\0\x01\0\0\0\06I%\xbf\x80\0'\x16\0\0\0\0\0\0\0\0\0\0\0\0\0\0\0\0\0\0\0\0\0\0\0\0\0\0\0\0\0\0\0\0\0\0\0\0W\xfb\x80\x8b$uG\xdb",
+        )],
+        way: Way::Whole,
+        steps: 1,
+        claimed: 0,
+        want: &[(Some(Handle), 1)],
+    },
+    Row {
+        line: "byte 66 is 9a: Range",
+        call: Call::List,
+        parts: &[Bytes(
+            b"\0\x09\x01a\x01\x01\0\0\0\0\0\0x\0\0\0\0\x01\0\0\0\0\x84\xdd\x88t\0\0\0\0\x01\0\0\0\0\xc0\xf2\xa1\xb0\0\x09\x02a\x01\x01\0\0\0\0\0\0\0\x15\0\0\0\0\x01\0\0\0\06I%\xbf\x9a\x08'\x16\0\0\0\0\0\0\0\0\0\0\0\0\0\0\0\0\0\0\0\0\0\0\0\0\0\0\0\0\0\0\0\0\0\0\0\0W\xfb\x80\x8b$uG\xdb",
+        )],
+        way: Way::Whole,
+        steps: 1,
+        claimed: 0,
+        want: &[(Some(Range), 1)],
+    },
+    Row {
+        line: "bytes 68, 69 are 1a08: Empty",
+        call: Call::List,
+        parts: &[Bytes(
+            b"\0\x09\x01a\x01\x01\0\0\0\0\0\0x\0\0\0\0\x01\0\0\0\0\x84\xdd\x88t\0\0\0\0\x01\0\0\0\0\xc0\xf2\xa1\xb0\0\x09\x02a\x01\x01\0\0\0\0\0\0\0\x15\0\0\0\0\x01\0\0\0\06I%\xbf\x1a\x08\x1a\x08\0\0\0\0\0\0\0\0\0\0\0\0\0\0\0\0\0\0\0\0\0\0\0\0\0\0\0\0\0\0\0\0\0\0\0\0W\xfb\x80\x8b$uG\xdb",
+        )],
+        way: Way::Whole,
+        steps: 1,
+        claimed: 0,
+        want: &[(Some(Empty), 1)],
+    },
+    Row {
+        line: "byte 21 is 01: Trailer",
+        call: Call::List,
+        parts: &[Bytes(
+            b"\0\x09\x01a\x01\x01\0\0\0\0\0\0x\0\0\0\0\x01\0\0\0\x01\x84\xdd\x88t\0\0\0\0\x01\0\0\0\0\xc0\xf2\xa1\xb0\0\x09\x02a\x01\x01\0\0\0\0\0\0\0\x15\0\0\0\0\x01\0\0\0\06I%\xbf\x1a\x08'\x16\0\0\0\0\0\0\0\0\0\0\0\0\0\0\0\0\0\0\0\0\0\0\0\0\0\0\0\0\0\0\0\0\0\0\0\0W\xfb\x80\x8b$uG\xdb",
+        )],
+        way: Way::Whole,
+        steps: 1,
+        claimed: 0,
+        want: &[(Some(Trailer), 1)],
+    },
+    Row {
+        line: "byte 21 is 01, mended: Compressed",
+        call: Call::List,
+        parts: &[Bytes(
+            b"\0\x09\x01a\x01\x01\0\0\0\0\0\0x\0\0\0\0\x01\0\0\0\x01S\x01\x85v\0\0\0\0\x01\0\0\0\0\xc0\xf2\xa1\xb0\0\x09\x02a\x01\x01\0\0\0\0\0\0\0\x15\0\0\0\0\x01\0\0\0\06I%\xbf\x1a\x08'\x16\0\0\0\0\0\0\0\0\0\0\0\0\0\0\0\0\0\0\0\0\0\0\0\0\0\0\0\0\0\0\0\0\0\0\0\0W\xfb\x80\x8b$uG\xdb",
+        )],
+        way: Way::Whole,
+        steps: 1,
+        claimed: 0,
+        want: &[(Some(Compressed), 1)],
+    },
+    Row {
+        line: "byte 21 is 02, mended: BlockType",
+        call: Call::List,
+        parts: &[Bytes(
+            b"\0\x09\x01a\x01\x01\0\0\0\0\0\0x\0\0\0\0\x01\0\0\0\x02\xb2\x1bm\xd6\0\0\0\0\x01\0\0\0\0\xc0\xf2\xa1\xb0\0\x09\x02a\x01\x01\0\0\0\0\0\0\0\x15\0\0\0\0\x01\0\0\0\06I%\xbf\x1a\x08'\x16\0\0\0\0\0\0\0\0\0\0\0\0\0\0\0\0\0\0\0\0\0\0\0\0\0\0\0\0\0\0\0\0\0\0\0\0W\xfb\x80\x8b$uG\xdb",
+        )],
+        way: Way::Whole,
+        steps: 1,
+        claimed: 0,
+        want: &[(Some(BlockType), 1)],
+    },
+    Row {
+        line: "byte 43 is 02, mended, and byte 21 is 01: Key",
+        call: Call::List,
+        parts: &[Bytes(
+            b"\0\x09\x01a\x01\x01\0\0\0\0\0\0x\0\0\0\0\x01\0\0\0\x01\x84\xdd\x88t\0\0\0\0\x01\0\0\0\0\xc0\xf2\xa1\xb0\0\x09\x02a\x02\x01\0\0\0\0\0\0\0\x15\0\0\0\0\x01\0\0\0\0\xf5\xad\x96\xfd\x1a\x08'\x16\0\0\0\0\0\0\0\0\0\0\0\0\0\0\0\0\0\0\0\0\0\0\0\0\0\0\0\0\0\0\0\0\0\0\0\0W\xfb\x80\x8b$uG\xdb",
+        )],
+        way: Way::Whole,
+        steps: 1,
+        claimed: 0,
+        want: &[(Some(Key), 1)],
+    },
+    Row {
+        line: "bytes 51, 52 are 1a08, mended: Empty",
+        call: Call::List,
+        parts: &[Bytes(
+            b"\0\x09\x01a\x01\x01\0\0\0\0\0\0x\0\0\0\0\x01\0\0\0\0\x84\xdd\x88t\0\0\0\0\x01\0\0\0\0\xc0\xf2\xa1\xb0\0\x09\x02a\x01\x01\0\0\0\0\0\0\x1a\x08\0\0\0\0\x01\0\0\0\0\x8c\x98\xf2\x9b\x1a\x08'\x16\0\0\0\0\0\0\0\0\0\0\0\0\0\0\0\0\0\0\0\0\0\0\0\0\0\0\0\0\0\0\0\0\0\0\0\0W\xfb\x80\x8b$uG\xdb",
+        )],
+        way: Way::Whole,
+        steps: 1,
+        claimed: 0,
+        want: &[(Some(Empty), 1)],
+    },
+    Row {
+        line: "byte 44 is 02, mended: Index",
+        call: Call::List,
+        parts: &[Bytes(
+            b"\0\x09\x01a\x01\x01\0\0\0\0\0\0x\0\0\0\0\x01\0\0\0\0\x84\xdd\x88t\0\0\0\0\x01\0\0\0\0\xc0\xf2\xa1\xb0\0\x09\x02a\x01\x02\0\0\0\0\0\0\0\x15\0\0\0\0\x01\0\0\0\0\0h\xdb\xb2\x1a\x08'\x16\0\0\0\0\0\0\0\0\0\0\0\0\0\0\0\0\0\0\0\0\0\0\0\0\0\0\0\0\0\0\0\0\0\0\0\0W\xfb\x80\x8b$uG\xdb",
+        )],
+        way: Way::Whole,
+        steps: 1,
+        claimed: 0,
+        want: &[(Some(Index), 1)],
+    },
+    Row {
+        line: "byte 44 is 00, mended: accepted",
+        call: Call::List,
+        parts: &[Bytes(
+            b"\0\x09\x01a\x01\x01\0\0\0\0\0\0x\0\0\0\0\x01\0\0\0\0\x84\xdd\x88t\0\0\0\0\x01\0\0\0\0\xc0\xf2\xa1\xb0\0\x09\x02a\x01\0\0\0\0\0\0\0\0\x15\0\0\0\0\x01\0\0\0\0d+w\xbb\x1a\x08'\x16\0\0\0\0\0\0\0\0\0\0\0\0\0\0\0\0\0\0\0\0\0\0\0\0\0\0\0\0\0\0\0\0\0\0\0\0W\xfb\x80\x8b$uG\xdb",
+        )],
+        way: Way::Whole,
+        steps: 1,
+        claimed: 0,
+        want: &[(None, 1)],
+    },
+    Row {
+        line: "block of no bytes: Block",
         call: Call::Block,
-        text: "block of no bytes",
-        bytes: b"",
+        parts: &[],
+        way: Way::Whole,
+        steps: 1,
+        claimed: 0,
+        want: &[(Some(Block), 1)],
     },
     Row {
+        line: "block 00000000: Block",
         call: Call::Block,
-        text: "block 00000000",
-        bytes: b"\0\0\0\0",
+        parts: &[Bytes(b"\0\0\0\0")],
+        way: Way::Whole,
+        steps: 1,
+        claimed: 0,
+        want: &[(Some(Block), 1)],
     },
     Row {
+        line: "block 0000000000000000: Block",
         call: Call::Block,
-        text: "block 0000000000000000",
-        bytes: b"\0\0\0\0\0\0\0\0",
+        parts: &[Bytes(b"\0\0\0\0\0\0\0\0")],
+        way: Way::Whole,
+        steps: 1,
+        claimed: 0,
+        want: &[(Some(Block), 1)],
     },
     Row {
+        line: "table of no bytes: Short",
         call: Call::Table,
-        text: "table of no bytes",
-        bytes: b"",
+        parts: &[],
+        way: Way::Whole,
+        steps: 1,
+        claimed: 0,
+        want: &[(Some(Short), 1)],
     },
     Row {
+        line: "log of no bytes: accepted",
         call: Call::Records,
-        text: "log of no bytes",
-        bytes: b"",
+        parts: &[],
+        way: Way::Whole,
+        steps: 1,
+        claimed: 0,
+        want: &[(None, 1)],
     },
     Row {
+        line: "log 052b28430000: LogShape",
         call: Call::Records,
-        text: "log 052b28430000",
-        bytes: b"\x05\x2b\x28\x43\0\0",
+        parts: &[Bytes(b"\x05+(C\0\0")],
+        way: Way::Whole,
+        steps: 1,
+        claimed: 0,
+        want: &[(Some(LogShape), 1)],
     },
     Row {
+        line: "log 052b2843000002: LogChecksum",
         call: Call::Records,
-        text: "log 052b2843000002",
-        bytes: b"\x05\x2b\x28\x43\0\0\x02",
+        parts: &[Bytes(b"\x05+(C\0\0\x02")],
+        way: Way::Whole,
+        steps: 1,
+        claimed: 0,
+        want: &[(Some(LogChecksum), 1)],
     },
     Row {
+        line: "log 6451d0e9000002: LogShape",
         call: Call::Records,
-        text: "log 6451d0e9000002",
-        bytes: b"\x64\x51\xd0\xe9\0\0\x02",
+        parts: &[Bytes(b"dQ\xd0\xe9\0\0\x02")],
+        way: Way::Whole,
+        steps: 1,
+        claimed: 0,
+        want: &[(Some(LogShape), 1)],
     },
     Row {
+        line: "log of seven zeros: LogChecksum",
         call: Call::Records,
-        text: "log of seven zeros",
-        bytes: b"\0\0\0\0\0\0\0",
+        parts: &[Bytes(b"\0\0\0\0\0\0\0")],
+        way: Way::Whole,
+        steps: 1,
+        claimed: 0,
+        want: &[(Some(LogChecksum), 1)],
     },
     Row {
+        line: "edit of no bytes: accepted",
         call: Call::Decode,
-        text: "edit of no bytes",
-        bytes: b"",
+        parts: &[],
+        way: Way::Whole,
+        steps: 1,
+        claimed: 0,
+        want: &[(None, 1)],
     },
     Row {
+        line: "edit 08: EditTag",
         call: Call::Decode,
-        text: "edit 08",
-        bytes: b"\x08",
+        parts: &[Bytes(b"\x08")],
+        way: Way::Whole,
+        steps: 1,
+        claimed: 0,
+        want: &[(Some(EditTag), 1)],
     },
     Row {
+        line: "edit 0a: EditTag",
         call: Call::Decode,
-        text: "edit 0a",
-        bytes: b"\x0a",
+        parts: &[Bytes(b"\x0a")],
+        way: Way::Whole,
+        steps: 1,
+        claimed: 0,
+        want: &[(Some(EditTag), 1)],
     },
     Row {
+        line: "edit 0280: EditField",
         call: Call::Decode,
-        text: "edit 0280",
-        bytes: b"\x02\x80",
+        parts: &[Bytes(b"\x02\x80")],
+        way: Way::Whole,
+        steps: 1,
+        claimed: 0,
+        want: &[(Some(EditField), 1)],
     },
     Row {
+        line: "edit 820003: EditField",
         call: Call::Decode,
-        text: "edit 820003",
-        bytes: b"\x82\0\x03",
+        parts: &[Bytes(b"\x82\0\x03")],
+        way: Way::Whole,
+        steps: 1,
+        claimed: 0,
+        want: &[(Some(EditField), 1)],
     },
     Row {
+        line: "edit 060701: EditField",
         call: Call::Decode,
-        text: "edit 060701",
-        bytes: b"\x06\x07\x01",
+        parts: &[Bytes(b"\x06\x07\x01")],
+        way: Way::Whole,
+        steps: 1,
+        claimed: 0,
+        want: &[(Some(EditField), 1)],
     },
     Row {
+        line: "edit 0101ff: EditField",
         call: Call::Decode,
-        text: "edit 0101ff",
-        bytes: b"\x01\x01\xff",
+        parts: &[Bytes(b"\x01\x01\xff")],
+        way: Way::Whole,
+        steps: 1,
+        claimed: 0,
+        want: &[(Some(EditField), 1)],
     },
     Row {
+        line: "CURRENT without its manifest: Missing",
         call: Call::Current,
-        text: "CURRENT without its manifest",
-        bytes: b"MANIFEST-000005\n",
+        parts: &[Bytes(CURRENT_FIVE)],
+        way: Way::Whole,
+        steps: 1,
+        claimed: 0,
+        want: &[(Some(Missing), 1)],
     },
 ];
-
-/// Prints what was answered.
-pub fn print_answer<R: Print>(rt: &R, text: &str, given: Answer) -> Result<()> {
-    match given {
-        None => println!(rt; "{text}: accepted")?,
-        Some(name) => println!(rt; "{text}: {name}")?,
-    }
-    Ok(())
-}
-
-/// Changes bytes.
-fn set_bytes(bytes: &mut [u8], changes: &[(usize, u8)]) {
-    for (place, byte) in changes {
-        if let Some(there) = bytes.get_mut(*place) {
-            *there = *byte;
-        }
-    }
-}
-
-/// Calls with these bytes, prints what is answered and tests what has to hold of it.
-pub fn print_call<R: AllocGlobal + Print + Threads + Sync>(
-    rt: &R,
-    text: &str,
-    call: Call,
-    bytes: &[u8],
-) -> Result<()> {
-    let given = answer(rt, call, bytes);
-    ensure!(holds(rt, call, bytes, given)?, "{text}");
-    print_answer(rt, text, given)
-}
-
-/// Prints what is answered of the worked table, changed as each row says.
-fn changed_tables<R: AllocGlobal + Print + Threads + Sync>(rt: &R) -> Result<()> {
-    for row in &CHANGES {
-        let mut bytes = mended_table(rt.alloc())?;
-        set_bytes(&mut bytes, row.mended);
-        mend_table(&mut bytes);
-        set_bytes(&mut bytes, row.after);
-        print_call(rt, row.text, Call::Table, &bytes)?;
-    }
-    Ok(())
-}
-
-/// Prints what is answered of each row.
-pub fn run<R: AllocGlobal + Print + Threads + Sync>(rt: &R) -> Result<()> {
-    changed_tables(rt)?;
-    for row in &ROWS {
-        print_call(rt, row.text, row.call, row.bytes)?;
-    }
-    Ok(())
-}

@@ -1,0 +1,112 @@
+//! The calls that take bytes, each seen as bytes in and an answer out.
+
+use crate::case::{Case, Want, compacted, picked};
+use crate::fault::wanted;
+use crate::worked::{A_AT_ONE, CURRENT_FIVE, TABLE};
+use coding::{Fault, FaultName};
+use edit::{Outcome, VersionEdit};
+use folder::{Shelf, open};
+use ikey::{Bytewise, InternalKey};
+use logrec::records;
+use std::alloc::Global;
+use std::thread::Threads;
+use table::{Cursor, Options, TableCursor};
+
+/// A call that takes bytes.
+pub enum Call {
+    /// `InternalKey::parse`.
+    Key,
+    /// `block::check`.
+    Block,
+    /// `table::check`.
+    Table,
+    /// The same, where what is accepted has to be a table of `a` at 1 with the value `x` alone: Lawless else.
+    List,
+    /// `compact`, of one input whose table the bytes are, and of which is stated that it holds `a` at 1.
+    Compact,
+    /// `logrec::records`.
+    Records,
+    /// `VersionEdit::decode`.
+    Decode,
+    /// `open` of a folder whose CURRENT holds the bytes, with no manifest.
+    Current,
+    /// `open` of a folder whose manifest holds the bytes.
+    Manifest,
+}
+
+/// What a call answers: none where it accepts, else the name of its refusal.
+pub type Answer = Option<FaultName>;
+
+/// The compaction of one input of `a` at 1.
+const ONE_INPUT: Case = Case {
+    level: 1,
+    files: &[(7, 114, &A_AT_ONE, &A_AT_ONE)],
+    tables: &[TABLE],
+    grandparents: &[],
+    deeper: &[],
+    oldest: 9,
+    last_sequence: 9,
+    first_number: 9,
+    options: Options {
+        block_size: 4_096,
+        restart_interval: 16,
+        file_size: 2_097_152,
+    },
+    workers: 1,
+    want: Want::Accepted,
+};
+
+/// What is answered: none where it was accepted.
+fn refusal<T: Drop>(answer: Result<T, Fault>) -> Answer {
+    match answer {
+        Ok(_) => None,
+        Err(fault) => Some(fault.name),
+    }
+}
+
+/// Tests that bytes are a table of `a` at 1 with the value `x` alone. Keys rise strictly, so that there is one entry where the smallest is
+/// the largest.
+fn listed(alloc: Global, bytes: &[u8]) -> Result<(), Fault> {
+    let table = table::check::<Bytewise>(alloc, bytes)?;
+    let cursor = TableCursor::new(alloc, &table)?;
+    let is_value = cursor.valid() && cursor.value() == b"x".as_slice();
+    let is_alone = table.smallest().bytes() == A_AT_ONE.as_slice()
+        && table.largest().bytes() == A_AT_ONE.as_slice();
+    wanted(is_value && is_alone)
+}
+
+/// Compacts one input.
+fn input_compacted<R: AllocGlobal + Threads + Sync>(
+    rt: &R,
+    bytes: &[u8],
+) -> Result<Outcome, Fault> {
+    let mut picked = picked(rt.alloc(), &ONE_INPUT)?;
+    if let Some(file) = picked.files.first_mut() {
+        file.meta.size = bytes.len() as u64;
+    }
+    compacted(rt, &ONE_INPUT, &picked, &[bytes])
+}
+
+/// What a call answers to some bytes.
+pub fn answer<R: AllocGlobal + Threads + Sync>(rt: &R, call: &Call, bytes: &[u8]) -> Answer {
+    let alloc = rt.alloc();
+    match call {
+        Call::Key => refusal(InternalKey::parse(bytes)),
+        Call::Block => refusal(block::check(bytes)),
+        Call::Table => refusal(table::check::<Bytewise>(alloc, bytes)),
+        Call::List => refusal(listed(alloc, bytes)),
+        Call::Compact => refusal(input_compacted(rt, bytes)),
+        Call::Records => refusal(records(alloc, bytes)),
+        Call::Decode => refusal(VersionEdit::decode(alloc, bytes)),
+        Call::Current => opened(alloc, &[("CURRENT", bytes)]),
+        Call::Manifest => opened(
+            alloc,
+            &[("CURRENT", CURRENT_FIVE), ("MANIFEST-000005", bytes)],
+        ),
+    }
+}
+
+/// What opening a folder of these files answers.
+fn opened(alloc: Global, files: &[(&str, &[u8])]) -> Answer {
+    refusal(open(alloc, &mut Shelf::new(alloc, files)))
+}

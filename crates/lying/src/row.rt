@@ -1,0 +1,215 @@
+//! Rows of bytes, each with its answers.
+
+use crate::call::{Answer, Call, answer};
+use crate::fault::wanted;
+use crate::memory::Memory;
+use anyhow::Result;
+use coding::{Fault, crc32c, mask};
+use std::alloc::Global;
+use std::thread::Threads;
+
+/// A part of a row's bytes.
+pub enum Part {
+    /// These.
+    Bytes(&'static [u8]),
+    /// One byte, so often.
+    Fill(u8, usize),
+}
+
+/// What of a row's bytes a call gets, one after the other.
+pub enum Way {
+    /// All of them.
+    Whole,
+    /// Each beginning.
+    Beginnings,
+    /// All of them, with the byte at each place from this one on changed to each of the five values that it has not, and with checksums
+    /// written anew.
+    Changes(usize, Mend),
+}
+
+/// Which checksums are written anew behind a change.
+pub enum Mend {
+    No,
+    /// Those of a table's blocks: the four bytes before each of these places, of what stands from the one before on.
+    Blocks(&'static [usize]),
+    /// That of a log's fragment that starts at this place.
+    Fragment(usize),
+}
+
+/// A row of calls.
+pub struct Row {
+    /// What is printed where the answers are right.
+    pub line: &'static str,
+    pub call: Call,
+    pub parts: &'static [Part],
+    pub way: Way,
+    /// How many byte strings the call gets, those of a change to what is there counted too.
+    pub steps: usize,
+    /// How many bytes are claimed.
+    pub claimed: usize,
+    /// How often each answer has to come.
+    pub want: &'static [(Answer, usize)],
+}
+
+/// What a byte is changed to.
+const VALUES: [u8; 5] = [0, 1, 127, 128, 255];
+
+/// The bytes of parts.
+fn joined(alloc: Global, parts: &[Part]) -> Result<Vec<u8>, Fault> {
+    let mut bytes = Vec::new(alloc);
+    for part in parts {
+        match part {
+            Part::Bytes(some) => bytes.extend_from_slice(some)?,
+            Part::Fill(byte, count) => {
+                let len = bytes.len().saturating_add(*count);
+                bytes.resize(len, *byte)?;
+            }
+        }
+    }
+    Ok(bytes)
+}
+
+/// Writes the checksum behind the contents and the type of a block anew.
+pub fn mend_block(bytes: &mut [u8], start: usize, end: usize) {
+    if start <= end && end <= bytes.len() {
+        if let Some((summed, checksum)) = bytes[start..end].split_last_chunk_mut::<4>() {
+            *checksum = mask(crc32c(summed)).to_le_bytes();
+        }
+    }
+}
+
+/// Writes the checksums of a table's blocks anew.
+pub fn mend_blocks(bytes: &mut [u8], ends: &[usize]) {
+    let mut start = 0;
+    for end in ends {
+        mend_block(bytes, start, *end);
+        start = *end;
+    }
+}
+
+/// Writes the checksum of the fragment that begins these bytes anew, as far as its length lies within them.
+fn mend_fragment(bytes: &mut [u8]) {
+    if let Some((checksum, behind)) = bytes.split_first_chunk_mut::<4>() {
+        if let Some((length, rest)) = behind.split_first_chunk::<2>() {
+            let summed = usize::from(u16::from_le_bytes(*length)) + 1;
+            let summed = rest.get(0..summed).unwrap_or(rest);
+            *checksum = mask(crc32c(summed)).to_le_bytes();
+        }
+    }
+}
+
+/// Changes the byte at a place to a value, and answers whether it was another.
+fn change(bytes: &mut [u8], place: usize, value: u8) -> bool {
+    match bytes.get_mut(place) {
+        Some(byte) if *byte != value => {
+            *byte = value;
+            true
+        }
+        _ => false,
+    }
+}
+
+/// Makes of a row's bytes those of a step, and answers whether there are such.
+fn make(row: &Row, bytes: &mut Vec<u8>, step: usize) -> bool {
+    let Way::Changes(start, mend) = &row.way else {
+        if matches!(&row.way, Way::Beginnings) {
+            bytes.truncate(step);
+        }
+        return true;
+    };
+    let is_changed = change(bytes, start.saturating_add(step / 5), VALUES[step % 5]);
+    match mend {
+        Mend::No => {}
+        Mend::Blocks(ends) => mend_blocks(bytes, ends),
+        Mend::Fragment(start) => {
+            if *start <= bytes.len() {
+                mend_fragment(&mut bytes[*start..]);
+            }
+        }
+    }
+    is_changed
+}
+
+/// What a call answers to bytes. Where memory is short it gets 32 bytes for each of them and 4,096, so that there is no room for as many
+/// as they claim.
+fn answered<R: AllocGlobal + Threads + Sync>(
+    rt: &R,
+    memory: &mut Memory,
+    row: &Row,
+    bytes: Vec<u8>,
+) -> Result<Answer, Fault> {
+    memory.leave(
+        rt.alloc(),
+        bytes.len().saturating_mul(32).saturating_add(4_096),
+    )?;
+    let room: Result<Vec<u8>, _> = Vec::with_capacity(rt.alloc(), row.claimed);
+    let is_short = room.is_err();
+    drop(room);
+    let given = answer(rt, &row.call, &bytes);
+    memory.loosen();
+    wanted(is_short || !memory.is_short)?;
+    Ok(given)
+}
+
+/// What a row's call answers to its bytes, one after the other.
+fn answers<R: AllocGlobal + Threads + Sync>(
+    rt: &R,
+    memory: &mut Memory,
+    row: &Row,
+    whole: &[u8],
+) -> Result<Vec<Answer>, Fault> {
+    let mut answers = Vec::new(rt.alloc());
+    for step in 0..row.steps {
+        let mut bytes = Vec::from_slice(rt.alloc(), whole)?;
+        if make(row, &mut bytes, step) {
+            answers.push(answered(rt, memory, row, bytes)?)?;
+        }
+    }
+    Ok(answers)
+}
+
+/// How often an answer came.
+fn times(answers: &[Answer], wanted: &Answer) -> usize {
+    let mut times: usize = 0;
+    for answer in answers {
+        if answer == wanted {
+            times = times.saturating_add(1);
+        }
+    }
+    times
+}
+
+/// Whether each of these answers came as often as it has to, and no other.
+fn are_wanted(answers: &[Answer], want: &[(Answer, usize)]) -> bool {
+    let mut total: usize = 0;
+    for (answer, wanted) in want {
+        if times(answers, answer) != *wanted {
+            return false;
+        }
+        total = total.saturating_add(*wanted);
+    }
+    total == answers.len()
+}
+
+/// Whether a row has its answers.
+fn has_answers<R: AllocGlobal + Threads + Sync>(
+    rt: &R,
+    memory: &mut Memory,
+    row: &Row,
+) -> Result<bool, Fault> {
+    let whole = joined(rt.alloc(), row.parts)?;
+    Ok(are_wanted(&answers(rt, memory, row, &whole)?, row.want))
+}
+
+/// Tests the answers of each row, and prints it. Where they are not right it is Lawless, behind the last row that was printed.
+pub fn print_rows<R: AllocGlobal + Print + Threads + Sync>(
+    rt: &R,
+    memory: &mut Memory,
+    rows: &[Row],
+) -> Result<()> {
+    for row in rows {
+        wanted(has_answers(rt, memory, row)?)?;
+        println!(rt; "{}", row.line)?;
+    }
+    Ok(())
+}

@@ -1,95 +1,118 @@
-//! The program `hostile`: bytes that lie and growths that are refused, over each call that takes bytes or memory.
+//! The program `hostile`: bytes that lie, growths that are refused, and calls that take no memory, over each call that takes bytes or memory.
 //!
-//! Without a word it makes all calls, with memory to spare. With the word `refused` it first makes those whose growths may be refused
-//! while memory is short: nearly all is taken before each, in pieces into which nothing is written. So it then makes those with bytes
-//! that claim more than is there, with memory for little more than these bytes. With the word `values` it makes the calls with values
-//! of 2^24 bytes alone, with `claims` those with bytes that claim more than is there, with memory to spare, and with `growths` those
-//! whose growths may be refused in turn. A number behind that word is of pieces of memory that are taken first, so that an allocation
-//! that is refused by its number falls on another growth for each number.
+//! Without a word it makes all calls, with memory to spare. With the word `refused` it first makes a compaction where no thread can be
+//! started, and one thread alone; then the calls that take no memory while each request for it is refused; then, while memory is short,
+//! those whose growths may be refused: nearly all is taken before each, in pieces into which nothing is written. So it then makes those
+//! with bytes that claim more than is there, with memory for little more than these bytes. With the word `claims` it makes the last alone,
+//! with memory to spare, and with `growths` those whose growths may be refused, each again where it was. A number behind that word is of
+//! pieces of memory that are taken first, so that an allocation that is refused by its number falls on another growth for each number.
 #![tactic(auto)]
 
-mod again;
-mod asking;
-mod commanding;
-mod diagnosing;
-mod growing;
-mod growths;
-mod held;
-mod installing;
-mod parts;
+mod boards;
+mod building;
+mod cases;
+mod folders;
 mod planning;
-mod reading;
-mod wholes;
+mod requests;
+mod resting;
+mod rows;
+mod walking;
+mod worked;
 
 use anyhow::Result;
+use lying::{Memory, pieces, print_claims};
+use requests::REQUESTS;
+use rows::{ALONE, ONE_THREAD, RESTING, THREADS, run, run_growths};
 use std::env;
 use std::env::Env;
 use std::thread::Threads;
 
-/// Which calls are made.
-#[derive(Clone, Copy)]
-enum Part {
-    All,
-    Refused,
-    Values,
-    Claims,
-    /// Those whose growths may be refused, behind so many pieces of memory that are taken and given back.
-    Growths(u64),
-}
+/// More than a thread's stack takes, which has 8 MiB where a process is not told otherwise.
+const STACK: usize = 9 << 20;
 
-/// Makes all calls.
-fn run_all<R: AllocGlobal + Print + Threads + Sync>(rt: &R) -> Result<()> {
-    lying::run(rt)?;
-    growths::run(rt)
-}
+/// Less than a thread's stack takes.
+const NO_STACK: usize = 1 << 20;
 
-/// Makes those whose growths may be refused, and those with bytes that claim more than is there, while memory is short, and then all calls.
+/// A piece of memory of which some are left for a small compaction where no thread can be started.
+const PIECE: usize = 1 << 16;
+
+/// How many such pieces are left.
+const PIECES: usize = 16;
+
+/// How many bytes are not taken between calls.
+const ROOM: usize = 1 << 28;
+
+/// Compacts where no thread can be started, and then where there is room for one.
 ///
-/// The first have to come first: what was given back of much memory serves later calls in other ways.
-fn run_refused<R: AllocGlobal + Print + Threads + Sync>(rt: &R) -> Result<()> {
-    growths::run_short(rt)?;
+/// It has to come first: from a large piece that was given back the C library makes later ones too, and it keeps the stacks of threads
+/// that have ended.
+fn run_few_threads<R: AllocGlobal + Print + Threads + Sync>(rt: &R) -> Result<()> {
+    let stack = pieces(rt.alloc(), 1, STACK)?;
+    let room = pieces(rt.alloc(), PIECES, PIECE)?;
+    let mut memory = Memory::short(rt.alloc(), room, NO_STACK)?;
+    run(rt, &mut memory, ALONE, 0)?;
+    drop(stack);
+    run(rt, &mut memory, ONE_THREAD, 0)
+}
+
+/// Makes the calls that memory is short for.
+fn run_short<R: AllocGlobal + Print + Threads + Sync>(rt: &R) -> Result<()> {
+    println!(rt; "Each request for memory is refused. These calls have their answers:")?;
+    let mut memory = Memory::short(rt.alloc(), pieces(rt.alloc(), 1, ROOM)?, 0)?;
+    run(rt, &mut memory, RESTING, 0)?;
+    println!(rt; "Memory is short. Each of these was refused as Memory or had its answer:")?;
+    run_growths(rt, &mut memory)?;
     println!(rt; "There is memory for little more than the bytes:")?;
-    lying::print_claims_short(rt)?;
+    print_claims(rt, &mut memory)?;
     println!(rt; "Memory is given.")?;
-    run_all(rt)
+    Ok(())
 }
 
-/// The part of the calls that a word names, with a number of pieces, and all where it names none.
-fn part_of(word: &str, pieces: u64) -> Part {
-    if word == "refused" {
-        return Part::Refused;
+/// Makes all calls, while memory is short or refused where that is asked.
+fn run_all<R: AllocGlobal + Print + Threads + Sync>(rt: &R, is_refused: bool) -> Result<()> {
+    let mut memory = Memory::ample(rt.alloc());
+    println!(rt; "These compactions by four workers have their answer:")?;
+    if is_refused {
+        run_few_threads(rt)?;
     }
-    if word == "values" {
-        return Part::Values;
+    run(rt, &mut memory, THREADS, 0)?;
+    if is_refused {
+        run_short(rt)?;
+    } else {
+        run(rt, &mut memory, RESTING, 0)?;
+        run_growths(rt, &mut memory)?;
     }
+    lying::run(rt)?;
+    run(rt, &mut memory, REQUESTS, 0)
+}
+
+/// Makes the calls that a word names, behind so many pieces of memory that are taken and given back, and all where it names none.
+fn run_named<R: AllocGlobal + Print + Threads + Sync>(
+    rt: &R,
+    word: &str,
+    count: u64,
+) -> Result<()> {
+    let mut memory = Memory::ample(rt.alloc());
     if word == "claims" {
-        return Part::Claims;
+        return print_claims(rt, &mut memory);
     }
-    if word == "growths" {
-        return Part::Growths(pieces);
+    if word != "growths" {
+        return run_all(rt, word == "refused");
     }
-    Part::All
+    for _ in 0..count {
+        let piece: Result<Vec<u8>, _> = Vec::with_capacity(rt.alloc(), 1);
+        drop(piece);
+    }
+    run_growths(rt, &mut memory)
 }
 
-/// The part of the calls that the words name, and all where there is none.
-fn part_named<R: Env + AllocGlobal>(rt: &R) -> Result<Part> {
-    let mut words = env::args(rt)?;
+/// Reads the words, and makes the calls that they name. Want of memory for the words themselves is met by the calls that go on.
+fn main(rt: HostRuntime) -> Result<()> {
+    let Ok(mut words) = env::args(&rt) else {
+        return run_named(&rt, "growths", 0);
+    };
     let _program = words.next();
     let word = words.next().unwrap_or(String::new(rt.alloc()));
-    let pieces = words.next().unwrap_or(String::new(rt.alloc()));
-    Ok(part_of(word.as_str(), pieces.parse().unwrap_or(0)))
-}
-
-fn main(rt: HostRuntime) -> Result<()> {
-    // Want of memory for the words themselves is met by the calls that go on.
-    match part_named(&rt).unwrap_or(Part::Growths(0)) {
-        Part::All => run_all(&rt),
-        Part::Refused => run_refused(&rt),
-        Part::Values => lying::print_values(&rt),
-        Part::Claims => lying::print_claims(&rt),
-        Part::Growths(pieces) => {
-            growths::take_pieces(rt.alloc(), pieces);
-            growths::run(&rt)
-        }
-    }
+    let count = words.next().unwrap_or(String::new(rt.alloc()));
+    run_named(&rt, word.as_str(), count.parse().unwrap_or(0))
 }

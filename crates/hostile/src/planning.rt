@@ -1,17 +1,18 @@
-//! Ranges merged, outputs planned and encoded, boards and splits, made so that each growth may be refused.
+//! Ranges merged, outputs planned and encoded, boards and splits.
 
-use crate::again::wanted;
-use crate::growing::{cursors_over, written};
+use crate::cases::{DELETION, SMALLEST};
+use crate::walking::cursors_over;
+use crate::worked::{TABLE_ABC, TABLE_ABCD};
 use board::{Board, Tally};
 use coding::{Fault, FaultName};
 use cut::{Plan, plan};
 use ikey::Bytewise;
 use keep::{RangeRun, largest_rise, merge_range};
-use lying::no_inputs;
+use lying::{picked, wanted};
 use pick::Inputs;
 use split::Split;
 use std::alloc::Global;
-use table::{Options, check};
+use table::check;
 
 /// The run of a split's first range over a table, of which all from sequence 1 on stays readable.
 fn run_of<'a>(
@@ -23,8 +24,17 @@ fn run_of<'a>(
     if !largest_rise::<Bytewise>(&inputs.grandparents) {
         return Err(Fault::of(FaultName::Options));
     }
-    let mut cursors = cursors_over(alloc, bytes)?;
+    let mut cursors = cursors_over(alloc, &[bytes])?;
     merge_range::<Bytewise, _>(alloc, &mut cursors, split.range(0), &[], 1, inputs)
+}
+
+/// The run of the one range over a table, as the runs of all ranges.
+pub fn runs_of<'a>(alloc: Global, bytes: &'a [u8]) -> Result<Vec<RangeRun<'a>>, Fault> {
+    let inputs = picked(alloc, DELETION)?;
+    let split = Split::<Bytewise>::from_keys(Vec::new(alloc))?;
+    let mut runs = Vec::new(alloc);
+    runs.push(run_of(alloc, bytes, &split, &inputs)?)?;
+    Ok(runs)
 }
 
 /// Whether the outputs of a plan have 114 bytes each, and the numbers from 5 on.
@@ -38,53 +48,24 @@ fn are_outputs(plan: &Plan<'_, '_, Bytewise>) -> bool {
     plan.len() == 3
 }
 
-/// Whether the pieces of a plan have 26 bytes each.
-fn are_pieces(alloc: Global, plan: &Plan<'_, '_, Bytewise>) -> Result<bool, Fault> {
+/// Whether the plan of runs of three entries, a block and an output each, is right, and its pieces have 26 bytes.
+fn is_planned(alloc: Global, runs: &[RangeRun<'_>]) -> Result<bool, Fault> {
+    let plan = plan::<Bytewise>(alloc, runs, &[], SMALLEST, 5)?;
     for job in 0..plan.jobs() {
         wanted(plan.encode(alloc, job)?.len() == 26)?;
     }
-    Ok(plan.jobs() == 3)
-}
-
-/// Whether the plan of runs of three entries, a block and an output each, is right, and its pieces have 26 bytes.
-fn is_planned(alloc: Global, runs: &[RangeRun<'_>]) -> Result<bool, Fault> {
-    let options = Options {
-        block_size: 1,
-        restart_interval: 16,
-        file_size: 1,
-    };
-    if !options.are_in_limits() {
-        return Err(Fault::of(FaultName::Options));
-    }
-    let plan = plan::<Bytewise>(alloc, runs, &[], options, 5)?;
-    Ok(are_outputs(&plan) && are_pieces(alloc, &plan)?)
-}
-
-/// The run of the one range over a table.
-fn only_run<'a>(alloc: Global, bytes: &'a [u8]) -> Result<RangeRun<'a>, Fault> {
-    let inputs = no_inputs(alloc)?;
-    let split = Split::<Bytewise>::from_keys(Vec::new(alloc))?;
-    run_of(alloc, bytes, &split, &inputs)
-}
-
-/// The same, as the runs of all ranges.
-fn runs_of<'a>(alloc: Global, bytes: &'a [u8]) -> Result<Vec<RangeRun<'a>>, Fault> {
-    let mut runs = Vec::new(alloc);
-    runs.push(only_run(alloc, bytes)?)?;
-    Ok(runs)
+    Ok(plan.jobs() == 3 && are_outputs(&plan))
 }
 
 /// Three entries, merged in one range and planned as three outputs.
 pub fn planned(alloc: Global) -> Result<bool, Fault> {
-    let bytes = written(alloc, b"abc", 4_096)?;
-    let runs = runs_of(alloc, &bytes)?;
+    let runs = runs_of(alloc, TABLE_ABC)?;
     is_planned(alloc, &runs)
 }
 
 /// Two ranges, chosen of four index keys: the boundary is the third.
 pub fn chosen(alloc: Global) -> Result<bool, Fault> {
-    let bytes = written(alloc, b"abcd", 1)?;
-    let tables = [check::<Bytewise>(alloc, &bytes)?];
+    let tables = [check::<Bytewise>(alloc, TABLE_ABCD)?];
     let split = Split::choose(alloc, &tables, 2)?;
     Ok(split.len() == 2 && split.range(0).upper == Some(b"c".as_slice()))
 }

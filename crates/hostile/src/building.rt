@@ -1,0 +1,118 @@
+//! Builders, logs and edits. What a call changes is tried again where a growth was refused, which left it as it was.
+
+use crate::cases::SMALLEST;
+use crate::worked::{SHORT_RECORD, SNAPSHOT_NINE, VERSION_SEVEN};
+use block::BlockBuilder;
+use coding::{Fault, FaultName};
+use edit::{Version, VersionEdit};
+use ikey::{Bytewise, InternalKey};
+use logrec::{append, records};
+use lying::Memory;
+use lying::worked::{A_AT_ONE, A_AT_TWO, BLOCK, DELETION_LEFT, TABLE_THREE_BLOCKS};
+use std::alloc::Global;
+use table::TableBuilder;
+
+/// A block of this many bytes gets no further entry.
+const BLOCK_LEN: usize = 4_096;
+
+/// The internal keys of values of `u` at 9, 5 and 3.
+const THREE_KEYS: [&[u8; 9]; 3] = [
+    b"u\x01\x09\0\0\0\0\0\0",
+    b"u\x01\x05\0\0\0\0\0\0",
+    b"u\x01\x03\0\0\0\0\0\0",
+];
+
+/// Adds an entry to a block that is not full.
+#[tactic(auto, using(block::proofs::Sizes::fits_with_entry))]
+pub fn add_entry(
+    memory: &mut Memory,
+    builder: &mut BlockBuilder,
+    key: &[u8; 9],
+    value: &[u8; 1],
+) -> Result<(), Fault> {
+    let estimate = builder.estimate();
+    if estimate >= BLOCK_LEN {
+        return Err(Fault::of(FaultName::TooLarge));
+    }
+    let answer = builder.add(key, value);
+    if !memory.is_refused(&answer) {
+        return answer;
+    }
+    if builder.estimate() != estimate {
+        return Err(Fault::of(FaultName::Lawless));
+    }
+    builder.add(key, value)
+}
+
+/// The worked block, built.
+pub fn block_built(alloc: Global, memory: &mut Memory) -> Result<bool, Fault> {
+    let mut builder = BlockBuilder::new(alloc, 16);
+    add_entry(memory, &mut builder, &A_AT_TWO, b"x")?;
+    add_entry(memory, &mut builder, &A_AT_ONE, b"y")?;
+    Ok(builder.finish()?.as_slice() == BLOCK)
+}
+
+/// Adds an entry with the value `x` to a table, above its last one.
+pub fn add_row(
+    memory: &mut Memory,
+    builder: &mut TableBuilder<Bytewise>,
+    key: &[u8; 9],
+) -> Result<(), Fault> {
+    let key = InternalKey::parse(key)?;
+    if !builder.is_above_last(&key) {
+        return Err(Fault::of(FaultName::Order));
+    }
+    let flushed = builder.flushed();
+    let answer = builder.add(key, b"x");
+    if !memory.is_refused(&answer) {
+        return answer;
+    }
+    if builder.flushed() != flushed || !builder.is_above_last(&key) {
+        return Err(Fault::of(FaultName::Lawless));
+    }
+    builder.add(key, b"x")
+}
+
+/// The table of three blocks, built.
+pub fn table_built(alloc: Global, memory: &mut Memory) -> Result<bool, Fault> {
+    let mut builder = TableBuilder::<Bytewise>::new(alloc, SMALLEST);
+    for key in THREE_KEYS {
+        add_row(memory, &mut builder, key)?;
+    }
+    Ok(builder.finish()?.as_slice() == TABLE_THREE_BLOCKS)
+}
+
+/// A log of two records, of 32,754 bytes and of `x`, over the end of a block.
+fn two_records(alloc: Global) -> Result<Vec<u8>, Fault> {
+    let long = vec![in alloc; 7_u8; 32_754]?;
+    let log = append(alloc, &[], &long)?;
+    append(alloc, &log, b"x")
+}
+
+/// That log, written and read.
+pub fn logged(alloc: Global) -> Result<bool, Fault> {
+    let log = two_records(alloc)?;
+    let read = records(alloc, &log)?;
+    let is_last = read
+        .last()
+        .is_some_and(|record| record.as_slice() == b"x".as_slice());
+    Ok(log.len() == 32_776 && log.ends_with(SHORT_RECORD) && read.len() == 2 && is_last)
+}
+
+/// The version of these bytes of an edit.
+pub fn version_of(alloc: Global, bytes: &[u8]) -> Result<Version, Fault> {
+    Version::empty(alloc).applied::<Bytewise>(VersionEdit::decode(alloc, bytes)?)
+}
+
+/// The version behind the edit that leaves one deletion.
+fn version_after(alloc: Global) -> Result<Version, Fault> {
+    let edit = VersionEdit::decode(alloc, DELETION_LEFT)?;
+    version_of(alloc, VERSION_SEVEN)?.apply::<Bytewise>(alloc, &edit)
+}
+
+/// An edit, applied to a version whose snapshot is then written.
+pub fn edited(alloc: Global) -> Result<bool, Fault> {
+    let version = version_after(alloc)?;
+    let snapshot = version.snapshot_edit::<Bytewise>(alloc)?.encode(alloc)?;
+    Ok(snapshot.as_slice() == SNAPSHOT_NINE && version.next_file() == Some(10))
+}

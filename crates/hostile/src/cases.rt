@@ -1,0 +1,124 @@
+//! Worked compactions by two workers over three ranges.
+
+use crate::worked::{
+    GRANDPARENTS_EDIT, OUTPUTS_EDIT, TABLE_A_AND_B, TABLE_A_AND_F, TABLE_B, TABLE_B_AND_G,
+    TABLE_B_SPOILT, TABLE_C, TABLE_C_DELETED, TABLE_F, TABLE_G,
+};
+use coding::FaultName;
+use lying::worked::{DELETION_LEFT, TABLE, TABLE_SPOILT, TABLE_U_DELETED, TABLE_U_TWICE};
+use lying::{Case, Meta, Want};
+use table::Options;
+
+/// Blocks, restarts and files as they are where nothing is said.
+const WIDE: Options = Options {
+    block_size: 4_096,
+    restart_interval: 16,
+    file_size: 2_097_152,
+};
+
+/// Options by which each entry is a block and an output.
+pub const SMALLEST: Options = Options {
+    block_size: 1,
+    restart_interval: 16,
+    file_size: 1,
+};
+
+/// Files of `a` at 1, `b` at 2 and `c` at 3.
+const A: Meta<'static> = (7, 114, b"a\x01\x01\0\0\0\0\0\0", b"a\x01\x01\0\0\0\0\0\0");
+
+const C: Meta<'static> = (8, 114, b"c\x01\x03\0\0\0\0\0\0", b"c\x01\x03\0\0\0\0\0\0");
+
+const B: Meta<'static> = (9, 114, b"b\x01\x02\0\0\0\0\0\0", b"b\x01\x02\0\0\0\0\0\0");
+
+/// The tables of `a`, `b` and `c` as outputs.
+const ABC: Want = Want::Outcome(&[(5, TABLE), (6, TABLE_B), (7, TABLE_C)], OUTPUTS_EDIT);
+
+/// A deletion is kept, since a file of level 3 may hold the user key.
+pub const DELETION: &Case = &Case {
+    level: 1,
+    files: &[(7, 125, b"u\0\x04\0\0\0\0\0\0", b"u\x01\x02\0\0\0\0\0\0")],
+    tables: &[TABLE_U_TWICE],
+    grandparents: &[],
+    deeper: &[(3, 1, b"t0\x01\x01\0\0\0\0\0\0", b"v0\x01\x01\0\0\0\0\0\0")],
+    oldest: 4,
+    last_sequence: 4,
+    first_number: 9,
+    options: WIDE,
+    workers: 2,
+    want: Want::Outcome(&[(9, TABLE_U_DELETED)], DELETION_LEFT),
+};
+
+/// Outputs end where grandparents of more than ten times the file size were passed: behind `b`, and behind `f`.
+pub const GRANDPARENTS: &Case = &Case {
+    level: 0,
+    files: &[
+        (7, 127, b"a\x01\x01\0\0\0\0\0\0", b"f\x01\x04\0\0\0\0\0\0"),
+        (8, 127, b"b\x01\x02\0\0\0\0\0\0", b"g\x01\x05\0\0\0\0\0\0"),
+        (9, 113, b"c\0\x03\0\0\0\0\0\0", b"c\0\x03\0\0\0\0\0\0"),
+    ],
+    tables: &[TABLE_A_AND_F, TABLE_B_AND_G, TABLE_C_DELETED],
+    grandparents: &[
+        (3, 120, b"bb\x01\x01\0\0\0\0\0\0", b"bb\x01\x01\0\0\0\0\0\0"),
+        (3, 60, b"d0\x01\x01\0\0\0\0\0\0", b"d0\x01\x01\0\0\0\0\0\0"),
+        (3, 60, b"ff\x01\x01\0\0\0\0\0\0", b"ff\x01\x01\0\0\0\0\0\0"),
+    ],
+    deeper: &[],
+    oldest: 9,
+    last_sequence: 9,
+    first_number: 5,
+    options: Options {
+        block_size: 4_096,
+        restart_interval: 16,
+        file_size: 10,
+    },
+    workers: 2,
+    want: Want::Outcome(
+        &[(5, TABLE_A_AND_B), (6, TABLE_F), (7, TABLE_G)],
+        GRANDPARENTS_EDIT,
+    ),
+};
+
+/// Each entry fills a block, and each block an output.
+pub const OUTPUTS: &Case = &Case {
+    level: 1,
+    files: &[A, C, B],
+    tables: &[TABLE, TABLE_C, TABLE_B],
+    grandparents: &[],
+    deeper: &[],
+    oldest: 1,
+    last_sequence: 9,
+    first_number: 5,
+    options: SMALLEST,
+    workers: 2,
+    want: ABC,
+};
+
+/// The same by four workers.
+pub const FOUR_WORKERS: &Case = &Case {
+    level: 1,
+    files: &[A, C, B],
+    tables: &[TABLE, TABLE_C, TABLE_B],
+    grandparents: &[],
+    deeper: &[],
+    oldest: 1,
+    last_sequence: 9,
+    first_number: 5,
+    options: SMALLEST,
+    workers: 4,
+    want: ABC,
+};
+
+/// Two inputs have another byte in their data block.
+pub const SPOILT: &Case = &Case {
+    level: 1,
+    files: &[A, C, B],
+    tables: &[TABLE_SPOILT, TABLE_C, TABLE_B_SPOILT],
+    grandparents: &[],
+    deeper: &[],
+    oldest: 1,
+    last_sequence: 9,
+    first_number: 5,
+    options: SMALLEST,
+    workers: 2,
+    want: Want::Refused(FaultName::Trailer, Some(0)),
+};

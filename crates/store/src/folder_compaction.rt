@@ -13,8 +13,8 @@ ghost use Rattle.store.specs.Orders.{order_cmp, order_separator, order_successor
 use crate::asking::manifest_of;
 use crate::compacting::compact_loaded;
 use crate::settings::Settings;
-use crate::watch::Watch;
 use board::Open;
+use checks::Watch;
 use coding::Fault;
 use edit::Version;
 use folder::{Folder, Order, load, open};

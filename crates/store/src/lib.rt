@@ -9,9 +9,8 @@ mod laws;
 mod lines;
 mod settings;
 mod taking;
-mod watch;
 
+pub use checks::{Watch, Work};
 pub use folder_compaction::{compact_dir, compact_dir_watched};
 pub use laws::{answer_is_installed, inputs_are_tables, request_is_over, sync_stands};
 pub use settings::Settings;
-pub use watch::{Watch, Work};

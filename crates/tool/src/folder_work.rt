@@ -1,11 +1,10 @@
 //! The work on a folder, from its path to what is printed.
 
-use crate::descent::{bottom, next_level};
 use crate::files;
-use crate::folder_commands::{get_dir_watched, manifest, verify_watched};
 use crate::progress_line::ProgressLine;
 use account::{Account, text};
 use coding::Fault;
+use commands::{bottom, get_dir_watched, manifest, next_level, verify_watched};
 use diagnostics::{Telling, account_of, in_words};
 use edit::Version;
 use folder::{Disk, Folder, Order, WholeFiles, open};

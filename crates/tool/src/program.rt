@@ -1,10 +1,9 @@
 //! The program, from its words to its status.
 
-use crate::dumping::dump;
-use crate::exit_status::status;
 use crate::files;
 use crate::folder_work::{compact_folder, print_lines, print_value, print_verdict, print_version};
 use coding::{Fault, FaultName};
+use commands::{dump, status};
 use diagnostics::Telling;
 use folder::WholeFiles;
 use pairing::blocks;

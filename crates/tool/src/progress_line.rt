@@ -1,7 +1,7 @@
 //! A line of progress on the standard error.
 
-use crate::progress::progress_text;
 use board::Gate;
+use commands::progress_text;
 use std::sync::atomic::{AtomicBool, AtomicU64, Ordering};
 use std::time::{Clock, Instant};
 use store::{Watch, Work};

@@ -1,5 +1,2 @@
-mod CommandLemmas
-mod DigitLemmas
 mod LineLemmas
 mod NumberLists
-mod TextLemmas

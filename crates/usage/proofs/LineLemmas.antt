@@ -16,7 +16,8 @@ use Rattle.std.proofs.lemmas.Slice.Eq.{bytes_eq-Decides}
 use Rattle.std.specs.Box.{box_value}
 use Rattle.usage.specs.CompactLine.{AreSettings, HasCompact, IsNoNumberList}
 use Rattle.usage.specs.CompactLineParts.{CompactLine}
-use Rattle.usage.specs.Line.{GivesRows, HasBlocks, HasGet, HasRows, LacksAll, LacksRows, LineGives, program_app, rows_under}
+use Rattle.grammar.specs.Apps.{program_app}
+use Rattle.usage.specs.Line.{GivesRows, HasBlocks, HasGet, HasRows, LacksAll, LacksRows, LineGives, rows_under}
 use Rattle.usage.specs.LineParts.{BlocksLine, GetLine, GivesCommand, GivesTexts, TextsGiven}
 use Rattle.usage.specs.declared.command_line.Given.{Given}
 use Rattle.usage.specs.declared.compact_texts.CompactNumbers.{CompactNumbers}

@@ -9,7 +9,7 @@ use Rattle.std.proofs.lemmas.List.{get_or-map, length-map, map-append}
 use Rattle.std.proofs.lemmas.List.Elements.{All-append, All-cons, All-nil}
 use Rattle.clap.specs.Words.{Text}
 use Rattle.usage.specs.CompactLine.{AreNumbers}
-use Rattle.usage.specs.Text.{IsNumberText}
+use Rattle.texts.specs.Text.{IsNumberText}
 
 abbrev pub texts_of : List (Bor Text) → List Text
 texts_of numerals = map (λ n. n.now) numerals

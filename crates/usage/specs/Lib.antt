@@ -1,5 +1,4 @@
 -- what contracts rest on
-pub mod Text
 pub mod Usage
 pub mod Flags
 pub mod CompactLine
@@ -7,4 +6,3 @@ pub mod Line
 -- serves proofs alone
 pub mod LineParts
 pub mod CompactLineParts
-pub mod Commands

@@ -4,8 +4,9 @@ use Rattle.std.specs.Option.{option_map}
 use Rattle.std.specs.Global.{Vec}
 use Rattle.clap.specs.Words.{Row, Text, fault_of, subcommand_of}
 use Rattle.usage.specs.CompactLine.{HasCompact}
-use Rattle.usage.specs.Line.{HasBlocks, HasFolder, HasGet, HasPath, HasRows, RefusedWith, program_app, rows_under}
-use Rattle.usage.specs.Text.{bytes_of_text}
+use Rattle.grammar.specs.Apps.{program_app}
+use Rattle.usage.specs.Line.{HasBlocks, HasFolder, HasGet, HasPath, HasRows, RefusedWith, rows_under}
+use Rattle.texts.specs.Text.{bytes_of_text}
 use Rattle.usage.specs.declared.command_line.Given.{Given}
 use Rattle.usage.specs.declared.command_line.Given.TheVariants.{Blocks, Dump, Manifest, Verify, Get, Compact}
 use Rattle.usage.specs.declared.requests.Line.{Line}

@@ -3,10 +3,10 @@
 ghost use Rattle.std.specs.Prelude.{◌≡◌, MatchOption, MatchResult};
 ghost use Rattle.clap.specs.Words.{first_of, found_of, rows_of};
 ghost use Rattle.usage.specs.Flags.{is_flagged};
-ghost use Rattle.usage.specs.Text.{IsNoNumber, IsNumberOf};
+ghost use Rattle.texts.specs.Text.{IsNoNumber, IsNumberOf};
 
-use crate::text::number_of;
 use clap::ArgMatches;
+use texts::number_of;
 
 /// The text that an argument is given.
 pub(crate) fn first_text<'a>(values: &ArgMatches<'a>, id: &str) -> Option<&'a str>

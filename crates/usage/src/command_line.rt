@@ -6,15 +6,15 @@ ghost use Rattle.usage.specs.Line.{HasBlocks, HasFolder, HasGet, HasPath, LacksA
 ghost use Rattle.usage.specs.LineParts.{BlocksLine, GetLine, GivesCommand, IsKeyAnswer, TextsGiven};
 
 use crate::arguments::{first_number, first_text, is_flagged};
-use crate::commands::program_command;
 use crate::compact_line::compact_line;
 use crate::compact_texts::{CompactTexts, compact_texts};
 use crate::requests::{Line, Usage};
-use crate::text::key_of;
 use clap::ArgMatches;
 use clap::error::ErrorKind;
+use grammar::program_command;
 use std::alloc::Global;
 use std::convert::AsStr;
+use texts::key_of;
 
 /// What is told where a level and all of them are given.
 const LEVEL_WITH_ALL: &str = "the argument '--level <N>' cannot be used with '--all'";

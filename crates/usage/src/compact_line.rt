@@ -4,14 +4,14 @@ ghost use Rattle.std.specs.Prelude.{map, MatchOption, IfOk};
 ghost use Rattle.std.specs.Option.{option_map};
 ghost use Rattle.std.specs.List.{All};
 ghost use Rattle.usage.specs.CompactLine.{AreNumbers, IsNoNumberList, IsNumberList};
-ghost use Rattle.usage.specs.Text.{IsNumberText};
+ghost use Rattle.texts.specs.Text.{IsNumberText};
 ghost use Rattle.usage.specs.CompactLineParts.{CompactLine, IsReadableAnswer};
 
 use crate::compact_texts::{CompactTexts, ReadableTexts};
 use crate::requests::{CompactSettings, Line, Readable, Usage};
-use crate::text::number_of;
 use std::alloc::{AllocError, Global};
 use table::Options;
+use texts::number_of;
 
 /// How many workers carry a compaction out, where no number is given.
 const WORKERS: u64 = 4;

@@ -1,4 +1,4 @@
-//! What the words of a command line ask for, and keys and numbers as its texts.
+//! What the words of a command line ask for.
 //!
 //! The commands are told to `clap`, and what it reads is made into a line: the command with its values, or why the words
 //! ask for nothing.
@@ -6,12 +6,9 @@
 
 mod arguments;
 mod command_line;
-mod commands;
 mod compact_line;
 mod compact_texts;
 mod requests;
-mod text;
 
 pub use command_line::line;
 pub use requests::{CompactSettings, Levels, Line, Readable, Usage, Verbosity};
-pub use text::{key_of, text_of};

@@ -1,7 +1,7 @@
 use Rattle.std.proofs.Common.{map, subst}
 use Rattle.std.specs.Option.{option_map}
 use Rattle.clap.specs.Words.{subcommand_of}
-use Rattle.usage.specs.Line.{program_app}
+use Rattle.grammar.specs.Apps.{program_app}
 use Rattle.usage.specs.LineParts.{GivesCommand}
 use Rattle.usage.proofs.LineLemmas.{LineGives-blocks, LineGives-compact, LineGives-get}
 use Rattle.usage.proofs.command_line.line.Goals as goal

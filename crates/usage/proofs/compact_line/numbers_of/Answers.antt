@@ -5,7 +5,7 @@ use Rattle.std.proofs.lemmas.Iterator.Consumers.{map_from_collect}
 use Rattle.std.proofs.lemmas.Iterator.Splits.{YieldsList-from_str_split}
 use Rattle.clap.specs.Words.{Text}
 use Rattle.usage.specs.CompactLine.{AreNumbers, numerals_in}
-use Rattle.usage.specs.Text.{IsNumberText}
+use Rattle.texts.specs.Text.{IsNumberText}
 use Rattle.usage.proofs.NumberLists.{collected_texts, texts_of}
 use Rattle.usage.proofs.compact_line.numbers_of.Goals as goal
 

@@ -1,0 +1,68 @@
+-- The lines that show a folder's order and version.
+use Rattle.std.specs.Prelude.{◌≡◌, ℕ, List, [], ◌++◌, codes, decimal, Option, unwrap_or, Result, Ok}
+use Rattle.std.specs.List.{flat_map}
+use Rattle.std.specs.Option.{option_map_or}
+use Rattle.std.specs.declared.cmp.Ordering.{Ordering}
+use Rattle.coding.specs.Answers.{IsThen}
+use Rattle.coding.specs.declared.fault.Fault.{Fault}
+use Rattle.ikey.specs.Bytewise.{bytewise_cmp}
+use Rattle.ikey.specs.Key.{kind_number, kind_of, sequence_of, user_of}
+use Rattle.ikey.specs.Shortlex.{shortlex_cmp}
+use Rattle.edit.specs.Version.{State, pointer_of}
+use Rattle.edit.specs.VersionOrder.{level_files}
+use Rattle.edit.specs.declared.meta.FileMeta.{FileMeta}
+use Rattle.folder.specs.Levels.{all_levels}
+use Rattle.folder.specs.Manifest.{order_name}
+use Rattle.folder.specs.Opening.{IsOpened}
+use Rattle.texts.specs.Text.{text_of_bytes}
+use Rattle.folder.specs.declared.order.Order.{Order}
+use Rattle.folder.specs.declared.order.Order.TheVariants.{Bytewise, Shortlex}
+
+-- how an order compares user keys
+abbrev pub order_cmp : Order → List ℕ → List ℕ → Ordering
+order_cmp Bytewise = bytewise_cmp
+order_cmp Shortlex = shortlex_cmp
+
+-- the line of a number that may be unset, which then is 0
+abbrev pub number_line : List ℕ → Option ℕ → List ℕ
+number_line word number = word ++ codes " " ++ decimal (unwrap_or number 0) ++ codes "\n"
+
+-- the line of the comparator
+abbrev pub comparator_line : Order → List ℕ
+comparator_line order = codes "comparator " ++ order_name order ++ codes "\n"
+
+-- the comparator and the numbers, a line each
+abbrev pub head_lines : Order → State → List ℕ
+head_lines order v =
+    comparator_line order ++ number_line (codes "log") v.log_number ++ number_line (codes "previous") v.previous_log
+    ++ number_line (codes "next") v.next_file ++ number_line (codes "last") v.last_sequence
+
+-- the line of a level's compact pointer: its user key, its sequence and its type
+abbrev pub pointer_line : ℕ → List ℕ → List ℕ
+pointer_line level key =
+    codes "pointer " ++ decimal level ++ codes " " ++ text_of_bytes (user_of key) ++ codes " " ++ decimal (sequence_of key) ++ codes " "
+    ++ decimal (kind_number (kind_of key)) ++ codes "\n"
+
+-- the line of a level's compact pointer, where it has one
+abbrev pub pointer_lines : State → ℕ → List ℕ
+pointer_lines v level = option_map_or (pointer_line level) (pointer_of v level) []
+
+-- the line of a file
+abbrev pub file_line : ℕ → FileMeta → List ℕ
+file_line level f = codes "file " ++ decimal level ++ codes " " ++ decimal f.number ++ codes " " ++ decimal f.size ++ codes "\n"
+
+-- the lines of a level's files, in version order
+abbrev pub file_lines : (List ℕ → List ℕ → Ordering) → State → ℕ → List ℕ
+file_lines cmp v level = flat_map (file_line level) (level_files cmp v level)
+
+-- the comparator and the numbers, then the pointers by level, and then the files by level and in this version order
+abbrev pub lines_by : Order → (List ℕ → List ℕ → Ordering) → State → List ℕ
+lines_by order cmp v = head_lines order v ++ all_levels (pointer_lines v) ++ all_levels (file_lines cmp v)
+
+-- the same in the order's own version order
+abbrev pub version_lines : Order → State → List ℕ
+version_lines order v = lines_by order (order_cmp order) v
+
+-- a folder is opened, and the lines show what that gives
+abbrev pub IsShown : (List ℕ → Option (List ℕ) → Type 0) → Result (List ℕ) Fault → Type 0
+IsShown tells = IsThen (IsOpened tells) (λ opened answer. answer ≡ Ok (version_lines opened.0 opened.1))

@@ -1,0 +1,16 @@
+//! The status of a refusal.
+
+ghost use Rattle.std.specs.Prelude.{◌≡◌};
+ghost use Rattle.commands.specs.Status.{status_of};
+
+use coding::{Fault, FaultName};
+
+/// The status with which the program ends at a refusal: 3 where the device failed, else 1.
+pub fn status(fault: &Fault) -> u8
+    ensures { result ≡ status_of fault.now.name }
+{
+    match fault.name {
+        FaultName::Device => 3,
+        _ => 1,
+    }
+}

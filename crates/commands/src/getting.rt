@@ -1,0 +1,81 @@
+//! The value of a user key in a folder.
+
+ghost use Rattle.std.specs.Prelude.{◌≡◌, ◌≤◌, map, Ok, IfErr};
+ghost use Rattle.std.specs.Option.{option_map};
+ghost use Rattle.coding.specs.Answers.{HoldsOrMemory, EqualOrMemory};
+ghost use Rattle.folder.specs.Folder.{TellsSame};
+ghost use Rattle.folder.specs.Opening.{FolderAnswers, HasDeviceFailed, StopsAtDevice};
+ghost use Rattle.commands.specs.FolderLines.{IsLineOfLoaded, IsLineOfVersion, got_line, sequence_at, value_line};
+
+use crate::verifying::WORKERS;
+use checks::{Watch, Work, lawful_tables};
+use coding::Fault;
+use edit::Version;
+use folder::{Folder, load};
+use ikey::SharedComparator;
+use reads::get;
+use std::alloc::Global;
+use std::thread::Threads;
+use texts::text_of;
+
+/// The line of the value in a version, with the tables that the folder holds.
+pub(crate) fn got_in<C: SharedComparator + 'static, F: Folder, W: Watch + Sync, R: Threads + Sync>(
+    rt: &R,
+    alloc: Global,
+    folder: &mut F,
+    version: &Version,
+    key: &[u8],
+    at: Option<u64>,
+    watch: &W,
+) -> Result<Vec<u8>, Fault>
+    ensures answer { FolderAnswers (λ v. v.items) (F.failed folder.old) (F.failed folder.new) result
+        (IsLineOfVersion (F.tells folder.old) C.cmp version.now (got_line key.now at version.now)) }
+    ensures device { IfErr result (HasDeviceFailed (F.failed folder.old) (F.failed folder.new)) }
+    ensures same { TellsSame (F.tells folder.old) (F.tells folder.new) }
+    ensures calls { F.calls folder.new ≡ F.calls folder.old }
+    ensures at_once { StopsAtDevice (F.failed folder.old) (F.failed folder.new) result }
+    ensures later { F.failed folder.old ≤ F.failed folder.new }
+{
+    let loaded = load::<C, F>(alloc, folder, version)?;
+    got::<C, W, R>(rt, alloc, version, &loaded, key, at, watch)
+}
+
+/// The line of the value in a version, with the tables of these numbers and bytes.
+fn got<C: SharedComparator + 'static, W: Watch + Sync, R: Threads + Sync>(
+    rt: &R,
+    alloc: Global,
+    version: &Version,
+    loaded: &[(u64, Vec<u8>)],
+    key: &[u8],
+    at: Option<u64>,
+    watch: &W,
+) -> Result<Vec<u8>, Fault>
+    ensures { HoldsOrMemory (λ v. v.items) result
+        (IsLineOfLoaded C.cmp version.now (map (λ t. (t.0, t.1.items)) loaded.now) (got_line key.now at version.now)) }
+{
+    watch.begin(Work::Check, loaded.len() as u64);
+    let tables = lawful_tables::<C, W, R>(rt, alloc, version, loaded, WORKERS, watch)?;
+    let sequence = sequence_at(version, at);
+    let value = get(alloc, version, &tables, key, sequence)?;
+    value_line(alloc, value)
+}
+
+/// This sequence, or else the version's last one.
+fn sequence_at(version: &Version, at: Option<u64>) -> u64
+    ensures { result ≡ sequence_at version.now at }
+{
+    let last = version.last_sequence().unwrap_or(0);
+    at.unwrap_or(last)
+}
+
+/// The line of a value, and of none.
+fn value_line(alloc: Global, value: Option<&[u8]>) -> Result<Vec<u8>, Fault>
+    ensures { EqualOrMemory (λ v. v.items) result (Ok (value_line (option_map (λ bytes. bytes.now) value.entry))) }
+{
+    let Some(bytes) = value else {
+        return Ok(Vec::from_slice(alloc, b"none\n")?);
+    };
+    let mut line = text_of(alloc, bytes)?.into_bytes();
+    line.push(b'\n')?;
+    Ok(line)
+}

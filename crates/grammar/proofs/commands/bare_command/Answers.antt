@@ -1,0 +1,16 @@
+use Rattle.std.proofs.Common.{ap, true, ◌∙◌}
+use Rattle.clap.specs.Words.{App}
+use Rattle.clap.specs.Simple.{app_of_fields}
+use Rattle.grammar.proofs.commands.bare_command.Goals as goal
+
+abbrev with_command_required : App → App
+with_command_required app = record app { top = record app.top { subcommand_required = true } }
+
+abbrev with_version : App → App
+with_version app = record app { top = record app.top { has_version = true } }
+
+pub returns : goal.returns
+returns c =
+    ap app_of_fields c.subcommand_required.ensures
+    ∙ ap with_command_required (ap app_of_fields c.after_help.ensures ∙ ap app_of_fields c.about.ensures ∙ ap app_of_fields c.version.ensures
+    ∙ ap with_version c.new.ensures.app)

@@ -1,0 +1,4 @@
+-- what contracts rest on
+pub mod Apps
+-- serves proofs alone
+pub mod Commands

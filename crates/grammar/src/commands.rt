@@ -1,0 +1,298 @@
+//! The commands of the program, as `clap` is told of them.
+
+ghost use Rattle.std.specs.Prelude.{◌≡◌, IfOk};
+ghost use Rattle.clap.specs.Words.{App, app_of, new_app, with_subcommand};
+ghost use Rattle.grammar.specs.Commands.{Extends, IsCommand, adding};
+ghost use Rattle.grammar.specs.Apps.{at_rule, bare_app, blocks_app, compact_app, dump_app, flag_rule, folder_app, get_app, number_rule, program_app, snapshots_rule, verbose_rule, wanted, with_levels, with_outputs, with_work};
+
+use clap::{Arg, ArgAction, Command, value_parser};
+use std::alloc::{AllocError, Global};
+
+/// The version, and the kit that proved it.
+const VERSION: &str = "0.1.0, proved with rattle-kit-13f logic dac8208d650f15bf";
+
+const FOLDER_HELP: &str = "The folder";
+
+const FIRST_HELP: &str = "The first file: a block's contents, without trailer";
+
+const SECOND_HELP: &str = "The second file, of the same form";
+
+const OUT_HELP: &str = "The file that gets the block of all entries";
+
+const AT_HELP: &str =
+    "The user key at which the second range begins: hexadecimal digits, or - for the empty key";
+
+const BLOCKS_ABOUT: &str = "Merges the entries of two blocks into the block of their sorted union";
+
+const DUMP_ABOUT: &str = "Prints the entries of a table, a line an entry";
+
+const MANIFEST_ABOUT: &str = "Prints the version that a database folder holds";
+
+const VERIFY_ABOUT: &str = "Tests whether the version that a database folder holds is lawful";
+
+const GET_ABOUT: &str =
+    "Prints the value that a key has in a database folder, in hexadecimal digits, or none";
+
+const GET_KEY_HELP: &str = "The user key: hexadecimal digits, or - for the empty key";
+
+const GET_AT_HELP: &str =
+    "The sequence at which to read, in decimal digits, in place of the version's last one";
+
+const COMPACT_ABOUT: &str =
+    "Compacts files of a database folder into the next level, and installs the outcome";
+
+const LEVEL_HELP: &str = "The level: 0 to 5";
+
+const ALL_HELP: &str =
+    "All levels: each that has files, from 0 down, again and again until all files are at the deepest one";
+
+const VERBOSE_HELP: &str =
+    "Tells on the standard error how long the work took, which file was refused and why, and of a log with writes";
+
+const EXPLAIN_HELP: &str =
+    "Tells on the standard error, behind the lines of each compaction, how it went: inputs, ranges, what was kept and dropped, and outputs, with bars";
+
+const BLOCKS_EXAMPLE: &str = "Example: sedvokt blocks A B --at 6b3130 OUT";
+
+const DUMP_EXAMPLE: &str = "Example: sedvokt dump db/000005.ldb";
+
+const MANIFEST_EXAMPLE: &str = "Example: sedvokt manifest db";
+
+const VERIFY_EXAMPLE: &str = "Example: sedvokt verify db -v";
+
+const GET_EXAMPLE: &str = "Example: sedvokt get db 6b3030303031 --at 1151";
+
+const COMPACT_EXAMPLE: &str = "Examples: sedvokt compact db --level 0
+          sedvokt compact db --all --snapshots 900,1151
+          sedvokt compact db --level 1 --explain";
+
+const WORKERS_HELP: &str = "How many workers carry it out: 1 to 64; 4 where it is left out";
+
+const RANGES_HELP: &str =
+    "Into at most how many ranges of user keys it is split: 1 to 4096; 8 where it is left out";
+
+const SNAPSHOT_HELP: &str = "The oldest snapshot: each get at this sequence or a later one stays";
+
+const SNAPSHOTS_HELP: &str =
+    "The snapshots, as 3,7,9: each get at one of them stays, and at the last sequence or a later one";
+
+const BLOCK_SIZE_HELP: &str =
+    "A data block ends with the entry that makes it so many bytes long: 1 to 4194304; 4096 where it is left out";
+
+const FILE_SIZE_HELP: &str =
+    "A file ends with the entry at which its blocks are so many bytes long: 1 to 1073741824; 2097152 where it is left out";
+
+const STATUSES: &str =
+    "A key is written as hexadecimal digits of either case, two a byte; - is the empty key.
+The status is 0 when the work is done, 1 when it is refused, 2 for a fault of usage and 3 when a device fails.";
+
+/// The program with its commands.
+pub fn program_command<'a>(alloc: Global) -> Result<Command<'a>, AllocError>
+    ensures { IfOk result (λ command. app_of command ≡ program_app) }
+{
+    let command = with_command(bare_command(alloc), blocks_command(alloc))?;
+    let command = with_command(command, dump_command(alloc))?;
+    let command = with_command(
+        command,
+        folder_command(alloc, "manifest", MANIFEST_ABOUT, MANIFEST_EXAMPLE),
+    )?;
+    let command = with_command(
+        command,
+        folder_command(alloc, "verify", VERIFY_ABOUT, VERIFY_EXAMPLE),
+    )?;
+    let command = with_command(command, get_command(alloc))?;
+    with_command(command, compact_command(alloc))
+}
+
+/// The program without its commands.
+fn bare_command<'a>(alloc: Global) -> Command<'a>
+    ensures { app_of result ≡ bare_app }
+{
+    Command::new(alloc, "sedvokt")
+        .version(VERSION)
+        .about("Carries out compactions of sorted tables, by proved code")
+        .after_help(STATUSES)
+        .subcommand_required(true)
+}
+
+/// The command with one more below it. Where that one's memory was refused, so is this.
+fn with_command<'a>(
+    command: Command<'a>,
+    made: Result<Command<'a>, AllocError>,
+) -> Result<Command<'a>, AllocError>
+    ensures { (app : App) → IfOk made.entry (IsCommand app)
+        → IfOk result (λ both. app_of both ≡ with_subcommand (app_of command.entry) app.top) }
+{
+    command.subcommand(made?)
+}
+
+/// The command `blocks A B --at HEXKEY OUT`.
+fn blocks_command<'a>(alloc: Global) -> Result<Command<'a>, AllocError>
+    ensures { IfOk result (IsCommand blocks_app) }
+{
+    let command = named(alloc, "blocks", BLOCKS_ABOUT, BLOCKS_EXAMPLE);
+    let command = with_wanted(alloc, command, "A", FIRST_HELP)?;
+    let command = with_wanted(alloc, command, "B", SECOND_HELP)?;
+    let command = with_at(alloc, command)?;
+    with_wanted(alloc, command, "OUT", OUT_HELP)
+}
+
+/// The command `get DIR HEXKEY [--at N] [-v]`.
+fn get_command<'a>(alloc: Global) -> Result<Command<'a>, AllocError>
+    ensures { IfOk result (IsCommand get_app) }
+{
+    let command = named(alloc, "get", GET_ABOUT, GET_EXAMPLE);
+    let command = with_wanted(alloc, command, "DIR", FOLDER_HELP)?;
+    let command = with_wanted(alloc, command, "HEXKEY", GET_KEY_HELP)?;
+    let command = with_number(alloc, command, "at", "N", GET_AT_HELP)?;
+    with_verbose(alloc, command)
+}
+
+/// The command `dump TABLE`.
+fn dump_command<'a>(alloc: Global) -> Result<Command<'a>, AllocError>
+    ensures { IfOk result (IsCommand dump_app) }
+{
+    let command = named(alloc, "dump", DUMP_ABOUT, DUMP_EXAMPLE);
+    with_wanted(alloc, command, "TABLE", "The file of the table")
+}
+
+/// A command on a folder alone.
+fn folder_command<'a>(
+    alloc: Global,
+    name: &'a str,
+    about: &'a str,
+    example: &'a str,
+) -> Result<Command<'a>, AllocError>
+    ensures { IfOk result (IsCommand (folder_app name.entry.now)) }
+{
+    let command = named(alloc, name, about, example);
+    let command = with_wanted(alloc, command, "DIR", FOLDER_HELP)?;
+    with_verbose(alloc, command)
+}
+
+/// The command `compact DIR (--level N | --all)` with its options.
+fn compact_command<'a>(alloc: Global) -> Result<Command<'a>, AllocError>
+    ensures { IfOk result (IsCommand compact_app) }
+{
+    let command = named(alloc, "compact", COMPACT_ABOUT, COMPACT_EXAMPLE);
+    let command = with_levels(alloc, command)?;
+    let command = with_work(alloc, command)?;
+    with_outputs(alloc, command)
+}
+
+/// The command with the folder, and which levels of it are meant.
+fn with_levels<'a>(alloc: Global, command: Command<'a>) -> Result<Command<'a>, AllocError>
+    ensures { IfOk result (Extends with_levels command.entry) }
+{
+    let command = with_wanted(alloc, command, "DIR", FOLDER_HELP)?;
+    let command = with_number(alloc, command, "level", "N", LEVEL_HELP)?;
+    with_flag(alloc, command, "all", ALL_HELP)
+}
+
+/// The command with the options on how the work is done, and on what is told of it.
+fn with_work<'a>(alloc: Global, command: Command<'a>) -> Result<Command<'a>, AllocError>
+    ensures { IfOk result (Extends with_work command.entry) }
+{
+    let command = with_number(alloc, command, "workers", "W", WORKERS_HELP)?;
+    let command = with_number(alloc, command, "ranges", "R", RANGES_HELP)?;
+    let command = with_verbose(alloc, command)?;
+    with_flag(alloc, command, "explain", EXPLAIN_HELP)
+}
+
+/// The command with the options on snapshots and on the outputs.
+fn with_outputs<'a>(alloc: Global, command: Command<'a>) -> Result<Command<'a>, AllocError>
+    ensures { IfOk result (Extends with_outputs command.entry) }
+{
+    let command = with_number(alloc, command, "snapshot", "S", SNAPSHOT_HELP)?;
+    let command = with_snapshots(alloc, command)?;
+    let command = with_number(alloc, command, "block-size", "B", BLOCK_SIZE_HELP)?;
+    with_number(alloc, command, "file-size", "F", FILE_SIZE_HELP)
+}
+
+/// A command of this name, which has no argument yet.
+fn named<'a>(alloc: Global, name: &'a str, about: &'a str, example: &'a str) -> Command<'a>
+    ensures { IsCommand (new_app name.entry.now) result }
+{
+    Command::new(alloc, name).about(about).after_help(example)
+}
+
+/// The command with an argument that has to be given.
+fn with_wanted<'a>(
+    alloc: Global,
+    command: Command<'a>,
+    id: &'a str,
+    help: &'a str,
+) -> Result<Command<'a>, AllocError>
+    ensures { IfOk result (Extends (adding (wanted id.entry.now)) command.entry) }
+{
+    command.arg(Arg::new(alloc, id).required(true).help(help))
+}
+
+/// The command with an option with a number of 64 bits.
+fn with_number<'a>(
+    alloc: Global,
+    command: Command<'a>,
+    id: &'a str,
+    name: &'a str,
+    help: &'a str,
+) -> Result<Command<'a>, AllocError>
+    ensures { IfOk result (Extends (adding (number_rule id.entry.now)) command.entry) }
+{
+    let number = Arg::new(alloc, id)
+        .long(id)
+        .value_name(name)
+        .value_parser(value_parser!(u64))
+        .help(help);
+    command.arg(number)
+}
+
+/// The command with the flag `-v`.
+fn with_verbose<'a>(alloc: Global, command: Command<'a>) -> Result<Command<'a>, AllocError>
+    ensures { IfOk result (Extends (adding verbose_rule) command.entry) }
+{
+    let verbose = Arg::new(alloc, "verbose")
+        .long("verbose")
+        .action(ArgAction::SetTrue)
+        .help(VERBOSE_HELP)
+        .short('v');
+    command.arg(verbose)
+}
+
+/// The command with a flag.
+fn with_flag<'a>(
+    alloc: Global,
+    command: Command<'a>,
+    id: &'a str,
+    help: &'a str,
+) -> Result<Command<'a>, AllocError>
+    ensures { IfOk result (Extends (adding (flag_rule id.entry.now)) command.entry) }
+{
+    let flag = Arg::new(alloc, id)
+        .long(id)
+        .action(ArgAction::SetTrue)
+        .help(help);
+    command.arg(flag)
+}
+
+/// The command with `--at HEXKEY`, which has to be given.
+fn with_at<'a>(alloc: Global, command: Command<'a>) -> Result<Command<'a>, AllocError>
+    ensures { IfOk result (Extends (adding at_rule) command.entry) }
+{
+    let at = Arg::new(alloc, "at")
+        .required(true)
+        .help(AT_HELP)
+        .long("at")
+        .value_name("HEXKEY");
+    command.arg(at)
+}
+
+/// The command with `--snapshots S,S,..`.
+fn with_snapshots<'a>(alloc: Global, command: Command<'a>) -> Result<Command<'a>, AllocError>
+    ensures { IfOk result (Extends (adding snapshots_rule) command.entry) }
+{
+    let snapshots = Arg::new(alloc, "snapshots")
+        .long("snapshots")
+        .value_name("S,S,..")
+        .help(SNAPSHOTS_HELP);
+    command.arg(snapshots)
+}

@@ -9,6 +9,3 @@ mod numbers;
 
 pub use lines::text;
 pub use numbers::{Account, LevelInputs, Output, RangeEntries};
-
-#[cfg(test)]
-mod tests;

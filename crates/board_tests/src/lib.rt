@@ -1,5 +1,8 @@
-//! The tests of `board`: which seat draws what, and what several workers answer together.
+//! The tests of `board` and `pairing`: which seat draws what, what several workers answer together, and two blocks that are merged
+//! into one by workers, or refused.
 #![tactic(auto)]
 
 #[cfg(test)]
-mod tests;
+mod jobs;
+#[cfg(test)]
+mod pairs;

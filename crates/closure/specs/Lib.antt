@@ -1,5 +1,4 @@
 -- what contracts rest on
 pub mod Closed
 pub mod Together
--- serves proofs alone
 pub mod Row

@@ -1,6 +1,7 @@
 //! The laws of closed inputs.
 
-ghost use Rattle.closure.specs.Closed.{ClosedInputs};
+ghost use Rattle.closure.specs.Closed.{AreClosed, ClosedInputs};
+ghost use Rattle.closure.specs.Row.{first_alone, two_files, two_tables};
 ghost use Rattle.closure.specs.Together.{InputsStandTogether};
 
 use ikey::Comparator;
@@ -13,4 +14,10 @@ pub fn closed_inputs<C: Comparator>()
 /// The law that the entries of the inputs stand together among those of a user key. A call does nothing.
 pub fn inputs_stand_together<C: Comparator>()
     ensures { InputsStandTogether C.cmp }
+{}
+
+/// That closed inputs are no empty word: where a level has `u@10 put` in one file and `u@5 put` in another, the first file alone
+/// isn't closed. A call does nothing.
+pub fn first_alone_is_not_closed<C: Comparator>()
+    ensures { AreClosed C.cmp two_files two_tables first_alone → ⊥ }
 {}

@@ -7,7 +7,4 @@
 
 mod laws;
 
-pub use laws::{closed_inputs, inputs_stand_together};
-
-#[cfg(test)]
-mod tests;
+pub use laws::{closed_inputs, first_alone_is_not_closed, inputs_stand_together};

@@ -6,8 +6,6 @@
 //! words that are advanced apart from each other, over the same four tables.
 
 mod tables;
-#[cfg(test)]
-mod tests;
 
 ghost use Rattle.std.specs.Prelude.{◌≡◌, ℕ, ◌+◌, ◌^◌, ◌<◌, ◌++◌, bit_xor};
 ghost use Rattle.coding.specs.Crc.{RemainderLaw, bits_of, crc32c, masked};

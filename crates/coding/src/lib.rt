@@ -13,6 +13,3 @@ pub use crc::{crc32c, crc32c_pair, crc32c_plain, mask, remainder_law, unmask};
 pub use fault::{Fault, FaultName};
 pub use varint::{one_reading, push_slice, push_varint, read_u32_varint, read_u64_varint};
 pub use words::common_len;
-
-#[cfg(test)]
-mod tests;

@@ -1,4 +1,5 @@
-//! The tests of `folder`: folders in memory and on disk, opened and loaded.
+//! The tests of `folder`, `install` and `store`: folders that are opened and loaded, installations that are cut short or fail, and
+//! compactions of folders.
 #![tactic(auto)]
 
 #[cfg(test)]
@@ -6,6 +7,10 @@ mod ahead;
 #[cfg(test)]
 mod disk;
 #[cfg(test)]
+mod installs;
+#[cfg(test)]
 mod opening;
 #[cfg(test)]
 mod shelf;
+#[cfg(test)]
+mod stores;

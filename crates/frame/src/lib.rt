@@ -21,6 +21,3 @@ pub fn reads_back()
     ensures only_stored { OnlyStoredLaw }
     ensures footer { FooterLaw }
 {}
-
-#[cfg(test)]
-mod tests;

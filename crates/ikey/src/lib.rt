@@ -20,6 +20,3 @@ pub use key_buf::KeyBuf;
 pub use kind::Kind;
 pub use short::{internal_separator, internal_successor};
 pub use shortlex::Shortlex;
-
-#[cfg(test)]
-mod tests;

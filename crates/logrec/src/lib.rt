@@ -13,6 +13,3 @@ mod writing;
 pub use laws::log_laws;
 pub use reading::records;
 pub use writing::append;
-
-#[cfg(test)]
-mod tests;

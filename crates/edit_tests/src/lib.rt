@@ -1,5 +1,0 @@
-//! The tests of `edit`.
-#![tactic(auto)]
-
-#[cfg(test)]
-mod tests;

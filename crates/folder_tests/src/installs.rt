@@ -1,0 +1,4 @@
+//! The tests of `install`.
+
+mod crashes;
+mod tests;

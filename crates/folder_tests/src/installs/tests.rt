@@ -1,0 +1,401 @@
+use crate::installs::crashes::{made_at, make_left};
+use coding::{Fault, FaultName};
+use edit::{Outcome, Version};
+use folder::{Failing, Folder, FolderFault, Order, Shelf, ShelfStep, load, open};
+use ikey::Bytewise;
+use install::install;
+use std::alloc::Global;
+use std::process::Abort;
+
+/// A log of one record: the comparator, log number 3, previous log number 0, next file 8, last sequence 4, and new files at
+/// level 1, number 6 of 3 bytes for `t` and number 7 of 5 bytes for `u`.
+const MANIFEST: &[u8] = b"\
+    \xb7\xaf\x65\x81\x54\0\x01\x01\x1aleveldb.BytewiseComparator\x02\x03\x09\0\x03\x08\x04\x04\
+    \x07\x01\x06\x03\x09t\x01\x01\0\0\0\0\0\0\x09t\x01\x01\0\0\0\0\0\0\
+    \x07\x01\x07\x05\x09u\x01\x02\0\0\0\0\0\0\x09u\x01\x02\0\0\0\0\0\0";
+
+/// The files of the version before: file 6 has its older name, and file 9 was left by an earlier failure.
+const FILES: &[(&str, &[u8])] = &[
+    ("CURRENT", b"MANIFEST-000005\n"),
+    ("MANIFEST-000005", MANIFEST),
+    ("000006.sst", b"six"),
+    ("000007.ldb", b"seven"),
+    ("000009.ldb", b"left behind"),
+];
+
+/// How many calls open that folder and load its tables. That of file 6 is looked for by both of its names.
+const READS: u64 = 5;
+
+/// Tables by their numbers.
+type Tables = &'static [(u64, &'static [u8])];
+
+/// The next file of the version before.
+const BEFORE: u64 = 8;
+
+/// The versions that are known, by their next file, with their tables: the one before, the edited ones, and one that is edited
+/// a second time.
+const VERSIONS: &[(u64, Tables)] = &[
+    (BEFORE, &[(6, b"six"), (7, b"seven")]),
+    (9, &[(6, b"six")]),
+    (10, &[(6, b"six"), (9, b"nine")]),
+    (
+        12,
+        &[(6, b"six"), (9, b"nine"), (10, b"ten"), (11, b"eleven")],
+    ),
+    (13, &[(6, b"six"), (12, b"twelve")]),
+];
+
+/// An outcome and its installation.
+#[derive(Drop)]
+struct Row {
+    /// The number of the manifest that is written.
+    manifest: u64,
+    edit: &'static [u8],
+    tables: Tables,
+    /// How many calls are made that write.
+    calls: u64,
+    /// The next file of the edited version.
+    edited: u64,
+    /// That of the version behind a second run, which begins with the edited one.
+    again: u64,
+}
+
+/// The outcomes of no output, of one and of three. Their edits set log number 3, previous log number 0, next file and last
+/// sequence 4, and delete file 7 at level 1. New at level 2 are number 9 of 4 bytes for `u`, number 10 of 3 bytes for `v` and
+/// number 11 of 6 bytes for `w`.
+const ROWS: &[&Row] = &[
+    &Row {
+        manifest: BEFORE,
+        edit: b"\x02\x03\x09\0\x03\x09\x04\x04\x06\x01\x07",
+        tables: &[],
+        calls: 7,
+        edited: 9,
+        again: 9,
+    },
+    ONE,
+    &Row {
+        manifest: BEFORE,
+        edit: b"\
+            \x02\x03\x09\0\x03\x0c\x04\x04\x06\x01\x07\
+            \x07\x02\x09\x04\x09u\x01\x02\0\0\0\0\0\0\x09u\x01\x02\0\0\0\0\0\0\
+            \x07\x02\x0a\x03\x09v\x01\x03\0\0\0\0\0\0\x09v\x01\x03\0\0\0\0\0\0\
+            \x07\x02\x0b\x06\x09w\x01\x04\0\0\0\0\0\0\x09w\x01\x04\0\0\0\0\0\0",
+        tables: &[(9, b"nine"), (10, b"ten"), (11, b"eleven")],
+        calls: 13,
+        edited: 12,
+        again: 12,
+    },
+];
+
+/// That of one output.
+const ONE: &Row = &Row {
+    manifest: BEFORE,
+    edit: b"\
+        \x02\x03\x09\0\x03\x0a\x04\x04\x06\x01\x07\
+        \x07\x02\x09\x04\x09u\x01\x02\0\0\0\0\0\0\x09u\x01\x02\0\0\0\0\0\0",
+    tables: &[(9, b"nine")],
+    calls: 9,
+    edited: 10,
+    again: 13,
+};
+
+/// The outcome of a second run over the version of one output: next file is 13, file 9 at level 2 is deleted, and number 12 of
+/// 6 bytes for `u` is new there.
+const SECOND: &Row = &Row {
+    manifest: 10,
+    edit: b"\
+        \x02\x03\x09\0\x03\x0d\x04\x04\x06\x02\x09\
+        \x07\x02\x0c\x06\x09u\x01\x02\0\0\0\0\0\0\x09u\x01\x02\0\0\0\0\0\0",
+    tables: &[(12, b"twelve")],
+    calls: 9,
+    edited: 13,
+    again: 13,
+};
+
+/// The outcome of a row.
+fn outcome_of(alloc: Global, row: &Row) -> Result<Outcome, Fault> {
+    let mut tables = Vec::new(alloc);
+    for (number, bytes) in row.tables {
+        tables.push((*number, Vec::from_slice(alloc, bytes)?))?;
+    }
+    let edit = Vec::from_slice(alloc, row.edit)?;
+    Ok(Outcome { tables, edit })
+}
+
+/// The version of a folder, with its order.
+fn version_of(alloc: Global, folder: &mut Shelf<'_>) -> Result<(Order, Version), Fault> {
+    open(alloc, folder)
+}
+
+/// The tables of a version.
+fn tables_of(
+    alloc: Global,
+    folder: &mut Shelf<'_>,
+    version: &Version,
+) -> Result<Vec<(u64, Vec<u8>)>, Fault> {
+    load::<Bytewise, Shelf<'_>>(alloc, folder, version)
+}
+
+/// Installs over a version.
+fn installed(
+    alloc: Global,
+    shelf: &mut Shelf<'_>,
+    version: &Version,
+    manifest_number: u64,
+    outcome: &Outcome,
+) -> Result<(), Fault> {
+    install::<Bytewise, Shelf<'_>>(alloc, shelf, version, manifest_number, outcome)
+}
+
+/// Whether the tables are these.
+fn are(tables: &[(u64, Vec<u8>)], wanted: &[(u64, &[u8])]) -> bool {
+    for (table, one) in tables.iter().zip(wanted) {
+        if table.0 != one.0 || table.1.as_slice() != one.1 {
+            return false;
+        }
+    }
+    tables.len() == wanted.len()
+}
+
+/// The next file of a version that is known, with these tables, and else 0.
+fn known(order: Order, version: &Version, tables: &[(u64, Vec<u8>)]) -> u64 {
+    for (next_file, wanted) in VERSIONS {
+        if version.next_file() == Some(*next_file)
+            && order == Order::Bytewise
+            && version.last_sequence() == Some(4)
+            && are(tables, wanted)
+        {
+            return *next_file;
+        }
+    }
+    0
+}
+
+/// Opens a folder and loads its tables. Its version, and its next file where it is known, and else 0.
+fn opened(alloc: Global, folder: &mut Shelf<'_>) -> Result<(Version, u64), Fault> {
+    let (order, version) = version_of(alloc, folder)?;
+    let tables = tables_of(alloc, folder, &version)?;
+    let number = known(order, &version, &tables);
+    Ok((version, number))
+}
+
+/// The next file of the known version that a folder reads as, and 0 where it reads as none.
+fn read_as(alloc: Global, folder: &mut Shelf<'_>) -> u64 {
+    match opened(alloc, folder) {
+        Ok((_version, number)) => number,
+        Err(_) => 0,
+    }
+}
+
+/// Opens a folder, loads its tables and installs the outcome of a row.
+fn install_row(alloc: Global, shelf: &mut Shelf<'_>, row: &Row) -> Result<(), Fault> {
+    let (version, _number) = opened(alloc, shelf)?;
+    let outcome = outcome_of(alloc, row)?;
+    installed(alloc, shelf, &version, row.manifest, &outcome)
+}
+
+/// The same, and then opens it and loads its tables again. What it reads as.
+fn round(alloc: Global, shelf: &mut Shelf<'_>, row: &Row) -> Result<u64, Fault> {
+    install_row(alloc, shelf, row)?;
+    let (_version, number) = opened(alloc, shelf)?;
+    Ok(number)
+}
+
+/// What a folder reads as of which a crash leaves these calls, as the choice picks it. None where the choice is past the last.
+fn read_crashed(alloc: Global, steps: &[ShelfStep], choice: u64) -> Option<u64> {
+    let mut shelf = Shelf::new(alloc, FILES);
+    match make_left(&mut shelf, steps, choice) {
+        Ok(true) => Some(read_as(alloc, &mut shelf)),
+        Ok(false) => None,
+        Err(_) => Some(0),
+    }
+}
+
+/// Whether the older of two versions is among what crashes leave of these calls, and whether the newer one is. None where a
+/// folder is left that reads as neither.
+fn found(alloc: Global, steps: &[ShelfStep], (older, newer): (u64, u64)) -> Option<(bool, bool)> {
+    let mut found = (false, false);
+    for choice in 0..u64::MAX {
+        match read_crashed(alloc, steps, choice) {
+            None => break,
+            Some(number) if number == older => found.0 = true,
+            Some(number) if number == newer => found.1 = true,
+            Some(_) => return None,
+        }
+    }
+    Some(found)
+}
+
+/// The first moment of these calls, from one on, at which a crash leaves what it should not: before the rename, which is the
+/// last but one, the older version; from inside it on to the end either; and behind the last the newer one.
+fn wrong_moment(
+    alloc: Global,
+    steps: &[ShelfStep],
+    first: usize,
+    versions: (u64, u64),
+) -> Option<usize> {
+    let end = steps.len().saturating_mul(2);
+    for moment in first..end.saturating_add(1) {
+        if let Some(made) = made_at(steps, moment) {
+            let wanted = (moment < end, moment.saturating_add(3) >= end);
+            if found(alloc, made, versions) != Some(wanted) {
+                return Some(moment);
+            }
+        }
+    }
+    None
+}
+
+/// The first moment of the installation of a row at which a crash leaves what it should not.
+fn wrong_crash(alloc: Global, row: &Row) -> Option<usize> {
+    let mut shelf = Shelf::new(alloc, FILES);
+    if install_row(alloc, &mut shelf, row).is_err() {
+        return Some(0);
+    }
+    wrong_moment(alloc, shelf.steps(), 0, (BEFORE, row.edited))
+}
+
+/// Syncs a folder after a failure and installs again: the same outcome where it reads as the version before, and the second
+/// one over that of one output. What the folder reads as then.
+fn run_again(alloc: Global, shelf: &mut Shelf<'_>, row: &Row) -> u64 {
+    if shelf.sync_folder().is_err() {
+        return 0;
+    }
+    match read_as(alloc, shelf) {
+        BEFORE => round(alloc, shelf, row).unwrap_or(0),
+        10 => round(alloc, shelf, SECOND).unwrap_or(0),
+        other => other,
+    }
+}
+
+/// Whether an answer is the fault of the call that fails, none was made behind it, and the device failed where it did.
+fn is_last(shelf: &Shelf<'_>, answer: Result<(), Fault>, failing: Failing) -> bool {
+    let failures = match failing.fault {
+        FolderFault::Device => 1,
+        FolderFault::Memory => 0,
+    };
+    answer == Err(Fault::from(failing.fault))
+        && shelf.calls() == failing.call
+        && shelf.failures() == failures
+}
+
+/// Whether an installation of which a call fails ends there; a crash then leaves the version before, or from the rename on
+/// either; the folder reads as the version before, or behind the rename as the edited one; and a second run goes on from it.
+fn ends_there(alloc: Global, shelf: &mut Shelf<'_>, row: &Row, failing: Failing) -> bool {
+    let answer = install_row(alloc, shelf, row);
+    let rename = READS.saturating_add(row.calls).saturating_sub(1);
+    let is_renamed = failing.call > rename || (failing.call == rename && failing.is_half_done);
+    let (read, again) = if is_renamed {
+        (row.edited, row.again)
+    } else {
+        (BEFORE, row.edited)
+    };
+    // A crash leaves the same in each of the four ways, since the calls are the same.
+    let is_other = failing.is_half_done || failing.fault == FolderFault::Memory;
+    let left = Some((true, failing.call >= rename));
+    is_last(shelf, answer, failing)
+        && (is_other || found(alloc, shelf.steps(), (BEFORE, row.edited)) == left)
+        && read_as(alloc, shelf) == read
+        && run_again(alloc, shelf, row) == again
+}
+
+/// The first call of the reading and the installation of a row behind whose failure it is not so: by the device or by memory,
+/// half done or not at all.
+fn wrong_failure(alloc: Global, row: &Row) -> Option<usize> {
+    let calls = READS.saturating_add(row.calls);
+    for way in 0..calls.saturating_mul(4) {
+        let failing = Failing {
+            call: way / 4 + 1,
+            fault: if way % 2 == 0 {
+                FolderFault::Device
+            } else {
+                FolderFault::Memory
+            },
+            is_half_done: way % 4 > 1,
+        };
+        if !ends_there(
+            alloc,
+            &mut Shelf::new(alloc, FILES).failing(failing),
+            row,
+            failing,
+        ) {
+            return Some(failing.call as usize);
+        }
+    }
+    None
+}
+
+/// Tests that nothing is wrong with a row.
+fn is_none(rt: &impl Abort, wrong: Option<usize>, row: &Row) {
+    assert_eq!(rt; wrong, None, "of {} calls", row.calls);
+}
+
+#[test]
+fn crashes_and_calls_that_fail(rt: HostRuntime) {
+    for row in ROWS {
+        is_none(&rt, wrong_crash(rt.alloc(), row), row);
+        is_none(&rt, wrong_failure(rt.alloc(), row), row);
+    }
+}
+
+/// The failure of the last call.
+const LAST_SYNC: Failing = Failing {
+    call: READS + 9,
+    fault: FolderFault::Device,
+    is_half_done: false,
+};
+
+/// The first moment at which a crash leaves what it should not, of a second run behind an installation whose last call failed.
+/// Behind its sync of the folder, the tenth call, that is never the version before.
+fn wrong_after_the_last_sync(alloc: Global, shelf: &mut Shelf<'_>) -> Option<usize> {
+    if install_row(alloc, shelf, ONE).is_err()
+        && run_again(alloc, shelf, ONE) == SECOND.edited
+        && shelf.steps().len() == 19
+    {
+        wrong_moment(alloc, shelf.steps(), 20, (ONE.edited, SECOND.edited))
+    } else {
+        Some(0)
+    }
+}
+
+#[test]
+fn folder_not_synced_first(rt: HostRuntime) {
+    let mut shelf = Shelf::new(rt.alloc(), FILES).failing(LAST_SYNC);
+    is_none(
+        &rt,
+        wrong_after_the_last_sync(rt.alloc(), &mut shelf),
+        SECOND,
+    );
+}
+
+/// Whether so many calls were made that write, none failed, and CURRENT names the new manifest.
+fn is_made(shelf: &Shelf<'_>, row: &Row) -> bool {
+    shelf.steps().len() as u64 == row.calls
+        && shelf.failures() == 0
+        && shelf.held("CURRENT") == Some(b"MANIFEST-000008\n".as_slice())
+}
+
+/// Whether an installation makes its calls and the folder then reads as the edited version, or it is refused for want of memory
+/// and leaves one of the two. One growth alone is refused.
+fn ends_well(alloc: Global, shelf: &mut Shelf<'_>, row: &Row) -> bool {
+    match round(alloc, shelf, row) {
+        Ok(number) => number == row.edited && is_made(shelf, row),
+        Err(fault) => {
+            let number = read_as(alloc, shelf);
+            fault.name == FaultName::Memory && (number == BEFORE || number == row.edited)
+        }
+    }
+}
+
+// With `rt try --test --fail-alloc N` the Nth growth is refused; without it, none is.
+#[test]
+fn a_refused_growth_is_memory(rt: HostRuntime) {
+    for row in ROWS {
+        let mut shelf = Shelf::new(rt.alloc(), FILES);
+        assert!(rt;
+            ends_well(rt.alloc(), &mut shelf, row),
+            "of {} calls",
+            row.calls
+        );
+    }
+}

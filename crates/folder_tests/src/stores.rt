@@ -1,0 +1,4 @@
+//! The tests of `store`.
+
+mod rows;
+mod tests;

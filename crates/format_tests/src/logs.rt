@@ -1,0 +1,66 @@
+use coding::Fault;
+use logrec::*;
+use std::alloc::Global;
+use std::test::*;
+
+/// A record of so many bytes 7 and one behind it: how many bytes their log has, and how it ends.
+type Row = (usize, &'static [u8], usize, &'static [u8]);
+
+/// Records within a block, at its end and over several blocks.
+const ROWS: &[Row] = &[
+    // Two empty records.
+    (
+        0,
+        b"",
+        14,
+        b"\x05\x2b\x28\x43\0\0\x01\x05\x2b\x28\x43\0\0\x01",
+    ),
+    (
+        0,
+        b"abc",
+        17,
+        b"\x05\x2b\x28\x43\0\0\x01\xf2\x70\xe8\x9d\x03\0\x01abc",
+    ),
+    // An empty FIRST and a LAST where seven bytes of a block are left.
+    (
+        32_754,
+        b"x",
+        32_776,
+        b"\x07\x64\x51\xd0\xe9\0\0\x02\x2c\x74\x1b\xd8\x01\0\x04x",
+    ),
+    // Zeros where six are left.
+    (
+        32_755,
+        b"",
+        32_775,
+        b"\x07\0\0\0\0\0\0\x05\x2b\x28\x43\0\0\x01",
+    ),
+    // A record of four fragments.
+    (100_000, b"", 100_035, b"\x07\x05\x2b\x28\x43\0\0\x01"),
+];
+
+/// Whether a log is read as these two records.
+fn are_records(read: &[Vec<u8>], first: &[u8], second: &[u8]) -> bool {
+    match (read.first(), read.last()) {
+        (Some(one), Some(other)) => {
+            read.len() == 2 && one.as_slice() == first && other.as_slice() == second
+        }
+        _ => false,
+    }
+}
+
+/// Whether the log of a row's records is as the row says, and is read as they are.
+fn is_log(alloc: Global, (len, second, log_len, end): Row) -> Result<bool, Fault> {
+    let first = vec![in alloc; 7u8; len]?;
+    let log = append(alloc, &append(alloc, &[], &first)?, second)?;
+    let is_written = log.len() == log_len && log.ends_with(end);
+    Ok(is_written && are_records(&records(alloc, &log)?, &first, second))
+}
+
+#[test]
+fn logs_of_two_records(rt: HostRuntime) -> Result<(), Fault> {
+    for row in ROWS {
+        assert!(rt; is_log(rt.alloc(), *row)?, "{}", row.2);
+    }
+    Ok(())
+}

@@ -1,5 +1,0 @@
-//! The tests of `pick`.
-#![tactic(auto)]
-
-#[cfg(test)]
-mod tests;

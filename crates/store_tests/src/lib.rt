@@ -1,7 +1,0 @@
-//! The tests of `store`.
-#![tactic(auto)]
-
-#[cfg(test)]
-mod rows;
-#[cfg(test)]
-mod tests;

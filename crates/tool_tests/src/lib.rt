@@ -1,9 +1,10 @@
-//! The tests of `tool` and `diagnostics`: the commands over folders in memory, and the texts that are made of what they answer.
+//! The tests of `commands`, `diagnostics`, `usage` and `texts`, whose calls `tool` lets out: what a command line asks for, and what calls on
+//! folders, tables and keys answer.
 #![tactic(auto)]
 
 #[cfg(test)]
-mod commands;
+mod answers;
 #[cfg(test)]
-mod descents;
+mod folders;
 #[cfg(test)]
-mod texts;
+mod lines;

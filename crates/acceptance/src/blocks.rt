@@ -55,16 +55,6 @@ fn boundary(alloc: Global, case: &Case) -> Result<Vec<u8>> {
     Ok(at)
 }
 
-/// Two blocks' entries, and their block.
-fn merged<R: AllocGlobal + Threads + Sync>(
-    rt: &R,
-    a: &[u8],
-    b: &[u8],
-    at: &[u8],
-) -> Result<(u64, Vec<u8>), Fault> {
-    tool::blocks(rt, rt.alloc(), a, b, at)
-}
-
 /// What `blocks` answers of a case.
 fn answer<R: Files + AllocGlobal + Threads + Sync>(
     rt: &R,
@@ -73,7 +63,7 @@ fn answer<R: Files + AllocGlobal + Threads + Sync>(
     let at = boundary(rt.alloc(), case)?;
     let a = file(rt, case.name, "a")?;
     let b = file(rt, case.name, "b")?;
-    Ok(merged(rt, &a, &b, &at))
+    Ok(tool::blocks(rt, rt.alloc(), &a, &b, &at))
 }
 
 /// The line of a block, which has to be the one that is wanted.

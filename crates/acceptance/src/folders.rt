@@ -15,7 +15,7 @@ use table::check;
 use tool::{key_of, text_of};
 
 /// The names of the folders.
-pub(crate) const FOLDERS: [&str; 3] = ["level0", "compacted", "mixed"];
+const FOLDERS: [&str; 3] = ["level0", "compacted", "mixed"];
 
 /// Of how many gets the command is compared too.
 const BY_COMMAND: usize = 5;
@@ -38,14 +38,6 @@ pub(crate) enum Kept {
 }
 
 impl Kept {
-    /// What the name of a folder's copy ends with.
-    pub fn ending(self) -> &'static str {
-        match self {
-            Kept::Every => "every",
-            Kept::Last => "last",
-        }
-    }
-
     /// Which gets have to stay, in words.
     pub fn gets(self) -> &'static str {
         match self {
@@ -137,14 +129,6 @@ fn words_of(line: &str) -> Result<(&str, &str, &str)> {
     Ok((key, sequence, wanted))
 }
 
-/// The sequence of a word.
-fn sequence_of(word: &str) -> Result<Option<u64>> {
-    Ok(match word {
-        "-" => None,
-        number => Some(number.parse()?),
-    })
-}
-
 /// The key of a word.
 fn key_in(alloc: Global, word: &str) -> Result<Vec<u8>> {
     let Some(key) = key_of(alloc, word)? else {
@@ -156,7 +140,10 @@ fn key_in(alloc: Global, word: &str) -> Result<Vec<u8>> {
 /// The get of a line.
 fn get_of(alloc: Global, line: &str) -> Result<Get<'_>> {
     let (key, sequence, wanted) = words_of(line)?;
-    let at = sequence_of(sequence)?;
+    let at = match sequence {
+        "-" => None,
+        number => Some(number.parse()?),
+    };
     let key = key_in(alloc, key)?;
     Ok(Get { key, at, wanted })
 }
@@ -240,14 +227,6 @@ fn text_at(
     }
 }
 
-/// Compares the text of a value.
-fn compare_texts(text: &str, wanted: &str) -> Result<()> {
-    if text != wanted {
-        bail!("the value {wanted} was wanted, and is {text}");
-    }
-    Ok(())
-}
-
 /// Compares what a version answers of one get.
 fn compare(
     alloc: Global,
@@ -256,5 +235,9 @@ fn compare(
     wanted: &Get<'_>,
 ) -> Result<()> {
     let text = text_at(alloc, version, tables, wanted)?;
-    compare_texts(&text, wanted.wanted)
+    let wanted = wanted.wanted;
+    if text.as_str() != wanted {
+        bail!("the value {wanted} was wanted, and is {text}");
+    }
+    Ok(())
 }

@@ -1,4 +1,5 @@
-//! Runs Sedvokt's calls on files that LevelDB 1.23 wrote, and compares what they answer with what has to come of them.
+//! Runs Sedvokt's calls on files that LevelDB 1.23 wrote, and compares what they answer with what has to come of them. Then it
+//! does what its own words ask for, as the program `sedvokt` does: its stored run compacts all levels of a folder and tells how.
 #![tactic(auto)]
 
 mod blocks;
@@ -11,19 +12,13 @@ use anyhow::{Context, Result, bail};
 use blocks::print_blocks;
 use compactions::print_compactions;
 use folders::print_folders;
-use std::alloc::Global;
 use std::fs;
 use std::rt::Files;
 use tables::print_tables;
 
-/// A name with an ending.
-fn with_ending(alloc: Global, name: &str, ending: &str) -> Result<String> {
-    Ok(format!(in alloc; "{name}.{ending}")?)
-}
-
 /// The bytes of the file of this name and ending.
 fn file<R: Files + AllocGlobal>(rt: &R, name: &str, ending: &str) -> Result<Vec<u8>> {
-    let path = with_ending(rt.alloc(), name, ending)?;
+    let path = format!(in rt.alloc(); "{name}.{ending}")?;
     fs::read(rt, path.as_str()).context(format_args!("reading {path}"))
 }
 
@@ -55,5 +50,11 @@ fn main(rt: HostRuntime) -> Result<()> {
     print_blocks(&rt)?;
     print_tables(&rt)?;
     print_folders(&rt)?;
-    print_compactions(&rt)
+    print_compactions(&rt)?;
+    let status = tool::run(&rt, false);
+    wanted(
+        status == 0,
+        "the words of this run",
+        "another status was wanted",
+    )
 }

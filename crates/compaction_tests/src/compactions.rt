@@ -1,0 +1,6 @@
+//! The tests of `compact`: rows of the whole, over ranges and workers.
+
+mod gates;
+mod rows;
+mod tables;
+mod tests;

@@ -1,5 +1,0 @@
-//! The tests of `keep`: which entries stay in a range.
-#![tactic(auto)]
-
-#[cfg(test)]
-mod tests;

@@ -4,8 +4,8 @@ ghost use Rattle.std.specs.Prelude.{◌≡◌, map, IfOk};
 ghost use Rattle.cut.specs.Plan.{encoded};
 ghost use Rattle.cut.specs.Planning.{lists_in};
 
+use crate::plans::merged_runs::{picked, plan_of, runs_of};
 use crate::plans::rows::{ALL, Answer, Output, REPEATED, ROWS, Row};
-use crate::plans::runs::{picked, plan_of, runs_of};
 use crate::plans::tables::{LONG_HEAD, LONG_TAIL};
 use coding::{Fault, FaultName};
 use cut::Plan;

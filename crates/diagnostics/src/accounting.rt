@@ -58,18 +58,52 @@ fn account_by<C: Comparator, F: Folder>(
 {
     let picked = inputs::<C>(alloc, before, level)?;
     let outputs = outputs_of::<C>(alloc, after, before.next_file().unwrap_or(0))?;
-    let taken = read_tables(alloc, folder, &numbers_of_inputs(alloc, &picked.files)?)?;
-    let made = read_tables(alloc, folder, &numbers_of_outputs(alloc, &outputs)?)?;
-    let (ranges, kept) = counted::<C>(alloc, &taken, &made, ranges)?;
-    let upper = inputs_at(&picked.files, level);
-    let lower = inputs_at(&picked.files, level.saturating_add(1));
-    Ok(Account {
-        inputs: vec![in alloc; upper, lower]?,
-        kept,
-        dropped: sum(&ranges).saturating_sub(kept),
-        ranges,
+    let entries = entries_of::<C, F>(alloc, folder, &picked.files, &outputs, ranges)?;
+    let levels = levels_of(alloc, &picked.files, level)?;
+    Ok(account(levels, entries, outputs))
+}
+
+/// The account of what went in, what is kept of it, and what came out.
+fn account(inputs: Vec<LevelInputs>, entries: Entries, outputs: Vec<Output>) -> Account {
+    Account {
+        inputs,
+        kept: entries.kept,
+        dropped: sum(&entries.ranges).saturating_sub(entries.kept),
+        ranges: entries.ranges,
         outputs,
-    })
+    }
+}
+
+/// What the inputs of a level and of the next one are together.
+fn levels_of(alloc: Global, files: &[InputFile], level: u64) -> Result<Vec<LevelInputs>, Fault> {
+    let upper = inputs_at(files, level);
+    let lower = inputs_at(files, level.saturating_add(1));
+    Ok(vec![in alloc; upper, lower]?)
+}
+
+/// The entries of a compaction.
+#[derive(Drop)]
+struct Entries {
+    /// How many the inputs have, by range.
+    ranges: Vec<RangeEntries>,
+    /// How many the outputs have.
+    kept: u64,
+}
+
+/// The entries of inputs and outputs, by the files of their tables.
+fn entries_of<C: Comparator, F: Folder>(
+    alloc: Global,
+    folder: &mut F,
+    files: &[InputFile],
+    outputs: &[Output],
+    ranges: u64,
+) -> Result<Entries, Fault>
+    ensures same { TellsSame (F.tells folder.old) (F.tells folder.new) }
+    ensures calls { F.calls folder.new ≡ F.calls folder.old }
+{
+    let taken = read_tables(alloc, folder, &numbers_of_inputs(alloc, files)?)?;
+    let made = read_tables(alloc, folder, &numbers_of_outputs(alloc, outputs)?)?;
+    counted::<C>(alloc, &taken, &made, ranges)
 }
 
 /// The inputs of a level.
@@ -157,13 +191,18 @@ fn counted<C: Comparator>(
     taken: &[Vec<u8>],
     made: &[Vec<u8>],
     ranges: u64,
-) -> Result<(Vec<RangeEntries>, u64), Fault> {
+) -> Result<Entries, Fault> {
     let inputs = checked::<C>(alloc, taken)?;
-    let outputs = checked::<C>(alloc, made)?;
     let split = Split::choose(alloc, &inputs, ranges)?;
     let ranges = entries_by_range(alloc, &inputs, &split)?;
-    let kept = sum(&entries_by_range(alloc, &outputs, &split)?);
-    Ok((ranges, kept))
+    let kept = kept_of::<C>(alloc, made, &split)?;
+    Ok(Entries { ranges, kept })
+}
+
+/// How many entries tables of these bytes have together.
+fn kept_of<C: Comparator>(alloc: Global, made: &[Vec<u8>], split: &Split<C>) -> Result<u64, Fault> {
+    let outputs = checked::<C>(alloc, made)?;
+    Ok(sum(&entries_by_range(alloc, &outputs, split)?))
 }
 
 /// The tables that the bytes of files are.

@@ -1,31 +1,77 @@
 //! The program `bench`: how fast the hot paths are.
 //!
-//! With the word `full` it times them over 64 MiB and prints a table. Without it, it makes the same calls but the reading of a
-//! file over a few blocks, and prints one line, the same on each machine.
+//! With the word `full` it times them over 64 MiB and prints a table. `bench compact DIR ROUNDS RANGES` reads the tables of a
+//! database folder once, picks the inputs of level 0, and times the call `compact` alone by one, two and four workers in turn, over
+//! at most so many ranges; nothing is written to the folder. Without words, it makes the same calls but the reading of a file over a
+//! few blocks and a small folder, and prints what is the same on each machine.
 #![tactic(auto)]
 
 mod blocks;
-mod checksums;
-mod comparing;
+mod compaction;
+mod entries;
 mod figures;
 mod files;
 mod jobs;
+mod made;
 mod manifests;
-mod merging;
-mod outputs;
-mod random;
 mod ranges;
+mod sums;
 mod tables;
 mod versions;
+mod work;
+mod workers;
 
-use anyhow::Result;
+use anyhow::{Result, ensure};
+use coding::Fault;
+use entries::{VALUE_LEN, values_of};
 use figures::Figures;
-use std::alloc::Global;
 use std::env;
-use std::rt::Clock;
 use std::thread::Threads;
+use sums::over;
+use tables::Group;
+use work::{Work, told};
+
+/// What figures are taken of.
+#[derive(Clone, Copy)]
+enum Part {
+    Copy,
+    Sums,
+    SumByBit,
+    Blocks,
+    Tables(Group),
+    /// Keys compared, near ones or far ones.
+    Keys(bool),
+    /// Manifests, whose files stand in one record or in many.
+    Manifests(bool),
+}
+
+/// What is timed without workers and files, in the order of the figures.
+const PARTS: &[Part] = &[
+    Part::Copy,
+    Part::Sums,
+    Part::SumByBit,
+    Part::Blocks,
+    Part::Tables(Group::Whole),
+    Part::Tables(Group::Seeks),
+    Part::Tables(Group::Builder),
+    Part::Tables(Group::Cursors(4)),
+    Part::Tables(Group::Cursors(16)),
+    Part::Tables(Group::Cursors(64)),
+    Part::Tables(Group::Cursors(256)),
+    Part::Tables(Group::Range),
+    Part::Tables(Group::Outputs),
+    Part::Tables(Group::Lawful),
+    Part::Tables(Group::Split),
+    Part::Keys(true),
+    Part::Keys(false),
+    Part::Manifests(false),
+    Part::Manifests(true),
+];
+/// The folder of the run without words.
+const SMALL: &str = "mixed";
 
 /// How much a run does.
+#[derive(Clone, Copy)]
 struct Extent {
     /// How many bytes go through each call.
     bytes: usize,
@@ -34,7 +80,7 @@ struct Extent {
     /// How many files manifests have.
     files: u64,
     /// How many keys are compared, each with each.
-    keys: u32,
+    keys: usize,
     /// The rounds, of which the fastest counts.
     rounds: u32,
 }
@@ -56,62 +102,154 @@ const TINY: Extent = Extent {
     rounds: 1,
 };
 
-/// Takes the figures of pseudo-random bytes and of so many keys.
-fn measure_bytes(
-    clock: &impl Clock,
-    alloc: Global,
-    bytes: &[u8],
-    keys: u32,
-    figures: &mut Figures,
-) -> Result<()> {
-    checksums::measure(clock, alloc, bytes, figures)?;
-    blocks::measure(clock, alloc, bytes, figures)?;
-    tables::measure(clock, alloc, bytes, figures)?;
-    merging::measure(clock, alloc, bytes, figures)?;
-    ranges::measure(clock, alloc, bytes, figures)?;
-    versions::measure(clock, alloc, bytes, figures)?;
-    comparing::measure(clock, alloc, bytes, keys, figures)
+/// What the words of the command line ask for.
+#[derive(Drop)]
+enum Words {
+    Tiny,
+    Full,
+    Folder(Folder),
 }
 
-/// Takes the figures of a run that does so much, over these bytes, but those of a file.
-fn measure<R: Clock + Threads + Sync>(
-    rt: &R,
-    alloc: Global,
+/// A folder whose compaction is timed in so many rounds over at most so many ranges.
+#[derive(Drop)]
+struct Folder {
+    path: String,
+    rounds: u32,
+    ranges: u64,
+}
+
+/// Reads the words of the command line.
+fn read_words(rt: &HostRuntime) -> Result<Words, Fault> {
+    let mut words = told(env::args(rt))?;
+    let _program = words.next();
+    if is_word(words.next(), "full") {
+        return Ok(Words::Full);
+    }
+    let Some(path) = words.next() else {
+        return Ok(Words::Tiny);
+    };
+    let rounds = (number(words.next(), 5) % (1 << 32)) as u32;
+    let ranges = number(words.next(), 8);
+    Ok(Words::Folder(Folder {
+        path,
+        rounds,
+        ranges,
+    }))
+}
+
+/// Whether a word is there, and is this one.
+fn is_word(word: Option<String>, this: &str) -> bool {
+    match word {
+        Some(word) => word.as_str() == this,
+        None => false,
+    }
+}
+
+/// The number of a word, or another one where there is none.
+fn number(word: Option<String>, otherwise: u64) -> u64 {
+    match word {
+        Some(word) => word.parse().unwrap_or(otherwise),
+        None => otherwise,
+    }
+}
+
+/// Takes the figures of a run that does so much, but those of workers and of a file, and gives the bytes that they are taken of.
+fn measure(rt: &HostRuntime, extent: &Extent, figures: &mut Figures) -> Result<Vec<u8>, Fault> {
+    let bytes = entries::random(rt.alloc(), extent.bytes)?;
+    for part in PARTS {
+        measure_part(rt, *part, extent, &bytes, figures)?;
+    }
+    Ok(bytes)
+}
+
+/// Takes the figures of a part.
+fn measure_part(
+    rt: &HostRuntime,
+    part: Part,
     extent: &Extent,
     bytes: &[u8],
     figures: &mut Figures,
-) -> Result<()> {
-    measure_bytes(rt, alloc, bytes, extent.keys, figures)?;
-    manifests::measure(rt, alloc, extent.files, figures)?;
-    jobs::measure(rt, alloc, extent.jobs, figures)
+) -> Result<(), Fault> {
+    // A sixteenth is enough for what goes bit by bit.
+    let (sixteenth, _) = bytes.split_at(bytes.len() / 16);
+    match part {
+        Part::Copy => sums::measure_copy(rt, bytes, figures),
+        Part::Sums => figures.take(
+            rt,
+            over(bytes),
+            &[Work::Crc(bytes), Work::CrcByTable(bytes)],
+        ),
+        Part::SumByBit => figures.take(rt, over(sixteenth), &[Work::CrcByBit(sixteenth)]),
+        Part::Blocks => blocks::measure(rt, values_of(bytes, VALUE_LEN + 4), figures),
+        Part::Tables(group) => tables::measure(rt, bytes, group, figures),
+        Part::Keys(are_near) => sums::measure_keys(rt, bytes, extent.keys, are_near, figures),
+        Part::Manifests(in_many) => manifests::measure(rt, extent.files, in_many, figures),
+    }
 }
 
-/// Takes the figures of a file of these bytes, and prints the table.
-fn end_full(rt: &HostRuntime, bytes: &[u8], figures: &mut Figures) -> Result<()> {
-    files::measure(rt, bytes, figures)?;
-    figures.print(rt)
+/// The run without words.
+fn run_tiny<R: Threads + Sync>(
+    rt: &HostRuntime,
+    threads: &R,
+    figures: &mut Figures,
+) -> Result<(), Fault> {
+    measure(rt, &TINY, figures)?;
+    jobs::measure(rt, threads, TINY.jobs, figures)?;
+    compaction::measure(rt, threads, SMALL, 8, figures)
 }
 
-/// Prints that all figures were taken.
-fn end_tiny(rt: &impl Print) -> Result<()> {
-    println!(rt; "bench: all figures were taken")?;
-    Ok(())
+/// The run with `full`. It writes a file into a folder of its own.
+fn run_full<R: Threads + Sync>(
+    rt: &HostRuntime,
+    threads: &R,
+    figures: &mut Figures,
+) -> Result<(), Fault> {
+    figures.rounds = FULL.rounds;
+    figures.are_printed = true;
+    let bytes = measure(rt, &FULL, figures)?;
+    files::measure(rt, &bytes, figures)?;
+    end_full(rt, threads, figures)
 }
 
-/// Whether a word of the command line is `full`.
-fn is_full(rt: &HostRuntime) -> Result<bool> {
-    Ok(env::args(rt)?.any(|word| word.as_str() == "full"))
+/// Takes the figures of workers of that run, and prints what all rounds gave.
+fn end_full<R: Threads + Sync>(
+    rt: &HostRuntime,
+    threads: &R,
+    figures: &mut Figures,
+) -> Result<(), Fault> {
+    jobs::measure(rt, threads, FULL.jobs, figures)?;
+    told(println!(rt; "checksum {:08x}", figures.folded))
+}
+
+/// The run over a folder.
+fn run_folder<R: Threads + Sync>(
+    rt: &HostRuntime,
+    threads: &R,
+    folder: &Folder,
+    figures: &mut Figures,
+) -> Result<(), Fault> {
+    figures.rounds = folder.rounds;
+    figures.are_printed = true;
+    compaction::measure(rt, threads, folder.path.as_str(), folder.ranges, figures)
+}
+
+/// The run that the words ask for. The runtime is handed on twice: as what has a clock and files, and as what has threads.
+fn run<R: Threads + Sync>(
+    rt: &HostRuntime,
+    threads: &R,
+    figures: &mut Figures,
+) -> Result<(), Fault> {
+    match read_words(rt)? {
+        Words::Tiny => run_tiny(rt, threads, figures),
+        Words::Full => run_full(rt, threads, figures),
+        Words::Folder(folder) => run_folder(rt, threads, &folder, figures),
+    }
 }
 
 fn main(rt: HostRuntime) -> Result<()> {
-    let is_full = is_full(&rt)?;
-    let extent = if is_full { &FULL } else { &TINY };
-    let bytes = random::bytes(rt.alloc(), extent.bytes)?;
-    let mut figures = Figures::new(rt.alloc(), extent.rounds);
-    measure(&rt, rt.alloc(), extent, &bytes, &mut figures)?;
-    if is_full {
-        end_full(&rt, &bytes, &mut figures)
-    } else {
-        end_tiny(&rt)
-    }
+    let mut figures = Figures::new(rt.alloc());
+    run(&rt, &rt, &mut figures)?;
+    ensure!(!figures.differ, "two ways to one answer differ");
+    println!(rt; "bench: all figures were taken")?;
+    Ok(())
 }

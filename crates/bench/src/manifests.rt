@@ -1,24 +1,30 @@
-//! Figures of manifests: their records read, their edits read and applied, and the files of a level put in order.
+//! Figures of manifests: their records read, and their edits read and applied.
 
 ghost use Rattle.std.specs.Prelude.{◌<◌, ◌^◌, length};
 ghost use Rattle.edit.specs.Edit.{HasLevels, edit_in};
 
-use crate::figures::{Call, Figures, Turn, Turned, Work};
-use crate::tables::low_bits;
-use anyhow::Result;
-use coding::{push_slice, push_varint};
+use crate::entries::{internal_key, push};
+use crate::figures::{Extent, Figures};
+use crate::work::{Work, ended, now};
+use coding::{Fault, push_slice, push_varint};
 use edit::{FileMeta, Version, VersionEdit};
 use ikey::Bytewise;
 use logrec::{append, records};
 use std::alloc::Global;
-use std::rt::Clock;
+use std::time::Duration;
 
-/// The first user key: eight bytes that are the same in all, and a number, the highest byte first.
-const FIRST_KEY: u128 = 0x6265_6e63_682d_6b65 << 64;
+/// What is timed of manifests whose files stand in one record each.
+const OF_ONE: &[Step] = &[
+    Step::Records,
+    Step::Decode,
+    Step::Applied,
+    Step::Apply,
+    Step::Files,
+];
+/// What is timed of manifests with a record for each file.
+const OF_MANY: &[Step] = &[Step::ManyRecords, Step::ManyDecode, Step::ManyApplied];
 /// An odd number. Times it, modulo 2^64, numbers that rise are spread and stay apart.
 const SPREAD: u64 = 0x9e37_79b9_7f4a_7c15;
-/// A value at sequence 1, as the last eight bytes of an internal key.
-const TAG: [u8; 8] = [1, 1, 0, 0, 0, 0, 0, 0];
 /// The tag of a new-file field.
 const NEW_FILE: u64 = 7;
 /// The level of each file.
@@ -28,49 +34,42 @@ const TABLE_LEN: u64 = 2 << 20;
 /// The bytes of a block of a log.
 const BLOCK_LEN: usize = 32_768;
 
-/// The bytes of a manifest, and its records.
-#[derive(Drop)]
-struct Manifest {
-    log: Vec<u8>,
-    records: Vec<Vec<u8>>,
+/// What is done with a manifest.
+#[derive(Clone, Copy)]
+pub enum Step {
+    /// Its records are read.
+    Records,
+    ManyRecords,
+    /// Its edits are read.
+    Decode,
+    ManyDecode,
+    /// Its edits are applied, each to the version that the last one made.
+    Applied,
+    ManyApplied,
+    /// Its first edit is applied to an empty version, which stays as it is.
+    Apply,
+    /// The files of the level are put in order.
+    Files,
 }
 
-/// Manifests that a round goes over, equally large, each once.
-#[derive(Drop)]
-struct Manifests {
-    all: Vec<Manifest>,
-    /// How many files each puts in.
-    files: u64,
-}
-
-impl Manifests {
-    /// A turn of work that is as much as all of them.
-    fn turn<T>(&self, call: Call, run: T) -> Turn<T> {
-        let work = Work {
-            call,
-            bytes: self.log_len(),
-            entries: self.files as usize,
-        };
-        let times = low_bits(self.all.len());
-        Turn { run, work, times }
-    }
-
-    /// The length of a log of theirs; 0 where there is none.
-    fn log_len(&self) -> usize {
-        match self.all.first() {
-            Some(manifest) => manifest.log.len(),
-            None => 0,
+impl Step {
+    /// How the line begins of a step over so many manifests. Ten times the time of a file of one manifest by that of ten is how many
+    /// times as long one of all files took as one of a tenth of them.
+    pub fn label(self, manifests: usize) -> &'static str {
+        if manifests > 1 {
+            return "ten of a tenth each";
+        }
+        match self {
+            Step::Records => "records, one",
+            Step::ManyRecords => "records, many",
+            Step::Decode => "decode, one",
+            Step::ManyDecode => "decode, many",
+            Step::Applied => "applied, one",
+            Step::ManyApplied => "applied, many",
+            Step::Apply => "apply, one",
+            Step::Files => "files of a level",
         }
     }
-}
-
-/// How files stand in a manifest.
-#[derive(Clone, Copy)]
-enum Form {
-    /// All in one record.
-    One,
-    /// Each in a record of its own.
-    Many,
 }
 
 /// An edit that was read.
@@ -80,399 +79,174 @@ struct Decoded {
     ghost levels: { HasLevels (edit_in edit) },
 }
 
-/// Reads the records of each manifest.
-#[derive(Clone, Copy)]
-struct Reading<'a> {
-    alloc: Global,
-    manifests: &'a [Manifest],
+/// The bytes of a manifest, and its records.
+#[derive(Drop)]
+pub struct Manifest {
+    log: Vec<u8>,
+    records: Vec<Vec<u8>>,
 }
 
-impl Turned for Reading<'_> {
-    type Source = ();
-
-    type Made = Vec<Vec<Vec<u8>>>;
-
-    fn source(&self) -> Result<()> {
-        Ok(())
-    }
-
-    fn run(&self, _source: ()) -> Result<(u32, Vec<Vec<Vec<u8>>>)> {
-        read_all(self.alloc, self.manifests)
-    }
-}
-
-/// Reads the edits of each manifest.
-#[derive(Clone, Copy)]
-struct Decoding<'a> {
-    alloc: Global,
-    manifests: &'a [Manifest],
-}
-
-impl Turned for Decoding<'_> {
-    type Source = ();
-
-    type Made = Vec<Vec<Decoded>>;
-
-    fn source(&self) -> Result<()> {
-        Ok(())
-    }
-
-    fn run(&self, _source: ()) -> Result<(u32, Vec<Vec<Decoded>>)> {
-        decode_all(self.alloc, self.manifests)
-    }
-}
-
-/// Applies the edits of each manifest one after the other, each to the version that the last one made. They are read before the
-/// clock starts.
-#[derive(Clone, Copy)]
-struct Applying<'a> {
-    alloc: Global,
-    manifests: &'a [Manifest],
-}
-
-impl Turned for Applying<'_> {
-    type Source = Vec<Vec<Decoded>>;
-
-    type Made = Vec<Version>;
-
-    fn source(&self) -> Result<Vec<Vec<Decoded>>> {
-        edits_of_each(self.alloc, self.manifests)
-    }
-
-    fn run(&self, source: Vec<Vec<Decoded>>) -> Result<(u32, Vec<Version>)> {
-        applied_all(self.alloc, source)
-    }
-}
-
-/// Applies edits each to an empty version, which stays as it is.
-#[derive(Clone, Copy)]
-struct ApplyingEach<'a> {
-    alloc: Global,
-    edits: &'a [Vec<Decoded>],
-}
-
-impl Turned for ApplyingEach<'_> {
-    type Source = ();
-
-    type Made = Vec<Version>;
-
-    fn source(&self) -> Result<()> {
-        Ok(())
-    }
-
-    fn run(&self, _source: ()) -> Result<(u32, Vec<Version>)> {
-        apply_all(self.alloc, self.edits)
-    }
-}
-
-/// Puts the files of each version's level in order.
-#[derive(Clone, Copy)]
-struct Sorting<'a> {
-    alloc: Global,
-    versions: &'a [Version],
-}
-
-impl<'a> Turned for Sorting<'a> {
-    type Source = ();
-
-    type Made = Vec<Vec<&'a FileMeta>>;
-
-    fn source(&self) -> Result<()> {
-        Ok(())
-    }
-
-    fn run(&self, _source: ()) -> Result<(u32, Vec<Vec<&'a FileMeta>>)> {
-        order_all(self.alloc, self.versions)
-    }
-}
-
-/// Takes the figures of a manifest of so many new files, in turn with ten manifests that have a tenth of these files each, so
-/// that a round is as much work over as much memory: all files of a manifest in one record, and a record for each.
-pub fn measure(clock: &impl Clock, alloc: Global, files: u64, figures: &mut Figures) -> Result<()> {
-    measure_form(clock, alloc, files, Form::One, figures)?;
-    measure_form(clock, alloc, files, Form::Many, figures)
-}
-
-/// Takes the figures of manifests that have their files in this form.
-fn measure_form(
-    clock: &impl Clock,
-    alloc: Global,
+/// Takes the figures of a manifest of so many new files, in one record or in one for each, in turn with ten manifests that have a
+/// tenth of these files each, so that a round is as much work over as much memory.
+pub fn measure(
+    rt: &HostRuntime,
     files: u64,
-    form: Form,
+    in_many: bool,
     figures: &mut Figures,
-) -> Result<()> {
-    let tenths = manifests_of(alloc, form, 10, files / 10)?;
-    let whole = manifests_of(alloc, form, 1, files)?;
-    match form {
-        Form::One => measure_one(clock, alloc, [&tenths, &whole], figures),
-        Form::Many => measure_many(clock, alloc, [&tenths, &whole], figures),
+) -> Result<(), Fault> {
+    let tenths = manifests_of(rt.alloc(), 10, files / 10, in_many)?;
+    let whole = manifests_of(rt.alloc(), 1, files, in_many)?;
+    let extent = Extent {
+        bytes: len_of_logs(&whole),
+        entries: files as usize,
+    };
+    let steps = if in_many { OF_MANY } else { OF_ONE };
+    take(rt, extent, steps, &tenths, &whole, figures)
+}
+
+/// Takes the figures of these steps over both, ten manifests and one as large as all of them.
+fn take(
+    rt: &HostRuntime,
+    extent: Extent,
+    steps: &[Step],
+    tenths: &[Manifest],
+    whole: &[Manifest],
+    figures: &mut Figures,
+) -> Result<(), Fault> {
+    for step in steps {
+        let works = [
+            Work::Manifests(*step, tenths),
+            Work::Manifests(*step, whole),
+        ];
+        figures.take(rt, extent, &works)?;
     }
-}
-
-/// Takes the figures of manifests that have all their files in one record.
-fn measure_one(
-    clock: &impl Clock,
-    alloc: Global,
-    both: [&Manifests; 2],
-    figures: &mut Figures,
-) -> Result<()> {
-    measure_records(clock, alloc, both, Call::Records, figures)?;
-    measure_decode(clock, alloc, both, Call::Decode, figures)?;
-    measure_applied(clock, alloc, both, Call::Applied, figures)?;
-    measure_apply(clock, alloc, both, figures)?;
-    measure_levels(clock, alloc, both, figures)
-}
-
-/// Takes the figures of manifests that have a record for each file.
-fn measure_many(
-    clock: &impl Clock,
-    alloc: Global,
-    both: [&Manifests; 2],
-    figures: &mut Figures,
-) -> Result<()> {
-    measure_records(clock, alloc, both, Call::ManyRecords, figures)?;
-    measure_decode(clock, alloc, both, Call::ManyDecode, figures)?;
-    measure_applied(clock, alloc, both, Call::ManyApplied, figures)
-}
-
-/// So many manifests of so many new files each, their numbers rising from manifest to manifest.
-fn manifests_of(alloc: Global, form: Form, count: u64, files: u64) -> Result<Manifests> {
-    let mut all = Vec::new(alloc);
-    for place in 0..count {
-        let records = records_of(alloc, form, place.saturating_mul(files), files);
-        push_manifest(alloc, &mut all, records)?;
-    }
-    Ok(Manifests { all, files })
-}
-
-/// Appends the manifest of these records, where memory for them was not refused.
-fn push_manifest(
-    alloc: Global,
-    all: &mut Vec<Manifest>,
-    records: Result<Vec<Vec<u8>>>,
-) -> Result<()> {
-    all.push(manifest_of(alloc, records?)?)?;
     Ok(())
 }
 
-/// The records of so many new files, with the numbers from one on.
-fn records_of(alloc: Global, form: Form, from: u64, files: u64) -> Result<Vec<Vec<u8>>> {
-    let fields = fields(alloc, from, files)?;
-    match form {
-        Form::One => Ok(vec![in alloc; joined(alloc, &fields)?]?),
-        Form::Many => Ok(fields),
+/// Does a step once with each of some manifests, and gives how many things it made, and how long it took. What is made before is not
+/// among its time, nor what is given back behind it, so that ten small manifests take new memory as one large one does.
+pub fn timed_each(
+    rt: &HostRuntime,
+    step: Step,
+    manifests: &[Manifest],
+) -> Result<(u32, Duration), Fault> {
+    let start = now(rt)?;
+    match step {
+        Step::Records | Step::ManyRecords => ended(rt, start, all_records(rt.alloc(), manifests)),
+        Step::Decode | Step::ManyDecode => ended(rt, start, all_edits(rt.alloc(), manifests)),
+        Step::Applied | Step::ManyApplied => timed_applied(rt, manifests),
+        Step::Apply => timed_apply(rt, manifests),
+        Step::Files => timed_files(rt, manifests),
     }
 }
 
-/// The manifest of the records.
-fn manifest_of(alloc: Global, records: Vec<Vec<u8>>) -> Result<Manifest> {
-    let log = log_of(alloc, &records)?;
-    Ok(Manifest { log, records })
+/// Times how the edits of each manifest are applied, each to the version that the last one made.
+fn timed_applied(rt: &HostRuntime, manifests: &[Manifest]) -> Result<(u32, Duration), Fault> {
+    let edits = all_edits(rt.alloc(), manifests)?;
+    let start = now(rt)?;
+    ended(rt, start, all_applied(rt.alloc(), edits))
 }
 
-/// Takes the figures of the manifests' records read.
-fn measure_records(
-    clock: &impl Clock,
-    alloc: Global,
-    both: [&Manifests; 2],
-    call: Call,
-    figures: &mut Figures,
-) -> Result<()> {
-    let [tenths, whole] = both;
-    let manifests = &tenths.all;
-    let first = tenths.turn(call, Reading { alloc, manifests });
-    let manifests = &whole.all;
-    let second = whole.turn(call, Reading { alloc, manifests });
-    figures.take_in_turn(clock, &first, &second)
+/// Times how the first edit of each manifest is applied to an empty version, which stays.
+fn timed_apply(rt: &HostRuntime, manifests: &[Manifest]) -> Result<(u32, Duration), Fault> {
+    let edits = all_edits(rt.alloc(), manifests)?;
+    let start = now(rt)?;
+    ended(rt, start, each_first_applied(rt.alloc(), &edits))
 }
 
-/// Takes the figures of the manifests' edits read.
-fn measure_decode(
-    clock: &impl Clock,
-    alloc: Global,
-    both: [&Manifests; 2],
-    call: Call,
-    figures: &mut Figures,
-) -> Result<()> {
-    let [tenths, whole] = both;
-    let manifests = &tenths.all;
-    let first = tenths.turn(call, Decoding { alloc, manifests });
-    let manifests = &whole.all;
-    let second = whole.turn(call, Decoding { alloc, manifests });
-    figures.take_in_turn(clock, &first, &second)
+/// Times how the files of the level are put in order, of the version that the edits of each manifest make.
+fn timed_files(rt: &HostRuntime, manifests: &[Manifest]) -> Result<(u32, Duration), Fault> {
+    let versions = all_applied(rt.alloc(), all_edits(rt.alloc(), manifests)?)?;
+    let start = now(rt)?;
+    ended(rt, start, all_files(rt.alloc(), &versions))
 }
 
-/// Takes the figures of the manifests' edits applied, each to the version that the last one made.
-fn measure_applied(
-    clock: &impl Clock,
-    alloc: Global,
-    both: [&Manifests; 2],
-    call: Call,
-    figures: &mut Figures,
-) -> Result<()> {
-    let [tenths, whole] = both;
-    let manifests = &tenths.all;
-    let first = tenths.turn(call, Applying { alloc, manifests });
-    let manifests = &whole.all;
-    let second = whole.turn(call, Applying { alloc, manifests });
-    figures.take_in_turn(clock, &first, &second)
-}
-
-/// Takes the figures of the manifests' edits each applied to an empty version.
-fn measure_apply(
-    clock: &impl Clock,
-    alloc: Global,
-    both: [&Manifests; 2],
-    figures: &mut Figures,
-) -> Result<()> {
-    let [tenths, whole] = both;
-    let edits = &edits_of_each(alloc, &tenths.all)?;
-    let first = tenths.turn(Call::Apply, ApplyingEach { alloc, edits });
-    let edits = &edits_of_each(alloc, &whole.all)?;
-    let second = whole.turn(Call::Apply, ApplyingEach { alloc, edits });
-    figures.take_in_turn(clock, &first, &second)
-}
-
-/// Takes the figures of the files of a level of what the manifests' edits make.
-fn measure_levels(
-    clock: &impl Clock,
-    alloc: Global,
-    both: [&Manifests; 2],
-    figures: &mut Figures,
-) -> Result<()> {
-    let [tenths, whole] = both;
-    let versions = &versions_of(alloc, tenths)?;
-    let first = tenths.turn(Call::LevelFiles, Sorting { alloc, versions });
-    let versions = &versions_of(alloc, whole)?;
-    let second = whole.turn(Call::LevelFiles, Sorting { alloc, versions });
-    figures.take_in_turn(clock, &first, &second)
-}
-
-/// The versions that the edits of manifests make of empty ones.
-fn versions_of(alloc: Global, manifests: &Manifests) -> Result<Vec<Version>> {
-    let (_, versions) = applied_all(alloc, edits_of_each(alloc, &manifests.all)?)?;
-    Ok(versions)
-}
-
-/// Reads the records of each manifest.
-fn read_all(alloc: Global, manifests: &[Manifest]) -> Result<(u32, Vec<Vec<Vec<u8>>>)> {
+/// The records of each manifest.
+fn all_records(alloc: Global, manifests: &[Manifest]) -> Result<Vec<Vec<Vec<u8>>>, Fault> {
     let mut all = Vec::new(alloc);
     for manifest in manifests {
-        all.push(records(alloc, &manifest.log)?)?;
-    }
-    Ok((low_bits(all.len()), all))
-}
-
-/// Reads the edits of each manifest.
-fn decode_all(alloc: Global, manifests: &[Manifest]) -> Result<(u32, Vec<Vec<Decoded>>)> {
-    let all = edits_of_each(alloc, manifests)?;
-    Ok((low_bits(all.len()), all))
-}
-
-/// The edits of each manifest.
-fn edits_of_each(alloc: Global, manifests: &[Manifest]) -> Result<Vec<Vec<Decoded>>> {
-    let mut all = Vec::new(alloc);
-    for manifest in manifests {
-        all.push(edits_of(alloc, &manifest.records)?)?;
+        push(&mut all, records(alloc, &manifest.log))?;
     }
     Ok(all)
 }
 
-/// The edits that the records read as.
-fn edits_of(alloc: Global, records: &[Vec<u8>]) -> Result<Vec<Decoded>> {
-    let mut edits = Vec::with_capacity(alloc, records.len())?;
-    for record in records {
-        let edit = VersionEdit::decode(alloc, record)?;
-        edits.push(Decoded { edit })?;
+/// The edits of each manifest.
+fn all_edits(alloc: Global, manifests: &[Manifest]) -> Result<Vec<Vec<Decoded>>, Fault> {
+    let mut all = Vec::new(alloc);
+    for manifest in manifests {
+        push(&mut all, decode_all(alloc, &manifest.records))?;
     }
-    Ok(edits)
+    Ok(all)
 }
 
-/// The versions that edits make of empty ones.
-fn applied_all(alloc: Global, sources: Vec<Vec<Decoded>>) -> Result<(u32, Vec<Version>)> {
+/// The versions that the edits of each manifest make of an empty one.
+fn all_applied(alloc: Global, all: Vec<Vec<Decoded>>) -> Result<Vec<Version>, Fault> {
     let mut versions = Vec::new(alloc);
-    for edits in sources {
-        versions.push(applied(alloc, edits)?)?;
+    for edits in all {
+        push(&mut versions, applied(alloc, edits))?;
     }
-    Ok((low_bits(versions.len()), versions))
+    Ok(versions)
 }
 
-/// The version that the edits make of an empty one.
-fn applied(alloc: Global, edits: Vec<Decoded>) -> Result<Version> {
-    let mut version = Version::empty(alloc);
-    for decoded in edits {
-        version = version.applied::<Bytewise>(decoded.edit)?;
-    }
-    Ok(version)
-}
-
-/// The versions that the edits make, each of an empty one that stays.
-fn apply_all(alloc: Global, sources: &[Vec<Decoded>]) -> Result<(u32, Vec<Version>)> {
-    let empty = Version::empty(alloc);
+/// The versions that the first edit of each manifest makes of an empty one.
+fn each_first_applied(alloc: Global, all: &[Vec<Decoded>]) -> Result<Vec<Version>, Fault> {
     let mut versions = Vec::new(alloc);
-    for decoded in sources.iter().flatten() {
-        versions.push(empty.apply::<Bytewise>(alloc, &decoded.edit)?)?;
+    for edits in all {
+        push(&mut versions, first_applied(alloc, edits))?;
     }
-    Ok((low_bits(versions.len()), versions))
+    Ok(versions)
 }
 
 /// The files of each version's level in order.
-fn order_all<'a>(alloc: Global, versions: &'a [Version]) -> Result<(u32, Vec<Vec<&'a FileMeta>>)> {
+fn all_files(alloc: Global, versions: &[Version]) -> Result<Vec<Vec<&FileMeta>>, Fault> {
     let mut all = Vec::new(alloc);
     for version in versions {
-        all.push(version.files::<Bytewise>(alloc, LEVEL)?)?;
+        push(&mut all, version.files::<Bytewise>(alloc, LEVEL))?;
     }
-    Ok((low_bits(all.len()), all))
+    Ok(all)
 }
 
-/// The log of the records. It is written block by block, so that no byte is copied often.
-fn log_of(alloc: Global, records: &[Vec<u8>]) -> Result<Vec<u8>> {
-    let mut log = Vec::new(alloc);
-    let mut behind = Vec::new(alloc);
-    for record in records {
-        behind = without_whole(alloc, &mut log, append(alloc, &behind, record)?)?;
+/// So many manifests of so many new files each, their numbers rising from manifest to manifest.
+fn manifests_of(
+    alloc: Global,
+    count: u64,
+    files: u64,
+    in_many: bool,
+) -> Result<Vec<Manifest>, Fault> {
+    let mut manifests = Vec::new(alloc);
+    for place in 0..count {
+        let from = place.saturating_mul(files);
+        push(&mut manifests, manifest_of(alloc, from, files, in_many))?;
     }
-    log.extend_from_slice(&behind)?;
-    Ok(log)
+    Ok(manifests)
 }
 
-/// What is behind the whole blocks of these bytes, which are appended to the log.
-fn without_whole(alloc: Global, log: &mut Vec<u8>, bytes: Vec<u8>) -> Result<Vec<u8>> {
-    let (whole, rest) = bytes.split_at(bytes.len() / BLOCK_LEN * BLOCK_LEN);
-    if whole.is_empty() {
-        return Ok(bytes);
-    }
-    log.extend_from_slice(whole)?;
-    Ok(Vec::from_slice(alloc, rest)?)
+/// The manifest of so many new files with the numbers from one on.
+fn manifest_of(alloc: Global, from: u64, files: u64, in_many: bool) -> Result<Manifest, Fault> {
+    let each = if in_many { 1 } else { files };
+    let records = records_of(alloc, from, files, each)?;
+    let log = log_of(alloc, &records)?;
+    Ok(Manifest { log, records })
 }
 
-/// The fields, one behind the other.
-fn joined(alloc: Global, fields: &[Vec<u8>]) -> Result<Vec<u8>> {
-    let mut joined = Vec::new(alloc);
-    for field in fields {
-        joined.extend_from_slice(field)?;
+/// The records of so many new files with the numbers from one on, so many in each.
+fn records_of(alloc: Global, from: u64, files: u64, each: u64) -> Result<Vec<Vec<u8>>, Fault> {
+    let mut records = Vec::new(alloc);
+    for place in 0..files / each.max(1) {
+        let from = from.saturating_add(place.saturating_mul(each));
+        push(&mut records, record_of(alloc, from, each))?;
     }
-    Ok(joined)
+    Ok(records)
 }
 
-/// So many new-file fields with the numbers from one on.
-fn fields(alloc: Global, from: u64, count: u64) -> Result<Vec<Vec<u8>>> {
-    let mut fields = Vec::new(alloc);
-    for number in from..from.saturating_add(count) {
-        fields.push(field(alloc, number)?)?;
+/// The record of so many new files with the numbers from one on. Each has a table of one key, which no other number has.
+fn record_of(alloc: Global, from: u64, files: u64) -> Result<Vec<u8>, Fault> {
+    let mut record = Vec::new(alloc);
+    for number in from..from.saturating_add(files) {
+        let key = internal_key(number.wrapping_mul(SPREAD));
+        push_file(&mut record, [LEVEL, number, TABLE_LEN], &key, &key)?;
     }
-    Ok(fields)
-}
-
-/// The new-file field of a table of one key, which no other number has.
-fn field(alloc: Global, number: u64) -> Result<Vec<u8>> {
-    let mut key = [0; 24];
-    let user = FIRST_KEY + u128::from(number.wrapping_mul(SPREAD));
-    key[..16].copy_from_slice(&user.to_be_bytes());
-    key[16..].copy_from_slice(&TAG);
-    let mut field = Vec::new(alloc);
-    push_file(&mut field, [LEVEL, number, TABLE_LEN], &key, &key)?;
-    Ok(field)
+    Ok(record)
 }
 
 /// Appends a new-file field: the level, the number and the length of a table, and its smallest and its largest key.
@@ -481,7 +255,7 @@ pub fn push_file(
     numbers: [u64; 3],
     smallest: &[u8],
     largest: &[u8],
-) -> Result<()>
+) -> Result<(), Fault>
     requires smallest { length smallest.now < 2 ^ 32 }
     requires largest { length largest.now < 2 ^ 32 }
 {
@@ -490,6 +264,61 @@ pub fn push_file(
         push_varint(fields, *number)?;
     }
     push_slice(fields, smallest)?;
-    push_slice(fields, largest)?;
+    push_slice(fields, largest)
+}
+
+/// The log of the records.
+fn log_of(alloc: Global, records: &[Vec<u8>]) -> Result<Vec<u8>, Fault> {
+    let mut log = Vec::new(alloc);
+    for record in records {
+        push_record(alloc, &mut log, record)?;
+    }
+    Ok(log)
+}
+
+/// Appends a record to a log, by way of the last block alone, so that no byte is copied often.
+fn push_record(alloc: Global, log: &mut Vec<u8>, record: &[u8]) -> Result<(), Fault> {
+    let begun = log.len() % BLOCK_LEN;
+    let (_, last) = log.split_at(log.len() - begun);
+    let grown = append(alloc, last, record)?;
+    let (_, new) = grown.split_at(begun.min(grown.len()));
+    log.extend_from_slice(new)?;
     Ok(())
+}
+
+/// The edits that the records read as.
+fn decode_all(alloc: Global, records: &[Vec<u8>]) -> Result<Vec<Decoded>, Fault> {
+    let mut edits = Vec::with_capacity(alloc, records.len())?;
+    for record in records {
+        let edit = VersionEdit::decode(alloc, record)?;
+        edits.push(Decoded { edit })?;
+    }
+    Ok(edits)
+}
+
+/// The version that edits make of an empty one.
+fn applied(alloc: Global, edits: Vec<Decoded>) -> Result<Version, Fault> {
+    let mut version = Version::empty(alloc);
+    for decoded in edits {
+        version = version.applied::<Bytewise>(decoded.edit)?;
+    }
+    Ok(version)
+}
+
+/// The version that the first of some edits makes of an empty one, which stays.
+fn first_applied(alloc: Global, edits: &[Decoded]) -> Result<Version, Fault> {
+    let empty = Version::empty(alloc);
+    match edits.first() {
+        Some(decoded) => empty.apply::<Bytewise>(alloc, &decoded.edit),
+        None => Ok(empty),
+    }
+}
+
+/// How many bytes there are in the logs of all.
+fn len_of_logs(manifests: &[Manifest]) -> usize {
+    let mut len = 0usize;
+    for manifest in manifests {
+        len = len.saturating_add(manifest.log.len());
+    }
+    len
 }

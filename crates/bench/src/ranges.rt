@@ -1,85 +1,62 @@
-//! The figures of merging in a range, and of the outputs that are made of it.
+//! Figures of merging in a range, and of its outputs: planned, encoded and assembled.
 
-use crate::figures::{Call, Figures, Work};
-use crate::merging::{cursors, dealt, sound};
-use crate::outputs;
-use crate::tables::{ENTRY_LEN, VALUE_LEN, last_of};
-use anyhow::{Result, ensure};
+ghost use Rattle.std.specs.Prelude.{◌≡◌, map, IfOk};
+ghost use Rattle.cut.specs.Plan.{encoded};
+ghost use Rattle.cut.specs.Planning.{lists_in};
+
+use crate::figures::{Extent, Figures};
+use crate::tables::cursors;
+use crate::work::{Work, ended, now};
+use coding::{Fault, FaultName};
+use cut::{Plan, plan};
 use edit::CompactPointer;
-use ikey::{Bytewise, KeyBuf, Kind, MAX_SEQUENCE};
+use ikey::{Bytewise, KeyBuf, MAX_SEQUENCE};
 use keep::{RangeRun, largest_rise, merge_range};
 use pick::Inputs;
-use split::Split;
+use split::Range;
 use std::alloc::Global;
-use std::rt::Clock;
-use table::SoundTable;
+use std::time::Duration;
+use table::{Options, SoundTable};
 
-/// How many cursors there are.
-const CURSORS: usize = 9;
-
-/// Takes the figures of entries that are dealt out to nine tables, together about as long as the bytes: merged in the one
-/// range of a split without boundaries, where all of them stay, and made outputs of.
-pub fn measure(
-    clock: &impl Clock,
-    alloc: Global,
-    bytes: &[u8],
-    figures: &mut Figures,
-) -> Result<()> {
-    let (values, _) = bytes.split_at(bytes.len() / ENTRY_LEN * VALUE_LEN);
-    let (values, _) = values.as_chunks::<VALUE_LEN>();
-    let written = dealt(alloc, values, CURSORS)?;
-    measure_dealt(clock, alloc, &written, values.len(), figures)
-}
-
-/// The same, where so many entries were dealt out to these tables.
-fn measure_dealt(
-    clock: &impl Clock,
-    alloc: Global,
-    written: &[Vec<u8>],
+/// Takes the figures of the outputs that are made of so many entries of tables, merged in the one range of all keys, where all of
+/// them stay, with the options that a folder has where nothing else is said.
+pub fn take(
+    rt: &HostRuntime,
+    tables: &[SoundTable<'_, Bytewise>],
     entries: usize,
     figures: &mut Figures,
-) -> Result<()> {
-    let tables = sound(alloc, written)?;
-    let run = measure_merging(clock, alloc, &tables, entries, figures)?;
-    outputs::measure(clock, alloc, &[run], entries, figures)
+) -> Result<(), Fault> {
+    let run = merged_range(rt.alloc(), tables)?;
+    take_outputs(rt, &[run], entries, figures)
 }
 
-/// Takes the figure of merging so many entries of tables in one range, and gives the range's run.
-fn measure_merging<'a>(
-    clock: &impl Clock,
-    alloc: Global,
-    tables: &[SoundTable<'a, Bytewise>],
+/// The same, where these runs keep the entries.
+fn take_outputs(
+    rt: &HostRuntime,
+    runs: &[RangeRun<'_>],
     entries: usize,
     figures: &mut Figures,
-) -> Result<RangeRun<'a>> {
-    let split = Split::<Bytewise>::from_keys(Vec::new(alloc))?;
-    let inputs = no_files(alloc)?;
-    measure_range(clock, alloc, tables, &split, &inputs, entries, figures)
+) -> Result<(), Fault> {
+    let plan = planned(rt.alloc(), runs)?;
+    let bytes = table_bytes(&plan);
+    take_planned(rt, Extent { bytes, entries }, runs, &plan, figures)
 }
 
-/// The same, in the range of a split, beside no other files.
-fn measure_range<'a>(
-    clock: &impl Clock,
-    alloc: Global,
-    tables: &[SoundTable<'a, Bytewise>],
-    split: &Split<Bytewise>,
-    inputs: &Inputs,
-    entries: usize,
+/// The same, where this is their plan.
+fn take_planned(
+    rt: &HostRuntime,
+    extent: Extent,
+    runs: &[RangeRun<'_>],
+    plan: &Plan<'_, '_, Bytewise>,
     figures: &mut Figures,
-) -> Result<RangeRun<'a>> {
-    let work = Work {
-        call: Call::MergeRange,
-        bytes: entries.saturating_mul(ENTRY_LEN),
-        entries,
-    };
-    figures.take_made(clock, work, || merged(alloc, tables, split, inputs))?;
-    let (_, run) = merged(alloc, tables, split, inputs)?;
-    Ok(run)
+) -> Result<(), Fault> {
+    let works = [Work::Plan(runs), Work::Encode(plan), Work::Assemble(plan)];
+    figures.take(rt, extent, &works)
 }
 
 /// Inputs that have no files beside or below them.
-fn no_files(alloc: Global) -> Result<Inputs> {
-    let key = KeyBuf::new(alloc, &[], MAX_SEQUENCE, Kind::Put)?;
+fn no_files(alloc: Global) -> Result<Inputs, Fault> {
+    let key = KeyBuf::new(alloc, &[], MAX_SEQUENCE, ikey::Kind::Put)?;
     Ok(Inputs {
         level: 0,
         files: Vec::new(alloc),
@@ -89,34 +66,63 @@ fn no_files(alloc: Global) -> Result<Inputs> {
     })
 }
 
-/// The run of the first range of a split, over cursors of these tables, and what its last entry ends with.
-fn merged<'a>(
+/// The run of the one range of all keys, over cursors of these tables, beside no other files.
+pub fn merged_range<'a>(
     alloc: Global,
     tables: &[SoundTable<'a, Bytewise>],
-    split: &Split<Bytewise>,
-    inputs: &Inputs,
-) -> Result<(u32, RangeRun<'a>)> {
-    ensure!(
-        largest_rise::<Bytewise>(&inputs.grandparents),
-        "grandparents that don't rise"
-    );
+) -> Result<RangeRun<'a>, Fault> {
+    let inputs = no_files(alloc)?;
+    if !largest_rise::<Bytewise>(&inputs.grandparents) {
+        return Err(Fault::of(FaultName::Options));
+    }
+    let all = Range {
+        lower: None,
+        upper: None,
+    };
     let mut cursors = cursors(alloc, tables)?;
-    let run = merge_range::<Bytewise, _>(
-        alloc,
-        &mut cursors,
-        split.range(0),
-        &[],
-        MAX_SEQUENCE,
-        inputs,
-    )?;
-    Ok((folded(&run), run))
+    merge_range::<Bytewise, _>(alloc, &mut cursors, all, &[], MAX_SEQUENCE, &inputs)
 }
 
-/// The sum of the last bytes of a run's last key and value.
-fn folded(run: &RangeRun<'_>) -> u32 {
-    let len = run.len();
-    if len == 0 {
-        return 0;
+/// The plan of the outputs of runs.
+pub fn planned<'r, 'a>(
+    alloc: Global,
+    runs: &'r [RangeRun<'a>],
+) -> Result<Plan<'r, 'a, Bytewise>, Fault> {
+    let options = Options::default();
+    if options.are_in_limits() {
+        plan::<Bytewise>(alloc, runs, &[], options, 1)
+    } else {
+        Err(Fault::of(FaultName::Options))
     }
-    last_of(run.key(len - 1).bytes()).wrapping_add(last_of(run.value(len - 1)))
+}
+
+/// How many bytes all tables of a plan have.
+fn table_bytes(plan: &Plan<'_, '_, Bytewise>) -> usize {
+    let mut bytes = 0usize;
+    for place in 0..plan.len() {
+        bytes = bytes.saturating_add(plan.output(place).len as usize);
+    }
+    bytes
+}
+
+/// The pieces of a plan, in the order of their jobs.
+pub fn pieces_of(alloc: Global, plan: &Plan<'_, '_, Bytewise>) -> Result<Vec<Vec<u8>>, Fault>
+    ensures { IfOk result (λ pieces. map (λ p. p.items) pieces.items ≡ encoded plan.now.options (lists_in plan.now.outputs)) }
+{
+    let mut pieces = Vec::new(alloc);
+    for job in 0..plan.jobs() {
+        let piece = plan.encode(alloc, job)?;
+        pieces.push(piece)?;
+    }
+    Ok(pieces)
+}
+
+/// Encodes the pieces of a plan, and then times their assembly.
+pub fn timed_assembly(
+    rt: &HostRuntime,
+    plan: &Plan<'_, '_, Bytewise>,
+) -> Result<(u32, Duration), Fault> {
+    let pieces = pieces_of(rt.alloc(), plan)?;
+    let start = now(rt)?;
+    ended(rt, start, plan.assemble(rt.alloc(), pieces))
 }

@@ -1,234 +1,232 @@
-//! Figures of a table: written, checked and walked over.
+//! Figures of tables: checked, walked over and written, and of cursors that are walked as one.
 
-ghost use Rattle.std.specs.Prelude.{◌<◌, length};
-
-use crate::figures::{Call, Figures, Run, Work};
-use anyhow::{Result, ensure};
+use crate::entries::{
+    Deal, ENTRY_LEN, VALUE_LEN, add, begun, dealt, internal_key, last_of, len_of, push, sound,
+    values_of,
+};
+use crate::figures::{Extent, Figures};
+use crate::work::Work;
+use crate::{ranges, versions};
+use coding::Fault;
 use ikey::{Bytewise, InternalKey};
+use merge::{Merging, least_place};
 use std::alloc::Global;
 use std::mem;
-use std::rt::Clock;
-use table::{Cursor, Options, SoundTable, TableBuilder, TableCursor, check};
+use table::{Cursor, SoundTable, TableBuilder, TableCursor};
 
-/// The bytes of a value. Those of a user key are 16.
-pub const VALUE_LEN: usize = 100;
-/// The bytes that an entry takes at least, with its three lengths and a byte of its user key and its tag.
-pub const ENTRY_LEN: usize = VALUE_LEN + 12;
-/// The first user key: eight bytes that are the same in all, and a number, the highest byte first.
-const FIRST_KEY: u128 = 0x6265_6e63_682d_6b65 << 64;
 /// The most keys that are sought.
 const SEEKS: usize = 10_000;
-/// A value at sequence 1, as the last eight bytes of an internal key.
-const TAG: [u8; 8] = [1, 1, 0, 0, 0, 0, 0, 0];
 
-/// Work on a table.
+/// How long a file becomes, 2 MiB.
+const FILE_LEN: u64 = 2 << 20;
+
+/// What is timed over checked tables, to which entries are dealt out.
 #[derive(Clone, Copy)]
-enum Tables<'a, 't> {
-    /// Checks it.
-    Check(Global, &'a [u8]),
-    /// Walks over it.
-    Walk(Global, &'a SoundTable<'t, Bytewise>),
-    /// Seeks these keys.
-    Seek(Global, &'a SoundTable<'t, Bytewise>, &'a [[u8; 24]]),
-    /// Writes the entries of these values as files.
-    Write(Global, &'a [u8]),
+pub enum Group {
+    /// One table, checked and walked over, and its entries written as files.
+    Whole,
+    /// Keys sought in one table.
+    Seeks,
+    /// One table written.
+    Builder,
+    /// Cursors over so many tables of fewer entries, which are walked as one.
+    Cursors(usize),
+    /// Tables that are merged in a range.
+    Range,
+    /// The outputs of such a range.
+    Outputs,
+    /// Whether the tables of a version are lawful.
+    Lawful,
+    /// A split of their user keys.
+    Split,
 }
 
-impl Run for Tables<'_, '_> {
-    fn run(&mut self) -> Result<u32> {
-        match *self {
-            Tables::Check(alloc, table) => checked(alloc, table),
-            Tables::Walk(alloc, table) => walk(alloc, table),
-            Tables::Seek(alloc, table, keys) => seek(alloc, table, keys),
-            Tables::Write(alloc, values) => write_files(alloc, values),
+impl Group {
+    /// How the entries are dealt out, and of how many bytes there is an entry.
+    fn shape(self) -> (Deal, usize) {
+        match self {
+            Group::Whole | Group::Seeks | Group::Builder => (
+                Deal { above: 1, below: 0 },
+                ENTRY_LEN,
+            ),
+            Group::Cursors(above) => (Deal { above, below: 0 }, 8 * VALUE_LEN),
+            Group::Range | Group::Outputs => (Deal { above: 9, below: 0 }, ENTRY_LEN),
+            Group::Lawful | Group::Split => (versions::TABLES, ENTRY_LEN),
         }
     }
 }
 
-/// Takes the figures of a table whose values are pseudo-random bytes, about as long as the bytes.
+/// Takes the figures of a group, of entries whose values are these bytes.
 pub fn measure(
-    clock: &impl Clock,
-    alloc: Global,
+    rt: &HostRuntime,
     bytes: &[u8],
+    group: Group,
     figures: &mut Figures,
-) -> Result<()> {
-    let (values, _) = bytes.split_at(bytes.len() / ENTRY_LEN * VALUE_LEN);
-    let table = written(alloc, values)?;
-    let work = Work {
-        call: Call::TableCheck,
-        bytes: table.len(),
-        entries: values.len() / VALUE_LEN,
+) -> Result<(), Fault> {
+    let (deal, entry_len) = group.shape();
+    let values = values_of(bytes, entry_len);
+    let written = dealt(rt.alloc(), values, deal)?;
+    let tables = sound(rt.alloc(), &written)?;
+    take(rt, group, values, &written, &tables, figures)
+}
+
+/// Takes the figures of a group, of entries that were dealt out to these tables.
+fn take(
+    rt: &HostRuntime,
+    group: Group,
+    values: &[[u8; VALUE_LEN]],
+    written: &[Vec<u8>],
+    tables: &[SoundTable<'_, Bytewise>],
+    figures: &mut Figures,
+) -> Result<(), Fault> {
+    let entries = values.len();
+    let whole = Extent {
+        bytes: len_of(written),
+        entries,
     };
-    measure_read(clock, alloc, &table, work, figures)?;
-    measure_written(clock, alloc, values, work, figures)
-}
-
-/// Takes the figures of a table that is checked, which is this work, walked over and searched.
-fn measure_read(
-    clock: &impl Clock,
-    alloc: Global,
-    table: &[u8],
-    work: Work,
-    figures: &mut Figures,
-) -> Result<()> {
-    figures.take(clock, work, &mut Tables::Check(alloc, table))?;
-    let sound = check::<Bytewise>(alloc, table)?;
-    measure_sound(clock, alloc, &sound, work, figures)
-}
-
-/// Takes the figures of a table that is walked over and searched.
-fn measure_sound(
-    clock: &impl Clock,
-    alloc: Global,
-    table: &SoundTable<'_, Bytewise>,
-    work: Work,
-    figures: &mut Figures,
-) -> Result<()> {
-    let walk = over(Call::TableCursor, work);
-    figures.take(clock, walk, &mut Tables::Walk(alloc, table))?;
-    let keys = spread(alloc, work.entries)?;
-    let seek = Work {
-        call: Call::TableSeek,
+    let each = Extent { bytes: 0, entries };
+    let seeks = Extent {
         bytes: 0,
-        entries: keys.len(),
+        entries: entries.min(SEEKS),
     };
-    figures.take(clock, seek, &mut Tables::Seek(alloc, table, &keys))
+    match group {
+        Group::Whole => take_whole(rt, whole, values, written, tables, figures),
+        Group::Seeks => figures.take(rt, seeks, &[Work::TableSeek(tables, entries)]),
+        Group::Builder => figures.take(rt, whole, &[Work::TableBuilder(values)]),
+        Group::Cursors(_) => figures.take(
+            rt,
+            each,
+            &[Work::Merge(tables, entries), Work::Pass(tables, entries)],
+        ),
+        Group::Range => figures.take(rt, whole, &[Work::MergeRange(tables)]),
+        Group::Outputs => ranges::take(rt, tables, entries, figures),
+        Group::Lawful => versions::take(rt, each, written, tables, figures),
+        Group::Split => versions::take_split(rt, tables, figures),
+    }
 }
 
-/// Another call over as much as this work.
-fn over(call: Call, work: Work) -> Work {
-    Work { call, ..work }
-}
-
-/// Checks a table, and gives the last byte of its largest key.
-fn checked(alloc: Global, table: &[u8]) -> Result<u32> {
-    let sound = check::<Bytewise>(alloc, table)?;
-    Ok(last_of(sound.largest().bytes()))
-}
-
-/// Takes the figures of writing entries of these values: as one table, and as files.
-fn measure_written(
-    clock: &impl Clock,
-    alloc: Global,
-    values: &[u8],
-    work: Work,
+/// Takes the figures of one table.
+fn take_whole(
+    rt: &HostRuntime,
+    extent: Extent,
+    values: &[[u8; VALUE_LEN]],
+    written: &[Vec<u8>],
+    tables: &[SoundTable<'_, Bytewise>],
     figures: &mut Figures,
-) -> Result<()> {
-    figures.take_made(clock, over(Call::TableBuilder, work), || {
-        let table = written(alloc, values)?;
-        Ok((last_of(&table), table))
-    })?;
-    let work = over(Call::FileBuilder, work);
-    figures.take(clock, work, &mut Tables::Write(alloc, values))
+) -> Result<(), Fault> {
+    let works = [
+        Work::TableCheck(written),
+        Work::TableWalk(tables, extent.entries),
+        Work::FileBuilder(values),
+    ];
+    figures.take(rt, extent, &works)
 }
 
-/// The table of entries whose keys rise and whose values are these bytes, in turn.
-fn written(alloc: Global, values: &[u8]) -> Result<Vec<u8>> {
-    let (values, _) = values.as_chunks::<VALUE_LEN>();
+/// The table of entries whose keys rise and whose values are these.
+pub fn written(alloc: Global, values: &[[u8; VALUE_LEN]]) -> Result<Vec<u8>, Fault> {
     let mut builder = begun(alloc, (values.len() * ENTRY_LEN) as u64)?;
     for (i, value) in values.iter().enumerate() {
         add(&mut builder, i, value)?;
     }
-    Ok(builder.finish()?)
+    builder.finish()
 }
 
 /// Writes the same entries as tables that end where files do, and gives the sum of the tables' last bytes, modulo 2^32.
-fn write_files(alloc: Global, values: &[u8]) -> Result<u32> {
-    let file_size = Options::default().file_size;
+pub fn write_files(alloc: Global, values: &[[u8; VALUE_LEN]]) -> Result<u32, Fault> {
     let mut folded = 0u32;
-    let mut builder = begun(alloc, file_size)?;
-    let (values, _) = values.as_chunks::<VALUE_LEN>();
+    let mut builder = begun(alloc, FILE_LEN)?;
     for (i, value) in values.iter().enumerate() {
-        folded = folded.wrapping_add(ended(alloc, &mut builder, file_size)?);
-        add(&mut builder, i, value)?;
+        folded = folded.wrapping_add(put(alloc, &mut builder, i, value)?);
     }
     Ok(folded.wrapping_add(last_of(&builder.finish()?)))
 }
 
-/// Ends a table that is as long as a file and puts the next one in its place, and gives the last byte of the one that ended; 0
-/// where none did.
-fn ended(alloc: Global, builder: &mut TableBuilder<Bytewise>, file_size: u64) -> Result<u32> {
-    if builder.flushed() < file_size {
-        return Ok(0);
-    }
-    let table = mem::replace(builder, begun(alloc, file_size)?).finish()?;
-    Ok(last_of(&table))
-}
-
-/// A table without entries, which may become as long as the file size.
-pub fn begun(alloc: Global, file_size: u64) -> Result<TableBuilder<Bytewise>> {
-    let options = Options {
-        file_size,
-        ..Options::default()
-    };
-    ensure!(options.are_in_limits(), "options over their limits");
-    Ok(TableBuilder::new(alloc, options))
-}
-
-/// The internal key of the entry of this number.
-fn key_of(number: usize) -> [u8; 24] {
-    let mut bytes = [0; 24];
-    bytes[..16].copy_from_slice(&(FIRST_KEY + number as u128).to_be_bytes());
-    bytes[16..].copy_from_slice(&TAG);
-    bytes
-}
-
-/// Appends the entry of this number.
-pub fn add(
+/// Appends the entry of this number, to the next table where this one is as long as a file, and gives the last byte of the one that
+/// ended; 0 where none did.
+fn put(
+    alloc: Global,
     builder: &mut TableBuilder<Bytewise>,
     number: usize,
     value: &[u8; VALUE_LEN],
-) -> Result<()> {
-    let bytes = key_of(number);
-    let key = InternalKey::parse(&bytes)?;
-    ensure!(builder.is_above_last(&key), "keys that don't rise");
-    builder.add(key, value)?;
-    Ok(())
+) -> Result<u32, Fault> {
+    let mut folded = 0;
+    if builder.flushed() >= FILE_LEN {
+        let next = begun(alloc, FILE_LEN)?;
+        folded = last_of(&mem::replace(builder, next).finish()?);
+    }
+    add(builder, number, value)?;
+    Ok(folded)
 }
 
-/// The sum of the last bytes of all keys and values of a table, modulo 2^32.
-fn walk(alloc: Global, table: &SoundTable<'_, Bytewise>) -> Result<u32> {
-    let mut cursor = TableCursor::new(alloc, table)?;
+/// A cursor over each of these tables.
+pub fn cursors<'a>(
+    alloc: Global,
+    tables: &[SoundTable<'a, Bytewise>],
+) -> Result<Vec<TableCursor<'a, Bytewise>>, Fault> {
+    let mut cursors = Vec::new(alloc);
+    for table in tables {
+        push(&mut cursors, TableCursor::new(alloc, table))?;
+    }
+    Ok(cursors)
+}
+
+/// The sum of the last bytes of the first entry's key and value, modulo 2^32. It takes the entry off, where there is one.
+fn taken<'a, S: Cursor<'a, Bytewise>>(cursor: &mut S) -> Result<u32, Fault> {
+    if !cursor.valid() {
+        return Ok(0);
+    }
+    let folded = last_of(cursor.key().bytes()).wrapping_add(last_of(cursor.value()));
+    cursor.advance()?;
+    Ok(folded)
+}
+
+/// The sum of what the first so many entries of a cursor hold last.
+fn walked<'a, S: Cursor<'a, Bytewise>>(cursor: &mut S, entries: usize) -> Result<u32, Fault> {
     let mut folded = 0u32;
-    while cursor.valid() {
-        folded = folded.wrapping_add(last_of_both(&cursor));
-        cursor.advance()?;
+    for _entry in 0..entries {
+        folded = folded.wrapping_add(taken(cursor)?);
     }
     Ok(folded)
 }
 
-/// The sum of the last bytes of the key and the value of a cursor's first entry.
-fn last_of_both(cursor: &TableCursor<'_, Bytewise>) -> u32
-    requires { 0 < length cursor.now }
-{
-    last_of(cursor.key().bytes()).wrapping_add(last_of(cursor.value()))
-}
-
-/// The internal keys of some of so many entries, in equal steps.
-fn spread(alloc: Global, entries: usize) -> Result<Vec<[u8; 24]>> {
-    let step = entries / SEEKS + 1;
-    let mut keys = Vec::new(alloc);
-    for number in 0..entries {
-        if number % step == 0 {
-            keys.push(key_of(number))?;
-        }
+/// The sum of what so many entries of the first table hold last.
+pub fn walked_first(
+    alloc: Global,
+    tables: &[SoundTable<'_, Bytewise>],
+    entries: usize,
+) -> Result<u32, Fault> {
+    match tables.first() {
+        Some(table) => walked(&mut TableCursor::new(alloc, table)?, entries),
+        None => Ok(0),
     }
-    Ok(keys)
 }
 
-/// Seeks these internal keys by one cursor, in turn, and gives the sum of the last bytes of the user keys that it comes to,
-/// modulo 2^32.
-fn seek(alloc: Global, table: &SoundTable<'_, Bytewise>, keys: &[[u8; 24]]) -> Result<u32> {
-    let mut cursor = TableCursor::new(alloc, table)?;
+/// The sum of the last bytes of the user keys that seeks in the first table come to. The keys of some of its so many entries are
+/// sought, in equal steps.
+pub fn sought_first(
+    alloc: Global,
+    tables: &[SoundTable<'_, Bytewise>],
+    entries: usize,
+) -> Result<u32, Fault> {
+    match tables.first() {
+        Some(table) => sought(&mut TableCursor::new(alloc, table)?, entries),
+        None => Ok(0),
+    }
+}
+
+/// The same by a cursor.
+fn sought(cursor: &mut TableCursor<'_, Bytewise>, entries: usize) -> Result<u32, Fault> {
+    let seeks = entries.min(SEEKS);
     let mut folded = 0u32;
-    for key in keys {
-        folded = folded.wrapping_add(sought(&mut cursor, key)?);
+    for place in 0..seeks {
+        let number = place.saturating_mul(entries) / seeks.max(1);
+        folded = folded.wrapping_add(last_sought(cursor, &internal_key(number as u64))?);
     }
     Ok(folded)
 }
 
-/// Seeks an internal key, and gives the last byte of the user key that it comes to; 0 where there is none.
-fn sought(cursor: &mut TableCursor<'_, Bytewise>, key: &[u8; 24]) -> Result<u32> {
+/// Seeks an internal key, and gives the last byte of the user key that the cursor comes to; 0 where there is none.
+fn last_sought(cursor: &mut TableCursor<'_, Bytewise>, key: &[u8; 24]) -> Result<u32, Fault> {
     cursor.seek(InternalKey::parse(key)?)?;
     if !cursor.valid() {
         return Ok(0);
@@ -236,15 +234,34 @@ fn sought(cursor: &mut TableCursor<'_, Bytewise>, key: &[u8; 24]) -> Result<u32>
     Ok(last_of(cursor.key().user()))
 }
 
-/// The last of some bytes; 0 where there is none.
-pub fn last_of(bytes: &[u8]) -> u32 {
-    match bytes.last() {
-        Some(byte) => u32::from(*byte),
-        None => 0,
-    }
+/// The sum of what the first so many entries of all tables hold last, walked by a tournament.
+pub fn merged(
+    alloc: Global,
+    tables: &[SoundTable<'_, Bytewise>],
+    entries: usize,
+) -> Result<u32, Fault> {
+    let mut merging = Merging::<Bytewise, _>::new(alloc, cursors(alloc, tables)?)?;
+    walked(&mut merging, entries)
 }
 
-/// The lowest 32 bits of a number.
-pub fn low_bits(number: usize) -> u32 {
-    (number % (1 << 32)) as u32
+/// The same, where each entry is found by a pass over all cursors.
+pub fn passed(
+    alloc: Global,
+    tables: &[SoundTable<'_, Bytewise>],
+    entries: usize,
+) -> Result<u32, Fault> {
+    let mut cursors = cursors(alloc, tables)?;
+    let mut folded = 0u32;
+    for _entry in 0..entries {
+        folded = folded.wrapping_add(pass(&mut cursors)?);
+    }
+    Ok(folded)
+}
+
+/// What the least of the first entries of some cursors holds last, which is taken off; 0 where there is none.
+fn pass(cursors: &mut [TableCursor<'_, Bytewise>]) -> Result<u32, Fault> {
+    match least_place::<Bytewise, _>(cursors) {
+        Some(place) if place < cursors.len() => taken(&mut cursors[place]),
+        _ => Ok(0),
+    }
 }

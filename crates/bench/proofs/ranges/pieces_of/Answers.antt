@@ -1,7 +1,7 @@
-use Rattle.std.proofs.Common.{sym, ap, ◌∙◌, arith}
+use Rattle.std.proofs.Common.{arith}
 use Rattle.cut.specs.Planning.{lists_in}
 use Rattle.cut.proofs.Collected.{one_collected, all_collected}
-use Rattle.bench.proofs.outputs.pieces_of.Goals as goal
+use Rattle.bench.proofs.ranges.pieces_of.Goals as goal
 
 pub loop-job-preserved : goal.loop-job-preserved
 loop-job-preserved c =

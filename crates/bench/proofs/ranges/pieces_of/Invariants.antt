@@ -1,7 +1,7 @@
-use Rattle.std.proofs.Common.{◌≡◌, ◌≤◌, map, take}
+use Rattle.std.proofs.Common.{◌≡◌, map, take}
 use Rattle.cut.specs.Plan.{jobs, encoded}
 use Rattle.cut.specs.Planning.{lists_in}
-use Rattle.bench.proofs.outputs.pieces_of.Given as goal
+use Rattle.bench.proofs.ranges.pieces_of.Given as goal
 
 abbrev pub invariant-loop-job : goal.invariant-loop-job
 invariant-loop-job l =

@@ -1,0 +1,82 @@
+//! Figures of what several workers do: jobs that do nothing, and the call `compact` alone.
+
+use crate::compaction::Compaction;
+use crate::figures::{Extent, Figures, NO_TIMES, Times, lessen, time_at};
+use crate::jobs::ran;
+use crate::work::{ended, now};
+use coding::Fault;
+use std::thread::Threads;
+use std::time::Duration;
+
+/// What workers do.
+#[derive(Clone, Copy)]
+pub enum Task<'a> {
+    /// So many jobs that give their numbers.
+    Jobs(u32),
+    /// A compaction.
+    Compact(&'a Compaction),
+}
+
+impl Task<'_> {
+    /// How the lines of one, two and four workers begin.
+    fn labels(self) -> [&'static str; 3] {
+        match self {
+            Task::Jobs(_) => ["jobs, 1 worker", "jobs, 2 workers", "jobs, 4 workers"],
+            Task::Compact(_) => [
+                "compact, 1 worker",
+                "compact, 2 workers",
+                "compact, 4 workers",
+            ],
+        }
+    }
+}
+
+/// Takes the figures of a task that is done by one, two and four workers in turn, which have to give the same number.
+pub fn take<R: Threads + Sync>(
+    rt: &HostRuntime,
+    threads: &R,
+    extent: Extent,
+    task: Task<'_>,
+    figures: &mut Figures,
+) -> Result<(), Fault> {
+    let mut times = NO_TIMES;
+    for step in 0..u64::from(figures.rounds).saturating_mul(3) {
+        let place = step % 3;
+        let (given, time) = timed(rt, threads, task, 1 << place)?;
+        figures.note(given, place > 0);
+        lessen(&mut times, place as usize, time);
+    }
+    print(rt, extent, task, &times, figures)
+}
+
+/// Prints the lines of a task.
+fn print(
+    rt: &HostRuntime,
+    extent: Extent,
+    task: Task<'_>,
+    times: &Times,
+    figures: &Figures,
+) -> Result<(), Fault> {
+    let [one, two, four] = task.labels();
+    figures.print(rt, one, extent, time_at(times, 0))?;
+    figures.print(rt, two, extent, time_at(times, 1))?;
+    figures.print(rt, four, extent, time_at(times, 2))
+}
+
+/// Does a task once by so many workers. It gives a number that depends on all of it, and how long it took.
+fn timed<R: Threads + Sync>(
+    rt: &HostRuntime,
+    threads: &R,
+    task: Task<'_>,
+    workers: u64,
+) -> Result<(u32, Duration), Fault> {
+    let start = now(rt)?;
+    match task {
+        Task::Jobs(jobs) => ended(rt, start, ran(rt.alloc(), threads, jobs, workers)),
+        Task::Compact(compaction) => ended(
+            rt,
+            start,
+            compaction.carried_out(rt.alloc(), threads, workers),
+        ),
+    }
+}

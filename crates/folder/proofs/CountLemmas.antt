@@ -1,6 +1,7 @@
 -- The count of failures over calls.
-use Rattle.std.proofs.Common.{◌≡◌, ◌⊎◌, ℕ, ◌+◌, ◌-◌, ◌<◌, ◌≤◌, ◌^◌, nat_eq, Bool, true, false, Result, Ok, Err, refl, sym, ap, subst, ◌∙◌, inl, inr, arith, if◌then◌else◌}
+use Rattle.std.proofs.Common.{◌≡◌, ◌⊎◌, ℕ, ◌+◌, ◌-◌, ◌<◌, ◌≤◌, ◌^◌, nat_eq, Bool, true, false, Result, Ok, Err, IsErrAnd, refl, sym, ap, subst, ◌∙◌, inl, inr, arith, if◌then◌else◌}
 use Rattle.std.proofs.lemmas.Bool.{eqb-true}
+use Rattle.coding.proofs.Binds.{failed}
 use Rattle.coding.specs.Answers.{fault}
 use Rattle.coding.specs.declared.fault.Fault.{Fault}
 use Rattle.coding.specs.declared.fault.FaultName.TheVariants as name
@@ -44,3 +45,34 @@ steady first before now x r ok same later stops =
   where
     le_same : (a b : ℕ) → a ≤ b → (a < b → ⊥) → b ≡ a
     le_same a b h never = omega (arith, never)
+
+-- a refusal that `?` hands on
+pub stops_on : {X Z : Type 0} (before now : ℕ) (first : Result Z Fault) (r : Result X Fault) (e : Fault) → first ≡ Err e → IsErrAnd r (λ f. f ≡ e) → StopsAtDevice before now first → StopsAtDevice before now r
+stops_on before now first (Ok x) e was is stops = absurd is
+stops_on {X} {Z} before now first (Err f) e was is stops = λ rose.
+    let both : failed {A = Z} e ≡ failed (fault name.Device) = sym was ∙ stops rose in
+    let one : e ≡ fault name.Device = cc both in
+    ap (λ (g : Fault). failed {A = X} g) (is ∙ one)
+
+-- where a call answered Ok, none failed
+pub stops_ok : {X Z : Type 0} (before now : ℕ) (x : Z) (first : Result Z Fault) (r : Result X Fault) → first ≡ Ok x → StopsAtDevice before now first → StopsAtDevice before now r
+stops_ok before now x first r ok stops = λ rose. let one : Ok x ≡ Err (fault name.Device) = sym ok ∙ stops rose in absurd (cc one)
+
+-- one call after another that answered Ok
+pub stops_next : {X Z : Type 0} (before middle now : ℕ) (x : Z) (first : Result Z Fault) (r : Result X Fault) → first ≡ Ok x → StopsAtDevice before middle first → StopsAtDevice middle now r → StopsAtDevice before now r
+stops_next before middle now x first r ok one two = λ rose.
+    let never : before < middle → ⊥ = λ more. let same : Ok x ≡ Err (fault name.Device) = sym ok ∙ one more in cc same in
+    two (still before middle now never rose)
+  where
+    still : (a b c : ℕ) → (a < b → ⊥) → a < c → b < c
+    still a b c never h = omega (arith, never)
+
+-- the count was the same before
+pub stops_since : {X : Type 0} (before middle now : ℕ) (r : Result X Fault) → middle ≡ before → StopsAtDevice middle now r → StopsAtDevice before now r
+stops_since before middle now r is stops = λ rose. stops (omega (arith, is, rose))
+
+pub later_still : (before middle now : ℕ) → before ≤ middle → middle ≤ now → before ≤ now
+later_still before middle now one two = omega arith
+
+pub later_since : (before middle now : ℕ) → middle ≡ before → middle ≤ now → before ≤ now
+later_since before middle now is more = omega (arith, is, more)

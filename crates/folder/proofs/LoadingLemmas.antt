@@ -23,6 +23,14 @@ pub map_fused : {A B C : Type 0} (f : A → B) (h : B → C) (xs : List A) → m
 map_fused f h [] = refl
 map_fused f h (x ∷ xs) = ap (λ t. h (f x) ∷ t) (map_fused f h xs)
 
+-- one number more
+pub numbers_more : {A : Type 0} (of : A → ℕ) (files : List A) (i : ℕ) (file : A) (first so_far after : List ℕ) → i < length files → file ≡ get_or files i file → after ≡ so_far ++ of file ∷ []
+    → so_far ≡ first ++ map of (take i files) → after ≡ first ++ map of (take (i + 1) files)
+numbers_more {A = A} of files i file first so_far after within is pushed before =
+    let front : take (i + 1) files ≡ take i files ++ file ∷ [] = take_more files i file within ∙ ap (λ (x : A). take i files ++ x ∷ []) (sym is) in
+    let mapped : map of (take (i + 1) files) ≡ map of (take i files) ++ of file ∷ [] = ap (map of) front ∙ map-append of (take i files) (file ∷ []) in
+    pushed ∙ ap (λ (xs : List ℕ). xs ++ of file ∷ []) before ∙ append_assoc first (map of (take i files)) (of file ∷ []) ∙ sym (ap (λ (xs : List ℕ). first ++ xs) mapped)
+
 -- what is told at last is what was told at first
 pub told_since : (one two three : List ℕ → Option (List ℕ) → Type 0) → TellsSame one two → TellsSame two three → TellsSame one three
 told_since one two three a b name held = (λ h. (b name held).0 ((a name held).0 h), λ h. (a name held).1 ((b name held).1 h))

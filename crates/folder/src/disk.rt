@@ -1,23 +1,22 @@
 //! A folder of the system.
 
-ghost use Rattle.std.specs.Prelude.{IsOkUnless, ◌≡◌, [], ◌∷◌, ◌++◌};
+ghost use Rattle.std.specs.Prelude.{◌≡◌, [], ◌∷◌, ◌++◌};
 ghost use Rattle.folder.specs.Calls.{step_of};
 ghost use Rattle.folder.specs.Folder.{failures_after};
 ghost use Rattle.folder.specs.Attempts.{call_in};
-ghost use Rattle.folder.specs.declared.folder.FolderFault.TheVariants.{Memory};
 
 use crate::folder::{Folder, FolderFault};
 use crate::loading::tables_ahead;
 use crate::order::Order;
+use crate::system::{done_in, read_in};
 use crate::trail::{Attempt, Trail, WriteCall};
-use crate::whole_files::{Ahead, WholeFiles, path_in, read_all, take, whole};
+use crate::whole_files::{Ahead, WholeFiles, read_all, take};
 use edit::Version;
-use std::fs::{File, OpenFile, OpenOptions};
+use std::io;
 use std::io::ErrorKind;
 use std::marker::Model;
 use std::rt::Files;
 use std::thread::Threads;
-use std::{fs, io};
 
 /// A folder of the system, at a path. It tells contracts nothing of what it holds.
 ///
@@ -82,32 +81,26 @@ impl<'r, R: Files + AllocGlobal> Folder for Disk<'r, R> {
         if let Some(bytes) = self.taken_ahead(name) {
             return Ok(Some(bytes));
         }
-        let place = self.place(name)?;
-        match whole(self.rt, self.rt.alloc(), place.as_str()) {
-            Ok(bytes) => Ok(Some(bytes)),
-            Err(error) if error.kind() == ErrorKind::NotFound => Ok(None),
-            Err(error) => self.counted(Err(error)),
-        }
+        let answer = read_in(self.rt, self.rt.alloc(), self.path, name);
+        self.counted(answer)
     }
 
     fn create(&mut self, name: &str, bytes: &[u8]) -> Result<(), FolderFault> {
-        let answer = self.made(name, bytes);
-        self.note(WriteCall::Create(name, bytes), answer)
+        self.ahead.clear();
+        self.write(WriteCall::Create(name, bytes))
     }
 
     fn sync(&mut self, name: &str) -> Result<(), FolderFault> {
-        let answer = self.synced(name);
-        self.note(WriteCall::Sync(name), answer)
+        self.write(WriteCall::Sync(name))
     }
 
     fn rename(&mut self, from: &str, to: &str) -> Result<(), FolderFault> {
-        let answer = self.renamed(from, to);
-        self.note(WriteCall::Rename(from, to), answer)
+        self.ahead.clear();
+        self.write(WriteCall::Rename(from, to))
     }
 
     fn sync_folder(&mut self) -> Result<(), FolderFault> {
-        let answer = self.folder_synced();
-        self.note(WriteCall::SyncFolder, answer)
+        self.write(WriteCall::SyncFolder)
     }
 
     fn failures(&self) -> u64 {
@@ -128,53 +121,6 @@ impl<'r, R: Files + AllocGlobal> Disk<'r, R> {
         }
     }
 
-    fn made(&mut self, name: &str, bytes: &[u8]) -> Result<(), FolderFault>
-        ensures failures { self.new.failures ≡ failures_after self.old.failures result }
-        ensures trail { self.new.trail ≡ self.old.trail }
-    {
-        self.ahead.clear();
-        let place = self.place(name)?;
-        let answer = fs::write(self.rt, place.as_str(), bytes);
-        self.counted(answer)
-    }
-
-    fn synced(&mut self, name: &str) -> Result<(), FolderFault>
-        ensures failures { self.new.failures ≡ failures_after self.old.failures result }
-        ensures trail { self.new.trail ≡ self.old.trail }
-    {
-        let place = self.place(name)?;
-        let file = OpenOptions::new().write(true).open(self.rt, place.as_str());
-        let answer = self.counted(file)?.sync_all();
-        self.counted(answer)
-    }
-
-    fn renamed(&mut self, from: &str, to: &str) -> Result<(), FolderFault>
-        ensures failures { self.new.failures ≡ failures_after self.old.failures result }
-        ensures trail { self.new.trail ≡ self.old.trail }
-    {
-        self.ahead.clear();
-        let from = self.place(from)?;
-        let to = self.place(to)?;
-        let answer = fs::rename(self.rt, from.as_str(), to.as_str());
-        self.counted(answer)
-    }
-
-    fn folder_synced(&mut self) -> Result<(), FolderFault>
-        ensures failures { self.new.failures ≡ failures_after self.old.failures result }
-        ensures trail { self.new.trail ≡ self.old.trail }
-    {
-        let folder = File::open(self.rt, self.path);
-        let answer = self.counted(folder)?.sync_all();
-        self.counted(answer)
-    }
-
-    /// The path of a file.
-    fn place(&self, name: &str) -> Result<String, FolderFault>
-        ensures { IsOkUnless result Memory }
-    {
-        Ok(path_in(self.rt.alloc(), self.path, name)?)
-    }
-
     /// What a call of the system answered. A failure that isn't want of memory is the device's, and is counted.
     fn counted<T>(&mut self, answer: io::Result<T>) -> Result<T, FolderFault>
         ensures failures { self.new.failures ≡ failures_after self.old.failures result }
@@ -190,16 +136,13 @@ impl<'r, R: Files + AllocGlobal> Disk<'r, R> {
         }
     }
 
-    /// Adds a call to the trail, by what it answered.
-    fn note(
-        &mut self,
-        call: WriteCall<'_>,
-        answer: Result<(), FolderFault>,
-    ) -> Result<(), FolderFault>
-        ensures answer { result ≡ answer }
-        ensures trail { self.new.trail ≡ self.old.trail ++ step_of (call_in call.entry) answer ∷ [] }
-        ensures failures { self.new.failures ≡ self.old.failures }
+    /// Makes a call that writes, and adds it to the trail.
+    fn write(&mut self, call: WriteCall<'_>) -> Result<(), FolderFault>
+        ensures trail { self.new.trail ≡ self.old.trail ++ step_of (call_in call.entry) result ∷ [] }
+        ensures failures { self.new.failures ≡ failures_after self.old.failures result }
     {
+        let done = done_in(self.rt, self.rt.alloc(), self.path, call);
+        let answer = self.counted(done);
         let is_done = answer.is_ok();
         self.trail = self.trail.then(&Attempt { call, is_done });
         answer

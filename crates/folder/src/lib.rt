@@ -12,6 +12,7 @@ mod opening;
 mod order;
 mod shelf;
 mod shelf_step;
+mod system;
 mod trail;
 mod whole_files;
 

@@ -1,6 +1,6 @@
 use Rattle.std.proofs.Common.{ℕ, Ok, Err, get_or, map, arith, ◌∙◌}
 use Rattle.folder.specs.Loading.{IsLoaded, IsTableAnswer}
-use Rattle.folder.proofs.CountLemmas.{steady}
+use Rattle.folder.proofs.CountLemmas.{later_since, steady, stops_ok, stops_on, stops_since}
 use Rattle.folder.proofs.LoadingLemmas.{missing_there, table_before, table_of, tables_more, told_since}
 use Rattle.folder.proofs.OpeningLemmas.{hands_on}
 use Rattle.folder.proofs.loading.tables.Goals as goal
@@ -29,3 +29,41 @@ loop-number-preserved g c =
       failures = steady (failed c.args.folder.now) (failed c.loop-number.folder) (failed c.table.new.folder) bytes c.table.result c.in_ok-bytes.was c.loop-number.invariant.failures c.table.ensures.later c.table.ensures.at_once;
       calls = c.table.ensures.calls ∙ c.loop-number.invariant.calls;
     }
+
+pub returns-in_err-bytes-clause-same : goal.returns-in_err-bytes-clause-same
+returns-in_err-bytes-clause-same g c =
+    let tells = g.F.Folder.tells in
+    told_since (tells c.args.folder.now) (tells c.loop-number.folder) (tells c.table.new.folder) c.loop-number.invariant.same c.table.ensures.same
+
+pub returns-in_err-bytes-clause-calls : goal.returns-in_err-bytes-clause-calls
+returns-in_err-bytes-clause-calls g c = c.table.ensures.calls ∙ c.loop-number.invariant.calls
+
+pub returns-in_err-bytes-clause-later : goal.returns-in_err-bytes-clause-later
+returns-in_err-bytes-clause-later g c =
+    let failed = g.F.Folder.failed in
+    later_since (failed c.args.folder.now) (failed c.loop-number.folder) (failed c.table.new.folder) c.loop-number.invariant.failures c.table.ensures.later
+
+pub returns-in_err-bytes-clause-at_once : goal.returns-in_err-bytes-clause-at_once
+returns-in_err-bytes-clause-at_once g c =
+    let failed = g.F.Folder.failed in
+    stops_since (failed c.args.folder.now) (failed c.loop-number.folder) (failed c.table.new.folder) c.from_residual-in_err-bytes.result c.loop-number.invariant.failures
+    (stops_on (failed c.loop-number.folder) (failed c.table.new.folder) c.table.result c.from_residual-in_err-bytes.result c.in_err-bytes.field-0.0 c.in_err-bytes.was c.from_residual-in_err-bytes.ensures.1 c.table.ensures.at_once)
+
+pub returns-in_err-push-clause-same : goal.returns-in_err-push-clause-same
+returns-in_err-push-clause-same g c =
+    let tells = g.F.Folder.tells in
+    told_since (tells c.args.folder.now) (tells c.loop-number.folder) (tells c.table.new.folder) c.loop-number.invariant.same c.table.ensures.same
+
+pub returns-in_err-push-clause-calls : goal.returns-in_err-push-clause-calls
+returns-in_err-push-clause-calls g c = c.table.ensures.calls ∙ c.loop-number.invariant.calls
+
+pub returns-in_err-push-clause-later : goal.returns-in_err-push-clause-later
+returns-in_err-push-clause-later g c =
+    let failed = g.F.Folder.failed in
+    later_since (failed c.args.folder.now) (failed c.loop-number.folder) (failed c.table.new.folder) c.loop-number.invariant.failures c.table.ensures.later
+
+pub returns-in_err-push-clause-at_once : goal.returns-in_err-push-clause-at_once
+returns-in_err-push-clause-at_once g c =
+    let failed = g.F.Folder.failed in
+    stops_since (failed c.args.folder.now) (failed c.loop-number.folder) (failed c.table.new.folder) c.from_residual-in_err-push.result c.loop-number.invariant.failures
+    (stops_ok (failed c.loop-number.folder) (failed c.table.new.folder) c.in_ok-bytes.bytes c.table.result c.from_residual-in_err-push.result c.in_ok-bytes.was c.table.ensures.at_once)

@@ -3,6 +3,8 @@ use Rattle.coding.specs.Answers.{UnlessMemory, HoldsOrMemory}
 use Rattle.folder.specs.Manifest.{IsManifestAnswer}
 use Rattle.folder.specs.Names.{IsNumberAnswer, manifest_name}
 use Rattle.folder.specs.Opening.{IsHeld, IsOpened}
+use Rattle.folder.proofs.CountLemmas.{later_still, stops_next, stops_ok, stops_on}
+use Rattle.folder.proofs.LoadingLemmas.{told_since}
 use Rattle.folder.proofs.OpeningLemmas.{answers_alone, hands_on, held_before, manifest_answers, no_current, no_manifest, no_number, refuses}
 use Rattle.folder.proofs.RefusalLemmas.{device_failed, open_refused}
 use Rattle.coding.proofs.Binds.{ok_is}
@@ -60,3 +62,101 @@ returns-clause-device g c =
     let tells = g.F.Folder.tells c.args.folder.now in
     let failed = g.F.Folder.failed in
     device_failed (λ r. (r.0, r.1)) (failed c.args.folder.now) (failed c.held-2.new.folder) c.version_in.result (IsOpened tells) (open_refused tells) (returns-clause-answer g c)
+
+pub returns-in_err-current-clause-device : goal.returns-in_err-current-clause-device
+returns-in_err-current-clause-device g c =
+    let tells = g.F.Folder.tells c.args.folder.now in
+    let failed = g.F.Folder.failed in
+    device_failed (λ r. (r.0, r.1)) (failed c.args.folder.now) (failed c.held.new.folder) c.from_residual.result (IsOpened tells) (open_refused tells) (returns-in_err-current-clause-answer g c)
+
+pub returns-in_err-number-clause-device : goal.returns-in_err-number-clause-device
+returns-in_err-number-clause-device g c =
+    let tells = g.F.Folder.tells c.args.folder.now in
+    let failed = g.F.Folder.failed in
+    device_failed (λ r. (r.0, r.1)) (failed c.args.folder.now) (failed c.held.new.folder) c.from_residual-in_err-number.result (IsOpened tells) (open_refused tells) (returns-in_err-number-clause-answer g c)
+
+pub returns-in_err-manifest-clause-device : goal.returns-in_err-manifest-clause-device
+returns-in_err-manifest-clause-device g c =
+    let tells = g.F.Folder.tells c.args.folder.now in
+    let failed = g.F.Folder.failed in
+    device_failed (λ r. (r.0, r.1)) (failed c.args.folder.now) (failed c.held-2.new.folder) c.from_residual-in_err-manifest.result (IsOpened tells) (open_refused tells) (returns-in_err-manifest-clause-answer g c)
+
+pub returns-in_err-current-clause-same : goal.returns-in_err-current-clause-same
+returns-in_err-current-clause-same g c = c.held.ensures.same
+
+pub returns-in_err-current-clause-calls : goal.returns-in_err-current-clause-calls
+returns-in_err-current-clause-calls g c = c.held.ensures.calls
+
+pub returns-in_err-current-clause-later : goal.returns-in_err-current-clause-later
+returns-in_err-current-clause-later g c = c.held.ensures.later
+
+pub returns-in_err-number-clause-same : goal.returns-in_err-number-clause-same
+returns-in_err-number-clause-same g c = c.held.ensures.same
+
+pub returns-in_err-number-clause-calls : goal.returns-in_err-number-clause-calls
+returns-in_err-number-clause-calls g c = c.held.ensures.calls
+
+pub returns-in_err-number-clause-later : goal.returns-in_err-number-clause-later
+returns-in_err-number-clause-later g c = c.held.ensures.later
+
+pub returns-in_err-name-clause-same : goal.returns-in_err-name-clause-same
+returns-in_err-name-clause-same g c = c.held.ensures.same
+
+pub returns-in_err-name-clause-calls : goal.returns-in_err-name-clause-calls
+returns-in_err-name-clause-calls g c = c.held.ensures.calls
+
+pub returns-in_err-name-clause-later : goal.returns-in_err-name-clause-later
+returns-in_err-name-clause-later g c = c.held.ensures.later
+
+pub returns-in_err-current-clause-at_once : goal.returns-in_err-current-clause-at_once
+returns-in_err-current-clause-at_once g c =
+    let failed = g.F.Folder.failed in
+    stops_on (failed c.args.folder.now) (failed c.held.new.folder) c.held.result c.from_residual.result c.in_err-current.field-0.0 c.in_err-current.was c.from_residual.ensures.1 c.held.ensures.at_once
+
+pub returns-in_err-number-clause-at_once : goal.returns-in_err-number-clause-at_once
+returns-in_err-number-clause-at_once g c =
+    let failed = g.F.Folder.failed in
+    stops_ok (failed c.args.folder.now) (failed c.held.new.folder) c.in_ok-current.current c.held.result c.from_residual-in_err-number.result c.in_ok-current.was c.held.ensures.at_once
+
+pub returns-in_err-name-clause-at_once : goal.returns-in_err-name-clause-at_once
+returns-in_err-name-clause-at_once g c =
+    let failed = g.F.Folder.failed in
+    stops_ok (failed c.args.folder.now) (failed c.held.new.folder) c.in_ok-current.current c.held.result c.from_residual-in_err-name.result c.in_ok-current.was c.held.ensures.at_once
+
+pub returns-in_err-manifest-clause-same : goal.returns-in_err-manifest-clause-same
+returns-in_err-manifest-clause-same g c =
+    let tells = g.F.Folder.tells in
+    told_since (tells c.args.folder.now) (tells c.held.new.folder) (tells c.held-2.new.folder) c.held.ensures.same c.held-2.ensures.same
+
+pub returns-in_err-manifest-clause-calls : goal.returns-in_err-manifest-clause-calls
+returns-in_err-manifest-clause-calls g c = c.held-2.ensures.calls ∙ c.held.ensures.calls
+
+pub returns-in_err-manifest-clause-later : goal.returns-in_err-manifest-clause-later
+returns-in_err-manifest-clause-later g c =
+    let failed = g.F.Folder.failed in
+    later_still (failed c.args.folder.now) (failed c.held.new.folder) (failed c.held-2.new.folder) c.held.ensures.later c.held-2.ensures.later
+
+pub returns-in_err-manifest-clause-at_once : goal.returns-in_err-manifest-clause-at_once
+returns-in_err-manifest-clause-at_once g c =
+    let failed = g.F.Folder.failed in
+    stops_next (failed c.args.folder.now) (failed c.held.new.folder) (failed c.held-2.new.folder) c.in_ok-current.current c.held.result c.from_residual-in_err-manifest.result c.in_ok-current.was c.held.ensures.at_once
+    (stops_on (failed c.held.new.folder) (failed c.held-2.new.folder) c.held-2.result c.from_residual-in_err-manifest.result c.in_err-manifest.field-0.0 c.in_err-manifest.was c.from_residual-in_err-manifest.ensures.1 c.held-2.ensures.at_once)
+
+pub returns-clause-same : goal.returns-clause-same
+returns-clause-same g c =
+    let tells = g.F.Folder.tells in
+    told_since (tells c.args.folder.now) (tells c.held.new.folder) (tells c.held-2.new.folder) c.held.ensures.same c.held-2.ensures.same
+
+pub returns-clause-calls : goal.returns-clause-calls
+returns-clause-calls g c = c.held-2.ensures.calls ∙ c.held.ensures.calls
+
+pub returns-clause-later : goal.returns-clause-later
+returns-clause-later g c =
+    let failed = g.F.Folder.failed in
+    later_still (failed c.args.folder.now) (failed c.held.new.folder) (failed c.held-2.new.folder) c.held.ensures.later c.held-2.ensures.later
+
+pub returns-clause-at_once : goal.returns-clause-at_once
+returns-clause-at_once g c =
+    let failed = g.F.Folder.failed in
+    stops_next (failed c.args.folder.now) (failed c.held.new.folder) (failed c.held-2.new.folder) c.in_ok-current.current c.held.result c.version_in.result c.in_ok-current.was c.held.ensures.at_once
+    (stops_ok (failed c.held.new.folder) (failed c.held-2.new.folder) c.in_ok-manifest.manifest c.held-2.result c.version_in.result c.in_ok-manifest.was c.held-2.ensures.at_once)

@@ -6,7 +6,7 @@ use Rattle.coding.specs.Answers.{fault}
 use Rattle.coding.specs.declared.fault.Fault.{Fault}
 use Rattle.coding.specs.declared.fault.FaultName.TheVariants as name
 use Rattle.folder.specs.Opening.{StopsAtDevice}
-use Rattle.folder.specs.Folder.{DeviceFailed, failures_after, one_more}
+use Rattle.folder.specs.Folder.{DeviceFailed, failures_after, fault_name, one_more}
 use Rattle.folder.specs.declared.folder.FolderFault.{FolderFault}
 use Rattle.folder.specs.declared.folder.FolderFault.TheVariants.{Device, Memory}
 
@@ -76,3 +76,20 @@ later_still before middle now one two = omega arith
 
 pub later_since : (before middle now : ℕ) → middle ≡ before → middle ≤ now → before ≤ now
 later_since before middle now is more = omega (arith, is, more)
+
+-- a reading that answered Ok left the count as it was
+pub read_same : {T : Type 0} (before now : ℕ) (x : T) (first : Result T FolderFault) → first ≡ Ok x → now ≡ failures_after before first → now ≡ before
+read_same before now x first ok count = count ∙ ap (failures_after before) ok
+
+abbrev stopped : {A : Type 0} → FolderFault → Result A FolderFault
+stopped e = Err e
+
+same_fault : {A : Type 0} (d e : FolderFault) → stopped {A = A} d ≡ stopped e → d ≡ e
+same_fault d e h = cc
+
+-- a reading's fault that `?` hands on
+pub read_stops : {X T : Type 0} (before now : ℕ) (first : Result T FolderFault) (r : Result X Fault) (e : FolderFault) → first ≡ Err e → IsErrAnd r (λ f. f ≡ fault (fault_name e)) → now ≡ failures_after before first → StopsAtDevice before now r
+read_stops before now first (Ok x) e was is count = absurd is
+read_stops {X} {T} before now first (Err f) e was is count = λ rose.
+    let one : e ≡ Device = same_fault {A = T} e Device (sym was ∙ count_rises before now first count rose) in
+    ap (λ (g : Fault). failed {A = X} g) (is ∙ ap (λ (g : FolderFault). fault (fault_name g)) one)

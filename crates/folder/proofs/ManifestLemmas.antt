@@ -4,13 +4,13 @@ use Rattle.std.proofs.lemmas.List.{take_more, take-append-drop, map-append}
 use Rattle.std.specs.Global.{Vec}
 use Rattle.std.specs.List.{AllZip}
 use Rattle.coding.proofs.Refusals.{unless_from}
-use Rattle.coding.specs.Answers.{FailsOrMemory, EqualOrMemory, UnlessMemory, HoldsOrMemory}
+use Rattle.coding.specs.Answers.{◌>>=◌, FailsOrMemory, EqualOrMemory, UnlessMemory, HoldsOrMemory}
 use Rattle.coding.specs.declared.fault.Fault.{Fault}
 use Rattle.logrec.specs.Reading.{lists, records_of}
 use Rattle.edit.specs.Edit.{Edit, IsEdit, IsRefused, edit_in}
-use Rattle.edit.specs.Version.{State}
+use Rattle.edit.specs.Version.{State, applied_by}
 use Rattle.edit.specs.declared.version_edit.VersionEdit.{VersionEdit}
-use Rattle.folder.specs.Manifest.{AreEdits, IsEditsAnswer, IsManifestAnswer, version_from}
+use Rattle.folder.specs.Manifest.{AreEdits, IsEditsAnswer, IsManifestAnswer, version_after, version_from}
 use Rattle.folder.specs.declared.order.Order.{Order}
 
 -- a refusal that `?` hands on
@@ -67,3 +67,11 @@ no_edits number bytes records e log h = unless_from e (IsEditsAnswer records (Er
 -- the records are edits, which answer
 pub edits_answer : (number : ℕ) (bytes : List ℕ) (records : List (List ℕ)) (edits : List Edit) → records_of bytes ≡ Ok records → IsEditsAnswer records (Ok edits) → (a : Result (Order × State) Fault) → a ≡ version_from number edits → IsManifestAnswer number bytes a
 edits_answer number bytes records edits log read a is = (Ok records, (sym log, (Ok edits, (read, is))))
+
+-- an edit that doesn't fit what the earlier ones made
+pub not_applied : (text : List ℕ) (v : State) (e : Edit) (edits : List Edit) (all : Result State Fault) (r : Result State Fault) (f : Fault) → IsErrAnd r (λ g. g ≡ f) → FailsOrMemory f (applied_by text v e)
+    → version_after text v (e ∷ edits) ≡ all → EqualOrMemory (λ w. w) r all
+not_applied text v e edits all (Ok x) f h given same = absurd h
+not_applied text v e edits all (Err g) f h given same =
+    subst (λ (x : Fault). FailsOrMemory x all) (sym h)
+    (unless_from f (applied_by text v e ≡ Err f) (all ≡ Err f) (λ is. sym same ∙ ap (λ (first : Result State Fault). first >>= λ w. version_after text w edits) is) given)

@@ -3,9 +3,10 @@ use Rattle.std.proofs.lemmas.List.Elements.{All-head, All-tail}
 use Rattle.coding.specs.Answers.{◌>>=◌}
 use Rattle.coding.specs.declared.fault.Fault.{Fault}
 use Rattle.edit.specs.Edit.{HasLevels, edit_in}
-use Rattle.edit.specs.Version.{State}
+use Rattle.edit.specs.Version.{State, empty_state}
 use Rattle.edit.specs.declared.version_edit.VersionEdit.{VersionEdit}
 use Rattle.folder.specs.Manifest.{version_after}
+use Rattle.folder.proofs.ManifestLemmas.{not_applied}
 use Rattle.folder.proofs.edits.version_after.Goals as goal
 
 pub loop-edit-init : goal.loop-edit-init
@@ -28,3 +29,10 @@ loop-edit-preserved g c =
           ∙ c.loop-edit.invariant.same;
       levels = All-tail (λ (e : VersionEdit). HasLevels (edit_in e)) c.in-Some.edit rest ahead;
     }
+
+pub returns-in_err-version : goal.returns-in_err-version
+returns-in_err-version g c =
+    let name = g.C.Comparator.name_bytes in
+    let rest = c.next.new.self.rest.items in
+    not_applied name c.loop-edit.version (edit_in c.in-Some.edit) (map edit_in rest) (version_after name empty_state (map edit_in c.args.edits.items)) c.from_residual.result c.in_err-version.field-0.0 c.from_residual.ensures.1 c.in_err-version.ensures.after
+    (sym (ap (λ (es : List VersionEdit). version_after name c.loop-edit.version (map edit_in es)) c.in-Some.ensures.steps.0) ∙ c.loop-edit.invariant.same)

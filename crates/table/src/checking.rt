@@ -157,8 +157,8 @@ fn indexed_blocks<'a>(
 ) -> Result<Vec<IndexedBlock<'a>>, Fault>
     ensures { EqualOrMemory (λ v. index_of v.items) result (index_reading bytes.now index.now.entries) }
 {
-    let mut all: Vec<IndexedBlock<'a>> = Vec::new(alloc);
     let mut cursor = BlockCursor::new(alloc, index)?;
+    let mut all: Vec<IndexedBlock<'a>> = Vec::new(alloc);
     while cursor.valid() {
         all.push(indexed_block(alloc, bytes, cursor.key(), cursor.value())?)?;
         cursor.advance()?;

@@ -69,8 +69,8 @@ impl<'a, C: Comparator> SoundTable<'a, C> {
     pub fn index_users(&self, alloc: Global) -> Result<Vec<Vec<u8>>, Fault>
         ensures { EqualOrMemory (λ users. map (λ user. user.items) users.items) result (Ok self.now.index_users) }
     {
-        let mut users = Vec::new(alloc);
         let mut entries = BlockCursor::new(alloc, &self.index)?;
+        let mut users = Vec::new(alloc);
         while entries.valid() {
             users.push(Vec::from_slice(alloc, first_key(&entries).user())?)?;
             entries.advance()?;
@@ -84,8 +84,8 @@ impl<'a, C: Comparator> SoundTable<'a, C> {
     pub fn index_keys(&self, alloc: Global) -> Result<KeyList, Fault>
         ensures { EqualOrMemory (λ keys. keys) result (Ok self.now.index_users) }
     {
-        let mut users = KeyList::new(alloc);
         let mut entries = BlockCursor::new(alloc, &self.index)?;
+        let mut users = KeyList::new(alloc);
         while entries.valid() {
             users.push(first_key(&entries).user())?;
             entries.advance()?;

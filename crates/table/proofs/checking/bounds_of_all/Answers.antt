@@ -3,15 +3,17 @@ use Rattle.std.specs.Ordering.{is_gt}
 use Rattle.std.proofs.lemmas.Result.{err_from_is_err_and}
 use Rattle.coding.specs.Answers.{◌>>=◌}
 use Rattle.coding.specs.declared.fault.Fault.{Fault}
-use Rattle.coding.proofs.Binds.{bind_ok}
+use Rattle.coding.specs.declared.fault.FaultName.TheVariants.{Index}
+use Rattle.coding.proofs.Binds.{done, bind_ok}
 use Rattle.ikey.specs.Order.{internal_cmp}
+use Rattle.table.specs.ReadingSteps.{pass}
 use Rattle.table.specs.ReadingEntries.{is_above}
 use Rattle.table.specs.Ends.{Ends, ends_reading}
 use Rattle.table.specs.ReadingIndex.{IndexEntry, block_in}
 use Rattle.table.specs.Indexed.{index_entry_of, index_of}
 use Rattle.table.specs.declared.indexed_block.IndexedBlock.{IndexedBlock}
-use Rattle.table.proofs.Steps.{fails_map, handed_on, next_item, both_hold, one_fails}
-use Rattle.table.proofs.DataSteps.{all_ends, rest_ends, stands, blocks_begin, blocks_go_on, first_refused, next_refused}
+use Rattle.table.proofs.Steps.{fails_map, handed_on, next_item, past_end, both_hold, one_fails}
+use Rattle.table.proofs.DataSteps.{all_ends, rest_ends, stands, blocks_begin, blocks_go_on, blocks_done, first_refused, next_refused}
 use Rattle.table.proofs.checking.bounds_of_all.Goals as goal
 use Rattle.table.proofs.checking.bounds_of_all.Goals.{then-is_between, else-is_between}
 
@@ -74,3 +76,28 @@ loop-entry-preserved g c =
     let tested : c.if-is_between.fits ≡ ((is_above cmp (Some below) y.smallest && not (is_gt (internal_cmp cmp y.largest i.key))) && fits) = now ∙ ap (λ (t : Bool). t && fits) c.is_between.ensures in
     subst (λ (t : Bool). rest_ends cmp (record { smallest = x.smallest; largest = y.largest }) i.key t is ≡ total) (sym tested)
     (blocks_go_on cmp x below fits i is q.0 y q.1 (stands cmp (Some x.largest) q.0 y q.2) ∙ so_far)
+
+pub returns-then-not-fits : goal.returns-then-not-fits
+returns-then-not-fits g c =
+    let cmp = g.C.Comparator.cmp in
+    let below = c.loop-entry.below.now in
+    let fits = c.loop-entry.fits in
+    let x : Ends = record { smallest = c.loop-entry.bounds.smallest; largest = c.loop-entry.bounds.largest } in
+    let none = past_end c.in-Some.others.now c.loop-entry.entry-index c.loop-entry-test.false in
+    rw c.of-then-not-fits.ensures
+    (sym c.loop-entry.invariant
+    ∙ ap (λ (xs : List IndexedBlock). rest_ends cmp x below fits (index_of xs)) none
+    ∙ blocks_done cmp x below fits
+    ∙ ap (λ (t : Bool). pass t Index >>= λ _. done x) c.if-not-fits.true)
+
+pub returns : goal.returns
+returns g c =
+    let cmp = g.C.Comparator.cmp in
+    let below = c.loop-entry.below.now in
+    let fits = c.loop-entry.fits in
+    let x : Ends = record { smallest = c.loop-entry.bounds.smallest; largest = c.loop-entry.bounds.largest } in
+    let none = past_end c.in-Some.others.now c.loop-entry.entry-index c.loop-entry-test.false in
+    sym c.loop-entry.invariant
+    ∙ ap (λ (xs : List IndexedBlock). rest_ends cmp x below fits (index_of xs)) none
+    ∙ blocks_done cmp x below fits
+    ∙ ap (λ (t : Bool). pass t Index >>= λ _. done x) c.if-not-fits.false

@@ -1,7 +1,7 @@
-use Rattle.std.proofs.Common.{◌≡◌, ◌∷◌, ◌++◌, [], List, sym, ap, subst, ◌∙◌}
+use Rattle.std.proofs.Common.{◌≡◌, ◌∷◌, ◌++◌, [], List, length, sym, ap, subst, ◌∙◌, arith}
 use Rattle.std.specs.Prelude.{drop}
 use Rattle.std.proofs.lemmas.Result.{err_from_is_err_and}
-use Rattle.std.proofs.lemmas.List.{map_push}
+use Rattle.std.proofs.lemmas.List.{map_push, length-drop}
 use Rattle.block.specs.Piece.{Entry}
 use Rattle.table.specs.ReadingIndex.{IndexEntry, index_entry, index_reading}
 use Rattle.table.specs.Indexed.{index_entry_of, index_of}
@@ -34,3 +34,17 @@ loop-alloc-preserved c =
     let on : with_front (front ++ x ∷ []) (index_reading bytes (drop 1 q)) ≡ total = index_goes_on bytes front q e x total first c.in_ok-indexed_block.ensures c.loop-alloc.invariant in
     subst (λ (xs : List IndexEntry). with_front xs (index_reading bytes c.advance.new.self) ≡ total) (sym pushed)
     (subst (λ (es : List Entry). with_front (front ++ x ∷ []) (index_reading bytes es) ≡ total) (sym c.in_ok-advance.ensures.ok) on)
+
+pub key-requires : goal.key-requires
+key-requires c = c.valid.ensures.0 c.loop-alloc-test.true
+
+pub value-requires : goal.value-requires
+value-requires c = c.valid.ensures.0 c.loop-alloc-test.true
+
+pub advance-requires : goal.advance-requires
+advance-requires c = c.valid.ensures.0 c.loop-alloc-test.true
+
+pub loop-alloc-smaller : goal.loop-alloc-smaller
+loop-alloc-smaller c =
+    let some = c.valid.ensures.0 c.loop-alloc-test.true in
+    omega (arith, some, ap length c.in_ok-advance.ensures.ok, length-drop 1 c.loop-alloc.cursor)

@@ -1,9 +1,31 @@
-use Rattle.std.proofs.Common.{◌++◌, ℕ, List, length, refl, ap, ◌∙◌, arith}
+use Rattle.std.proofs.Common.{◌≡◌, ℕ, ◌+◌, ◌<◌, List, [], ◌∷◌, ◌++◌, length, get_or, take, refl, sym, ap, ◌∙◌, arith}
+use Rattle.std.proofs.lemmas.List.{map-append, take_all, take_more}
+use Rattle.block.specs.Piece.{Entry}
 use Rattle.block.specs.Writing.{block}
-use Rattle.block.specs.Building.{Building}
+use Rattle.block.specs.Building.{Building, with_entry}
 use Rattle.frame.specs.Handle.{handle_bytes}
+use Rattle.table.specs.declared.flushed_block.FlushedBlock.{FlushedBlock}
+use Rattle.table.specs.Table.{handle_entry}
+use Rattle.table.specs.Flushed.{index_entries}
 use Rattle.table.proofs.Indexes.{length-index_part, index_fits}
 use Rattle.table.proofs.flushed.index_block.Goals as goal
+
+-- an index block that is written
+abbrev written : List Entry → Building
+written entries = record { interval = 1; entries = entries }
+
+-- one more block's entry goes into it
+entry_added : (xs : List FlushedBlock) (i : ℕ) (x : FlushedBlock) (b : Building) (key value : List ℕ) → i < length xs → x ≡ get_or xs i x → b ≡ written (index_entries (take i xs)) → key ≡ x.key → value ≡ handle_bytes x.handle.offset x.handle.size
+    → record { interval = b.interval; entries = with_entry b.entries key value } ≡ written (index_entries (take (i + 1) xs))
+entry_added xs i x b key value lt is so_far key_is value_is =
+    let some : List Entry = index_entries (take i xs) in
+    let item : take (i + 1) xs ≡ take i xs ++ x ∷ [] = take_more xs i x lt ∙ ap (λ (y : FlushedBlock). take i xs ++ y ∷ []) (sym is) in
+    let parts : index_entries (take (i + 1) xs) ≡ some ++ handle_entry x.key x.handle.offset x.handle.size ∷ [] =
+    ap index_entries item ∙ map-append (λ (y : FlushedBlock). handle_entry y.key y.handle.offset y.handle.size) (take i xs) (x ∷ []) in
+    ap (λ (c : Building). let d : Building = record { interval = c.interval; entries = with_entry c.entries key value } in d) so_far
+    ∙ ap (λ (k : List ℕ). written (with_entry some k value)) key_is
+    ∙ ap (λ (v : List ℕ). written (with_entry some x.key v)) value_is
+    ∙ ap written (sym parts)
 
 pub returns-then-estimate-gt-MAX_TABLE_LEN-clause-err : goal.returns-then-estimate-gt-MAX_TABLE_LEN-clause-err
 returns-then-estimate-gt-MAX_TABLE_LEN-clause-err c =
@@ -17,3 +39,15 @@ add-requires c =
     (omega (arith, c.estimate.ensures))
     (rw c.bytes.ensures c.as_key.result.lawful.fits)
     (c.deref.ensures.value ∙ c.in_ok-push.ensures.ok ∙ ap (λ (x : List ℕ). x ++ handle_bytes handle.offset handle.size) c.clear.ensures.items)
+
+pub loop-entry-preserved : goal.loop-entry-preserved
+loop-entry-preserved c =
+    let handle = c.entry-item.result.handle in
+    c.in_ok-add.ensures.ok
+    ∙ entry_added c.args.index.now c.loop-entry.entry-index c.entry-item.result c.loop-entry.entries c.bytes.result.now c.deref.result.now c.loop-entry-test.true c.entry-item.is c.loop-entry.invariant
+    (c.bytes.ensures ∙ c.as_key.ensures)
+    (c.deref.ensures.value ∙ c.in_ok-push.ensures.ok ∙ ap (λ (x : List ℕ). x ++ handle_bytes handle.offset handle.size) c.clear.ensures.items)
+
+pub returns-clause-ok : goal.returns-clause-ok
+returns-clause-ok c =
+    c.loop-entry.invariant ∙ ap (λ (xs : List FlushedBlock). written (index_entries xs)) (take_all c.loop-entry.entry-index c.args.index.now c.loop-entry-test.false)

@@ -1,13 +1,14 @@
-use Rattle.std.proofs.Common.{◌≡◌, ℕ, List, [], ◌++◌, ◌∷◌, length, sym, ap, refl, ◌∙◌}
+use Rattle.std.proofs.Common.{◌≡◌, ℕ, List, [], ◌++◌, ◌∷◌, length, sym, ap, subst, refl, ◌∙◌}
 use Rattle.block.specs.Piece.{Entry}
 use Rattle.block.specs.Writing.{block}
 use Rattle.block.specs.Building.{Building, last_key, with_entry}
 use Rattle.ikey.specs.Short.{internal_separator_of}
 use Rattle.table.specs.declared.options.Options.{Options}
 use Rattle.table.specs.Table.{index_keys}
+use Rattle.table.specs.declared.flushed_block.FlushedBlock.{FlushedBlock}
 use Rattle.table.specs.Flushed.{entry_at}
 use Rattle.table.specs.Building.{TableBuilding}
-use Rattle.table.specs.Kept.{entries_so_far}
+use Rattle.table.specs.Kept.{entries_so_far, IsKept}
 use Rattle.table.proofs.Builds.{Adds, first_fits, open_fits, grows, flushes}
 use Rattle.table.proofs.Refused.{ok_is}
 use Rattle.table.proofs.builder.TableBuilder.add.Given.{Over}
@@ -76,3 +77,25 @@ returns-clause-ok g c =
     ap (λ (b : Building). seen c.self.inside.options (entries_so_far bytes index b.entries)) c.swap.ensures.x_after
     ∙ ap (seen c.self.inside.options) (begun g c).entries
     ∙ ap (λ (b : TableBuilding). seen b.options (with_entry b.entries c.args.key.bytes.now c.args.value.now)) c.self.view_is
+
+-- ---- a refusal leaves it as it was
+
+pub invariant_of-self-in_err-add-2 : goal.invariant_of-self-in_err-add-2
+invariant_of-self-in_err-add-2 g c = rw (c.in_err-add-2.ensures.err) c.self.invariant
+
+pub invariant_of-self-in-Err : goal.invariant_of-self-in-Err
+invariant_of-self-in-Err g c =
+    let was = c.self.inside in
+    let keys = index_keys g.C.Comparator.cmp g.C.Comparator.separator_of g.C.Comparator.successor_of in
+    let added = c.in_ok-add-2.ensures.ok ∙ ap (λ (b : Building). record { interval = b.interval; entries = with_entry b.entries c.args.key.bytes.now c.args.value.now }) c.self.invariant.1 in (
+      subst (λ (b : List ℕ). IsKept keys was.options b c.push.new.self.index.items was.block) (sym c.in-Err.ensures.bytes_stay)
+          (subst (λ (i : List FlushedBlock). IsKept keys was.options was.flushed.bytes.items i was.block) (sym c.in-Err.ensures.index_stays) c.self.invariant.0),
+      c.clear.ensures ∙ ap (λ (b : Building). record { interval = b.interval; entries = [] }) added,
+    )
+
+pub returns-in-Err-clause-err : goal.returns-in-Err-clause-err
+returns-in-Err-clause-err g c =
+    let was = c.self.inside in
+    ap (λ (b : List ℕ). seen was.options (entries_so_far b c.push.new.self.index.items was.block.entries)) c.in-Err.ensures.bytes_stay
+    ∙ ap (λ (i : List FlushedBlock). seen was.options (entries_so_far was.flushed.bytes.items i was.block.entries)) c.in-Err.ensures.index_stays
+    ∙ c.self.view_is

@@ -1,5 +1,5 @@
 use Rattle.std.proofs.Common.{◌≡◌, ◌++◌, ◌∷◌, [], ℕ, List, map, length, drop, refl, sym, ap, subst, ◌∙◌, arith}
-use Rattle.std.proofs.lemmas.List.{append-nil, nil_from_length}
+use Rattle.std.proofs.lemmas.List.{append-nil, nil_from_length, length-drop}
 use Rattle.coding.proofs.Binds.{done}
 use Rattle.block.specs.Piece.{Entry}
 use Rattle.ikey.specs.Key.{user_of}
@@ -50,3 +50,17 @@ returns g c =
     ∙ ap users_in (sym c.in_ok-entries.ensures.all)
     ∙ sym c.loop-users.invariant.users
     ∙ none)
+
+pub first_key-requires-clause-some : goal.first_key-requires-clause-some
+first_key-requires-clause-some g c = c.valid.ensures.0 c.loop-users-test.true
+
+pub first_key-requires-clause-keys : goal.first_key-requires-clause-keys
+first_key-requires-clause-keys g c = c.loop-users.invariant.keys
+
+pub advance-requires : goal.advance-requires
+advance-requires g c = c.valid.ensures.0 c.loop-users-test.true
+
+pub loop-users-smaller : goal.loop-users-smaller
+loop-users-smaller g c =
+    let some = c.valid.ensures.0 c.loop-users-test.true in
+    omega (arith, some, ap length c.in_ok-advance.ensures.ok, length-drop 1 c.loop-users.entries)

@@ -1,4 +1,4 @@
-use Rattle.std.proofs.Common.{◌≡◌, ℕ, List, drop, ap, sym, subst, ◌∙◌}
+use Rattle.std.proofs.Common.{◌≡◌, ◌<◌, ℕ, List, length, drop, ap, sym, subst, ◌∙◌}
 use Rattle.block.specs.Piece.{Entry}
 use Rattle.block.specs.Sound.{Sound}
 use Rattle.table.specs.Walking.{Indexes, IsLeft}
@@ -19,3 +19,9 @@ invariant_of-result g c =
     (subst (λ (i : List Entry). IsLeft cmp bytes index c.in_ok-block.block i) (sym c.in_ok-advance.ensures.ok)
     (subst (λ (b : List Entry). IsLeft cmp bytes index b (drop 1 index)) (sym c.in_ok-block.ensures.all)
     (left_all cmp bytes index entries c.value.result.now c.block_named.result.entries indexes c.value.ensures c.block_named.ensures)))
+
+pub value-requires : goal.value-requires
+value-requires g c = subst (λ (i : List Entry). 0 < length i) (sym c.in_ok-index.ensures.all) c.index_block-index_block.ensures.some
+
+pub advance-requires : goal.advance-requires
+advance-requires g c = subst (λ (i : List Entry). 0 < length i) (sym c.in_ok-index.ensures.all) c.index_block-index_block.ensures.some

@@ -1,8 +1,11 @@
-use Rattle.std.proofs.Common.{List, drop, sym, subst}
+use Rattle.std.proofs.Common.{◌≡◌, ℕ, List, [], ◌∷◌, ◌++◌, length, drop, Some, Ok, sym, ap, subst, ◌∙◌, arith}
+use Rattle.std.specs.Prelude.{slice_get}
+use Rattle.std.specs.Option.{option_map}
 use Rattle.std.proofs.lemmas.List.{nil_from_length}
+use Rattle.std.proofs.lemmas.Option.{same_Some, none-some}
 use Rattle.block.specs.Piece.{Entry}
-use Rattle.table.specs.Walking.{IsLeft}
-use Rattle.table.proofs.Walks.{first_named, left_advanced, left_enters, some_left, not_last, none_valid}
+use Rattle.table.specs.Walking.{block_named, entries_named, all_named, IsLeft}
+use Rattle.table.proofs.Walks.{first_named, named_entries, left_advanced, left_enters, some_left, not_last, none_valid}
 use Rattle.table.proofs.table_cursor.TableCursorCursor.advance.Goals as goal
 use Rattle.table.proofs.table_cursor.TableCursorCursor.advance.Goals.{then-not-is_last-via-then-not-is_last, then-not-is_last-via-else-not-is_last+then-not-valid}
 
@@ -32,3 +35,36 @@ invariant_of-self-2 g c =
     subst (λ (i : List Entry). IsLeft cmp bytes names c.in_ok-next.next i) (sym c.in_ok-advance.ensures.ok)
     (subst (λ (b : List Entry). IsLeft cmp bytes names b (drop 1 c.self.inside.index)) (sym c.in_ok-next.ensures.all)
     (left_enters cmp bytes names c.self.inside.block c.self.inside.index c.value.result.now c.block_named.result.entries c.self.invariant (c.is_last.ensures.0 c.if-not-is_last.false) c.value.ensures c.block_named.ensures))
+
+-- the last entry of a block is taken off, and the next block is entered
+seen_entered : (bytes : List ℕ) (block index total : List Entry) (value : List ℕ) (q : List Entry) → length block ≡ 1 → option_map (λ e. e.value) (slice_get index 0) ≡ Some value → block_named bytes value ≡ Ok q → block ++ all_named bytes index ≡ total → q ++ all_named bytes (drop 1 index) ≡ drop 1 total
+seen_entered bytes block [] total value q one first named same = absurd (none-some value first)
+seen_entered bytes [] (i ∷ is) total value q one first named same = absurd (omega (arith, one))
+seen_entered bytes (e ∷ f ∷ es) (i ∷ is) total value q one first named same = absurd (omega (arith, one))
+seen_entered bytes (e ∷ []) (i ∷ is) total value q one first named same =
+    let here : entries_named bytes i ≡ q = named_entries bytes i q (ap (block_named bytes) (same_Some i.value value first) ∙ named) in
+    ap (λ (b : List Entry). b ++ all_named bytes is) (sym here) ∙ ap (drop 1) same
+
+pub is_last-requires : goal.is_last-requires
+is_last-requires g c = some_left g.C.Comparator.cmp c.self.inside.bytes.now c.self.inside.index_block.entries c.self.inside.block c.self.inside.index c.args.self.now c.self.invariant c.self.view_is c.requires
+
+pub advance-requires : goal.advance-requires
+advance-requires g c = some_left g.C.Comparator.cmp c.self.inside.bytes.now c.self.inside.index_block.entries c.self.inside.block c.self.inside.index c.args.self.now c.self.invariant c.self.view_is c.requires
+
+pub invariant_of-self-in_err-advance : goal.invariant_of-self-in_err-advance
+invariant_of-self-in_err-advance g c =
+    subst (λ (i : List Entry). IsLeft g.C.Comparator.cmp c.self.inside.bytes.now c.self.inside.index_block.entries c.self.inside.block i) (sym c.in_err-advance.ensures.err) c.self.invariant
+
+pub value-requires : goal.value-requires
+value-requires g c = c.valid.ensures.0 c.if-not-valid.false
+
+pub advance-requires-2 : goal.advance-requires-2
+advance-requires-2 g c = c.valid.ensures.0 c.if-not-valid.false
+
+pub returns-clause-ok : goal.returns-clause-ok
+returns-clause-ok g c =
+    let bytes = c.self.inside.bytes.now in
+    let total = c.args.self.now in
+    subst (λ (i : List Entry). c.in_ok-next.next ++ all_named bytes i ≡ drop 1 total) (sym c.in_ok-advance.ensures.ok)
+    (subst (λ (b : List Entry). b ++ all_named bytes (drop 1 c.self.inside.index) ≡ drop 1 total) (sym c.in_ok-next.ensures.all)
+    (seen_entered bytes c.self.inside.block c.self.inside.index total c.value.result.now c.block_named.result.entries (c.is_last.ensures.0 c.if-not-is_last.false) c.value.ensures c.block_named.ensures c.self.view_is))

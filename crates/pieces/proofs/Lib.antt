@@ -3,3 +3,4 @@ pub mod Appended
 pub mod Keys
 pub mod Indexes
 pub mod IndexKeys
+pub mod Listed

@@ -1,7 +1,7 @@
 -- A list of bytes to which the bytes of one element more are appended.
-use Rattle.std.proofs.Common.{◌≡◌, ℕ, ◌+◌, ◌<◌, ◌≤◌, List, [], ◌∷◌, ◌++◌, length, take, get_or, sym, ap, ◌∙◌}
+use Rattle.std.proofs.Common.{◌≡◌, ℕ, ◌+◌, ◌<◌, List, [], ◌∷◌, ◌++◌, length, take, get_or, sym, ap, ◌∙◌}
 use Rattle.std.specs.Prelude.{flat_map}
-use Rattle.std.proofs.lemmas.List.{take_all, take_more, flat_map_more}
+use Rattle.std.proofs.lemmas.List.{take_more, flat_map_more}
 
 pub listed_more : {X : Type 0} (f : X → List ℕ) (xs : List X) (i : ℕ) (x : X) (first before more own : List ℕ) → i < length xs → get_or xs i x ≡ x
     → before ≡ first ++ flat_map f (take i xs) → own ≡ f x → more ≡ before ++ own → more ≡ first ++ flat_map f (take (i + 1) xs)
@@ -12,6 +12,3 @@ listed_more {X} f xs i x first before more own lt is so_far own_is added =
     ∙ ap (λ (ys : List ℕ). ys ++ f x) so_far
     ∙ flat_map_more f first (take i xs) x
     ∙ sym (ap (λ (ys : List X). first ++ flat_map f ys) front)
-
-pub listed_all : {X : Type 0} (f : X → List ℕ) (xs : List X) (i : ℕ) (first so_far : List ℕ) → length xs ≤ i → so_far ≡ first ++ flat_map f (take i xs) → so_far ≡ first ++ flat_map f xs
-listed_all {X} f xs i first so_far le is = is ∙ ap (λ (ys : List X). first ++ flat_map f ys) (take_all i xs le)

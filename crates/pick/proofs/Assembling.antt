@@ -1,13 +1,15 @@
 -- The inputs of a level, put together.
 use Rattle.std.proofs.Common.{Bor, ◌≡◌, ℕ, ◌+◌, ◌-◌, ◌<◌, ◌≤◌, nat_lt, Bool, true, false, cond, List, [], ◌∷◌, ◌++◌, length, map, Some, None, Result, Ok, Err, refl, sym, ap, subst, ◌∙◌, arith}
-use Rattle.std.specs.Prelude.{MatchBool, IsOkAnd}
+use Rattle.std.specs.Prelude.{MatchBool, IsOkAnd, OnOk}
 use Rattle.std.specs.List.{filter, fold, slice_get}
 use Rattle.std.specs.Cmp.{IsTotalOrder}
 use Rattle.std.specs.declared.cmp.Ordering.{Ordering}
 use Rattle.std.proofs.lemmas.Bool.Decides.{nat_tests}
-use Rattle.coding.specs.Answers.{fault}
+use Rattle.coding.specs.Answers.{fault, EqualOrMemory, HoldsOrMemory}
 use Rattle.coding.specs.declared.fault.Fault.{Fault}
 use Rattle.coding.specs.declared.fault.FaultName.TheVariants.{NoInput}
+use Rattle.coding.proofs.Binds.{done, failed, ok_is}
+use Rattle.coding.proofs.Refusals.{unless_from}
 use Rattle.ikey.specs.Key.{user_of}
 use Rattle.edit.specs.Version.{State}
 use Rattle.edit.specs.VersionOrder.{level_files}
@@ -25,12 +27,40 @@ inputs_lent : (level : ℕ) (files : List (Bor FileMeta)) → map (λ (f : Bor F
 inputs_lent level [] = refl
 inputs_lent level (f ∷ files) = ap (λ (l : List InputFile). input_at level f.now ∷ l) (inputs_lent level files)
 
+abbrev inputs_at : ℕ → List (Bor FileMeta) → List InputFile
+inputs_at level files = map (λ (f : Bor FileMeta). input_at level f.now) files
+
+abbrev all_inputs : List InputFile → Result (List InputFile) Fault
+all_inputs files = Ok files
+
 -- the files of two levels, appended one after the other
-pub both_pushed : (level : ℕ) (upper lower us ls : List (Bor FileMeta)) (none one two : List InputFile) → none ≡ [] → us ≡ upper → ls ≡ lower → one ≡ none ++ map (λ (f : Bor FileMeta). input_at level f.now) us → two ≡ one ++ map (λ (f : Bor FileMeta). input_at (level + 1) f.now) ls
-    → two ≡ map (input_at level) (lent upper) ++ map (input_at (level + 1)) (lent lower)
-both_pushed level upper lower us ls none one two empty same_us same_ls first second =
-    let one_is : one ≡ map (input_at level) (lent upper) = first ∙ ap (λ (l : List InputFile). l ++ map (λ (f : Bor FileMeta). input_at level f.now) us) empty ∙ ap (λ (fs : List (Bor FileMeta)). map (λ (f : Bor FileMeta). input_at level f.now) fs) same_us ∙ inputs_lent level upper in
-    second ∙ ap (λ (l : List InputFile). l ++ map (λ (f : Bor FileMeta). input_at (level + 1) f.now) ls) one_is ∙ ap (λ (l : List InputFile). map (input_at level) (lent upper) ++ l) (ap (λ (fs : List (Bor FileMeta)). map (λ (f : Bor FileMeta). input_at (level + 1) f.now) fs) same_ls ∙ inputs_lent (level + 1) lower)
+pub both_pushed : (level : ℕ) (us ls : List (Bor FileMeta)) (none one two : List InputFile) → none ≡ [] → one ≡ none ++ inputs_at level us → two ≡ one ++ inputs_at (level + 1) ls → all_inputs (inputs_at level us ++ inputs_at (level + 1) ls) ≡ all_inputs two
+both_pushed level us ls none one two empty first second =
+    let one_is : one ≡ inputs_at level us = first ∙ ap (λ (l : List InputFile). l ++ inputs_at level us) empty in
+    ap all_inputs (sym (second ∙ ap (λ (l : List InputFile). l ++ inputs_at (level + 1) ls) one_is))
+
+pub both_are : (level : ℕ) (upper lower us ls : List (Bor FileMeta)) (all : List InputFile) → us ≡ upper → ls ≡ lower → all_inputs (inputs_at level us ++ inputs_at (level + 1) ls) ≡ all_inputs all → all ≡ map (input_at level) (lent upper) ++ map (input_at (level + 1)) (lent lower)
+both_are level upper lower us ls all same_us same_ls e =
+    sym (ok_is (inputs_at level us ++ inputs_at (level + 1) ls) all e)
+    ∙ ap (λ (fs : List (Bor FileMeta)). inputs_at level fs ++ inputs_at (level + 1) ls) same_us ∙ ap (λ (fs : List (Bor FileMeta)). inputs_at level upper ++ inputs_at (level + 1) fs) same_ls
+    ∙ ap (λ (l : List InputFile). l ++ inputs_at (level + 1) lower) (inputs_lent level upper) ∙ ap (λ (l : List InputFile). map (input_at level) (lent upper) ++ l) (inputs_lent (level + 1) lower)
+
+abbrev pub picked_as : ℕ → List InputFile → List FileMeta → List FileMeta → List ℕ → Result Picked Fault
+picked_as level files grandparents deeper key = Ok (record { level = level; files = files; grandparents = grandparents; deeper = deeper; pointer = record { level = level; key = key } })
+
+-- what is picked by equal parts
+pub same_picked : (level : ℕ) (files : List InputFile) (gs hs ds es : List FileMeta) (key own : List ℕ) → gs ≡ hs → ds ≡ es → key ≡ own → picked_as level files gs ds key ≡ picked_as level files hs es own
+same_picked level files gs hs ds es key own a b c =
+    ap (λ (l : List FileMeta). picked_as level files l ds key) a ∙ ap (λ (l : List FileMeta). picked_as level files hs l key) b ∙ ap (λ (k : List ℕ). picked_as level files hs es k) c
+
+-- what holds of what a call gives holds of its answer
+pub holds_from : {X Y : Type 0} (view : X → Y) (r : Result X Fault) (y : Y) (IsAnswer : Result Y Fault → Type 0) → EqualOrMemory view r (Ok y) → IsAnswer (Ok y) → HoldsOrMemory view r IsAnswer
+holds_from view (Ok x) y IsAnswer e h = subst IsAnswer e h
+holds_from view (Err f) y IsAnswer e h = unless_from f (done y ≡ failed f) (IsAnswer (Err f)) (λ same. absurd cc) e
+
+pub on_ok : {X : Type 0} (r : Result X Fault) (P : Type 0) → P → OnOk r P
+on_ok (Ok x) P p = p
+on_ok (Err f) P p = tt
 
 pub head_lent : (files : List (Bor FileMeta)) (first : Bor FileMeta) → slice_get files 0 ≡ Some first → slice_get (lent files) 0 ≡ Some first.now
 head_lent [] first e = absurd cc

@@ -1,5 +1,6 @@
 -- Lists of files, and files that are lent.
-use Rattle.std.proofs.Common.{Bor, ◌≡◌, Bool, true, false, cond, ◌||◌, ◌&&◌, ◌⊎◌, inl, inr, List, [], ◌∷◌, ◌++◌, map, Some, None, refl, sym, ap, subst, ◌∙◌}
+use Rattle.std.proofs.Common.{Bor, ◌≡◌, ℕ, ◌+◌, ◌<◌, Bool, true, false, cond, ◌||◌, ◌&&◌, ◌⊎◌, inl, inr, List, [], ◌∷◌, ◌++◌, map, take, get_or, length, Some, None, refl, sym, ap, subst, ◌∙◌, append_assoc}
+use Rattle.std.proofs.lemmas.List.{take_more, map-append}
 use Rattle.std.specs.List.{filter, find, list_any, AllByRecursion, IsDistinct}
 use Rattle.std.specs.List.Sorted.{IsStrictlySortedBy}
 use Rattle.std.specs.declared.cmp.Ordering.{Ordering}
@@ -186,3 +187,12 @@ unfolding IsStrictlySortedBy
 before R [] x rest h q i = absurd i
 before R (y ∷ ys) x rest h q (inl e) = ap (λ z. R z x) e ∙ all_in (λ z. R y z ≡ Less) (ys ++ x ∷ rest) h.0 x (in_back ys (x ∷ rest) x (inl refl))
 before R (y ∷ ys) x rest h q (inr i) = before R ys x rest h.1 q i
+
+-- ---- one element more
+
+-- what is held behind the first ones is what the list has so far, and one more
+pub pushed_more : {X Y : Type 0} (F : X → Y) (first done new : List Y) (y : Y) (xs : List X) (i : ℕ) (x : X) → i < length xs → x ≡ get_or xs i x → new ≡ done ++ y ∷ [] → done ≡ first ++ map F (take i xs) → y ≡ F x → new ≡ first ++ map F (take (i + 1) xs)
+pushed_more {X} {Y} F first done new y xs i x lt here pushed front own =
+    let front_is : take (i + 1) xs ≡ take i xs ++ x ∷ [] = take_more xs i x lt ∙ ap (λ (z : X). take i xs ++ z ∷ []) (sym here) in
+    let mapped : map F (take (i + 1) xs) ≡ map F (take i xs) ++ F x ∷ [] = ap (map F) front_is ∙ map-append F (take i xs) (x ∷ []) in
+    pushed ∙ ap (λ (l : List Y). l ++ y ∷ []) front ∙ append_assoc first (map F (take i xs)) (y ∷ []) ∙ ap (λ (z : Y). first ++ (map F (take i xs) ++ z ∷ [])) own ∙ ap (λ (l : List Y). first ++ l) (sym mapped)

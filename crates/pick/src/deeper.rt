@@ -56,8 +56,8 @@ fn overlapping<C: Comparator>(
     ensures { EqualOrMemory (λ v. v.items) result
         (Ok (filter (is_in C.cmp range.entry) (level_files C.cmp version.now level))) }
 {
-    let mut found = Vec::new(alloc);
     let files = version.files::<C>(alloc, level)?;
+    let mut found = Vec::new(alloc);
     for file in &files {
         if range.overlaps::<C>(*file) {
             found.push(file.copy(alloc)?)?;

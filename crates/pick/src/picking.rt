@@ -1,17 +1,19 @@
 //! The choice of the inputs of a compaction.
 
-ghost use Rattle.std.specs.Prelude.{OnOk};
-ghost use Rattle.coding.specs.Answers.{HoldsOrMemory};
+ghost use Rattle.std.specs.Prelude.{◌≤◌, ◌+◌, ◌-◌, ◌++◌, Ok, [], nat_lt, if◌then◌else◌, map, filter, OnOk};
+ghost use Rattle.coding.specs.Answers.{EqualOrMemory, HoldsOrMemory};
 ghost use Rattle.edit.specs.Version.{IsState};
-ghost use Rattle.pick.specs.Picked.{picked_in, IsInputsAnswer};
+ghost use Rattle.edit.specs.VersionOrder.{level_files};
+ghost use Rattle.pick.specs.Choices.{is_in};
+ghost use Rattle.pick.specs.Picked.{picked_in, input_at, files_from, IsInputsAnswer};
 
 use crate::boundaries::largest_of;
 use crate::deeper::{deeper_files, grandparents, push_inputs};
-use crate::picked::Inputs;
+use crate::picked::{InputFile, Inputs};
 use crate::range::UserRange;
 use crate::taken::{lower_files, upper_files};
 use coding::{Fault, FaultName};
-use edit::{CompactPointer, Version};
+use edit::{CompactPointer, FileMeta, Version};
 use ikey::{Comparator, KeyBuf};
 use std::alloc::Global;
 
@@ -42,13 +44,57 @@ pub fn inputs<C: Comparator>(alloc: Global, version: &Version, level: u64) -> Re
     };
     let range = UserRange::of(first).over::<C>(&upper);
     let lower = lower_files::<C>(alloc, version, level + 1, range)?;
+    let files = files_of(alloc, level, &upper, &lower)?;
+    picked::<C>(
+        alloc,
+        version,
+        level,
+        files,
+        range.over::<C>(&lower),
+        largest,
+    )
+}
+
+/// Copies of the inputs of a level and of those of the level below. Refused for want of memory alone.
+fn files_of(
+    alloc: Global,
+    level: u64,
+    upper: &[&FileMeta],
+    lower: &[&FileMeta],
+) -> Result<Vec<InputFile>, Fault>
+    requires { level ≤ 5 }
+    ensures { EqualOrMemory (λ v. v.items) result
+        (Ok (map (λ f. input_at level f.now) upper.now ++ map (λ f. input_at (level + 1) f.now) lower.now)) }
+{
     let mut files = Vec::with_capacity(alloc, upper.len() + lower.len())?;
-    push_inputs(alloc, &mut files, level, &upper)?;
-    push_inputs(alloc, &mut files, level + 1, &lower)?;
+    push_inputs(alloc, &mut files, level, upper)?;
+    push_inputs(alloc, &mut files, level + 1, lower)?;
+    Ok(files)
+}
+
+/// What a compaction takes, by its files, the range of their user keys and the largest key of those of the level itself.
+/// Refused for want of memory alone.
+fn picked<C: Comparator>(
+    alloc: Global,
+    version: &Version,
+    level: u64,
+    files: Vec<InputFile>,
+    range: UserRange<'_>,
+    largest: &KeyBuf,
+) -> Result<Inputs, Fault>
+    requires { level ≤ 5 }
+    ensures { EqualOrMemory picked_in result (Ok (record {
+      level = level;
+      files = files.items;
+      grandparents = if nat_lt 6 (level + 2) then [] else filter (is_in C.cmp range.entry) (level_files C.cmp version.now (level + 2));
+      deeper = files_from C.cmp version.now (level + 2) (7 - (level + 2));
+      pointer = record { level = level; key = largest.now };
+    })) }
+{
     Ok(Inputs {
         level,
         files,
-        grandparents: grandparents::<C>(alloc, version, level + 2, range.over::<C>(&lower))?,
+        grandparents: grandparents::<C>(alloc, version, level + 2, range)?,
         deeper: deeper_files::<C>(alloc, version, level + 2)?,
         pointer: CompactPointer {
             level,

@@ -1,18 +1,18 @@
-use Rattle.std.proofs.Common.{Bor, List, Some, Err, ◌≡◌, ◌+◌, ◌-◌, ◌++◌, nat_lt, cond, map, [], sym, ap, subst, ◌∙◌}
+use Rattle.std.proofs.Common.{Bor, List, Some, Err, ◌≡◌, ◌+◌, ◌-◌, ◌++◌, nat_lt, cond, map, [], refl, sym, ap, subst, ◌∙◌}
 use Rattle.std.specs.List.{filter, slice_get}
 use Rattle.ikey.specs.Key.{user_of}
 use Rattle.std.specs.Option.{option_copied}
 use Rattle.coding.specs.Answers.{UnlessMemory}
 use Rattle.coding.specs.declared.fault.Fault.{Fault}
-use Rattle.coding.proofs.Binds.{ok_is}
+use Rattle.edit.specs.Version.{IsState}
 use Rattle.edit.specs.VersionOrder.{level_files}
 use Rattle.edit.specs.declared.meta.FileMeta.{FileMeta}
 use Rattle.pick.specs.Boundaries.{largest_key}
 use Rattle.pick.specs.Choices.{is_in}
 use Rattle.pick.specs.Spans.{least_user, greatest_user, is_overlapping}
-use Rattle.pick.specs.Picked.{IsInputsAnswer, files_from, input_at}
+use Rattle.pick.specs.Picked.{IsInputsAnswer, picked_in, files_from, input_at}
 use Rattle.pick.proofs.Lists.{lent}
-use Rattle.pick.proofs.Assembling.{is_no_input, are_inputs, no_largest, no_head_lent, head_lent, both_pushed}
+use Rattle.pick.proofs.Assembling.{is_no_input, are_inputs, no_largest, no_head_lent, head_lent, both_are, holds_from, on_ok}
 use Rattle.pick.proofs.picking.inputs.Goals as goal
 use Rattle.pick.proofs.picking.inputs.Goals.{in_default-via-in-Some+in_default, in_default-via-in_default}
 
@@ -42,14 +42,15 @@ returns-clause-picked g c =
     let largest : range.largest.now ≡ greatest_user cmp (user_of first.largest) (lent upper) = rw (← c.deref-3.ensures.value, ← c.of-2.ensures.largest) c.over-range.ensures.largest in
     let wide_smallest : wide.smallest.now ≡ least_user cmp range.smallest.now (lent lower) = c.over.ensures.smallest ∙ ap (λ (fs : List (Bor FileMeta)). least_user cmp range.smallest.now (lent fs)) c.deref-6.ensures.value in
     let wide_largest : wide.largest.now ≡ greatest_user cmp range.largest.now (lent lower) = c.over.ensures.largest ∙ ap (λ (fs : List (Bor FileMeta)). greatest_user cmp range.largest.now (lent fs)) c.deref-6.ensures.value in
-    let key : largest_key cmp (lent upper) ≡ Some c.in_ok-of.field-0 =
-    ap (λ (fs : List (Bor FileMeta)). largest_key cmp (lent fs)) (sym c.deref-2.ensures.value) ∙ sym c.in-Some-Some.ensures' ∙ ap Some (sym c.as_key.ensures ∙ ok_is c.as_key.result.bytes.now c.in_ok-of.field-0 c.in_ok-of.ensures) in
-    let files : c.push_inputs-2.new.inputs.items ≡ map (input_at level) (lent upper) ++ map (input_at (level + 1)) (lent lower) =
-    both_pushed level upper lower c.deref-4.result.now c.deref-5.result.now c.in_ok-files.files.items c.push_inputs.new.inputs.items c.push_inputs-2.new.inputs.items c.in_ok-files.ensures.items c.deref-4.ensures.value c.deref-5.ensures.value c.in_ok-push_inputs.ensures.ok c.in_ok-push_inputs-2.ensures.ok in
-    let grandparents : c.in_ok-grandparents.field-0.items ≡ cond (nat_lt 6 (level + 2)) [] (filter (is_overlapping cmp (least_user cmp range.smallest.now (lent lower)) (greatest_user cmp range.largest.now (lent lower))) (level_files cmp v (level + 2))) =
-    sym (ok_is (cond (nat_lt 6 (level + 2)) [] (filter (is_in cmp wide) (level_files cmp v (level + 2)))) c.in_ok-grandparents.field-0.items c.in_ok-grandparents.ensures)
-    ∙ ap (λ s. cond (nat_lt 6 (level + 2)) [] (filter (is_overlapping cmp s wide.largest.now) (level_files cmp v (level + 2)))) wide_smallest
+    let head_key : largest_key cmp (lent upper) ≡ Some c.in-Some-Some.largest.now = ap (λ (fs : List (Bor FileMeta)). largest_key cmp (lent fs)) (sym c.deref-2.ensures.value) ∙ sym c.in-Some-Some.ensures' in
+    let files : c.in_ok-files.files.items ≡ map (input_at level) (lent upper) ++ map (input_at (level + 1)) (lent lower) =
+    both_are level upper lower c.deref-4.result.now c.deref-5.result.now c.in_ok-files.files.items c.deref-4.ensures.value c.deref-5.ensures.value c.in_ok-files.ensures in
+    let grandparents : cond (nat_lt 6 (level + 2)) [] (filter (is_in cmp wide) (level_files cmp v (level + 2))) ≡ cond (nat_lt 6 (level + 2)) [] (filter (is_overlapping cmp (least_user cmp range.smallest.now (lent lower)) (greatest_user cmp range.largest.now (lent lower))) (level_files cmp v (level + 2))) =
+    ap (λ s. cond (nat_lt 6 (level + 2)) [] (filter (is_overlapping cmp s wide.largest.now) (level_files cmp v (level + 2)))) wide_smallest
     ∙ ap (λ l. cond (nat_lt 6 (level + 2)) [] (filter (is_overlapping cmp (least_user cmp range.smallest.now (lent lower)) l) (level_files cmp v (level + 2)))) wide_largest in
-    let deeper : c.in_ok-deeper_files.field-0.items ≡ files_from cmp v (level + 2) (7 - (level + 2)) = sym (ok_is (files_from cmp v (level + 2) (7 - (level + 2))) c.in_ok-deeper_files.field-0.items c.in_ok-deeper_files.ensures) in
-    are_inputs cmp v level g.met.C.Comparator.total (lent upper) (lent lower) first range.smallest.now range.largest.now c.in_ok-of.field-0 c.push_inputs-2.new.inputs.items c.in_ok-grandparents.field-0.items c.in_ok-deeper_files.field-0.items
-    c.if-level-gt-LAST_INPUT_LEVEL.false c.in_ok-upper.ensures head smallest largest c.in_ok-lower.ensures.lower files grandparents deeper key
+    holds_from picked_in c.picked.result _ (IsInputsAnswer cmp v level) c.picked.ensures
+    (are_inputs cmp v level g.met.C.Comparator.total (lent upper) (lent lower) first range.smallest.now range.largest.now c.in-Some-Some.largest.now c.in_ok-files.files.items (cond (nat_lt 6 (level + 2)) [] (filter (is_in cmp wide) (level_files cmp v (level + 2)))) (files_from cmp v (level + 2) (7 - (level + 2)))
+    c.if-level-gt-LAST_INPUT_LEVEL.false c.in_ok-upper.ensures head smallest largest c.in_ok-lower.ensures.lower files grandparents refl head_key)
+
+pub returns-clause-state : goal.returns-clause-state
+returns-clause-state g c = on_ok c.picked.result (IsState c.args.version.now.pointers c.args.version.now.files) c.in_ok-lower.ensures.state

@@ -1,5 +1,5 @@
 -- The newest visible entry of lists that are joined, and of files.
-use Rattle.std.proofs.Common.{◌≡◌, ℕ, ◌+◌, ◌-◌, ◌<◌, ◌≤◌, Bool, true, false, cond, ◌&&◌, List, [], ◌∷◌, ◌++◌, length, take, get_or, Option, Some, None, refl, sym, ap, subst, ◌∙◌, inl, inr, arith, append-nil, zero, suc, eq-or-lt_of_le}
+use Rattle.std.proofs.Common.{◌≡◌, ℕ, ◌+◌, ◌-◌, ◌<◌, ◌≤◌, Bool, true, false, cond, ◌&&◌, List, [], ◌∷◌, ◌++◌, length, map, take, get_or, Option, Some, None, refl, sym, ap, subst, ◌∙◌, inl, inr, arith, append-nil, zero, suc, eq-or-lt_of_le}
 use Rattle.std.specs.Prelude.{◌⊎◌, Contains, slice_get, nat_lt}
 use Rattle.std.specs.List.{flat_map}
 use Rattle.std.specs.Option.{option_map, option_map_or}
@@ -7,7 +7,7 @@ use Rattle.std.specs.Cmp.{IsTotalOrder}
 use Rattle.std.specs.Ordering.{is_le, ordering_reverse}
 use Rattle.std.specs.declared.cmp.Ordering.{Ordering}
 use Rattle.std.specs.declared.cmp.Ordering.TheVariants.{Less, Equal, Greater}
-use Rattle.std.proofs.lemmas.List.{take_more}
+use Rattle.std.proofs.lemmas.List.{take_more, map-append}
 use Rattle.std.proofs.lemmas.Bool.Decides.{Decides-ltb}
 use Rattle.std.proofs.lemmas.Grind.{flat_map-append}
 use Rattle.std.proofs.lemmas.Option.{slice_get-get_or, same_Some}
@@ -161,3 +161,15 @@ files_step {X = X} F xs i x user at o p r lt here made front own =
     let front_is : take (i + 1) xs ≡ take i xs ++ x ∷ [] = take_more xs i x lt ∙ ap (λ (y : X). take i xs ++ y ∷ []) (sym here) in
     let all_is : flat_map F (take (i + 1) xs) ≡ flat_map F (take i xs) ++ F x = ap (flat_map F) front_is ∙ flat_map-append F (take i xs) (x ∷ []) ∙ ap (λ (l : List Entry). flat_map F (take i xs) ++ l) (append-nil (F x)) in
     subst (λ (l : List Entry). IsAnswer l user at r) (sym all_is) (subst (λ (q : Option Visible). IsAnswer (flat_map F (take i xs) ++ F x) user at q) (sym made) (answer_append (flat_map F (take i xs)) (F x) user at o p front own))
+
+-- ---- one table more
+
+-- what is held of one element more, where it is what the list has there
+pub list_more : {Y Z : Type 0} (F : Y → Z) (done new : List Z) (x : Z) (ys : List Y) (i : ℕ) (y : Y) → i < length ys → y ≡ get_or ys i y → new ≡ done ++ x ∷ [] → done ≡ map F (take i ys) → x ≡ F y → new ≡ map F (take (i + 1) ys)
+list_more {Y} {Z} F done new x ys i y lt here pushed front own =
+    let front_is : take (i + 1) ys ≡ take i ys ++ y ∷ [] = take_more ys i y lt ∙ ap (λ (z : Y). take i ys ++ z ∷ []) (sym here) in
+    pushed ∙ ap (λ (l : List Z). l ++ x ∷ []) front ∙ ap (λ (z : Z). map F (take i ys) ++ z ∷ []) own ∙ sym (ap (map F) front_is ∙ map-append F (take i ys) (y ∷ []))
+
+pub entries_more : {X Y Z : Type 0} (G : X → Z) (F : Y → Z) (done new : List X) (x : X) (ys : List Y) (i : ℕ) (y : Y) → i < length ys → y ≡ get_or ys i y → new ≡ done ++ x ∷ [] → map G done ≡ map F (take i ys) → G x ≡ F y → map G new ≡ map F (take (i + 1) ys)
+entries_more {X} G F done new x ys i y lt here pushed front own =
+    list_more F (map G done) (map G new) (G x) ys i y lt here (ap (map G) pushed ∙ map-append G done (x ∷ [])) front own

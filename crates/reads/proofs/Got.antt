@@ -3,7 +3,7 @@ use Rattle.std.proofs.Common.{◌≡◌, ℕ, ◌-◌, ◌^◌, ◌<◌, ◌≤�
 use Rattle.std.specs.Prelude.{◌⊎◌, Contains, AllPairs, nat_lt, nat_le}
 use Rattle.std.specs.List.{filter}
 use Rattle.std.specs.Option.{option_and_then, is_some}
-use Rattle.std.specs.Result.{IsErrAnd}
+use Rattle.std.specs.Result.{IsErrAnd, MatchResult, IfOk, IfErr}
 use Rattle.std.specs.Str.{bytes_eq}
 use Rattle.std.specs.declared.cmp.Ordering.{Ordering}
 use Rattle.std.proofs.lemmas.Bool.{cases_lt}
@@ -11,8 +11,9 @@ use Rattle.std.proofs.lemmas.Bool.Decides.{Decides-ltb, Decides-and, nat_tests}
 use Rattle.std.proofs.lemmas.List.{get_or_default}
 use Rattle.std.proofs.lemmas.List.Elements.{All-contains}
 use Rattle.std.proofs.lemmas.Slice.Eq.{bytes_eq-Decides}
-use Rattle.coding.specs.Answers.{FailsOrMemory, EqualOrMemory, UnlessMemory}
+use Rattle.coding.specs.Answers.{fault, FailsOrMemory, EqualOrMemory, UnlessMemory}
 use Rattle.coding.specs.declared.fault.Fault.{Fault}
+use Rattle.coding.specs.declared.fault.FaultName.TheVariants.{Memory}
 use Rattle.coding.proofs.Binds.{done, failed}
 use Rattle.coding.proofs.Refusals.{unless_from}
 use Rattle.ikey.specs.Key.{IsInternalKey, internal_key, user_of, sequence_of}
@@ -190,3 +191,8 @@ handed_on view (Ok x) e y z first is h given = absurd h
 handed_on {Y = Y} view (Err g) e y z first is h given =
     let never : first ≡ failed e → done y ≡ failed e = λ was. absurd (ok_not_err z e (sym is ∙ was)) in
     subst (λ (x : Fault). UnlessMemory x (done y ≡ failed x)) (sym h) (unless_from e (first ≡ failed e) (done y ≡ failed e) never given)
+
+-- what a call gives that is refused for want of memory alone
+pub given_or_memory : {X : Type 0} (r : Result X Fault) (P Q : X → Type 0) (R : Fault → Type 0) → ((x : X) → P x → Q x) → IfOk r P → IfErr r (λ e. e ≡ fault Memory) → MatchResult r Q (λ e. UnlessMemory e (R e))
+given_or_memory (Ok x) P Q R f p m = f x p
+given_or_memory (Err e) P Q R f p m = subst (λ (d : Fault). UnlessMemory d (R d)) (sym m) tt

@@ -1,13 +1,14 @@
 //! Finding the tables of files, and an entry in a table.
 
-ghost use Rattle.std.specs.Prelude.{◌≡◌, true, map, Ok, IfOk, IfErr};
+ghost use Rattle.std.specs.Prelude.{◌≡◌, List, true, map, Ok, IfOk, IfErr};
 ghost use Rattle.std.specs.List.{list_all, All};
 ghost use Rattle.std.specs.Option.{option_map, is_some};
 ghost use Rattle.coding.specs.Answers.{EqualOrMemory, fault};
 ghost use Rattle.coding.specs.declared.fault.FaultName.TheVariants.{Memory};
 ghost use Rattle.ikey.specs.Key.{IsInternalKey, user_of, sequence_of, kind_of};
 ghost use Rattle.ikey.specs.declared.kind.Kind.TheVariants.{Put};
-ghost use Rattle.table.specs.ReadingCursors.{IsRising};
+ghost use Rattle.block.specs.Piece.{Entry};
+ghost use Rattle.table.specs.ReadingCursors.{IsRising, entries_from};
 ghost use Rattle.reads.specs.Tables.{table_of, tables_test};
 ghost use Rattle.reads.specs.Visible.{visible_in, IsAnswer};
 
@@ -26,7 +27,13 @@ pub(crate) const LEVELS: u64 = 7;
 fn have_tables<C: Comparator>(files: &[&FileMeta], tables: &TablePlaces<'_, '_, C>) -> bool
     ensures { result ≡ list_all (λ f. is_some (table_of tables.now f.now.number)) files.now }
 {
-    files.iter().all(|file| tables.table(file.number).is_some())
+    for file in files {
+        let found = tables.table(file.number).is_some();
+        if !found {
+            return false;
+        }
+    }
+    true
 }
 
 /// `Missing` where a file of the version has no table. Else refused for want of memory alone.
@@ -62,16 +69,29 @@ pub(crate) fn newest_in_table<'a, C: Comparator>(
 {
     let mut cursor = TableCursor::new(alloc, table)?;
     cursor.seek(target)?;
+    Ok(first_of_user(&cursor, target))
+}
+
+/// What a cursor's first entry has, where it is of the user key of an internal key.
+fn first_of_user<'a, C: Comparator>(
+    cursor: &TableCursor<'a, C>,
+    target: InternalKey<'_>,
+) -> Option<Found<'a>>
+    requires { kind_of target.bytes.now ≡ Put }
+    // Where it was sought in entries, it is what they answer.
+    ensures { (entries : List Entry) → cursor.now ≡ entries_from C.cmp target.entry.bytes.now entries →
+        IsAnswer entries (user_of target.entry.bytes.now) (sequence_of target.entry.bytes.now) (option_map visible_in result) }
+{
     if !cursor.valid() {
-        return Ok(None);
+        return None;
     }
     let key = cursor.key();
     if key.user() != target.user() {
-        return Ok(None);
+        return None;
     }
-    Ok(Some(Found {
+    Some(Found {
         sequence: key.sequence(),
         kind: key.kind(),
         value: cursor.value(),
-    }))
+    })
 }

@@ -95,7 +95,7 @@ fn standing_among<'t, 'a, C: Comparator>(
     if !are_in_turn::<C>(&files) {
         return Err(Fault::of(FaultName::Lawless));
     }
-    Ok(tables_of(alloc, &files, tables)?)
+    tables_of(alloc, &files, tables)
 }
 
 /// Appends the files of a level. Refused for want of memory alone.

@@ -32,6 +32,19 @@ pub fn falls_in<C: Comparator>(
 {
     let mut merging = Merging::<C, TableCursor<'_, C>>::new(alloc, cursors)?;
     let mut last = KeyBuf::new(alloc, &[], 0, Kind::Put)?;
+    is_falling(&mut merging, &mut last, range)
+}
+
+/// Whether that holds of the entries of a merge. It leaves the key of the last entry that it took off in `last`.
+fn is_falling<'c, C: Comparator, S: Cursor<'c, C> + Drop>(
+    merging: &mut Merging<C, S>,
+    last: &mut KeyBuf,
+    range: Range<'_>,
+) -> Result<bool, Fault>
+    ensures falls { IfOk result (λ falls. (falls ≡ true)
+        ↔ AreFallingIn (IsIn C.cmp (key_range range.entry)) (joined merging.old)) }
+    ensures memory { IfErr result (λ e. e ≡ fault Memory) }
+{
     while let Some(place) = merging.place() {
         let begun = merging.key();
         if !is_before_end::<C>(begun, range) {

@@ -1,9 +1,13 @@
-use Rattle.std.proofs.Common.{◌≡◌, ℕ, List, Option, map, sym, subst, ◌∙◌, ap}
+use Rattle.std.proofs.Common.{Bor, Vec, Global, ◌≡◌, ℕ, List, Option, map, sym, subst, ◌∙◌, ap}
 use Rattle.std.specs.List.{All}
 use Rattle.block.specs.Piece.{Entry}
+use Rattle.table.specs.Reading.{Contents}
 use Rattle.reads.specs.declared.level_file.LevelFile.{LevelFile}
 use Rattle.reads.specs.Tables.{table_entries}
 use Rattle.reads.specs.Checking.{IsStatedFile, AreListed, AreInTurn}
+use Rattle.reads.specs.Lawful.{IsUnlawful}
+use Rattle.reads.specs.Standing.{AreStanding}
+use Rattle.reads.proofs.Got.{given_or_memory}
 use Rattle.reads.proofs.Listed.{each_there, listed_lawful, not_lawful, listed_stated, listed_in_turn, listed_fall}
 use Rattle.reads.proofs.lawfulness.standing_among.Goals as goal
 
@@ -39,15 +43,18 @@ returns g c =
     let v = c.args.version.now in
     let tables = c.args.tables.now in
     let items = c.in_ok-files.files.items in
-    let lists : List (List Entry) = map (λ t. t.now.entries) c.in_ok-tables_of.field-0.items in
-    let are : lists ≡ map (λ (f : LevelFile). table_entries tables f.meta.now.number) items = c.in_ok-tables_of.ensures.tables ∙ ap (map (λ (f : LevelFile). table_entries tables f.meta.now.number)) c.deref-3.ensures.value in
     let turn : AreInTurn cmp items = subst (AreInTurn cmp) c.deref-2.ensures.value (c.are_in_turn.ensures.0 c.if-not-are_in_turn.false) in
     let stated = subst (λ (l : List LevelFile). All (λ (f : LevelFile). IsStatedFile cmp tables c.next_file.result f.meta.now) l) c.deref.ensures.value (c.are_as_stated.ensures.0 c.if-not-are_as_stated.false) in
     let as_stated = subst (λ (next : Option ℕ). All (λ (f : LevelFile). IsStatedFile cmp tables next f.meta.now) items) c.next_file.ensures stated in
+    given_or_memory c.tables_of.result (λ (found : Vec (Bor Contents) Global). map (λ t. t.now.entries) found.items ≡ map (λ (f : LevelFile). table_entries tables f.meta.now.number) c.deref-3.result.now) (λ (found : Vec (Bor Contents) Global). AreStanding cmp v tables (map (λ t. t.now.entries) found.items)) (IsUnlawful cmp v tables)
+    (λ found held.
+    let lists : List (List Entry) = map (λ t. t.now.entries) found.items in
+    let are : lists ≡ map (λ (f : LevelFile). table_entries tables f.meta.now.number) items = held ∙ ap (map (λ (f : LevelFile). table_entries tables f.meta.now.number)) c.deref-3.ensures.value in
     record {
       there = c.in_ok-tables_test.ensures;
       lawful = (
         λ lawful. listed_fall cmp g.met.C.Comparator.total v tables items c.in_ok-files.ensures.listed lawful turn lists are,
         λ falling. listed_lawful cmp g.met.C.Comparator.total v tables items c.in_ok-files.ensures.listed as_stated turn lists are falling,
       );
-    }
+    })
+    c.tables_of.ensures.tables c.tables_of.ensures.memory

@@ -1,103 +1,14 @@
-use Rattle.std.proofs.Common.{◌≡◌, List, Some, true, false, refl, sym, ap, subst, ◌∙◌}
+use Rattle.std.proofs.Common.{◌≡◌, List, true, map, sym, subst, ◌∙◌}
+use Rattle.std.specs.Prelude.{◌↔◌, IfOk}
+use Rattle.std.proofs.lemmas.List.{map-id}
 use Rattle.block.specs.Piece.{Entry}
-use Rattle.ikey.specs.Key.{IsInternalKey, user_of}
-use Rattle.split.specs.Ranges.{KeyRange, key_range, IsIn}
-use Rattle.merge.specs.Least.{IsMerging}
-use Rattle.merge.proofs.Leasts.{some_where_least}
-use Rattle.reads.specs.Checking.{is_from, is_before_end}
-use Rattle.reads.proofs.Falling.{key_is, came_to_end, goes_on, went_back, none_there, none_of_kind, behind_bound, are_falling, fall}
-use Rattle.reads.proofs.Ranged.{within, before_it, bound_of}
-use Rattle.reads.proofs.walking.falls_in.Goals.{else-within-via-then-within+else-steps_back, else-within-via-else-within}
+use Rattle.coding.proofs.Binds.{ok_is}
+use Rattle.merge.specs.Merged.{joined}
+use Rattle.split.specs.Ranges.{key_range, IsIn}
+use Rattle.reads.specs.Standing.{AreFallingIn}
 use Rattle.reads.proofs.walking.falls_in.Goals as goal
-
-pub key-begun-requires : goal.key-begun-requires
-key-begun-requires g c κs = ((refl, tt), some_where_least g.C.Comparator.cmp g.met.C.Comparator.total c.loop-place.merging c.in-Some.place c.in-Some.ensures)
-
-pub returns-then-not-is_before_end-clause-falls : goal.returns-then-not-is_before_end-clause-falls
-returns-then-not-is_before_end-clause-falls g c =
-    let cmp = g.C.Comparator.cmp in
-    let total = g.met.C.Comparator.total in
-    let exact = g.met.C.Comparator.exact in
-    let range : KeyRange = key_range c.args.range in
-    let lists : List (List Entry) = c.loop-place.merging in
-    let all : List (List Entry) = c.args.cursors.items in
-    let m : IsMerging cmp lists (Some c.in-Some.place) = c.in-Some.ensures in
-    let first = key_is cmp total exact lists c.in-Some.place m c.key-begun.result.bytes.now c.key-begun.ensures in
-    let test : is_before_end cmp range (user_of c.key-begun.result.bytes.now) ≡ false = sym c.is_before_end.ensures ∙ c.if-not-is_before_end.true in
-    let bound = bound_of cmp (user_of m.least.first.key) range.upper (ap (λ (k : List _). is_before_end cmp range (user_of k)) first ∙ test) in (
-      λ e. are_falling cmp total exact (IsIn cmp range) all (none_of_kind cmp total exact (IsIn cmp range) lists all
-          (λ x at is. behind_bound cmp total exact lists c.in-Some.place m bound.0 bound.2 x at (is.before bound.0 bound.1)) c.loop-place.invariant),
-      λ h. refl,
-    )
-
-pub returns-in_default-place-clause-falls : goal.returns-in_default-place-clause-falls
-returns-in_default-place-clause-falls g c =
-    let cmp = g.C.Comparator.cmp in
-    let total = g.met.C.Comparator.total in
-    let exact = g.met.C.Comparator.exact in
-    let range : KeyRange = key_range c.args.range in
-    let all : List (List Entry) = c.args.cursors.items in
-    let m : IsMerging cmp c.loop-place.merging (Some c.in-Some.place) = c.in-Some.ensures in
-    let first = key_is cmp total exact c.loop-place.merging c.in-Some.place m c.key-begun.result.bytes.now c.key-begun.ensures in
-    let lawful = subst IsInternalKey (sym first) c.key-begun.result.lawful in (
-      λ e. are_falling cmp total exact (IsIn cmp range) all
-          (came_to_end cmp total exact (IsIn cmp range) c.loop-place.merging c.advance.new.self all c.in-Some.place m lawful c.in_ok-advance.ensures.advanced c.loop-place.invariant c.in_default-place.ensures),
-      λ h. refl,
-    )
-
-pub key-requires : goal.key-requires
-key-requires g c κs = ((refl, tt), some_where_least g.C.Comparator.cmp g.met.C.Comparator.total c.advance.new.self c.in-Some-place.next c.in-Some-place.ensures)
-
-pub returns-then-steps_back-clause-falls : goal.returns-then-steps_back-clause-falls
-returns-then-steps_back-clause-falls g c =
-    let cmp = g.C.Comparator.cmp in
-    let total = g.met.C.Comparator.total in
-    let exact = g.met.C.Comparator.exact in
-    let range : KeyRange = key_range c.args.range in
-    let all : List (List Entry) = c.args.cursors.items in
-    let m : IsMerging cmp c.loop-place.merging (Some c.in-Some.place) = c.in-Some.ensures in
-    let n : IsMerging cmp c.advance.new.self (Some c.in-Some-place.next) = c.in-Some-place.ensures in
-    let first = key_is cmp total exact c.loop-place.merging c.in-Some.place m c.key-begun.result.bytes.now c.key-begun.ensures in
-    let next = key_is cmp total exact c.advance.new.self c.in-Some-place.next n c.key.result.bytes.now c.key.ensures in
-    let lawful = subst IsInternalKey (sym first) c.key-begun.result.lawful in
-    let again : c.as_key.result.bytes.now ≡ c.key-begun.result.bytes.now = c.as_key.ensures ∙ c.in_ok-set.ensures.ok in
-    let last : c.as_key-then-within.result.bytes.now ≡ c.key-begun.result.bytes.now = c.as_key-then-within.ensures ∙ c.in_ok-set.ensures.ok in
-    let before : is_before_end cmp range (user_of m.least.first.key) ≡ true = ap (λ (k : List _). is_before_end cmp range (user_of k)) first ∙ sym c.is_before_end.ensures ∙ c.if-not-is_before_end.false in
-    let from : is_from cmp range (user_of m.least.first.key) ≡ true = ap (λ (k : List _). is_from cmp range (user_of k)) (first ∙ sym again) ∙ sym c.is_from-within.ensures ∙ c.if-within.true in (
-      λ e. absurd cc,
-      λ h. absurd (went_back cmp total exact (IsIn cmp range) c.loop-place.merging c.advance.new.self all c.in-Some.place m lawful c.in_ok-advance.ensures.advanced c.loop-place.invariant c.in-Some-place.next n c.as_key-then-within.result.bytes.now c.key.result.bytes.now (first ∙ sym last) next
-          (within cmp range (user_of m.least.first.key) before from) (sym c.steps_back.ensures ∙ c.if-steps_back.true) (fall cmp total exact (IsIn cmp range) all h)),
-    )
-
-pub loop-place-preserved : goal.loop-place-preserved
-loop-place-preserved g c =
-    let cmp = g.C.Comparator.cmp in
-    let total = g.met.C.Comparator.total in
-    let exact = g.met.C.Comparator.exact in
-    let range : KeyRange = key_range c.args.range in
-    let all : List (List Entry) = c.args.cursors.items in
-    let m : IsMerging cmp c.loop-place.merging (Some c.in-Some.place) = c.in-Some.ensures in
-    let n : IsMerging cmp c.advance.new.self (Some c.in-Some-place.next) = c.in-Some-place.ensures in
-    let first = key_is cmp total exact c.loop-place.merging c.in-Some.place m c.key-begun.result.bytes.now c.key-begun.ensures in
-    let lawful = subst IsInternalKey (sym first) c.key-begun.result.lawful in
-    let again : c.as_key.result.bytes.now ≡ c.key-begun.result.bytes.now = c.as_key.ensures ∙ c.in_ok-set.ensures.ok in
-    elim c.else-within.branch [
-      | else-within-via-then-within+else-steps_back w ↦
-          let last : w.as_key-then-within.result.bytes.now ≡ c.key-begun.result.bytes.now = w.as_key-then-within.ensures ∙ c.in_ok-set.ensures.ok in
-          let next = key_is cmp total exact c.advance.new.self c.in-Some-place.next n w.key.result.bytes.now w.key.ensures in
-          goes_on cmp total exact (IsIn cmp range) c.loop-place.merging c.advance.new.self all c.in-Some.place m lawful c.in_ok-advance.ensures.advanced c.loop-place.invariant c.in-Some-place.next n w.as_key-then-within.result.bytes.now w.key.result.bytes.now (first ∙ sym last) next
-          (λ is. sym w.steps_back.ensures ∙ w.if-steps_back.false)
-      | else-within-via-else-within w ↦
-          let from : is_from cmp range (user_of m.least.first.key) ≡ false = ap (λ (k : List _). is_from cmp range (user_of k)) (first ∙ sym again) ∙ sym c.is_from-within.ensures ∙ w.if-within.false in
-          goes_on cmp total exact (IsIn cmp range) c.loop-place.merging c.advance.new.self all c.in-Some.place m lawful c.in_ok-advance.ensures.advanced c.loop-place.invariant c.in-Some-place.next n m.least.first.key n.least.first.key refl refl
-          (λ is. absurd (before_it cmp range (user_of m.least.first.key) from is))
-    ]
 
 pub returns-clause-falls : goal.returns-clause-falls
 returns-clause-falls g c =
-    let cmp = g.C.Comparator.cmp in
-    let total = g.met.C.Comparator.total in
-    let exact = g.met.C.Comparator.exact in
-    let range : KeyRange = key_range c.args.range in
-    let all : List (List Entry) = c.args.cursors.items in
-    (λ e. are_falling cmp total exact (IsIn cmp range) all (none_there cmp total exact (IsIn cmp range) c.loop-place.merging all c.in_default.ensures c.loop-place.invariant), λ h. refl)
+    let same : c.in_ok-merging.merging ≡ c.args.cursors.items = sym (ok_is (map (λ (es : List Entry). es) c.args.cursors.items) c.in_ok-merging.merging c.in_ok-merging.ensures) ∙ map-id c.args.cursors.items in
+    subst (λ (lists : List (List Entry)). IfOk c.is_falling.result (λ falls. (falls ≡ true) ↔ AreFallingIn (IsIn g.C.Comparator.cmp (key_range c.args.range)) (joined lists))) same c.is_falling.ensures.falls

@@ -1,8 +1,9 @@
 //! The parts of an installation, of at most four calls each.
 
-ghost use Rattle.std.specs.Prelude.{◌≡◌, ◌∷◌, ◌++◌, [], ◌≤◌, ℕ, List, IfErr, OnOk};
+ghost use Rattle.std.specs.Prelude.{◌≡◌, ◌∷◌, ◌++◌, [], ◌≤◌, ℕ, List, IfErr, OnOk, codes, string_bytes};
 ghost use Rattle.std.specs.declared.cmp.Ordering.{Ordering};
 ghost use Rattle.edit.specs.Version.{State};
+ghost use Rattle.folder.specs.Calls.{Done, FolderSynced, Renamed};
 ghost use Rattle.folder.specs.Crash.{Leads, LeavesOnly, World};
 ghost use Rattle.folder.specs.Free.{IsFree};
 ghost use Rattle.folder.specs.ReadsAs.{IsSettled, IsWritten, ReadsAs, StandsAs};
@@ -90,8 +91,19 @@ pub(crate) fn name_current<F: Folder>(
     ensures later { F.failed folder.old ≤ F.failed folder.new }
 {
     let name = temporary_name(alloc, number)?;
+    Ok(make_current(folder, &name)?)
+}
+
+/// Gives what has this name the name CURRENT, and syncs the folder.
+fn make_current<F: Folder>(folder: &mut F, name: &String) -> Result<(), FolderFault>
+    ensures runs { Runs (Renamed (string_bytes name.now) (codes "CURRENT") ∷ FolderSynced ∷ [])
+        (F.calls folder.old) (F.calls folder.new) (F.tells folder.old) (F.tells folder.new) result }
+    // At Ok both calls were made, and no other.
+    ensures both { OnOk result (F.calls folder.new ≡ F.calls folder.old ++ Done (Renamed (string_bytes name.now) (codes "CURRENT")) ∷ Done FolderSynced ∷ []) }
+    ensures failures { F.failed folder.new ≡ failures_after (F.failed folder.old) result }
+{
     folder.rename(name.as_str(), CURRENT)?;
-    Ok(folder.sync_folder()?)
+    folder.sync_folder()
 }
 
 /// Makes a file and syncs it.

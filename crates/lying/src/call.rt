@@ -10,7 +10,7 @@ use ikey::{Bytewise, InternalKey};
 use logrec::records;
 use std::alloc::Global;
 use std::thread::Threads;
-use table::{Cursor, Options, TableCursor};
+use table::{Cursor, Options, SoundTable, TableCursor};
 
 /// A call that takes bytes.
 pub enum Call {
@@ -64,15 +64,29 @@ fn refusal<T: Drop>(answer: Result<T, Fault>) -> Answer {
     }
 }
 
+/// Whether a cursor stands at an entry with the value `x`.
+fn is_x(cursor: &TableCursor<'_, Bytewise>) -> bool {
+    cursor.valid() && cursor.value() == b"x".as_slice()
+}
+
+/// Whether the first entry of a table has the value `x`.
+fn has_x(alloc: Global, table: &SoundTable<'_, Bytewise>) -> Result<bool, Fault> {
+    let cursor = TableCursor::new(alloc, table)?;
+    Ok(is_x(&cursor))
+}
+
+/// Whether the smallest key of a table is `a` at 1, and the largest too.
+fn is_a_alone(table: &SoundTable<'_, Bytewise>) -> bool {
+    table.smallest().bytes() == A_AT_ONE.as_slice()
+        && table.largest().bytes() == A_AT_ONE.as_slice()
+}
+
 /// Tests that bytes are a table of `a` at 1 with the value `x` alone. Keys rise strictly, so that there is one entry where the smallest is
 /// the largest.
 fn listed(alloc: Global, bytes: &[u8]) -> Result<(), Fault> {
     let table = table::check::<Bytewise>(alloc, bytes)?;
-    let cursor = TableCursor::new(alloc, &table)?;
-    let is_value = cursor.valid() && cursor.value() == b"x".as_slice();
-    let is_alone = table.smallest().bytes() == A_AT_ONE.as_slice()
-        && table.largest().bytes() == A_AT_ONE.as_slice();
-    wanted(is_value && is_alone)
+    let is_value = has_x(alloc, &table)?;
+    wanted(is_value && is_a_alone(&table))
 }
 
 /// Compacts one input.

@@ -42,11 +42,17 @@ pub fn print_claims<R: AllocGlobal + Print + Threads + Sync>(
     print_rows(rt, memory, CLAIMS)
 }
 
+/// Makes all calls, and prints each row.
+fn print_all<R: AllocGlobal + Print + Threads + Sync>(rt: &R, memory: &mut Memory) -> Result<()> {
+    print_rows(rt, memory, BEGINNINGS)?;
+    print_rows(rt, memory, CHANGES)?;
+    print_rows(rt, memory, ROWS)?;
+    print_claims(rt, memory)?;
+    print_rows(rt, memory, LIMITS)
+}
+
 /// Makes all calls with memory to spare, and prints each row.
 pub fn run<R: AllocGlobal + Print + Threads + Sync>(rt: &R) -> Result<()> {
     let mut memory = Memory::ample(rt.alloc());
-    for rows in [BEGINNINGS, CHANGES, ROWS, CLAIMS, LIMITS] {
-        print_rows(rt, &mut memory, rows)?;
-    }
-    Ok(())
+    print_all(rt, &mut memory)
 }

@@ -16,6 +16,22 @@ pub enum Part {
     Fill(u8, usize),
 }
 
+/// The bytes of a row.
+pub enum Source {
+    /// These.
+    Plain(&'static [u8]),
+    /// Those of these parts, one behind the other.
+    Joined(&'static [Part]),
+}
+
+/// How often each answer of a row has to come.
+pub enum Expected {
+    /// This one so often, and no other.
+    Only(Answer, usize),
+    /// Each of these so often, and no other.
+    Each(&'static [(Answer, usize)]),
+}
+
 /// What of a row's bytes a call gets, one after the other.
 pub enum Way {
     /// All of them.
@@ -41,14 +57,14 @@ pub struct Row {
     /// What is printed where the answers are right.
     pub line: &'static str,
     pub call: Call,
-    pub parts: &'static [Part],
+    pub source: Source,
     pub way: Way,
     /// How many byte strings the call gets, those of a change to what is there counted too.
     pub steps: usize,
     /// How many bytes are claimed.
     pub claimed: usize,
     /// How often each answer has to come.
-    pub want: &'static [(Answer, usize)],
+    pub want: Expected,
 }
 
 /// What a byte is changed to.
@@ -67,6 +83,14 @@ fn joined(alloc: Global, parts: &[Part]) -> Result<Vec<u8>, Fault> {
         }
     }
     Ok(bytes)
+}
+
+/// The bytes of a row.
+fn whole(alloc: Global, source: &Source) -> Result<Vec<u8>, Fault> {
+    match source {
+        Source::Plain(bytes) => Ok(Vec::from_slice(alloc, bytes)?),
+        Source::Joined(parts) => joined(alloc, parts),
+    }
 }
 
 /// Writes the checksum behind the contents and the type of a block anew.
@@ -191,14 +215,24 @@ fn are_wanted(answers: &[Answer], want: &[(Answer, usize)]) -> bool {
     total == answers.len()
 }
 
+/// Whether the answers are those that are expected.
+fn are_expected(answers: &[Answer], expected: &Expected) -> bool {
+    match expected {
+        Expected::Only(answer, wanted) => {
+            times(answers, answer) == *wanted && answers.len() == *wanted
+        }
+        Expected::Each(want) => are_wanted(answers, want),
+    }
+}
+
 /// Whether a row has its answers.
 fn has_answers<R: AllocGlobal + Threads + Sync>(
     rt: &R,
     memory: &mut Memory,
     row: &Row,
 ) -> Result<bool, Fault> {
-    let whole = joined(rt.alloc(), row.parts)?;
-    Ok(are_wanted(&answers(rt, memory, row, &whole)?, row.want))
+    let bytes = whole(rt.alloc(), &row.source)?;
+    Ok(are_expected(&answers(rt, memory, row, &bytes)?, &row.want))
 }
 
 /// Tests the answers of each row, and prints it. Where they are not right it is Lawless, behind the last row that was printed.

@@ -148,7 +148,7 @@ spent_all (p ∷ ps) each x =
 pub spent_exact : (b : Layout) (g : Gathered) (ps : List Progress) → Gathers b g ps → All HasSpentAll ps → (x : ℕ) → times_spent x ps ≡ times x (all_drawn ps)
 spent_exact b g ps h each x = let a = spent_all ps each x in let c = h.spent x in omega arith
 
-pub nothing_left : (all items ps : List Progress) → all ≡ items ++ ps → length items ≡ 0 → all ≡ ps
+pub nothing_left : {A : Type 0} (all items ps : List A) → all ≡ items ++ ps → length items ≡ 0 → all ≡ ps
 nothing_left all [] ps is none = is
 nothing_left all (x ∷ items) ps is none = absurd (omega arith)
 

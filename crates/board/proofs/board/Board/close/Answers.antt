@@ -1,10 +1,20 @@
-use Rattle.std.proofs.Common.{◌≡◌, List, [], ◌∷◌, All, length, sym, subst, rules}
-use Rattle.board.specs.Progress.{Progress}
+use Rattle.std.proofs.Common.{◌≡◌, List, [], ◌∷◌, ◌++◌, All, length, sym, subst, rules}
+use Rattle.board.specs.Progress.{Layout, Progress}
 use Rattle.board.specs.Finished.{all_done, all_failed, all_skipped}
 use Rattle.board.specs.Gathering.{Gathers}
-use Rattle.board.proofs.Closings.{all_front, counts_exact, spent_exact, nothing_left, closes_all}
+use Rattle.board.proofs.Closings.{all_front, all_last, counts_exact, spent_exact, nothing_left, closes_all}
 use Rattle.board.proofs.Placing.{one_popped}
 use Rattle.board.proofs.board.Board.close.Goals as goal
+
+pub loop-seat-init : goal.loop-seat-init
+loop-seat-init c =
+    let rest = c.pop.new.self.items in
+    let first = c.in-Some.first in
+    let Own = λ (p : Progress). p.board ≡ c.args.self in
+    let own : All Own (rest ++ first ∷ []) = subst (All Own) c.in-Some.ensures.items c.requires.boards in record {
+      left = all_front Own rest (first ∷ []) own;
+      popped = (first ∷ [], c.in-Some.ensures.items, subst (λ (b : Layout). Gathers b c.of-gathered.result (first ∷ [])) (all_last Own rest first own) c.of-gathered.ensures);
+    }
 
 pub loop-seat-preserved : goal.loop-seat-preserved
 loop-seat-preserved c =

@@ -94,11 +94,12 @@ fn input_compacted<R: AllocGlobal + Threads + Sync>(
     rt: &R,
     bytes: &[u8],
 ) -> Result<Outcome, Fault> {
-    let mut picked = picked(rt.alloc(), &ONE_INPUT)?;
+    let case = &ONE_INPUT;
+    let mut picked = picked(rt.alloc(), case)?;
     if let Some(file) = picked.files.first_mut() {
         file.meta.size = bytes.len() as u64;
     }
-    compacted(rt, &ONE_INPUT, &picked, &[bytes])
+    compacted(rt, case, &picked, &[bytes])
 }
 
 /// What a call answers to some bytes.

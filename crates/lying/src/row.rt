@@ -154,22 +154,26 @@ fn make(row: &Row, bytes: &mut Vec<u8>, step: usize) -> bool {
     is_changed
 }
 
+/// Whether there is no room for so many bytes.
+fn is_short_of(alloc: Global, len: usize) -> bool {
+    let room: Result<Vec<u8>, _> = Vec::with_capacity(alloc, len);
+    room.is_err()
+}
+
 /// What a call answers to bytes. Where memory is short it gets 32 bytes for each of them and 4,096, so that there is no room for as many
 /// as they claim.
 fn answered<R: AllocGlobal + Threads + Sync>(
     rt: &R,
     memory: &mut Memory,
     row: &Row,
-    bytes: Vec<u8>,
+    bytes: &[u8],
 ) -> Result<Answer, Fault> {
     memory.leave(
         rt.alloc(),
         bytes.len().saturating_mul(32).saturating_add(4_096),
     )?;
-    let room: Result<Vec<u8>, _> = Vec::with_capacity(rt.alloc(), row.claimed);
-    let is_short = room.is_err();
-    drop(room);
-    let given = answer(rt, &row.call, &bytes);
+    let is_short = is_short_of(rt.alloc(), row.claimed);
+    let given = answer(rt, &row.call, bytes);
     memory.loosen();
     wanted(is_short || !memory.is_short)?;
     Ok(given)
@@ -186,7 +190,7 @@ fn answers<R: AllocGlobal + Threads + Sync>(
     for step in 0..row.steps {
         let mut bytes = Vec::from_slice(rt.alloc(), whole)?;
         if make(row, &mut bytes, step) {
-            answers.push(answered(rt, memory, row, bytes)?)?;
+            answers.push(answered(rt, memory, row, &bytes)?)?;
         }
     }
     Ok(answers)
@@ -225,14 +229,15 @@ fn are_expected(answers: &[Answer], expected: &Expected) -> bool {
     }
 }
 
-/// Whether a row has its answers.
-fn has_answers<R: AllocGlobal + Threads + Sync>(
+/// Tests that a row has its answers. Lawless where it has others.
+fn test_row<R: AllocGlobal + Threads + Sync>(
     rt: &R,
     memory: &mut Memory,
     row: &Row,
-) -> Result<bool, Fault> {
+) -> Result<(), Fault> {
     let bytes = whole(rt.alloc(), &row.source)?;
-    Ok(are_expected(&answers(rt, memory, row, &bytes)?, &row.want))
+    let answers = answers(rt, memory, row, &bytes)?;
+    wanted(are_expected(&answers, &row.want))
 }
 
 /// Tests the answers of each row, and prints it. Where they are not right it is Lawless, behind the last row that was printed.
@@ -242,7 +247,7 @@ pub fn print_rows<R: AllocGlobal + Print + Threads + Sync>(
     rows: &[Row],
 ) -> Result<()> {
     for row in rows {
-        wanted(has_answers(rt, memory, row)?)?;
+        test_row(rt, memory, row)?;
         println!(rt; "{}", row.line)?;
     }
     Ok(())

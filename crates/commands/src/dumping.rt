@@ -1,15 +1,16 @@
 //! The entries of a table as text.
 
-ghost use Rattle.std.specs.Prelude.{◌≡◌, ◌++◌, Ok, OnOk, string_bytes};
+ghost use Rattle.std.specs.Prelude.{◌≡◌, ◌<◌, ◌++◌, IfErr, Ok, OnOk, drop, length, string_bytes};
 ghost use Rattle.block.specs.Piece.{Entry};
-ghost use Rattle.coding.specs.Answers.{EqualOrMemory};
-ghost use Rattle.commands.specs.Dump.{dump_line, dumped};
+ghost use Rattle.coding.specs.Answers.{EqualOrMemory, fault};
+ghost use Rattle.coding.specs.declared.fault.FaultName.TheVariants.{Memory};
+ghost use Rattle.commands.specs.Dump.{dump_line, dump_lines, dumped};
 
 use coding::Fault;
 use ikey::{Bytewise, InternalKey, Kind};
 use std::alloc::Global;
 use std::fmt::Write;
-use table::{Cursor, TableCursor, check};
+use table::{Cursor, SoundTable, TableCursor, check};
 use texts::text_of;
 
 /// The lines of a table in the bytewise order, a line an entry: `KEY SEQ put VALUE` or `KEY SEQ del`.
@@ -20,13 +21,47 @@ pub fn dump(alloc: Global, bytes: &[u8]) -> Result<Vec<u8>, Fault>
     ensures { EqualOrMemory (λ lines. lines.items) result (dumped bytes.now) }
 {
     let table = check::<Bytewise>(alloc, bytes)?;
-    let mut cursor = TableCursor::new(alloc, &table)?;
+    lines_of(alloc, &table)
+}
+
+/// The lines of a table. Memory alone refuses.
+fn lines_of(alloc: Global, table: &SoundTable<'_, Bytewise>) -> Result<Vec<u8>, Fault>
+    ensures { EqualOrMemory (λ lines. lines.items) result (Ok (dump_lines table.now.entries)) }
+{
     let mut out = String::new(alloc);
-    while cursor.valid() {
-        push_line(alloc, &mut out, cursor.key(), cursor.value())?;
-        cursor.advance()?;
-    }
+    push_lines(alloc, &mut out, table)?;
     Ok(out.into_bytes())
+}
+
+/// Appends the lines of a table. Memory alone refuses.
+fn push_lines(
+    alloc: Global,
+    out: &mut String,
+    table: &SoundTable<'_, Bytewise>,
+) -> Result<(), Fault>
+    ensures ok { OnOk result (string_bytes out.new ≡ string_bytes out.old ++ dump_lines table.now.entries) }
+    ensures memory { IfErr result (λ e. e ≡ fault Memory) }
+{
+    let mut cursor = TableCursor::new(alloc, table)?;
+    while cursor.valid() {
+        push_next(alloc, out, &mut cursor)?;
+    }
+    Ok(())
+}
+
+/// Appends the line of a cursor's entry, and takes the cursor on. Memory alone refuses.
+fn push_next(
+    alloc: Global,
+    out: &mut String,
+    cursor: &mut TableCursor<'_, Bytewise>,
+) -> Result<(), Fault>
+    requires { 0 < length cursor.old }
+    ensures line { OnOk result (string_bytes out.new ++ dump_lines cursor.new ≡ string_bytes out.old ++ dump_lines cursor.old) }
+    ensures rest { OnOk result (cursor.new ≡ drop 1 cursor.old) }
+    ensures memory { IfErr result (λ e. e ≡ fault Memory) }
+{
+    push_line(alloc, out, cursor.key(), cursor.value())?;
+    cursor.advance()
 }
 
 /// Appends the line of an entry. Memory alone refuses.
@@ -38,7 +73,7 @@ fn push_line(
 ) -> Result<(), Fault>
     ensures ok { let entry : Entry = record { key = key.entry.bytes.now; value = value.now } in
         OnOk result (string_bytes out.new ≡ string_bytes out.old ++ dump_line entry) }
-    ensures memory { EqualOrMemory (λ none. none) result (Ok tt) }
+    ensures memory { IfErr result (λ e. e ≡ fault Memory) }
 {
     let user = text_of(alloc, key.user())?;
     let sequence = key.sequence();

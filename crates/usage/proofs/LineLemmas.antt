@@ -1,5 +1,5 @@
 -- Facts on the texts of a command line.
-use Rattle.std.proofs.Common.{◌≡◌, ℕ, Bool, true, false, List, [], Option, Some, None, Result, Ok, Err, option_map, if◌then◌else◌, unwrap_or, codes, inl, inr, refl, subst, sym, ap, ◌∙◌}
+use Rattle.std.proofs.Common.{◌≡◌, ◌≢◌, ℕ, Bool, true, false, List, [], Option, Some, None, Result, Ok, Err, option_map, if◌then◌else◌, unwrap_or, codes, inl, inr, refl, subst, sym, ap, ◌∙◌}
 use Rattle.std.specs.Prelude.{◌&&◌, IsErr, IsErrAnd, MatchOption, Box}
 use Rattle.std.specs.Borrow.{Bor}
 use Rattle.std.specs.Str.{bytes_eq}
@@ -121,14 +121,21 @@ GivesTexts-parsed app words s given same taken walked h = (
       (given_rows app words s same (walked (ap is_simple same ∙ is_simple-program)).1) h,
 )
 
+-- `clap`'s error turns into want of memory or into itself
+pub TurnsInto-only : (e : Error) (u : Usage) → TurnsInto e u → (u ≢ Key) × (u ≢ Snapshots)
+TurnsInto-only e Key h = absurd h
+TurnsInto-only e Snapshots h = absurd h
+TurnsInto-only e Memory h = (λ same. absurd cc, λ same. absurd cc)
+TurnsInto-only e (Clap d) h = (λ same. absurd cc, λ same. absurd cc)
+
 -- the usage of words that are no command with its texts
-pub TextsGiven-lacking : {P : Type 0} (app : App) (words : List Text) (s : Option (Text × List Row)) (e : Error) (u : Usage) → app ≡ program_app
-    → (is_simple app ≡ true → P × (s ≡ subcommand_of app words)) → LacksAll s → TurnsInto e u
+pub TextsGiven-lacking : {P : Type 0} (app : App) (words : List Text) (s : Option (Text × List Row)) (u : Usage) → app ≡ program_app
+    → (is_simple app ≡ true → P × (s ≡ subcommand_of app words)) → LacksAll s → (u ≢ Key) × (u ≢ Snapshots)
     → TextsGiven words (Err u)
-TextsGiven-lacking app words s e Key same walked lacks h = absurd h
-TextsGiven-lacking app words s e Snapshots same walked lacks h = absurd h
-TextsGiven-lacking app words s e Memory same walked lacks h = tt
-TextsGiven-lacking app words s e (Clap d) same walked lacks h =
+TextsGiven-lacking app words s Key same walked lacks h = absurd (h.0 refl)
+TextsGiven-lacking app words s Snapshots same walked lacks h = absurd (h.1 refl)
+TextsGiven-lacking app words s Memory same walked lacks h = tt
+TextsGiven-lacking app words s (Clap d) same walked lacks h =
     inr (subst LacksAll (given_rows app words s same (walked (ap is_simple same ∙ is_simple-program)).1) lacks)
 
 -- the line of the texts of `blocks`

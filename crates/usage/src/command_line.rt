@@ -1,16 +1,18 @@
 //! The command line, read.
 
-ghost use Rattle.std.specs.Prelude.{MatchOption, codes, map};
-ghost use Rattle.clap.specs.Words.{found_of, rows_of, subcommand_rows_of};
+ghost use Rattle.std.specs.Prelude.{◌≡◌, ◌≢◌, MatchOption, codes, map};
+ghost use Rattle.clap.specs.Words.{app_of, found_of, rows_of, subcommand_rows_of};
+ghost use Rattle.grammar.specs.Apps.{program_app};
 ghost use Rattle.usage.specs.Line.{HasBlocks, HasFolder, HasGet, HasPath, LacksAll, LacksBlocks, LacksGet, LacksPath, LacksRows, HasRows, LineGives, rows_under};
 ghost use Rattle.usage.specs.LineParts.{BlocksLine, GetLine, GivesCommand, IsKeyAnswer, TextsGiven};
+ghost use Rattle.usage.specs.declared.requests.Usage.TheVariants.{Key, Snapshots};
 
 use crate::arguments::{first_number, first_text, is_flagged};
 use crate::compact_line::compact_line;
 use crate::compact_texts::{CompactTexts, compact_texts};
 use crate::requests::{Line, Usage};
-use clap::ArgMatches;
 use clap::error::ErrorKind;
+use clap::{ArgMatches, Command};
 use grammar::program_command;
 use std::alloc::Global;
 use std::convert::AsStr;
@@ -80,12 +82,19 @@ impl<'a> BlocksTexts<'a> {
             MatchOption result (LacksBlocks rows)
             (λ texts. HasBlocks texts.a.now texts.b.now texts.at.now texts.out.now rows) }
     {
-        Some(BlocksTexts {
-            a: first_text(values, "A")?,
-            b: first_text(values, "B")?,
-            at: first_text(values, "at")?,
-            out: first_text(values, "OUT")?,
-        })
+        let Some(a) = first_text(values, "A") else {
+            return None;
+        };
+        let Some(b) = first_text(values, "B") else {
+            return None;
+        };
+        let Some(at) = first_text(values, "at") else {
+            return None;
+        };
+        let Some(out) = first_text(values, "OUT") else {
+            return None;
+        };
+        Some(BlocksTexts { a, b, at, out })
     }
 }
 
@@ -124,11 +133,21 @@ impl<'a> GetTexts<'a> {
         ensures { let rows = rows_of (found_of values.now) in
             MatchOption result (LacksGet rows) (λ texts. HasGet texts.folder.now texts.key.now texts.at texts.verbose rows) }
     {
+        let Some(folder) = first_text(values, "DIR") else {
+            return None;
+        };
+        let Some(key) = first_text(values, "HEXKEY") else {
+            return None;
+        };
+        let Ok(at) = first_number(values, "at") else {
+            return None;
+        };
+        let verbose = is_flagged(values, "verbose");
         Some(GetTexts {
-            folder: first_text(values, "DIR")?,
-            key: first_text(values, "HEXKEY")?,
-            at: first_number(values, "at").ok()?,
-            verbose: is_flagged(values, "verbose"),
+            folder,
+            key,
+            at,
+            verbose,
         })
     }
 }
@@ -138,15 +157,30 @@ fn texts_given<'a, S: AsStr>(alloc: Global, words: &'a [S]) -> Result<Given<'a>,
     ensures { TextsGiven (map S.text words.entry.now) result }
 {
     let mut command = program_command(alloc)?;
+    texts_taken(&mut command, words)
+}
+
+/// The texts that the words give the program's command.
+fn texts_taken<'a, S: AsStr>(command: &mut Command<'a>, words: &'a [S]) -> Result<Given<'a>, Usage>
+    ensures { app_of command.old ≡ program_app → TextsGiven (map S.text words.entry.now) result }
+{
     let matches = command.try_get_matches_from_mut(words)?;
     match texts_in(&matches) {
         Some(given) => Ok(given),
-        None => {
-            // `clap` takes a number with a plus sign, and knows of no options that go together or not. It asks for all else.
-            let (kind, text) = complaint(&matches);
-            let error = command.error(kind, text)?;
-            Err(Usage::from(error))
-        }
+        // `clap` takes a number with a plus sign, and knows of no options that go together or not. It asks for all else.
+        None => Err(refusal(command, &matches)),
+    }
+}
+
+/// The refusal of words that `clap` takes.
+fn refusal(command: &mut Command<'_>, matches: &ArgMatches<'_>) -> Usage
+    ensures { (result ≢ Key) × (result ≢ Snapshots) }
+{
+    let (kind, text) = complaint(matches);
+    match command.error(kind, text) {
+        Ok(error) => Usage::from(error),
+        // Memory alone refuses the text.
+        Err(_) => Usage::Memory,
     }
 }
 

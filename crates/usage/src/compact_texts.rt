@@ -25,11 +25,23 @@ impl CompactNumbers {
         ensures { let rows = rows_of (found_of values.now) in
             MatchOption result (LacksNumbers rows) (λ numbers. HasNumbers numbers rows) }
     {
+        let Ok(workers) = first_number(values, "workers") else {
+            return None;
+        };
+        let Ok(ranges) = first_number(values, "ranges") else {
+            return None;
+        };
+        let Ok(block_size) = first_number(values, "block-size") else {
+            return None;
+        };
+        let Ok(file_size) = first_number(values, "file-size") else {
+            return None;
+        };
         Some(CompactNumbers {
-            workers: first_number(values, "workers").ok()?,
-            ranges: first_number(values, "ranges").ok()?,
-            block_size: first_number(values, "block-size").ok()?,
-            file_size: first_number(values, "file-size").ok()?,
+            workers,
+            ranges,
+            block_size,
+            file_size,
         })
     }
 }
@@ -48,7 +60,9 @@ impl<'a> ReadableTexts<'a> {
             MatchOption result (LacksReadable rows)
             (λ texts. HasReadable texts.since (option_map (λ text. text.now) texts.listed) rows) }
     {
-        let since = first_number(values, "snapshot").ok()?;
+        let Ok(since) = first_number(values, "snapshot") else {
+            return None;
+        };
         let listed = first_text(values, "snapshots");
         if since.is_some() && listed.is_some() {
             return None;
@@ -75,11 +89,23 @@ impl<'a> CompactTexts<'a> {
             (λ texts. HasCompact texts.folder.now texts.levels texts.numbers texts.readable.since
             (option_map (λ text. text.now) texts.readable.listed) texts.verbosity rows) }
     {
+        let Some(folder) = first_text(values, "DIR") else {
+            return None;
+        };
+        let Some(levels) = levels_of(values) else {
+            return None;
+        };
+        let Some(numbers) = CompactNumbers::of(values) else {
+            return None;
+        };
+        let Some(readable) = ReadableTexts::of(values) else {
+            return None;
+        };
         Some(CompactTexts {
-            folder: first_text(values, "DIR")?,
-            levels: levels_of(values)?,
-            numbers: CompactNumbers::of(values)?,
-            readable: ReadableTexts::of(values)?,
+            folder,
+            levels,
+            numbers,
+            readable,
             verbosity: verbosity_of(values),
         })
     }
@@ -100,7 +126,9 @@ fn levels_of(values: &ArgMatches<'_>) -> Option<Levels>
     ensures { let rows = rows_of (found_of values.now) in
         MatchOption result (LacksLevels rows) (λ levels. HasLevels levels rows) }
 {
-    let level = first_number(values, "level").ok()?;
+    let Ok(level) = first_number(values, "level") else {
+        return None;
+    };
     match (level, is_flagged(values, "all")) {
         (Some(level), false) => Some(Levels::One(level)),
         (None, true) => Some(Levels::All),

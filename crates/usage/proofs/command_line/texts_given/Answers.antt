@@ -1,20 +1,4 @@
-use Rattle.std.proofs.Common.{map}
-use Rattle.clap.specs.Words.{app_of, subcommand_rows_of}
-use Rattle.usage.proofs.LineLemmas.{GivesTexts-parsed, TextsGiven-lacking, TextsGiven-refused}
 use Rattle.usage.proofs.command_line.texts_given.Goals as goal
 
-pub returns-in_err-matches : goal.returns-in_err-matches
-returns-in_err-matches g c =
-    TextsGiven-refused (app_of c.in_ok-command.command) (map g.S.AsStr.text c.args.words.now) c.in_err-matches.field-0.0
-    c.from_residual-in_err-matches.result c.in_ok-command.ensures c.in_err-matches.ensures.kinds
-    c.from_residual-in_err-matches.ensures
-
-pub returns-in-Some : goal.returns-in-Some
-returns-in-Some g c =
-    GivesTexts-parsed (app_of c.in_ok-command.command) (map g.S.AsStr.text c.args.words.now) (subcommand_rows_of c.in_ok-matches.matches)
-    c.in-Some.given c.in_ok-command.ensures c.in_ok-matches.ensures.kinds c.in_ok-matches.ensures.ok.2 c.in-Some.ensures
-
 pub returns : goal.returns
-returns g c =
-    TextsGiven-lacking (app_of c.in_ok-command.command) (map g.S.AsStr.text c.args.words.now) (subcommand_rows_of c.in_ok-matches.matches)
-    c.in_ok-error-in-None.error c.from.result c.in_ok-command.ensures c.in_ok-matches.ensures.ok.2 c.in-None.ensures c.from.ensures
+returns g c = c.texts_taken.ensures c.in_ok-command.ensures

@@ -3,9 +3,10 @@ use Rattle.std.proofs.Common.{◌≡◌, ℕ, ◌++◌, List, [], ◌∷◌, len
 use Rattle.std.specs.Global.{Vec}
 use Rattle.coding.specs.Answers.{UnlessMemory, EqualOrMemory, FailsOrMemory, ◌>>=◌, HoldsOrMemory}
 use Rattle.coding.specs.declared.fault.Fault.{Fault}
+use Rattle.coding.proofs.Binds.{bind_ok, ok_is}
 use Rattle.coding.proofs.Refusals.{unless_from}
+use Rattle.std.specs.Prelude.{IfOk}
 use Rattle.block.specs.Piece.{Entry, IsBlock}
-use Rattle.block.specs.Writing.{block}
 use Rattle.ikey.specs.Bytewise.{bytewise_cmp}
 use Rattle.pairing.specs.Merging.{tested_entries, union_of, unions_of}
 use Rattle.pairing.specs.Testing.{tested_after}
@@ -14,10 +15,10 @@ use Rattle.merge.specs.Union.{IsUnion}
 use Rattle.board.specs.Collected.{collected}
 use Rattle.std.proofs.lemmas.List.{append-nil}
 use Rattle.pairing.specs.Repeats.{HasRepeat}
-use Rattle.pairing.specs.Blocks.{IsFileAnswer, IsUnionAnswer, IsBlocksAnswer, block_within}
+use Rattle.pairing.specs.Blocks.{IsFileAnswer, IsMerged, IsUnionAnswer, IsBlocksAnswer, block_within, counted}
 use Rattle.pairing.specs.declared.tested.TestedEntry.{TestedEntry}
 use Rattle.pairing.proofs.Repeats.{no_union, repeat_in_parts, repeat_in_rests}
-use Rattle.pairing.proofs.Unions.{Cut, union_of_runs}
+use Rattle.pairing.proofs.Unions.{Cut, block_of, union_of_runs}
 use Rattle.pairing.proofs.RangeUnions.{union_found, union_refused_for}
 
 -- the tests of a block's entries answer for the file
@@ -78,13 +79,26 @@ second_refused a b qa e first h = unless_from e (IsFileAnswer b (Err e)) (IsBloc
 pub union_refused : (a b : List ℕ) (qa qb : List Entry) (e : Fault) → IsFileAnswer a (Ok qa) → IsFileAnswer b (Ok qb) → UnlessMemory e (IsUnionAnswer qa qb (Err e)) → UnlessMemory e (IsBlocksAnswer a b (Err e))
 union_refused a b qa qb e first second h = unless_from e (IsUnionAnswer qa qb (Err e)) (IsBlocksAnswer a b (Err e)) (λ f. (Ok qa, (first, (Ok qb, (second, (Err e, (f, refl))))))) h
 
--- the union is there, and its block is refused
-pub block_refused : (a b : List ℕ) (qa qb union : List Entry) (e : Fault) → IsFileAnswer a (Ok qa) → IsFileAnswer b (Ok qb) → IsUnion bytewise_cmp (qa ∷ qb ∷ []) union → UnlessMemory e (block_within union ≡ Err e) → UnlessMemory e (IsBlocksAnswer a b (Err e))
-block_refused a b qa qb union e first second is h =
-    unless_from e (block_within union ≡ Err e) (IsBlocksAnswer a b (Err e))
-    (λ f. (Ok qa, (first, (Ok qb, (second, (Ok union, (is, sym (ap (λ (r : Result (List ℕ) Fault). r >>= λ bytes. Ok (length union, bytes)) f)))))))) h
+-- the union is there, and what comes of it
+pub blocks_counted : (a b : List ℕ) (qa qb union : List Entry) (r : Result (ℕ × Vec ℕ) Fault) → IsFileAnswer a (Ok qa) → IsFileAnswer b (Ok qb) → IsUnion bytewise_cmp (qa ∷ qb ∷ []) union
+    → EqualOrMemory (λ v. (v.0, v.1.items)) r (counted union) → HoldsOrMemory (λ v. (v.0, v.1.items)) r (IsBlocksAnswer a b)
+blocks_counted a b qa qb union r first second is given =
+    holds_from (λ v. (v.0, v.1.items)) r (counted union) (IsBlocksAnswer a b) given (Ok qa, (first, (Ok qb, (second, (Ok union, (is, refl))))))
 
--- the union and its block are there
-pub block_written : (a b : List ℕ) (qa qb union : List Entry) (count : ℕ) (bytes : List ℕ) → IsFileAnswer a (Ok qa) → IsFileAnswer b (Ok qb) → IsUnion bytewise_cmp (qa ∷ qb ∷ []) union → count ≡ length union → block_within union ≡ Ok bytes → IsBlocksAnswer a b (Ok (count, bytes))
-block_written a b qa qb union count bytes first second is many f =
-    (Ok qa, (first, (Ok qb, (second, (Ok union, (is, ap (λ (n : ℕ). Ok (n, bytes)) many ∙ sym (ap (λ (r : Result (List ℕ) Fault). r >>= λ bytes. Ok (length union, bytes)) f)))))))
+-- the number of its entries and their block
+pub blocks_merged : (a b : List ℕ) (qa qb union : List Entry) (r : Result (ℕ × Vec ℕ) Fault) → IsBlock a qa → IsBlock b qb → IsUnion bytewise_cmp (qa ∷ qb ∷ []) union
+    → EqualOrMemory (λ v. (v.0, v.1.items)) r (counted union) → IfOk r (λ v. IsMerged a b v.0 v.1.items)
+blocks_merged a b qa qb union (Err e) first second is given = tt
+blocks_merged a b qa qb union (Ok v) first second is given =
+    let found = bind_ok (block_within union) (λ bytes. Ok (length union, bytes)) (v.0, v.1.items) given in
+    let same : (length union, found.0) ≡ (v.0, v.1.items) = ok_is (length union, found.0) (v.0, v.1.items) found.2 in
+    record {
+      entries_a = qa;
+      entries_b = qb;
+      block_a = first;
+      block_b = second;
+      union = union;
+      is_union = is;
+      counted = sym (ap (λ (p : ℕ × List ℕ). p.0) same);
+      written = sym (ap (λ (p : ℕ × List ℕ). p.1) same) ∙ block_of union found.0 found.1;
+    }

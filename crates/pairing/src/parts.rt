@@ -1,19 +1,22 @@
 //! What two files have in a range of user keys.
 
-ghost use Rattle.std.specs.Prelude.{◌≡◌, [], ◌∷◌, IfOk, Ok};
+ghost use Rattle.std.specs.Prelude.{◌≡◌, ◌≤◌, ◌++◌, [], ◌∷◌, IfErr, IfOk, None, Ok, OnOk, false, length, true};
 ghost use Rattle.std.specs.List.{AllByRecursion};
 ghost use Rattle.std.specs.Option.{option_map};
-ghost use Rattle.coding.specs.Answers.{EqualOrMemory};
+ghost use Rattle.block.specs.Piece.{Entry};
+ghost use Rattle.coding.specs.Answers.{EqualOrMemory, UnlessMemory, fault};
+ghost use Rattle.coding.specs.declared.fault.FaultName.TheVariants.{Duplicate};
 ghost use Rattle.ikey.specs.Bytewise.{bytewise_cmp};
 ghost use Rattle.table.specs.ReadingCursors.{NeverFalls};
 ghost use Rattle.merge.specs.Merged.{joined};
 ghost use Rattle.pairing.specs.Merging.{tested_entries, is_behind, union_of, IsLimited};
+ghost use Rattle.pairing.specs.Testing.{last_key};
 
 use crate::tested::TestedEntry;
 use crate::tested_cursor::TestedCursor;
-use crate::testing::last_of;
+use crate::testing::{last_of, push_entry};
 use coding::{Fault, FaultName};
-use ikey::{Bytewise, Comparator, InternalKey, KeyBuf};
+use ikey::{Bytewise, Comparator, InternalKey};
 use merge::Merging;
 use std::alloc::Global;
 use std::marker::Model;
@@ -57,12 +60,7 @@ impl<'r, 'a> Parts<'r, 'a> {
         let mut merging = Merging::<Bytewise, _>::new(alloc, self.cursors(alloc)?)?;
         let mut union = Vec::new(alloc);
         while merging.valid() {
-            if !is_behind(last_of(&union), &merging.key()) {
-                return Err(Fault::of(FaultName::Duplicate));
-            }
-            let value = merging.value();
-            let key = KeyBuf::of(alloc, merging.key())?;
-            union.push(TestedEntry { key, value })?;
+            push_behind(alloc, &mut union, merging.key(), merging.value())?;
             merging.advance()?;
         }
         Ok(union)
@@ -78,6 +76,26 @@ impl<'r, 'a> Parts<'r, 'a> {
         cursors.push(TestedCursor::new(self.b))?;
         Ok(cursors)
     }
+}
+
+/// Appends the entry of a key and a value. Refused as Duplicate where the version of the key isn't behind that of the last entry.
+fn push_behind<'a>(
+    alloc: Global,
+    union: &mut Vec<TestedEntry<'a>>,
+    key: InternalKey<'_>,
+    value: &'a [u8],
+) -> Result<(), Fault>
+    requires { length value.now ≤ 16777215 }
+    ensures behind { OnOk result (is_behind (last_key None (tested_entries union.old.items)) key.entry.bytes.now ≡ true) }
+    ensures ok { let entry : Entry = record { key = key.entry.bytes.now; value = value.now } in
+        OnOk result (tested_entries union.new.items ≡ tested_entries union.old.items ++ entry ∷ []) }
+    ensures refused { IfErr result (λ e. UnlessMemory e
+        ((is_behind (last_key None (tested_entries union.old.items)) key.entry.bytes.now ≡ false) × (e ≡ fault Duplicate))) }
+{
+    if !is_behind(last_of(union), &key) {
+        return Err(Fault::of(FaultName::Duplicate));
+    }
+    push_entry(alloc, union, key, value)
 }
 
 /// Whether the version of a key is behind that of the key before it, where there is one.

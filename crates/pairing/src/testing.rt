@@ -1,10 +1,11 @@
 //! The tests of a file of block contents.
 
-ghost use Rattle.std.specs.Prelude.{◌≡◌, IfOk, None};
+ghost use Rattle.std.specs.Prelude.{◌≡◌, ◌≤◌, ◌++◌, [], ◌∷◌, IfErr, IfOk, None, OnOk, length};
 ghost use Rattle.std.specs.Option.{option_map};
 ghost use Rattle.std.specs.Result.{result_map_both};
-ghost use Rattle.block.specs.Piece.{IsBlock};
-ghost use Rattle.coding.specs.Answers.{EqualOrMemory, HoldsOrMemory};
+ghost use Rattle.block.specs.Piece.{Entry, IsBlock};
+ghost use Rattle.coding.specs.Answers.{EqualOrMemory, HoldsOrMemory, fault};
+ghost use Rattle.coding.specs.declared.fault.FaultName.TheVariants.{Memory};
 ghost use Rattle.pairing.specs.Blocks.{IsFileAnswer};
 ghost use Rattle.pairing.specs.Merging.{tested_entries};
 ghost use Rattle.ikey.specs.Bytewise.{bytewise_cmp};
@@ -47,8 +48,7 @@ fn tested_all<'a>(alloc: Global, mut cursor: BlockCursor<'a>) -> Result<Vec<Test
     while cursor.valid() {
         let value = cursor.value();
         let tested = test_entry(last_of(&entries), cursor.key(), value)?;
-        let key = KeyBuf::of(alloc, tested)?;
-        entries.push(TestedEntry { key, value })?;
+        push_entry(alloc, &mut entries, tested, value)?;
         cursor.advance()?;
     }
     Ok(entries)
@@ -73,4 +73,21 @@ fn test_entry<'k>(
         )),
         _ => Ok(key),
     }
+}
+
+/// Appends the entry of a key and a value. Memory alone refuses.
+pub(crate) fn push_entry<'a>(
+    alloc: Global,
+    entries: &mut Vec<TestedEntry<'a>>,
+    key: InternalKey<'_>,
+    value: &'a [u8],
+) -> Result<(), Fault>
+    requires { length value.now ≤ 16777215 }
+    ensures ok { let entry : Entry = record { key = key.entry.bytes.now; value = value.now } in
+        OnOk result (tested_entries entries.new.items ≡ tested_entries entries.old.items ++ entry ∷ []) }
+    ensures memory { IfErr result (λ e. e ≡ fault Memory) }
+{
+    let key = KeyBuf::of(alloc, key)?;
+    entries.push(TestedEntry { key, value })?;
+    Ok(())
 }

@@ -2,7 +2,7 @@
 
 ghost use Rattle.std.specs.Prelude.{IfOk, Ok, map};
 ghost use Rattle.coding.specs.Answers.{EqualOrMemory, HoldsOrMemory};
-ghost use Rattle.pairing.specs.Blocks.{IsBlocksAnswer, IsMerged, IsUnionAnswer, block_within};
+ghost use Rattle.pairing.specs.Blocks.{IsBlocksAnswer, IsMerged, IsUnionAnswer, block_within, counted};
 ghost use Rattle.ikey.specs.Bytewise.{bytewise_cmp};
 ghost use Rattle.merge.specs.Merged.{joined};
 ghost use Rattle.table.specs.ReadingCursors.{IsRising};
@@ -48,8 +48,15 @@ pub fn blocks<R: Threads + Sync>(
     let entries_a = tested(alloc, a)?;
     let entries_b = tested(alloc, b)?;
     let entries = united(rt, alloc, &entries_a, &entries_b, at)?;
+    counted(alloc, &entries)
+}
+
+/// The number of entries, and their block. Refused as the block is.
+fn counted(alloc: Global, entries: &[TestedEntry<'_>]) -> Result<(u64, Vec<u8>), Fault>
+    ensures { EqualOrMemory (λ r. (r.0, r.1.items)) result (counted (tested_entries entries.now)) }
+{
     let count = entries.len() as u64;
-    let block = written(alloc, &entries)?;
+    let block = written(alloc, entries)?;
     Ok((count, block))
 }
 

@@ -1,13 +1,11 @@
 use Rattle.std.proofs.Common.{◌≡◌, ◌∷◌, ◌++◌, [], List, ℕ, None, Option, Ok, Err, sym, ap, subst, ◌∙◌}
 use Rattle.std.proofs.lemmas.Result.{err_from_is_err_and}
-use Rattle.std.proofs.lemmas.List.{map_push}
 use Rattle.coding.specs.declared.fault.Fault.{Fault}
 use Rattle.coding.proofs.Refusals.{FailsOrMemory-from}
 use Rattle.block.specs.Piece.{Entry}
-use Rattle.pairing.specs.Merging.{tested_entry, tested_entries}
+use Rattle.pairing.specs.Merging.{tested_entries}
 use Rattle.pairing.specs.declared.tested.TestedEntry.{TestedEntry}
 use Rattle.pairing.specs.Testing.{entry_test, tested_after, last_key}
-use Rattle.coding.proofs.Binds.{ok_is}
 use Rattle.pairing.proofs.TestedLists.{first_entry, goes_on, ends, with_front, entry_test_same}
 use Rattle.pairing.proofs.testing.tested_all.Goals as goal
 
@@ -27,10 +25,10 @@ loop-alloc-preserved c =
     let passed : Ok c.in_ok-tested.tested.bytes.now ≡ entry_test (last_key None (tested_entries c.loop-alloc.entries.items)) c.key.result.now c.value-value.result.now =
     c.in_ok-tested.ensures ∙ ap (λ (b : Option (List ℕ)). entry_test b c.key.result.now c.value-value.result.now) c.last_of.ensures
     ∙ ap (λ (ts : List TestedEntry). entry_test (last_key None (tested_entries ts)) c.key.result.now c.value-value.result.now) c.deref.ensures.value in
-    let same : c.key.result.now ≡ c.in_ok-key.key = entry_test_same (last_key None (tested_entries c.loop-alloc.entries.items)) c.key.result.now c.value-value.result.now c.in_ok-tested.tested.bytes.now (sym passed) ∙ ok_is c.in_ok-tested.tested.bytes.now c.in_ok-key.key c.in_ok-key.ensures in
+    let same : c.key.result.now ≡ c.in_ok-tested.tested.bytes.now = entry_test_same (last_key None (tested_entries c.loop-alloc.entries.items)) c.key.result.now c.value-value.result.now c.in_ok-tested.tested.bytes.now (sym passed) in
     let entry : List ℕ → Entry = λ k. record { key = k; value = c.value-value.result.now } in
-    let pushed : tested_entries c.push.new.self.items ≡ tested_entries c.loop-alloc.entries.items ++ entry c.key.result.now ∷ [] =
-    ap tested_entries c.in_ok-push.ensures.items ∙ map_push tested_entry c.loop-alloc.entries.items _ ∙ ap (λ (k : List ℕ). tested_entries c.loop-alloc.entries.items ++ entry k ∷ []) (sym same) in
+    let pushed : tested_entries c.push_entry.new.entries.items ≡ tested_entries c.loop-alloc.entries.items ++ entry c.key.result.now ∷ [] =
+    c.in_ok-push_entry.ensures.ok ∙ ap (λ (k : List ℕ). tested_entries c.loop-alloc.entries.items ++ entry k ∷ []) (sym same) in
     let on = goes_on (tested_entries c.loop-alloc.entries.items) c.loop-alloc.cursor c.key.result.now c.value-value.result.now c.in_ok-tested.tested.bytes.now (tested_after None c.args.cursor) first passed c.loop-alloc.invariant in
     subst (λ (es : List Entry). with_front es (tested_after (last_key None es) c.advance.new.self) ≡ tested_after None c.args.cursor) (sym pushed)
     (subst (λ (q : List Entry). with_front (tested_entries c.loop-alloc.entries.items ++ entry c.key.result.now ∷ []) (tested_after (last_key None (tested_entries c.loop-alloc.entries.items ++ entry c.key.result.now ∷ [])) q) ≡ tested_after None c.args.cursor) (sym c.in_ok-advance.ensures.ok) on)

@@ -111,10 +111,11 @@ impl<'a> FolderTexts<'a> {
         ensures { let rows = rows_of (found_of values.now) in
             MatchOption result (LacksPath (codes "DIR") rows) (λ texts. HasFolder texts.folder.now texts.verbose rows) }
     {
-        Some(FolderTexts {
-            folder: first_text(values, "DIR")?,
-            verbose: is_flagged(values, "verbose"),
-        })
+        let Some(folder) = first_text(values, "DIR") else {
+            return None;
+        };
+        let verbose = is_flagged(values, "verbose");
+        Some(FolderTexts { folder, verbose })
     }
 }
 
@@ -232,7 +233,10 @@ fn blocks_texts<'a>(matches: &ArgMatches<'a>) -> Option<BlocksTexts<'a>>
         MatchOption result (LacksRows LacksBlocks given)
         (λ texts. HasRows (HasBlocks texts.a.now texts.b.now texts.at.now texts.out.now) given) }
 {
-    BlocksTexts::of(matches.subcommand_matches("blocks")?)
+    let Some(values) = matches.subcommand_matches("blocks") else {
+        return None;
+    };
+    BlocksTexts::of(values)
 }
 
 /// What `get` is given, where that is the command and its texts are there.
@@ -241,7 +245,10 @@ fn get_texts<'a>(matches: &ArgMatches<'a>) -> Option<GetTexts<'a>>
         MatchOption result (LacksRows LacksGet given)
         (λ texts. HasRows (HasGet texts.folder.now texts.key.now texts.at texts.verbose) given) }
 {
-    GetTexts::of(matches.subcommand_matches("get")?)
+    let Some(values) = matches.subcommand_matches("get") else {
+        return None;
+    };
+    GetTexts::of(values)
 }
 
 /// What a command on a folder alone is given, where that is the command and its text is there.
@@ -250,7 +257,10 @@ fn folder_texts<'a>(matches: &ArgMatches<'a>, name: &str) -> Option<FolderTexts<
         MatchOption result (LacksRows (LacksPath (codes "DIR")) given)
         (λ texts. HasRows (HasFolder texts.folder.now texts.verbose) given) }
 {
-    FolderTexts::of(matches.subcommand_matches(name)?)
+    let Some(values) = matches.subcommand_matches(name) else {
+        return None;
+    };
+    FolderTexts::of(values)
 }
 
 /// The text of the one argument of a command, where that is the command and the text is there.
@@ -258,7 +268,10 @@ fn path_text<'a>(matches: &ArgMatches<'a>, name: &str, id: &str) -> Option<&'a s
     ensures { let given = rows_under name.now (subcommand_rows_of matches.now) in
         MatchOption result (LacksRows (LacksPath id.now) given) (λ text. HasRows (HasPath id.now text.now) given) }
 {
-    first_text(matches.subcommand_matches(name)?, id)
+    let Some(values) = matches.subcommand_matches(name) else {
+        return None;
+    };
+    first_text(values, id)
 }
 
 /// The line of `blocks`, where the text of its key is a key's.

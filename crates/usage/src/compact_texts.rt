@@ -143,5 +143,8 @@ pub(crate) fn compact_texts<'a>(matches: &ArgMatches<'a>) -> Option<CompactTexts
         (λ texts. HasRows (HasCompact texts.folder.now texts.levels texts.numbers texts.readable.since
         (option_map (λ text. text.now) texts.readable.listed) texts.verbosity) given) }
 {
-    CompactTexts::of(matches.subcommand_matches("compact")?)
+    let Some(values) = matches.subcommand_matches("compact") else {
+        return None;
+    };
+    CompactTexts::of(values)
 }

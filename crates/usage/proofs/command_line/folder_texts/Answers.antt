@@ -7,6 +7,6 @@ use Rattle.usage.proofs.command_line.folder_texts.Goals as goal
 pub returns : goal.returns
 returns c =
     let m = c.args.matches.now in
-    let values = c.in_ok-subcommand_matches.ensures in
-    MatchOption-rows _ (rows_of (found_of c.in_ok-subcommand_matches.field-0.now)) _ (LacksPath (codes "DIR")) (λ texts. HasFolder texts.folder.now texts.verbose)
+    let values = c.in-Some.ensures in
+    MatchOption-rows _ (rows_of (found_of c.in-Some.values.now)) _ (LacksPath (codes "DIR")) (λ texts. HasFolder texts.folder.now texts.verbose)
     (rows_under-named c.args.name.now (subcommand_rows_of m) _ (sym (subcommand_name_of-rows m) ∙ values.found.0 refl) values.rows) c.of.ensures

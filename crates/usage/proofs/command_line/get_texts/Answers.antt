@@ -7,6 +7,6 @@ use Rattle.usage.proofs.command_line.get_texts.Goals as goal
 pub returns : goal.returns
 returns c =
     let m = c.args.matches.now in
-    let values = c.in_ok-subcommand_matches.ensures in
-    MatchOption-rows _ (rows_of (found_of c.in_ok-subcommand_matches.field-0.now)) _ LacksGet (λ texts. HasGet texts.folder.now texts.key.now texts.at texts.verbose)
+    let values = c.in-Some.ensures in
+    MatchOption-rows _ (rows_of (found_of c.in-Some.values.now)) _ LacksGet (λ texts. HasGet texts.folder.now texts.key.now texts.at texts.verbose)
     (rows_under-named (codes "get") (subcommand_rows_of m) _ (sym (subcommand_name_of-rows m) ∙ values.found.0 refl) values.rows) c.of.ensures

@@ -58,8 +58,23 @@ fn account_by<C: Comparator, F: Folder>(
 {
     let picked = inputs::<C>(alloc, before, level)?;
     let outputs = outputs_of::<C>(alloc, after, before.next_file().unwrap_or(0))?;
-    let entries = entries_of::<C, F>(alloc, folder, &picked.files, &outputs, ranges)?;
-    let levels = levels_of(alloc, &picked.files, level)?;
+    account_from::<C, F>(alloc, folder, &picked.files, outputs, level, ranges)
+}
+
+/// The account of inputs and outputs.
+fn account_from<C: Comparator, F: Folder>(
+    alloc: Global,
+    folder: &mut F,
+    files: &[InputFile],
+    outputs: Vec<Output>,
+    level: u64,
+    ranges: u64,
+) -> Result<Account, Fault>
+    ensures same { TellsSame (F.tells folder.old) (F.tells folder.new) }
+    ensures calls { F.calls folder.new ≡ F.calls folder.old }
+{
+    let entries = entries_of::<C, F>(alloc, folder, files, &outputs, ranges)?;
+    let levels = levels_of(alloc, files, level)?;
     Ok(account(levels, entries, outputs))
 }
 

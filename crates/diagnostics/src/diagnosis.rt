@@ -9,7 +9,7 @@ use edit::{FileMeta, Version};
 use folder::{CURRENT, Folder, Order, open, table_name};
 use ikey::{Bytewise, Comparator, InternalKey, Shortlex};
 use std::alloc::Global;
-use table::{SoundTable, check};
+use table::check;
 
 /// How many levels a version has.
 pub(crate) const LEVELS: u64 = 7;
@@ -58,8 +58,16 @@ fn opening_file<F: Folder>(alloc: Global, folder: &mut F) -> Result<String, Faul
 
 /// The manifest that the bytes of CURRENT name.
 fn manifest_named(bytes: &[u8]) -> Option<&str> {
-    let name = str::from_utf8(bytes).ok()?.strip_suffix("\n")?;
-    let digits = name.strip_prefix("MANIFEST-")?.as_bytes();
+    let Ok(text) = str::from_utf8(bytes) else {
+        return None;
+    };
+    let Some(name) = text.strip_suffix("\n") else {
+        return None;
+    };
+    let Some(digits) = name.strip_prefix("MANIFEST-") else {
+        return None;
+    };
+    let digits = digits.as_bytes();
     if digits.len() < 6 {
         return None;
     }
@@ -89,21 +97,39 @@ fn refused_table<C: Comparator, F: Folder>(
 {
     let mut tables = Vec::new(alloc);
     for level in 0..LEVELS {
-        for file in version.files::<C>(alloc, level)? {
-            match table_file(alloc, folder, file.number)? {
-                Some(table) => tables.push(ListedTable {
-                    meta: file,
-                    file: table,
-                })?,
-                None => {
-                    let name = table_name(alloc, file.number)?;
-                    let fault = Fault::of(FaultName::Missing);
-                    return Ok(Some(RefusedFile { name, fault }));
-                }
-            }
+        let files = version.files::<C>(alloc, level)?;
+        let missing = push_tables(alloc, folder, &files, &mut tables)?;
+        if missing.is_some() {
+            return Ok(missing);
         }
     }
     first_refused::<C>(alloc, &tables)
+}
+
+/// Appends the tables of files. Answers the first that isn't there, where there is one.
+fn push_tables<'v, F: Folder>(
+    alloc: Global,
+    folder: &mut F,
+    files: &[&'v FileMeta],
+    tables: &mut Vec<ListedTable<'v>>,
+) -> Result<Option<RefusedFile>, Fault>
+    ensures same { TellsSame (F.tells folder.old) (F.tells folder.new) }
+    ensures calls { F.calls folder.new ≡ F.calls folder.old }
+{
+    for meta in files {
+        match table_file(alloc, folder, meta.number)? {
+            Some(file) => tables.push(ListedTable { meta, file })?,
+            None => return missing(alloc, meta.number),
+        }
+    }
+    Ok(None)
+}
+
+/// The table of a number, which isn't there.
+fn missing(alloc: Global, number: u64) -> Result<Option<RefusedFile>, Fault> {
+    let name = table_name(alloc, number)?;
+    let fault = Fault::of(FaultName::Missing);
+    Ok(Some(RefusedFile { name, fault }))
 }
 
 /// A table that is there.
@@ -140,29 +166,32 @@ fn first_refused<C: Comparator>(
 ) -> Result<Option<RefusedFile>, Fault> {
     let mut unlike = None;
     for table in tables {
-        match check::<C>(alloc, &table.file.bytes) {
-            Ok(sound) if unlike.is_none() && !is_as_stated(table.meta, &sound) => {
-                unlike = Some(table);
-            }
-            Ok(_) => {}
-            Err(fault) => return Ok(Some(named(alloc, table, fault)?)),
+        match is_as_stated::<C>(alloc, table) {
+            Ok(true) => {}
+            Ok(false) => unlike = unlike.or(Some(table)),
+            Err(fault) => return named(alloc, table, fault),
         }
     }
     match unlike {
-        Some(table) => Ok(Some(named(alloc, table, Fault::of(FaultName::Bounds))?)),
+        Some(table) => named(alloc, table, Fault::of(FaultName::Bounds)),
         None => Ok(None),
     }
 }
 
 /// A table that is refused, by its name.
-fn named(alloc: Global, table: &ListedTable<'_>, fault: Fault) -> Result<RefusedFile, Fault> {
+fn named(
+    alloc: Global,
+    table: &ListedTable<'_>,
+    fault: Fault,
+) -> Result<Option<RefusedFile>, Fault> {
     let name = String::from_str(alloc, table.file.name.as_str())?;
-    Ok(RefusedFile { name, fault })
+    Ok(Some(RefusedFile { name, fault }))
 }
 
-/// Whether a table has the size and the smallest and the largest key that the manifest says.
-fn is_as_stated<C: Comparator>(meta: &FileMeta, table: &SoundTable<'_, C>) -> bool {
-    is_stated(meta, table.bytes(), table.smallest(), table.largest())
+/// Whether a table has the size and the smallest and the largest key that the manifest says. Refused where it is none.
+fn is_as_stated<C: Comparator>(alloc: Global, table: &ListedTable<'_>) -> Result<bool, Fault> {
+    let sound = check::<C>(alloc, &table.file.bytes)?;
+    Ok(is_stated(table.meta, sound.bytes(), sound.smallest(), sound.largest()))
 }
 
 /// Whether the manifest says this length, this first and this last key: what a lawful version asks of a file whose number is below
@@ -187,11 +216,32 @@ pub fn log_with_writes<F: Folder>(alloc: Global, folder: &mut F) -> Result<Optio
     ensures same { TellsSame (F.tells folder.old) (F.tells folder.new) }
     ensures calls { F.calls folder.new ≡ F.calls folder.old }
 {
+    let number = log_number(alloc, folder)?;
+    let name = format!(in alloc; "{number:06}.log")?;
+    if holds_bytes(folder, name.as_str())? {
+        Ok(Some(name))
+    } else {
+        Ok(None)
+    }
+}
+
+/// Whether a folder has a file of this name that isn't empty.
+fn holds_bytes<F: Folder>(folder: &mut F, name: &str) -> Result<bool, Fault>
+    ensures same { TellsSame (F.tells folder.old) (F.tells folder.new) }
+    ensures calls { F.calls folder.new ≡ F.calls folder.old }
+{
+    match folder.read(name)? {
+        Some(bytes) => Ok(!bytes.is_empty()),
+        None => Ok(false),
+    }
+}
+
+/// The number of the log that a folder's manifest names, 0 where it names none. Refused as opening the folder is.
+fn log_number<F: Folder>(alloc: Global, folder: &mut F) -> Result<u64, Fault>
+    ensures same { TellsSame (F.tells folder.old) (F.tells folder.new) }
+    ensures calls { F.calls folder.new ≡ F.calls folder.old }
+{
     let (_, version) = open(alloc, folder)?;
     let number = version.log_number().unwrap_or(0);
-    let name = format!(in alloc; "{number:06}.log")?;
-    match folder.read(name.as_str())? {
-        Some(bytes) if !bytes.is_empty() => Ok(Some(name)),
-        _ => Ok(None),
-    }
+    Ok(number)
 }

@@ -7,9 +7,3 @@ invariant-loop-level g l =
     let tells = g.F.Folder.tells in
     let calls = g.F.Folder.calls in
     record { same : TellsSame (tells l.fn.folder) (tells l.folder); calls : calls l.folder ≡ calls l.fn.folder }
-
-abbrev pub invariant-loop-file : goal.invariant-loop-file
-invariant-loop-file g l =
-    let tells = g.F.Folder.tells in
-    let calls = g.F.Folder.calls in
-    record { same : TellsSame (tells l.fn.folder) (tells l.folder); calls : calls l.folder ≡ calls l.fn.folder }

@@ -1,7 +1,20 @@
-use Rattle.std.proofs.Common.{◌≡◌, ◌<◌, ◌∙◌, length, vec_len, subst, arith, rules}
+use Rattle.std.proofs.Common.{◌≡◌, ◌<◌, ◌∙◌, ℕ, List, Option, None, length, replicate, vec_len, sym, ap, subst, arith, rules}
+use Rattle.std.proofs.Math.ListN.{length-replicate}
+use Rattle.board.specs.Progress.{Progress}
 use Rattle.board.specs.Running.{IsRefused}
-use Rattle.board.proofs.Filing.{refused_least, each_placed}
+use Rattle.board.specs.Working.{IsFiled}
+use Rattle.board.proofs.Filing.{files_none, refused_least, each_placed}
 use Rattle.board.proofs.pool.run_board.Goals as goal
+
+pub file_all-refused-requires-clause-places : goal.file_all-refused-requires-clause-places
+file_all-refused-requires-clause-places g c =
+    let O = g.row.L-Out.Denot in
+    let refusal = g.L.Labour.refusal c.args.labour.now in
+    let gives = g.L.Labour.gives c.args.labour.now in
+    let places = c.in_ok-places.places.items in
+    let is : places ≡ replicate c.args.board.jobs None = c.in_ok-places.ensures ∙ ap (λ (n : ℕ). replicate {A = Option O} n None) (sym c.requires.jobs.0) in
+    let long : length places ≡ c.args.board.jobs = ap (λ (l : List (Option O)). length l) is ∙ length-replicate {A = Option O} c.args.board.jobs None in
+    subst (λ (ps : List Progress). IsFiled refusal gives c.args.board ps places None) (sym c.in_ok-back.ensures.items) (files_none refusal gives c.args.board places is long)
 
 pub returns-in-Some-clause-refused : goal.returns-in-Some-clause-refused
 returns-in-Some-clause-refused g c =

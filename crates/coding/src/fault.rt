@@ -5,115 +5,81 @@ ghost use Rattle.coding.specs.Answers.{code_of, fault};
 ghost use Rattle.coding.specs.declared.fault.FaultName.TheVariants.{Memory};
 
 use std::alloc::{AllocError, AllocFailed};
-use thiserror::Error;
+use std::error::Error;
+use std::fmt::{self, Debug, Display, Formatter, Write};
 
-/// What is wrong, by name. A fault prints its name alone.
-#[derive(Clone, Copy, Debug, PartialEq, Eq, Error)]
+/// What is wrong, by name. It prints as its name alone.
+#[derive(Clone, Copy, Debug, PartialEq, Eq)]
 pub enum FaultName {
     /// There is no file to compact.
-    #[error("NoInput")]
     NoInput,
     /// A level above 5 was asked for, or an input's level is neither the level nor the next.
-    #[error("Level")]
     Level,
     /// An option is outside its limits, or the inputs are too many or don't fit together.
-    #[error("Options")]
     Options,
     /// Boundaries of ranges don't rise strictly.
-    #[error("SplitOrder")]
     SplitOrder,
     /// There are more than 4,095 boundaries, or a wanted number of ranges is outside 1 to 4,096.
-    #[error("SplitCount")]
     SplitCount,
     /// The number of workers is outside 1 to 64.
-    #[error("Workers")]
     Workers,
     /// The oldest snapshot or the last sequence is 2^56 - 1 or more.
-    #[error("Snapshot")]
     Snapshot,
     /// A table has more than 2^30 bytes.
-    #[error("Size")]
     Size,
     /// A table has fewer than the 48 bytes of its footer.
-    #[error("Short")]
     Short,
     /// A table doesn't end with the magic number.
-    #[error("Magic")]
     Magic,
     /// A block handle has no reading.
-    #[error("Handle")]
     Handle,
     /// A block handle points outside its file.
-    #[error("Range")]
     Range,
     /// The checksum behind a block isn't that of the block.
-    #[error("Trailer")]
     Trailer,
     /// A block is compressed.
-    #[error("Compressed")]
     Compressed,
     /// A block is of an unknown type.
-    #[error("BlockType")]
     BlockType,
     /// Bytes are no block.
-    #[error("Block")]
     Block,
     /// Bytes are no internal key.
-    #[error("Key")]
     Key,
     /// An index key doesn't lie between its block's last key and the next block's first.
-    #[error("Index")]
     Index,
     /// Keys don't rise strictly.
-    #[error("Order")]
     Order,
     /// A table, or a block of it, has no entry.
-    #[error("Empty")]
     Empty,
     /// A file's size, smallest or largest key isn't that of its table.
-    #[error("Bounds")]
     Bounds,
     /// One user key and sequence come twice.
-    #[error("Duplicate")]
     Duplicate,
     /// File numbers would pass 2^64 - 1.
-    #[error("Numbers")]
     Numbers,
     /// A user key, a value or what is to be written is over its limit.
-    #[error("TooLarge")]
     TooLarge,
     /// Listed snapshots are more than 4,096, don't rise strictly, or one is above the last sequence.
-    #[error("SnapshotList")]
     SnapshotList,
     /// The checksum of a log's fragment isn't that of its bytes.
-    #[error("LogChecksum")]
     LogChecksum,
     /// Bytes aren't laid out as a log.
-    #[error("LogShape")]
     LogShape,
     /// A version edit has an unknown tag.
-    #[error("EditTag")]
     EditTag,
     /// A field of a version edit has no reading.
-    #[error("EditField")]
     EditField,
     /// A comparator's name is missing or isn't the one that is needed.
-    #[error("Comparator")]
     Comparator,
     /// An edit doesn't fit the version, or a folder's manifest lacks what is needed.
-    #[error("Apply")]
     Apply,
     /// A version isn't lawful.
-    #[error("Lawless")]
     Lawless,
     /// The device failed.
-    #[error("Device")]
     Device,
     /// A file or a table that is named isn't there.
-    #[error("Missing")]
     Missing,
     /// A growth of memory was refused.
-    #[error("Memory")]
     Memory,
 }
 
@@ -162,8 +128,16 @@ impl FaultName {
     }
 }
 
+impl Display for FaultName {
+    fn fmt<W: Write>(&self, f: &mut Formatter<W>) -> fmt::Result {
+        Debug::fmt(self, f)
+    }
+}
+
+impl Error for FaultName {}
+
 /// A named refusal, with the position of the input that it is about, where it is about one.
-#[derive(Clone, Copy, Debug, PartialEq, Eq, Error)]
+#[derive(Clone, Copy, Debug, PartialEq, Eq, thiserror::Error)]
 #[error("{name}")]
 pub struct Fault {
     /// What is wrong.

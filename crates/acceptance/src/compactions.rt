@@ -4,6 +4,7 @@ use crate::calls::{level_compacted, shown, verified, version_of};
 use crate::folders::{Get, Kept, compare_gets, gets_of};
 use crate::{file, refused};
 use anyhow::{Context, Result};
+use coding::Fault;
 use std::rt::Files;
 use std::thread::Threads;
 use store::Settings;
@@ -38,25 +39,31 @@ fn print_compaction<R: Files + AllocGlobal + Print + Threads + Sync>(
     name: &str,
     kept: Kept,
 ) -> Result<()> {
-    let (steps, line) = compacted(rt, name, kept)?;
+    let steps = compacted(rt, name, kept)?;
+    check_bottom(rt, name)?;
+    let line = verified(rt, name)?;
+    let line = str::from_utf8(&line)?;
     let gets = kept.gets();
     print!(rt; "{name}: compacted in {steps} steps, {gets} as before, {line}")?;
     Ok(())
 }
 
 /// Compacts a folder until all its files are at the last level, and compares after each step what it answers with what is wanted
-/// of it: of each get that has to stay. Answers how many steps there were, and what `verify` tells at the end.
+/// of it: of each get that has to stay. Answers how many steps there were.
 fn compacted<R: Files + AllocGlobal + Threads + Sync>(
     rt: &R,
     name: &str,
     kept: Kept,
-) -> Result<(u64, String)> {
+) -> Result<u64> {
     let text = file(rt, name, "gets")?;
     let gets = gets_of(rt.alloc(), str::from_utf8(&text)?)?;
-    let steps = all_compacted(rt, name, kept, &gets)?;
-    check_bottom(rt, name)?;
-    let line = verified(rt, name)?;
-    Ok((steps, String::from_str(rt.alloc(), str::from_utf8(&line)?)?))
+    all_compacted(rt, name, kept, &gets)
+}
+
+/// The first level of a folder above the bottom that has a file.
+fn level_left<R: Files + AllocGlobal>(rt: &R, folder: &str) -> Result<Option<u64>, Fault> {
+    let version = version_of(rt, folder)?;
+    next_level(rt.alloc(), &version, BOTTOM)
 }
 
 /// Compacts the first level that has a file, again and again until all files are at the bottom, and answers how often.
@@ -67,8 +74,7 @@ fn all_compacted<R: Files + AllocGlobal + Threads + Sync>(
     gets: &[Get<'_>],
 ) -> Result<u64> {
     for step in 0..MOST_STEPS {
-        let version = version_of(rt, folder)?;
-        let Some(level) = next_level(rt.alloc(), &version, BOTTOM)? else {
+        let Some(level) = level_left(rt, folder)? else {
             return Ok(step);
         };
         make_step(rt, folder, level, kept, gets)?;

@@ -64,14 +64,23 @@ fn add(builder: &mut TableBuilder<Bytewise>, key: InternalKey<'_>, value: &[u8])
     Ok(builder.add(key, value)?)
 }
 
+/// Adds the entries of a cursor to a table.
+fn add_all(
+    builder: &mut TableBuilder<Bytewise>,
+    cursor: &mut TableCursor<'_, Bytewise>,
+) -> Result<()> {
+    while cursor.valid() {
+        add(builder, cursor.key(), cursor.value())?;
+        cursor.advance()?;
+    }
+    Ok(())
+}
+
 /// The table of the entries of a table.
 fn built_again(alloc: Global, bytes: &[u8], options: Options) -> Result<Vec<u8>> {
     let mut cursor = entries_of(alloc, bytes)?;
     let mut builder = builder_by(alloc, options)?;
-    while cursor.valid() {
-        add(&mut builder, cursor.key(), cursor.value())?;
-        cursor.advance()?;
-    }
+    add_all(&mut builder, &mut cursor)?;
     Ok(builder.finish()?)
 }
 

@@ -1,5 +1,6 @@
-//! The tests of `table`, of what stands on it, `split` and `merge`, and of `edit` and `pick`: tables written, read and sought, ranges
-//! that are chosen, cursors walked as one, edits and the versions after them, and what a compaction takes.
+//! The tests of `table`, of what stands on it, `split`, `merge` and `pairing`, and of `board`, `edit` and `pick`: tables written, read and
+//! sought, ranges that are chosen, cursors walked as one, which seat draws what and what several workers answer together, two blocks that
+//! are merged into one by workers, edits and the versions after them, and what a compaction takes.
 #![tactic(auto)]
 
 #[cfg(test)]
@@ -9,7 +10,11 @@ mod choices;
 #[cfg(test)]
 mod edits;
 #[cfg(test)]
+mod jobs;
+#[cfg(test)]
 mod merges;
+#[cfg(test)]
+mod pairs;
 #[cfg(test)]
 mod reading;
 #[cfg(test)]

@@ -1,5 +1,5 @@
 use Rattle.std.proofs.Common.{◌≡◌, ◌-◌, length}
-use Rattle.board_tests.proofs.jobs.spend_all.Given as goal
+use Rattle.table_tests.proofs.jobs.spend_all.Given as goal
 
 abbrev pub invariant-loop-job : goal.invariant-loop-job
 invariant-loop-job l = l.seat.board ≡ l.board

@@ -16,6 +16,7 @@ pub mod TableLengths
 pub mod Planned
 pub mod BlockSums
 pub mod PiecePlaces
+pub mod Dealt
 pub mod PlanPieces
 pub mod ReadyPieces
 pub mod Collected

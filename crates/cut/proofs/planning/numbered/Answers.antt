@@ -1,4 +1,4 @@
-use Rattle.std.proofs.Common.{◌≡◌, ◌+◌, ◌++◌, ◌∷◌, [], List, ℕ, length, sym, ap, ◌∙◌, rules, arith}
+use Rattle.std.proofs.Common.{◌≡◌, ◌+◌, ◌++◌, ◌∷◌, [], List, ℕ, length, sym, ap, ◌∙◌, arith}
 use Rattle.std.proofs.lemmas.List.{length_push}
 use Rattle.table.specs.Table.{IndexKeys, index_keys}
 use Rattle.keep.proofs.OnAnswers.{same_ok}
@@ -17,7 +17,7 @@ loop-blocks-preserved g c =
     let len : ℕ = c.in_ok-len.len in
     let len_is : len ≡ size b.items = sym (same_ok _ _ c.in_ok-len.ensures) ∙ ap size c.deref.ensures.value in
     let before : List PlannedOutput = numbered_from size first c.loop-blocks.yielded in
-    let pushed : c.push.new.self.items ≡ c.loop-blocks.outputs.items ++ record { number = c.loop-blocks.number; blocks = b; len = len } ∷ [] = search rules in
+    let pushed : c.push.new.self.items ≡ c.loop-blocks.outputs.items ++ record { number = c.loop-blocks.number; blocks = b; len = len } ∷ [] = c.in_ok-push.ensures.items in
     record {
       outputs =
           pushed

@@ -1,4 +1,4 @@
-use Rattle.std.proofs.Common.{◌∙◌, arith}
+use Rattle.std.proofs.Common.{◌∙◌, arith, rules}
 use Rattle.folder.proofs.CountLemmas.{count_later, later_still, read_same, read_stops, stops_since}
 use Rattle.folder.proofs.LoadingLemmas.{told_since}
 use Rattle.folder.proofs.loading.table.Goals as goal
@@ -54,3 +54,6 @@ returns-clause-at_once g c =
     let failed = g.F.Folder.failed in
     stops_since (failed c.args.folder.now) (failed c.read.new.self) (failed c.held.new.folder) c.held.result
     (read_same (failed c.args.folder.now) (failed c.read.new.self) _ c.read.result c.in_ok-bytes.was c.read.ensures.failures) c.held.ensures.at_once
+
+pub returns-in-Some-clause-answer : goal.returns-in-Some-clause-answer
+returns-in-Some-clause-answer g c = search rules

@@ -1,4 +1,4 @@
-use Rattle.std.proofs.Common.{◌≡◌, ℕ, ◌-◌, ◌^◌, ◌≤◌, nat_le, Bool, List, length, drop, Result, Ok, sym, ap, ◌∙◌, arith}
+use Rattle.std.proofs.Common.{◌≡◌, ℕ, ◌-◌, ◌^◌, ◌≤◌, nat_le, Bool, List, length, drop, Result, Ok, sym, ap, ◌∙◌, arith, rules}
 use Rattle.std.proofs.lemmas.Bool.{le-leb}
 use Rattle.std.proofs.lemmas.Result.{err_from_is_err_and}
 use Rattle.coding.specs.Answers.{◌>>=◌}
@@ -64,3 +64,6 @@ returns-in_err-index c =
     ∙ ap (λ (r : Result (List ℕ) Fault). r >>= behind_metaindex bytes footer) (sym c.in_ok-metaindex.ensures.reading)
     ∙ ap (λ (r : Result (List ℕ) Fault). r >>= of_blocks metaindex) (sym c.in_err-index.ensures.reading) in
     handed_on (λ block. block.entries) c.from_residual-in_err-index.result p.0 d (index_in bytes) p.1 p.2 (FailsOrMemory-from d (index_in bytes) total)
+
+pub returns : goal.returns
+returns c = search rules

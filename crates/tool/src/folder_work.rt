@@ -1,5 +1,7 @@
 //! The work on a folder, from its path to what is printed.
 
+ghost use Rattle.std.specs.Prelude.{◌≤◌, IfOk};
+
 use crate::files;
 use crate::progress_line::ProgressLine;
 use account::{Account, text};
@@ -104,17 +106,37 @@ fn compact_all<R: Files + WholeFiles + Print + Eprint + Clock + AllocGlobal + Th
     telling: Telling<'_>,
     settings: &CompactSettings,
 ) -> Result<(), Fault> {
-    let alloc = rt.alloc();
-    let version = opened(rt, telling)?;
-    let bottom = bottom(alloc, &version)?;
+    let bottom = bottom_of(rt, telling)?;
     for _ in 0..u64::MAX {
-        let version = opened(rt, telling)?;
-        let Some(level) = next_level(alloc, &version, bottom)? else {
+        let Some(level) = next_level_of(rt, telling, bottom)? else {
             break;
         };
         compact_level(rt, telling, level, settings)?;
     }
     Ok(())
+}
+
+/// The level at which all files of a folder are in the end.
+fn bottom_of<R: Files + Eprint + Clock + AllocGlobal>(
+    rt: &R,
+    telling: Telling<'_>,
+) -> Result<u64, Fault>
+    ensures { IfOk result (λ bottom. bottom ≤ 6) }
+{
+    let version = opened(rt, telling)?;
+    bottom(rt.alloc(), &version)
+}
+
+/// The first level of a folder above the bottom that has a file.
+fn next_level_of<R: Files + Eprint + Clock + AllocGlobal>(
+    rt: &R,
+    telling: Telling<'_>,
+    bottom: u64,
+) -> Result<Option<u64>, Fault>
+    requires { bottom ≤ 6 }
+{
+    let version = opened(rt, telling)?;
+    next_level(rt.alloc(), &version, bottom)
 }
 
 /// Syncs a folder, so that what is read of it from then on outlives a crash.

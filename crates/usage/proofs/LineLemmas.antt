@@ -14,7 +14,7 @@ use Rattle.clap.specs.declared.parser.matches.SubCommand.{SubCommand}
 use Rattle.clap.proofs.OnLiterals.{clap_on_literals}
 use Rattle.std.proofs.lemmas.Slice.Eq.{bytes_eq-Decides}
 use Rattle.std.specs.Box.{box_value}
-use Rattle.usage.specs.CompactLine.{AreSettings, HasCompact, IsNoNumberList}
+use Rattle.usage.specs.CompactLine.{HasCompact}
 use Rattle.usage.specs.CompactLineParts.{CompactLine}
 use Rattle.grammar.specs.Apps.{program_app}
 use Rattle.usage.specs.Line.{GivesRows, HasBlocks, HasGet, HasRows, LacksAll, LacksRows, LineGives, rows_under}

@@ -1,4 +1,4 @@
-use Rattle.std.proofs.Common.{Bor, List, ◌++◌, map, ap, sym, ◌∙◌, arith}
+use Rattle.std.proofs.Common.{Bor, List, ◌++◌, ap, sym, ◌∙◌, arith}
 use Rattle.std.proofs.lemmas.List.{take_all}
 use Rattle.coding.proofs.Binds.{ok_is}
 use Rattle.edit.specs.declared.meta.FileMeta.{FileMeta}

@@ -1,8 +1,8 @@
 use crate::folders::*;
-use account::text;
+use account::{Account, text};
 use coding::{Fault, FaultName};
 use commands::{dump, get_dir, manifest, status, verify};
-use diagnostics::{account_of, log_with_writes, refused_file};
+use diagnostics::{RefusedFile, account_of, log_with_writes, refused_file};
 use folder::{Failing, FolderFault, Shelf, open};
 use std::alloc::Global;
 use std::test::*;
@@ -18,270 +18,302 @@ enum Call {
     RefusedFile,
     Log,
     /// The folder before a compaction, and its level.
-    Account(Files, u64),
+    Account(Place, u64),
     Dump(&'static [u8]),
     TextOf(&'static [u8]),
     KeyOf(&'static str),
 }
 
+/// The bytes of an answer, or a refusal and its status.
+type Wanted = Result<&'static str, (FaultName, u8)>;
+
 /// What a row shows, the call, its folder, which call on that fails, and the answer: its bytes, of which there are none where there is nothing
 /// to tell, or the refusal and its status.
-type Row = (
-    &'static str,
-    Call,
-    Files,
-    u64,
-    Result<&'static str, (FaultName, u8)>,
-);
+type Row = (&'static str, Call, Place, u64, Wanted);
 
 /// No call has this number.
 const NEVER: u64 = u64::MAX;
 
 const ROWS: &[Row] = &[
-    ("a file", Call::Manifest, ONE, NEVER, Ok(ONE_LINES)),
+    ("a file", Call::Manifest, Place::One, NEVER, Ok(ONE_LINES)),
     (
         "a pointer",
         Call::Manifest,
-        NONE_LEFT,
+        Place::NoneLeft,
         NEVER,
         Ok(NONE_LEFT_LINES),
     ),
     (
         "one file",
         Call::Verify,
-        ONE,
+        Place::One,
         NEVER,
         Ok("lawful: 1 files, 2 entries\n"),
     ),
     (
         "two files",
         Call::Verify,
-        TWO,
+        Place::Two,
         NEVER,
         Ok("lawful: 2 files, 3 entries\n"),
     ),
     (
         "a size that is not the table's",
         Call::Verify,
-        LONGER,
+        Place::Longer,
         NEVER,
         Err((FaultName::Lawless, 1)),
     ),
     (
         "a damaged table comes before that",
         Call::Verify,
-        LONGER_DAMAGED,
+        Place::LongerDamaged,
         NEVER,
         Err((FaultName::Short, 1)),
     ),
     (
         "a missing table comes before a damaged one",
         Call::Verify,
-        EIGHT_MISSING,
+        Place::EightMissing,
         NEVER,
         Err((FaultName::Missing, 1)),
     ),
     (
         "the level above comes first",
         Call::Verify,
-        BOTH_DAMAGED,
+        Place::BothDamaged,
         NEVER,
         Err((FaultName::Magic, 1)),
     ),
     (
         "a deleted key",
         Call::Get(b"u", None),
-        ONE,
+        Place::One,
         NEVER,
         Ok("none\n"),
     ),
     (
         "a key before it was deleted",
         Call::Get(b"u", Some(3)),
-        ONE,
+        Place::One,
         NEVER,
         Ok("78\n"),
     ),
     (
         "the last of all sequences",
         Call::Get(b"u", Some(u64::MAX)),
-        ONE,
+        Place::One,
         NEVER,
         Ok("none\n"),
     ),
     (
         "a key of no file",
         Call::Get(b"u", None),
-        NONE_LEFT,
+        Place::NoneLeft,
         NEVER,
         Ok("none\n"),
     ),
     (
         "an empty value",
         Call::Get(b"a", None),
-        TWO,
+        Place::Two,
         NEVER,
         Ok("-\n"),
     ),
-    ("no refused file", Call::RefusedFile, ONE, NEVER, Ok("")),
+    (
+        "no refused file",
+        Call::RefusedFile,
+        Place::One,
+        NEVER,
+        Ok(""),
+    ),
     (
         "no CURRENT",
         Call::RefusedFile,
-        NO_CURRENT,
+        Place::NoCurrent,
         NEVER,
         Ok("CURRENT: Missing"),
     ),
     (
         "no manifest",
         Call::RefusedFile,
-        NO_MANIFEST,
+        Place::NoManifest,
         NEVER,
         Ok("MANIFEST-000005: Missing"),
     ),
     (
         "no table",
         Call::RefusedFile,
-        EIGHT_MISSING,
+        Place::EightMissing,
         NEVER,
         Ok("000008.ldb: Missing"),
     ),
     (
         "a damaged table",
         Call::RefusedFile,
-        SEVEN_DAMAGED,
+        Place::SevenDamaged,
         NEVER,
         Ok("000007.ldb: Short"),
     ),
     (
         "a table of another size",
         Call::RefusedFile,
-        LONGER,
+        Place::Longer,
         NEVER,
         Ok("000007.ldb: Bounds"),
     ),
     (
         "a log with writes",
         Call::Log,
-        LOGGED,
+        Place::Logged,
         NEVER,
         Ok("000003.log"),
     ),
-    ("a log without writes", Call::Log, EMPTY_LOG, NEVER, Ok("")),
+    (
+        "a log without writes",
+        Call::Log,
+        Place::EmptyLog,
+        NEVER,
+        Ok(""),
+    ),
     (
         "an entry that was kept",
-        Call::Account(TWO, 0),
-        MOVED,
+        Call::Account(Place::Two, 0),
+        Place::Moved,
         NEVER,
         Ok(LEVEL_0_EXPLAINED),
     ),
     (
         "entries that were dropped",
-        Call::Account(ONE, 1),
-        NONE_LEFT,
+        Call::Account(Place::One, 1),
+        Place::NoneLeft,
         NEVER,
         Ok(LEVEL_1_EXPLAINED),
     ),
     (
         "a table",
         Call::Dump(TWO_ENTRIES),
-        &[],
+        Place::Empty,
         NEVER,
         Ok("75 4 del\n75 2 put 78\n"),
     ),
-    ("no byte", Call::TextOf(b""), &[], NEVER, Ok("-")),
+    (
+        "a byte, and no table",
+        Call::Dump(b"u"),
+        Place::Empty,
+        NEVER,
+        Err((FaultName::Short, 1)),
+    ),
+    ("no byte", Call::TextOf(b""), Place::Empty, NEVER, Ok("-")),
     (
         "three bytes",
         Call::TextOf(b"\0\xab\xff"),
-        &[],
+        Place::Empty,
         NEVER,
         Ok("00abff"),
     ),
-    ("a text of no byte", Call::KeyOf("-"), &[], NEVER, Ok("")),
+    (
+        "a text of no byte",
+        Call::KeyOf("-"),
+        Place::Empty,
+        NEVER,
+        Ok(""),
+    ),
     (
         "digits of either case",
         Call::KeyOf("c3A9"),
-        &[],
+        Place::Empty,
         NEVER,
         Ok("é"),
     ),
     (
         "no digit",
         Call::KeyOf(""),
-        &[],
+        Place::Empty,
         NEVER,
         Err((FaultName::Key, 1)),
     ),
     (
         "one digit",
         Call::KeyOf("6"),
-        &[],
+        Place::Empty,
         NEVER,
         Err((FaultName::Key, 1)),
     ),
     (
         "a letter",
         Call::KeyOf("6g"),
-        &[],
+        Place::Empty,
         NEVER,
         Err((FaultName::Key, 1)),
     ),
     (
         "a prefix",
         Call::KeyOf("0x62"),
-        &[],
+        Place::Empty,
         NEVER,
         Err((FaultName::Key, 1)),
     ),
     (
         "manifest: no CURRENT is read",
         Call::Manifest,
-        ONE,
+        Place::One,
         1,
         Err((FaultName::Device, 3)),
     ),
     (
         "manifest: no manifest is read",
         Call::Manifest,
-        ONE,
+        Place::One,
         2,
         Err((FaultName::Device, 3)),
     ),
     (
         "manifest: no table has to be read",
         Call::Manifest,
-        ONE,
+        Place::One,
         3,
         Ok(ONE_LINES),
     ),
     (
         "verify: no manifest is read",
         Call::Verify,
-        ONE,
+        Place::One,
         2,
         Err((FaultName::Device, 3)),
     ),
     (
         "verify: no table is read",
         Call::Verify,
-        ONE,
+        Place::One,
         3,
         Err((FaultName::Device, 3)),
     ),
     (
         "get: no CURRENT is read",
         Call::Get(b"u", None),
-        ONE,
+        Place::One,
         1,
         Err((FaultName::Device, 3)),
     ),
     (
         "get: no table is read",
         Call::Get(b"u", None),
-        ONE,
+        Place::One,
         3,
         Err((FaultName::Device, 3)),
     ),
 ];
+
+/// The bytes of a text that is answered.
+fn bytes_of(text: Result<String, Fault>) -> Result<Vec<u8>, Fault> {
+    Ok(text?.into_bytes())
+}
+
+/// The lines of an account that is answered.
+fn lines_of(alloc: Global, account: Result<Account, Fault>) -> Result<Vec<u8>, Fault> {
+    bytes_of(text(alloc, &account?))
+}
 
 /// How the compaction of a level went, by the folder before it and the one behind it.
 fn explained(
@@ -289,14 +321,46 @@ fn explained(
     before: Files,
     folder: &mut Shelf<'_>,
     level: u64,
-) -> Result<String, Fault> {
+) -> Result<Vec<u8>, Fault> {
     let (order, before) = open(alloc, &mut Shelf::new(alloc, before))?;
     let (_order, after) = open(alloc, folder)?;
-    let account = account_of(alloc, folder, order, &before, &after, level, 8)?;
-    text(alloc, &account)
+    lines_of(
+        alloc,
+        account_of(alloc, folder, order, &before, &after, level, 8),
+    )
 }
 
-/// What a call answers over a folder. A text that is no key's is told as Key.
+/// The name of a file that is refused, and why.
+fn refusal_of(alloc: Global, file: &RefusedFile) -> Result<Vec<u8>, Fault> {
+    let (name, fault) = (&file.name, file.fault);
+    Ok(format!(in alloc; "{name}: {fault}")?.into_bytes())
+}
+
+/// The same of the first file of a folder that is refused, if one is.
+fn first_refusal(alloc: Global, folder: &mut Shelf<'_>) -> Result<Vec<u8>, Fault> {
+    match refused_file(alloc, folder)? {
+        Some(file) => refusal_of(alloc, &file),
+        None => Ok(Vec::new(alloc)),
+    }
+}
+
+/// The name of a log with writes, if there is one.
+fn log_name(alloc: Global, folder: &mut Shelf<'_>) -> Result<Vec<u8>, Fault> {
+    match log_with_writes(alloc, folder)? {
+        Some(name) => Ok(name.into_bytes()),
+        None => Ok(Vec::new(alloc)),
+    }
+}
+
+/// The key of a text. One that is no key's is told as Key.
+fn key_in(alloc: Global, text: &str) -> Result<Vec<u8>, Fault> {
+    match key_of(alloc, text)? {
+        Some(key) => Ok(key),
+        None => Err(Fault::of(FaultName::Key)),
+    }
+}
+
+/// What a call answers over a folder.
 fn answer<R: AllocGlobal + Threads + Sync>(
     rt: &R,
     call: &Call,
@@ -307,41 +371,33 @@ fn answer<R: AllocGlobal + Threads + Sync>(
         Call::Manifest => manifest(alloc, folder),
         Call::Verify => verify(rt, alloc, folder),
         Call::Get(key, at) => get_dir(rt, alloc, folder, key, *at),
-        Call::RefusedFile => match refused_file(alloc, folder)? {
-            Some(file) => {
-                let (name, fault) = (file.name, file.fault);
-                Ok(format!(in alloc; "{name}: {fault}")?.into_bytes())
-            }
-            None => Ok(Vec::new(alloc)),
-        },
-        Call::Log => match log_with_writes(alloc, folder)? {
-            Some(name) => Ok(name.into_bytes()),
-            None => Ok(Vec::new(alloc)),
-        },
-        Call::Account(before, level) => Ok(explained(alloc, before, folder, *level)?.into_bytes()),
+        Call::RefusedFile => first_refusal(alloc, folder),
+        Call::Log => log_name(alloc, folder),
+        Call::Account(before, level) => explained(alloc, files_of(*before), folder, *level),
         Call::Dump(bytes) => dump(alloc, bytes),
-        Call::TextOf(bytes) => Ok(text_of(alloc, bytes)?.into_bytes()),
-        Call::KeyOf(text) => match key_of(alloc, text)? {
-            Some(key) => Ok(key),
-            None => Err(Fault::of(FaultName::Key)),
-        },
+        Call::TextOf(bytes) => bytes_of(text_of(alloc, bytes)),
+        Call::KeyOf(text) => key_in(alloc, text),
+    }
+}
+
+/// Whether an answer is the one that is wanted.
+fn is_answer(answer: &Result<Vec<u8>, Fault>, wanted: &Wanted) -> bool {
+    match (answer, wanted) {
+        (Ok(found), Ok(text)) => found.as_slice() == text.as_bytes(),
+        (Err(fault), Err((name, code))) => fault.name == *name && status(fault) == *code,
+        _ => false,
     }
 }
 
 /// Whether a call answers what is wanted. The call on the folder that fails is the last one.
 fn is_answered<R: AllocGlobal + Threads + Sync>(rt: &R, row: &Row) -> bool {
-    let (_shown, asked, files, call, wanted) = row;
-    let mut folder = Shelf::new(rt.alloc(), files).failing(Failing {
+    let (_shown, asked, place, call, wanted) = row;
+    let mut folder = Shelf::new(rt.alloc(), files_of(*place)).failing(Failing {
         call: *call,
         fault: FolderFault::Device,
         is_half_done: false,
     });
-    let is_wanted = match (answer(rt, asked, &mut folder), wanted) {
-        (Ok(found), Ok(text)) => found.as_slice() == text.as_bytes(),
-        (Err(fault), Err((name, code))) => fault.name == *name && status(&fault) == *code,
-        _ => false,
-    };
-    is_wanted && folder.calls() <= *call
+    is_answer(&answer(rt, asked, &mut folder), wanted) && folder.calls() <= *call
 }
 
 #[test]

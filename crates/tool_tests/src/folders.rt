@@ -52,25 +52,25 @@ const EIGHT: (&str, &[u8]) = ("000008.sst", ONE_ENTRY);
 
 const DAMAGED_EIGHT: (&str, &[u8]) = ("000008.ldb", &[0; 48]);
 
-pub(crate) const ONE: Files = &[CURRENT, ONE_MANIFEST, SEVEN];
+const ONE: Files = &[CURRENT, ONE_MANIFEST, SEVEN];
 
-pub(crate) const LONGER: Files = &[CURRENT, LONGER_MANIFEST, SEVEN];
+const LONGER: Files = &[CURRENT, LONGER_MANIFEST, SEVEN];
 
-pub(crate) const LONGER_DAMAGED: Files = &[CURRENT, LONGER_MANIFEST, DAMAGED];
+const LONGER_DAMAGED: Files = &[CURRENT, LONGER_MANIFEST, DAMAGED];
 
 /// The folder of file 7, compacted.
-pub(crate) const NONE_LEFT: Files = &[CURRENT, ("MANIFEST-000005", NO_FILE), SEVEN];
+const NONE_LEFT: Files = &[CURRENT, ("MANIFEST-000005", NO_FILE), SEVEN];
 
-pub(crate) const TWO: Files = &[CURRENT, TWO_MANIFEST, SEVEN, EIGHT];
+const TWO: Files = &[CURRENT, TWO_MANIFEST, SEVEN, EIGHT];
 
-pub(crate) const EIGHT_MISSING: Files = &[CURRENT, TWO_MANIFEST, DAMAGED];
+const EIGHT_MISSING: Files = &[CURRENT, TWO_MANIFEST, DAMAGED];
 
-pub(crate) const SEVEN_DAMAGED: Files = &[CURRENT, TWO_MANIFEST, DAMAGED, EIGHT];
+const SEVEN_DAMAGED: Files = &[CURRENT, TWO_MANIFEST, DAMAGED, EIGHT];
 
-pub(crate) const BOTH_DAMAGED: Files = &[CURRENT, TWO_MANIFEST, DAMAGED, DAMAGED_EIGHT];
+const BOTH_DAMAGED: Files = &[CURRENT, TWO_MANIFEST, DAMAGED, DAMAGED_EIGHT];
 
 /// The folder of files 7 and 8, of which level 0 was compacted.
-pub(crate) const MOVED: Files = &[
+const MOVED: Files = &[
     CURRENT,
     ("MANIFEST-000005", MOVED_FILE),
     SEVEN,
@@ -78,23 +78,62 @@ pub(crate) const MOVED: Files = &[
     ("000010.ldb", ONE_ENTRY),
 ];
 
-pub(crate) const NO_CURRENT: Files = &[DAMAGED];
+const NO_CURRENT: Files = &[DAMAGED];
 
-pub(crate) const NO_MANIFEST: Files = &[CURRENT];
+const NO_MANIFEST: Files = &[CURRENT];
 
 /// The folder of file 7 with a log, and with one of no byte.
-pub(crate) const LOGGED: Files = &[CURRENT, ONE_MANIFEST, ("000003.log", b"x")];
+const LOGGED: Files = &[CURRENT, ONE_MANIFEST, ("000003.log", b"x")];
 
-pub(crate) const EMPTY_LOG: Files = &[CURRENT, ONE_MANIFEST, ("000003.log", b"")];
+const EMPTY_LOG: Files = &[CURRENT, ONE_MANIFEST, ("000003.log", b"")];
 
-/// The lines of [`ONE`], and of [`NONE_LEFT`].
+/// One of these folders, or one of no file.
+#[derive(Clone, Copy)]
+pub(crate) enum Place {
+    One,
+    NoneLeft,
+    Two,
+    Longer,
+    LongerDamaged,
+    EightMissing,
+    SevenDamaged,
+    BothDamaged,
+    Moved,
+    NoCurrent,
+    NoManifest,
+    Logged,
+    EmptyLog,
+    Empty,
+}
+
+/// The files of a folder.
+pub(crate) fn files_of(place: Place) -> Files {
+    match place {
+        Place::One => ONE,
+        Place::NoneLeft => NONE_LEFT,
+        Place::Two => TWO,
+        Place::Longer => LONGER,
+        Place::LongerDamaged => LONGER_DAMAGED,
+        Place::EightMissing => EIGHT_MISSING,
+        Place::SevenDamaged => SEVEN_DAMAGED,
+        Place::BothDamaged => BOTH_DAMAGED,
+        Place::Moved => MOVED,
+        Place::NoCurrent => NO_CURRENT,
+        Place::NoManifest => NO_MANIFEST,
+        Place::Logged => LOGGED,
+        Place::EmptyLog => EMPTY_LOG,
+        Place::Empty => &[],
+    }
+}
+
+/// The lines of [`Place::One`], and of [`Place::NoneLeft`].
 pub(crate) const ONE_LINES: &str =
     "comparator leveldb.BytewiseComparator\nlog 3\nprevious 0\nnext 9\nlast 4\nfile 1 7 125\n";
 
 pub(crate) const NONE_LEFT_LINES: &str =
     "comparator leveldb.BytewiseComparator\nlog 3\nprevious 0\nnext 10\nlast 4\npointer 1 75 2 1\n";
 
-/// Level 0 of [`TWO`] is compacted: the one entry is kept. Its user key begins the second of two ranges.
+/// Level 0 of [`Place::Two`] is compacted: the one entry is kept. Its user key begins the second of two ranges.
 pub(crate) const LEVEL_0_EXPLAINED: &str = "\
 ######################################## level 0: 1 files, 113 bytes
                                          level 1: 0 files, 0 bytes
@@ -105,7 +144,7 @@ pub(crate) const LEVEL_0_EXPLAINED: &str = "\
 ######################################## output 10: 113 bytes
 ";
 
-/// Level 1 of [`ONE`] is: the deletion goes, since nothing lies below it, and so does what it hides.
+/// Level 1 of [`Place::One`] is: the deletion goes, since nothing lies below it, and so does what it hides.
 pub(crate) const LEVEL_1_EXPLAINED: &str = "\
 ######################################## level 1: 1 files, 125 bytes
                                          level 2: 0 files, 0 bytes

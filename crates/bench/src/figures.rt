@@ -60,7 +60,7 @@ impl Figures {
         &mut self,
         rt: &HostRuntime,
         extent: Extent,
-        works: &[Work<'_, '_, '_>],
+        works: &[Work<'_>],
     ) -> Result<(), Fault> {
         let mut times = NO_TIMES;
         let steps = u64::from(self.rounds).saturating_mul(steps_of_round(works));
@@ -74,7 +74,7 @@ impl Figures {
     }
 
     /// Does some work once, and gives how long it took.
-    fn once(&mut self, rt: &HostRuntime, work: &Work<'_, '_, '_>) -> Result<Duration, Fault> {
+    fn once(&mut self, rt: &HostRuntime, work: &Work<'_>) -> Result<Duration, Fault> {
         let (given, time) = timed(rt, work, &mut self.target)?;
         self.note(given, work.is_the_same());
         Ok(time)
@@ -94,7 +94,7 @@ impl Figures {
         &self,
         rt: &HostRuntime,
         extent: Extent,
-        works: &[Work<'_, '_, '_>],
+        works: &[Work<'_>],
         times: &Times,
     ) -> Result<(), Fault> {
         for (place, work) in works.iter().enumerate() {
@@ -124,7 +124,7 @@ impl Figures {
 }
 
 /// How many steps a round of these works has: one for each, and four where they are short.
-fn steps_of_round(works: &[Work<'_, '_, '_>]) -> u64 {
+fn steps_of_round(works: &[Work<'_>]) -> u64 {
     let times = match works.first() {
         Some(work) if work.is_short() => 4,
         _ => 1,

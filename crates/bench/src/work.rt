@@ -22,7 +22,7 @@ use table::SoundTable;
 
 /// Work that is timed, with what it is done on.
 #[derive(Clone, Copy)]
-pub enum Work<'a, 'b, 'c> {
+pub enum Work<'a> {
     Copy(&'a [u8]),
     Crc(&'a [u8]),
     CrcByTable(&'a [u8]),
@@ -31,30 +31,30 @@ pub enum Work<'a, 'b, 'c> {
     Compare(&'a [Vec<u8>], bool),
     CompareByLoop(&'a [Vec<u8>], bool),
     BlockCheck(&'a [Vec<u8>]),
-    BlockWalk(&'a [SoundBlock<'b>]),
+    BlockWalk(&'a [SoundBlock<'a>]),
     BlockBuilder(&'a [[u8; 100]]),
     TableCheck(&'a [Vec<u8>]),
-    TableWalk(&'a [SoundTable<'b, Bytewise>], usize),
-    TableSeek(&'a [SoundTable<'b, Bytewise>], usize),
+    TableWalk(&'a [SoundTable<'a, Bytewise>], usize),
+    TableSeek(&'a [SoundTable<'a, Bytewise>], usize),
     TableBuilder(&'a [[u8; 100]]),
     FileBuilder(&'a [[u8; 100]]),
-    Merge(&'a [SoundTable<'b, Bytewise>], usize),
-    Pass(&'a [SoundTable<'b, Bytewise>], usize),
-    MergeRange(&'a [SoundTable<'b, Bytewise>]),
-    Plan(&'b [RangeRun<'c>]),
-    Encode(&'a Plan<'b, 'c, Bytewise>),
-    Assemble(&'a Plan<'b, 'c, Bytewise>),
-    Lawful(&'c Version, &'a [NumberedTable<'b, Bytewise>]),
-    LawfulByPairs(&'a [SoundTable<'b, Bytewise>]),
-    Choose(&'a [SoundTable<'b, Bytewise>]),
-    Sort(&'a [SoundTable<'b, Bytewise>]),
+    Merge(&'a [SoundTable<'a, Bytewise>], usize),
+    Pass(&'a [SoundTable<'a, Bytewise>], usize),
+    MergeRange(&'a [SoundTable<'a, Bytewise>]),
+    Plan(&'a [RangeRun<'a>]),
+    Encode(&'a Plan<'a, 'a, Bytewise>),
+    Assemble(&'a Plan<'a, 'a, Bytewise>),
+    Lawful(&'a Version, &'a [NumberedTable<'a, Bytewise>]),
+    LawfulByPairs(&'a [SoundTable<'a, Bytewise>]),
+    Choose(&'a [SoundTable<'a, Bytewise>]),
+    Sort(&'a [SoundTable<'a, Bytewise>]),
     Manifests(Step, &'a [Manifest]),
     Additions(u32),
     ReadFile(&'a str),
     CopyFile(&'a [u8]),
 }
 
-impl Work<'_, '_, '_> {
+impl Work<'_> {
     /// How its line begins.
     pub fn label(&self) -> &'static str {
         match *self {
@@ -128,7 +128,7 @@ impl Work<'_, '_, '_> {
 /// Does some work once. It gives a number that depends on all of it, and how long it took. Bytes are copied over the target.
 pub fn timed(
     rt: &HostRuntime,
-    work: &Work<'_, '_, '_>,
+    work: &Work<'_>,
     target: &mut [u8],
 ) -> Result<(u32, Duration), Fault> {
     let alloc = rt.alloc();

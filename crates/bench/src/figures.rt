@@ -73,6 +73,27 @@ impl Figures {
         self.print_all(rt, extent, works, &times)
     }
 
+    /// Takes the figures of one work.
+    pub fn take_one(
+        &mut self,
+        rt: &HostRuntime,
+        extent: Extent,
+        work: Work<'_>,
+    ) -> Result<(), Fault> {
+        self.take(rt, extent, &[work])
+    }
+
+    /// Takes the figures of two works that are done in turn.
+    pub fn take_two(
+        &mut self,
+        rt: &HostRuntime,
+        extent: Extent,
+        first: Work<'_>,
+        second: Work<'_>,
+    ) -> Result<(), Fault> {
+        self.take(rt, extent, &[first, second])
+    }
+
     /// Does some work once, and gives how long it took.
     fn once(&mut self, rt: &HostRuntime, work: &Work<'_>) -> Result<Duration, Fault> {
         let (given, time) = timed(rt, work, &mut self.target)?;

@@ -35,7 +35,7 @@ fn take(rt: &HostRuntime, path: &str, bytes: &[u8], figures: &mut Figures) -> Re
         bytes: bytes.len(),
         entries: 0,
     };
-    figures.take(rt, extent, &[Work::ReadFile(path), Work::CopyFile(bytes)])
+    figures.take_two(rt, extent, Work::ReadFile(path), Work::CopyFile(bytes))
 }
 
 /// The file's bytes.

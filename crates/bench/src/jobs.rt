@@ -41,7 +41,7 @@ pub fn measure<R: Threads + Sync>(
         bytes: 0,
         entries: jobs as usize,
     };
-    figures.take(rt, extent, &[Work::Additions(jobs)])?;
+    figures.take_one(rt, extent, Work::Additions(jobs))?;
     workers::take(rt, threads, extent, Task::Jobs(jobs), figures)
 }
 

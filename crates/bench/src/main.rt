@@ -174,12 +174,8 @@ fn measure_part(
     let (sixteenth, _) = bytes.split_at(bytes.len() / 16);
     match part {
         Part::Copy => sums::measure_copy(rt, bytes, figures),
-        Part::Sums => figures.take(
-            rt,
-            over(bytes),
-            &[Work::Crc(bytes), Work::CrcByTable(bytes)],
-        ),
-        Part::SumByBit => figures.take(rt, over(sixteenth), &[Work::CrcByBit(sixteenth)]),
+        Part::Sums => figures.take_two(rt, over(bytes), Work::Crc(bytes), Work::CrcByTable(bytes)),
+        Part::SumByBit => figures.take_one(rt, over(sixteenth), Work::CrcByBit(sixteenth)),
         Part::Blocks => blocks::measure(rt, values_of(bytes, VALUE_LEN + 4), figures),
         Part::Tables(group) => tables::measure(rt, bytes, group, figures),
         Part::Keys(are_near) => sums::measure_keys(rt, bytes, extent.keys, are_near, figures),

@@ -114,11 +114,8 @@ fn take(
     figures: &mut Figures,
 ) -> Result<(), Fault> {
     for step in steps {
-        let works = [
-            Work::Manifests(*step, tenths),
-            Work::Manifests(*step, whole),
-        ];
-        figures.take(rt, extent, &works)?;
+        let first = Work::Manifests(*step, tenths);
+        figures.take_two(rt, extent, first, Work::Manifests(*step, whole))?;
     }
     Ok(())
 }

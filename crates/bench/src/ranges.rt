@@ -43,11 +43,11 @@ fn take_outputs(
 }
 
 /// The same, where this is their plan.
-fn take_planned(
+fn take_planned<'w>(
     rt: &HostRuntime,
     extent: Extent,
-    runs: &[RangeRun<'_>],
-    plan: &Plan<'_, '_, Bytewise>,
+    runs: &'w [RangeRun<'w>],
+    plan: &'w Plan<'w, 'w, Bytewise>,
     figures: &mut Figures,
 ) -> Result<(), Fault> {
     let works = [Work::Plan(runs), Work::Encode(plan), Work::Assemble(plan)];

@@ -22,7 +22,7 @@ pub fn over(bytes: &[u8]) -> Extent {
 /// Takes the figure of a copy of these bytes.
 pub fn measure_copy(rt: &HostRuntime, bytes: &[u8], figures: &mut Figures) -> Result<(), Fault> {
     figures.target = vec![in rt.alloc(); 0; bytes.len()]?;
-    figures.take(rt, over(bytes), &[Work::Copy(bytes)])
+    figures.take_one(rt, over(bytes), Work::Copy(bytes))
 }
 
 /// Takes the figures of so many keys, each compared with each: of near ones, that differ in their last bytes, or of pseudo-random
@@ -40,7 +40,7 @@ pub fn measure_keys(
         entries: keys.len().saturating_mul(keys.len()),
     };
     let compare = Work::Compare(&keys, are_near);
-    figures.take(rt, extent, &[compare, Work::CompareByLoop(&keys, are_near)])
+    figures.take_two(rt, extent, compare, Work::CompareByLoop(&keys, are_near))
 }
 
 /// Copies the source over a target of its length, and gives the last byte that was copied.

@@ -91,14 +91,15 @@ fn take(
     };
     match group {
         Group::Whole => take_whole(rt, whole, values, written, tables, figures),
-        Group::Seeks => figures.take(rt, seeks, &[Work::TableSeek(tables, entries)]),
-        Group::Builder => figures.take(rt, whole, &[Work::TableBuilder(values)]),
-        Group::Cursors(_) => figures.take(
+        Group::Seeks => figures.take_one(rt, seeks, Work::TableSeek(tables, entries)),
+        Group::Builder => figures.take_one(rt, whole, Work::TableBuilder(values)),
+        Group::Cursors(_) => figures.take_two(
             rt,
             each,
-            &[Work::Merge(tables, entries), Work::Pass(tables, entries)],
+            Work::Merge(tables, entries),
+            Work::Pass(tables, entries),
         ),
-        Group::Range => figures.take(rt, whole, &[Work::MergeRange(tables)]),
+        Group::Range => figures.take_one(rt, whole, Work::MergeRange(tables)),
         Group::Outputs => ranges::take(rt, tables, entries, figures),
         Group::Lawful => versions::take(rt, each, written, tables, figures),
         Group::Split => versions::take_split(rt, tables, figures),

@@ -48,8 +48,8 @@ fn take_lawful(
     tables: &[SoundTable<'_, Bytewise>],
     figures: &mut Figures,
 ) -> Result<(), Fault> {
-    let works = [Work::Lawful(version, numbered), Work::LawfulByPairs(tables)];
-    figures.take(rt, extent, &works)
+    let lawful = Work::Lawful(version, numbered);
+    figures.take_two(rt, extent, lawful, Work::LawfulByPairs(tables))
 }
 
 /// The tables with falling numbers, the last of which is 1.
@@ -196,7 +196,7 @@ pub fn take_split(
 ) -> Result<(), Fault> {
     let entries = owned_keys(rt.alloc(), tables)?.len();
     let extent = Extent { bytes: 0, entries };
-    figures.take(rt, extent, &[Work::Choose(tables), Work::Sort(tables)])
+    figures.take_two(rt, extent, Work::Choose(tables), Work::Sort(tables))
 }
 
 /// The sum of the last bytes of a split's boundaries.

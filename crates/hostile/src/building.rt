@@ -110,9 +110,15 @@ fn version_after(alloc: Global) -> Result<Version, Fault> {
     version_of(alloc, VERSION_SEVEN)?.apply::<Bytewise>(alloc, &edit)
 }
 
+/// The snapshot of a version, written.
+fn snapshot_of(alloc: Global, version: &Version) -> Result<Vec<u8>, Fault> {
+    let edit = version.snapshot_edit::<Bytewise>(alloc)?;
+    edit.encode(alloc)
+}
+
 /// An edit, applied to a version whose snapshot is then written.
 pub fn edited(alloc: Global) -> Result<bool, Fault> {
     let version = version_after(alloc)?;
-    let snapshot = version.snapshot_edit::<Bytewise>(alloc)?.encode(alloc)?;
+    let snapshot = snapshot_of(alloc, &version)?;
     Ok(snapshot.as_slice() == SNAPSHOT_NINE && version.next_file() == Some(10))
 }

@@ -79,14 +79,19 @@ fn install_next(alloc: Global, shelf: &mut Shelf<'_>, version: &Version) -> Resu
     install::<Bytewise, Shelf<'_>>(alloc, shelf, version, 9, &outcome)
 }
 
-/// Opens the folder, and loads and installs where it reads as the version before.
-fn carry(alloc: Global, shelf: &mut Shelf<'_>) -> Result<(), Fault> {
-    let (_order, version) = open(alloc, shelf)?;
+/// Loads and installs where this is the version before.
+fn carry_on(alloc: Global, shelf: &mut Shelf<'_>, version: &Version) -> Result<(), Fault> {
     if version.next_file() != Some(9) {
         return Ok(());
     }
-    wanted(is_loaded(alloc, shelf, &version)?)?;
-    install_next(alloc, shelf, &version)
+    wanted(is_loaded(alloc, shelf, version)?)?;
+    install_next(alloc, shelf, version)
+}
+
+/// Opens the folder, and loads and installs where it reads as the version before.
+fn carry(alloc: Global, shelf: &mut Shelf<'_>) -> Result<(), Fault> {
+    let (_order, version) = open(alloc, shelf)?;
+    carry_on(alloc, shelf, &version)
 }
 
 /// Whether the folder reads as the edited version.

@@ -20,9 +20,11 @@ mod walking;
 mod worked;
 
 use anyhow::Result;
+use coding::Fault;
 use lying::{Memory, pieces, print_claims};
 use requests::REQUESTS;
 use rows::{ALONE, ONE_THREAD, RESTING, THREADS, run, run_growths};
+use std::alloc::Global;
 use std::env;
 use std::env::Env;
 use std::thread::Threads;
@@ -42,14 +44,19 @@ const PIECES: usize = 16;
 /// How many bytes are not taken between calls.
 const ROOM: usize = 1 << 28;
 
+/// Memory of which all is taken in pieces of more than so many bytes, but for so many other pieces of so many bytes each.
+fn short_of(alloc: Global, count: usize, len: usize, smallest: usize) -> Result<Memory, Fault> {
+    let room = pieces(alloc, count, len)?;
+    Memory::short(alloc, room, smallest)
+}
+
 /// Compacts where no thread can be started, and then where there is room for one.
 ///
 /// It has to come first: from a large piece that was given back the C library makes later ones too, and it keeps the stacks of threads
 /// that have ended.
 fn run_few_threads<R: AllocGlobal + Print + Threads + Sync>(rt: &R) -> Result<()> {
     let stack = pieces(rt.alloc(), 1, STACK)?;
-    let room = pieces(rt.alloc(), PIECES, PIECE)?;
-    let mut memory = Memory::short(rt.alloc(), room, NO_STACK)?;
+    let mut memory = short_of(rt.alloc(), PIECES, PIECE, NO_STACK)?;
     run(rt, &mut memory, ALONE, 0)?;
     drop(stack);
     run(rt, &mut memory, ONE_THREAD, 0)
@@ -58,32 +65,45 @@ fn run_few_threads<R: AllocGlobal + Print + Threads + Sync>(rt: &R) -> Result<()
 /// Makes the calls that memory is short for.
 fn run_short<R: AllocGlobal + Print + Threads + Sync>(rt: &R) -> Result<()> {
     println!(rt; "Each request for memory is refused. These calls have their answers:")?;
-    let mut memory = Memory::short(rt.alloc(), pieces(rt.alloc(), 1, ROOM)?, 0)?;
-    run(rt, &mut memory, RESTING, 0)?;
-    println!(rt; "Memory is short. Each of these was refused as Memory or had its answer:")?;
-    run_growths(rt, &mut memory)?;
-    println!(rt; "There is memory for little more than the bytes:")?;
-    print_claims(rt, &mut memory)?;
+    let mut memory = short_of(rt.alloc(), 1, ROOM, 0)?;
+    run_in(rt, &mut memory)?;
     println!(rt; "Memory is given.")?;
     Ok(())
 }
 
+/// Makes the calls that memory is short for in such memory.
+fn run_in<R: AllocGlobal + Print + Threads + Sync>(rt: &R, memory: &mut Memory) -> Result<()> {
+    run(rt, memory, RESTING, 0)?;
+    println!(rt; "Memory is short. Each of these was refused as Memory or had its answer:")?;
+    run_growths(rt, memory)?;
+    println!(rt; "There is memory for little more than the bytes:")?;
+    print_claims(rt, memory)
+}
+
 /// Makes all calls, while memory is short or refused where that is asked.
 fn run_all<R: AllocGlobal + Print + Threads + Sync>(rt: &R, is_refused: bool) -> Result<()> {
-    let mut memory = Memory::ample(rt.alloc());
+    run_beside(rt, &mut Memory::ample(rt.alloc()), is_refused)
+}
+
+/// Makes all calls, those that memory is to spare for beside it.
+fn run_beside<R: AllocGlobal + Print + Threads + Sync>(
+    rt: &R,
+    memory: &mut Memory,
+    is_refused: bool,
+) -> Result<()> {
     println!(rt; "These compactions by four workers have their answer:")?;
     if is_refused {
         run_few_threads(rt)?;
     }
-    run(rt, &mut memory, THREADS, 0)?;
+    run(rt, memory, THREADS, 0)?;
     if is_refused {
         run_short(rt)?;
     } else {
-        run(rt, &mut memory, RESTING, 0)?;
-        run_growths(rt, &mut memory)?;
+        run(rt, memory, RESTING, 0)?;
+        run_growths(rt, memory)?;
     }
     lying::run(rt)?;
-    run(rt, &mut memory, REQUESTS, 0)
+    run(rt, memory, REQUESTS, 0)
 }
 
 /// Makes the calls that a word names, behind so many pieces of memory that are taken and given back, and all where it names none.

@@ -8,14 +8,14 @@ use coding::{Fault, FaultName};
 use cut::{Plan, plan};
 use ikey::Bytewise;
 use keep::{RangeRun, largest_rise, merge_range};
-use lying::{picked, wanted};
+use lying::picked;
 use pick::Inputs;
 use split::Split;
 use std::alloc::Global;
 use table::check;
 
 /// The run of a split's first range over a table, of which all from sequence 1 on stays readable.
-fn run_of<'a>(
+fn first_run_of<'a>(
     alloc: Global,
     bytes: &'a [u8],
     split: &Split<Bytewise>,
@@ -28,12 +28,18 @@ fn run_of<'a>(
     merge_range::<Bytewise, _>(alloc, &mut cursors, split.range(0), &[], 1, inputs)
 }
 
-/// The run of the one range over a table, as the runs of all ranges.
-pub fn runs_of<'a>(alloc: Global, bytes: &'a [u8]) -> Result<Vec<RangeRun<'a>>, Fault> {
+/// The run of the one range over a table.
+fn run_of<'a>(alloc: Global, bytes: &'a [u8]) -> Result<RangeRun<'a>, Fault> {
     let inputs = picked(alloc, DELETION)?;
     let split = Split::<Bytewise>::from_keys(Vec::new(alloc))?;
+    first_run_of(alloc, bytes, &split, &inputs)
+}
+
+/// The run of the one range over a table, as the runs of all ranges.
+pub fn runs_of<'a>(alloc: Global, bytes: &'a [u8]) -> Result<Vec<RangeRun<'a>>, Fault> {
+    let run = run_of(alloc, bytes)?;
     let mut runs = Vec::new(alloc);
-    runs.push(run_of(alloc, bytes, &split, &inputs)?)?;
+    runs.push(run)?;
     Ok(runs)
 }
 
@@ -48,13 +54,21 @@ fn are_outputs(plan: &Plan<'_, '_, Bytewise>) -> bool {
     plan.len() == 3
 }
 
+/// Whether each piece of a plan has 26 bytes.
+fn are_pieces(alloc: Global, plan: &Plan<'_, '_, Bytewise>) -> Result<bool, Fault> {
+    for job in 0..plan.jobs() {
+        if plan.encode(alloc, job)?.len() != 26 {
+            return Ok(false);
+        }
+    }
+    Ok(plan.jobs() == 3)
+}
+
 /// Whether the plan of runs of three entries, a block and an output each, is right, and its pieces have 26 bytes.
 fn is_planned(alloc: Global, runs: &[RangeRun<'_>]) -> Result<bool, Fault> {
     let plan = plan::<Bytewise>(alloc, runs, &[], SMALLEST, 5)?;
-    for job in 0..plan.jobs() {
-        wanted(plan.encode(alloc, job)?.len() == 26)?;
-    }
-    Ok(plan.jobs() == 3 && are_outputs(&plan))
+    let are_pieces = are_pieces(alloc, &plan)?;
+    Ok(are_pieces && are_outputs(&plan))
 }
 
 /// Three entries, merged in one range and planned as three outputs.

@@ -299,6 +299,17 @@ fn lent<'a>(alloc: Global, bytes: &'a [u8]) -> Result<Vec<&'a [u8]>, Fault> {
     Ok(tables)
 }
 
+/// Whether a case has its answer over these inputs, whose tables are one behind the other.
+fn is_answered_over<R: AllocGlobal + Threads + Sync>(
+    rt: &R,
+    case: &Case,
+    picked: &Inputs,
+    bytes: &[u8],
+) -> Result<bool, Fault> {
+    let tables = lent(rt.alloc(), bytes)?;
+    is_answer(case, compacted(rt, case, picked, &tables))
+}
+
 /// Whether a case has its answer over so many inputs, each of a user key of one byte.
 pub fn is_answered_of_many<R: AllocGlobal + Threads + Sync>(
     rt: &R,
@@ -308,6 +319,5 @@ pub fn is_answered_of_many<R: AllocGlobal + Threads + Sync>(
     let mut picked = picked(rt.alloc(), case)?;
     let bytes = many_tables(rt.alloc(), count)?;
     add_files(rt.alloc(), &mut picked, &bytes)?;
-    let tables = lent(rt.alloc(), &bytes)?;
-    is_answer(case, compacted(rt, case, &picked, &tables))
+    is_answered_over(rt, case, &picked, &bytes)
 }

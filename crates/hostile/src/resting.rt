@@ -90,37 +90,71 @@ fn are_blocks(alloc: Global, cursor: &BlockCursor<'_>) -> bool {
         && !cursor.is_last()
 }
 
+/// Whether a table's last key is below the one of `b`, and not below that of `a`.
+fn is_last(table: &TableBuilder<Bytewise>) -> bool {
+    let Ok(above) = InternalKey::parse(&B_AT_ONE) else {
+        return false;
+    };
+    let Ok(same) = InternalKey::parse(&A_AT_ONE) else {
+        return false;
+    };
+    table.is_above_last(&above) && !table.is_above_last(&same)
+}
+
 /// Builders of no entry, and of one entry, whose block of 21 bytes was written with five more to a table.
-fn are_builders(
+fn are_builders(alloc: Global, block: &BlockBuilder, table: &TableBuilder<Bytewise>) -> bool {
+    let estimate = BlockBuilder::new(alloc, 16).estimate();
+    let flushed = TableBuilder::<Bytewise>::new(alloc, SMALLEST).flushed();
+    if estimate != 8 || flushed != 0 || block.is_empty() {
+        return false;
+    }
+    block.estimate() == 21
+        && block.last_key() == A_AT_ONE.as_slice()
+        && table.flushed() == 26
+        && is_last(table)
+}
+
+/// Whether a cursor and builders are right while each request for memory is refused.
+fn are_right(
     alloc: Global,
+    memory: &mut Memory,
+    cursor: &BlockCursor<'_>,
     block: &BlockBuilder,
     table: &TableBuilder<Bytewise>,
 ) -> Result<bool, Fault> {
-    let is_above = table.is_above_last(&InternalKey::parse(&B_AT_ONE)?);
-    let is_same_above = table.is_above_last(&InternalKey::parse(&A_AT_ONE)?);
-    Ok(
-        BlockBuilder::new(alloc, 16).estimate() == 8
-            && !block.is_empty()
-            && block.estimate() == 21
-            && block.last_key() == A_AT_ONE.as_slice()
-            && TableBuilder::<Bytewise>::new(alloc, SMALLEST).flushed() == 0
-            && table.flushed() == 26
-            && is_above
-            && !is_same_above,
-    )
+    memory.leave(alloc, 0)?;
+    let is_right = are_blocks(alloc, cursor) && are_builders(alloc, block, table);
+    memory.loosen();
+    Ok(is_right)
+}
+
+/// The same with a table that is made before.
+fn are_beside_table(
+    alloc: Global,
+    memory: &mut Memory,
+    cursor: &BlockCursor<'_>,
+    block: &BlockBuilder,
+) -> Result<bool, Fault> {
+    let mut table = TableBuilder::<Bytewise>::new(alloc, SMALLEST);
+    add_row(memory, &mut table, &A_AT_ONE)?;
+    are_right(alloc, memory, cursor, block, &table)
+}
+
+/// The same with a block that is made before it.
+fn are_beside_block(
+    alloc: Global,
+    memory: &mut Memory,
+    cursor: &BlockCursor<'_>,
+) -> Result<bool, Fault> {
+    let mut block = BlockBuilder::new(alloc, 16);
+    add_entry(memory, &mut block, &A_AT_ONE, b"x")?;
+    are_beside_table(alloc, memory, cursor, &block)
 }
 
 /// Blocks, their cursor, and builders.
 pub fn blocks(alloc: Global, memory: &mut Memory) -> Result<bool, Fault> {
     let cursor = BlockCursor::new(alloc, &block::check(BLOCK)?)?;
-    let mut block = BlockBuilder::new(alloc, 16);
-    add_entry(memory, &mut block, &A_AT_ONE, b"x")?;
-    let mut table = TableBuilder::<Bytewise>::new(alloc, SMALLEST);
-    add_row(memory, &mut table, &A_AT_ONE)?;
-    memory.leave(alloc, 0)?;
-    let is_right = are_blocks(alloc, &cursor) && are_builders(alloc, &block, &table) == Ok(true);
-    memory.loosen();
-    Ok(is_right)
+    are_beside_block(alloc, memory, &cursor)
 }
 
 /// Whether a cursor's first entry is `a` at 1 with the value `x`.
@@ -130,32 +164,71 @@ fn is_first<'a, S: Cursor<'a, Bytewise>>(cursor: &S) -> bool {
         && cursor.value() == b"x".as_slice()
 }
 
-/// A handle and what is behind it, the ends of a table, and its cursor, alone and as one of all.
+/// A handle and what is behind it.
+fn is_handle() -> bool {
+    let Some(found) = BlockHandle::read(b"\x1a\x08x") else {
+        return false;
+    };
+    found.handle.size == 8 && found.rest == b"x".as_slice()
+}
+
+/// The ends of a table, and its cursor, alone and as one of all.
 fn are_tables(
     table: &SoundTable<'_, Bytewise>,
     cursors: &[TableCursor<'_, Bytewise>],
     merging: &Merging<Bytewise, TableCursor<'_, Bytewise>>,
 ) -> bool {
-    let found = BlockHandle::read(b"\x1a\x08x");
-    found.is_some_and(|found| found.handle.size == 8 && found.rest == b"x".as_slice())
-        && table.bytes().len() == 114
+    let Some(cursor) = cursors.first() else {
+        return false;
+    };
+    table.bytes().len() == 114
         && table.smallest().bytes() == A_AT_ONE.as_slice()
         && table.largest().bytes() == A_AT_ONE.as_slice()
-        && cursors.first().is_some_and(|cursor| is_first(cursor))
+        && is_first(cursor)
         && least_place::<Bytewise, _>(cursors) == Some(0)
         && is_first(merging)
         && merging.place() == Some(0)
 }
 
+/// Whether a handle, a table and cursors are right while each request for memory is refused.
+fn are_walkable(
+    alloc: Global,
+    memory: &mut Memory,
+    table: &SoundTable<'_, Bytewise>,
+    cursors: &[TableCursor<'_, Bytewise>],
+    merging: &Merging<Bytewise, TableCursor<'_, Bytewise>>,
+) -> Result<bool, Fault> {
+    memory.leave(alloc, 0)?;
+    let is_right = is_handle() && are_tables(table, cursors, merging);
+    memory.loosen();
+    Ok(is_right)
+}
+
+/// The same with cursors as one that are made before.
+fn are_merging(
+    alloc: Global,
+    memory: &mut Memory,
+    table: &SoundTable<'_, Bytewise>,
+    cursors: &[TableCursor<'_, Bytewise>],
+) -> Result<bool, Fault> {
+    let merging = Merging::new(alloc, cursors_over(alloc, &[TABLE])?)?;
+    are_walkable(alloc, memory, table, cursors, &merging)
+}
+
+/// The same with cursors that are made before them.
+fn are_walked(
+    alloc: Global,
+    memory: &mut Memory,
+    table: &SoundTable<'_, Bytewise>,
+) -> Result<bool, Fault> {
+    let cursors = cursors_over(alloc, &[TABLE])?;
+    are_merging(alloc, memory, table, &cursors)
+}
+
 /// Tables and their cursors.
 pub fn tables(alloc: Global, memory: &mut Memory) -> Result<bool, Fault> {
     let table = check::<Bytewise>(alloc, TABLE)?;
-    let cursors = cursors_over(alloc, &[TABLE])?;
-    let merging = Merging::new(alloc, cursors_over(alloc, &[TABLE])?)?;
-    memory.leave(alloc, 0)?;
-    let is_right = are_tables(&table, &cursors, &merging);
-    memory.loosen();
-    Ok(is_right)
+    are_walked(alloc, memory, &table)
 }
 
 /// Sequences that stay readable, orders that a request is tested for, and user keys that a deeper file, from `t0` to `v0`, may hold.
@@ -213,15 +286,25 @@ fn is_plan(plan: &Plan<'_, '_, Bytewise>) -> bool {
         && output.largest.bytes() == A_AT_ONE.as_slice()
 }
 
+/// Whether ranges and what one keeps are right, and their plan that is made before, while each request for memory is refused.
+fn are_planned(
+    alloc: Global,
+    memory: &mut Memory,
+    split: &Split<Bytewise>,
+    runs: &[RangeRun<'_>],
+) -> Result<bool, Fault> {
+    let plan = plan::<Bytewise>(alloc, runs, &[], SMALLEST, 5)?;
+    memory.leave(alloc, 0)?;
+    let is_right = is_kept(runs) && are_ranges(alloc, split) && is_plan(&plan);
+    memory.loosen();
+    Ok(is_right)
+}
+
 /// What a range keeps, ranges, and a plan.
 pub fn plans(alloc: Global, memory: &mut Memory) -> Result<bool, Fault> {
     let split = three_ranges(alloc)?;
     let runs = runs_of(alloc, TABLE)?;
-    let plan = plan::<Bytewise>(alloc, &runs, &[], SMALLEST, 5)?;
-    memory.leave(alloc, 0)?;
-    let is_right = is_kept(&runs) && are_ranges(alloc, &split) && is_plan(&plan);
-    memory.loosen();
-    Ok(is_right)
+    are_planned(alloc, memory, &split, &runs)
 }
 
 /// Whether the numbers of a version are these, and those of one of nothing none; and its compact pointer of level 1, and that of level 2,
@@ -230,7 +313,8 @@ fn is_version(alloc: Global, version: &Version) -> bool {
     let Some(pointer) = version.pointer(1) else {
         return false;
     };
-    Version::empty(alloc).next_file() == None
+    let none = Version::empty(alloc).next_file();
+    none == None
         && version.log_number() == Some(3)
         && version.previous_log() == Some(0)
         && version.next_file() == Some(10)

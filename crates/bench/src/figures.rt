@@ -84,12 +84,12 @@ impl Figures {
     }
 
     /// Takes the figures of two works that are done in turn.
-    pub fn take_two(
+    pub fn take_two<'w>(
         &mut self,
         rt: &HostRuntime,
         extent: Extent,
-        first: Work<'_>,
-        second: Work<'_>,
+        first: Work<'w>,
+        second: Work<'w>,
     ) -> Result<(), Fault> {
         self.take(rt, extent, &[first, second])
     }

@@ -1,15 +1,18 @@
-//! Runs Sedvokt's calls on files that LevelDB 1.23 wrote, and compares what they answer with what has to come of them. Then it
-//! does what its own words ask for, as the program `sedvokt` does: its stored run compacts all levels of a folder and tells how.
+//! Reads a command line while memory is short. Then it runs Sedvokt's calls on files that LevelDB 1.23 wrote, and compares what they
+//! answer with what has to come of them. At last it does what its own words ask for, as the program `sedvokt` does: its stored run
+//! compacts all levels of a folder and tells how.
 #![tactic(auto)]
 
 mod blocks;
 mod calls;
+mod command_line;
 mod compactions;
 mod folders;
 mod tables;
 
 use anyhow::{Context, Result, bail};
 use blocks::print_blocks;
+use command_line::print_line;
 use compactions::print_compactions;
 use folders::print_folders;
 use std::fs;
@@ -47,6 +50,7 @@ fn print<R: Print>(rt: &R, name: &str, text: &str) -> Result<()> {
 }
 
 fn main(rt: HostRuntime) -> Result<()> {
+    print_line(&rt)?;
     print_blocks(&rt)?;
     print_tables(&rt)?;
     print_folders(&rt)?;

@@ -1,5 +1,5 @@
-//! The tests of a compaction, from what a version answers to the whole: `reads`, `keep`, `pieces`, `cut`, `request`, `compact` and
-//! `checks`.
+//! The tests of a compaction, from what a worker keeps to the whole and to a folder: `keep`, `pieces`, `cut`, `request`, `compact`,
+//! `checks` and `store`.
 #![tactic(auto)]
 
 #[cfg(test)]
@@ -15,4 +15,4 @@ mod plans;
 #[cfg(test)]
 mod requests;
 #[cfg(test)]
-mod version_reads;
+mod stores;

@@ -1,5 +1,4 @@
-//! The tests of `folder`, `install` and `store`: folders that are opened and loaded, installations that are cut short or fail, and
-//! compactions of folders.
+//! The tests of `folder` and `install`: folders that are opened and loaded, and installations that are cut short or fail.
 #![tactic(auto)]
 
 #[cfg(test)]
@@ -12,5 +11,3 @@ mod installs;
 mod opening;
 #[cfg(test)]
 mod shelf;
-#[cfg(test)]
-mod stores;

@@ -15,7 +15,6 @@ use pairing::blocks;
 use std::alloc::Global;
 use std::thread::Threads;
 use store::{Settings, compact_dir};
-use usage::{Levels, Line, Readable, Usage, line};
 
 /// The folder of one table, of a deletion of `u` at 4 and a value `x` at 2.
 const FILES: &[(&str, &[u8])] = &[
@@ -48,17 +47,6 @@ const QUESTIONS: &[(Question, &[u8])] = &[
     (Question::Verify, b"lawful: 1 files, 2 entries\n"),
     (Question::Get(Some(3)), b"78\n"),
     (Question::Get(None), b"none\n"),
-];
-
-/// Level 1 of the folder `one` compacted, with gets at 2 and 5 as before.
-const COMPACT: [&str; 7] = [
-    "sedvokt",
-    "compact",
-    "one",
-    "--level",
-    "1",
-    "--snapshots",
-    "2,5",
 ];
 
 /// Whether the one table of a version is that of the folder.
@@ -190,28 +178,4 @@ pub fn table_dumped(alloc: Global) -> Result<bool, Fault> {
 pub fn blocks_merged<R: AllocGlobal + Threads + Sync>(rt: &R) -> Result<bool, Fault> {
     let (entries, block) = blocks(rt, rt.alloc(), FIRST_BLOCK, SECOND_BLOCK, b"b")?;
     Ok(entries == 2 && block.as_slice() == BOTH_ENTRIES)
-}
-
-/// Whether snapshots are these.
-fn are_listed(readable: &Readable, listed: &[u64]) -> bool {
-    match readable {
-        Readable::Listed(list) => list.as_slice() == listed,
-        Readable::From(_) => false,
-    }
-}
-
-/// A command line, read.
-pub fn line_read(alloc: Global) -> Result<bool, Fault> {
-    match line(alloc, &COMPACT) {
-        Ok(
-            Line::Compact {
-                folder,
-                levels: Levels::One(1),
-                settings,
-                ..
-            },
-        ) => Ok(folder == "one" && are_listed(&settings.readable, &[2, 5])),
-        Err(Usage::Memory) => Err(Fault::of(FaultName::Memory)),
-        _ => Ok(false),
-    }
 }

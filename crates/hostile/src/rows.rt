@@ -2,9 +2,7 @@
 
 use crate::building::{block_built, edited, logged, table_built};
 use crate::cases::{DELETION, FOUR_WORKERS, GRANDPARENTS, OUTPUTS, SPOILT};
-use crate::folders::{
-    blocks_merged, folder_asked, folder_compacted, installed, line_read, table_dumped,
-};
+use crate::folders::{blocks_merged, folder_asked, folder_compacted, installed, table_dumped};
 use crate::planning::{chosen, planned, seated};
 use crate::requests::is_answered_of_many;
 use crate::resting::{blocks, board, numbers, plans, rules, tables, versions};
@@ -66,7 +64,6 @@ pub enum Row {
     BlockCursor,
     FolderAsked,
     Dump,
-    Line,
     Numbers,
     RestingBlocks,
     RestingTables,
@@ -176,7 +173,6 @@ pub const GROWTHS: &[(Row, &str)] = &[
         "  a folder is shown, verified and asked for a key",
     ),
     (Row::Dump, "  a table is dumped"),
-    (Row::Line, "  command lines are read"),
 ];
 
 /// For how many turns job 0 is held at most.
@@ -245,7 +241,6 @@ fn has_answer<R: AllocGlobal + Threads + Sync>(
         Row::BlockCursor => block_walked(alloc, memory),
         Row::FolderAsked => folder_asked(rt, memory),
         Row::Dump => table_dumped(alloc),
-        Row::Line => line_read(alloc),
         Row::Numbers => numbers(alloc, memory),
         Row::RestingBlocks => blocks(alloc, memory),
         Row::RestingTables => tables(alloc, memory),

@@ -1,6 +1,6 @@
-//! The tests of `table`, of what stands on it, `split`, `merge` and `pairing`, and of `board`, `edit` and `pick`: tables written, read and
-//! sought, ranges that are chosen, cursors walked as one, which seat draws what and what several workers answer together, two blocks that
-//! are merged into one by workers, edits and the versions after them, and what a compaction takes.
+//! The tests of `table`, of what stands on it, `split`, `merge`, `pairing` and `reads`, and of `board`, `edit` and `pick`: tables written,
+//! read and sought, ranges that are chosen, cursors walked as one, which seat draws what and what several workers answer together, two
+//! blocks that are merged into one by workers, edits and the versions after them, what a compaction takes, and what a version answers.
 #![tactic(auto)]
 
 #[cfg(test)]
@@ -19,3 +19,5 @@ mod pairs;
 mod reading;
 #[cfg(test)]
 mod splits;
+#[cfg(test)]
+mod version_reads;

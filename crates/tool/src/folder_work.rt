@@ -2,12 +2,14 @@
 
 ghost use Rattle.std.specs.Prelude.{◌≤◌, IfOk};
 
+use crate::explaining::in_words;
 use crate::files;
 use crate::progress_line::ProgressLine;
+use crate::telling::Telling;
 use account::{Account, text};
 use coding::Fault;
 use commands::{bottom, get_dir_watched, manifest, next_level, verify_watched};
-use diagnostics::{Telling, account_of, in_words};
+use diagnostics::account_of;
 use edit::Version;
 use folder::{Disk, Folder, Order, WholeFiles, open};
 use keep::Snapshots;

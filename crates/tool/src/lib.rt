@@ -1,10 +1,12 @@
-//! What the program `sedvokt` does: its files and what it prints.
+//! What the program `sedvokt` does: its files, what it prints, and what it tells of the work on a folder.
 #![tactic(auto)]
 
+mod explaining;
 mod files;
 mod folder_work;
 mod program;
 mod progress_line;
+mod telling;
 
 pub use commands::{bottom, dump, get_dir, manifest, next_level, progress_text, status, verify};
 pub use folder::{Disk, Folder, FolderFault, Order, load, open};

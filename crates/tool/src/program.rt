@@ -2,9 +2,9 @@
 
 use crate::files;
 use crate::folder_work::{compact_folder, print_lines, print_value, print_verdict, print_version};
+use crate::telling::Telling;
 use coding::{Fault, FaultName};
 use commands::{dump, status};
-use diagnostics::Telling;
 use folder::WholeFiles;
 use pairing::blocks;
 use std::env::Env;

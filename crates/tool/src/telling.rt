@@ -2,9 +2,9 @@
 
 ghost use Rattle.std.specs.Prelude.{◌≡◌, true, IfSome};
 
-use crate::diagnosis::{log_with_writes, refused_file};
 use crate::explaining::in_words;
 use coding::{Fault, FaultName};
+use diagnostics::{log_with_writes, refused_file};
 use folder::Disk;
 use std::rt::Files;
 use std::time::{Clock, Instant};

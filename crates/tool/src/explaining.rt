@@ -3,7 +3,7 @@
 use coding::FaultName;
 
 /// What is wrong, by the name of a refusal.
-pub fn in_words(name: FaultName) -> &'static str {
+pub(crate) fn in_words(name: FaultName) -> &'static str {
     match of_work(name) {
         Some(words) => words,
         None => match of_settings(name) {

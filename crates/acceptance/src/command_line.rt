@@ -1,7 +1,7 @@
 //! A command line, read while memory is short.
 
-use crate::{print, refused};
-use anyhow::Result;
+use crate::{print, wanted};
+use anyhow::{Context, Result};
 use coding::{Fault, FaultName};
 use lying::{Memory, pieces};
 use std::alloc::Global;
@@ -71,9 +71,8 @@ fn is_read_at_last(alloc: Global) -> Result<bool, Fault> {
 
 /// Reads a command line with no memory, with a little, and with more and more of it.
 pub fn print_line<R: AllocGlobal + Print>(rt: &R) -> Result<()> {
-    if !is_read_at_last(rt.alloc()).unwrap_or(false) {
-        return refused("a command line", "another answer was wanted");
-    }
+    let is_read = is_read_at_last(rt.alloc()).context("a command line")?;
+    wanted(is_read, "a command line", "another answer was wanted")?;
     print(
         rt,
         "a command line",

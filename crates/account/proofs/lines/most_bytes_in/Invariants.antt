@@ -1,4 +1,4 @@
-use Rattle.std.proofs.Common.{◌≡◌, ℕ, map, take}
+use Rattle.std.proofs.Common.{◌≡◌, map, take}
 use Rattle.account.specs.Bars.{largest}
 use Rattle.account.specs.declared.numbers.LevelInputs.{LevelInputs}
 use Rattle.account.proofs.lines.most_bytes_in.Given as goal

@@ -1,4 +1,4 @@
-use Rattle.std.proofs.Common.{◌≡◌, ℕ, map, take}
+use Rattle.std.proofs.Common.{◌≡◌, map, take}
 use Rattle.account.specs.Bars.{largest}
 use Rattle.account.specs.declared.numbers.RangeEntries.{RangeEntries}
 use Rattle.account.proofs.lines.most_entries_in.Given as goal

@@ -1,5 +1,5 @@
 -- The answers for the inputs, one by one.
-use Rattle.std.proofs.Common.{◌≡◌, ℕ, zero, suc, ◌+◌, ◌-◌, ◌≤◌, ◌<◌, Bool, true, false, List, [], ◌∷◌, map, length, Option, Some, None, Result, Ok, Err, refl, sym, ap, subst, ◌∙◌, arith}
+use Rattle.std.proofs.Common.{◌≡◌, ℕ, zero, suc, ◌+◌, ◌-◌, ◌<◌, Bool, true, false, List, [], ◌∷◌, map, length, Some, Result, Ok, Err, refl, sym, ap, ◌∙◌, arith}
 use Rattle.std.specs.Prelude.{slice_get, min, nat_eq, ◌&&◌, get_or}
 use Rattle.std.specs.Option.{option_map}
 use Rattle.std.specs.Str.{bytes_eq}
@@ -7,10 +7,9 @@ use Rattle.std.specs.declared.cmp.Ordering.{Ordering}
 use Rattle.std.proofs.lemmas.List.{length-map}
 use Rattle.std.proofs.lemmas.Option.{same_Some, slice_get-get_or, slice_get-map, slice_get_read}
 use Rattle.coding.specs.declared.fault.Fault.{Fault}
-use Rattle.coding.specs.declared.fault.FaultName.{FaultName}
-use Rattle.coding.specs.declared.fault.FaultName.TheVariants.{Memory, Bounds}
-use Rattle.coding.specs.Answers.{fault, ◌>>=◌, EqualOrMemory, FailsOrMemory, UnlessMemory, UnlessNamed}
-use Rattle.coding.proofs.Refusals.{FailsOrMemory-from, unless_from}
+use Rattle.coding.specs.declared.fault.FaultName.TheVariants.{Bounds}
+use Rattle.coding.specs.Answers.{fault, ◌>>=◌, FailsOrMemory}
+use Rattle.coding.proofs.Refusals.{unless_from}
 use Rattle.block.specs.Piece.{Entry}
 use Rattle.block.specs.Building.{last_key}
 use Rattle.table.specs.Reading.{Contents, contents_reading}

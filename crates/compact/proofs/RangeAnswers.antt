@@ -1,5 +1,5 @@
 -- The answers on ranges, one by one.
-use Rattle.std.proofs.Common.{◌≡◌, ℕ, ◌+◌, ◌<◌, ◌≤◌, Bool, true, false, List, [], ◌∷◌, map, length, Option, Some, None, Result, Ok, Err, refl, sym, ap, subst, ◌∙◌, arith}
+use Rattle.std.proofs.Common.{◌≡◌, ℕ, ◌+◌, ◌≤◌, Bool, true, false, List, [], ◌∷◌, map, length, Option, Some, None, Result, Ok, Err, refl, sym, ap, ◌∙◌, arith}
 use Rattle.std.specs.Prelude.{slice_get, ◌&&◌, cond}
 use Rattle.std.specs.List.{list_all}
 use Rattle.std.specs.Option.{option_map}
@@ -14,9 +14,8 @@ use Rattle.split.specs.Boundaries.{IsSplit}
 use Rattle.split.specs.Ranges.{KeyRange, range_at}
 use Rattle.keep.specs.InRange.{entries_in}
 use Rattle.keep.specs.Marks.{Below}
-use Rattle.keep.specs.Runs.{Run, run_of, are_distinct, range_run, ranges_from, ranges_of, parts_of, runs_of, RangesCompose}
+use Rattle.keep.specs.Runs.{Run, run_of, are_distinct, range_run, ranges_from, ranges_of, runs_of, RangesCompose}
 use Rattle.board.specs.Collected.{collected}
-use Rattle.request.specs.Inputs.{union_reading}
 use Rattle.compact.specs.Runs.{range_answers, runs_reading}
 
 abbrev unless_twice : {A : Type 0} → Bool → A → Result A Fault

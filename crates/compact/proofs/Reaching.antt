@@ -1,6 +1,6 @@
 -- What tables have in a range, and cursors over those that reach into it.
-use Rattle.std.proofs.Common.{◌≡◌, ◌⊎◌, ℕ, ◌+◌, ◌-◌, ◌<◌, Bool, true, false, cond, List, [], ◌∷◌, ◌++◌, map, take, length, get_or, Some, None, Option, Result, Ok, Err, refl, sym, ap, subst, ◌∙◌, inl, inr, ⊎_elim}
-use Rattle.std.specs.Prelude.{◌&&◌, ◌||◌, not, filter, slice_get, if◌then◌else◌}
+use Rattle.std.proofs.Common.{◌≡◌, ℕ, ◌+◌, ◌-◌, ◌<◌, Bool, true, false, cond, List, [], ◌∷◌, ◌++◌, map, take, length, get_or, Some, None, Option, Result, Ok, Err, refl, sym, ap, subst, ◌∙◌}
+use Rattle.std.specs.Prelude.{◌&&◌, not, slice_get, if◌then◌else◌}
 use Rattle.std.specs.List.{AllByRecursion}
 use Rattle.std.specs.Option.{option_map, option_map_or}
 use Rattle.std.specs.Ordering.{is_lt}
@@ -20,18 +20,17 @@ use Rattle.table.specs.ReadingIndex.{IndexEntry, index_reading}
 use Rattle.table.proofs.CheckedTables.{blocks_by, read_data}
 use Rattle.table.proofs.EntryTests.{all_tests, rising}
 use Rattle.table.proofs.Orders.{rising_never_falls}
-use Rattle.merge.specs.Merged.{joined, merged, sorted}
+use Rattle.merge.specs.Merged.{joined, sorted}
 use Rattle.merge.proofs.Sorting.{filter-sorted}
 use Rattle.split.specs.Ranges.{KeyRange}
 use Rattle.keep.specs.InRange.{is_in_range, entries_in}
 use Rattle.keep.specs.Left.{is_before, LosesOnly}
 use Rattle.keep.specs.Marks.{Below}
-use Rattle.keep.specs.Runs.{Run, run_of, are_distinct, range_run}
-use Rattle.keep.specs.Starting.{first_is}
+use Rattle.keep.specs.Runs.{run_of, are_distinct, range_run}
 use Rattle.keep.proofs.Bounds.{below_apart, from_bound}
 use Rattle.keep.proofs.Leaving.{leaves_filter}
 use Rattle.compact.proofs.InputAnswers.{first_from, last_from}
-use Rattle.compact.proofs.Joined.{Taken, taken}
+use Rattle.compact.proofs.Joined.{taken}
 
 -- ---- the entries of a table never fall
 

@@ -1,5 +1,5 @@
 -- Tables that are checked are what the bytes of the inputs read as.
-use Rattle.std.proofs.Common.{◌≡◌, ℕ, ◌+◌, Bool, true, List, [], ◌∷◌, map, Result, Ok, Some, length, refl, sym, ap, ◌∙◌}
+use Rattle.std.proofs.Common.{◌≡◌, ℕ, ◌+◌, Bool, true, List, [], ◌∷◌, map, Result, Ok, length, refl, sym, ap, ◌∙◌}
 use Rattle.std.specs.Prelude.{◌&&◌, nat_eq}
 use Rattle.std.specs.Str.{bytes_eq}
 use Rattle.std.specs.declared.cmp.Ordering.{Ordering}
@@ -13,7 +13,7 @@ use Rattle.edit.specs.declared.meta.FileMeta.{FileMeta}
 use Rattle.pick.specs.declared.picked.InputFile.{InputFile}
 use Rattle.reads.specs.Lawful.{IsFileOf}
 use Rattle.reads.specs.Tables.{Numbered}
-use Rattle.request.specs.Inputs.{about, is_stated, input_reading, inputs_reading}
+use Rattle.request.specs.Inputs.{about, is_stated, inputs_reading}
 use Rattle.compact.specs.Sound.{AreInputs}
 use Rattle.compact.proofs.InputAnswers.{read_stated, stated_by}
 

@@ -1,5 +1,5 @@
 -- The keys of a table are bytes, as the table is, so that no sequence exceeds its limit.
-use Rattle.std.proofs.Common.{◌≡◌, ℕ, zero, suc, ◌+◌, ◌-◌, ◌/◌, ◌<◌, ◌≤◌, ◌^◌, List, [], ◌∷◌, ◌++◌, length, take, drop, get_or, Ok, refl, sym, ap, subst, ◌∙◌, arith}
+use Rattle.std.proofs.Common.{◌≡◌, ℕ, zero, suc, ◌-◌, ◌<◌, ◌^◌, List, [], ◌∷◌, ◌++◌, length, take, drop, get_or, Ok, subst, arith}
 use Rattle.std.specs.Prelude.{flat_map, slice_index}
 use Rattle.std.specs.List.{AllByRecursion}
 use Rattle.std.specs.Cmp.{IsTotalOrder}
@@ -8,10 +8,10 @@ use Rattle.byteorder.specs.Endian.{little_number}
 use Rattle.byteorder.specs.Numbers.{little_from-lt}
 use Rattle.coding.specs.Varint.{varint}
 use Rattle.ikey.specs.Key.{tag_of, sequence_of}
-use Rattle.block.specs.Piece.{Entry, Piece, piece_bytes, key_after, entries_after, restarts_of, restart_bytes, block_bytes, IsBlock}
+use Rattle.block.specs.Piece.{Entry, Piece, piece_bytes, key_after, entries_after, restarts_of, restart_bytes, IsBlock}
 use Rattle.frame.specs.Trailer.{stored, trailer_bytes}
 use Rattle.table.specs.Reading.{DataBlock, entries_of, table_reading}
-use Rattle.table.specs.ReadingTables.{StandsAt, IsNamed, AreNamed, IsTable, AreBytes}
+use Rattle.table.specs.ReadingTables.{IsNamed, AreNamed}
 use Rattle.table.proofs.Tables.{reads_tables}
 
 abbrev IsByte : ℕ → Type 0

@@ -1,7 +1,6 @@
 -- What a compaction answers, as definitions see it.
 use Rattle.std.specs.Prelude.{ℕ, List, map, Result, Ok}
 use Rattle.std.specs.Global.{Vec}
-use Rattle.std.specs.declared.cmp.Ordering.{Ordering}
 use Rattle.coding.specs.Answers.{◌>>=◌}
 use Rattle.coding.specs.declared.fault.Fault.{Fault}
 use Rattle.block.specs.Piece.{Entry}

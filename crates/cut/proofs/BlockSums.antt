@@ -1,16 +1,14 @@
 -- The entries of planned data blocks: their number, the first and the last.
-use Rattle.std.proofs.Common.{◌≡◌, ◌≢◌, ℕ, zero, suc, ◌+◌, ◌-◌, ◌^◌, ◌<◌, ◌≤◌, List, [], ◌∷◌, ◌++◌, length, map, drop, get_or, min, refl, sym, ap, subst, ◌∙◌, append-nil, arith}
+use Rattle.std.proofs.Common.{◌≡◌, ◌≢◌, ℕ, zero, suc, ◌+◌, ◌-◌, ◌^◌, ◌<◌, List, [], ◌∷◌, ◌++◌, length, drop, get_or, min, refl, sym, ap, subst, ◌∙◌, append-nil, arith}
 use Rattle.std.specs.Prelude.{Option, Some, None, slice_get}
 use Rattle.std.specs.List.{AllByRecursion, last_or}
 use Rattle.std.specs.Option.{option_map}
 use Rattle.std.proofs.lemmas.List.{length-append, length-map, drop_more}
 use Rattle.block.specs.Piece.{Entry}
 use Rattle.pieces.specs.declared.planned_block.PlannedBlock.{PlannedBlock}
-use Rattle.cut.specs.declared.planned_output.PlannedOutput.{PlannedOutput}
 use Rattle.cut.specs.Metered.{ended}
 use Rattle.cut.specs.Opened.{parts_of, entries_in_blocks}
-use Rattle.cut.specs.Plan.{Planned, ends_from}
-use Rattle.cut.specs.Planning.{planned_of}
+use Rattle.cut.specs.Plan.{ends_from}
 use Rattle.cut.specs.Sizes.{saturated}
 
 -- the entries of a block and those behind it

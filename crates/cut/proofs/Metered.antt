@@ -1,5 +1,5 @@
 -- One more entry is measured.
-use Rattle.std.proofs.Common.{◌≡◌, ℕ, ◌+◌, ◌-◌, ◌%◌, ◌^◌, ◌<◌, ◌≤◌, Bool, true, false, cond, eqb, List, [], ◌∷◌, ◌++◌, length, take, drop, min, refl, sym, ap, ◌∙◌, inl, inr, arith}
+use Rattle.std.proofs.Common.{◌≡◌, ℕ, ◌+◌, ◌-◌, ◌%◌, ◌^◌, ◌<◌, ◌≤◌, Bool, true, false, cond, eqb, List, [], ◌∷◌, ◌++◌, length, take, min, refl, sym, ap, ◌∙◌, inl, inr, arith}
 use Rattle.std.specs.Prelude.{Option, Some, None, slice_get, ◌&&◌}
 use Rattle.std.specs.List.{last_or}
 use Rattle.std.specs.Option.{option_map}
@@ -15,7 +15,7 @@ use Rattle.block.proofs.Written.{common, piece_at_restart}
 use Rattle.pieces.proofs.Lists.{length_le_block}
 use Rattle.cut.specs.Lengths.{added_len}
 use Rattle.cut.specs.Sizes.{saturated, piece_size}
-use Rattle.cut.specs.Metered.{IsMetered, ended, next_since, left_out, added_size}
+use Rattle.cut.specs.Metered.{IsMetered, ended, next_since, added_size}
 use Rattle.cut.proofs.Metering.{lengths_law}
 
 -- ---- what an entry adds

@@ -1,10 +1,10 @@
 -- The pieces of a plan: each has its place, and together they are those of the definition.
-use Rattle.std.proofs.Common.{◌≡◌, ◌≢◌, ℕ, zero, suc, ◌+◌, ◌-◌, ◌^◌, ◌<◌, ◌≤◌, Bool, true, false, List, [], ◌∷◌, ◌++◌, length, map, take, drop, get_or, Result, Ok, Err, refl, sym, ap, subst, ◌∙◌, append_assoc, inl, inr, arith}
-use Rattle.std.specs.Prelude.{nat_lt, nat_le, if◌then◌else◌, flat_map, slice_range, slice_get, Option, Some, IfOk}
+use Rattle.std.proofs.Common.{◌≡◌, ℕ, zero, suc, ◌+◌, ◌-◌, ◌^◌, ◌<◌, ◌≤◌, Bool, true, false, List, [], ◌∷◌, ◌++◌, length, map, take, drop, get_or, Result, Ok, Err, refl, sym, ap, subst, ◌∙◌, append_assoc, arith}
+use Rattle.std.specs.Prelude.{nat_lt, nat_le, flat_map, slice_range, slice_get, Option, Some, IfOk}
 use Rattle.std.specs.Global.{Vec}
 use Rattle.std.specs.List.{AllByRecursion}
 use Rattle.std.specs.declared.cmp.Ordering.{Ordering}
-use Rattle.std.proofs.lemmas.Bool.{cases_lt, lt-ltb, le-ltb, ltb-true}
+use Rattle.std.proofs.lemmas.Bool.{le-ltb}
 use Rattle.std.proofs.lemmas.List.{length-append, length_push, length-map}
 use Rattle.std.proofs.lemmas.List.Sums.{sum_by-cons}
 use Rattle.coding.specs.Answers.{EqualOrMemory}
@@ -13,17 +13,16 @@ use Rattle.block.specs.Piece.{Entry}
 use Rattle.block.specs.Writing.{block}
 use Rattle.table.specs.declared.options.Options.{Options}
 use Rattle.table.specs.DataBlocks.{data_blocks}
-use Rattle.table.specs.Table.{index_keys, stored_blocks, table}
+use Rattle.table.specs.Table.{stored_blocks, table}
 use Rattle.pieces.specs.declared.planned_block.PlannedBlock.{PlannedBlock}
 use Rattle.cut.specs.declared.piece.Piece.{Piece}
 use Rattle.cut.specs.declared.planned_output.PlannedOutput.{PlannedOutput}
 use Rattle.cut.specs.Divided.{blocks_at, piece_blocks, places_from, places_all, piece_limit}
-use Rattle.cut.specs.Opened.{parts_of, entries_in_blocks, HasLen, ArePlanned}
-use Rattle.cut.specs.Plan.{Planned, parts, pieces, pieces_in}
-use Rattle.cut.specs.Planning.{PlanSeen, planned_of, block_count, IsPlannedOutput, IsPlan, lists_in}
-use Rattle.cut.specs.Sizes.{saturated}
+use Rattle.cut.specs.Opened.{parts_of, entries_in_blocks, HasLen}
+use Rattle.cut.specs.Plan.{parts, pieces, pieces_in}
+use Rattle.cut.specs.Planning.{planned_of, block_count, IsPlannedOutput, IsPlan, lists_in}
 use Rattle.cut.specs.TableLength.{lens_of}
-use Rattle.cut.proofs.PiecePlaces.{IsShort, all_are, divided_all, pieces_are}
+use Rattle.cut.proofs.PiecePlaces.{IsShort, all_are, pieces_are}
 use Rattle.cut.proofs.TableLengths.{exact_one, length-table, stored_more}
 
 -- ---- facts of all elements

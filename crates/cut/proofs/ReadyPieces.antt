@@ -1,12 +1,11 @@
 -- The pieces of a plan make its tables.
-use Rattle.std.proofs.Common.{◌≡◌, ◌≢◌, ℕ, zero, suc, ◌+◌, ◌-◌, ◌^◌, ◌<◌, ◌≤◌, List, [], ◌∷◌, ◌++◌, length, map, take, drop, get_or, refl, sym, ap, subst, ◌∙◌, append-nil, arith}
+use Rattle.std.proofs.Common.{◌≡◌, ◌≢◌, ℕ, zero, suc, ◌+◌, ◌<◌, ◌≤◌, List, [], ◌∷◌, ◌++◌, length, map, take, drop, get_or, refl, sym, ap, subst, ◌∙◌, append-nil, arith}
 use Rattle.std.specs.Prelude.{flat_map}
 use Rattle.std.specs.List.{AllByRecursion}
 use Rattle.std.specs.declared.cmp.Ordering.{Ordering}
-use Rattle.std.proofs.lemmas.List.{length-append, length-map, map-append, take_at, drop_at, drop_more, take-append-le}
+use Rattle.std.proofs.lemmas.List.{length-map, map-append, take_at, drop_at, drop_more}
 use Rattle.block.specs.Piece.{Entry}
 use Rattle.table.specs.declared.options.Options.{Options}
-use Rattle.table.specs.DataBlocks.{data_blocks}
 use Rattle.table.specs.Table.{IndexKeys, index_keys, stored_blocks, table, table_of}
 use Rattle.pieces.specs.declared.planned_block.PlannedBlock.{PlannedBlock}
 use Rattle.pieces.specs.Planned.{IsPlanned}
@@ -15,7 +14,7 @@ use Rattle.cut.specs.declared.planned_output.PlannedOutput.{PlannedOutput}
 use Rattle.cut.specs.Assembling.{IsReady, AreReady, tables_of}
 use Rattle.cut.specs.Divided.{places_from, counts_all, piece_limit}
 use Rattle.cut.specs.Opened.{parts_of, entries_in_blocks, HasLen, ArePlanned}
-use Rattle.cut.specs.Plan.{Planned, assembled, encoded, parts, pieces, pieces_in}
+use Rattle.cut.specs.Plan.{assembled, encoded, pieces_in}
 use Rattle.cut.specs.Planning.{planned_of, block_count, IsPlannedOutput, IsPlan, lists_in}
 use Rattle.std.specs.Prelude.{slice_range}
 use Rattle.cut.proofs.Joining.{pieces_join}

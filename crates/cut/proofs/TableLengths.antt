@@ -1,12 +1,12 @@
 -- How long a table is, by the lengths of its data blocks.
-use Rattle.std.proofs.Common.{◌≡◌, ◌≢◌, ℕ, zero, suc, ◌+◌, ◌-◌, ◌%◌, ◌^◌, ◌<◌, ◌≤◌, Bool, true, false, cond, eqb, List, [], ◌∷◌, ◌++◌, length, map, drop, get_or, min, refl, sym, ap, subst, ◌∙◌, append_assoc, append-nil, inl, inr, arith}
-use Rattle.std.specs.Prelude.{Option, Some, None, slice_get}
-use Rattle.std.specs.List.{AllByRecursion, last_or, sum_by}
+use Rattle.std.proofs.Common.{◌≡◌, ◌≢◌, ℕ, zero, suc, ◌+◌, ◌-◌, ◌%◌, ◌^◌, ◌<◌, ◌≤◌, true, cond, eqb, List, [], ◌∷◌, ◌++◌, length, drop, get_or, min, refl, sym, ap, subst, ◌∙◌, append_assoc, append-nil, inl, inr, arith}
+use Rattle.std.specs.Prelude.{Some, None, slice_get}
+use Rattle.std.specs.List.{AllByRecursion, last_or}
 use Rattle.std.specs.Option.{option_map}
 use Rattle.std.specs.declared.cmp.Ordering.{Ordering}
 use Rattle.std.proofs.lemmas.Bool.{cases_lt, lt-ltb, le-ltb}
 use Rattle.std.proofs.lemmas.List.{length-append, drop_more}
-use Rattle.std.proofs.lemmas.List.Sums.{sum_by-cons, sum_by_push, sum_by-drop_more}
+use Rattle.std.proofs.lemmas.List.Sums.{sum_by-cons, sum_by-drop_more}
 use Rattle.std.proofs.Math.ListN.{drop_of_length-le}
 use Rattle.std.proofs.Math.Nat.{mod-one}
 use Rattle.coding.specs.Varint.{varint}
@@ -14,12 +14,11 @@ use Rattle.ikey.specs.Short.{internal_separator_of, internal_successor_of}
 use Rattle.block.specs.Piece.{Entry, piece_bytes}
 use Rattle.block.specs.Writing.{block}
 use Rattle.block.specs.Building.{last_key}
-use Rattle.block.proofs.Written.{common, piece_at_restart}
+use Rattle.block.proofs.Written.{piece_at_restart}
 use Rattle.frame.specs.Handle.{handle_bytes}
 use Rattle.frame.specs.Trailer.{stored}
 use Rattle.frame.proofs.Stored.{length-stored}
 use Rattle.table.specs.declared.options.Options.{Options}
-use Rattle.table.specs.DataBlocks.{data_blocks}
 use Rattle.table.specs.ReadingEntries.{first_key}
 use Rattle.table.specs.Table.{IndexKeys, index_key, index_keys, index_from, handle_entry, closing, stored_blocks, table, table_of}
 use Rattle.pieces.specs.declared.planned_block.PlannedBlock.{PlannedBlock}

@@ -1,5 +1,5 @@
 -- What a request has that passes its tests.
-use Rattle.std.proofs.Common.{◌≡◌, ◌≢◌, ℕ, zero, suc, ◌+◌, ◌-◌, ◌<◌, ◌≤◌, ◌^◌, Bool, true, false, eqb, ◌&&◌, ◌||◌, List, [], ◌∷◌, length, get_or, Result, Ok, Err, refl, inl, inr, arith}
+use Rattle.std.proofs.Common.{◌≡◌, ◌≢◌, ℕ, ◌+◌, ◌-◌, ◌<◌, ◌≤◌, ◌^◌, Bool, true, false, eqb, ◌&&◌, ◌||◌, List, [], ◌∷◌, length, Result, Ok, Err, refl, inl, inr, arith}
 use Rattle.std.specs.Prelude.{◌⊎◌, nat_lt, nat_le}
 use Rattle.std.specs.List.{All, list_all}
 use Rattle.std.specs.List.Sorted.{IsStrictlyIncreasing}
@@ -18,8 +18,8 @@ use Rattle.pick.specs.declared.picked.InputFile.{InputFile}
 use Rattle.keep.specs.Readable.{listed_of}
 use Rattle.keep.specs.declared.snapshots.Snapshots.{Snapshots}
 use Rattle.keep.specs.declared.snapshots.Snapshots.TheVariants.{From, Listed}
-use Rattle.request.specs.Passed.{IsPassed, PassedLaw}
-use Rattle.request.specs.Request.{RequestView, are_in_limits, has_levels, has_options, has_snapshots, is_snapshot_list, largest_rise, named_by, request_test, rises_by}
+use Rattle.request.specs.Passed.{PassedLaw}
+use Rattle.request.specs.Request.{are_in_limits, has_levels, has_options, has_snapshots, is_snapshot_list, largest_rise, named_by, rises_by}
 use Rattle.request.proofs.Rising.{largest_told, limits_told, rise_told}
 
 -- a step that was taken, and what follows it

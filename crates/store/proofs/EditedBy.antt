@@ -1,5 +1,5 @@
 -- The edit of a compaction makes the edited version of an installation.
-use Rattle.std.proofs.Common.{◌≡◌, ◌≢◌, ℕ, ◌+◌, ◌<◌, ◌≤◌, ◌^◌, not, get_or, true, List, [], ◌∷◌, ◌++◌, length, map, Some, None, Option, Ok, refl, sym, ap, subst, ◌∙◌, inl, inr, arith}
+use Rattle.std.proofs.Common.{◌≡◌, ◌≢◌, ℕ, ◌+◌, ◌<◌, ◌≤◌, not, get_or, List, [], ◌∷◌, ◌++◌, length, map, Some, Option, Ok, refl, sym, ap, subst, ◌∙◌, inl, inr, arith}
 use Rattle.std.specs.Prelude.{◌⊎◌, Contains}
 use Rattle.std.specs.List.{All}
 use Rattle.std.specs.Cmp.{IsTotalOrder}
@@ -8,8 +8,7 @@ use Rattle.std.proofs.lemmas.List.Elements.{All-contains, Contains-append_cases,
 use Rattle.std.proofs.lemmas.List.Sorted.{Contains-permutation, IsPermutation-sym}
 use Rattle.ikey.specs.Comparator.{IsExact}
 use Rattle.block.specs.Piece.{Entry}
-use Rattle.edit.specs.Edit.{Edit, IsEdit}
-use Rattle.edit.specs.Version.{State, applied}
+use Rattle.edit.specs.Version.{State}
 use Rattle.edit.specs.declared.meta.NewFile.{NewFile}
 use Rattle.folder.specs.Levels.{file_numbers}
 use Rattle.folder.specs.Manifest.{order_name}

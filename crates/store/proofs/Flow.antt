@@ -1,5 +1,5 @@
 -- The compaction of a folder, step by step.
-use Rattle.std.proofs.Common.{◌≡◌, ◌≢◌, ◌⊎◌, ℕ, ◌≤◌, ◌<◌, List, [], ◌∷◌, ◌++◌, Option, Some, None, Result, Ok, Err, IfErr, IsErrAnd, OnOk, refl, sym, ap, subst, ◌∙◌, inl, inr, codes}
+use Rattle.std.proofs.Common.{◌≡◌, ◌≢◌, ◌⊎◌, ℕ, ◌≤◌, List, [], ◌∷◌, Option, Result, Ok, Err, IfErr, IsErrAnd, OnOk, refl, sym, ap, subst, ◌∙◌, inl, inr, codes}
 use Rattle.std.specs.List.{AllZip}
 use Rattle.coding.proofs.Refusals.{unless_from, unless_device}
 use Rattle.coding.specs.Answers.{IsThen, UnlessMemory, fault}
@@ -9,7 +9,7 @@ use Rattle.edit.specs.Version.{State}
 use Rattle.folder.proofs.CountLemmas.{steady}
 use Rattle.folder.proofs.LoadingLemmas.{table_before}
 use Rattle.folder.proofs.OpeningLemmas.{failed_since, hands_on, held_before}
-use Rattle.folder.specs.Calls.{Files, Shown, Step, Tells}
+use Rattle.folder.specs.Calls.{Files, Tells}
 use Rattle.folder.specs.Folder.{TellsSame}
 use Rattle.folder.specs.Loading.{IsLoaded, IsTableOf}
 use Rattle.folder.specs.Opening.{FolderAnswers, HasDeviceFailed, IsOpened, IsStopped, StopsAtDevice}

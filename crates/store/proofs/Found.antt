@@ -1,6 +1,5 @@
 -- Where a table of a number is found after a compaction.
-use Rattle.std.proofs.Common.{◌≡◌, ℕ, Bool, true, false, not, cond, eqb, List, [], ◌∷◌, ◌++◌, map, Some, None, Option, Result, Ok, Err, refl, sym, ap, subst, ◌∙◌}
-use Rattle.std.specs.Prelude.{Contains}
+use Rattle.std.proofs.Common.{◌≡◌, ℕ, Bool, true, false, cond, eqb, List, [], ◌∷◌, ◌++◌, map, Some, None, Option, Result, Ok, Err, refl, sym, ap, subst, ◌∙◌}
 use Rattle.std.specs.List.{filter, find}
 use Rattle.std.specs.Map.{lookup}
 use Rattle.std.specs.Option.{option_map}
@@ -13,7 +12,7 @@ use Rattle.table.specs.Checked.{contents_in}
 use Rattle.table.specs.Reading.{Contents, contents_of, contents_reading}
 use Rattle.reads.specs.Tables.{Numbered, table_of}
 use Rattle.survival.specs.Survive.{output_table}
-use Rattle.store.proofs.Loaded.{held_by, own_bytes, turned}
+use Rattle.store.proofs.Loaded.{own_bytes, turned}
 
 -- the first table of a number
 pub record IsFirst (tables : List Numbered) (n : ℕ) (t : Contents) : Type 0 where

@@ -1,5 +1,5 @@
 -- The installation of a compaction, as a part of the call.
-use Rattle.std.proofs.Common.{◌≡◌, ◌⊎◌, ◌<◌, ◌^◌, ℕ, false, List, [], ◌∷◌, ◌++◌, map, Option, Result, Ok, Err, IfErr, IsErrAnd, OnOk, refl, sym, ap, subst, ◌∙◌, inl, inr}
+use Rattle.std.proofs.Common.{◌≡◌, ℕ, false, List, [], ◌∷◌, ◌++◌, Option, Result, Ok, Err, IfErr, IsErrAnd, OnOk, refl, sym, ap, subst, ◌∙◌, inl, inr}
 use Rattle.std.specs.declared.cmp.Ordering.{Ordering}
 use Rattle.coding.specs.Answers.{UnlessMemory, fault}
 use Rattle.coding.specs.declared.fault.Fault.{Fault}
@@ -9,7 +9,7 @@ use Rattle.edit.specs.Version.{State}
 use Rattle.folder.specs.Calls.{Done, Files, FolderSynced, Shown, Step, Tells, TellsAfter, step_of}
 use Rattle.folder.specs.Crash.{call_of}
 use Rattle.folder.proofs.LoadingLemmas.{told_since}
-use Rattle.folder.specs.Folder.{DeviceFailed, TellsSame}
+use Rattle.folder.specs.Folder.{TellsSame}
 use Rattle.folder.specs.Levels.{file_numbers}
 use Rattle.folder.specs.Loading.{IsLoaded}
 use Rattle.folder.specs.Manifest.{order_name}
@@ -20,7 +20,7 @@ use Rattle.folder.specs.declared.order.Order.{Order}
 use Rattle.install.specs.Install.{IsEditedBy, Survives, tables_after}
 use Rattle.request.specs.OneThread.{Answer}
 use Rattle.store.specs.Asking.{manifest_of}
-use Rattle.store.specs.Compaction.{Compacted, Compaction, IsInstalled, IsLeft, IsOpenedLeft, IsVersionLeft, next_of}
+use Rattle.store.specs.Compaction.{Compacted, IsInstalled, IsLeft, IsOpenedLeft, IsVersionLeft, next_of}
 use Rattle.store.specs.Orders.{order_cmp, order_separator, order_successor}
 use Rattle.store.specs.declared.settings.Settings.{Settings}
 

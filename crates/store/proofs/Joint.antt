@@ -1,20 +1,13 @@
 -- What a compaction answers is installed, and reads survive.
-use Rattle.std.proofs.Common.{◌≡◌, ℕ, ◌<◌, ◌≤◌, ◌^◌, true, List, map, Ok, sym, ap, subst, ◌∙◌}
-use Rattle.std.specs.List.{All}
+use Rattle.std.proofs.Common.{ℕ, List, ◌∙◌}
 use Rattle.std.specs.Cmp.{IsTotalOrder}
 use Rattle.std.specs.declared.cmp.Ordering.{Ordering}
 use Rattle.ikey.specs.Comparator.{IsExact}
 use Rattle.edit.specs.Version.{State}
-use Rattle.edit.specs.declared.meta.NewFile.{NewFile}
-use Rattle.folder.specs.declared.order.Order.{Order}
-use Rattle.pick.specs.Picked.{IsPicked, Picked}
-use Rattle.reads.specs.Gets.{get_of}
 use Rattle.reads.specs.Lawful.{IsLawful}
 use Rattle.reads.specs.Tables.{Numbered}
-use Rattle.keep.specs.Readable.{is_read, readable_of}
-use Rattle.checks.specs.Checked.{tables_reading}
+use Rattle.keep.specs.Readable.{readable_of}
 use Rattle.checks.proofs.LawfulLemmas.{sound}
-use Rattle.request.specs.OneThread.{Answer, one_thread}
 use Rattle.request.specs.Passed.{PassedLaw}
 use Rattle.request.specs.Request.{RequestView}
 use Rattle.install.specs.Install as install
@@ -23,9 +16,7 @@ use Rattle.survival.specs.GetsAfter.{GetsAfter}
 use Rattle.survival.specs.Over.{HoldOutputs, IsOver, OutputsHold}
 use Rattle.survival.specs.Survive.{StandsAfter, tables_after}
 use Rattle.store.specs.Asking.{last_of, request_of}
-use Rattle.store.specs.Compaction.{Edited}
 use Rattle.store.specs.Joint.{JointLaw}
-use Rattle.store.specs.declared.settings.Settings.{Settings}
 use Rattle.store.proofs.EditedBy.{edited_by, low_next}
 use Rattle.store.proofs.Over.{is_over}
 use Rattle.store.proofs.SameTables.{same_get, same_lawful}

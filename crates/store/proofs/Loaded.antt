@@ -1,6 +1,6 @@
 -- Tables that were loaded, and the bytes under each number.
-use Rattle.std.proofs.Common.{◌≡◌, ℕ, Bool, true, false, cond, eqb, List, [], ◌∷◌, ◌++◌, map, Some, None, Option, Result, Ok, Err, refl, sym, ap, subst, ◌∙◌, inl, inr}
-use Rattle.std.specs.Prelude.{Contains, unwrap_or}
+use Rattle.std.proofs.Common.{◌≡◌, ℕ, Bool, true, false, cond, eqb, List, [], ◌∷◌, Some, Option, Ok, refl, sym, ap, ◌∙◌}
+use Rattle.std.specs.Prelude.{unwrap_or}
 use Rattle.std.specs.List.{find}
 use Rattle.std.specs.Map.{lookup}
 use Rattle.std.specs.Option.{option_map}
@@ -9,9 +9,8 @@ use Rattle.std.proofs.lemmas.Bool.{eqb-true, eq-eqb}
 use Rattle.std.proofs.lemmas.Option.{none-some, same_Some}
 use Rattle.coding.proofs.Binds.{bind_ok, ok_is}
 use Rattle.coding.specs.Answers.{◌>>=◌}
-use Rattle.coding.specs.declared.fault.Fault.{Fault}
 use Rattle.table.specs.Checked.{contents_in}
-use Rattle.table.specs.Reading.{Contents, DataBlock, blocks_of, contents_of, contents_reading}
+use Rattle.table.specs.Reading.{Contents, blocks_of, contents_of, contents_reading}
 use Rattle.reads.specs.Tables.{Numbered, table_of}
 use Rattle.checks.specs.Checked.{numbered_reading, tables_reading}
 use Rattle.install.specs.Install.{bytes_of}

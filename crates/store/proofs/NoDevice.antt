@@ -1,7 +1,6 @@
 -- No refusal of a compaction is Device.
 use Rattle.std.proofs.Common.{◌≡◌, ◌≢◌, ℕ, ◌+◌, ◌-◌, ◌^◌, Bool, true, false, List, [], ◌∷◌, length, Result, Ok, Err, if◌then◌else◌, refl, sym, ap, subst, ◌∙◌}
 use Rattle.std.specs.Prelude.{◌&&◌, MatchBool, Some, nat_le, nat_lt}
-use Rattle.std.specs.List.{list_all}
 use Rattle.std.specs.declared.cmp.Ordering.{Ordering}
 use Rattle.coding.specs.Answers.{◌>>=◌, fault}
 use Rattle.coding.specs.declared.fault.Fault.{Fault}
@@ -19,12 +18,12 @@ use Rattle.pick.specs.Picked.{IsInputsAnswer, Picked}
 use Rattle.pick.specs.declared.picked.InputFile.{InputFile}
 use Rattle.keep.specs.Runs.{are_distinct}
 use Rattle.cut.specs.Outputs.{outputs}
-use Rattle.cut.specs.Plan.{Planned, parts, plan_of}
+use Rattle.cut.specs.Plan.{plan_of}
 use Rattle.reads.specs.Tables.{Numbered}
 use Rattle.checks.proofs.LawfulLemmas.{sound_other}
 use Rattle.checks.proofs.TableRefusals.{no_device}
 use Rattle.request.specs.Inputs.{about, input_reading, inputs_reading, is_stated, union_reading}
-use Rattle.request.specs.OneThread.{Answer, compacted, one_thread, table_for}
+use Rattle.request.specs.OneThread.{one_thread, table_for}
 use Rattle.request.specs.Request.{RequestView, below_request, has_levels, has_options, has_snapshots, is_snapshot_list, request_test}
 use Rattle.store.specs.Answers.{IsLoadedCompacted, lines_of}
 use Rattle.store.specs.Asking.{numbered_request, compaction_of, manifest_of, request_of}

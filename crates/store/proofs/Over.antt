@@ -1,19 +1,17 @@
 -- The request for picked inputs is one over the version that they were picked from.
-use Rattle.std.proofs.Common.{◌≡◌, ◌≢◌, ℕ, ◌+◌, ◌<◌, ◌≤◌, ◌^◌, Bool, true, false, eqb, List, [], ◌∷◌, length, map, Some, None, Option, Result, Ok, Err, refl, sym, ap, subst, ◌∙◌, arith}
+use Rattle.std.proofs.Common.{◌≡◌, ℕ, ◌+◌, ◌<◌, ◌≤◌, ◌^◌, List, [], ◌∷◌, map, Some, None, Option, Ok, refl, sym, ap, subst, ◌∙◌, arith}
 use Rattle.std.specs.Prelude.{Contains, unwrap_or}
-use Rattle.std.specs.List.{All}
 use Rattle.std.specs.Cmp.{IsTotalOrder}
 use Rattle.std.specs.Option.{option_map, ForSome}
 use Rattle.std.specs.declared.cmp.Ordering.{Ordering}
 use Rattle.std.proofs.lemmas.List.Elements.{All-contains}
 use Rattle.table.specs.Reading.{Contents}
 use Rattle.edit.specs.Version.{State}
-use Rattle.edit.specs.declared.meta.FileMeta.{FileMeta}
 use Rattle.edit.specs.declared.meta.NewFile.{NewFile}
 use Rattle.pick.specs.Picked.{IsPicked, Picked}
 use Rattle.pick.specs.declared.picked.InputFile.{InputFile}
 use Rattle.reads.specs.Lawful.{IsBelowNext, IsFileOf, IsLawful}
-use Rattle.reads.specs.Tables.{Numbered, table_of}
+use Rattle.reads.specs.Tables.{Numbered}
 use Rattle.reads.proofs.Members.{first_in, later_in}
 use Rattle.checks.specs.Checked.{tables_reading}
 use Rattle.install.specs.Install as install

@@ -1,8 +1,6 @@
 -- What a sync of the folder makes of it.
-use Rattle.std.proofs.Common.{◌≡◌, ℕ, List, [], ◌∷◌, ◌++◌, sym, subst}
-use Rattle.std.specs.declared.cmp.Ordering.{Ordering}
-use Rattle.edit.specs.Version.{State}
-use Rattle.folder.specs.Calls.{Done, FolderSynced, Step}
+use Rattle.std.proofs.Common.{[], ◌∷◌, sym, subst}
+use Rattle.folder.specs.Calls.{Done, FolderSynced}
 use Rattle.folder.specs.ReadsAs.{StandsAs}
 use Rattle.folder.proofs.CrashLemmas.{stands_folder_synced}
 use Rattle.install.proofs.Moments.{leads_split}

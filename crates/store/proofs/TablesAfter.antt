@@ -1,8 +1,7 @@
 -- The tables that an installation leaves are read as those of the version after.
-use Rattle.std.proofs.Common.{◌≡◌, ℕ, ◌≤◌, Bool, true, false, not, cond, eqb, List, [], ◌∷◌, ◌++◌, map, Some, None, Option, Result, Ok, Err, refl, sym, ap, subst, ◌∙◌, inl, inr}
+use Rattle.std.proofs.Common.{◌≡◌, ℕ, ◌≤◌, Bool, true, false, not, cond, eqb, List, [], ◌∷◌, ◌++◌, map, Some, Result, Ok, refl, sym, ap, ◌∙◌, inl, inr}
 use Rattle.std.specs.Prelude.{◌⊎◌, Contains}
 use Rattle.std.specs.List.{All, filter, find}
-use Rattle.std.specs.Map.{lookup}
 use Rattle.std.specs.Option.{option_map}
 use Rattle.std.specs.declared.cmp.Ordering.{Ordering}
 use Rattle.std.proofs.lemmas.Bool.{eqb-true, eq-eqb}
@@ -24,9 +23,9 @@ use Rattle.checks.specs.Checked.{numbered_reading, tables_reading}
 use Rattle.request.specs.OneThread.{Answer}
 use Rattle.install.specs.Install as install
 use Rattle.install.proofs.Numbers.{in_files, in_version, numbers_in}
-use Rattle.survival.specs.Survive.{output_table, tables_after}
+use Rattle.survival.specs.Survive.{tables_after}
 use Rattle.store.proofs.Found.{found_after, kept_table}
-use Rattle.store.proofs.Loaded.{bytes_found, found_loaded, held_by, turned}
+use Rattle.store.proofs.Loaded.{bytes_found, found_loaded, held_by}
 
 -- a file with this number
 pub record HasNumber (files : List NewFile) (n : ℕ) : Type 0 where

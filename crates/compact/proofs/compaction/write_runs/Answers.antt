@@ -1,7 +1,3 @@
-use Rattle.std.proofs.Common.{◌≡◌, List}
-use Rattle.table.specs.Table.{table}
-use Rattle.keep.specs.Runs.{joined_run}
-use Rattle.cut.specs.Outputs.{outputs_of}
 use Rattle.compact.proofs.Joined.{plan_fits}
 use Rattle.compact.proofs.compaction.write_runs.Goals as goal
 

@@ -1,4 +1,4 @@
-use Rattle.std.proofs.Common.{◌≡◌, List, ◌++◌, ◌∷◌, [], sym, ap, ◌∙◌}
+use Rattle.std.proofs.Common.{List, ◌++◌, ap, ◌∙◌}
 use Rattle.block.specs.Piece.{Entry}
 use Rattle.merge.specs.Merged.{joined}
 use Rattle.split.specs.Ranges.{KeyRange, key_range}

@@ -1,4 +1,4 @@
-use Rattle.std.proofs.Common.{◌≡◌, ◌+◌, ◌++◌, ◌∷◌, [], List, map, take, sym, ap, ◌∙◌, arith}
+use Rattle.std.proofs.Common.{◌++◌, List, map, take, sym, ap, ◌∙◌, arith}
 use Rattle.block.specs.Piece.{Entry}
 use Rattle.merge.specs.Merged.{joined}
 use Rattle.split.specs.Ranges.{KeyRange, key_range}

@@ -1,4 +1,4 @@
-use Rattle.std.proofs.Common.{◌≡◌, ℕ, ◌+◌, List, Result, Err, Ok, map, length, refl, sym, ap, subst, ◌∙◌}
+use Rattle.std.proofs.Common.{◌≡◌, List, Result, Err, Ok, map, length, refl, sym, ap, subst, ◌∙◌}
 use mathlib.Core.List.{not-mem-nil}
 use Rattle.std.proofs.lemmas.Result.{err_from_is_err_and}
 use Rattle.coding.specs.Answers.{FailsOrMemory}

@@ -1,4 +1,4 @@
-use Rattle.std.proofs.Common.{◌≡◌, ◌<◌, ◌≤◌, List, length, sym, ap, ◌∙◌, arith}
+use Rattle.std.proofs.Common.{◌<◌, List, length, sym, ap, ◌∙◌, arith}
 use Rattle.pieces.specs.declared.planned_block.PlannedBlock.{PlannedBlock}
 use Rattle.cut.specs.declared.piece.Piece.{Piece}
 use Rattle.cut.proofs.Dealt.{dealt_none, dealt_within, dealt_ends, dealt_on}

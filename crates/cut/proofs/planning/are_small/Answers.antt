@@ -1,4 +1,4 @@
-use Rattle.std.proofs.Common.{◌≡◌, ◌^◌, ℕ, true, sym, ap, ◌∙◌}
+use Rattle.std.proofs.Common.{◌^◌, ℕ, sym, ap, ◌∙◌}
 use Rattle.std.specs.Prelude.{Bool, ◌&&◌, nat_le}
 use Rattle.cut.specs.Planning.{block_count}
 use Rattle.cut.proofs.Planned.{count_le}

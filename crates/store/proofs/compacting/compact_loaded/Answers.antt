@@ -10,7 +10,7 @@ use Rattle.checks.proofs.LawfulLemmas.{handed_on}
 use Rattle.compact.specs.Answered.{answer_in}
 use Rattle.request.specs.OneThread.{Answer}
 use Rattle.store.specs.Answers.{IsLoadedCompacted, lines_of}
-use Rattle.store.specs.Asking.{compaction_of, manifest_of}
+use Rattle.store.specs.Asking.{compaction_of}
 use Rattle.store.specs.Lines.{compaction_lines}
 use Rattle.store.proofs.Compactions.{is_compacted, picked_of}
 use Rattle.store.proofs.Flow.{first_passed, first_refused, no_refusal}

@@ -1,4 +1,3 @@
-use Rattle.std.proofs.Common.{List, ℕ, Ok, Err}
 use Rattle.folder.proofs.CountLemmas.{count_later}
 use Rattle.store.specs.Answers.{IsFolderCompacted}
 use Rattle.store.proofs.Flow.{answers_since, no_value}

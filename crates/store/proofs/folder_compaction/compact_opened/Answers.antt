@@ -1,4 +1,4 @@
-use Rattle.std.proofs.Common.{List, ℕ, Ok, Err, arith}
+use Rattle.std.proofs.Common.{Ok, Err, arith}
 use Rattle.edit.specs.Version.{State}
 use Rattle.folder.proofs.OpeningLemmas.{hands_on}
 use Rattle.folder.specs.Opening.{IsOpened}

@@ -1,4 +1,4 @@
-use Rattle.std.proofs.Common.{◌≡◌, List, ℕ, Ok, Err, Result, map, subst, sym, ap, ◌∙◌, arith, inl, inr}
+use Rattle.std.proofs.Common.{List, ℕ, Ok, Err, Result, subst, arith, inl}
 use Rattle.std.specs.Global.{Vec}
 use Rattle.coding.specs.Answers.{UnlessMemory}
 use Rattle.coding.specs.declared.fault.Fault.{Fault}
@@ -10,7 +10,7 @@ use Rattle.install.specs.Install.{tables_in}
 use Rattle.compact.specs.Answered.{answer_in}
 use Rattle.store.specs.Answers.{IsLoadedCompacted, IsVersionCompacted}
 use Rattle.store.specs.Compaction.{Compacted}
-use Rattle.store.proofs.Flow.{device_handed, device_since, first_passed, first_refused, loaded_in, never_device, no_value, stopped_device, stopped_on, stops_handed, stops_later, stops_steady}
+use Rattle.store.proofs.Flow.{device_handed, first_passed, first_refused, loaded_in, never_device, no_value, stopped_device, stopped_on, stops_handed, stops_later, stops_steady}
 use Rattle.store.proofs.Installing.{Promises, reads_as, refused_on, stopped_named, valued_on, version_left}
 use Rattle.store.proofs.NoDevice.{loaded_other}
 use Rattle.store.proofs.folder_compaction.compact_version.Goals as goal

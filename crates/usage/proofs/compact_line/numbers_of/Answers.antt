@@ -1,4 +1,4 @@
-use Rattle.std.proofs.Common.{◌≡◌, List, Option, Result, Ok, IfOk, lit<, map, ap, subst, ◌∙◌}
+use Rattle.std.proofs.Common.{List, IfOk, lit<, ap, subst, ◌∙◌}
 use Rattle.std.specs.Prelude.{MatchOption}
 use Rattle.std.specs.List.{All}
 use Rattle.std.proofs.lemmas.Iterator.Consumers.{map_from_collect}

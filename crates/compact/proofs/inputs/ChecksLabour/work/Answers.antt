@@ -1,8 +1,7 @@
-use Rattle.std.proofs.Common.{◌≡◌, ℕ, List, [], Result, Ok}
+use Rattle.std.proofs.Common.{List, [], Result, Ok}
 use Rattle.coding.specs.declared.fault.Fault.{Fault}
 use Rattle.block.specs.Piece.{Entry}
 use Rattle.board.proofs.Collecting.{work_gives, work_refuses}
-use Rattle.compact.specs.Runs.{input_answers}
 use Rattle.compact.proofs.InputAnswers.{file_within, table_within, some_answer}
 use Rattle.compact.proofs.inputs.ChecksLabour.work.Goals as goal
 

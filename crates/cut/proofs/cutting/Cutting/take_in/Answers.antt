@@ -1,4 +1,4 @@
-use Rattle.std.proofs.Common.{◌≡◌, ◌≤◌, ◌-◌, ℕ, List, take, drop, ap, ◌∙◌, arith}
+use Rattle.std.proofs.Common.{◌≤◌, ◌-◌, ℕ, List, take, drop, ap, ◌∙◌, arith}
 use Rattle.block.specs.Piece.{Entry}
 use Rattle.cut.specs.Cutting.{Cut, outputs_left}
 use Rattle.cut.proofs.Cuts.{take_some, drop_some}

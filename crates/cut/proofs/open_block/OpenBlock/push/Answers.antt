@@ -1,8 +1,8 @@
-use Rattle.std.proofs.Common.{◌≡◌, ◌<◌, ◌+◌, ◌-◌, ◌^◌, ◌++◌, List, ℕ, length, min, take, sym, ap, subst, ◌∙◌, refl, arith}
+use Rattle.std.proofs.Common.{◌≡◌, ◌<◌, ◌+◌, ◌-◌, ◌^◌, ◌++◌, List, ℕ, length, min, take, sym, ap, subst, ◌∙◌}
 use Rattle.std.specs.Prelude.{Some, slice_get}
 use Rattle.std.specs.Option.{option_map}
 use Rattle.block.specs.Piece.{Entry}
-use Rattle.cut.specs.Metered.{IsMetered, Metered, next_since, added_size}
+use Rattle.cut.specs.Metered.{Metered, next_since, added_size}
 use Rattle.cut.specs.Sizes.{saturated}
 use Rattle.cut.proofs.Metered.{metered_push, since_below}
 use Rattle.cut.proofs.open_block.OpenBlock.push.Goals as goal

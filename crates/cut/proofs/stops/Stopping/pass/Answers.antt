@@ -1,4 +1,4 @@
-use Rattle.std.proofs.Common.{◌≡◌, List, sym, ap, ◌∙◌}
+use Rattle.std.proofs.Common.{List, sym, ap, ◌∙◌}
 use Rattle.keep.specs.declared.mark.Mark.{Mark}
 use Rattle.keep.specs.Runs.{moved_mark}
 use Rattle.cut.specs.declared.stops.Overlap.{Overlap}

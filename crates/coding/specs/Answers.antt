@@ -2,7 +2,7 @@
 use Rattle.std.specs.Prelude.{◌≡◌, ℕ, Option, Some, None, Result, Ok, Err}
 use Rattle.coding.specs.declared.fault.Fault.{Fault}
 use Rattle.coding.specs.declared.fault.FaultName.{FaultName}
-use Rattle.coding.specs.declared.fault.FaultName.TheVariants.{NoInput, Level, Options, SplitOrder, SplitCount, Workers, Snapshot, Size, Short, Magic, Handle, Range, Trailer, Compressed, BlockType, Block, Key, Index, Order, Empty, Bounds, Duplicate, Numbers, TooLarge, SnapshotList, LogChecksum, LogShape, EditTag, EditField, Comparator, Apply, Lawless, Device, Missing, Memory}
+use Rattle.coding.specs.declared.fault.FaultName.TheVariants.{NoInput, Level, Options, SplitOrder, SplitCount, Workers, Snapshot, Size, Short, Magic, Handle, Range, Trailer, Compressed, BlockType, Block, Key, Index, Order, Empty, Bounds, Duplicate, Numbers, TooLarge, SnapshotList, LogChecksum, LogShape, EditTag, EditField, Comparator, Apply, Lawless, Device, Missing, Locked, Changed, Memory}
 
 -- the fault of this name that is about no input
 abbrev pub fault : FaultName → Fault
@@ -44,6 +44,8 @@ code_of Apply = 35
 code_of Lawless = 36
 code_of Device = 40
 code_of Missing = 41
+code_of Locked = 42
+code_of Changed = 43
 code_of Memory = 99
 
 -- the fact, unless these are the name and the input of want of memory

@@ -79,6 +79,10 @@ pub enum FaultName {
     Device,
     /// A file or a table that is named isn't there.
     Missing,
+    /// The folder is in use by another program.
+    Locked,
+    /// The folder's version changed while the command worked.
+    Changed,
     /// A growth of memory was refused.
     Memory,
 }
@@ -123,6 +127,8 @@ impl FaultName {
             FaultName::Lawless => 36,
             FaultName::Device => 40,
             FaultName::Missing => 41,
+            FaultName::Locked => 42,
+            FaultName::Changed => 43,
             FaultName::Memory => 99,
         }
     }

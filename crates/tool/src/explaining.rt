@@ -17,6 +17,8 @@ pub(crate) fn in_words(name: FaultName) -> &'static str {
 fn of_work(name: FaultName) -> Option<&'static str> {
     Some(match name {
         FaultName::Missing => "it isn't there",
+        FaultName::Locked => "another program has the folder open",
+        FaultName::Changed => "the folder changed while it was read",
         FaultName::Device => "a call of the system failed",
         FaultName::Memory => "there is not enough memory",
         FaultName::NoInput => "the level has no file",

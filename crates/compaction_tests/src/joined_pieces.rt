@@ -5,16 +5,15 @@ ghost use Rattle.std.specs.List.{AllByRecursion};
 ghost use Rattle.block.specs.Building.{last_key, with_entry};
 ghost use Rattle.block.specs.Writing.{block};
 ghost use Rattle.table.specs.Table.{stored_blocks};
-ghost use Rattle.pieces.specs.Planned.{IsPlanned, parts_of};
+ghost use Rattle.encoding.specs.Planned.{IsPlanned, parts_of};
 
 use block::BlockBuilder;
 use coding::{Fault, FaultName};
 use edit::CompactPointer;
+use encoding::{PlannedBlock, RunsCursor, RunsPart, RunsSlice, assemble_table, encode_blocks};
 use ikey::{Bytewise, InternalKey, KeyBuf, Kind};
 use keep::{RangeRun, is_rising, largest_rise, merge_range};
 use pick::Inputs;
-use pieces::{PlannedBlock, assemble_table, encode_blocks};
-use runs::{RunsCursor, RunsPart, RunsSlice};
 use split::Range;
 use std::alloc::Global;
 use std::process::Abort;

@@ -5,7 +5,7 @@ use Rattle.std.specs.List.{AllByRecursion, last_or}
 use Rattle.std.specs.Option.{option_map}
 use Rattle.std.proofs.lemmas.List.{length-append, length-map, drop_more}
 use Rattle.block.specs.Piece.{Entry}
-use Rattle.pieces.specs.declared.planned_block.PlannedBlock.{PlannedBlock}
+use Rattle.encoding.specs.declared.planned_block.PlannedBlock.{PlannedBlock}
 use Rattle.cut.specs.Metered.{ended}
 use Rattle.cut.specs.Opened.{parts_of, entries_in_blocks}
 use Rattle.cut.specs.Plan.{ends_from}

@@ -9,8 +9,8 @@ use Rattle.block.specs.Piece.{Entry}
 use Rattle.block.specs.Writing.{block}
 use Rattle.table.specs.declared.options.Options.{Options}
 use Rattle.table.specs.DataBlocks.{is_full}
-use Rattle.pieces.proofs.Lists.{length_le_block}
-use Rattle.runs.proofs.Places.{drop_next}
+use Rattle.encoding.proofs.Lists.{length_le_block}
+use Rattle.encoding.proofs.Places.{drop_next}
 use Rattle.cut.specs.Metered.{Metered, IsMetered, grown, ended, next_since, added_size}
 use Rattle.cut.specs.Sizes.{saturated}
 use Rattle.cut.proofs.Metered.{few_entries, metered_push}

@@ -12,7 +12,7 @@ use Rattle.block.specs.Piece.{Entry, Piece, piece_bytes}
 use Rattle.block.specs.Writing.{block}
 use Rattle.block.specs.Building.{last_key}
 use Rattle.block.proofs.Written.{common, piece_at_restart}
-use Rattle.pieces.proofs.Lists.{length_le_block}
+use Rattle.encoding.proofs.Lists.{length_le_block}
 use Rattle.cut.specs.Lengths.{added_len}
 use Rattle.cut.specs.Sizes.{saturated, piece_size}
 use Rattle.cut.specs.Metered.{IsMetered, ended, next_since, added_size}

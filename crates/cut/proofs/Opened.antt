@@ -18,7 +18,7 @@ use Rattle.table.specs.declared.options.Options.{Options}
 use Rattle.table.specs.Options.{AreInLimits}
 use Rattle.table.specs.DataBlocks.{is_full, open_block, blocks_behind, data_blocks, flushed, flushed_len}
 use Rattle.table.specs.Table.{stored_blocks}
-use Rattle.pieces.specs.declared.planned_block.PlannedBlock.{PlannedBlock}
+use Rattle.encoding.specs.declared.planned_block.PlannedBlock.{PlannedBlock}
 use Rattle.cut.specs.Metered.{Metered, grown, ended}
 use Rattle.cut.specs.Outputs.{all_of, ends_before, outputs_behind}
 use Rattle.cut.specs.Plan.{stored_len}

@@ -14,7 +14,7 @@ use Rattle.block.specs.Writing.{block}
 use Rattle.table.specs.declared.options.Options.{Options}
 use Rattle.table.specs.DataBlocks.{data_blocks}
 use Rattle.table.specs.Table.{stored_blocks, table}
-use Rattle.pieces.specs.declared.planned_block.PlannedBlock.{PlannedBlock}
+use Rattle.encoding.specs.declared.planned_block.PlannedBlock.{PlannedBlock}
 use Rattle.cut.specs.declared.piece.Piece.{Piece}
 use Rattle.cut.specs.declared.planned_output.PlannedOutput.{PlannedOutput}
 use Rattle.cut.specs.Divided.{blocks_at, piece_blocks, places_from, places_all, piece_limit}

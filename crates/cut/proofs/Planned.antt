@@ -15,7 +15,7 @@ use Rattle.table.specs.Options.{AreInLimits}
 use Rattle.table.specs.DataBlocks.{data_blocks, AreDataBlocks}
 use Rattle.table.specs.Table.{index_keys, table}
 use Rattle.table.proofs.Cuts.{are_data_blocks}
-use Rattle.pieces.specs.declared.planned_block.PlannedBlock.{PlannedBlock}
+use Rattle.encoding.specs.declared.planned_block.PlannedBlock.{PlannedBlock}
 use Rattle.cut.specs.declared.piece.Piece.{Piece}
 use Rattle.cut.specs.declared.planned_output.PlannedOutput.{PlannedOutput}
 use Rattle.cut.specs.Divided.{places_all, counts_all, piece_limit}

@@ -21,7 +21,7 @@ use Rattle.frame.proofs.Stored.{length-stored}
 use Rattle.table.specs.declared.options.Options.{Options}
 use Rattle.table.specs.ReadingEntries.{first_key}
 use Rattle.table.specs.Table.{IndexKeys, index_key, index_keys, index_from, handle_entry, closing, stored_blocks, table, table_of}
-use Rattle.pieces.specs.declared.planned_block.PlannedBlock.{PlannedBlock}
+use Rattle.encoding.specs.declared.planned_block.PlannedBlock.{PlannedBlock}
 use Rattle.cut.specs.Lengths.{added_len}
 use Rattle.cut.specs.Metered.{ended}
 use Rattle.cut.specs.Opened.{parts_of, entries_in_blocks, HasLen, ArePlanned}

@@ -2,7 +2,7 @@
 use Rattle.std.specs.Prelude.{◌≡◌, ℕ, ◌≤◌, ◌^◌, List, [], ◌∷◌, length, map, take, drop, flat_map}
 use Rattle.std.specs.List.{AllByRecursion}
 use Rattle.table.specs.Table.{IndexKeys, stored_blocks, table_of}
-use Rattle.pieces.specs.Planned.{IsPlanned}
+use Rattle.encoding.specs.Planned.{IsPlanned}
 use Rattle.cut.specs.declared.planned_output.PlannedOutput.{PlannedOutput}
 use Rattle.cut.specs.Opened.{parts_of}
 

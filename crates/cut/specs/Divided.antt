@@ -1,6 +1,6 @@
 -- The places of pieces among the data blocks of outputs.
 use Rattle.std.specs.Prelude.{ℕ, zero, suc, ◌+◌, ◌^◌, nat_lt, nat_le, if◌then◌else◌, List, [], ◌∷◌, ◌++◌, length, slice_range}
-use Rattle.pieces.specs.declared.planned_block.PlannedBlock.{PlannedBlock}
+use Rattle.encoding.specs.declared.planned_block.PlannedBlock.{PlannedBlock}
 use Rattle.cut.specs.declared.piece.Piece.{Piece}
 use Rattle.cut.specs.declared.planned_output.PlannedOutput.{PlannedOutput}
 

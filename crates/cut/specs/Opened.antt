@@ -6,7 +6,7 @@ use Rattle.block.specs.Writing.{block}
 use Rattle.table.specs.declared.options.Options.{Options}
 use Rattle.table.specs.Options.{AreInLimits}
 use Rattle.table.specs.DataBlocks.{is_full, blocks_behind, data_blocks}
-use Rattle.pieces.specs.declared.planned_block.PlannedBlock.{PlannedBlock}
+use Rattle.encoding.specs.declared.planned_block.PlannedBlock.{PlannedBlock}
 use Rattle.cut.specs.Metered.{Metered, ended}
 use Rattle.cut.specs.Outputs.{all_of, ends_before}
 use Rattle.cut.specs.Plan.{stored_len}

@@ -4,7 +4,7 @@ use Rattle.std.specs.List.{sum_by}
 use Rattle.block.specs.Piece.{Entry}
 use Rattle.block.specs.Writing.{block}
 use Rattle.table.specs.Table.{IndexKeys, index_key, handle_entry}
-use Rattle.pieces.specs.declared.planned_block.PlannedBlock.{PlannedBlock}
+use Rattle.encoding.specs.declared.planned_block.PlannedBlock.{PlannedBlock}
 use Rattle.cut.specs.Opened.{parts_of}
 use Rattle.cut.specs.Sizes.{piece_size}
 

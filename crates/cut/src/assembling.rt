@@ -9,8 +9,8 @@ ghost use Rattle.cut.specs.Assembling.{AreReady, tables_of};
 
 use crate::planned_output::PlannedOutput;
 use coding::Fault;
+use encoding::assemble_table;
 use ikey::Comparator;
-use pieces::assemble_table;
 use std::alloc::Global;
 use std::vec::IntoIter;
 

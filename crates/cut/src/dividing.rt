@@ -10,8 +10,8 @@ ghost use Rattle.cut.specs.TableLength.{lens_of};
 use crate::piece::Piece;
 use crate::planned_output::PlannedOutput;
 use coding::Fault;
+use encoding::PlannedBlock;
 use frame::TRAILER_LEN;
-use pieces::PlannedBlock;
 use std::alloc::Global;
 
 /// Adds the pieces of the data blocks of an output, and answers how many they are. A piece ends with the block at which its

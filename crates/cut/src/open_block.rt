@@ -10,9 +10,8 @@ ghost use Rattle.cut.specs.Metered.{grown, ended, next_since, left_out, added_si
 
 use crate::lengths::piece_len;
 use coding::common_len;
+use encoding::{PlannedBlock, RunsCursor, RunsSlice};
 use ikey::InternalKey;
-use pieces::PlannedBlock;
-use runs::{RunsCursor, RunsSlice};
 use std::marker::Model;
 use std::mem;
 use table::Options;

@@ -12,10 +12,9 @@ ghost use Rattle.cut.specs.Outputs.{outputs_behind};
 
 use crate::open_block::OpenBlock;
 use coding::Fault;
+use encoding::{PlannedBlock, RunsCursor};
 use frame::TRAILER_LEN;
 use ikey::InternalKey;
-use pieces::PlannedBlock;
-use runs::RunsCursor;
 use std::alloc::Global;
 use std::marker::Model;
 use std::mem;

@@ -1,6 +1,6 @@
 //! An output of a plan.
 
-use pieces::PlannedBlock;
+use encoding::PlannedBlock;
 
 /// A table that is to be written.
 #[derive(Drop)]

@@ -10,8 +10,8 @@ ghost use Rattle.cut.specs.Sizes.{saturated};
 
 use crate::output_meta::OutputMeta;
 use crate::planned_output::PlannedOutput;
+use encoding::PlannedBlock;
 use ikey::InternalKey;
-use pieces::PlannedBlock;
 
 /// How many entries data blocks have together, or 2^64 - 1 where there are more.
 fn count_entries(blocks: &[PlannedBlock<'_, '_>]) -> u64

@@ -10,9 +10,9 @@ ghost use Rattle.cut.specs.TableLength.{index_of, key_at, lens_of, table_size};
 
 use crate::lengths::{piece_len, varint_len};
 use coding::Fault;
+use encoding::PlannedBlock;
 use frame::TRAILER_LEN;
 use ikey::{Comparator, KeyBuf, internal_separator, internal_successor};
-use pieces::PlannedBlock;
 use std::alloc::Global;
 use table::MAX_TABLE_LEN;
 

@@ -1,4 +1,4 @@
-use Rattle.pieces.proofs.IndexKeys.{two_blocks_fit}
+use Rattle.encoding.proofs.IndexKeys.{two_blocks_fit}
 use Rattle.compaction_tests.proofs.joined_pieces.assembled.Goals as goal
 
 pub assemble_table-requires-clause-fits : goal.assemble_table-requires-clause-fits

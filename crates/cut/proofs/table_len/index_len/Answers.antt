@@ -2,7 +2,7 @@ use Rattle.std.proofs.Common.{◌≡◌, ◌+◌, ◌-◌, ◌^◌, List, ℕ, l
 use Rattle.coding.specs.Varint.{varint}
 use Rattle.table.specs.Table.{IndexKeys, index_keys}
 use Rattle.keep.proofs.OnAnswers.{same_ok}
-use Rattle.pieces.specs.declared.planned_block.PlannedBlock.{PlannedBlock}
+use Rattle.encoding.specs.declared.planned_block.PlannedBlock.{PlannedBlock}
 use Rattle.cut.specs.Sizes.{saturated, piece_size}
 use Rattle.cut.specs.TableLength.{key_at}
 use Rattle.cut.proofs.TableLengths.{IsIndexLen, index_len_more, index_len_all}

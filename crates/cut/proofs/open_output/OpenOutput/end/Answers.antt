@@ -1,7 +1,7 @@
 use Rattle.std.proofs.Common.{◌≡◌, [], ◌∷◌, ◌++◌, ap, subst, ◌∙◌, rules}
 use Rattle.std.proofs.lemmas.Bool.{both_ways}
 use Rattle.table.specs.DataBlocks.{data_blocks}
-use Rattle.pieces.specs.declared.planned_block.PlannedBlock.{PlannedBlock}
+use Rattle.encoding.specs.declared.planned_block.PlannedBlock.{PlannedBlock}
 use Rattle.cut.specs.Opened.{Opened, parts_of}
 use Rattle.cut.proofs.Opened.{blocks_some, blocks_none}
 use Rattle.cut.proofs.open_output.OpenOutput.end.Goals as goal

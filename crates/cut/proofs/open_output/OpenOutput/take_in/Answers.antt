@@ -1,7 +1,7 @@
 use Rattle.std.proofs.Common.{◌≡◌, ◌<◌, ◌+◌, ◌-◌, ◌^◌, ℕ, [], ◌∷◌, ◌++◌, false, min, take, sym, ap, subst, ◌∙◌, rules, arith}
 use Rattle.std.specs.Option.{option_map}
 use Rattle.table.specs.DataBlocks.{is_full}
-use Rattle.pieces.specs.declared.planned_block.PlannedBlock.{PlannedBlock}
+use Rattle.encoding.specs.declared.planned_block.PlannedBlock.{PlannedBlock}
 use Rattle.cut.specs.Metered.{Metered, grown, ended}
 use Rattle.cut.specs.Opened.{Opened, IsOpen, entries_in_blocks, ends_by}
 use Rattle.cut.specs.Outputs.{outputs_behind}

@@ -3,7 +3,7 @@ use Rattle.std.specs.Prelude.{slice_get, slice_range, Some, IfOk}
 use Rattle.std.specs.List.{AllByRecursion}
 use Rattle.block.specs.Writing.{block}
 use Rattle.table.specs.Table.{stored_blocks, table}
-use Rattle.pieces.specs.declared.planned_block.PlannedBlock.{PlannedBlock}
+use Rattle.encoding.specs.declared.planned_block.PlannedBlock.{PlannedBlock}
 use Rattle.cut.specs.declared.piece.Piece.{Piece}
 use Rattle.cut.specs.declared.planned_output.PlannedOutput.{PlannedOutput}
 use Rattle.cut.specs.Divided.{blocks_at, piece_blocks}

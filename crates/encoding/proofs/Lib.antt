@@ -1,0 +1,9 @@
+pub mod Places
+pub mod Skips
+pub mod LastKeys
+pub mod Lists
+pub mod Appended
+pub mod Keys
+pub mod Indexes
+pub mod IndexKeys
+pub mod Listed

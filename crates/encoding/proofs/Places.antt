@@ -1,0 +1,87 @@
+-- Places among the entries of runs.
+use Rattle.std.proofs.Common.{◌≡◌, ℕ, zero, suc, ◌+◌, ◌-◌, ◌^◌, ◌<◌, List, [], ◌∷◌, ◌++◌, length, take, drop, refl, sym, ap, ◌∙◌, arith}
+use Rattle.std.specs.Prelude.{min, slice_get, slice_index_or, Option, Some, None}
+use Rattle.std.specs.List.{last_or}
+use Rattle.std.specs.Option.{option_map}
+use Rattle.std.proofs.Math.Seq.{take-add}
+use Rattle.std.proofs.lemmas.List.{drop_at, length-drop}
+use Rattle.std.proofs.lemmas.Option.{none-some}
+use Rattle.block.specs.Piece.{Entry}
+use Rattle.keep.specs.Runs.{Run}
+use Rattle.encoding.specs.Slices.{sliced, IsSliced}
+use Rattle.encoding.specs.Standing.{kept_of, StandsAt}
+
+drop_none : (n : ℕ) → drop {A = Entry} n [] ≡ []
+drop_none zero = refl
+drop_none (suc n) = refl
+
+drop_suc : (n : ℕ) (xs : List Entry) → drop (suc n) xs ≡ drop 1 (drop n xs)
+drop_suc zero xs = refl
+drop_suc (suc n) [] = refl
+drop_suc (suc n) (x ∷ xs) = drop_suc n xs
+
+-- one more dropped, by itself
+pub drop_next : (n : ℕ) (xs : List Entry) → drop (n + 1) xs ≡ drop 1 (drop n xs)
+drop_next n xs =
+    let next : n + 1 ≡ suc n = omega arith in
+    ap (λ k. drop k xs) next ∙ drop_suc n xs
+
+-- ---- a place in its run
+
+pub in_run : (runs : List Run) (r : Run) (entry : ℕ) → StandsAt runs entry → 0 < length (drop entry (kept_of runs)) → entry < length (slice_index_or runs 0 r).kept
+in_run [] r entry s h = absurd (omega (arith, h, ap length (drop_none entry)))
+in_run (q ∷ qs) r entry s h = s
+
+-- behind the last entry of a run stand those of the later runs
+pub past_run : (runs : List Run) (r : Run) (entry : ℕ) → entry + 1 ≡ length (slice_index_or runs 0 r).kept
+    → kept_of (drop 1 runs) ≡ drop 1 (drop entry (kept_of runs))
+past_run [] r entry e = sym (drop_none 1) ∙ ap (drop 1) (sym (drop_none entry))
+past_run (q ∷ qs) r entry e =
+    sym (drop_at q.kept (kept_of qs) (entry + 1) (sym e)) ∙ drop_next entry (q.kept ++ kept_of qs)
+
+-- ---- a slice with one entry more
+
+last_pushed : {X : Type 0} (o : Option X) (xs : List X) (x : X) → last_or o (xs ++ x ∷ []) ≡ Some x
+last_pushed o [] x = refl
+last_pushed o (y ∷ xs) x = last_pushed (Some y) xs x
+
+-- how far the second place is from the first, with one entry more
+gap : (from to later : List Entry) (e : Entry) → to ≡ e ∷ later → drop (length from - length to) from ≡ to → length from - length later ≡ (length from - length to) + 1
+gap from to later e h d =
+    let n : length from - (length from - length to) ≡ length to = sym (length-drop (length from - length to) from) ∙ ap length d in
+    let m : length to ≡ length later + 1 = ap length h ∙ omega arith in
+    omega (arith, n, m)
+
+saturated : (len n : ℕ) → len ≡ min n (2 ^ 64 - 1) → min (len + 1) (2 ^ 64 - 1) ≡ min (n + 1) (2 ^ 64 - 1)
+saturated len n h = omega (arith, h)
+
+-- the entries of the longer slice
+more : (from to later : List Entry) (e : Entry) → to ≡ e ∷ later → drop (length from - length to) from ≡ to
+    → take (length from - length later) from ≡ take (length from - length to) from ++ e ∷ []
+more from to later e h d =
+    ap (λ n. take n from) (gap from to later e h d)
+    ∙ take-add (length from - length to) 1 from
+    ∙ ap (λ xs. take (length from - length to) from ++ take 1 xs) (d ∙ h)
+
+pushed_by : (from to : List Entry) (len : ℕ) (last : Option (List ℕ)) (key : List ℕ) (shown : List Entry) → to ≡ shown → IsSliced from to len last
+    → option_map (λ (e : Entry). e.key) (slice_get shown 0) ≡ Some key
+    → IsSliced from (drop 1 shown) (min (len + 1) (2 ^ 64 - 1)) (Some key) × (sliced from (drop 1 shown) ≡ record { entries = take (length from - length to) from ++ take 1 shown; behind = drop 1 shown })
+pushed_by from to len last key [] h is k = absurd (none-some key k)
+pushed_by from to len last key (e ∷ later) h is k = (
+  record {
+    later =
+        ap (λ n. drop n from) (gap from to later e h is.later)
+        ∙ drop_next (length from - length to) from
+        ∙ ap (drop 1) (is.later ∙ h);
+    count = saturated len (length from - length to) is.count ∙ ap (λ n. min n (2 ^ 64 - 1)) (sym (gap from to later e h is.later));
+    ended =
+        sym k
+        ∙ ap (option_map (λ (f : Entry). f.key)) (sym (last_pushed None (take (length from - length to) from) e) ∙ ap (last_or None) (sym (more from to later e h is.later)));
+  },
+  ap (λ (es : List Entry). record { entries = es; behind = later }) (more from to later e h is.later),
+)
+
+-- an entry more: the invariant, and what is seen
+pub pushed : (from to : List Entry) (len : ℕ) (last : Option (List ℕ)) (key : List ℕ) → IsSliced from to len last → option_map (λ (e : Entry). e.key) (slice_get to 0) ≡ Some key
+    → IsSliced from (drop 1 to) (min (len + 1) (2 ^ 64 - 1)) (Some key) × (sliced from (drop 1 to) ≡ record { entries = take (length from - length to) from ++ take 1 to; behind = drop 1 to })
+pushed from to len last key is k = pushed_by from to len last key to refl is k

@@ -1,0 +1,5 @@
+-- what contracts rest on
+pub mod Slices
+pub mod Planned
+-- serves proofs alone
+pub mod Standing

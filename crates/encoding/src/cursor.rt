@@ -1,0 +1,124 @@
+//! A place among the kept entries of runs.
+
+ghost use Rattle.std.specs.Prelude.{◌≡◌, ◌<◌, ◌≤◌, ◌↔◌, length, drop, flat_map, slice_get, IsTrue, Some};
+ghost use Rattle.std.specs.Option.{option_map};
+ghost use Rattle.encoding.specs.Standing.{kept_of, StandsAt};
+
+use ikey::InternalKey;
+use keep::RangeRun;
+use std::marker::Model;
+
+/// A place among the kept entries of runs, one run behind the other, seen as the entries from there on.
+#[derive(Drop)]
+pub struct RunsCursor<'r, 'a> {
+    /// The run of the first entry that is still to come, and those behind it.
+    runs: &'r [RangeRun<'a>],
+    /// How many entries of that run stand before it.
+    entry: usize,
+}
+
+impl<'r, 'a> Model for RunsCursor<'r, 'a> {
+    ghost use Rattle.std.specs.Prelude.{List, drop};
+    ghost use Rattle.block.specs.Piece.{Entry};
+
+    ghost Value = { List Entry };
+
+    ghost use Rattle.encoding.specs.Standing.{kept_of, StandsAt};
+
+    ghost view = { λ c. drop c.entry (kept_of c.runs.now) };
+
+    ghost invariant = { λ c. StandsAt c.runs.now c.entry };
+}
+
+impl<'r, 'a> RunsCursor<'r, 'a> {
+    /// All kept entries of the runs. Takes no memory.
+    pub fn new(runs: &'r [RangeRun<'a>]) -> RunsCursor<'r, 'a>
+        ensures { result ≡ flat_map (λ r. r.kept) runs.now }
+    {
+        RunsCursor {
+            runs: from_entry(runs),
+            entry: 0,
+        }
+    }
+
+    /// The same place again. Takes no memory.
+    pub fn copy(&self) -> RunsCursor<'r, 'a>
+        ensures { result ≡ self.now }
+    {
+        RunsCursor {
+            runs: self.runs,
+            entry: self.entry,
+        }
+    }
+
+    /// Whether an entry is still to come. Takes no memory.
+    pub fn valid(&self) -> bool
+        ensures { IsTrue result ↔ (0 < length self.now) }
+    {
+        !self.runs.is_empty()
+    }
+
+    /// The internal key of the first entry that is still to come, which lies in its run. Takes no memory.
+    pub fn key(&self) -> InternalKey<'r>
+        requires { 0 < length self.now }
+        ensures { option_map (λ e. e.key) (slice_get self.now 0) ≡ Some result.bytes.now }
+    {
+        self.runs[0].key(self.entry)
+    }
+
+    /// The value of the first entry that is still to come, a slice of an input's bytes. Takes no memory.
+    pub fn value(&self) -> &'a [u8]
+        requires { 0 < length self.now }
+        ensures { option_map (λ e. e.value) (slice_get self.now 0) ≡ Some result.now }
+    {
+        self.runs[0].value(self.entry)
+    }
+
+    /// Takes the first entry off. Takes no memory.
+    pub fn advance(&mut self)
+        requires { 0 < length self.old }
+        ensures { self.new ≡ drop 1 self.old }
+    {
+        let len = self.runs[0].len();
+        let next = self.entry + 1;
+        if next < len {
+            self.entry = next;
+        } else {
+            let (_, later) = self.runs.split_at(1);
+            self.runs = from_entry(later);
+            self.entry = 0;
+        }
+    }
+
+    /// The place so many entries further, which is found run by run. Takes no memory.
+    pub(crate) fn skip(&self, count: u64) -> RunsCursor<'r, 'a>
+        requires { count ≤ length self.now }
+        ensures { result ≡ drop count self.now }
+    {
+        let runs = self.runs;
+        let mut left = self.entry as u128 + count as u128;
+        let mut passed = 0;
+        while passed < runs.len() && runs[passed].len() as u128 <= left {
+            left -= runs[passed].len() as u128;
+            passed += 1;
+        }
+        let (_, rest) = runs.split_at(passed);
+        RunsCursor {
+            runs: rest,
+            entry: left as usize,
+        }
+    }
+}
+
+/// The runs from the first on that has a kept entry.
+fn from_entry<'r, 'a>(runs: &'r [RangeRun<'a>]) -> &'r [RangeRun<'a>]
+    ensures entries { kept_of result.now ≡ kept_of runs.now }
+    ensures stands { StandsAt result.now 0 }
+{
+    let mut passed = 0;
+    while passed < runs.len() && runs[passed].len() == 0 {
+        passed += 1;
+    }
+    let (_, rest) = runs.split_at(passed);
+    rest
+}

@@ -1,0 +1,39 @@
+//! The bytes of data blocks.
+
+ghost use Rattle.std.specs.Prelude.{◌≤◌, ◌^◌, length, Ok};
+ghost use Rattle.std.specs.List.{AllByRecursion};
+ghost use Rattle.coding.specs.Answers.{EqualOrMemory};
+ghost use Rattle.block.specs.Writing.{block};
+ghost use Rattle.table.specs.Table.{stored_blocks};
+ghost use Rattle.encoding.specs.Planned.{parts_of};
+
+use crate::planned_block::PlannedBlock;
+use crate::writing::push_block;
+use coding::Fault;
+use frame::Trailer;
+use std::alloc::Global;
+
+/// The bytes of consecutive data blocks, each with its trailer, at a restart interval from 1 to 1,024. Each block has at
+/// most 2^31 bytes. The answer has room for so many bytes from its start.
+///
+/// Refused for want of memory alone.
+pub fn encode_blocks(
+    alloc: Global,
+    blocks: &[PlannedBlock<'_, '_>],
+    interval: u64,
+    room: usize,
+) -> Result<Vec<u8>, Fault>
+    requires positive { 1 ≤ interval }
+    requires limited { interval ≤ 1024 }
+    requires fits { AllByRecursion (λ b. length (block interval b.entries.entries) ≤ 2 ^ 31) blocks.now }
+    ensures { EqualOrMemory (λ v. v.items) result (Ok (stored_blocks interval (parts_of blocks.now))) }
+{
+    let mut out = Vec::with_capacity(alloc, room)?;
+    let mut restarts = Vec::new(alloc);
+    for block in blocks {
+        let start = out.len();
+        push_block(&mut out, &mut restarts, &block.entries, interval)?;
+        Trailer::of(&out[start..]).push(&mut out)?;
+    }
+    Ok(out)
+}

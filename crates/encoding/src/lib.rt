@@ -1,0 +1,34 @@
+//! The encoding of a compaction's outputs: the entries that are kept, as one list, written as data blocks and joined to tables.
+//!
+//! A [`RunsCursor`] is a place in that list, a [`RunsSlice`] grows entry by entry, and a [`RunsPart`] is entries that stay
+//! as they are. Keys and values stay where the runs have them, and no call of these three takes memory.
+//!
+//! A [`PlannedBlock`] is a data block of which no byte is written yet. [`encode_blocks`] writes consecutive data blocks,
+//! apart from all others, and [`assemble_table`] joins what it wrote to a table:
+//!
+//! ```text
+//! data block 1, trailer    the trailer: type byte and masked CRC
+//! ..
+//! data block n, trailer
+//! metaindex, trailer       a block without entries
+//! index, trailer           for each data block its key and its handle
+//! footer                   handles of metaindex and index, magic
+//! ```
+#![tactic(auto)]
+
+mod assembling;
+mod cursor;
+mod data_blocks;
+mod indexing;
+mod part;
+mod planned_block;
+mod slice;
+mod storing;
+mod writing;
+
+pub use assembling::assemble_table;
+pub use cursor::RunsCursor;
+pub use data_blocks::encode_blocks;
+pub use part::RunsPart;
+pub use planned_block::PlannedBlock;
+pub use slice::RunsSlice;

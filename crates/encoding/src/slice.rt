@@ -1,0 +1,88 @@
+//! Consecutive entries of runs.
+
+ghost use Rattle.std.specs.Prelude.{◌≡◌, ◌-◌, ◌^◌, ◌≤◌, ◌↔◌, [], ◌++◌, length, take, drop, slice_get, IsTrue, Some, None};
+ghost use Rattle.std.specs.List.{last_or};
+ghost use Rattle.std.specs.Option.{option_map};
+
+use crate::cursor::RunsCursor;
+use crate::part::RunsPart;
+use ikey::InternalKey;
+use std::marker::Model;
+
+/// Consecutive entries of runs, seen as these and the entries that stand behind them.
+#[derive(Drop)]
+pub struct RunsSlice<'r, 'a> {
+    start: RunsCursor<'r, 'a>,
+    behind: RunsCursor<'r, 'a>,
+    /// How many entries there are, or 2^64 - 1 where there are more.
+    len: u64,
+    last: Option<InternalKey<'r>>,
+}
+
+impl<'r, 'a> Model for RunsSlice<'r, 'a> {
+    ghost use Rattle.encoding.specs.Slices.{Slice, sliced, IsSliced};
+
+    ghost Value = { Slice };
+
+    ghost view = { λ s. sliced s.start s.behind };
+
+    ghost use Rattle.std.specs.Option.{option_map};
+
+    ghost invariant = { λ s. IsSliced s.start s.behind s.len (option_map (λ key. key.bytes.now) s.last) };
+}
+
+impl<'r, 'a> RunsSlice<'r, 'a> {
+    /// No entries, before those from a place on. Takes no memory.
+    pub fn at(cursor: RunsCursor<'r, 'a>) -> RunsSlice<'r, 'a>
+        ensures { result ≡ record { entries = []; behind = cursor.entry } }
+    {
+        RunsSlice {
+            start: cursor.copy(),
+            behind: cursor,
+            len: 0,
+            last: None,
+        }
+    }
+
+    /// Takes the first entry behind in, of which this is the key. Takes no memory.
+    pub fn push(&mut self, key: InternalKey<'r>)
+        requires { option_map (λ e. e.key) (slice_get self.old.behind 0) ≡ Some key.bytes.now }
+        ensures { self.new ≡ record {
+          entries = self.old.entries ++ take 1 self.old.behind;
+          behind = drop 1 self.old.behind;
+        } }
+    {
+        self.behind.advance();
+        self.len = self.len.saturating_add(1);
+        self.last = Some(key);
+    }
+
+    /// Whether there are no entries. Takes no memory.
+    pub fn is_empty(&self) -> bool
+        ensures { IsTrue result ↔ (self.now.entries ≡ []) }
+    {
+        self.len == 0
+    }
+
+    /// The internal key of the last entry, where there is one. Takes no memory.
+    pub fn last_key(&self) -> Option<InternalKey<'r>>
+        ensures { option_map (λ key. key.bytes.now) result ≡ option_map (λ e. e.key) (last_or None self.now.entries) }
+    {
+        self.last
+    }
+
+    /// The place behind the last entry. Takes no memory.
+    pub fn behind(&self) -> RunsCursor<'r, 'a>
+        ensures { result ≡ self.now.behind }
+    {
+        self.behind.copy()
+    }
+
+    /// These entries, held in few bytes, where there are at most 2^64 - 1. Takes no memory.
+    pub fn part(&self) -> RunsPart<'r, 'a>
+        requires { length self.now.entries ≤ 2 ^ 64 - 1 }
+        ensures { result ≡ self.now }
+    {
+        RunsPart::new(self.start.copy(), self.len)
+    }
+}

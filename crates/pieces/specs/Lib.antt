@@ -1,2 +1,0 @@
--- what contracts rest on
-pub mod Planned

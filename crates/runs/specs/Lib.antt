@@ -1,4 +1,0 @@
--- what contracts rest on
-pub mod Slices
--- serves proofs alone
-pub mod Standing

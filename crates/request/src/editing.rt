@@ -50,8 +50,8 @@ impl<'a> Request<'a> {
     }
 }
 
-/// The deletions of inputs by level and number, each once. Refused for want of memory alone.
-fn deletions_of(alloc: Global, files: &[InputFile]) -> Result<BTreeSet<DeletedFile>, Fault>
+/// The deletions of inputs by level and number, each once. Refused only if memory runs out.
+pub fn deletions_of(alloc: Global, files: &[InputFile]) -> Result<BTreeSet<DeletedFile>, Fault>
     ensures { EqualOrMemory (λ set. set.keys) result (Ok (deletions_of files.now)) }
 {
     let mut deleted = BTreeSet::new(alloc);

@@ -10,6 +10,7 @@ mod laws;
 mod request;
 mod testing;
 
+pub use editing::deletions_of;
 pub use laws::passed_law;
 pub use request::Request;
 pub use testing::{MAX_INPUTS, MAX_SNAPSHOTS};

@@ -43,7 +43,8 @@ impl<C: Comparator, S: Entries + Drop> Model for Merging<C, S> {
 impl<'c, C: Comparator, S: Cursor<'c, C> + Drop> Merging<C, S> {
     /// All entries that are still to come of these cursors.
     ///
-    /// Refused for want of memory alone, and then the cursors are dropped. Of lent ones nothing is taken off.
+    /// Refused only if memory runs out, and then the cursors are dropped; `take` leaves them
+    /// where they were.
     pub fn new(alloc: Global, cursors: Vec<S>) -> Result<Merging<C, S>, Fault>
         ensures { EqualOrMemory (λ merging. merging) result (Ok (map S.remaining cursors.items)) }
     {

@@ -1,10 +1,10 @@
--- What a call that can be refused answers, want of memory aside.
+-- What a call answers, if it may also answer Memory; and readings in several steps.
 use Rattle.std.specs.Prelude.{◌≡◌, ℕ, Option, Some, None, Result, Ok, Err}
 use Rattle.coding.specs.declared.fault.Fault.{Fault}
 use Rattle.coding.specs.declared.fault.FaultName.{FaultName}
 use Rattle.coding.specs.declared.fault.FaultName.TheVariants.{NoInput, Level, Options, SplitOrder, SplitCount, Workers, Snapshot, Size, Short, Magic, Handle, Range, Trailer, Compressed, BlockType, Block, Key, Index, Order, Empty, Bounds, Duplicate, Numbers, TooLarge, SnapshotList, LogChecksum, LogShape, EditTag, EditField, Comparator, Apply, Lawless, Device, Missing, Locked, Changed, Memory}
 
--- the fault of this name that is about no input
+-- the fault of this name, about no input
 abbrev pub fault : FaultName → Fault
 fault n = record { name = n; input = None }
 
@@ -48,20 +48,20 @@ code_of Locked = 42
 code_of Changed = 43
 code_of Memory = 99
 
--- the fact, unless these are the name and the input of want of memory
+-- P, unless the name is Memory and there is no input
 abbrev pub UnlessNamed : FaultName → Option ℕ → Type 0 → Type 0
 UnlessNamed Memory None P = Unit {0}
 UnlessNamed _ _ P = P
 
--- the fact, unless the fault is want of memory, which is about no input
+-- P, unless the fault is Memory
 abbrev pub UnlessMemory : Fault → Type 0 → Type 0
 UnlessMemory e P = UnlessNamed e.name e.input P
 
--- an error that is want of memory, or the refusal that the definition answers
+-- the error is Memory, or the refusal that the definition answers
 abbrev pub FailsOrMemory : {Y : Type 0} → Fault → Result Y Fault → Type 0
 FailsOrMemory e answer = UnlessMemory e (answer ≡ Err e)
 
--- What a call answers, seen by view, is what the definition answers, want of memory aside.
+-- The call's result, seen by view, is the definition's answer, or Memory.
 abbrev pub EqualOrMemory : {X Y : Type 0} → (X → Y) → Result X Fault → Result Y Fault → Type 0
 EqualOrMemory view (Ok x) answer = answer ≡ Ok (view x)
 EqualOrMemory view (Err e) answer = FailsOrMemory e answer
@@ -72,17 +72,17 @@ abbrev pub ◌>>=◌ : {A B : Type 0} → Result A Fault → (A → Result B Fau
 (Ok x) >>= f = f x
 (Err e) >>= f = Err e
 
--- the ? of the logic, where a reading has no refusal of its own
+-- the ? of the logic, for readings without a refusal of their own
 abbrev pub and_then : {A B : Type 0} → Option A → (A → Option B) → Option B
 and_then None f = None
 and_then (Some x) f = f x
 
--- What a call answers, seen by view, is such an answer, want of memory aside.
+-- The call's result, seen by view, is an answer as IsAnswer says, or Memory.
 abbrev pub HoldsOrMemory : {X Y : Type 0} → (X → Y) → Result X Fault → (Result Y Fault → Type 0) → Type 0
 HoldsOrMemory view (Ok x) IsAnswer = IsAnswer (Ok (view x))
 HoldsOrMemory view (Err e) IsAnswer = UnlessMemory e (IsAnswer (Err e))
 
--- what follows a first answer: a next one from its value, or else its refusal
+-- the answer after a first one: IsNext of its value, or the same refusal
 abbrev pub Follows : {A B : Type 0} → (A → Result B Fault → Type 0) → Result A Fault → Result B Fault → Type 0
 Follows IsNext (Ok x) answer = IsNext x answer
 Follows IsNext (Err e) answer = answer ≡ Err e

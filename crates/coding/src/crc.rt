@@ -1,9 +1,11 @@
 //! CRC-32C (Castagnoli), and the mask under which formats store it.
 //!
-//! A register of 32 bits takes the bits of the bytes in, the lowest of each byte first. It holds a
-//! remainder, with the coefficient of power 31 in its lowest bit. Steps are linear over exclusive
-//! or: so a table holds what some steps make of each byte, and the sixteen bytes of a chunk are four
-//! words that are advanced apart from each other, over the same four tables.
+//! A register of 32 bits takes in the bits of the bytes, the lowest bit of each byte first. It
+//! holds a remainder, with the coefficient of power 31 in its lowest bit.
+//!
+//! 1. Steps are linear over exclusive or. So a table can hold what n steps make of each byte.
+//! 2. Sixteen bytes are taken at a time, as four words. Each word is advanced by itself, so the
+//!    four don't wait for each other. All four use the same four tables.
 
 mod tables;
 
@@ -14,21 +16,23 @@ ghost use Rattle.std.specs.List.{concat};
 
 use tables::{AFTER_FIFTEEN, AFTER_FOURTEEN, AFTER_ONE, AFTER_SIXTEEN, AFTER_THIRTEEN};
 
-/// The divisor without its leading coefficient, that of power 31 in the lowest bit.
+/// The divisor without its leading coefficient; the coefficient of power 31 is the lowest bit.
 const CASTAGNOLI: u32 = 0x82f6_3b78;
 
-/// What a mask adds.
+/// What [`mask`] adds.
 const MASK_DELTA: u32 = 0xa282_ead8;
 
-/// CRC-32C (Castagnoli) of bytes: the remainder by the polynomial 0x11edc6f41, the lowest bit of
-/// each byte first, with the first 32 bits and the remainder turned over. That of no bytes is 0.
+/// CRC-32C (Castagnoli) of `bytes`; 0 for no bytes.
+///
+/// It is the remainder by the polynomial 0x11edc6f41. The lowest bit of each byte comes first, and
+/// the first 32 bits and the remainder are inverted.
 pub fn crc32c(bytes: &[u8]) -> u32
     ensures { result ≡ crc32c bytes.now }
 {
     !advanced(u32::MAX, bytes)
 }
 
-/// CRC-32C of the bytes of `first` and then those of `second`, which need not lie side by side.
+/// CRC-32C of the bytes of `first` and then those of `second`, which may lie apart.
 pub fn crc32c_pair(first: &[u8], second: &[u8]) -> u32
     ensures { result ≡ crc32c (first.now ++ second.now) }
 {
@@ -36,7 +40,7 @@ pub fn crc32c_pair(first: &[u8], second: &[u8]) -> u32
     !advanced(register, second)
 }
 
-/// What [`crc32c`] gives, computed bit by bit with no table: many times slower, to hold that against.
+/// The same as [`crc32c`], bit by bit and without a table: many times slower, to compare it with.
 pub fn crc32c_plain(bytes: &[u8]) -> u32
     ensures { result ≡ crc32c bytes.now }
 {
@@ -47,15 +51,16 @@ pub fn crc32c_plain(bytes: &[u8]) -> u32
     !register
 }
 
-/// A CRC as formats store it: rotated right by 15 bits, plus 0xa282ead8 modulo 2^32. Stored as they
-/// are, CRCs would give all bytes that end with their own CRC one CRC.
+/// `crc` as formats store it: rotated right by 15 bits, plus 0xa282ead8 modulo 2^32.
+///
+/// Why: without a mask, all bytes that end with their own CRC would have the same CRC.
 pub fn mask(crc: u32) -> u32
     ensures { result ≡ masked crc }
 {
     crc.rotate_right(15).wrapping_add(MASK_DELTA)
 }
 
-/// The CRC whose [`mask`] this is: each number of 32 bits is the mask of one CRC.
+/// The one CRC whose [`mask`] is `masked_crc`. Each number of 32 bits is the mask of one CRC.
 pub fn unmask(masked_crc: u32) -> u32
     ensures mask_undone { masked result ≡ masked_crc }
     ensures only { (crc : ℕ) → crc < 2 ^ 32 → masked crc ≡ masked_crc → result ≡ crc }
@@ -63,8 +68,8 @@ pub fn unmask(masked_crc: u32) -> u32
     masked_crc.wrapping_sub(MASK_DELTA).rotate_left(15)
 }
 
-/// The law under [`crc32c`]: what long division leaves of a polynomial of at least 32 coefficients is
-/// its remainder, and no other list is. A call does nothing.
+/// The law under [`crc32c`]: long division of a polynomial of at least 32 coefficients leaves its
+/// remainder, and no other list is its remainder. A call does nothing.
 pub fn remainder_law()
     ensures { RemainderLaw }
 {}
@@ -79,7 +84,7 @@ fn eight_steps(mut register: u32) -> u32
     register
 }
 
-/// The register after these bytes.
+/// The register after `bytes`.
 fn advanced(register: u32, bytes: &[u8]) -> u32
     ensures { result ≡ fed register (bits_of bytes.now) }
 {
@@ -93,7 +98,7 @@ fn advanced(register: u32, bytes: &[u8]) -> u32
     }
 }
 
-/// The register after these bytes, taken in one by one.
+/// The register after `bytes`, taken in one by one.
 fn advanced_by_bytes(mut register: u32, bytes: &[u8]) -> u32
     ensures { result ≡ fed register (bits_of bytes.now) }
 {
@@ -103,7 +108,7 @@ fn advanced_by_bytes(mut register: u32, bytes: &[u8]) -> u32
     register
 }
 
-/// A register that is advanced by one byte.
+/// `register`, advanced by one byte.
 #[inline(always)]
 fn past_one(register: u32) -> u32
     ensures { result ≡ after_steps 8 register }
@@ -111,14 +116,14 @@ fn past_one(register: u32) -> u32
     register >> 8 ^ AFTER_ONE[(register % 256) as usize]
 }
 
-/// A register that is advanced by four bytes.
+/// `register`, advanced by four bytes.
 fn past_four(register: u32) -> u32
     ensures { result ≡ after_steps 32 register }
 {
     past_one(past_one(past_one(past_one(register))))
 }
 
-/// A register that is advanced by sixteen bytes.
+/// `register`, advanced by sixteen bytes.
 #[inline(always)]
 fn past_sixteen(register: u32) -> u32
     ensures { result ≡ after_steps 128 register }
@@ -130,8 +135,8 @@ fn past_sixteen(register: u32) -> u32
         ^ AFTER_THIRTEEN[fourth as usize]
 }
 
-/// The four words of a chunk, to which what the register held before it was added. The steps of
-/// sixteen bytes are still to come, and each word takes its own.
+/// The four words of a chunk, after the register so far was added to them. Each word has yet to
+/// take its own steps for sixteen bytes.
 #[derive(Clone, Copy)]
 struct Lanes {
     first: u32,
@@ -155,7 +160,7 @@ impl Lanes {
         }
     }
 
-    /// The first chunk, after a register.
+    /// The words of the first chunk, with `register` added.
     fn begun(register: u32, chunk: &[u8; 16]) -> Lanes
         ensures { settled result ≡ fed register (bits_of chunk.now) }
     {
@@ -166,7 +171,7 @@ impl Lanes {
         }
     }
 
-    /// One chunk more.
+    /// The words after one more chunk.
     #[inline(always)]
     fn with(self, chunk: &[u8; 16]) -> Lanes
         ensures { settled result ≡ fed (settled self) (bits_of chunk.now) }
@@ -180,7 +185,7 @@ impl Lanes {
         }
     }
 
-    /// More chunks.
+    /// The words after more chunks.
     fn over(mut self, chunks: &[[u8; 16]]) -> Lanes
         ensures { settled result ≡ fed (settled self) (bits_of (concat chunks.now)) }
     {

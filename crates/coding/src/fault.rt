@@ -11,19 +11,20 @@ use std::fmt::{self, Debug, Display, Formatter, Write};
 /// What is wrong, by name. It prints as its name alone.
 #[derive(Clone, Copy, Debug, PartialEq, Eq)]
 pub enum FaultName {
-    /// There is no file to compact.
+    /// There is no input to compact.
     NoInput,
-    /// A level above 5 was asked for, or an input's level is neither the level nor the next.
+    /// A level above 5 was asked for, or an input is neither of that level nor of the next.
     Level,
-    /// An option is outside its limits, or the inputs are too many or don't fit together.
+    /// An option is outside its limits, there are more than 256 inputs, or the inputs don't fit
+    /// together.
     Options,
-    /// Boundaries of ranges don't rise strictly.
+    /// The boundaries of a split don't rise strictly.
     SplitOrder,
     /// There are more than 4,095 boundaries, or a wanted number of ranges is outside 1 to 4,096.
     SplitCount,
     /// The number of workers is outside 1 to 64.
     Workers,
-    /// The oldest snapshot or the last sequence is 2^56 - 1 or more.
+    /// The oldest snapshot, a listed one, or the last sequence is 2^56 - 1 or more.
     Snapshot,
     /// A table has more than 2^30 bytes.
     Size,
@@ -31,53 +32,54 @@ pub enum FaultName {
     Short,
     /// A table doesn't end with the magic number.
     Magic,
-    /// A block handle has no reading.
+    /// The bytes of a block handle can't be read.
     Handle,
     /// A block handle points outside its file.
     Range,
-    /// The checksum behind a block isn't that of the block.
+    /// The checksum after a block isn't that of the block and its type.
     Trailer,
     /// A block is compressed.
     Compressed,
-    /// A block is of an unknown type.
+    /// The type of a block is neither 0 nor 1.
     BlockType,
-    /// Bytes are no block.
+    /// The bytes aren't a block.
     Block,
-    /// Bytes are no internal key.
+    /// The bytes aren't an internal key.
     Key,
-    /// An index key doesn't lie between its block's last key and the next block's first.
+    /// A key of the index isn't between its block's last key and the next block's first.
     Index,
     /// Keys don't rise strictly.
     Order,
     /// A table, or a block of it, has no entry.
     Empty,
-    /// A file's size, smallest or largest key isn't that of its table.
+    /// A file's size, smallest or largest key isn't what the version states.
     Bounds,
-    /// One user key and sequence come twice.
+    /// One user key and sequence are there twice.
     Duplicate,
-    /// File numbers would pass 2^64 - 1.
+    /// File numbers would exceed 2^64 - 1.
     Numbers,
-    /// A user key, a value or what is to be written is over its limit.
+    /// A user key, a value or an output is over its limit.
     TooLarge,
-    /// Listed snapshots are more than 4,096, don't rise strictly, or one is above the last sequence.
+    /// More than 4,096 snapshots are listed, they don't rise strictly, or one is above the last
+    /// sequence.
     SnapshotList,
-    /// The checksum of a log's fragment isn't that of its bytes.
+    /// The checksum of a log's fragment isn't that of its type and content.
     LogChecksum,
-    /// Bytes aren't laid out as a log.
+    /// The bytes aren't laid out as a log.
     LogShape,
     /// A version edit has an unknown tag.
     EditTag,
-    /// A field of a version edit has no reading.
+    /// A field of a version edit can't be read.
     EditField,
-    /// A comparator's name is missing or isn't the one that is needed.
+    /// A comparator's name is missing, or is another one than the caller's.
     Comparator,
-    /// An edit doesn't fit the version, or a folder's manifest lacks what is needed.
+    /// An edit doesn't fit its version, or CURRENT or the manifest lacks what is needed.
     Apply,
     /// A version isn't lawful.
     Lawless,
     /// The device failed.
     Device,
-    /// A file or a table that is named isn't there.
+    /// A file or table that is named isn't there.
     Missing,
     /// The folder is in use by another program.
     Locked,
@@ -148,12 +150,12 @@ impl Error for FaultName {}
 pub struct Fault {
     /// What is wrong.
     pub name: FaultName,
-    /// Which input, counted from 0; none for a fault that is about no input.
+    /// The input's place, counted from 0; None if the fault isn't about an input.
     pub input: Option<u64>,
 }
 
 impl Fault {
-    /// The fault of this name that is about no input.
+    /// The fault of this name, about no input.
     pub fn of(name: FaultName) -> Fault
         ensures { result ≡ fault name }
     {

@@ -1,7 +1,15 @@
-//! What all layers share: the one [`Fault`], varints and length-prefixed slices, CRC-32C and its mask, and how much two
-//! slices of bytes share at their beginnings.
+//! What every format is made of: varints, CRC-32C, and the one fault of all crates.
 //!
-//! Fixed-width numbers are little-endian and are read and written by `byteorder`.
+//! - [`Fault`] and [`FaultName`]: why a call is refused.
+//! - [`push_varint`], [`push_slice`], [`read_u32_varint`], [`read_u64_varint`]: numbers of 1 to 10
+//!   bytes, and slices after their length.
+//! - [`crc32c`], [`crc32c_pair`], [`mask`], [`unmask`]: checksums, and the form in which they are
+//!   stored.
+//! - [`common_len`]: how long the common beginning of two slices is.
+//! - [`one_reading`], [`remainder_law`]: laws of these formats.
+//!
+//! Numbers of fixed width are little-endian; `byteorder` reads and writes them. No contract says
+//! that only a refused growth of memory answers Memory, or how fast a checksum is.
 #![tactic(auto)]
 
 mod crc;

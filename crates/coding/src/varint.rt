@@ -1,7 +1,11 @@
-//! Varints: a number in groups of seven bits, the lowest first, with the high bit set on each byte but the last.
+//! Varints: a number in groups of seven bits, one group a byte, the lowest first.
 //!
-//! A number has one spelling, the shortest, of 1 to 10 bytes. A spelling with a last group of 0 (that of 0 itself
-//! aside), one that passes its width and one that ends early have no reading.
+//!     300 = 0b10_0101100    ac 02    the high bit is set on each byte but the last
+//!
+//! 1. A number below 2^64 has one spelling of 1 to 10 bytes, the shortest.
+//! 2. Bytes have no reading if they begin with a longer spelling (its last group is 0), if the
+//!    number exceeds its width, or if they end within the spelling.
+//! 3. Bytes after the spelling are not looked at.
 
 ghost use Rattle.std.specs.Prelude.{◌≡◌, ℕ, ◌<◌, ◌≤◌, ◌^◌, ◌↔◌, ◌⊎◌, List, ◌∷◌, ◌++◌, length, OnOk, OnErr, IsOkUnless, Some};
 ghost use Rattle.coding.specs.Answers.{fault};
@@ -10,12 +14,12 @@ ghost use Rattle.coding.specs.declared.fault.FaultName.TheVariants.{Memory};
 
 use crate::fault::Fault;
 
-/// The most bytes that a number below 2^64 takes.
+/// The most bytes of a number below 2^64.
 const MAX_LEN: usize = 10;
 
-/// The varint32 at the front of the bytes, and how many bytes it takes, from 1 to 5.
+/// The varint32 at the front of `bytes`, and its length, 1 to 5 bytes.
 ///
-/// None where the bytes don't begin with the shortest spelling of a number below 2^32.
+/// None if `bytes` don't begin with the shortest spelling of a number below 2^32.
 #[inline]
 pub fn read_u32_varint(bytes: &[u8]) -> Option<(u32, usize)>
     ensures { result ≡ varint_reading (2 ^ 32) bytes.now }
@@ -27,9 +31,9 @@ pub fn read_u32_varint(bytes: &[u8]) -> Option<(u32, usize)>
     Some((number as u32, used))
 }
 
-/// The varint64 at the front of the bytes, and how many bytes it takes, from 1 to 10.
+/// The varint64 at the front of `bytes`, and its length, 1 to 10 bytes.
 ///
-/// None where the bytes don't begin with the shortest spelling of a number below 2^64.
+/// None if `bytes` don't begin with the shortest spelling of a number below 2^64.
 #[inline]
 pub fn read_u64_varint(bytes: &[u8]) -> Option<(u64, usize)>
     ensures { result ≡ varint_reading (2 ^ 64) bytes.now }
@@ -41,9 +45,9 @@ pub fn read_u64_varint(bytes: &[u8]) -> Option<(u64, usize)>
     }
 }
 
-/// Appends the one spelling of the number, 1 to 10 bytes.
+/// Appends the one spelling of `number`, 1 to 10 bytes.
 ///
-/// Refused for want of memory alone. A refusal leaves it as it was.
+/// The only fault is Memory, which leaves `out` unchanged.
 #[inline]
 pub fn push_varint(out: &mut Vec<u8>, number: u64) -> Result<(), Fault>
     ensures ok { OnOk result (out.new.items ≡ out.old.items ++ varint number) }
@@ -57,9 +61,9 @@ pub fn push_varint(out: &mut Vec<u8>, number: u64) -> Result<(), Fault>
     push_groups(out, number)
 }
 
-/// Appends the slice's length as a varint and then the slice, of fewer than 2^32 bytes.
+/// Appends the length of `slice` as a varint, and then `slice`, of fewer than 2^32 bytes.
 ///
-/// Refused for want of memory alone. A refusal leaves it as it was.
+/// The only fault is Memory, which leaves `out` unchanged.
 pub fn push_slice(out: &mut Vec<u8>, slice: &[u8]) -> Result<(), Fault>
     requires { length slice.now < 2 ^ 32 }
     ensures ok { OnOk result (out.new.items ≡ out.old.items ++ length_prefixed slice.now) }
@@ -69,15 +73,15 @@ pub fn push_slice(out: &mut Vec<u8>, slice: &[u8]) -> Result<(), Fault>
     let len = out.len();
     push_varint(out, slice.len() as u64)?;
     if let Err(refused) = out.extend_from_slice(slice) {
-        // The bytes of the length go too.
+        // The length is taken back too.
         out.truncate(len);
         return Err(refused.into());
     }
     Ok(())
 }
 
-/// A number has one spelling, the shortest, and no spelling begins another: what is read is what was spelt, whatever
-/// follows it.
+/// The law that a number has one spelling, the shortest, and that no spelling begins another. So
+/// what was written is read, whatever follows it. A call does nothing.
 pub fn one_reading()
     // The spelling is the number's groups.
     ensures groups { (number : ℕ) → number < 2 ^ 64
@@ -89,12 +93,12 @@ pub fn one_reading()
     ensures read { (limit : ℕ) (bytes : List ℕ) (number used : ℕ) → limit ≤ 2 ^ 64 →
         (varint_reading limit bytes ≡ Some (number, used)) ↔
         ((number < limit) × (used ≡ length (varint number)) × ((rest : List ℕ) × (bytes ≡ varint number ++ rest))) }
-    // The bytes behind a spelling are not part of it.
+    // What follows a spelling is not part of it.
     ensures apart { (x y : ℕ) (a b : List ℕ) → x < 2 ^ 64 → y < 2 ^ 64
         → varint x ++ a ≡ varint y ++ b → (x ≡ y) × (a ≡ b) }
 {}
 
-/// The reading of a first byte with the high bit and the bytes behind it.
+/// The reading of `first`, whose high bit is set, and then `rest`.
 fn read_groups(first: u8, rest: &[u8]) -> Option<(u64, usize)>
     requires { 128 ≤ first }
     ensures { result ≡ varint_reading (2 ^ 64) (first ∷ rest.now) }
@@ -119,7 +123,7 @@ fn read_groups(first: u8, rest: &[u8]) -> Option<(u64, usize)>
     None
 }
 
-/// Appends the one spelling of the number. Refused for want of memory alone. A refusal leaves it as it was.
+/// Appends the one spelling of `number`. The only fault is Memory, which leaves `out` unchanged.
 fn push_groups(out: &mut Vec<u8>, number: u64) -> Result<(), Fault>
     ensures ok { OnOk result (out.new.items ≡ out.old.items ++ varint number) }
     ensures err { OnErr result (out.new.items ≡ out.old.items) }

@@ -1,4 +1,4 @@
-//! Bytes that are held against each other eight at a time.
+//! Comparing bytes eight at a time.
 
 ghost use Rattle.std.specs.Prelude.{◌≡◌, ◌+◌, ◌/◌, ◌≤◌, nat_eq, length, drop};
 ghost use Rattle.std.specs.Int.{trailing_zeros, w64};
@@ -7,13 +7,13 @@ ghost use Rattle.byteorder.specs.Endian.{little_number};
 
 use byteorder::{ByteOrder, LittleEndian};
 
-/// How many bytes are held against each other at once.
+/// How many bytes are compared at a time.
 const WORD_LEN: usize = 8;
 
 /// How many bits a byte has.
 const BYTE_BITS: usize = 8;
 
-/// The length of the longest beginning that both have. Takes no memory.
+/// The length of the longest common beginning of `a` and `b`. Takes no memory.
 #[inline]
 pub fn common_len(a: &[u8], b: &[u8]) -> usize
     ensures value { result ≡ common_prefix_len nat_eq a.now b.now }
@@ -29,7 +29,7 @@ pub fn common_len(a: &[u8], b: &[u8]) -> usize
             return WORD_LEN * i + same_bytes(difference);
         }
     }
-    // The last word of the shorter one may begin among bytes that were held against each other.
+    // The last word of the shorter one may begin among bytes that were compared already.
     let last = shorter - WORD_LEN;
     let difference = word_at(a, last) ^ word_at(b, last);
     if difference != 0 {
@@ -38,7 +38,7 @@ pub fn common_len(a: &[u8], b: &[u8]) -> usize
     shorter
 }
 
-/// How many bytes at the front of two words are the same, whose exclusive or is this.
+/// How many bytes at the front of two words are equal, `difference` being their exclusive or.
 #[inline]
 fn same_bytes(difference: u64) -> usize
     ensures { result ≡ trailing_zeros w64 difference / 8 }
@@ -46,7 +46,7 @@ fn same_bytes(difference: u64) -> usize
     difference.trailing_zeros() as usize / BYTE_BITS
 }
 
-/// The number in the eight bytes from a place on, the lowest first.
+/// The number in the eight bytes from `place` on, the lowest byte first.
 #[inline]
 fn word_at(bytes: &[u8], place: usize) -> u64
     requires { place + 8 ≤ length bytes.now }
@@ -55,7 +55,7 @@ fn word_at(bytes: &[u8], place: usize) -> u64
     LittleEndian::read_u64(&bytes[place..])
 }
 
-/// The length of the longest beginning that both have, found byte by byte.
+/// The length of the longest common beginning of `a` and `b`, byte by byte.
 fn common_bytes(a: &[u8], b: &[u8]) -> usize
     ensures { result ≡ common_prefix_len nat_eq a.now b.now }
 {

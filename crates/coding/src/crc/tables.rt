@@ -1,7 +1,7 @@
-//! The register of CRC-32C advanced: for each byte, what a register that holds that byte alone holds
-//! after so many bytes of 8 zero bits.
+//! The register of CRC-32C, advanced: entry b is a register that holds the byte b alone, after n
+//! zero bytes.
 
-/// Each byte, advanced by one byte.
+/// n = 1.
 pub static AFTER_ONE: [u32; 256] = [
     0x00000000, 0xf26b8303, 0xe13b70f7, 0x1350f3f4, 0xc79a971f, 0x35f1141c, 0x26a1e7e8, 0xd4ca64eb,
     0x8ad958cf, 0x78b2dbcc, 0x6be22838, 0x9989ab3b, 0x4d43cfd0, 0xbf284cd3, 0xac78bf27, 0x5e133c24,
@@ -37,7 +37,7 @@ pub static AFTER_ONE: [u32; 256] = [
     0x79b737ba, 0x8bdcb4b9, 0x988c474d, 0x6ae7c44e, 0xbe2da0a5, 0x4c4623a6, 0x5f16d052, 0xad7d5351,
 ];
 
-/// Each byte, advanced by thirteen bytes.
+/// n = 13.
 pub static AFTER_THIRTEEN: [u32; 256] = [
     0x00000000, 0x30d23865, 0x61a470ca, 0x517648af, 0xc348e194, 0xf39ad9f1, 0xa2ec915e, 0x923ea93b,
     0x837db5d9, 0xb3af8dbc, 0xe2d9c513, 0xd20bfd76, 0x4035544d, 0x70e76c28, 0x21912487, 0x11431ce2,
@@ -73,7 +73,7 @@ pub static AFTER_THIRTEEN: [u32; 256] = [
     0x92a00d08, 0xa272356d, 0xf3047dc2, 0xc3d645a7, 0x51e8ec9c, 0x613ad4f9, 0x304c9c56, 0x009ea433,
 ];
 
-/// Each byte, advanced by fourteen bytes.
+/// n = 14.
 pub static AFTER_FOURTEEN: [u32; 256] = [
     0x00000000, 0x54075546, 0xa80eaa8c, 0xfc09ffca, 0x55f123e9, 0x01f676af, 0xfdff8965, 0xa9f8dc23,
     0xabe247d2, 0xffe51294, 0x03eced5e, 0x57ebb818, 0xfe13643b, 0xaa14317d, 0x561dceb7, 0x021a9bf1,
@@ -109,7 +109,7 @@ pub static AFTER_FOURTEEN: [u32; 256] = [
     0x8a4bf8c2, 0xde4cad84, 0x2245524e, 0x76420708, 0xdfbadb2b, 0x8bbd8e6d, 0x77b471a7, 0x23b324e1,
 ];
 
-/// Each byte, advanced by fifteen bytes.
+/// n = 15.
 pub static AFTER_FIFTEEN: [u32; 256] = [
     0x00000000, 0x678efd01, 0xcf1dfa02, 0xa8930703, 0x9bd782f5, 0xfc597ff4, 0x54ca78f7, 0x334485f6,
     0x3243731b, 0x55cd8e1a, 0xfd5e8919, 0x9ad07418, 0xa994f1ee, 0xce1a0cef, 0x66890bec, 0x0107f6ed,
@@ -145,7 +145,7 @@ pub static AFTER_FIFTEEN: [u32; 256] = [
     0x223c1dcb, 0x45b2e0ca, 0xed21e7c9, 0x8aaf1ac8, 0xb9eb9f3e, 0xde65623f, 0x76f6653c, 0x1178983d,
 ];
 
-/// Each byte, advanced by sixteen bytes.
+/// n = 16.
 pub static AFTER_SIXTEEN: [u32; 256] = [
     0x00000000, 0xf20c0dfe, 0xe1f46d0d, 0x13f860f3, 0xc604aceb, 0x3408a115, 0x27f0c1e6, 0xd5fccc18,
     0x89e52f27, 0x7be922d9, 0x6811422a, 0x9a1d4fd4, 0x4fe183cc, 0xbded8e32, 0xae15eec1, 0x5c19e33f,

@@ -150,7 +150,7 @@ impl Error for FaultName {}
 pub struct Fault {
     /// What is wrong.
     pub name: FaultName,
-    /// The input's place, counted from 0; None if the fault isn't about an input.
+    /// Which input, counted from 0; none for a fault that is about no input.
     pub input: Option<u64>,
 }
 

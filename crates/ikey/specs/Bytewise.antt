@@ -1,4 +1,4 @@
--- The order of user keys as unsigned bytes, and its short keys.
+-- The order of user keys as unsigned bytes, its separator and its successor.
 use Rattle.std.specs.Prelude.{codes, ℕ, ◌+◌, nat_eq, nat_lt, ◌&&◌, if◌then◌else◌, List, [], ◌∷◌, ◌++◌, length, take, slice_index}
 use Rattle.std.specs.List.{common_prefix_len, prefix_len}
 use Rattle.std.specs.Ordering.{nat_cmp}
@@ -13,11 +13,12 @@ bytewise_name = codes "leveldb.BytewiseComparator"
 abbrev pub bytewise_cmp : List ℕ → List ℕ → Ordering
 bytewise_cmp a b = slice_cmp nat_cmp a b
 
--- the key cut behind place d, with the byte there raised by one
+-- the key up to place d, with the byte there raised by one
 abbrev pub raised_at : ℕ → List ℕ → List ℕ
 raised_at d key = take d key ++ (slice_index key d + 1) ∷ []
 
--- where a byte of start at the first differing place can be raised and stay below limit's, start raised there; else start
+-- At the first place where they differ, if start's byte is below 0xff and one more is below limit's
+-- byte: start raised there. Else start.
 unfoldable pub bytewise_separator : List ℕ → List ℕ → List ℕ
 bytewise_separator start limit =
     let d = common_prefix_len nat_eq start limit in
@@ -25,11 +26,11 @@ bytewise_separator start limit =
     then raised_at d start
     else start
 
--- the first place of a byte that is not 0xff, or the length
+-- the place of the first byte that isn't 0xff, or the length
 abbrev pub first_raisable : List ℕ → ℕ
 first_raisable key = prefix_len (λ b. nat_eq b 255) key
 
--- the key raised at its first byte that is not 0xff, or the key where there is none
+-- the key raised at its first byte that isn't 0xff; the key if there is no such byte
 unfoldable pub bytewise_successor : List ℕ → List ℕ
 bytewise_successor key =
     if nat_lt (first_raisable key) (length key) then raised_at (first_raisable key) key else key

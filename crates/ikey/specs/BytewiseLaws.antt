@@ -1,4 +1,4 @@
--- The laws of a comparator, of the order of user keys as unsigned bytes.
+-- That the order of user keys as unsigned bytes is a comparator.
 use Rattle.std.specs.Prelude.{◌≡◌, ◌≢◌, ◌<◌, ℕ, zero, suc, ◌+◌, Bool, true, false, cond, ◌&&◌, if◌then◌else◌, nat_eq, nat_lt, List, [], ◌∷◌, length, slice_index, refl}
 use Rattle.std.specs.List.{common_prefix_len}
 use Rattle.std.specs.Cmp.{nat_cmp_is}
@@ -29,12 +29,12 @@ raised_at-above (x ∷ xs) zero h =
 raised_at-above (x ∷ xs) (suc d) h =
     ap (λ o. ordering_then o (slice_cmp nat_cmp xs (raised_at d xs))) (nat_same x x refl) ∙ raised_at-above xs d (omega arith)
 
--- a first difference behind the first byte says that the first bytes are the same
+-- if the first difference is after the first byte, the first bytes are the same
 shared_front : (x y : ℕ) (xs ys : List ℕ) (d : ℕ) (same : Bool) → nat_eq x y ≡ same → suc d ≡ cond same (1 + common_prefix_len nat_eq xs ys) 0 → (x ≡ y) × (d ≡ common_prefix_len nat_eq xs ys)
 shared_front x y xs ys d true p e = (eqb-true x y p, omega arith)
 shared_front x y xs ys d false p e = absurd (omega arith)
 
--- a key raised at the first difference, and still below the limit there, is below the limit
+-- a key raised at the first difference is below the limit if its raised byte is
 pub raised_at-below : (start limit : List ℕ) (d : ℕ) → d ≡ common_prefix_len nat_eq start limit → d < length start → slice_index start d + 1 < slice_index limit d → bytewise_cmp (raised_at d start) limit ≡ Less
 raised_at-below [] limit d e h k = absurd (omega arith)
 raised_at-below (x ∷ xs) [] d e h k = absurd (omega arith)

@@ -1,4 +1,4 @@
--- What a comparator of user keys promises of its short keys.
+-- What a comparator of user keys promises of its order, separators and successors.
 use Rattle.std.specs.Prelude.{◌≡◌, ◌≢◌, ℕ, List}
 use Rattle.std.specs.declared.cmp.Ordering.{Ordering}
 use Rattle.std.specs.declared.cmp.Ordering.TheVariants.{Less, Equal, Greater}
@@ -12,7 +12,7 @@ pub record IsBetween (cmp : List ℕ → List ℕ → Ordering) (start limit mid
   pub at_least : cmp start middle ≢ Greater
   pub below : cmp middle limit ≡ Less
 
--- each separator of start < limit is at least start and below limit
+-- each separator of start and limit is at least start, and below limit, if start is below limit
 abbrev pub Separates : (List ℕ → List ℕ → Ordering) → (List ℕ → List ℕ → List ℕ) → Type 0
 Separates cmp separator_of =
     (start limit : List ℕ) → cmp start limit ≡ Less → IsBetween cmp start limit (separator_of start limit)

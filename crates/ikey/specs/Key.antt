@@ -1,4 +1,4 @@
--- Internal keys: a user key, and behind it the fixed64 of its sequence * 256 + the number of its type.
+-- Internal keys: a user key, and then the fixed64 of sequence * 256 + the number of the type.
 use Rattle.std.specs.Prelude.{◌≡◌, ℕ, ◌+◌, ◌*◌, ◌-◌, ◌/◌, ◌%◌, ◌≤◌, ◌<◌, nat_lt, nat_eq, if◌then◌else◌, List, ◌++◌, length, take, drop, Result, Ok, Err}
 use Rattle.byteorder.specs.Endian.{little_number, little_bytes}
 use Rattle.coding.specs.Answers.{fault}
@@ -16,7 +16,7 @@ kind_number Put = 1
 abbrev pub user_of : List ℕ → List ℕ
 user_of bytes = take (length bytes - 8) bytes
 
--- the number in the last 8 bytes of an internal key
+-- the tag of an internal key: the number in its last 8 bytes
 unfoldable pub tag_of : List ℕ → ℕ
 tag_of bytes = little_number 8 (drop (length bytes - 8) bytes)
 
@@ -36,14 +36,15 @@ kind_of bytes = if nat_eq (tag_of bytes % 256) 1 then Put else Delete
 unfoldable pub internal_key : List ℕ → ℕ → Kind → List ℕ
 internal_key user sequence kind = user ++ tag_bytes (sequence * 256 + kind_number kind)
 
--- the bytes are an internal key: 8 bytes of a tag of type 0 or 1 behind a user key of at most 65,535 bytes
+-- the bytes are an internal key: a user key of at most 65,535 bytes, and then 8 bytes of a tag of
+-- type 0 or 1
 pub record IsInternalKey (bytes : List ℕ) : Type 0 where
   pub tagged : 8 ≤ length bytes
   pub spelled : drop (length bytes - 8) bytes ≡ tag_bytes (tag_of bytes)
   pub typed : tag_of bytes % 256 < 2
   pub fits : length bytes ≤ 65535 + 8
 
--- what a reading answers: the bytes where they are an internal key, else the first test that fails
+-- the bytes if they are an internal key, else the first test that fails
 abbrev pub internal_key_reading : List ℕ → Result (List ℕ) Fault
 internal_key_reading bytes =
     if nat_lt (length bytes) 8

@@ -5,14 +5,15 @@ use Rattle.std.specs.declared.cmp.Ordering.{Ordering}
 use Rattle.ikey.specs.declared.kind.Kind.TheVariants.{Put}
 use Rattle.ikey.specs.Key.{user_of, internal_key}
 
--- the first internal key of the user key short, where short is shorter than the key's own and greater; else the key
+-- short with the greatest sequence and type 1, if short is shorter than the user key and greater;
+-- else the key
 unfoldable pub shortened : (List ℕ → List ℕ → Ordering) → List ℕ → List ℕ → List ℕ
 shortened cmp key short =
     if nat_lt (length short) (length (user_of key)) && is_lt (cmp (user_of key) short)
     then internal_key short (2 ^ 56 - 1) Put
     else key
 
--- the first key where the user keys are equal, else the first key shortened by the separator of the user keys
+-- a if the user keys are equal, else a shortened by the separator of the user keys
 unfoldable pub internal_separator_of : (List ℕ → List ℕ → Ordering) → (List ℕ → List ℕ → List ℕ) → List ℕ → List ℕ → List ℕ
 internal_separator_of cmp separator_of a b =
     if is_eq (cmp (user_of a) (user_of b)) then a else shortened cmp a (separator_of (user_of a) (user_of b))

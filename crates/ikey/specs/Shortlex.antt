@@ -1,4 +1,4 @@
--- The order of user keys by length first.
+-- The order of user keys by length first, its separator and its successor.
 use Rattle.std.specs.Prelude.{codes, ℕ, List, length}
 use Rattle.std.specs.Ordering.{nat_cmp, ordering_then}
 use Rattle.std.specs.Cmp.Lexicographic.{slice_cmp}
@@ -8,11 +8,11 @@ use Rattle.std.specs.declared.cmp.Ordering.{Ordering}
 abbrev pub shortlex_name : List ℕ
 shortlex_name = codes "subcompaction.ShortlexComparator"
 
--- a shorter user key first, equally long ones as unsigned bytes
+-- shorter user keys first, equally long ones as unsigned bytes
 abbrev pub shortlex_cmp : List ℕ → List ℕ → Ordering
 shortlex_cmp a b = ordering_then (nat_cmp (length a) (length b)) (slice_cmp nat_cmp a b)
 
--- every separator is the lower key
+-- every separator is its first key
 abbrev pub shortlex_separator : List ℕ → List ℕ → List ℕ
 shortlex_separator start limit = start
 

@@ -1,4 +1,4 @@
--- The laws of a comparator, of the order of user keys by length first.
+-- That the order of user keys by length first is a comparator.
 use Rattle.std.specs.Prelude.{◌≡◌, ◌≢◌, ℕ, List, length, refl}
 use Rattle.std.specs.Ordering.{nat_cmp, ordering_then}
 use Rattle.std.specs.Cmp.{IsTotalOrder}
@@ -14,7 +14,7 @@ use Rattle.ikey.specs.Comparator.{IsExact, Separates, Succeeds}
 pub shortlex_total : IsTotalOrder shortlex_cmp
 shortlex_total = then_total (on_total length nat_cmp_total) nat_list_cmp_total
 
--- two comparisons, one after the other, answer Equal only where both do
+-- two comparisons, one after the other, answer Equal only if both do
 pub both_equal : (p q : Ordering) → ordering_then p q ≡ Equal → (p ≡ Equal) × (q ≡ Equal)
 both_equal Less q e = absurd (cc)
 both_equal Equal q e = (refl, e)

@@ -13,11 +13,16 @@ use coding::{Fault, common_len};
 use std::alloc::Global;
 use std::cmp::Ordering;
 
-/// How many bytes of two keys are compared at once.
+/// How many bytes of two keys are compared at a time.
 const WORD_LEN: usize = 8;
 
-/// User keys as unsigned bytes, a proper prefix first. Its separator and its successor raise one byte
-/// by one and cut off the rest, where that serves.
+/// User keys as unsigned bytes, a proper prefix first: LevelDB's comparator.
+///
+/// - The separator raises the first byte at which `start` and `limit` differ by one, and cuts off
+///   the rest. It is `start` if that byte is 0xff, if the raised byte isn't below that of `limit`,
+///   or if one of the two is a prefix of the other.
+/// - The successor raises the first byte that isn't 0xff, and cuts off the rest. It is the key if
+///   there is no such byte.
 pub struct Bytewise;
 
 impl Comparator for Bytewise {
@@ -70,7 +75,7 @@ impl Comparator for Bytewise {
 
 impl SharedComparator for Bytewise {}
 
-/// How two keys are ordered, found by words of eight bytes, the most significant byte first.
+/// The order of `a` and `b`, by words of eight bytes with the most significant byte first.
 #[inline]
 fn by_words(a: &[u8], b: &[u8]) -> Ordering
     ensures { result ≡ bytewise_cmp a.now b.now }
@@ -86,7 +91,7 @@ fn by_words(a: &[u8], b: &[u8]) -> Ordering
             return word.cmp(&other);
         }
     }
-    // The last word of the shorter one may begin among bytes that were compared.
+    // The last word of the shorter one may begin among bytes that were compared already.
     let last = word_at(a, shorter - WORD_LEN);
     let other = word_at(b, shorter - WORD_LEN);
     if last != other {
@@ -95,14 +100,14 @@ fn by_words(a: &[u8], b: &[u8]) -> Ordering
     a.len().cmp(&b.len())
 }
 
-/// How two keys are ordered, found byte by byte.
+/// The order of `a` and `b`, byte by byte.
 fn by_bytes(a: &[u8], b: &[u8]) -> Ordering
     ensures { result ≡ bytewise_cmp a.now b.now }
 {
     a.cmp(b)
 }
 
-/// The number in the eight bytes from a place on, the most significant first.
+/// The number in the eight bytes from `place` on, the most significant byte first.
 #[inline]
 fn word_at(bytes: &[u8], place: usize) -> u64
     requires { place + 8 ≤ length bytes.now }
@@ -111,7 +116,7 @@ fn word_at(bytes: &[u8], place: usize) -> u64
     BigEndian::read_u64(&bytes[place..])
 }
 
-/// The place of the first byte that is not 0xff, or the length where there is none.
+/// The place of the first byte that isn't 0xff; the length if there is none.
 fn raisable_place(key: &[u8]) -> usize
     ensures place { result ≡ first_raisable key.now }
     ensures raisable { result < length key.now → slice_index key.now result < 255 }
@@ -124,7 +129,7 @@ fn raisable_place(key: &[u8]) -> usize
     key.len()
 }
 
-/// The key up to the place, with the byte there raised by one.
+/// `key` up to `place`, with the byte there raised by one. The only fault is Memory.
 fn raised(alloc: Global, key: &[u8], place: usize) -> Result<Vec<u8>, Fault>
     requires inside { place < length key.now }
     requires fits { slice_index key.now place < 255 }

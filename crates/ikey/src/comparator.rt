@@ -1,4 +1,4 @@
-//! The orders of user keys.
+//! What an order of user keys promises.
 
 ghost use Rattle.std.specs.Prelude.{◌≡◌, ℕ, List, Ok, codes};
 ghost use Rattle.std.specs.declared.cmp.Ordering.{Ordering};
@@ -10,7 +10,8 @@ use coding::Fault;
 use std::alloc::Global;
 use std::cmp::Ordering;
 
-/// A total order of user keys, which has a name and finds short keys between two keys and above one.
+/// A total order of user keys, in which only equal bytes are equal. It has a name, and finds short
+/// keys between two keys and above one.
 pub trait Comparator {
     ghost name_bytes: { List ℕ };
 
@@ -24,19 +25,19 @@ pub trait Comparator {
     fn name() -> &'static str
         ensures { result.now ≡ name_bytes };
 
-    /// How two user keys are ordered.
+    /// The order of `a` and `b`.
     fn compare(a: &[u8], b: &[u8]) -> Ordering
         ensures { result ≡ cmp a.now b.now };
 
-    /// A key of `start` or above it, and below `limit`, where `start` is below `limit`.
+    /// A key at or above `start`; it is below `limit` if `start` is.
     ///
-    /// Refused for want of memory alone.
+    /// The only fault is Memory.
     fn separator(alloc: Global, start: &[u8], limit: &[u8]) -> Result<Vec<u8>, Fault>
         ensures { EqualOrMemory (λ v. v.items) result (Ok (separator_of start.now limit.now)) };
 
-    /// A key of `key` or above it.
+    /// A key at or above `key`.
     ///
-    /// Refused for want of memory alone.
+    /// The only fault is Memory.
     fn successor(alloc: Global, key: &[u8]) -> Result<Vec<u8>, Fault>
         ensures { EqualOrMemory (λ v. v.items) result (Ok (successor_of key.now)) };
 
@@ -49,5 +50,5 @@ pub trait Comparator {
     ghost above: { Succeeds cmp successor_of };
 }
 
-/// A comparator that threads may share, as workers ask of it.
+/// A comparator that threads may share, as the calls with workers ask.
 pub trait SharedComparator: Comparator + Send + Sync {}

@@ -1,4 +1,4 @@
-//! An internal key, seen where it lies.
+//! An internal key in the bytes where it lies.
 
 ghost use Rattle.std.specs.Prelude.{◌≡◌, ℕ, ◌^◌, ◌<◌, ◌≤◌, ◌↔◌, List, length, IsOk};
 ghost use Rattle.std.specs.Result.{result_map_both};
@@ -19,7 +19,7 @@ pub const MAX_USER_KEY: usize = 65_535;
 /// The greatest sequence, 2^56 - 1.
 pub const MAX_SEQUENCE: u64 = 0xff_ffff_ffff_ffff;
 
-/// The bytes of an internal key: a user key, and behind it 8 bytes of `sequence * 256 + type`.
+/// The bytes of an internal key: a user key, and then 8 bytes of `sequence * 256 + type`.
 #[derive(Clone, Copy)]
 pub struct InternalKey<'a> {
     /// The bytes of the whole key.
@@ -28,8 +28,11 @@ pub struct InternalKey<'a> {
 }
 
 impl<'a> InternalKey<'a> {
-    /// The internal key that the bytes are. `Key` where they are fewer than 8 or the type is neither 0
-    /// nor 1, and else `TooLarge` where the user key has more than 65,535 bytes. Takes no memory.
+    /// The internal key that `bytes` are. Takes no memory. The first test that fails names the
+    /// fault:
+    ///
+    /// 1. Key: there are fewer than 8 bytes, or the type is neither 0 nor 1.
+    /// 2. TooLarge: the user key has more than 65,535 bytes.
     pub fn parse(bytes: &'a [u8]) -> Result<InternalKey<'a>, Fault>
         ensures reading { result_map_both (λ key. key.bytes.now) (λ e. e) result ≡ internal_key_reading bytes.now }
         ensures accepted { IsOk result ↔ IsInternalKey bytes.now }
@@ -76,7 +79,7 @@ impl<'a> InternalKey<'a> {
         }
     }
 
-    /// How two internal keys are ordered: by user key rising, then sequence falling, then type falling.
+    /// The order of two internal keys: user key rising, then sequence falling, then type falling.
     pub fn compare<C: Comparator>(&self, other: &InternalKey) -> Ordering
         ensures order { result ≡ internal_cmp C.cmp self.now.bytes.now other.now.bytes.now }
         ensures exact { result ≡ Equal → self.now.bytes.now ≡ other.now.bytes.now }
@@ -85,7 +88,7 @@ impl<'a> InternalKey<'a> {
     }
 }
 
-/// The law that internal keys are totally ordered, by every comparator.
+/// The law that internal keys are totally ordered, by every comparator. A call does nothing.
 pub fn order_is_total<C: Comparator>()
     ensures { IsTotalOrder (internal_cmp C.cmp) }
 {}

@@ -11,7 +11,7 @@ use coding::Fault;
 use std::alloc::Global;
 use std::marker::Model;
 
-/// An internal key that owns its bytes. Contracts see it as those bytes.
+/// An internal key that owns its bytes. Contracts see those bytes.
 #[derive(Drop)]
 pub struct KeyBuf {
     bytes: Vec<u8>,
@@ -29,9 +29,9 @@ impl Model for KeyBuf {
 }
 
 impl KeyBuf {
-    /// A copy of an internal key.
+    /// A copy of `key`.
     ///
-    /// Refused for want of memory alone.
+    /// The only fault is Memory.
     pub fn of(alloc: Global, key: InternalKey) -> Result<KeyBuf, Fault>
         ensures { EqualOrMemory (λ own. own) result (Ok key.entry.bytes.now) }
     {
@@ -39,9 +39,9 @@ impl KeyBuf {
         Ok(KeyBuf { bytes })
     }
 
-    /// The internal key of a user key of at most 65,535 bytes, a sequence below 2^56 and a type.
+    /// The internal key of `user`, at most 65,535 bytes, a `sequence` below 2^56 and a type.
     ///
-    /// Refused for want of memory alone.
+    /// The only fault is Memory.
     pub fn new(alloc: Global, user: &[u8], sequence: u64, kind: Kind) -> Result<KeyBuf, Fault>
         requires user_fits { length user.now ≤ 65535 }
         requires sequence_fits { sequence < 2 ^ 56 }
@@ -54,9 +54,9 @@ impl KeyBuf {
         Ok(KeyBuf { bytes })
     }
 
-    /// Puts a copy of another key in its place, in the same memory where that is enough.
+    /// Replaces this key by a copy of `key`, in the same memory if that is enough.
     ///
-    /// Refused for want of memory alone. A refusal leaves it as it was.
+    /// The only fault is Memory, which leaves this key unchanged.
     pub fn set(&mut self, key: InternalKey) -> Result<(), Fault>
         ensures ok { OnOk result (self.new ≡ key.entry.bytes.now) }
         ensures err { OnErr result (self.new ≡ self.old) }
@@ -70,7 +70,7 @@ impl KeyBuf {
         Ok(())
     }
 
-    /// The key, seen where it lies.
+    /// The key, in the bytes where it lies.
     pub fn as_key(&self) -> InternalKey<'_>
         ensures { result.bytes.now ≡ self.now }
     {

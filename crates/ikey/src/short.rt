@@ -1,4 +1,7 @@
 //! Short internal keys between two internal keys, and above one.
+//!
+//! Why: each key of a table's index only has to lie between two blocks. A shorter one keeps the
+//! index small.
 
 ghost use Rattle.std.specs.Prelude.{◌≡◌, ◌≢◌, Ok, IfOk};
 ghost use Rattle.std.specs.declared.cmp.Ordering.TheVariants.{Less, Greater};
@@ -14,11 +17,14 @@ use crate::kind::Kind;
 use coding::Fault;
 use std::alloc::Global;
 
-/// A short key of `a` or above it, and below `b`, where `a` is below `b`: `a` where the user keys are
-/// equal, and else the first internal key of the comparator's separator, where that is shorter than the
-/// user key of `a` and greater; else `a`.
+/// A key at or above `a`; it is below `b` if `a` is.
 ///
-/// Refused for want of memory alone.
+/// 1. If the user keys are equal, it is `a`.
+/// 2. Else take the comparator's separator of the user keys. If that is shorter than the user key
+///    of `a` and greater, the result is it with sequence 2^56 - 1 and type 1.
+/// 3. Else it is `a`.
+///
+/// The only fault is Memory.
 #[tactic(auto, unfolding(crate::specs::Short::internal_separator_of))]
 pub fn internal_separator<C: Comparator>(
     alloc: Global,
@@ -37,10 +43,13 @@ pub fn internal_separator<C: Comparator>(
     shorten::<C>(alloc, a, &short)
 }
 
-/// A short key of `key` or above it: the first internal key of the comparator's successor, where that is
-/// shorter than the user key and greater; else `key`.
+/// A key at or above `key`.
 ///
-/// Refused for want of memory alone.
+/// 1. Take the comparator's successor of the user key. If that is shorter than the user key and
+///    greater, the result is it with sequence 2^56 - 1 and type 1.
+/// 2. Else it is `key`.
+///
+/// The only fault is Memory.
 #[tactic(auto, unfolding(crate::specs::Short::internal_successor_of))]
 pub fn internal_successor<C: Comparator>(alloc: Global, key: InternalKey) -> Result<KeyBuf, Fault>
     ensures successor { EqualOrMemory (λ own. own) result
@@ -51,8 +60,8 @@ pub fn internal_successor<C: Comparator>(alloc: Global, key: InternalKey) -> Res
     shorten::<C>(alloc, key, &short)
 }
 
-/// The first internal key of `short`, where that is shorter than the key's user key and greater; else
-/// the key.
+/// `short` with sequence 2^56 - 1 and type 1, if `short` is shorter than the key's user key and
+/// greater; else `key`. The only fault is Memory.
 #[tactic(auto, unfolding(crate::specs::Short::shortened))]
 fn shorten<C: Comparator>(alloc: Global, key: InternalKey, short: &[u8]) -> Result<KeyBuf, Fault>
     ensures { EqualOrMemory (λ own. own) result (Ok (shortened C.cmp key.entry.bytes.now short.now)) }

@@ -8,8 +8,8 @@ use coding::Fault;
 use std::alloc::Global;
 use std::cmp::Ordering;
 
-/// A shorter user key first, equally long ones as unsigned bytes. Its separator answers the lower key,
-/// and its successor the key.
+/// Shorter user keys first, equally long ones as unsigned bytes. The separator is its first key,
+/// and the successor the key itself.
 pub struct Shortlex;
 
 impl Comparator for Shortlex {

@@ -1,4 +1,4 @@
--- The log of a list of records: blocks of 32,768 bytes, in which each record stands in fragments.
+-- The log of a list of records: blocks of 32,768 bytes, and each record in one or more fragments.
 use Rattle.std.specs.Prelude.{◌≡◌, ℕ, zero, suc, ◌+◌, ◌-◌, ◌%◌, nat_lt, nat_le, Bool, true, false, if◌then◌else◌, List, [], ◌∷◌, ◌++◌, length, take, drop, replicate}
 use Rattle.byteorder.specs.Endian.{little_bytes}
 use Rattle.coding.specs.Crc.{crc32c, masked}
@@ -7,15 +7,16 @@ use Rattle.coding.specs.Crc.{crc32c, masked}
 abbrev pub block_left : ℕ → ℕ
 block_left offset = 32768 - offset % 32768
 
--- the zeros that fill a block in which a fragment's header of 7 bytes has no place
+-- the zeros that fill a block if a header of 7 bytes has no room in it
 abbrev pub zeros_due : ℕ → List ℕ
 zeros_due offset = if nat_lt (block_left offset) 7 then replicate (block_left offset) 0 else []
 
--- how much of a record fits into the fragment that begins it, behind the zeros and the header
+-- how much of a record fits into its first fragment, after the zeros and the header
 abbrev pub room_at : ℕ → ℕ
 room_at offset = if nat_lt (block_left offset) 7 then 32761 else block_left offset - 7
 
--- the type of a fragment, by whether it begins and whether it ends its record: FULL, FIRST, LAST or MIDDLE
+-- the type of a fragment, by whether it begins and whether it ends its record: FULL 1, FIRST 2,
+-- LAST 4, MIDDLE 3
 abbrev pub fragment_type : Bool → Bool → ℕ
 fragment_type true true = 1
 fragment_type true false = 2
@@ -30,8 +31,8 @@ checksum kind content = masked (crc32c (kind ∷ content))
 unfoldable pub fragment : ℕ → List ℕ → List ℕ
 fragment kind content = little_bytes 4 (checksum kind content) ++ (little_bytes 2 (length content) ++ kind ∷ content)
 
--- What is left of a record, in at most n + 1 fragments: each but the last fills its block, the first of them has room
--- for so many bytes, and each behind it a whole block less the header.
+-- The rest of a record in at most n + 1 fragments. The first has this room, each later one that of
+-- a whole block less the header. Each but the last fills its block.
 abbrev pub fragments : ℕ → Bool → ℕ → List ℕ → List ℕ
 fragments zero begins room left = fragment (fragment_type begins true) left
 fragments (suc n) begins room left =
@@ -39,11 +40,11 @@ fragments (suc n) begins room left =
     then fragment (fragment_type begins true) left
     else fragment (fragment_type begins false) (take room left) ++ fragments n false 32761 (drop room left)
 
--- what is written for a record at an offset, of which only the place in its block counts
+-- what is written for a record at an offset, of which only its place in the block counts
 unfoldable pub written : ℕ → List ℕ → List ℕ
 written offset r = zeros_due offset ++ fragments (length r) true (room_at offset) r
 
--- what is written for records one behind the other, from an offset on
+-- what is written for records one after the other, from an offset on
 abbrev pub written_from : ℕ → List (List ℕ) → List ℕ
 written_from offset [] = []
 written_from offset (r ∷ rs) = written offset r ++ written_from (offset + length (written offset r)) rs
@@ -52,10 +53,10 @@ written_from offset (r ∷ rs) = written offset r ++ written_from (offset + leng
 abbrev pub log : List (List ℕ) → List ℕ
 log rs = written_from 0 rs
 
--- the log of one record more
+-- the log of one record more is the log, and then what is written at its length
 abbrev pub AppendLaw : Type 0
 AppendLaw = (rs : List (List ℕ)) (r : List ℕ) → log (rs ++ r ∷ []) ≡ log rs ++ written (length (log rs)) r
 
--- bytes are the log of one list of records at most
+-- bytes are the log of at most one list of records
 abbrev pub OneListLaw : Type 0
 OneListLaw = (rs ss : List (List ℕ)) → log rs ≡ log ss → rs ≡ ss

@@ -8,18 +8,18 @@ use Rattle.coding.specs.declared.fault.Fault.{Fault}
 use Rattle.coding.specs.declared.fault.FaultName.TheVariants.{LogChecksum, LogShape}
 use Rattle.logrec.specs.Log.{zeros_due, room_at, fragment_type, checksum}
 
--- a fragment that is read, and the bytes behind it
+-- a fragment that was read, and the bytes after it
 pub record Piece : Type 0 where
   pub kind : ℕ
   pub content : List ℕ
   pub rest : List ℕ
 
--- the length in a header, as a number
+-- the length that a header states
 abbrev pub content_len : List ℕ → ℕ
 content_len bytes = little_number 2 (drop 4 bytes)
 
--- The fragment at the front: its header is whole, its content lies within the block and the bytes, and its checksum is
--- right.
+-- The fragment at the front, by three tests: its header is whole; its content lies within the block
+-- and the bytes; its checksum is right.
 unfoldable pub piece_at : ℕ → List ℕ → Result Piece Fault
 piece_at room bytes =
     if nat_lt (length bytes) 7 then Err (fault LogShape)
@@ -33,14 +33,15 @@ piece_at room bytes =
     })
     else Err (fault LogChecksum)
 
--- whether a fragment ends its record, where it is one that a writer with this room would have written there
+-- whether a fragment ends its record; LogShape if a writer with this room would not have written it
+-- there
 unfoldable pub ends_record : Bool → ℕ → ℕ → ℕ → Result Bool Fault
 ends_record begins room kind len =
     if kind == fragment_type begins true && (begins || nat_lt 0 len) then Ok true
     else if kind == fragment_type begins false && len == room then Ok false
     else Err (fault LogShape)
 
--- what is left of a record, in at most n fragments, and the bytes behind it
+-- the rest of a record, in at most n fragments, and the bytes after it
 unfoldable pub left_at : ℕ → Bool → ℕ → List ℕ → Result (List ℕ × List ℕ) Fault
 left_at zero begins room bytes = Err (fault LogShape)
 left_at (suc n) begins room bytes = do
@@ -48,12 +49,12 @@ left_at (suc n) begins room bytes = do
   ends ← ends_record begins room first.kind (length first.content)
   if ends then Ok (first.content, first.rest) else (left_at n false 32761 first.rest >>= λ others. Ok (first.content ++ others.0, others.1))
 
--- the bytes behind the zeros that are due
+-- the bytes after the zeros that are due
 unfoldable pub behind_zeros : ℕ → List ℕ → Result (List ℕ) Fault
 behind_zeros offset bytes =
     if starts_with nat_eq bytes (zeros_due offset) then Ok (drop (length (zeros_due offset)) bytes) else Err (fault LogShape)
 
--- the record at an offset, and the bytes behind it
+-- the record at an offset, and the bytes after it
 unfoldable pub record_at : ℕ → List ℕ → Result (List ℕ × List ℕ) Fault
 record_at offset bytes = do
   body ← behind_zeros offset bytes
@@ -68,7 +69,7 @@ records_in (suc n) offset (b ∷ bytes) = do
   others ← records_in n (offset + (length (b ∷ bytes) - length first.1)) first.1
   Ok (first.0 ∷ others)
 
--- the records that the bytes are the log of
+-- the records of which the bytes are the log, or the first test that fails
 unfoldable pub records_of : List ℕ → Result (List (List ℕ)) Fault
 records_of bytes = records_in (length bytes) 0 bytes
 

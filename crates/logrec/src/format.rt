@@ -1,4 +1,4 @@
-//! What the writer and the reader know of the format.
+//! What the writer and the reader both know of the format.
 
 ghost use Rattle.std.specs.Prelude.{◌≡◌, ◌<◌, length};
 ghost use Rattle.logrec.specs.Log.{block_left, zeros_due, room_at, fragment_type, checksum};
@@ -8,16 +8,16 @@ use coding::{crc32c_pair, mask};
 /// The bytes of a block. Only a log's last block has fewer.
 const BLOCK_LEN: usize = 32_768;
 
-/// A checksum in 4 bytes, a length in 2, and a type.
+/// The bytes of a header: a checksum of 4, a length of 2, and a type.
 pub const HEADER_LEN: usize = 7;
 
-/// The bytes of a record that fit into a fragment which has a block for itself.
+/// The most content of a fragment: a block without the header.
 pub const MAX_CONTENT_LEN: usize = 32_761;
 
-/// As many zeros as are ever due at a block's end.
+/// The most zeros that a block can end with: one byte less than a header.
 pub const ZEROS: [u8; 6] = [0; 6];
 
-/// How many zeros stand between an offset and the next header.
+/// How many zeros are due at `offset`, before the next header: 0 to 6.
 pub fn zeros_len(offset: usize) -> usize
     ensures len { result ≡ length (zeros_due offset) }
     ensures short { result < 7 }
@@ -26,7 +26,7 @@ pub fn zeros_len(offset: usize) -> usize
     if left < HEADER_LEN { left } else { 0 }
 }
 
-/// How much of a record that is written at an offset its first fragment has room for.
+/// How many bytes of a record at `offset` its first fragment has room for.
 pub fn room_at(offset: usize) -> usize
     ensures { result ≡ room_at offset }
 {
@@ -38,7 +38,7 @@ pub fn room_at(offset: usize) -> usize
     }
 }
 
-/// The type of a fragment, by whether it begins and whether it ends its record.
+/// The type of a fragment: does it begin its record, and does it end it?
 pub fn type_of(begins: bool, ends: bool) -> u8
     ensures { result ≡ fragment_type begins ends }
 {
@@ -51,7 +51,7 @@ pub fn type_of(begins: bool, ends: bool) -> u8
     fragment_type as u8
 }
 
-/// The checksum that stands in a fragment's header.
+/// The checksum in a fragment's header: the masked CRC-32C of its type and content.
 #[tactic(auto, unfolding(crate::specs::Log::checksum))]
 pub fn checksum(kind: u8, content: &[u8]) -> u32
     ensures { result ≡ checksum kind content.now }
@@ -59,7 +59,7 @@ pub fn checksum(kind: u8, content: &[u8]) -> u32
     mask(crc32c_pair(&[kind], content))
 }
 
-/// How many bytes are left in the block that an offset is in.
+/// How many bytes are left in the block that `offset` is in.
 fn block_left(offset: usize) -> usize
     ensures { result ≡ block_left offset }
 {

@@ -2,8 +2,8 @@
 
 ghost use Rattle.logrec.specs.Log.{AppendLaw, OneListLaw};
 
-/// The log of one record more is the log and what is written at its length, and bytes are the log of
-/// one list of records at most. A call does nothing.
+/// Two laws. The log of one record more is the log, and then what is written at its length. Bytes
+/// are the log of at most one list of records. A call does nothing.
 pub fn log_laws()
     ensures append { AppendLaw }
     ensures one_list { OneListLaw }

@@ -11,7 +11,7 @@ use byteorder::{ByteOrder, LittleEndian};
 use coding::{Fault, FaultName};
 use std::alloc::Global;
 
-/// A fragment, and the bytes behind it.
+/// A fragment, and the bytes after it.
 #[derive(Clone, Copy)]
 struct Fragment<'a> {
     kind: u8,
@@ -19,25 +19,30 @@ struct Fragment<'a> {
     rest: &'a [u8],
 }
 
-/// The records whose log the bytes are.
+/// The records of which `bytes` are the log.
 ///
-/// Other bytes are refused, at the first fragment from the front that is not as a writer leaves it. LogShape: the zeros
-/// at a block's end, the header or the content are not whole or pass the block, or type and length are not
-/// those that a writer would have written there; also bytes that end inside a record. LogChecksum: the parts are
-/// whole and the checksum is not theirs. A length in a header is compared with the bytes that are there before
-/// memory is asked for. Else refused for want of memory alone.
+/// Other bytes are refused at the first fragment, from the front, that a writer would not have
+/// left:
+///
+/// - LogShape: zeros that are due aren't whole or aren't zero; the header or the content isn't
+///   whole, or passes the block; or type and length aren't those that a writer would have written
+///   there. Bytes that end inside a record are refused so too.
+/// - LogChecksum: the parts are whole, but the checksum isn't that of type and content.
+///
+/// A length in a header is compared with the bytes that are there before memory is asked for. The
+/// only other fault is Memory.
 pub fn records(alloc: Global, bytes: &[u8]) -> Result<Vec<Vec<u8>>, Fault>
-    // The bytes are the log of what is read.
+    // The bytes are the log of the result.
     ensures found { IfOk result (λ v. bytes.now ≡ log (lists v.items)) }
-    // A log is read, unless memory runs out.
+    // A log is read, or the answer is Memory.
     ensures only { (rs : List (List ℕ)) → bytes.now ≡ log rs → EqualOrMemory (λ v. lists v.items) result (Ok rs) }
-    // Which refusal it is.
+    // Which refusal it is: the first test that fails.
     ensures exact { EqualOrMemory (λ v. lists v.items) result (records_of bytes.now) }
 {
     all(alloc, bytes)
 }
 
-/// Each record, one after the other.
+/// All records, one after the other.
 fn all(alloc: Global, bytes: &[u8]) -> Result<Vec<Vec<u8>>, Fault>
     ensures { EqualOrMemory (λ v. lists v.items) result (records_of bytes.now) }
 {
@@ -51,7 +56,7 @@ fn all(alloc: Global, bytes: &[u8]) -> Result<Vec<Vec<u8>>, Fault>
     Ok(records)
 }
 
-/// The record at an offset, and the bytes behind it.
+/// The record at `offset`, and the bytes after it.
 #[tactic(auto, unfolding(crate::specs::Reading::record_at))]
 fn record_at(alloc: Global, offset: usize, bytes: &[u8]) -> Result<(Vec<u8>, &[u8]), Fault>
     ensures { EqualOrMemory (λ x. (x.0.items, x.1.now)) result (record_at offset bytes.now) }
@@ -60,7 +65,7 @@ fn record_at(alloc: Global, offset: usize, bytes: &[u8]) -> Result<(Vec<u8>, &[u
     left_at(alloc, room_at(offset), body)
 }
 
-/// The bytes behind the zeros that are due at an offset.
+/// The bytes after the zeros that are due at `offset`.
 #[tactic(auto, unfolding(crate::specs::Reading::behind_zeros))]
 fn behind_zeros(offset: usize, bytes: &[u8]) -> Result<&[u8], Fault>
     ensures { EqualOrMemory (λ x. x.now) result (behind_zeros offset bytes.now) }
@@ -72,7 +77,7 @@ fn behind_zeros(offset: usize, bytes: &[u8]) -> Result<&[u8], Fault>
     Ok(&bytes[zeros..])
 }
 
-/// The record whose first fragment has this room, and the bytes behind it.
+/// The record whose first fragment has this `room`, and the bytes after it.
 fn left_at(alloc: Global, room: usize, bytes: &[u8]) -> Result<(Vec<u8>, &[u8]), Fault>
     ensures { EqualOrMemory (λ x. (x.0.items, x.1.now)) result
         (left_at (length bytes.now) true room bytes.now) }
@@ -94,9 +99,10 @@ fn left_at(alloc: Global, room: usize, bytes: &[u8]) -> Result<(Vec<u8>, &[u8]),
     }
 }
 
-/// How many bytes of content stand in the fragments at the front, up to one that ends a record.
+/// How many bytes of content are in the fragments at the front, up to one that ends a record.
 ///
-/// Nothing is tested, so in other bytes than a log's it says nothing; it is never more than the bytes there are.
+/// Nothing is tested: of bytes that are no log it says nothing, but it is never more than their
+/// length.
 fn content_len(bytes: &[u8]) -> usize
     ensures { result ≤ length bytes.now }
 {
@@ -114,7 +120,7 @@ fn content_len(bytes: &[u8]) -> usize
     len
 }
 
-/// The fragment at the front, with its checksum tested.
+/// The fragment at the front. Its header and content are whole, and its checksum is right.
 #[tactic(auto, unfolding(crate::specs::Reading::piece_at))]
 fn fragment_at(room: usize, bytes: &[u8]) -> Result<Fragment<'_>, Fault>
     ensures { EqualOrMemory piece result (piece_at room bytes.now) }
@@ -139,19 +145,19 @@ fn fragment_at(room: usize, bytes: &[u8]) -> Result<Fragment<'_>, Fault>
     })
 }
 
-/// Whether a fragment ends its record. It is refused where a writer with this room would not have
-/// written its type and length there.
+/// Whether a fragment ends its record. LogShape if a writer with this `room` would not have written
+/// its type and length there.
 #[tactic(auto, unfolding(crate::specs::Reading::ends_record))]
 fn ends_record(begins: bool, room: usize, fragment: &Fragment<'_>) -> Result<bool, Fault>
     ensures { EqualOrMemory (λ b. b) result
         (ends_record begins room fragment.now.kind (length fragment.now.content.now)) }
 {
     let len = fragment.content.len();
-    // An empty fragment ends a record only where it is all of it.
+    // Only a FULL fragment may be empty and end its record.
     if fragment.kind == type_of(begins, true) && (begins || len > 0) {
         return Ok(true);
     }
-    // A fragment that does not end its record fills its block.
+    // A fragment that doesn't end its record fills its block.
     if fragment.kind == type_of(begins, false) && len == room {
         return Ok(false);
     }

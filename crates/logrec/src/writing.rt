@@ -9,10 +9,10 @@ use crate::format::{HEADER_LEN, MAX_CONTENT_LEN, ZEROS, checksum, room_at, type_
 use coding::Fault;
 use std::alloc::Global;
 
-/// The log `old` with the record at its end: `old` and what is written at its length.
+/// The log `old` with `record` at its end: `old`, and then what is written at its length.
 ///
-/// `old` is taken as it is; only its length counts. Refused for want of memory alone, which is asked for once, for the
-/// whole log.
+/// `old` isn't read as a log; only its length counts. The only fault is Memory. Memory is asked for
+/// once, for the whole log.
 pub fn append(alloc: Global, old: &[u8], record: &[u8]) -> Result<Vec<u8>, Fault>
     ensures ok { IfOk result (λ v. v.items ≡ old.now ++ written (length old.now) «record».now) }
     ensures memory { IsOkUnless result (fault Memory) }
@@ -26,7 +26,7 @@ pub fn append(alloc: Global, old: &[u8], record: &[u8]) -> Result<Vec<u8>, Fault
     Ok(log)
 }
 
-/// No less than the bytes of a log after a record, where that is a `usize`.
+/// At least the length of the log after the record, if that is a `usize`.
 fn grown_len(old: usize, room: usize, record: usize) -> usize {
     let headers = 2 + record.saturating_sub(room) / MAX_CONTENT_LEN;
     old.saturating_add(record)
@@ -34,7 +34,7 @@ fn grown_len(old: usize, room: usize, record: usize) -> usize {
         .saturating_add(ZEROS.len())
 }
 
-/// Appends the fragments of a record of which the first has this room.
+/// Appends the fragments of `record`, of which the first has this `room`. The only fault is Memory.
 fn push_fragments(log: &mut Vec<u8>, room: usize, record: &[u8]) -> Result<(), Fault>
     requires { room ≤ 32761 }
     ensures ok { OnOk result (log.new.items ≡
@@ -54,7 +54,7 @@ fn push_fragments(log: &mut Vec<u8>, room: usize, record: &[u8]) -> Result<(), F
     push_fragment(log, type_of(begins, true), left)
 }
 
-/// Appends one fragment.
+/// Appends one fragment of at most 32,761 bytes. The only fault is Memory.
 #[tactic(auto, unfolding(crate::specs::Log::fragment))]
 fn push_fragment(log: &mut Vec<u8>, kind: u8, content: &[u8]) -> Result<(), Fault>
     requires { length content.now ≤ 32761 }

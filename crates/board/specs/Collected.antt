@@ -1,4 +1,4 @@
--- The answers of all jobs in their order, as one answer, for labours that state them as a list.
+-- The answers of all jobs as one answer, for labours that state their answers as a list.
 use Rattle.std.specs.Prelude.{◌≡◌, ℕ, List, [], ◌∷◌, Option, None, Some, Result, Ok, Err, slice_get}
 use Rattle.coding.specs.declared.fault.Fault.{Fault}
 use Rattle.coding.specs.declared.fault.FaultName.TheVariants.{Workers as NamedWorkers, Memory as NamedMemory}
@@ -10,13 +10,13 @@ abbrev pub collected : {B : Type 0} → List (Result B Fault) → Result (List B
 collected [] = Ok []
 collected (answer ∷ rest) = answer >>= λ value. collected rest >>= λ values. Ok (value ∷ values)
 
--- the fault of the answer, where it is a refusal
+-- the fault of an answer, if it is a refusal
 abbrev pub fault_in : {B : Type 0} → Option (Result B Fault) → Option Fault
 fault_in None = None
 fault_in (Some (Ok value)) = None
 fault_in (Some (Err e)) = Some e
 
--- the fault that refuses a job, by the answers of all jobs
+-- the fault that refuses a job, if the answers of all jobs are these
 abbrev pub refusal_at : {B : Type 0} → List (Result B Fault) → ℕ → Option Fault
 refusal_at answers job = fault_in (slice_get answers job)
 
@@ -24,7 +24,7 @@ refusal_at answers job = fault_in (slice_get answers job)
 abbrev pub HasValue : {B : Type 0} → List (Result B Fault) → ℕ → B → Type 0
 HasValue answers job value = slice_get answers job ≡ Some (Ok value)
 
--- why a run has no results, as the fault of a call that made it
+-- a run's fault as the fault of the call that made the run
 abbrev pub fault_of_run : RunFault → Fault
 fault_of_run (RunFault.Job job e) = e
 fault_of_run RunFault.Workers = fault NamedWorkers

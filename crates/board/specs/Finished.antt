@@ -5,7 +5,7 @@ use Rattle.board.specs.declared.tally.Tally.{Tally}
 use Rattle.board.specs.Shares.{times}
 use Rattle.board.specs.Progress.{Layout, Progress, HasEachShare, no_fault}
 
--- the lists of all seats, one after another
+-- the lists of all seats, one after the other
 abbrev pub all_drawn : List Progress → List ℕ
 all_drawn ps = flat_map (λ (p : Progress). p.drawn) ps
 
@@ -24,11 +24,11 @@ all_skipped ps = flat_map (λ (p : Progress). p.skipped) ps
 abbrev pub all_done : List Progress → List ℕ
 all_done ps = flat_map (λ (p : Progress). p.done) ps
 
--- how often x was spent at these seats
+-- how often x was spent at all these seats
 abbrev pub times_spent : ℕ → List Progress → ℕ
 times_spent x ps = times x (all_done ps) + times x (all_failed ps) + times x (all_skipped ps)
 
--- each job that was drawn at this seat was spent
+-- each job that was drawn at this seat was spent there
 abbrev pub HasSpentAll : Progress → Type 0
 HasSpentAll p = (x : ℕ) → times x p.drawn ≤ times x p.done + times x p.failed + times x p.skipped
 
@@ -36,12 +36,15 @@ HasSpentAll p = (x : ℕ) → times x p.drawn ≤ times x p.done + times x p.fai
 abbrev pub CountsOf : List Progress → Tally → Type 0
 CountsOf ps t = (t.done ≡ length (all_done ps)) × (t.failed ≡ length (all_failed ps)) × (t.skipped ≡ length (all_skipped ps))
 
--- the least of the numbers, where there is one
+-- the least of the numbers; None if there is none
 abbrev pub IsLeastOf : List ℕ → Option ℕ → Type 0
 IsLeastOf xs None = xs ≡ []
 IsLeastOf xs (Some y) = (0 < times y xs) × ((x : ℕ) → 0 < times x xs → y ≤ x)
 
--- What holds of all seats of a board together. No job was drawn twice, and where each share was seen empty, each was drawn. The least fault is the least job that failed. A fault that was seen is a job that failed, and a job that was skipped lies above the least fault
+-- What holds of all seats of a board together:
+-- - No job was drawn twice. If each share was seen empty, each job was drawn.
+-- - The least fault is the least job that failed. A fault that was seen is a job that failed.
+-- - A job that was skipped is above the least fault.
 pub record IsFinished (board : Layout) (ps : List Progress) (found : Option ℕ) : Type 0 where
   pub once : (x : ℕ) → times x (all_drawn ps) ≤ 1
   pub below : (x : ℕ) → 0 < times x (all_drawn ps) → x < board.jobs

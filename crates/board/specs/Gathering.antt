@@ -1,4 +1,4 @@
--- The seats of a board that is closed, gathered one at a time.
+-- The seats of a closed board, taken in one after the other.
 use Rattle.std.specs.Prelude.{◌≡◌, ℕ, ◌<◌, ◌≤◌, List, length, min}
 use Rattle.board.specs.declared.gathered.Gathered.{Gathered}
 use Rattle.board.specs.Shares.{times}
@@ -10,7 +10,7 @@ use Rattle.board.specs.Seats.{layout}
 abbrev pub most : ℕ
 most = 18446744073709551615
 
--- the seats that were gathered so far
+-- the seats ps were taken in so far
 pub record Gathers (of : Layout) (g : Gathered) (ps : List Progress) : Type 0 where
   pub board : layout g.token.table_id g.token.me.0.jobs g.token.me.0.seats ≡ of
   pub parts : g.token.me.0.parts ≡ length ps

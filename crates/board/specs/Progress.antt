@@ -3,13 +3,14 @@ use Rattle.std.specs.Prelude.{◌≡◌, ℕ, zero, suc, ◌+◌, ◌<◌, ◌�
 use Rattle.atomic_table.specs.Seated.{TableId}
 use Rattle.board.specs.Shares.{times, IsInShare, share_in_turn}
 
--- which board it is, and how many jobs and seats it has
+-- a board: which one it is, and how many jobs and seats it has
 pub record Layout : Type 0 where
   pub table : TableId
   pub jobs : ℕ
   pub seats : ℕ
 
--- What was done at the seat of this number: the jobs drawn, failed, skipped and done, the shares seen empty, and what the fault word was at each look
+-- What was done at the seat of this number: the jobs drawn, failed, skipped and done, the shares
+-- seen empty, and what the fault word was at each look.
 pub record Progress : Type 0 where
   pub board : Layout
   pub number : ℕ
@@ -20,21 +21,21 @@ pub record Progress : Type 0 where
   pub skipped : List ℕ
   pub done : List ℕ
 
--- a seat that has done nothing
+-- a seat at which nothing was done
 abbrev pub unused : Layout → ℕ → Progress
 unused board number = record { board = board; number = number; drawn = []; empty = []; failed = []; looked = []; skipped = []; done = [] }
 
--- the first m seats of a board, which have done nothing
+-- the first m seats of a board at which nothing was done
 abbrev pub unused_seats : Layout → ℕ → List Progress
 unused_seats board zero = []
 unused_seats board (suc m) = unused_seats board m ++ unused board m ∷ []
 
--- the first m shares in turn
+-- the first m shares in turn, from that of seat s on
 abbrev pub shares_in_turn : ℕ → ℕ → ℕ → List ℕ
 shares_in_turn w s zero = []
 shares_in_turn w s (suc m) = shares_in_turn w s m ++ share_in_turn w s m ∷ []
 
--- the shares that a seat has seen empty are its own and the next ones in turn
+-- the shares that the seat saw empty are its own and the next ones in turn
 abbrev pub SeesInTurn : Progress → Type 0
 SeesInTurn p = p.empty ≡ shares_in_turn p.board.seats p.number (length p.empty)
 
@@ -42,24 +43,25 @@ SeesInTurn p = p.empty ≡ shares_in_turn p.board.seats p.number (length p.empty
 abbrev pub after_draw : Progress → List ℕ → List ℕ → Progress
 after_draw p drawn empty = record p { drawn = drawn; empty = empty }
 
--- A seat draws x and changes in nothing else but in the shares seen empty, of which it may see more. The job is one of the first share in turn that it has not seen empty
+-- A seat draws x. It may see more shares empty, and nothing else of it changes. The job is one of
+-- the first share in turn that the seat has not seen empty.
 pub record DrawsJob (p : Progress) (x : ℕ) (q : Progress) : Type 0 where
   pub drawn : q ≡ after_draw p (p.drawn ++ x ∷ []) q.empty
   pub new : (x < p.board.jobs) × (times x p.drawn ≡ 0)
   pub empty : SeesInTurn p × (length p.empty ≤ length q.empty) × SeesInTurn q × (length q.empty < p.board.seats)
   pub share : IsInShare p.board.jobs p.board.seats (share_in_turn p.board.seats p.number (length q.empty)) x
 
--- each share of w stands in the list
+-- the list has each share of w
 abbrev pub HasEachShare : ℕ → List ℕ → Type 0
 HasEachShare w xs = (k : ℕ) → k < w → 0 < times k xs
 
--- a seat draws nothing, has seen each share empty, and changes in nothing else
+-- a seat draws nothing: it has seen each share empty, and nothing else of it changes
 pub record DrawsNone (p q : Progress) : Type 0 where
   pub same : q ≡ after_draw p p.drawn q.empty
   pub empty : SeesInTurn p × (length p.empty ≤ length q.empty) × SeesInTurn q
   pub each : HasEachShare p.board.seats q.empty
 
--- the job was drawn at this seat, and is still to be spent
+-- the job was drawn at this seat and isn't spent yet
 abbrev pub IsUnspent : Progress → ℕ → Type 0
 IsUnspent p x = times x p.done + times x p.failed + times x p.skipped < times x p.drawn
 
@@ -77,15 +79,15 @@ after_skip p x = record p { skipped = p.skipped ++ x ∷ [] }
 abbrev pub after_look : Progress → ℕ → Progress
 after_look p y = record p { looked = p.looked ++ y ∷ [] }
 
--- y is at most each number that this seat failed or saw before
+-- y is at most each number that this seat failed or saw in the fault word
 abbrev pub IsAtMostSeen : Progress → ℕ → Type 0
 IsAtMostSeen p y = (x : ℕ) → 0 < times x p.failed + times x p.looked → y ≤ x
 
--- the fault word where nobody failed
+-- the fault word while no job has failed
 abbrev pub no_fault : ℕ
 no_fault = 18446744073709551615
 
--- the fault word, by the least job that failed
+-- the fault word if this is the least job that failed
 abbrev pub fault_word : Option ℕ → ℕ
 fault_word None = no_fault
 fault_word (Some y) = y

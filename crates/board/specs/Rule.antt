@@ -1,4 +1,4 @@
--- The rule of a board: what the words and the views of all seats have to do with one another.
+-- The rule of a board: how the words and the views of all seats hang together.
 use Rattle.std.specs.Prelude.{◌≡◌, ◌⊎◌, ℕ, ◌+◌, ◌^◌, ◌<◌, ◌≤◌, List, [], ◌∷◌, ◌++◌, length, slice_index, slice_set, replicate, cond, ltb}
 use mathlib.Core.Option.{some}
 use lib.ListN.{get_elem?}
@@ -9,7 +9,7 @@ use Rattle.board.specs.Shares.{times, start}
 use Rattle.board.specs.Progress.{no_fault}
 use Rattle.board.specs.Words.{total, once_below, share_len, word_of, claims_of, claimed}
 
--- this many seats that have done nothing
+-- `parts` seats at which nothing was done
 abbrev pub fresh : ℕ → ℕ → ℕ → SeatView
 fresh parts jobs seats = record { parts = parts; jobs = jobs; seats = seats; drawn = []; empty = []; failed = []; looked = []; skipped = [] }
 
@@ -44,13 +44,13 @@ gathered v w = record {
 abbrev pub HasNoLists : SeatView → Type 0
 HasNoLists v = (v.drawn ≡ []) × (v.empty ≡ []) × (v.failed ≡ []) × (v.looked ≡ []) × (v.skipped ≡ [])
 
--- What holds of one view. A view of no seat was joined into another
+-- What holds of one view. A view of no seat was joined into another one, and has no lists.
 pub record Fits (n w : ℕ) (v : SeatView) : Type 0 where
   pub same : 0 < v.parts → (v.jobs ≡ n) × (v.seats ≡ w)
   pub spent : v.parts ≡ 0 → HasNoLists v
   pub once : (k : ℕ) → times k v.empty ≤ v.parts
 
--- how often x stands in lists of all views together
+-- how often x is in these lists of all views together
 abbrev pub times_drawn : ℕ → List SeatView → ℕ
 times_drawn x views = total (λ v. times x v.drawn) views
 
@@ -66,7 +66,8 @@ times_looked x views = total (λ v. times x v.looked) views
 abbrev pub times_skipped : ℕ → List SeatView → ℕ
 times_skipped x views = total (λ v. times x v.skipped) views
 
--- The numbers drawn are the first ones of each share, as many as its word says, each once. A word is at most its share's length and one for each time that a seat saw it empty
+-- The numbers drawn are the first ones of each share, as many as its word says, each once. A word
+-- is at most its share's length, plus one for each time that a seat saw the share empty.
 pub record KeepsDrawn (n w : ℕ) (words : List ℕ) (views : List SeatView) : Type 0 where
   pub seats : (0 < w) × (w ≤ 64)
   pub jobs : n ≤ 2 ^ 40
@@ -77,14 +78,15 @@ pub record KeepsDrawn (n w : ℕ) (words : List ℕ) (views : List SeatView) : T
   pub empty : (k : ℕ) → 0 < times_empty k views → (k < w) × (share_len n w k ≤ claims_of w words k)
   pub bounded : (k : ℕ) → k < w → claims_of w words k ≤ share_len n w k + times_empty k views
 
--- the words at the start
+-- the words at first
 abbrev pub opening_words : List ℕ
 opening_words = slice_set (replicate 65 0) 64 no_fault
 
 abbrev pub fault_of : List ℕ → ℕ
 fault_of words = slice_index words 64
 
--- The fault word is the least number failed. What was looked at is none, or was failed, and the word has not risen since
+-- The fault word is the least number failed, or no_fault. Each look saw no_fault or a number that
+-- failed, and the word has not risen since.
 pub record KeepsFailed (n : ℕ) (words : List ℕ) (views : List SeatView) : Type 0 where
   pub found : (fault_of words ≡ no_fault) ⊎ (0 < times_failed (fault_of words) views)
   pub least : (x : ℕ) → 0 < times_failed x views → (x < n) × (fault_of words ≤ x)
@@ -100,42 +102,43 @@ pub record BoardRule (n w : ℕ) (words : List ℕ) (views : List SeatView) : Ty
   pub failed : KeepsFailed n words views
   pub skipped : KeepsSkipped words views
 
--- the same of a table
+-- the rule of a board, of a table's words and views
 abbrev pub Kept : Extent → State (Unit {0}) SeatView → Type 0
 Kept e s = BoardRule e.jobs e.seats s.words s.views
 
--- A claim of share k found c. Below the share's length it drew a number that is new, and else it saw the share empty
+-- A claim of share k found c. If c is below the share's length, it drew a new number. Else it saw
+-- the share empty.
 pub record Claims (v : SeatView) (k c : ℕ) (v' : SeatView) : Type 0 where
   pub drew : c < share_len v.jobs v.seats k → v' ≡ drew v (start v.jobs v.seats k + c)
   pub new : c < share_len v.jobs v.seats k → (start v.jobs v.seats k + c < v.jobs) × (times (start v.jobs v.seats k + c) v.drawn ≡ 0)
   pub empty : share_len v.jobs v.seats k ≤ c → v' ≡ saw_empty v k
 
--- what was found in the fault word is at most each number that the view has failed or looked at
+-- the fault word found is at most each number that the view failed or saw
 pub record IsLeastFound (v : SeatView) (found : ℕ) : Type 0 where
   pub failed : (x : ℕ) → 0 < times x v.failed → (x < v.jobs) × (found ≤ x)
   pub looked : (x : ℕ) → 0 < times x v.looked → (found ≤ x) × ((x ≡ no_fault) ⊎ (x < v.jobs))
 
--- the same of the share whose claim word it is
+-- a claim of the share that has this word
 abbrev pub Claimed : Step (Unit {0}) → Me (Unit {0}) SeatView → ℕ → Me (Unit {0}) SeatView → Type 0
 Claimed st m c m' = ((k : ℕ) → k < m.0.seats → st.word ≡ word_of m.0.seats k → Claims m.0 k c m'.0) × (m'.1 ≡ m.1)
 
--- the least fault was settled: the operand was failed
+-- a settle: the operand failed
 abbrev pub Settled : Step (Unit {0}) → Me (Unit {0}) SeatView → ℕ → Me (Unit {0}) SeatView → Type 0
 Settled st m found m' = (m'.0 ≡ has_failed m.0 st.first) × (m'.1 ≡ m.1)
 
--- the least fault was looked at, in a step
+-- a look at the fault word
 abbrev pub Looked : Step (Unit {0}) → Me (Unit {0}) SeatView → ℕ → Me (Unit {0}) SeatView → Type 0
 Looked st m found m' = (m'.0 ≡ has_looked m.0 found) × IsLeastFound m.0 found × (m'.1 ≡ m.1)
 
--- the view after a look on behalf of job x, which is skipped where it lies above what was found
+-- the view after a look for job x, which is skipped if it is above what was found
 abbrev pub has_looked_for : SeatView → ℕ → ℕ → SeatView
 has_looked_for v x found = cond (ltb found x) (has_skipped (has_looked v found) x) (has_looked v found)
 
--- the least fault was looked at on behalf of job x
+-- a look for job x at the fault word
 abbrev pub Skipped : ℕ → Step (Unit {0}) → Me (Unit {0}) SeatView → ℕ → Me (Unit {0}) SeatView → Type 0
 Skipped x st m found m' = (m'.0 ≡ has_looked_for m.0 x found) × IsLeastFound m.0 found × (m'.1 ≡ m.1)
 
--- what holds of all lists of a board together, once one view has them, and of its fault word
+-- what holds of a view that has the lists of all seats, and of the fault word
 pub record IsWhole (v : SeatView) (fault : ℕ) : Type 0 where
   pub once : (x : ℕ) → times x v.drawn ≤ once_below x v.jobs
   pub all : ((k : ℕ) → k < v.seats → 0 < times k v.empty) → (x : ℕ) → times x v.drawn ≡ once_below x v.jobs

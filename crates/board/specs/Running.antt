@@ -3,21 +3,21 @@ use Rattle.std.specs.Prelude.{◌≡◌, ℕ, ◌<◌, List, Option, None, Some,
 use Rattle.coding.specs.declared.fault.Fault.{Fault}
 use Rattle.coding.specs.Answers.{UnlessMemory}
 
--- a fault of the job: the one that the labour states, or want of memory
+-- a fault of the job: the one that the labour states, or Memory
 abbrev pub IsFaultOf : (ℕ → Option Fault) → ℕ → Fault → Type 0
 IsFaultOf refusal job fault = UnlessMemory fault (refusal job ≡ Some fault)
 
 module _ {O : Type 0} (refusal : ℕ → Option Fault) (gives : ℕ → O → Type 0) where
-  -- a result of the job, by what the labour states
+  -- a result of the job, as the labour states it
   abbrev pub IsResult : ℕ × O → Type 0
   IsResult r = (refusal r.0 ≡ None) × gives r.0 r.1
 
-  -- as many results as jobs, each at the number of its job
+  -- one result for each job, at the job's number
   pub record AreResults (jobs : ℕ) (outs : List O) : Type 0 where
     pub len : length outs ≡ jobs
     pub each : (i : ℕ) (d : O) → i < jobs → IsResult (i, slice_index_or outs i d)
 
-  -- The least job that failed, with its fault. Each job before it has a result
+  -- The least job that failed, with its fault. Each job before it has a result.
   pub record IsRefused (jobs job : ℕ) (fault : Fault) : Type 0 where
     pub within : job < jobs
     pub before : (i : ℕ) → i < job → (out : O) × IsResult (i, out)

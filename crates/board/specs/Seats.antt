@@ -1,4 +1,4 @@
--- How a seat is seen, and what its fields have to do with what it knows.
+-- A seat as contracts see it, and what its fields say of its view.
 use Rattle.std.specs.Prelude.{◌≡◌, ℕ, ◌+◌, ◌^◌, ◌<◌, ◌≤◌, List, [], length}
 use Rattle.atomic_table.specs.Table.{Me}
 use Rattle.atomic_table.specs.Seated.{TableId}
@@ -8,11 +8,11 @@ use Rattle.board.specs.Shares.{times, start}
 use Rattle.board.specs.Words.{share_len, word_of}
 use Rattle.board.specs.Progress.{Layout, Progress, shares_in_turn, unused}
 
--- such a board
+-- the board with this table, jobs and seats
 abbrev pub layout : TableId → ℕ → ℕ → Layout
 layout table jobs seats = record { table = table; jobs = jobs; seats = seats }
 
--- what was done at a seat, read from its view and its done list
+-- what was done at a seat: its view, and the jobs done
 abbrev pub progress_of : TableId → ℕ → SeatView → List ℕ → Progress
 progress_of table number v done = record { board = layout table v.jobs v.seats; number = number; drawn = v.drawn; empty = v.empty; failed = v.failed; looked = v.looked; skipped = v.skipped; done = done }
 
@@ -21,7 +21,7 @@ pub record IsUnused (of : Layout) (p : Progress) : Type 0 where
   pub board : p.board ≡ of
   pub unused : p ≡ unused p.board p.number
 
--- what the fields of a seat have to do with what it knows
+-- what the fields of a seat say of its view
 pub record IsSeated (number passed jobs seats : ℕ) (me : Me (Unit {0}) SeatView) : Type 0 where
   pub slots : me.1 ≡ []
   pub one : me.0.parts ≡ 1
@@ -31,14 +31,15 @@ pub record IsSeated (number passed jobs seats : ℕ) (me : Me (Unit {0}) SeatVie
   pub passes : passed ≤ seats
   pub empty : me.0.empty ≡ shares_in_turn seats number passed
 
--- what is kept of a share, so that a claim has nothing to work out
+-- a share's number, claim word, first job and length, computed before a claim
 pub record IsShare (jobs seats k : ℕ) (s : Share) : Type 0 where
   pub number : s.number ≡ k
   pub word : s.word ≡ word_of seats k
   pub start : s.start ≡ start jobs seats k
   pub len : s.len ≡ share_len jobs seats k
 
--- What was spent at a seat was drawn there, each number once. The counts are those of the lists
+-- What was spent at a seat was drawn there, each number once. The counts are the lengths of the
+-- lists.
 pub record IsCounted (v : SeatView) (done : List ℕ) (done_count failed_count skipped_count : ℕ) : Type 0 where
   pub within : (x : ℕ) → 0 < times x v.drawn → x < v.jobs
   pub once : (x : ℕ) → times x v.drawn ≤ 1

@@ -7,14 +7,15 @@ abbrev pub total : {A : Type 0} → (A → ℕ) → List A → ℕ
 total f [] = 0
 total f (x ∷ xs) = f x + total f xs
 
--- 1 where x is below m, and else 0
+-- 1 if x is below m, else 0
 abbrev pub once_below : ℕ → ℕ → ℕ
 once_below x m = cond (ltb x m) 1 0
 
 abbrev pub share_len : ℕ → ℕ → ℕ → ℕ
 share_len n w s = start n w (suc s) - start n w s
 
--- the claim word of share k of w. The 64 words that there are lie in a row, and those in use as far apart as they can
+-- The claim word of share k of w. Why: there are 64 words in a row, and those in use are as far
+-- apart as they can be.
 unfoldable pub word_of : ℕ → ℕ → ℕ
 word_of w k = k * (64 / w)
 
@@ -22,11 +23,13 @@ word_of w k = k * (64 / w)
 abbrev pub claims_of : ℕ → List ℕ → ℕ → ℕ
 claims_of w words k = slice_index words (word_of w k)
 
--- Shares that begin at `first`, each up to the next. 1 where x is among the first c numbers of share k, and else 0
+-- The shares begin at `first`, each ends where the next begins. 1 if x is among the first c numbers
+-- of share k, else 0.
 abbrev pub claimed_in : (ℕ → ℕ) → ℕ → ℕ → ℕ → ℕ
 claimed_in first x k c = cond (leb (first k) x && ltb x (min (first k + c) (first (suc k)))) 1 0
 
--- in how many of the shares below m the number x was claimed, where `claims` says how often each was claimed from
+-- in how many of the shares below m the number x was claimed, share k being claimed `claims k`
+-- times
 abbrev pub claimed : (ℕ → ℕ) → (ℕ → ℕ) → ℕ → ℕ → ℕ
 claimed first claims x zero = 0
 claimed first claims x (suc k) = claimed first claims x k + claimed_in first x k (claims k)

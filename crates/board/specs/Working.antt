@@ -7,17 +7,17 @@ use Rattle.board.specs.Progress.{Layout, Progress, HasEachShare}
 use Rattle.board.specs.Finished.{HasSpentAll, all_empty, all_done, all_failed}
 use Rattle.board.specs.Running.{IsFaultOf, IsResult}
 
--- the least of the numbers failed, where there is one, with a fault of that job
+-- the least of the numbers that failed, with a fault of that job; None if none failed
 abbrev pub IsLeastFailed : (ℕ → Option Fault) → List ℕ → Option (ℕ × Fault) → Type 0
 IsLeastFailed refusal failed None = failed ≡ []
 IsLeastFailed refusal failed (Some r) = (0 < times r.0 failed) × ((x : ℕ) → 0 < times x failed → r.0 ≤ x) × IsFaultOf refusal r.0 r.1
 
--- there is something at this place
+-- there is a result at this place
 abbrev pub HasPlace : {O : Type 0} → List (Option O) → ℕ → Type 0
 HasPlace {O} places i = (out : O) × (slice_index_or places i None ≡ Some out)
 
 module _ {O : Type 0} (refusal : ℕ → Option Fault) (gives : ℕ → O → Type 0) where
-  -- A worker at its seat. The jobs that are due were drawn and not yet spent
+  -- A worker at its seat. The due jobs were drawn and aren't spent yet.
   pub record IsWorking (of : Layout) (due_jobs : List ℕ) (s : Shift O) : Type 0 where
     pub board : s.seat.board ≡ of
     pub spent : (x : ℕ) → times x s.seat.drawn ≤ (times x s.seat.done + times x s.seat.failed + times x s.seat.skipped) + times x due_jobs
@@ -27,16 +27,16 @@ module _ {O : Type 0} (refusal : ℕ → Option Fault) (gives : ℕ → O → Ty
     pub results : All (IsResult refusal gives) s.results.items
     pub refused : IsLeastFailed refusal s.seat.failed s.refused
 
-  -- what one worker leaves at its end
+  -- what one worker leaves when it ends
   pub record IsShift (of : Layout) (s : Shift O) : Type 0 where
     pub works : IsWorking of [] s
     pub empty : HasEachShare of.seats s.seat.empty
 
-  -- each result that was put in its place is one of that job
+  -- each result is at the number of its job
   abbrev pub IsPlaced : List (Option O) → Type 0
   IsPlaced places = (i : ℕ) (out : O) → slice_index_or places i None ≡ Some out → IsResult refusal gives (i, out)
 
-  -- What came back of the workers that left these seats. Each result is in its place
+  -- What the workers of these seats left. Each result is at the number of its job.
   pub record IsFiled (of : Layout) (ps : List Progress) (places : List (Option O)) (refused : Option (ℕ × Fault)) : Type 0 where
     pub boards : All (λ p. p.board ≡ of) ps
     pub spent : All HasSpentAll ps

@@ -1,4 +1,4 @@
-// The board as threads share it.
+// The board that threads share.
 ghost use Rattle.std.specs.Prelude.{◌≡◌, ◌≢◌, ℕ, ◌+◌, ◌≤◌, ◌<◌, ◌^◌, ◌⊎◌, ◌↔◌, [], Err, IfOk, IfErr, IfSome, IfNone, All, List, ◌∷◌, length, vec_len};
 ghost use Rattle.coding.specs.Answers.{fault};
 ghost use Rattle.coding.specs.declared.fault.FaultName.TheVariants.{Workers as NamedWorkers, Memory as NamedMemory};
@@ -24,17 +24,17 @@ use coding::{Fault, FaultName};
 use std::alloc::{AllocError, Global};
 use std::marker::{Brand, Model};
 
-// Where the fault word stands, behind the claim words.
+// The place of the fault word: after the 64 claim words.
 const FAULT: usize = 64;
 
-// What it holds while no job has failed.
+// What the fault word holds while no job has failed.
 const NO_FAULT: u64 = u64::MAX;
 
-/// Jobs numbered from 0, each of which one seat draws. Contracts see which board it is, and how many jobs and seats it
-/// has.
+/// Jobs numbered from 0, each of which one seat draws. Contracts see which board it is, and how
+/// many jobs and seats it has.
 ///
-/// Of `n` jobs and `w` seats, seat `s` owns the share from job `s * n / w` to before `(s + 1) * n / w`, both rounded
-/// down.
+/// Of `n` jobs and `w` seats, seat `s` owns the share from job `s * n / w` to before `(s + 1) * n /
+/// w`, both rounded down. 10 jobs and 4 seats give the shares 0 to 1, 2 to 4, 5 to 6, 7 to 9.
 #[derive(Drop)]
 pub struct Board {
     table: Table<(), SeatView, Extent, ByShares, Global>,
@@ -56,9 +56,9 @@ impl Model for Board {
 }
 
 impl Board {
-    /// A board of at most 2^40 jobs, and its 1 to 64 seats in the order of their numbers.
+    /// A board of at most 2^40 `jobs`, and its 1 to 64 seats in the order of their numbers.
     ///
-    /// Any other number of seats is `Workers`. The one other refusal is `Memory`, where a growth was refused.
+    /// `Workers` exactly if `seats` is outside 1 to 64. The only other fault is `Memory`.
     pub fn new(alloc: Global, jobs: u64, seats: u64) -> Result<(Board, Vec<Seat>), Fault>
         requires { jobs ≤ 2 ^ 40 }
         ensures workers { (result ≡ Err (fault NamedWorkers)) ↔ ((seats ≡ 0) ⊎ (64 < seats)) }
@@ -76,7 +76,7 @@ impl Board {
         }
     }
 
-    // The first seat stands for all, until each other is cut from it.
+    // The first token is of all seats; each other seat's is split from it.
     fn of(alloc: Global, extent: Extent) -> Result<(Board, Vec<Seat>), AllocError>
         requires few { (0 < extent.seats) × (extent.seats ≤ 64) × (extent.jobs ≤ 2 ^ 40) }
         ensures { IfOk result (λ made.
@@ -94,10 +94,10 @@ impl Board {
         Ok((Board { table }, all))
     }
 
-    /// The next job, which no other seat draws: one of the seat's own share until that is seen empty, and then of the
-    /// next shares in turn, round all.
+    /// The next job, which no other seat draws. It is one of the seat's own share until that was
+    /// seen empty. Then it is one of the next shares in turn, round all of them.
     ///
-    /// There is none once the seat has seen each share empty. It takes no memory and waits for nobody.
+    /// None once the seat has seen each share empty. It takes no memory and waits for nobody.
     pub fn draw(&self, seat: &mut Seat) -> Option<Job>
         requires board { seat.old.board ≡ self.now }
         ensures job { IfSome result (λ x. DrawsJob seat.old x seat.new) }
@@ -116,7 +116,7 @@ impl Board {
         None
     }
 
-    /// Spends a job that was done. It makes no step on what the seats share.
+    /// Spends a job that was done. It takes no step on what the seats share.
     pub fn done(&self, seat: &mut Seat, job: Job)
         requires board { seat.old.board ≡ self.now }
         requires unspent { IsUnspent seat.old job }
@@ -127,7 +127,8 @@ impl Board {
         seat.done += 1;
     }
 
-    /// Spends a job that failed, and settles it: the least job settled is what `least_fault` and `skip` see.
+    /// Spends a job that failed, and settles it: `least_fault` and `skip` see the least job that
+    /// was settled.
     pub fn fail(&self, seat: &mut Seat, job: Job)
         requires board { seat.old.board ≡ self.now }
         requires unspent { IsUnspent seat.old job }
@@ -140,7 +141,7 @@ impl Board {
         seat.failed += 1;
     }
 
-    /// The least job that has failed by now at any seat, where one has.
+    /// The least job that has failed so far at any seat; None if none has.
     pub fn least_fault(&self, seat: &mut Seat) -> Option<u64>
         requires board { seat.old.board ≡ self.now }
         ensures look { seat.new ≡ after_look seat.old (fault_word result) }
@@ -152,7 +153,7 @@ impl Board {
         fault_at(self.look(&mut seat.token))
     }
 
-    /// Spends a job that lies above one that has failed. Any other comes back.
+    /// Spends a job above one that has failed, and answers None. Otherwise the job comes back.
     pub fn skip(&self, seat: &mut Seat, job: Job) -> Option<Job>
         requires board { seat.old.board ≡ self.now }
         requires unspent { IsUnspent seat.old job }
@@ -175,8 +176,8 @@ impl Board {
         }
     }
 
-    /// Ends the board, and counts what was done at these seats together. With all seats of the board, `least` is the
-    /// least job that failed.
+    /// Ends the board, and counts what was done at these `seats` together. If they are all seats of
+    /// the board, `least` is the least job that failed.
     pub fn close(self, mut seats: Vec<Seat>) -> Tally
         requires boards { All (λ p. p.board ≡ self) seats.items }
         ensures counts { CountsOf seats.items result }
@@ -212,7 +213,7 @@ impl Board {
         }
     }
 
-    // Takes in one seat more.
+    // Takes in one more seat.
     fn gather(&self, gathered: &mut Gathered, seat: Seat)
         requires board { layout gathered.old.token.table_id
             gathered.old.token.me.0.jobs gathered.old.token.me.0.seats
@@ -242,7 +243,7 @@ impl Board {
         gathered.skipped = gathered.skipped.saturating_add(skipped);
     }
 
-    // The fault word at the end.
+    // The fault word after the board was closed.
     fn last_fault(self, token: Token<(), SeatView>) -> u64
         requires board { layout token.table_id token.me.0.jobs token.me.0.seats ≡ self }
         requires seats { 0 < token.me.0.parts }
@@ -257,7 +258,7 @@ impl Board {
         fault
     }
 
-    // The fault word.
+    // The fault word, looked at.
     fn look(&self, token: &mut Token<(), SeatView>) -> u64
         requires board { token.old.table_id ≡ self.now.table }
         requires seats { 0 < token.old.me.0.parts }
@@ -268,7 +269,7 @@ impl Board {
         self.table.shared.load::<Look>(token, FAULT)
     }
 
-    // The fault word, looked at on behalf of a job, which is noted as skipped where it lies above.
+    // The fault word, looked at for a job. The job counts as skipped if it is above that.
     fn look_for<J: Skipping>(&self, token: &mut Token<(), SeatView>, number: u64) -> u64
         requires board { token.old.table_id ≡ self.now.table }
         requires seats { 0 < token.old.me.0.parts }
@@ -280,7 +281,7 @@ impl Board {
         self.table.shared.load::<Skip<J>>(token, FAULT)
     }
 
-    // One claim of a share that was not seen empty.
+    // Claims the next job of a share that this seat has not seen empty; None if it is empty now.
     fn claim(&self, token: &mut Token<(), SeatView>, share: Share) -> Option<u64>
         requires board { token.old.table_id ≡ self.now.table }
         requires few { (token.old.me.0.seats ≤ 64) × (token.old.me.0.jobs ≤ 2 ^ 40) }
@@ -306,7 +307,7 @@ impl Board {
     }
 }
 
-// No job is claimed, and none has failed.
+// The words at first: no job is claimed, and none has failed.
 fn opening_words() -> [u64; 65]
     ensures { result ≡ opening_words }
 {
@@ -334,7 +335,7 @@ fn make_table(
     Table::of_words(alloc, &opening_words(), &extent)
 }
 
-// The least job that has failed, by the fault word.
+// The least job that has failed, as the fault word tells it.
 fn fault_at(word: u64) -> Option<u64>
     ensures word { fault_word result ≡ word }
     ensures some { IfSome result (λ y. y ≢ no_fault) }

@@ -1,4 +1,4 @@
-// The seats of a board that is closed, gathered one at a time.
+// The seats of a closed board, taken in one after the other.
 ghost use Rattle.std.specs.Prelude.{◌∷◌, []};
 ghost use Rattle.board.specs.Gathering.{Gathers};
 
@@ -6,7 +6,7 @@ use crate::rule::SeatView;
 use crate::seat::Seat;
 use atomic_table::Seat as Token;
 
-// The token of all seats so far, and the sums of their counts.
+// The token of all seats taken in so far, and the sums of their counts.
 #[derive(Drop)]
 pub struct Gathered {
     pub token: Token<(), SeatView>,

@@ -1,7 +1,8 @@
-// What a seat draws.
+// A job that a seat draws.
 use std::marker::Model;
 
-/// A job that was drawn. It has to be spent, by `done`, `fail` or `skip`, at the seat that drew it. Contracts see its number.
+/// A job that was drawn. It has to be spent at the seat that drew it, by `done`, `fail` or `skip`.
+/// Contracts see its number.
 pub struct Job {
     number: u64,
 }

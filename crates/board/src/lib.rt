@@ -1,7 +1,19 @@
-//! A board of numbered jobs, which seats in several threads draw, each job once, without a lock.
+//! A board of numbered jobs. Seats in several threads draw them, each job once, without a lock.
 //!
-//! [`run`] does all jobs of a [`Labour`] by several workers and answers their results in order. It stands on the calls of
-//! [`Board`], which can be used by themselves: `draw` a job, spend it by `done`, `fail` or `skip`, and `close` the board.
+//! [`run`] does all jobs of a [`Labour`] by several workers and answers their results in order. It
+//! uses the calls of [`Board`], which can be used by themselves:
+//!
+//! 1. `new` makes a board and its seats.
+//! 2. `draw` gives a seat its next job; `done`, `fail` or `skip` spends it. `least_fault` looks at
+//!    the least job that failed.
+//! 3. `close` ends the board and counts.
+//!
+//! Each step on what seats share is one atomic claim, settle or look. A rule over all of them holds
+//! between any two steps. So what contracts say holds over every schedule.
+//!
+//! Not stated: which seat draws what, that a thread runs or how many do, and what the gate is told.
+//! Nor which fault comes if one job fails by `Memory` and another by name. That a run answers
+//! `collected` of its answers is proved by its callers.
 #![tactic(auto)]
 
 mod gathered;

@@ -1,4 +1,4 @@
-// The results of all workers, each in its place.
+// The results of all workers, each at the number of its job.
 ghost use Rattle.std.specs.Prelude.{◌≡◌, ◌<◌, ◌≤◌, ℕ, [], map, All, length, vec_capacity};
 ghost use Rattle.board.specs.Shares.{times};
 ghost use Rattle.board.specs.Running.{AreResults, IsResult};
@@ -6,7 +6,7 @@ ghost use Rattle.board.specs.Working.{IsPlaced, HasPlace};
 
 use crate::labour::Labour;
 
-// Puts each result in its place.
+// Puts each result at the number of its job.
 pub(crate) fn place<L: Labour>(
     labour: &L,
     places: &mut Vec<Option<L::Out>>,
@@ -29,7 +29,7 @@ where
     results.destroy_empty();
 }
 
-// The results in order.
+// The results in order. Each place has one.
 pub(crate) fn take_all<L: Labour>(
     labour: &L,
     mut places: Vec<Option<L::Out>>,

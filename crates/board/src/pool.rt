@@ -20,21 +20,28 @@ use std::thread::Threads;
 /// Why a run has no results.
 #[derive(Clone, Copy, Debug, PartialEq, Eq)]
 pub enum RunFault {
-    /// The least job that failed, with its fault: `Memory`, or the one that the labour states of it.
+    /// The least job that failed, with its fault: the one that the labour states, or `Memory`.
     Job { job: u64, fault: Fault },
     /// The number of workers is outside 1 to 64.
     Workers,
-    /// There was no room for the seats or the results.
+    /// There was no memory for the seats or the results.
     Memory,
 }
 
-/// Does the first `jobs` jobs of the labour by 1 to 64 workers, and answers their results in order. There are at most
-/// 2^40 jobs.
+/// Does the jobs below `jobs` of `labour` by 1 to 64 `workers`, and answers their results in order.
+/// There are at most 2^40 jobs.
 ///
-/// Workers draw the jobs from one board, and skip those above a job that has failed. Each calls the gate around each job
-/// that it draws. Room for all results is there before a worker starts, and where a thread can't be started, workers
-/// follow each other.
-/// A worker that finds no room for a result fails that job with `Memory`.
+/// - Workers draw jobs from one board, and skip those above a job that has failed.
+/// - Each worker calls `gate` around each job that it draws.
+/// - Memory for all results is taken before a worker starts. If a thread can't be started, workers
+///   run one after the other.
+///
+/// Faults:
+///
+/// - `Job`: the least job that failed. A worker without memory for a result fails that job with
+///   `Memory`.
+/// - `Workers`: exactly if `workers` is outside 1 to 64.
+/// - `Memory`: there was no memory for the seats or the results.
 pub fn run<L: Labour + Sync, G: Gate + Sync, R: Threads + Sync>(
     rt: &R,
     alloc: Global,
@@ -111,7 +118,7 @@ where
     }
 }
 
-// A place for each result.
+// `count` places without a result.
 fn no_results<T: Drop>(alloc: Global, count: usize) -> Result<Vec<Option<T>>, AllocError>
     ensures { IfOk result (λ v. v.items ≡ replicate count None) }
 {
@@ -122,7 +129,7 @@ fn no_results<T: Drop>(alloc: Global, count: usize) -> Result<Vec<Option<T>>, Al
     Ok(places)
 }
 
-// Files what came back of each worker.
+// Takes in what each worker left: its results, its seat, and the least job that it failed.
 fn file_all<L: Labour>(
     labour: &L,
     board: &Board,
@@ -155,7 +162,7 @@ where
     refused
 }
 
-// The lesser of two jobs that failed, each the least of some.
+// The lesser of two jobs that failed, each the least of its list.
 fn least_of(one: Option<(u64, Fault)>, other: Option<(u64, Fault)>) -> Option<(u64, Fault)>
     ensures { (refusal : ℕ → Option Fault) (xs ys : List ℕ)
         → IsLeastFailed refusal xs one → IsLeastFailed refusal ys other
@@ -173,7 +180,7 @@ fn least_of(one: Option<(u64, Fault)>, other: Option<(u64, Fault)>) -> Option<(u
     Some((next, reason))
 }
 
-// Each seat is given to a worker.
+// Gives each seat to a worker.
 fn work_all<L: Labour + Sync, G: Gate + Sync, R: Threads + Sync>(
     rt: &R,
     alloc: Global,

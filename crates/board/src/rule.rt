@@ -1,11 +1,12 @@
-// What the seats share: 64 claim words, of which each share has one, and behind them the fault word. What a seat has done is its view.
+// What the seats share: 64 claim words, one for each share, and then the fault word. What a seat
+// has done is its view.
 ghost use Rattle.std.specs.Prelude.{ℕ};
 
 use atomic_table::{Join, Play, Split, TableRule};
 use std::collections::LinkedList;
 use std::marker::{Brand, PhantomData};
 
-// What a seat has done, or several that stand together as `parts`. No value of it is made.
+// What a seat has done, or `parts` seats together. No value of it is made.
 pub struct SeatView {
     pub parts: u64,
     pub jobs: u64,
@@ -24,7 +25,7 @@ pub struct Extent {
     pub seats: u64,
 }
 
-// The rule that ties the words to the views.
+// The rule that holds of words and views between any two steps.
 pub struct ByShares;
 
 impl TableRule<(), SeatView, Extent> for ByShares {
@@ -35,7 +36,7 @@ impl TableRule<(), SeatView, Extent> for ByShares {
     ghost first = { λ e. fresh e.seats e.jobs e.seats };
 }
 
-// A claim draws one number more of a share, or sees the share empty.
+// A claim draws the next number of a share, or sees the share empty.
 pub struct Claim;
 
 impl Play<(), SeatView> for Claim {
@@ -44,7 +45,7 @@ impl Play<(), SeatView> for Claim {
     ghost then = { Claimed };
 }
 
-// A number is failed.
+// A settle: a number has failed.
 pub struct Settle;
 
 impl Play<(), SeatView> for Settle {
@@ -53,7 +54,7 @@ impl Play<(), SeatView> for Settle {
     ghost then = { Settled };
 }
 
-// The fault word is looked at.
+// A look at the fault word.
 pub struct Look;
 
 impl Play<(), SeatView> for Look {
@@ -62,7 +63,7 @@ impl Play<(), SeatView> for Look {
     ghost then = { Looked };
 }
 
-// Names the job that a seat would skip. Each call picks it.
+// Names the job for which a seat looks. Each call picks it.
 pub trait Skipping {
     ghost job: { ℕ };
 }
@@ -71,7 +72,7 @@ impl Skipping for Brand {
     ghost job = { 0 };
 }
 
-// The fault word is looked at, and a job above it is skipped.
+// A look at the fault word, by which a job above it is skipped.
 pub struct Skip<J> {
     of: PhantomData<J>,
 }
@@ -82,7 +83,7 @@ impl<J: Skipping> Play<(), SeatView> for Skip<J> {
     ghost then = { Skipped J.job };
 }
 
-// The first seat is cut from a view of several that have done nothing.
+// A view of one seat is split from a view of several that have done nothing.
 pub struct Seating;
 
 impl Split<SeatView> for Seating {
@@ -94,7 +95,7 @@ impl Split<SeatView> for Seating {
     ghost right = { λ v. fresh 1 v.jobs v.seats };
 }
 
-// Two views are put together, and the second is spent.
+// Two views are joined, and nothing is left of the second.
 pub struct Gathering;
 
 impl Join<SeatView> for Gathering {

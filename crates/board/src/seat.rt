@@ -8,8 +8,8 @@ use crate::trail::Trail;
 use atomic_table::Seat as Token;
 use std::marker::Model;
 
-/// A place at a board, which one thread at a time draws from. Contracts see what was done at it.
-// So many shares as `passed` were seen empty, and `share` is the next one in turn.
+/// A place at a board, from which one thread at a time draws. Contracts see what was done at it.
+// `passed` shares were seen empty, and `share` is the next one in turn.
 #[derive(Drop)]
 pub struct Seat {
     pub(crate) number: u64,
@@ -43,7 +43,7 @@ impl Seat {
     ghost use Rattle.board.specs.Progress.{unused};
     ghost use Rattle.board.specs.Seats.{layout};
 
-    // The seat of this number, which has done nothing.
+    // The seat of this number, at which nothing was done.
     pub(crate) fn new(number: u64, jobs: u64, seats: u64, token: Token<(), SeatView>) -> Seat
         requires view { token.me ≡ (fresh 1 jobs seats, []) }
         requires number { number < seats }
@@ -64,7 +64,7 @@ impl Seat {
         }
     }
 
-    // The seat's number, from 0 on, as a gate hears it.
+    // The seat's number, from 0 on, as a gate is told it.
     pub(crate) fn number(&self) -> u32
         ensures { result ≡ self.now.number }
     {

@@ -4,7 +4,7 @@ ghost use Rattle.board.specs.Shares.{start};
 ghost use Rattle.board.specs.Words.{word_of};
 ghost use Rattle.board.specs.Seats.{IsShare};
 
-// What a claim needs, worked out once for each share that a seat comes to.
+// What a claim needs. It is computed once for each share that a seat comes to.
 #[derive(Clone, Copy)]
 pub struct Share {
     pub number: u64,
@@ -29,7 +29,8 @@ impl Share {
     }
 }
 
-// The claim word of a share. Those in use are spread over all 64, so that seats on two processors seldom write next to one another.
+// The claim word of a share. Why: the words in use are spread over all 64, so that seats on two
+// processors seldom write next to each other.
 fn word_of(seats: u64, share: u64) -> u64
     requires { (share < seats) × (seats ≤ 64) }
     ensures value { result ≡ word_of seats share }
@@ -38,7 +39,7 @@ fn word_of(seats: u64, share: u64) -> u64
     share * (64 / seats)
 }
 
-// The first number of a share, and, of the share after the last one, the number of jobs.
+// The first job of a share. For `share` = `seats`, after the last one, it is `jobs`.
 fn first_of(jobs: u64, seats: u64, share: u64) -> u64
     requires few { (0 < seats) × (seats ≤ 64) × (jobs ≤ 2 ^ 40) }
     requires share { share ≤ seats }

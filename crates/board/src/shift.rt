@@ -1,8 +1,9 @@
-// A worker at its seat.
+// What a worker leaves.
 use crate::seat::Seat;
 use coding::Fault;
 
-/// What a worker did: its seat, its results by their numbers, and the least job of it that failed, with its fault.
+/// What a worker did: its seat, its results with their numbers, and the least job that it failed,
+/// with the fault.
 #[derive(Drop)]
 pub struct Shift<O> {
     pub(crate) seat: Seat,

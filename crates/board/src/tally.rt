@@ -1,4 +1,4 @@
-/// What was done at the seats of a board that was closed.
+/// What was done at the seats of a closed board.
 #[derive(Clone, Copy, Debug, PartialEq, Eq)]
 pub struct Tally {
     /// How many jobs were done.
@@ -7,6 +7,6 @@ pub struct Tally {
     pub failed: u64,
     /// How many were skipped.
     pub skipped: u64,
-    /// The least job that failed, where one did.
+    /// The least job that failed; None if none did.
     pub least: Option<u64>,
 }

@@ -1,11 +1,12 @@
-// The jobs that were done at a seat, as clauses read them.
+// The jobs that were done at a seat, for contracts alone.
 ghost use Rattle.std.specs.Prelude.{◌≡◌, ℕ, List, [], ◌∷◌, ◌++◌};
 ghost use Rattle.std.specs.Borrow.{ftrue};
 
 use crate::job::Job;
 use std::marker::Model;
 
-// It takes no memory, and nothing is done with it at run time. What it says of a seat is tied down by the seat's invariant.
+// It takes no memory and does nothing at run time. The invariant of a seat says what it tells of
+// the seat.
 #[derive(Drop)]
 pub struct Trail {
     pub ghost items: { List ℕ },

@@ -14,7 +14,7 @@ use crate::shift::Shift;
 use coding::{Fault, FaultName};
 use std::alloc::Global;
 
-/// Draws jobs until there is none, and does them.
+/// Draws jobs until there is none, and does each of them.
 pub(crate) fn serve<L: Labour, G: Gate>(
     board: &Board,
     labour: &L,
@@ -39,7 +39,7 @@ where
     shift
 }
 
-// Does one job between the gate's calls.
+// Does one job, and calls the gate before and after it.
 fn serve_job<L: Labour, G: Gate>(
     board: &Board,
     labour: &L,
@@ -92,7 +92,7 @@ where
     board.done(&mut shift.seat, job);
 }
 
-// A job is refused.
+// Fails a job with its fault.
 fn refuse<L: Labour>(board: &Board, labour: &L, shift: &mut Shift<L::Out>, job: Job, fault: Fault)
 where
     L::Out: Drop,
@@ -108,7 +108,7 @@ where
     board.fail(&mut shift.seat, job);
 }
 
-// The fault of the lesser of two jobs that were refused.
+// The lesser of two failed jobs, with its fault.
 pub(crate) fn lesser(
     refused: Option<(u64, Fault)>,
     number: u64,

@@ -8,18 +8,18 @@ use Rattle.block.specs.Piece.{Entry}
 use Rattle.ikey.specs.Order.{internal_cmp}
 use Rattle.table.specs.ReadingCursors.{NeverFalls}
 
--- the first entry of a list, where it has one, is above this internal key
+-- the list's first entry, if it has one, is above this internal key
 abbrev pub StartsAbove : (List ℕ → List ℕ → Ordering) → List ℕ → List Entry → Type 0
 StartsAbove cmp key [] = Unit {0}
 StartsAbove cmp key (e ∷ es) = internal_cmp cmp key e.key ≡ Less
 
--- the first entry of a list, where it has one, isn't below this internal key
+-- the list's first entry, if it has one, is at or above this internal key
 abbrev pub StartsFrom : (List ℕ → List ℕ → Ordering) → List ℕ → List Entry → Type 0
 StartsFrom cmp key [] = Unit {0}
 StartsFrom cmp key (e ∷ es) = is_le (internal_cmp cmp key e.key) ≡ true
 
--- The place of the list whose first entry comes next: those before it start above that entry, and those behind it don't
--- start below it.
+-- The place of the list whose first entry comes next. Lists before it start above that entry, and
+-- lists after it start at or above it.
 pub record IsLeast (cmp : List ℕ → List ℕ → Ordering) (lists : List (List Entry)) (place : ℕ) : Type 0 where
   pub first : Entry
   pub others : List Entry
@@ -27,18 +27,18 @@ pub record IsLeast (cmp : List ℕ → List ℕ → Ordering) (lists : List (Lis
   pub before : AllByRecursion (StartsAbove cmp first.key) (take place lists)
   pub behind : AllByRecursion (StartsFrom cmp first.key) (drop (place + 1) lists)
 
--- One list has lost its first entry, which is the one that comes next, and the others are as they were.
+-- One list has lost its first entry, the one that comes next. The others are unchanged.
 pub record IsAdvanced (cmp : List ℕ → List ℕ → Ordering) (old new : List (List Entry)) : Type 0 where
   pub place : ℕ
   pub least : IsLeast cmp old place
   pub lost : new ≡ slice_set old place least.others
 
--- the place of the list whose first entry comes next, where some list has an entry
+-- the place of the list whose first entry comes next; None if no list has an entry
 abbrev pub IsLeastPlace : (List ℕ → List ℕ → Ordering) → List (List Entry) → Option ℕ → Type 0
 IsLeastPlace cmp lists None = AllByRecursion (λ list. list ≡ []) lists
 IsLeastPlace cmp lists (Some place) = IsLeast cmp lists place
 
--- no list falls, and this is the place of the one whose first entry comes next
+-- no list falls, and this is the place of the list whose first entry comes next
 pub record IsMerging (cmp : List ℕ → List ℕ → Ordering) (lists : List (List Entry)) (place : Option ℕ) : Type 0 where
   pub ordered : AllByRecursion (NeverFalls cmp) lists
   pub least : IsLeastPlace cmp lists place

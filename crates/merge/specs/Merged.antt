@@ -7,22 +7,22 @@ use Rattle.block.specs.Piece.{Entry}
 use Rattle.ikey.specs.Order.{internal_cmp}
 use Rattle.table.specs.ReadingCursors.{NeverFalls}
 
--- a list in order, and an entry before the first of it that isn't below the entry
+-- the entry put into a sorted list, before the first entry that isn't below it
 abbrev pub inserted : (List ℕ → List ℕ → Ordering) → Entry → List Entry → List Entry
 inserted cmp e [] = e ∷ []
 inserted cmp e (f ∷ fs) = if is_lt (internal_cmp cmp f.key e.key) then f ∷ inserted cmp e fs else e ∷ (f ∷ fs)
 
--- entries in the order of their internal keys, those of one key as they stood
+-- entries in the order of their internal keys, those of one key in the order they had
 abbrev pub sorted : (List ℕ → List ℕ → Ordering) → List Entry → List Entry
 sorted cmp [] = []
 sorted cmp (e ∷ es) = inserted cmp e (sorted cmp es)
 
--- the entries of all lists, one list behind the other
+-- the entries of all lists, one list after the other
 abbrev pub joined : List (List Entry) → List Entry
 joined lists = flat_map (λ list. list) lists
 
--- The sorted merge of lists: the entries of all of them in the order of their internal keys, those of one key in the
--- order of the lists.
+-- The sorted merge of lists: the entries of all of them in the order of their internal keys, those
+-- of one key in the order of the lists.
 abbrev pub merged : (List ℕ → List ℕ → Ordering) → List (List Entry) → List Entry
 merged cmp lists = sorted cmp (joined lists)
 
@@ -30,13 +30,13 @@ merged cmp lists = sorted cmp (joined lists)
 abbrev pub has_key : (List ℕ → List ℕ → Ordering) → List ℕ → Entry → Bool
 has_key cmp key e = is_eq (internal_cmp cmp e.key key)
 
--- What a sorted merge of lists is, without a way to make it. It never falls. Of each internal key it has just the
--- entries that the lists have, in the order of the lists.
+-- What a sorted merge of lists is, however it is made. It never falls. Of each internal key it has
+-- just the entries that the lists have, in the order of the lists.
 pub record IsMerge (cmp : List ℕ → List ℕ → Ordering) (lists : List (List Entry)) (merge : List Entry) : Type 0 where
   pub ordered : NeverFalls cmp merge
   pub same : (key : List ℕ) → filter (has_key cmp key) merge ≡ filter (has_key cmp key) (joined lists)
 
--- each lists have one sorted merge, and `merged` is it
+-- any lists have one sorted merge, which is `merged`
 pub record MergeLaw (cmp : List ℕ → List ℕ → Ordering) : Type 0 where
   pub is_merge : (lists : List (List Entry)) → IsMerge cmp lists (merged cmp lists)
   pub one : (lists : List (List Entry)) (merge : List Entry) → IsMerge cmp lists merge → merge ≡ merged cmp lists

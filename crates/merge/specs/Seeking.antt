@@ -4,11 +4,11 @@ use Rattle.std.specs.declared.cmp.Ordering.{Ordering}
 use Rattle.block.specs.Piece.{Entry}
 use Rattle.table.specs.ReadingCursors.{entries_from, LeavesFrom}
 
--- of each list the entries from the first on that isn't below this internal key
+-- of each list the entries from the first one at or above this internal key
 abbrev pub each_from : (List ℕ → List ℕ → Ordering) → List ℕ → List (List Entry) → List (List Entry)
 each_from cmp target lists = map (entries_from cmp target) lists
 
--- of each list what a refused walk to this internal key may leave
+-- of each list what a refused seek to this internal key may leave
 abbrev pub EachLeavesFrom : (List ℕ → List ℕ → Ordering) → List ℕ → List (List Entry) → List (List Entry) → Type 0
 EachLeavesFrom cmp target [] [] = Unit {0}
 EachLeavesFrom cmp target [] (new ∷ news) = ⊥

@@ -1,4 +1,4 @@
--- A tournament of lists: each match is won by the list whose first entry comes first.
+-- A tournament of lists: the list whose first entry comes first wins each match.
 use Rattle.std.specs.Prelude.{◌≡◌, ◌⊎◌, ℕ, zero, suc, ◌+◌, ◌*◌, ◌/◌, ◌<◌, ◌≤◌, List, [], ◌∷◌, length, slice_get, slice_index, slice_index_or, set, Bool, true, false, Option, Some, None, nat_lt}
 use Rattle.std.specs.Ordering.{match_ordering}
 use Rattle.std.specs.Option.{option_map}
@@ -9,14 +9,14 @@ use Rattle.block.specs.Piece.{Entry}
 use Rattle.ikey.specs.Order.{internal_cmp}
 use Rattle.table.specs.ReadingCursors.{NeverFalls}
 
--- The first of two lists with their places isn't behind the other: its first key is below the other's, or the same at a
--- place that isn't behind. A list without an entry is behind all others.
+-- The first list wins, or is the other one: its first key is smaller, or equal at a place that
+-- isn't higher. A list without an entry loses.
 abbrev pub IsAhead : (List ℕ → List ℕ → Ordering) → ℕ → List Entry → ℕ → List Entry → Type 0
 IsAhead cmp place list other [] = Unit {0}
 IsAhead cmp place [] other (f ∷ fs) = ⊥
 IsAhead cmp place (e ∷ es) other (f ∷ fs) = (internal_cmp cmp e.key f.key ≡ Less) ⊎ ((internal_cmp cmp e.key f.key ≡ Equal) × (place ≤ other))
 
--- the list at one place isn't behind that at another
+-- the list at one place wins against that at another, or is it
 abbrev pub Beats : (List ℕ → List ℕ → Ordering) → List (List Entry) → ℕ → ℕ → Type 0
 Beats cmp lists place other = IsAhead cmp place (slice_index_or lists place []) other (slice_index_or lists other [])
 
@@ -26,37 +26,37 @@ pub record IsWinner (cmp : List ℕ → List ℕ → Ordering) (lists : List (Li
   pub over_one : Beats cmp lists winner one
   pub over_other : Beats cmp lists winner other
 
--- the key of the first entry of the list at a place, where it has one
+-- the key of the first entry of the list at a place; None if it has no entry
 abbrev pub first_key : List (List Entry) → ℕ → Option (List ℕ)
 first_key lists place = option_map (λ e. e.key) (slice_get (slice_index_or lists place []) 0)
 
--- whether a key at a place comes before another one, which may be none, at another place
+-- whether a key at a place comes before best at another place; if there is no best, it does
 abbrev pub comes_first : (List ℕ → List ℕ → Ordering) → List ℕ → ℕ → Option (List ℕ) → ℕ → Bool
 comes_first cmp key place None other = true
 comes_first cmp key place (Some best) other = match_ordering (internal_cmp cmp best key) false (nat_lt place other) true
 
--- two nodes are the ones below one node
+-- two nodes are the two below one node
 abbrev pub AreBeside : ℕ → ℕ → Type 0
 AreBeside node other = ((node ≡ 2 * (node / 2)) × (other ≡ 2 * (node / 2) + 1)) ⊎ ((node ≡ 2 * (node / 2) + 1) × (other ≡ 2 * (node / 2)))
 
--- The winners of a tournament of so many places, a node each. Node 1 is the root, the nodes below node n are 2n and
--- 2n + 1, and the last nodes are the places themselves. Node 0 stands for nothing.
+-- The winners of a tournament of `number` places, a node each. Node 1 is the root, and the nodes
+-- below node n are 2n and 2n + 1. The last nodes are the places themselves; node 0 means nothing.
 pub record IsBracket (number : ℕ) (winners : List ℕ) : Type 0 where
   pub size : length winners ≡ number + number
   pub within : (node : ℕ) → node < length winners → slice_index winners node < number
   pub leaves : (place : ℕ) → place < number → slice_index winners (number + place) ≡ place
 
--- each node has the winner of the two below it, but some that are left to be played
+-- each node has the winner of the two below it, except those that are still to be played
 pub record IsPlayed (cmp : List ℕ → List ℕ → Ordering) (lists : List (List Entry)) (winners : List ℕ) (IsLeft : ℕ → Type 0) : Type 0 where
   pub played : (node : ℕ) → 0 < node → node < length lists → IsLeft node ⊎ IsWinner cmp lists (slice_index winners (2 * node)) (slice_index winners (2 * node + 1)) (slice_index winners node)
 
--- what playing the match at a node does
+-- what the match at a node changes
 pub record IsMatch (cmp : List ℕ → List ℕ → Ordering) (lists : List (List Entry)) (old : List ℕ) (node : ℕ) (new : List ℕ) : Type 0 where
   pub winner : ℕ
   pub wins : IsWinner cmp lists (slice_index old (2 * node)) (slice_index old (2 * node + 1)) winner
   pub noted : new ≡ set old node winner
 
--- a node is above another, by at most so many halvings
+-- a node is above another, at most n steps up
 abbrev pub IsAboveBy : ℕ → ℕ → ℕ → Type 0
 IsAboveBy zero above node = ⊥
 IsAboveBy (suc steps) above node = (above ≡ node / 2) ⊎ IsAboveBy steps above (node / 2)
@@ -65,7 +65,7 @@ IsAboveBy (suc steps) above node = (above ≡ node / 2) ⊎ IsAboveBy steps abov
 abbrev pub IsAbove : ℕ → ℕ → Type 0
 IsAbove above node = (steps : ℕ) × IsAboveBy steps above node
 
--- no list falls, and all matches between them are played
+-- no list falls, and all matches are played
 pub record IsTournament (cmp : List ℕ → List ℕ → Ordering) (lists : List (List Entry)) (winners : List ℕ) : Type 0 where
   pub ordered : AllByRecursion (NeverFalls cmp) lists
   pub bracket : IsBracket (length lists) winners

@@ -5,13 +5,14 @@ ghost use Rattle.merge.specs.Union.{UnionLaw};
 
 use ikey::Comparator;
 
-/// The law that lists have one sorted merge: one list that never falls and has, of each internal key, just the entries
-/// that they have, in their order. A call does nothing.
+/// The law that lists have one sorted merge. It never falls, and has, of each internal key, just
+/// the entries that the lists have, in their order. A call does nothing.
 pub fn merge_law<C: Comparator>()
     ensures { MergeLaw C.cmp }
 {}
 
-/// The law that the union of inputs is their sorted merge, where no user key has one sequence twice. A call does nothing.
+/// The law that a list is the union of inputs exactly if it is their sorted merge and rises strictly,
+/// by user key and then falling sequence. A call does nothing.
 pub fn union_law<C: Comparator>()
     ensures { UnionLaw C.cmp }
 {}

@@ -1,4 +1,4 @@
-//! The cursor that is next in a merge.
+//! The cursor that is next in a merge, by one pass.
 
 ghost use Rattle.std.specs.Prelude.{◌+◌, ◌<◌, map, take, length};
 ghost use Rattle.merge.specs.Least.{IsMerging};
@@ -6,9 +6,10 @@ ghost use Rattle.merge.specs.Least.{IsMerging};
 use ikey::Comparator;
 use table::Cursor;
 
-/// The place of the cursor whose first entry comes next, where one has an entry, by one pass over all. Takes no memory.
+/// The place of the cursor whose first entry comes next; None if no cursor has an entry. Takes no
+/// memory.
 ///
-/// It is what a tournament answers, found slowly: the measure that one is held against.
+/// It answers the same as a tournament, slowly, to compare that with.
 pub fn least_place<'c, C: Comparator, S: Cursor<'c, C>>(cursors: &[S]) -> Option<usize>
     ensures { IsMerging C.cmp (map S.remaining cursors.now) result }
 {
@@ -19,7 +20,7 @@ pub fn least_place<'c, C: Comparator, S: Cursor<'c, C>>(cursors: &[S]) -> Option
     least
 }
 
-/// The place of the cursor whose first entry comes next of those up to a place, where this is that of those before it.
+/// The place of the next cursor among those up to `place`, if `least` is that of those before it.
 fn lesser<'c, C: Comparator, S: Cursor<'c, C>>(
     cursors: &[S],
     least: Option<usize>,

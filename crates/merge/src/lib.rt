@@ -1,7 +1,18 @@
 //! The sorted merge of cursors.
 //!
-//! A [`Merging`] over any cursors is itself a cursor. Its entries to come are those of all of them in the order of their
-//! internal keys, and entries of one internal key come in the order of the cursors.
+//! A [`Merging`] over any cursors is itself a cursor. Its entries to come are those of all of them
+//! in the order of their internal keys. Entries of one internal key come in the order of the
+//! cursors.
+//!
+//! 1. [`Merging::new`] or [`Merging::take`] makes one of cursors.
+//! 2. It is walked as any cursor: `valid`, `key`, `value`, `advance`, `seek`. `place` tells which
+//!    cursor is next.
+//! 3. [`Merging::into_cursors`] gives the cursors back.
+//!
+//! [`least_place`] finds the next cursor in one pass over all. [`merge_law`] and [`union_law`] are
+//! laws of merges.
+//!
+//! No contract says what a step costs: it plays one path of a tournament, one match a round.
 #![tactic(auto)]
 
 mod laws;

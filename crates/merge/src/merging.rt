@@ -1,4 +1,4 @@
-//! The cursor over the entries of cursors.
+//! The cursor over the entries of several cursors.
 
 ghost use Rattle.std.specs.Prelude.{◌≡◌, ◌<◌, ◌↔◌, [], IsTrue, map, length, drop, slice_get, OnOk, OnErr, IsOkUnless, Ok};
 ghost use Rattle.coding.specs.Answers.{EqualOrMemory, fault};
@@ -16,14 +16,18 @@ use std::marker::{Model, PhantomData};
 use std::mem;
 use table::{Cursor, Entries};
 
-/// Cursors that are walked as one, seen as the lists of entries that are still to come of each.
+/// Cursors that are walked as one. Contracts see, of each cursor, the list of entries still to
+/// come.
 ///
-/// Its own entries still to come are their sorted merge: by internal key, and those of one internal key in the order of
-/// the cursors. The cursors may be lent ones, as `&mut S`.
+/// Its own entries still to come are the sorted merge of these lists: by internal key, and those of
+/// one internal key in the order of the cursors. The cursors may be lent, as `&mut S`.
+///
+/// A step plays one path of a tournament and takes no memory but the cursors' own; no contract says
+/// so.
 #[derive(Drop)]
 pub struct Merging<C: Comparator, S: Entries + Drop> {
     cursors: Vec<S>,
-    /// The winners of the matches between the cursors.
+    /// The winners of the tournament, a node each.
     winners: Vec<usize>,
     order: PhantomData<C>,
 }
@@ -41,10 +45,10 @@ impl<C: Comparator, S: Entries + Drop> Model for Merging<C, S> {
 }
 
 impl<'c, C: Comparator, S: Cursor<'c, C> + Drop> Merging<C, S> {
-    /// All entries that are still to come of these cursors.
+    /// All entries still to come of `cursors`.
     ///
-    /// Refused only if memory runs out, and then the cursors are dropped; `take` leaves them
-    /// where they were.
+    /// The only fault is Memory, and then the cursors are dropped. `take` leaves them where they
+    /// were.
     pub fn new(alloc: Global, cursors: Vec<S>) -> Result<Merging<C, S>, Fault>
         ensures { EqualOrMemory (λ merging. merging) result (Ok (map S.remaining cursors.items)) }
     {
@@ -52,9 +56,10 @@ impl<'c, C: Comparator, S: Cursor<'c, C> + Drop> Merging<C, S> {
         Merging::take(alloc, &mut cursors)
     }
 
-    /// All entries that are still to come of the cursors of a vector, which is left empty.
+    /// All entries still to come of the cursors of a vector, which is left empty.
     ///
-    /// Refused for want of memory alone, and then the vector is as it was. `into_cursors` gives the cursors back.
+    /// The only fault is Memory, which leaves the vector unchanged. `into_cursors` gives the
+    /// cursors back.
     pub fn take(alloc: Global, cursors: &mut Vec<S>) -> Result<Merging<C, S>, Fault>
         ensures merging { EqualOrMemory (λ merging. merging) result (Ok (map S.remaining cursors.old.items)) }
         ensures taken { OnOk result (cursors.new.items ≡ []) }
@@ -70,7 +75,7 @@ impl<'c, C: Comparator, S: Cursor<'c, C> + Drop> Merging<C, S> {
         })
     }
 
-    /// The cursors, in the order in which they were handed in, each with the entries that are still to come of it.
+    /// The cursors, in the order in which they were given, each with its entries still to come.
     pub fn into_cursors(self) -> Vec<S>
         ensures { map S.remaining result.items ≡ self }
     {
@@ -82,8 +87,8 @@ impl<'c, C: Comparator, S: Cursor<'c, C> + Drop> Merging<C, S> {
         cursors
     }
 
-    /// The place of the cursor whose first entry comes next, among those that were handed in, where one has an entry. Takes no
-    /// memory.
+    /// The place of the cursor whose first entry comes next, counted as they were given; None if no
+    /// cursor has an entry. Takes no memory.
     pub fn place(&self) -> Option<usize>
         ensures { IsMerging C.cmp self.now result }
     {
@@ -91,7 +96,8 @@ impl<'c, C: Comparator, S: Cursor<'c, C> + Drop> Merging<C, S> {
     }
 }
 
-/// Seeks each cursor. Where one is refused, those before it have been sought, and those behind it not.
+/// Seeks each cursor in turn. The only fault is Memory: the cursors before the refused one were
+/// sought then, and those after it were not.
 fn seek_all<'c, C: Comparator, S: Cursor<'c, C>>(
     cursors: &mut [S],
     target: InternalKey<'_>,
@@ -124,8 +130,9 @@ impl<'c, C: Comparator, S: Cursor<'c, C> + Drop> Cursor<'c, C> for Merging<C, S>
         next_cursor::<C, S>(&self.cursors, &self.winners).value()
     }
 
-    /// Takes the first entry off: that of one cursor, and the others are as before. Refused for want of memory alone, and
-    /// then all are as before.
+    /// Takes off the first entry, which is one cursor's; the others are unchanged.
+    ///
+    /// The only fault is Memory, which leaves all of them unchanged.
     fn advance(&mut self) -> Result<(), Fault>
         requires { 0 < length (merged C.cmp self.old) }
         ensures advanced { OnOk result (IsAdvanced C.cmp self.old self.new) }
@@ -144,10 +151,10 @@ impl<'c, C: Comparator, S: Cursor<'c, C> + Drop> Cursor<'c, C> for Merging<C, S>
         Ok(())
     }
 
-    /// Takes off the entries below an internal key, of each cursor. It never goes back.
+    /// Takes off, of each cursor, the entries below `target`. It never goes back.
     ///
-    /// Refused for want of memory alone, where one of the cursors is refused, and then some of those entries of each may be
-    /// taken off, and no others.
+    /// The only fault is Memory, if a cursor answers it. Of each cursor some of those entries may
+    /// be lost then, and no others.
     fn seek(&mut self, target: InternalKey<'_>) -> Result<(), Fault>
         ensures sought { OnOk result (self.new ≡ each_from C.cmp target.entry.bytes.now self.old) }
         ensures left { OnErr result (EachLeavesFrom C.cmp target.entry.bytes.now self.old self.new) }

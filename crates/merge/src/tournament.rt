@@ -1,4 +1,13 @@
 //! A tournament of cursors by their first entries, kept as the winners of its matches.
+//!
+//!              1             node 1 is the root, and holds the winner of all
+//!            /   \
+//!          2       3         the nodes below node n are 2n and 2n + 1
+//!         / \     / \
+//!        4   5   6   7       of n cursors, the last n nodes are their places
+//!
+//! A step changes one cursor's first entry. Only the matches above its place are played again, one
+//! a round; a pass over all cursors would compare each of them.
 
 ghost use Rattle.std.specs.Prelude.{◌≡◌, ◌+◌, ◌<◌, ◌≤◌, ◌⊎◌, map, length, slice_get, IfOk, IsOkUnless};
 ghost use Rattle.std.specs.Option.{option_map};
@@ -16,8 +25,8 @@ use std::alloc::Global;
 use std::cmp::Ordering;
 use table::{Cursor, Entries};
 
-/// Room for the winners of a tournament of so many places, with the places themselves as its last nodes. Refused for want
-/// of memory alone.
+/// A bracket for `number` places: its last nodes are the places themselves, the others are yet to
+/// be played. The only fault is Memory.
 pub(crate) fn bracket(alloc: Global, number: usize) -> Result<Vec<usize>, Fault>
     ensures ok { IfOk result (λ winners. IsBracket number winners.items) }
     ensures memory { IsOkUnless result (fault Memory) }
@@ -39,7 +48,8 @@ fn lower(one: usize, other: usize) -> usize
     if one < other { one } else { other }
 }
 
-/// The place that wins of two. A cursor at its end loses, and of two that begin with one key the one behind.
+/// Which of two cursors wins: the one whose first key is smaller. Of equal keys the lower place
+/// wins, and a cursor at its end loses.
 fn winner<'c, C: Comparator, S: Cursor<'c, C>>(cursors: &[S], one: usize, other: usize) -> usize
     requires one { one < length cursors.now }
     requires other { other < length cursors.now }
@@ -62,7 +72,7 @@ fn winner<'c, C: Comparator, S: Cursor<'c, C>>(cursors: &[S], one: usize, other:
     }
 }
 
-/// Plays the match at a node, between the winners of the two nodes below it.
+/// Plays the match at a node: the winner of the winners of the two nodes below it.
 #[tactic(auto, using(crate::proofs::Tournaments::left_within, crate::proofs::Tournaments::right_within))]
 fn play<'c, C: Comparator, S: Cursor<'c, C>>(cursors: &[S], winners: &mut [usize], node: usize)
     requires some { 0 < node }
@@ -74,7 +84,7 @@ fn play<'c, C: Comparator, S: Cursor<'c, C>>(cursors: &[S], winners: &mut [usize
     winners[node] = winner::<C, S>(cursors, winners[2 * node], winners[2 * node + 1]);
 }
 
-/// The first key of the cursor at a place, where it has one.
+/// The first key of the cursor at `place`; None if it is at its end.
 fn key_at<'a, 'c, C: Comparator, S: Cursor<'c, C>>(
     cursors: &'a [S],
     place: usize,
@@ -89,7 +99,8 @@ fn key_at<'a, 'c, C: Comparator, S: Cursor<'c, C>>(
     Some(cursor.key())
 }
 
-/// Whether a key at a place comes before another one, which may be none, at another place: of two that are one, that of the lower place.
+/// Whether the cursor with `key` at `place` wins against the one with `best_key` at `best`. The
+/// smaller key wins; of equal keys the lower place; a cursor without a key loses.
 fn comes_first<C: Comparator>(
     key: InternalKey<'_>,
     place: usize,
@@ -108,7 +119,7 @@ fn comes_first<C: Comparator>(
     }
 }
 
-/// The node that is below the same one as this node.
+/// The other node below the node that this one is below.
 fn beside(node: usize) -> usize
     requires { 0 < node }
     ensures { AreBeside node result }
@@ -116,9 +127,9 @@ fn beside(node: usize) -> usize
     if node % 2 == 0 { node + 1 } else { node - 1 }
 }
 
-/// Plays the matches above a place again, where all others are played.
+/// Plays again the matches above `place`. All others were played.
 ///
-/// The winner so far is held with its key, so that of each match one cursor is asked.
+/// The winner so far is kept with its key, so each match asks one cursor only.
 pub(crate) fn play_path<'c, C: Comparator, S: Cursor<'c, C>>(
     cursors: &[S],
     winners: &mut [usize],
@@ -159,7 +170,7 @@ fn play_matches<'c, C: Comparator, S: Cursor<'c, C>>(cursors: &[S], winners: &mu
     }
 }
 
-/// Asks each cursor whether it has an entry, since with that answer comes that its keys never fall.
+/// Asks each cursor whether it has an entry. Why: that answer also says that its keys never fall.
 fn ask_all<'c, C: Comparator, S: Cursor<'c, C>>(cursors: &[S])
     ensures { AllByRecursion (NeverFalls C.cmp) (map S.remaining cursors.now) }
 {
@@ -177,7 +188,8 @@ pub(crate) fn play_all<'c, C: Comparator, S: Cursor<'c, C>>(cursors: &[S], winne
     play_matches::<C, S>(cursors, winners);
 }
 
-/// The place of the cursor whose first entry comes next, where one has an entry. Takes no memory.
+/// The place of the cursor whose first entry comes next; None if no cursor has an entry. Takes no
+/// memory.
 pub(crate) fn next_place<'c, C: Comparator, S: Cursor<'c, C>>(
     cursors: &[S],
     winners: &[usize],

@@ -7,7 +7,7 @@ use Rattle.std.specs.declared.cmp.Ordering.TheVariants.{Less}
 abbrev pub IsRising : (List ℕ → List ℕ → Ordering) → List (List ℕ) → Type 0
 IsRising cmp keys = AllPairs (λ key later. cmp key later ≡ Less) keys
 
--- what the boundaries of a split are: at most 4,095 user keys that rise strictly
+-- the boundaries of a split: at most 4,095 user keys that rise strictly
 pub record IsSplit (cmp : List ℕ → List ℕ → Ordering) (boundaries : List (List ℕ)) : Type 0 where
   pub few : length boundaries ≤ 4095
   pub rising : IsRising cmp boundaries

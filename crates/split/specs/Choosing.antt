@@ -1,4 +1,4 @@
--- The boundaries that a wanted number of ranges gives.
+-- The boundaries that are chosen for a wanted number of ranges.
 use Rattle.std.specs.Prelude.{◌≡◌, ℕ, ◌<◌, ◌*◌, ◌/◌, List, length, Some, slice_get, Contains}
 use Rattle.std.specs.List.{flat_map}
 use Rattle.std.specs.declared.cmp.Ordering.{Ordering}
@@ -9,7 +9,7 @@ use Rattle.split.specs.Boundaries.{IsRising}
 abbrev pub index_users_of : List Contents → List (List ℕ)
 index_users_of tables = flat_map (λ table. table.index_users) tables
 
--- exactly the keys that a fact holds of, each once, in order
+-- exactly the keys of which the fact holds, each once, in order
 pub record IsListOf (cmp : List ℕ → List ℕ → Ordering) (Fact : List ℕ → Type 0) (keys : List (List ℕ)) : Type 0 where
   pub rising : IsRising cmp keys
   pub all : (key : List ℕ) → Fact key → Contains keys key
@@ -19,19 +19,18 @@ pub record IsListOf (cmp : List ℕ → List ℕ → Ordering) (Fact : List ℕ 
 abbrev pub IsAtPlace : List (List ℕ) → ℕ → ℕ → List ℕ → Type 0
 IsAtPlace keys want j key = slice_get keys (j * length keys / want) ≡ Some key
 
--- the key at such a place for some j from 1 and below this number
+-- the key at such a place, for some j from 1 to below this number
 abbrev pub IsAtPlaceBelow : List (List ℕ) → ℕ → ℕ → List ℕ → Type 0
 IsAtPlaceBelow keys want number key = (j : ℕ) × (0 < j) × (j < number) × IsAtPlace keys want j key
 
--- The boundaries for this many ranges: of the list of all user keys, each once and in order, the keys at the places
--- j * m / want for j from 1 to want - 1. The list rises strictly, so that two places have two keys, and each place is
--- taken once.
+-- The boundaries for this many ranges. Take the list of all m user keys, each once and in order.
+-- The boundaries are the keys at the places j * m / want for j from 1 to want - 1, each once.
 pub record IsChoice (cmp : List ℕ → List ℕ → Ordering) (users : List (List ℕ)) (want : ℕ) (boundaries : List (List ℕ)) : Type 0 where
   pub keys : List (List ℕ)
   pub each_once : IsListOf cmp (Contains users) keys
   pub at_places : IsListOf cmp (IsAtPlaceBelow keys want want) boundaries
 
--- user keys and a wanted number have one choice of boundaries at most
+-- user keys and a wanted number have at most one choice of boundaries
 abbrev pub OneChoiceLaw : (List ℕ → List ℕ → Ordering) → Type 0
 OneChoiceLaw cmp =
     (users : List (List ℕ)) (want : ℕ) (boundaries others : List (List ℕ)) → IsChoice cmp users want boundaries → IsChoice cmp users want others → boundaries ≡ others

@@ -5,7 +5,7 @@ use Rattle.std.specs.declared.cmp.Ordering.{Ordering}
 use Rattle.std.specs.declared.cmp.Ordering.TheVariants.{Less}
 use Rattle.split.specs.declared.range.Range.{Range}
 
--- the first user key that may lie in a range, and the first behind it
+-- the first user key that may be in a range, and the first after it
 pub record KeyRange : Type 0 where
   pub lower : Option (List ℕ)
   pub upper : Option (List ℕ)
@@ -16,21 +16,21 @@ key_range range = record {
   upper = option_map (λ key. key.now) range.upper;
 }
 
--- the boundary before the range of a number
+-- the boundary before range i; none for the first range
 abbrev pub boundary_before : List (List ℕ) → ℕ → Option (List ℕ)
 boundary_before boundaries zero = None
 boundary_before boundaries (suc i) = slice_get boundaries i
 
--- range i: from boundary i - 1 to before boundary i
+-- range i: at or after boundary i - 1, and before boundary i
 abbrev pub range_at : List (List ℕ) → ℕ → KeyRange
 range_at boundaries i = record { lower = boundary_before boundaries i; upper = slice_get boundaries i }
 
--- the user key is at or after the range's lower bound and before its upper bound, where it has these
+-- the user key is at or after the lower bound, and before the upper bound, if there are these
 pub record IsIn (cmp : List ℕ → List ℕ → Ordering) (range : KeyRange) (key : List ℕ) : Type 0 where
   pub from : ForSome range.lower (λ lower. cmp key lower ≢ Less)
   pub before : ForSome range.upper (λ upper. cmp key upper ≡ Less)
 
--- the one range that a user key lies in
+-- the user key is in exactly one range
 pub record LiesInOne (cmp : List ℕ → List ℕ → Ordering) (boundaries : List (List ℕ)) (key : List ℕ) : Type 0 where
   pub number : ℕ
   pub below : number ≤ length boundaries

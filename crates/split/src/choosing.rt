@@ -1,4 +1,4 @@
-//! Boundaries taken from the keys of tables.
+//! Boundaries taken from the index keys of tables.
 
 ghost use Rattle.std.specs.Prelude.{◌≡◌, ◌*◌, ◌/◌, ◌<◌, ◌≤◌, ◌++◌, Ok, map, length, Contains, IfOk, OnOk, IsOkUnless};
 ghost use Rattle.std.specs.List.{flat_map};
@@ -12,7 +12,7 @@ use ikey::Comparator;
 use std::alloc::Global;
 use table::{KeyList, SoundTable};
 
-/// The user keys of each table's index. Refused for want of memory alone.
+/// The user keys of each table's index. The only fault is Memory.
 pub(crate) fn index_lists<C: Comparator>(
     alloc: Global,
     tables: &[SoundTable<'_, C>],
@@ -26,7 +26,7 @@ pub(crate) fn index_lists<C: Comparator>(
     Ok(lists)
 }
 
-/// Appends the keys of a list, where they lie. Refused for want of memory alone.
+/// Appends the keys of a list, without copying them. The only fault is Memory.
 fn push_lent<'k>(keys: &mut Vec<&'k [u8]>, list: &'k KeyList) -> Result<(), Fault>
     ensures ok { OnOk result (map (λ key. key.now) keys.new.items ≡ map (λ key. key.now) keys.old.items ++ list.now) }
     ensures memory { IsOkUnless result (fault Memory) }
@@ -37,7 +37,7 @@ fn push_lent<'k>(keys: &mut Vec<&'k [u8]>, list: &'k KeyList) -> Result<(), Faul
     Ok(())
 }
 
-/// The keys of all lists, where they lie. Refused for want of memory alone.
+/// The keys of all lists, without copying them. The only fault is Memory.
 pub(crate) fn lent_keys<'k>(alloc: Global, lists: &'k [KeyList]) -> Result<Vec<&'k [u8]>, Fault>
     ensures { EqualOrMemory (λ keys. map (λ key. key.now) keys.items) result (Ok (flat_map (λ list. list) lists.now)) }
 {
@@ -48,9 +48,9 @@ pub(crate) fn lent_keys<'k>(alloc: Global, lists: &'k [KeyList]) -> Result<Vec<&
     Ok(keys)
 }
 
-/// The keys in order, each once. Refused for want of memory alone.
+/// The keys in order, each once. The only fault is Memory.
 ///
-/// The keys of each table are in order already, and a stable sort only merges what is.
+/// The keys of each table are in order already, so a stable sort has only to merge them.
 pub(crate) fn each_once<'k, C: Comparator>(mut keys: Vec<&'k [u8]>) -> Result<Vec<&'k [u8]>, Fault>
     ensures once { IfOk result (λ once. IsListOf C.cmp (Contains (map (λ key. key.now) keys.entry.items)) (map (λ key. key.now) once.items)) }
     ensures memory { IsOkUnless result (fault Memory) }
@@ -60,7 +60,7 @@ pub(crate) fn each_once<'k, C: Comparator>(mut keys: Vec<&'k [u8]>) -> Result<Ve
     Ok(keys)
 }
 
-/// The keys at the places of the boundaries, each once. Refused for want of memory alone.
+/// The keys at the places of the boundaries, each once. The only fault is Memory.
 pub(crate) fn at_places<C: Comparator>(
     alloc: Global,
     keys: &[&[u8]],
@@ -86,7 +86,7 @@ pub(crate) fn at_places<C: Comparator>(
     Ok(boundaries)
 }
 
-/// The place of boundary `number` among so many keys, where `want` ranges are wanted.
+/// The place of boundary `number` among `count` keys, if `want` ranges are wanted.
 fn place_of(number: u64, count: usize, want: u64) -> usize
     requires number { number < want }
     requires want { want ≤ 4096 }

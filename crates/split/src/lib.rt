@@ -1,7 +1,19 @@
 //! Ranges of user keys, cut at boundaries.
 //!
-//! A [`Split`] has boundaries, whole user keys that rise strictly by a comparator. k of them make k + 1 ranges: range i
-//! holds the user keys at or after boundary i - 1 and before boundary i, so each user key lies in exactly one range.
+//!         boundary 0     boundary 1              boundary k - 1
+//!     ------|--------------|-------- ... ----------|-----------
+//!     range 0    range 1      range 2                range k
+//!
+//! A [`Split`] has boundaries: user keys that rise strictly by a comparator. k of them make k + 1
+//! ranges. Range i holds the user keys at or after boundary i - 1 and before boundary i. So each
+//! user key lies in exactly one range.
+//!
+//! - [`Split::from_keys`] takes boundaries; [`Split::choose`] takes them from the indexes of
+//!   tables.
+//! - [`Split::len`] and [`Split::range`] answer the ranges.
+//! - [`one_choice`] is the law that `choose` has one answer.
+//!
+//! No contract says that the ranges of a choice have about as many bytes each.
 #![tactic(auto)]
 
 mod choosing;

@@ -22,7 +22,8 @@ pub const MAX_BOUNDARIES: usize = 4_095;
 /// The most ranges of a split.
 pub const MAX_RANGES: u64 = 4_096;
 
-/// A cutting of all user keys into ranges, seen as its boundaries: user keys that rise strictly, 4,095 at most.
+/// A cut of all user keys into ranges. Contracts see its boundaries: at most 4,095 user keys that
+/// rise strictly.
 #[derive(Drop)]
 pub struct Split<C: Comparator> {
     boundaries: Vec<Vec<u8>>,
@@ -41,8 +42,10 @@ impl<C: Comparator> Model for Split<C> {
 }
 
 impl<C: Comparator> Split<C> {
-    /// The split at these boundaries. `SplitCount` where there are more than 4,095, and else `SplitOrder` where they
-    /// don't rise strictly. Takes no memory.
+    /// The split at these boundaries. Takes no memory. The first test that fails names the fault:
+    ///
+    /// 1. SplitCount: there are more than 4,095.
+    /// 2. SplitOrder: they don't rise strictly.
     pub fn from_keys(keys: Vec<Vec<u8>>) -> Result<Split<C>, Fault>
         ensures accepted { IsOk result ↔ IsSplit C.cmp (map (λ key. key.items) keys.items) }
         ensures boundaries { IfOk result (λ split. split ≡ map (λ key. key.items) keys.items) }
@@ -61,12 +64,16 @@ impl<C: Comparator> Split<C> {
         })
     }
 
-    /// The split of the user keys of these tables' index entries into at most `want` ranges. Of the m keys of all of them,
-    /// each once and in order, its boundaries are those at the places `j * m / want`, rounded down, for j from 1 to
-    /// `want - 1`, each place once; where there are no keys there is no boundary. `SplitCount` where `want` is not from
-    /// 1 to 4,096.
+    /// A split into at most `want` ranges, at user keys of the tables' indexes.
     ///
-    /// Else refused for want of memory alone.
+    /// The goal is ranges of about equal size, and an index has one key for each data block. Take
+    /// the user keys of all index entries, each once and in order; there are m. The boundaries are
+    /// those at the places `j * m / want`, rounded down, for j from 1 to `want - 1`, each place
+    /// once. If m is 0, there is no boundary.
+    ///
+    /// Example: of a, b, c and d, 2 ranges are cut at c. 8 are cut at all four keys, and 1 at none.
+    ///
+    /// Faults: SplitCount exactly if `want` is outside 1 to 4,096; otherwise Memory alone.
     pub fn choose(alloc: Global, tables: &[SoundTable<'_, C>], want: u64) -> Result<Split<C>, Fault>
         ensures wanted { (result ≡ Err (fault SplitCount)) ↔ ((want ≡ 0) ⊎ (4096 < want)) }
         ensures chosen { IfOk result (λ split. IsChoice C.cmp (index_users_of tables.now) want split) }
@@ -84,7 +91,7 @@ impl<C: Comparator> Split<C> {
         })
     }
 
-    /// The number of ranges, one more than there are boundaries. Takes no memory.
+    /// The number of ranges: one more than there are boundaries. Takes no memory.
     pub fn len(&self) -> u64
         ensures number { result ≡ length self.now + 1 }
         ensures split { IsSplit C.cmp self.now }
@@ -92,8 +99,10 @@ impl<C: Comparator> Split<C> {
         self.boundaries.len() as u64 + 1
     }
 
-    /// The range of a number below `len`: from the boundary before it, where there is one, to before the boundary of its
-    /// number, where there is one. Together the ranges hold each user key once, in order. Takes no memory.
+    /// Range `number`, below `len`: from boundary `number - 1` to before boundary `number`. The
+    /// first range has no lower bound, and the last no upper one.
+    ///
+    /// The ranges together hold each user key once, in order. Takes no memory.
     pub fn range(&self, number: u64) -> Range<'_>
         requires { number < length self.now + 1 }
         ensures bounds { key_range result ≡ range_at self.now number }
@@ -118,7 +127,7 @@ fn is_rising<C: Comparator>(keys: &[Vec<u8>]) -> bool
     keys.is_sorted_by(|key, next| C::compare(key, next).is_lt())
 }
 
-/// The key at a place, where there is one.
+/// The key at `place`; None if there is none.
 fn key_at(keys: &[Vec<u8>], place: usize) -> Option<&[u8]>
     ensures { option_map (λ key. key.now) result ≡ slice_get (map (λ key. key.items) keys.now) place }
 {

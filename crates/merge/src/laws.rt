@@ -11,8 +11,8 @@ pub fn merge_law<C: Comparator>()
     ensures { MergeLaw C.cmp }
 {}
 
-/// The law that a list is the union of inputs exactly if it is their sorted merge and rises strictly,
-/// by user key and then falling sequence. A call does nothing.
+/// The law that a list is the union of inputs exactly if it is their sorted merge and rises
+/// strictly, by user key and then falling sequence. A call does nothing.
 pub fn union_law<C: Comparator>()
     ensures { UnionLaw C.cmp }
 {}

@@ -1,4 +1,4 @@
--- Which files of a level are chosen before boundary files are, as the code tells them.
+-- Which files of a level the code chooses before boundary files are added.
 use Rattle.std.specs.Prelude.{◌≡◌, ℕ, ◌<◌, nat_eq, nat_lt, Bool, true, ◌||◌, ◌&&◌, not, if◌then◌else◌, List, [], ◌∷◌, filter, length, Option, Result, Ok, MatchBool, IsOkAnd}
 use Rattle.std.specs.List.{AllByRecursion}
 use Rattle.std.specs.declared.cmp.Ordering.{Ordering}
@@ -16,15 +16,15 @@ use Rattle.pick.specs.declared.choice.Choice.{Choice}
 use Rattle.pick.specs.declared.choice.Choice.TheVariants.{First, Around, Overlapping}
 use Rattle.pick.specs.declared.range.UserRange.{UserRange}
 
--- whether the range of a file overlaps that of user keys
+-- whether the range of a file overlaps this one
 abbrev pub is_in : (List ℕ → List ℕ → Ordering) → UserRange → FileMeta → Bool
 is_in cmp range f = is_overlapping cmp range.smallest.now range.largest.now f
 
--- whether the range of user keys would grow by a file that overlaps it
+-- whether a file overlaps the range and would widen it
 abbrev pub is_widening : (List ℕ → List ℕ → Ordering) → UserRange → FileMeta → Bool
 is_widening cmp range f = is_in cmp range f && not (is_covering cmp range.smallest.now range.largest.now f)
 
--- the range of the files begins at the one user key or before it, and ends at the other or behind it
+-- the range of the files begins at or before `smallest`, and ends at or after `largest`
 pub record Reaches (cmp : List ℕ → List ℕ → Ordering) (files : List FileMeta) (smallest largest : List ℕ) : Type 0 where
   pub begins : begins_by cmp files smallest ≡ true
   pub ends : ends_from cmp files largest ≡ true
@@ -35,14 +35,16 @@ is_chosen cmp (First number) f = nat_eq f.number number
 is_chosen cmp (Around number range) f = nat_eq f.number number || is_in cmp range f
 is_chosen cmp (Overlapping range) f = is_in cmp range f
 
--- The user keys of a first file, grown over the files as little as can be: they hold those of the first file, no file is
--- left by which they would grow, and the range of each closed set reaches as far that has the first file's.
+-- The range of a first file, widened as little as can be. It covers the first file's, and no file
+-- would widen it. Each closed set of files that reaches as far as the first file reaches as far as
+-- this range.
 pub record IsGrown (cmp : List ℕ → List ℕ → Ordering) (files : List FileMeta) (first : FileMeta) (smallest largest : List ℕ) : Type 0 where
   pub with_first : is_covering cmp smallest largest first ≡ true
   pub rests : AllByRecursion (λ (f : FileMeta). is_overlapping cmp smallest largest f ≡ true → is_covering cmp smallest largest f ≡ true) files
   pub least : (other : FileMeta → Bool) → IsOverlapClosed cmp files other → Reaches cmp (filter other files) (user_of first.smallest) (user_of first.largest) → Reaches cmp (filter other files) smallest largest
 
--- the files that pass the test and those that go on within the largest key so far, in one pass
+-- The files that pass the test and their boundary files, in one pass: each that goes on within the
+-- largest key so far is added.
 abbrev pub boundary_pass : (List ℕ → List ℕ → Ordering) → (FileMeta → Bool) → Option (List ℕ) → List FileMeta → List FileMeta
 boundary_pass cmp test key [] = []
 boundary_pass cmp test key (f ∷ files) =
@@ -52,11 +54,11 @@ boundary_pass cmp test key (f ∷ files) =
     then f ∷ boundary_pass cmp test (with_largest cmp key f) files
     else boundary_pass cmp test key files
 
--- the files that pass the test and their boundary files
+-- the files that pass the test, and their boundary files
 abbrev pub with_boundary_files : (List ℕ → List ℕ → Ordering) → (FileMeta → Bool) → List FileMeta → List FileMeta
 with_boundary_files cmp test files = boundary_pass cmp test (largest_key cmp (filter test files)) files
 
--- the inputs of the level itself, and none where the level has no file
+-- the inputs of the compaction's own level; none if it has no file
 abbrev pub IsUpperAnswer : (List ℕ → List ℕ → Ordering) → State → ℕ → Result (List FileMeta) Fault → Type 0
 IsUpperAnswer cmp v level answer =
     MatchBool (nat_lt 0 (length (level_files cmp v level)))

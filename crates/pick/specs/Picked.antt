@@ -14,7 +14,7 @@ use Rattle.pick.specs.Boundaries.{largest_key, AreWithBoundaries}
 use Rattle.pick.specs.declared.picked.InputFile.{InputFile}
 use Rattle.pick.specs.declared.picked.Inputs.{Inputs}
 
--- the inputs, without where they lie in memory
+-- inputs as contracts see them
 pub record Picked : Type 0 where
   pub level : ℕ
   pub files : List InputFile
@@ -22,7 +22,7 @@ pub record Picked : Type 0 where
   pub deeper : List FileMeta
   pub pointer : CompactPointer
 
--- inputs of the code
+-- the inputs of the code
 abbrev pub picked_in : Inputs → Picked
 picked_in i = record {
   level = i.level;
@@ -41,11 +41,12 @@ unfoldable pub files_from : (List ℕ → List ℕ → Ordering) → State → �
 files_from cmp v level zero = []
 files_from cmp v level (suc n) = level_files cmp v level ++ files_from cmp v (level + 1) n
 
--- the files of the level two below whose user-key range overlaps that of all inputs, and none where that level exceeds 6
+-- The grandparents: the files of level + 2 whose range overlaps that of all inputs. There are none
+-- if level + 2 exceeds 6.
 abbrev pub grandparents_of : (List ℕ → List ℕ → Ordering) → State → ℕ → List FileMeta → List FileMeta
 grandparents_of cmp v level all = if nat_lt 6 (level + 2) then [] else filter (overlaps cmp all) (level_files cmp v (level + 2))
 
--- The inputs of the level itself: the first file by the compact pointer, what is chosen with it, and the boundary files.
+-- The inputs of the level itself: the first file, what is chosen with it, and the boundary files.
 pub record AreUpper (cmp : List ℕ → List ℕ → Ordering) (v : State) (level : ℕ) (upper : List FileMeta) : Type 0 where
   pub first : FileMeta
   pub is_first : first_file cmp (pointer_of v level) (level_files cmp v level) ≡ Some first
@@ -53,15 +54,16 @@ pub record AreUpper (cmp : List ℕ → List ℕ → Ordering) (v : State) (leve
   pub are_chosen : AreChosen cmp level (level_files cmp v level) first chosen
   pub with_boundaries : AreWithBoundaries cmp (level_files cmp v level) chosen upper
 
--- The inputs of the level below: the files whose user-key range overlaps that of the upper inputs, and their boundary
--- files.
+-- The inputs of level + 1: the files whose range overlaps that of the inputs above, and their
+-- boundary files.
 abbrev pub AreLower : (List ℕ → List ℕ → Ordering) → State → ℕ → List FileMeta → List FileMeta → Type 0
 AreLower cmp v level upper lower =
     AreWithBoundaries cmp (level_files cmp v level) (filter (overlaps cmp upper) (level_files cmp v level)) lower
 
--- The inputs of a compaction of a level: its own inputs, then those of the level below; the files of the level below that
--- which overlap them, the files of all levels from there on, and the largest key of its own inputs as its new compact
--- pointer.
+-- The inputs of a compaction:
+-- - its files of the level, then those of level + 1;
+-- - the grandparents, and all files from level + 2 on;
+-- - as new compact pointer, the largest key of its files of the level.
 pub record IsPicked (cmp : List ℕ → List ℕ → Ordering) (v : State) (level : ℕ) (p : Picked) : Type 0 where
   pub upper : List FileMeta
   pub are_upper : AreUpper cmp v level upper
@@ -74,7 +76,7 @@ pub record IsPicked (cmp : List ℕ → List ℕ → Ordering) (v : State) (leve
   pub pointer_level : p.pointer.level ≡ level
   pub pointer_key : largest_key cmp upper ≡ Some p.pointer.key
 
--- The answer on a level of a version: Level where the level is above 5, else NoInput where it has no file, else its inputs.
+-- The answer for a level: Level if it is above 5; else NoInput if it has no file; else its inputs.
 abbrev pub IsInputsAnswer : (List ℕ → List ℕ → Ordering) → State → ℕ → Result Picked Fault → Type 0
 IsInputsAnswer cmp v level answer =
     MatchBool (nat_lt 5 level) (answer ≡ Err (fault Level))
@@ -82,6 +84,6 @@ IsInputsAnswer cmp v level answer =
     (IsOkAnd answer (IsPicked cmp v level))
     (answer ≡ Err (fault NoInput)))
 
--- a level of a version has no two choices of inputs
+-- a level of a version has at most one choice of inputs
 abbrev pub HasOneChoice : (List ℕ → List ℕ → Ordering) → Type 0
 HasOneChoice cmp = (v : State) (level : ℕ) (p q : Picked) → IsPicked cmp v level p → IsPicked cmp v level q → p ≡ q

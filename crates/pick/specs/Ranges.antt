@@ -1,4 +1,5 @@
--- User-key ranges of files: from the user key of the smallest key to that of the largest.
+-- Ranges of user keys: that of a file goes from the user key of its smallest key to that of its
+-- largest.
 use Rattle.std.specs.Prelude.{ℕ, Bool, not, ◌&&◌, List}
 use Rattle.std.specs.List.{list_any}
 use Rattle.std.specs.Ordering.{is_le}
@@ -10,15 +11,16 @@ use Rattle.edit.specs.declared.meta.FileMeta.{FileMeta}
 abbrev pub is_at_most : (List ℕ → List ℕ → Ordering) → List ℕ → List ℕ → Bool
 is_at_most cmp a b = is_le (cmp a b)
 
--- whether the range of the files begins at the user key or before it: that of some file does
+-- whether the range of the files begins at or before the user key: some file's does
 abbrev pub begins_by : (List ℕ → List ℕ → Ordering) → List FileMeta → List ℕ → Bool
 begins_by cmp files user = list_any (λ (f : FileMeta). is_at_most cmp (user_of f.smallest) user) files
 
--- whether the range of the files ends at the user key or behind it: that of some file does
+-- whether the range of the files ends at or after the user key: some file's does
 abbrev pub ends_from : (List ℕ → List ℕ → Ordering) → List FileMeta → List ℕ → Bool
 ends_from cmp files user = list_any (λ (f : FileMeta). is_at_most cmp user (user_of f.largest)) files
 
--- whether the range of a file overlaps that of the files, which is from the least of their user keys to the greatest
+-- Whether the range of a file overlaps that of the files, which goes from the least of their user
+-- keys to the greatest.
 abbrev pub overlaps : (List ℕ → List ℕ → Ordering) → List FileMeta → FileMeta → Bool
 overlaps cmp files f = begins_by cmp files (user_of f.largest) && ends_from cmp files (user_of f.smallest)
 
@@ -26,6 +28,6 @@ overlaps cmp files f = begins_by cmp files (user_of f.largest) && ends_from cmp 
 abbrev pub holds_user : (List ℕ → List ℕ → Ordering) → List ℕ → FileMeta → Bool
 holds_user cmp user f = is_at_most cmp (user_of f.smallest) user && is_at_most cmp user (user_of f.largest)
 
--- whether no file's range holds the user key
+-- whether no file's range holds the user key: it is at its base
 abbrev pub is_in_none : (List ℕ → List ℕ → Ordering) → List FileMeta → List ℕ → Bool
 is_in_none cmp files user = not (list_any (holds_user cmp user) files)

@@ -1,4 +1,4 @@
--- The range of user keys from a smallest to a largest one, as it grows over files.
+-- A range of user keys, as it widens over files.
 use Rattle.std.specs.Prelude.{ℕ, Bool, ◌&&◌, if◌then◌else◌, List, fold}
 use Rattle.std.specs.Ordering.{is_lt}
 use Rattle.std.specs.declared.cmp.Ordering.{Ordering}
@@ -22,10 +22,10 @@ least_user cmp user files = fold (λ least (f : FileMeta). lesser_user cmp least
 abbrev pub greatest_user : (List ℕ → List ℕ → Ordering) → List ℕ → List FileMeta → List ℕ
 greatest_user cmp user files = fold (λ greatest (f : FileMeta). greater_user cmp greatest (user_of f.largest)) user files
 
--- whether the range of a file overlaps that from a smallest to a largest user key
+-- whether the range of a file overlaps the one from smallest to largest
 abbrev pub is_overlapping : (List ℕ → List ℕ → Ordering) → List ℕ → List ℕ → FileMeta → Bool
 is_overlapping cmp smallest largest f = is_at_most cmp smallest (user_of f.largest) && is_at_most cmp (user_of f.smallest) largest
 
--- whether the range of a file lies in that from a smallest to a largest user key
+-- whether the range from smallest to largest covers that of a file
 abbrev pub is_covering : (List ℕ → List ℕ → Ordering) → List ℕ → List ℕ → FileMeta → Bool
 is_covering cmp smallest largest f = is_at_most cmp smallest (user_of f.smallest) && is_at_most cmp (user_of f.largest) largest

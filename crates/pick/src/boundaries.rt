@@ -1,4 +1,8 @@
-//! Boundary files.
+//! Boundary files: those that go on within the user key with which the chosen files end.
+//!
+//! Why they are taken: say level 1 has a file that ends with `u` at 10 and one that begins with `u`
+//! at 5. If the first moved down alone, a get of `u` would find the older entry above the newer
+//! one.
 
 ghost use Rattle.std.specs.Prelude.{◌≡◌, Ok, Some, map, filter, fold};
 ghost use Rattle.std.specs.Option.{option_copied};
@@ -12,7 +16,7 @@ use edit::FileMeta;
 use ikey::{Comparator, KeyBuf};
 use std::alloc::Global;
 
-/// The greater of two keys.
+/// The greater of two internal keys.
 fn greater_of<'a, C: Comparator>(a: &'a KeyBuf, b: &'a KeyBuf) -> &'a KeyBuf
     ensures { result.now ≡ greater_key C.cmp a.now b.now }
 {
@@ -23,7 +27,7 @@ fn greater_of<'a, C: Comparator>(a: &'a KeyBuf, b: &'a KeyBuf) -> &'a KeyBuf
     }
 }
 
-/// The greatest key so far, with the largest key of one file more.
+/// The greatest key so far, after one more file with its largest key.
 fn largest_with<'a, C: Comparator>(
     key: Option<&'a KeyBuf>,
     file: &'a FileMeta,
@@ -36,7 +40,7 @@ fn largest_with<'a, C: Comparator>(
     }
 }
 
-/// The greatest of the files' largest keys, where there is a file.
+/// The greatest of the files' largest keys; None if there is no file.
 pub(crate) fn largest_of<'a, C: Comparator>(files: &[&'a FileMeta]) -> Option<&'a KeyBuf>
     ensures { option_copied result ≡ largest_key C.cmp (map (λ f. f.now) files.now) }
 {
@@ -47,7 +51,7 @@ pub(crate) fn largest_of<'a, C: Comparator>(files: &[&'a FileMeta]) -> Option<&'
     largest
 }
 
-/// The greatest of the largest keys of those files that are chosen, where there is one.
+/// The greatest of the largest keys of the files that are chosen; None if none is.
 fn largest_chosen<'a, C: Comparator>(
     files: &[&'a FileMeta],
     choice: Choice<'_>,
@@ -64,7 +68,8 @@ fn largest_chosen<'a, C: Comparator>(
     largest
 }
 
-/// Whether a file goes on within the user key of a largest key: its smallest key is greater and has that user key.
+/// Whether `file` goes on within the user key of `key`: its smallest key is greater than `key` and
+/// has that user key.
 fn goes_on<C: Comparator>(key: Option<&KeyBuf>, file: &FileMeta) -> bool
     ensures { result ≡ is_going_on C.cmp (option_copied key.entry) file.now }
 {
@@ -76,7 +81,7 @@ fn goes_on<C: Comparator>(key: Option<&KeyBuf>, file: &FileMeta) -> bool
         && C::compare(key.as_key().user(), smallest.user()).is_eq()
 }
 
-/// The files that are chosen, and their boundary files, in the order of the files. Refused for want of memory alone.
+/// The chosen files and their boundary files, in the order of `files`. The only fault is Memory.
 pub(crate) fn with_boundaries<'a, C: Comparator>(
     alloc: Global,
     files: &[&'a FileMeta],

@@ -1,4 +1,4 @@
-//! The files of a level that are chosen before boundary files are.
+//! The files of a level that are chosen before boundary files are added.
 
 ghost use Rattle.std.specs.Prelude.{◌≡◌, map, find};
 ghost use Rattle.std.specs.Option.{option_copied};
@@ -11,19 +11,19 @@ use crate::range::UserRange;
 use edit::FileMeta;
 use ikey::{Comparator, KeyBuf};
 
-/// Which files of a level are chosen before boundary files are.
+/// Which files of a level are chosen before boundary files are added.
 #[derive(Clone, Copy)]
 pub(crate) enum Choice<'a> {
     /// The file of this number.
     First(u64),
-    /// The file of this number, and those whose user keys overlap the range.
+    /// The file of this number, and those whose range of user keys overlaps this one.
     Around(u64, UserRange<'a>),
-    /// The files whose user keys overlap the range.
+    /// The files whose range of user keys overlaps this one.
     Overlapping(UserRange<'a>),
 }
 
 impl<'a> Choice<'a> {
-    /// Whether a file is chosen.
+    /// Whether `file` is chosen.
     pub fn chooses<C: Comparator>(self, file: &FileMeta) -> bool
         ensures { result ≡ is_chosen C.cmp self.entry file.now }
     {
@@ -35,8 +35,8 @@ impl<'a> Choice<'a> {
     }
 }
 
-/// The first file whose largest key is greater than the pointer. Without a pointer, or where none is greater, it is the
-/// first file.
+/// The first file whose largest key is greater than `pointer`. It is the first of all if there is
+/// no pointer or none is greater; None if there is no file.
 pub(crate) fn first_file<'a, C: Comparator>(
     files: &[&'a FileMeta],
     pointer: Option<&KeyBuf>,
@@ -50,7 +50,7 @@ pub(crate) fn first_file<'a, C: Comparator>(
     }
 }
 
-/// The first file whose largest key is greater than the pointer.
+/// The first file whose largest key is greater than `pointer`; None if there is none.
 fn first_above<'a, C: Comparator>(files: &[&'a FileMeta], pointer: &KeyBuf) -> Option<&'a FileMeta>
     ensures { option_copied result
         ≡ find (λ f. is_lt (internal_cmp C.cmp pointer.now f.largest)) (map (λ f. f.now) files.now) }
@@ -67,7 +67,7 @@ fn first_above<'a, C: Comparator>(files: &[&'a FileMeta], pointer: &KeyBuf) -> O
     None
 }
 
-/// The first file that overlaps the range and doesn't lie in it.
+/// The first file that overlaps `range` and isn't covered by it; None if there is none.
 fn first_widening<'a, C: Comparator>(
     files: &[&'a FileMeta],
     range: UserRange<'_>,
@@ -82,7 +82,8 @@ fn first_widening<'a, C: Comparator>(
     None
 }
 
-/// The user keys of the first file, grown by each file that overlaps them until none is left by which they would grow.
+/// The range of user keys of `first`, widened by each file that overlaps it, until no file widens
+/// it.
 pub(crate) fn grown_range<'a, C: Comparator>(
     files: &[&'a FileMeta],
     first: &'a FileMeta,

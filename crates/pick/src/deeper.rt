@@ -1,4 +1,4 @@
-//! Copies of files for the inputs.
+//! Copies of files for the inputs, the grandparents and the deeper files.
 
 ghost use Rattle.std.specs.Prelude.{◌≡◌, ◌≤◌, ◌+◌, ◌-◌, ◌++◌, Ok, [], nat_lt, if◌then◌else◌, map, filter, OnOk, IfErr};
 ghost use Rattle.coding.specs.Answers.{EqualOrMemory, fault};
@@ -17,7 +17,7 @@ use std::alloc::Global;
 /// The greatest level.
 const LAST_LEVEL: u64 = 6;
 
-/// Appends copies of the files, as inputs of a level.
+/// Appends copies of `files` as inputs of `level`. The only fault is Memory.
 pub(crate) fn push_inputs(
     alloc: Global,
     inputs: &mut Vec<InputFile>,
@@ -34,7 +34,7 @@ pub(crate) fn push_inputs(
     Ok(())
 }
 
-/// Appends copies of the files.
+/// Appends copies of `files`. The only fault is Memory.
 fn push_copies(alloc: Global, copies: &mut Vec<FileMeta>, files: &[&FileMeta]) -> Result<(), Fault>
     ensures ok { OnOk result (copies.new.items ≡ copies.old.items ++ map (λ f. f.now) files.now) }
     ensures memory { IfErr result (λ e. e ≡ fault Memory) }
@@ -45,7 +45,8 @@ fn push_copies(alloc: Global, copies: &mut Vec<FileMeta>, files: &[&FileMeta]) -
     Ok(())
 }
 
-/// Copies of the files of a level whose user keys overlap the range, in version order. Refused for want of memory alone.
+/// Copies of the files of `level` whose user keys overlap `range`, in version order. The only fault
+/// is Memory.
 fn overlapping<C: Comparator>(
     alloc: Global,
     version: &Version,
@@ -66,7 +67,8 @@ fn overlapping<C: Comparator>(
     Ok(found)
 }
 
-/// Copies of the files of the levels from this one on, by level and in version order. Refused for want of memory alone.
+/// Copies of the files of the levels from `from` to 6, by level and in version order. The only
+/// fault is Memory.
 pub(crate) fn deeper_files<C: Comparator>(
     alloc: Global,
     version: &Version,
@@ -82,8 +84,8 @@ pub(crate) fn deeper_files<C: Comparator>(
     Ok(deeper)
 }
 
-/// Copies of the grandparents of a compaction, where its inputs are of these user keys: the files of the level whose user
-/// keys overlap the range, and none where the level exceeds 6. Refused for want of memory alone.
+/// Copies of the grandparents: the files of `level`, two below the compaction's, whose user keys
+/// overlap `range`, that of all inputs. None if `level` exceeds 6. The only fault is Memory.
 pub(crate) fn grandparents<C: Comparator>(
     alloc: Global,
     version: &Version,

@@ -4,7 +4,7 @@ ghost use Rattle.pick.specs.Picked.{HasOneChoice};
 
 use ikey::Comparator;
 
-/// The law that a level of a version has one choice of inputs at most. A call does nothing.
+/// The law that a level of a version has at most one choice of inputs. A call does nothing.
 pub fn one_choice<C: Comparator>()
     ensures { HasOneChoice C.cmp }
 {}

@@ -1,8 +1,18 @@
 //! Which files a compaction takes.
 //!
-//! A compaction of a level takes files of that level and of the one below it: a first file by the level's compact
-//! pointer, at level 0 all files whose user keys overlap those chosen, the files below that overlap them, and at both
-//! levels the boundary files, which go on within the user key with which the chosen files end.
+//! A compaction of a level takes files of that level and of the next one:
+//!
+//! 1. The first file, by the level's compact pointer.
+//! 2. At level 0, each file whose range of user keys overlaps those chosen, until there is none
+//!    more.
+//! 3. Boundary files: those that go on within the user key with which the chosen files end.
+//! 4. The files of the next level that overlap all of these, and their boundary files.
+//!
+//! [`inputs`] makes the choice. It also answers the grandparents, all deeper files, and the new
+//! compact pointer. [`is_base`] tells whether a deeper file may have a user key. [`one_choice`] is
+//! the law that a level of a version has one choice.
+//!
+//! The caller names the level: which level needs a compaction isn't asked here.
 #![tactic(auto)]
 
 mod boundaries;

@@ -7,31 +7,34 @@ use crate::range::holds_user;
 use edit::{CompactPointer, FileMeta};
 use ikey::Comparator;
 
-/// A file that a compaction takes, and its level.
+/// An input of a compaction: a file and its level.
 #[derive(Drop)]
 pub struct InputFile {
-    /// The level of the compaction, or the one below it.
+    /// The level of the compaction, or the next one.
     pub level: u64,
     /// The file.
     pub meta: FileMeta,
 }
 
-/// What a compaction of a level takes, and what it has to know of the levels below.
+/// The inputs of a compaction, and what it has to know of deeper levels.
 #[derive(Drop)]
 pub struct Inputs {
-    /// The level, from 0 to 5.
+    /// The level of the compaction, from 0 to 5.
     pub level: u64,
-    /// The files of the level in version order, then those of the level below.
+    /// The inputs: files of the level in version order, then those of the next level.
     pub files: Vec<InputFile>,
-    /// The files of the level two below whose user keys overlap those of the inputs, in version order.
+    /// The grandparents: files of the level after that, whose range of user keys overlaps that of
+    /// all inputs, in version order.
     pub grandparents: Vec<FileMeta>,
-    /// The files of the levels from two below to 6, by level and in version order.
+    /// All files of the levels from `level` + 2 to 6, by level and in version order.
     pub deeper: Vec<FileMeta>,
-    /// The level's new compact pointer, as it goes into the edit.
+    /// The level's new compact pointer, as the edit sets it: the greatest key of the level's
+    /// inputs.
     pub pointer: CompactPointer,
 }
 
-/// Whether no file of the deeper levels has a user-key range that holds the user key. Takes no memory.
+/// Whether a user key is at its base: no deeper file's range of user keys holds it. Takes no
+/// memory.
 pub fn is_base<C: Comparator>(inputs: &Inputs, user_key: &[u8]) -> bool
     ensures { result ≡ is_in_none C.cmp inputs.now.deeper.items user_key.now }
 {

@@ -20,19 +20,22 @@ use std::alloc::Global;
 /// The greatest level of a compaction.
 const LAST_INPUT_LEVEL: u64 = 5;
 
-/// What a compaction of a level of a version takes.
+/// The inputs of a compaction of `level`.
 ///
-/// The inputs of the level itself are the first file whose largest key is greater than the level's compact pointer, or the
-/// first file; at level 0 with it each file whose user keys overlap those of the chosen ones, until there is none; and
-/// their boundary files: while some file of the level that isn't chosen begins behind the greatest key of those chosen
-/// and with the same user key, the least such file. The inputs of the level below are the files whose user keys overlap
-/// those of the former, and their boundary files.
+/// 1. The first file in version order whose largest key is greater than the level's compact
+///    pointer. It is the first of all if there is no pointer or none is greater.
+/// 2. At level 0 also each file whose user keys overlap those of the chosen ones, until there is
+///    none more.
+/// 3. Boundary files of the level: while some file that isn't chosen begins after the greatest
+///    chosen key and with its user key, the first such file.
+/// 4. Of level + 1, the files whose user keys overlap those of the inputs so far, and their
+///    boundary files.
 ///
-/// `Level` where the level is above 5, else `NoInput` where the level has no file. Else refused for want of memory
-/// alone.
+/// Faults: Level if `level` is above 5; else NoInput if it has no file; else Memory alone.
 pub fn inputs<C: Comparator>(alloc: Global, version: &Version, level: u64) -> Result<Inputs, Fault>
     ensures picked { HoldsOrMemory picked_in result (IsInputsAnswer C.cmp version.now level) }
-    // What holds of each version: the levels of its files are from 0 to 6.
+    // What holds of each version: files rise by number, pointers by level, and levels are from 0 to
+    // 6.
     ensures state { OnOk result (IsState version.now.pointers version.now.files) }
 {
     if level > LAST_INPUT_LEVEL {
@@ -55,7 +58,7 @@ pub fn inputs<C: Comparator>(alloc: Global, version: &Version, level: u64) -> Re
     )
 }
 
-/// Copies of the inputs of a level and of those of the level below. Refused for want of memory alone.
+/// Copies of the inputs of `level` and then those of the next one. The only fault is Memory.
 fn files_of(
     alloc: Global,
     level: u64,
@@ -72,8 +75,8 @@ fn files_of(
     Ok(files)
 }
 
-/// What a compaction takes, by its files, the range of their user keys and the largest key of those of the level itself.
-/// Refused for want of memory alone.
+/// The inputs with grandparents, deeper files and the new compact pointer. `range` is that of all
+/// inputs, and `largest` the greatest key of the level's own. The only fault is Memory.
 fn picked<C: Comparator>(
     alloc: Global,
     version: &Version,

@@ -9,7 +9,7 @@ use edit::FileMeta;
 use ikey::Comparator;
 use std::cmp::Ordering;
 
-/// The user keys from a smallest to a largest one.
+/// The user keys from `smallest` to `largest`, both included.
 #[derive(Clone, Copy)]
 pub(crate) struct UserRange<'a> {
     /// The first user key.
@@ -19,7 +19,7 @@ pub(crate) struct UserRange<'a> {
 }
 
 impl<'a> UserRange<'a> {
-    /// The user keys of a file.
+    /// The range of user keys of a file.
     pub fn of(file: &'a FileMeta) -> UserRange<'a>
         ensures smallest { result.smallest.now ≡ user_of file.now.smallest }
         ensures largest { result.largest.now ≡ user_of file.now.largest }
@@ -30,7 +30,7 @@ impl<'a> UserRange<'a> {
         }
     }
 
-    /// The range, made so wide that the user keys of a file lie in it.
+    /// The range, widened to cover a file's.
     pub fn with<C: Comparator>(self, file: &'a FileMeta) -> UserRange<'a>
         ensures smallest { result.smallest.now ≡ lesser_user C.cmp self.entry.smallest.now (user_of file.now.smallest) }
         ensures largest { result.largest.now ≡ greater_user C.cmp self.entry.largest.now (user_of file.now.largest) }
@@ -47,7 +47,7 @@ impl<'a> UserRange<'a> {
         UserRange { smallest, largest }
     }
 
-    /// The range, made so wide that the user keys of the files lie in it.
+    /// The range, widened to cover that of each file.
     pub fn over<C: Comparator>(self, files: &[&'a FileMeta]) -> UserRange<'a>
         ensures smallest { result.smallest.now ≡ least_user C.cmp self.entry.smallest.now (map (λ f. f.now) files.now) }
         ensures largest { result.largest.now ≡ greatest_user C.cmp self.entry.largest.now (map (λ f. f.now) files.now) }
@@ -59,7 +59,7 @@ impl<'a> UserRange<'a> {
         range
     }
 
-    /// Whether the user keys of a file overlap the range.
+    /// Whether the range of a file overlaps this one.
     pub fn overlaps<C: Comparator>(self, file: &FileMeta) -> bool
         ensures { result ≡ is_overlapping C.cmp self.entry.smallest.now self.entry.largest.now file.now }
     {
@@ -67,7 +67,7 @@ impl<'a> UserRange<'a> {
             && C::compare(file.smallest.as_key().user(), self.largest).is_le()
     }
 
-    /// Whether the user keys of a file lie in the range.
+    /// Whether this range covers that of a file.
     pub fn covers<C: Comparator>(self, file: &FileMeta) -> bool
         ensures { result ≡ is_covering C.cmp self.entry.smallest.now self.entry.largest.now file.now }
     {
@@ -76,7 +76,7 @@ impl<'a> UserRange<'a> {
     }
 }
 
-/// Whether the user keys of a file hold the user key.
+/// Whether the range of a file holds `user_key`.
 pub(crate) fn holds_user<C: Comparator>(file: &FileMeta, user_key: &[u8]) -> bool
     ensures { result ≡ is_holding C.cmp user_key.now file.now }
 {

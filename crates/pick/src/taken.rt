@@ -1,4 +1,4 @@
-//! The files of a level that a compaction takes.
+//! The inputs of one level.
 
 ghost use Rattle.std.specs.Prelude.{◌≤◌, map, filter, IsOkAnd};
 ghost use Rattle.coding.specs.Answers.{HoldsOrMemory};
@@ -15,8 +15,8 @@ use edit::{FileMeta, Version};
 use ikey::Comparator;
 use std::alloc::Global;
 
-/// The inputs of the level of a compaction itself: none exactly where the level has no file. Refused for want of
-/// memory alone.
+/// The inputs of the compaction's own level; none exactly if it has no file. The only fault is
+/// Memory.
 pub(crate) fn upper_files<C: Comparator>(
     alloc: Global,
     version: &Version,
@@ -36,7 +36,8 @@ pub(crate) fn upper_files<C: Comparator>(
     with_boundaries::<C>(alloc, &files, choice)
 }
 
-/// The inputs of the level below, where those of the level itself are of these user keys. Refused for want of memory alone.
+/// The inputs of `level`, the one after the compaction's own, if `range` is that of the inputs
+/// above. The only fault is Memory.
 pub(crate) fn lower_files<'a, C: Comparator>(
     alloc: Global,
     version: &'a Version,

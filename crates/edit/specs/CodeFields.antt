@@ -1,4 +1,4 @@
--- What a lent field stands for.
+-- A field of the code as contracts see it.
 use Rattle.edit.specs.Field.{Field, SetComparator, SetLogNumber, SetPreviousLog, SetNextFile, SetLastSequence, SetPointer, DeleteFile, AddFile}
 use Rattle.edit.specs.declared.field.Field as lent
 use Rattle.edit.specs.declared.field.Field.TheVariants as lent_field
@@ -16,7 +16,7 @@ file_in f = record {
   meta = record { number = f.number; size = f.size; smallest = f.smallest.bytes.now; largest = f.largest.bytes.now };
 }
 
--- the field that a lent field is
+-- the field that a field of the code stands for
 abbrev pub field_in : lent.Field → Field
 field_in (lent_field.Comparator name) = SetComparator name.now
 field_in (lent_field.LogNumber number) = SetLogNumber number

@@ -1,4 +1,4 @@
--- Version edits: what their fields set, and their bytes.
+-- Version edits: what their fields set, their bytes, and which bytes are refused.
 use Rattle.std.specs.Prelude.{◌≡◌, ◌≢◌, ◌^◌, ℕ, ◌<◌, ◌≤◌, length, List, [], ◌∷◌, ◌++◌, map, fold, Option, Some, None, if◌then◌else◌}
 use Rattle.std.specs.List.{flat_map, AllByRecursion, All}
 use Rattle.std.specs.Option.{option_map, option_to_list, option_map_or, is_none, ForSome}
@@ -17,7 +17,7 @@ use Rattle.edit.specs.declared.meta.CompactPointer.{CompactPointer}
 use Rattle.edit.specs.declared.meta.DeletedFile.{DeletedFile}
 use Rattle.edit.specs.declared.version_edit.VersionEdit.{VersionEdit}
 
--- an edit, without where it lies in memory
+-- an edit as contracts see it
 pub record Edit : Type 0 where
   pub comparator : Option (List ℕ)
   pub log_number : Option ℕ
@@ -46,7 +46,8 @@ empty_edit = record {
   added = [];
 }
 
--- an edit with one field more: a name or a number replaces the one before, and deleted files are a set
+-- An edit after one more field: a name or a number replaces the earlier one, and deleted files are
+-- a set.
 abbrev pub with_field : Edit → Field → Edit
 with_field e (SetComparator name) = record e { comparator = Some name }
 with_field e (SetLogNumber number) = record e { log_number = Some number }
@@ -57,18 +58,19 @@ with_field e (SetPointer pointer) = record e { pointers = e.pointers ++ pointer 
 with_field e (DeleteFile file) = record e { deleted = insert_key deleted_cmp e.deleted file }
 with_field e (AddFile file) = record e { added = e.added ++ file ∷ [] }
 
--- what a list of fields sets
+-- the edit that a list of fields sets
 abbrev pub edit_from : List Field → Edit
 edit_from fields = fold with_field empty_edit fields
 
--- The bytes read as this edit: they are the spellings of some list of fields, joined, and the edit is what that list sets.
+-- The bytes read as this edit: they are the spellings of some fields, one after the other, and
+-- these fields set the edit.
 pub record IsEdit (bytes : List ℕ) (e : Edit) : Type 0 where
   pub fields : List Field
   pub lawful : AllByRecursion IsField fields
   pub spelled : bytes ≡ flat_map spelling fields
   pub sets : edit_from fields ≡ e
 
--- a field that may be left out
+-- a field that may be missing
 abbrev pub optional : {A : Type 0} → (A → Field) → Option A → List Field
 optional field o = map field (option_to_list o)
 
@@ -89,12 +91,14 @@ fields_of e = settings_of e ++ map SetPointer e.pointers ++ map DeleteFile e.del
 abbrev pub edit_bytes : Edit → List ℕ
 edit_bytes e = flat_map spelling (fields_of e)
 
--- which refusal it is, where no field begins the bytes: EditTag where a number that is no tag begins them
+-- The fault if no field is at the front of the bytes: EditTag if a number that is no tag is there,
+-- else EditField.
 abbrev pub field_fault : List ℕ → Fault
 field_fault bytes =
     option_map_or (λ tag. if is_none (listed_tag tag.0) then fault EditTag else fault EditField) (varint_reading (2 ^ 32) bytes) (fault EditField)
 
--- The bytes are refused with this fault: behind some fields there are bytes left that no field begins.
+-- The bytes are refused with this fault: after some fields there are bytes left that begin with no
+-- field.
 pub record IsRefused (bytes : List ℕ) (e : Fault) : Type 0 where
   pub read : List Field
   pub rest : List ℕ
@@ -104,7 +108,7 @@ pub record IsRefused (bytes : List ℕ) (e : Fault) : Type 0 where
   pub no_field : (field : Field) (behind : List ℕ) → IsField field → rest ≡ spelling field ++ behind → ⊥
   pub named : e ≡ field_fault rest
 
--- an edit of the code
+-- the edit of the code
 abbrev pub edit_in : VersionEdit → Edit
 edit_in e = record {
   comparator = option_map string_bytes e.comparator;
@@ -117,12 +121,12 @@ edit_in e = record {
   added = e.added.items;
 }
 
--- each level is one from 0 to 6
+-- each level is from 0 to 6
 pub record HasLevels (e : Edit) : Type 0 where
   pub pointers : All (λ (pointer : CompactPointer). pointer.level ≤ 6) e.pointers
   pub deleted : All (λ (file : DeletedFile). file.level ≤ 6) e.deleted
   pub added : All (λ (file : NewFile). file.level ≤ 6) e.added
 
--- the comparator's name, where there is one, has a length that is a varint below 2 ^ 32
+-- the comparator's name, if there is one, has fewer than 2 ^ 32 bytes
 abbrev pub HasShortName : Edit → Type 0
 HasShortName e = ForSome e.comparator (λ name. length name < 2 ^ 32)

@@ -1,4 +1,4 @@
--- The fields of a version edit, and their spelling: a tag, and behind it the field's content.
+-- The fields of a version edit, and their spelling: a tag, and then the field's content.
 use Rattle.std.specs.Prelude.{ℕ, ◌<◌, ◌≤◌, ◌^◌, List, ◌++◌, length, IsUtf8}
 use Rattle.coding.specs.Varint.{varint, length_prefixed}
 use Rattle.ikey.specs.Key.{IsInternalKey}
@@ -9,7 +9,7 @@ use Rattle.edit.specs.declared.meta.DeletedFile.{DeletedFile}
 use Rattle.edit.specs.declared.tag.Tag.{Tag}
 use Rattle.edit.specs.declared.tag.Tag.TheVariants.{Comparator, LogNumber, NextFile, LastSequence, Pointer, Deleted, Added, PreviousLog}
 
--- a field, by what it does to an edit
+-- a field, by what it changes in an edit
 pub data Field : Type 0 where
   SetComparator : List ℕ → Field
   SetLogNumber : ℕ → Field
@@ -31,7 +31,7 @@ tag_of (SetPointer pointer) = Pointer
 tag_of (DeleteFile file) = Deleted
 tag_of (AddFile file) = Added
 
--- the content of a field: levels, numbers and lengths are varints, and names and keys stand behind their length
+-- the content of a field: levels and numbers are varints, names and keys are length-prefixed
 abbrev pub content : Field → List ℕ
 content (SetComparator name) = length_prefixed name
 content (SetLogNumber number) = varint number
@@ -43,11 +43,11 @@ content (DeleteFile file) = varint file.level ++ varint file.number
 content (AddFile file) =
     varint file.level ++ (varint file.meta.number ++ (varint file.meta.size ++ (length_prefixed file.meta.smallest ++ length_prefixed file.meta.largest)))
 
--- a field as it stands in an edit's bytes
+-- a field's bytes: its tag, and then its content
 abbrev pub spelling : Field → List ℕ
 spelling field = varint (tag_number (tag_of field)) ++ content field
 
--- a field within its limits: a name is UTF-8, a level is at most 6, and a key is an internal key
+-- a field is within its limits: a name is UTF-8, a level is at most 6, and a key is an internal key
 abbrev pub IsField : Field → Type 0
 IsField (SetComparator name) = IsUtf8 name × (length name < 2 ^ 32)
 IsField (SetLogNumber number) = number < 2 ^ 64

@@ -1,4 +1,4 @@
--- Reading one field at the front of bytes.
+-- Reading one field at the front of bytes, and the bytes after it.
 use Rattle.std.specs.Prelude.{ℕ, ◌^◌, nat_lt, List, length, take, drop, Option, Some, None, Result, Err, if◌then◌else◌}
 use Rattle.std.specs.Option.{option_map, option_map_or, ok_or}
 use Rattle.std.specs.Result.{is_ok}
@@ -19,29 +19,29 @@ abbrev pub ◌>>=◌ : {A B : Type 0} → Option A → (A → Option B) → Opti
 None >>= f = None
 (Some x) >>= f = f x
 
--- the varint below a limit at the front, and the bytes behind it
+-- a varint below the limit, and the bytes after it
 unfoldable pub varint_at : ℕ → List ℕ → Option (ℕ × List ℕ)
 varint_at limit bytes = option_map (λ x. (x.0, drop x.1 bytes)) (varint_reading limit bytes)
 
--- the slice behind its length
+-- a length-prefixed slice
 unfoldable pub slice_at : List ℕ → Option (List ℕ × List ℕ)
 slice_at bytes = do
   len ← varint_at (2 ^ 32) bytes
   if nat_lt (length len.1) len.0 then None else Some (take len.0 len.1, drop len.0 len.1)
 
--- the level
+-- a level, from 0 to 6
 unfoldable pub level_at : List ℕ → Option (ℕ × List ℕ)
 level_at bytes = do
   level ← varint_at (2 ^ 32) bytes
   if nat_lt 6 level.0 then None else Some level
 
--- the text behind its length
+-- a length-prefixed text
 unfoldable pub text_at : List ℕ → Option (List ℕ × List ℕ)
 text_at bytes = do
   text ← slice_at bytes
   if is_utf8 text.0 then Some text else None
 
--- the internal key behind its length
+-- a length-prefixed internal key
 unfoldable pub key_at : List ℕ → Option (List ℕ × List ℕ)
 key_at bytes = do
   key ← slice_at bytes
@@ -89,10 +89,11 @@ content_at Deleted bytes = deleted_at bytes
 content_at Added bytes = added_at bytes
 content_at PreviousLog bytes = number_field SetPreviousLog bytes
 
--- the field behind a tag's number
+-- the content after a tag's number: EditTag if the number is no tag, EditField if the content isn't
+-- there
 abbrev pub tagged_at : ℕ × List ℕ → Result (Field × List ℕ) Fault
 tagged_at number = option_map_or (λ tag. ok_or (content_at tag number.1) (fault EditField)) (listed_tag number.0) (Err (fault EditTag))
 
--- the field at the front, and the bytes behind it
+-- the field at the front, and the bytes after it; else EditTag or EditField
 unfoldable pub field_at : List ℕ → Result (Field × List ℕ) Fault
 field_at bytes = option_map_or tagged_at (varint_at (2 ^ 32) bytes) (Err (fault EditField))

@@ -17,6 +17,6 @@ tag_number PreviousLog = 9
 abbrev pub tags : List Tag
 tags = Comparator ∷ LogNumber ∷ NextFile ∷ LastSequence ∷ Pointer ∷ Deleted ∷ Added ∷ PreviousLog ∷ []
 
--- the tag of a number
+-- the tag of a number; None if no tag has it
 abbrev pub listed_tag : ℕ → Option Tag
 listed_tag number = find (λ tag. nat_eq (tag_number tag) number) tags

@@ -1,4 +1,4 @@
--- Versions: files at their levels, counters and compact pointers; and a version after an edit.
+-- Versions: files at their levels, counters and compact pointers; and the version after an edit.
 use Rattle.std.specs.Prelude.{◌≡◌, ℕ, ◌≤◌, nat_eq, Bool, true, false, not, ◌&&◌, ◌==◌, if◌then◌else◌, List, [], ◌∷◌, filter, fold, Option, Some, None, Result, Err}
 use Rattle.std.specs.List.{All, list_any, list_all}
 use Rattle.std.specs.List.Sorted.{IsStrictlySortedBy}
@@ -17,7 +17,7 @@ use Rattle.edit.specs.declared.meta.NewFile.{NewFile}
 use Rattle.edit.specs.declared.meta.CompactPointer.{CompactPointer}
 use Rattle.edit.specs.declared.meta.DeletedFile.{DeletedFile}
 
--- what a version holds
+-- a version as contracts see it
 pub record State : Type 0 where
   pub log_number : Option ℕ
   pub previous_log : Option ℕ
@@ -39,11 +39,11 @@ empty_state = record {
   files = [];
 }
 
--- the compact pointer of a level
+-- the compact pointer of a level; None if none was set
 abbrev pub pointer_of : State → ℕ → Option (List ℕ)
 pointer_of v level = lookup (is_at (nat_cmp level)) v.pointers
 
--- where a file stands: its level and its number
+-- a file's level and number
 abbrev pub place_of : NewFile → DeletedFile
 place_of f = record { level = f.level; number = f.meta.number }
 
@@ -58,11 +58,11 @@ is_deleted deleted f = list_any (is_same_place (place_of f)) deleted
 abbrev pub kept_files : List DeletedFile → List NewFile → List NewFile
 kept_files deleted files = filter (λ f. not (is_deleted deleted f)) files
 
--- whether a file stands at a level under a number
+-- whether there is a file of this level and number
 abbrev pub has_place : List NewFile → DeletedFile → Bool
 has_place files place = list_any (λ f. is_same_place (place_of f) place) files
 
--- whether a file has the number
+-- whether there is a file of this number
 abbrev pub has_number : List NewFile → ℕ → Bool
 has_number files number = list_any (λ f. nat_eq number f.meta.number) files
 
@@ -71,7 +71,7 @@ abbrev pub are_apart : List NewFile → Bool
 are_apart [] = true
 are_apart (f ∷ files) = not (has_number files f.meta.number) && are_apart files
 
--- whether no two of the new files have one number, and none has that of a file that is there
+-- whether the new files have numbers apart from each other and from those that are there
 abbrev pub are_new : List NewFile → List NewFile → Bool
 are_new files added = are_apart added && not (list_any (λ f. has_number added f.meta.number) files)
 
@@ -79,21 +79,23 @@ are_new files added = are_apart added && not (list_any (λ f. has_number added f
 abbrev pub number_cmp : NewFile → NewFile → Ordering
 number_cmp a b = nat_cmp a.meta.number b.meta.number
 
--- files by number, and one more at its place
+-- files by number, with one more in its place
 abbrev pub with_file : List NewFile → NewFile → List NewFile
 with_file files f = insert_key number_cmp files f
 
--- The files after an edit: those that are kept, and the new ones. There are none where a deletion names no file of its
--- level, where two new files have one number, or where a kept file has the number of a new one.
+-- The files after an edit: those that no deletion names, and the new ones. There are none if a
+-- deletion names no file of its level, if two new files have one number, or if a new file has the
+-- number of one that stays.
 abbrev pub files_after : List NewFile → List DeletedFile → List NewFile → Option (List NewFile)
 files_after files deleted added =
     if list_all (has_place files) deleted && are_new (kept_files deleted files) added then Some (fold with_file (kept_files deleted files) added) else None
 
--- the pointers with one more, which replaces that of its level
+-- the pointers after a new one, which replaces that of its level
 abbrev pub with_pointer : List (ℕ × List ℕ) → CompactPointer → List (ℕ × List ℕ)
 with_pointer pointers pointer = insert_entry nat_cmp pointers pointer.level pointer.key
 
--- A version after an edit: files are taken out and put in, and then numbers and pointers are replaced that the edit sets.
+-- The version after an edit: files are deleted, new files are put in, and numbers and pointers that
+-- the edit sets are replaced. None if the edit doesn't fit.
 abbrev pub applied : State → Edit → Option State
 applied v e =
     option_map (λ files. record {
@@ -105,21 +107,22 @@ applied v e =
       files = files;
     }) (files_after v.files e.deleted e.added)
 
--- whether an edit names a comparator of another name
+-- whether an edit names another comparator than the one of this name
 abbrev pub names_another : List ℕ → Edit → Bool
 names_another name e = option_map_or (λ other. not (bytes_eq other name)) e.comparator false
 
--- the version after an edit, by the comparator of this name
+-- the version after an edit, by the comparator of this name: Comparator if it names another, else
+-- Apply if it doesn't fit
 abbrev pub applied_by : List ℕ → State → Edit → Result State Fault
 applied_by name v e = if names_another name e then Err (fault Comparator) else ok_or (applied v e) (fault Apply)
 
--- the levels of files and of pointers are from 0 to 6
+-- the levels of files and pointers are from 0 to 6
 pub record AreLevelled (pointers : List (ℕ × List ℕ)) (files : List NewFile) : Type 0 where
   pub file_levels : All (λ (f : NewFile). f.level ≤ 6) files
   pub pointer_levels : All (λ (level : ℕ). level ≤ 6) (keys_of pointers)
 
--- What holds of each version: its files rise by number, so that no two have one number; its pointers rise by level, so that
--- a level has one at most; and the levels are from 0 to 6.
+-- What holds of each version: files rise by number, so no two have one number; pointers rise by
+-- level, so a level has at most one; and levels are from 0 to 6.
 pub record IsState (pointers : List (ℕ × List ℕ)) (files : List NewFile) : Type 0 where
   pub files_rise : IsStrictlySortedBy number_cmp files
   pub apart : are_apart files ≡ true

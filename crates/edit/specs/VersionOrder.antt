@@ -1,4 +1,4 @@
--- Version order, and the edit that makes a version of nothing.
+-- Version order, and the edit that makes a version of an empty one.
 use Rattle.std.specs.Prelude.{ℕ, zero, suc, ◌+◌, nat_eq, List, [], ◌++◌, map, filter, fold, Some, None}
 use Rattle.std.specs.Ordering.{nat_cmp, ordering_then}
 use Rattle.std.specs.BTreeSet.{insert_key}
@@ -10,15 +10,15 @@ use Rattle.edit.specs.declared.meta.FileMeta.{FileMeta}
 use Rattle.edit.specs.declared.meta.NewFile.{NewFile}
 use Rattle.edit.specs.declared.meta.CompactPointer.{CompactPointer}
 
--- files by smallest internal key, then number
+-- version order: by smallest internal key, then number
 abbrev pub version_cmp : (List ℕ → List ℕ → Ordering) → FileMeta → FileMeta → Ordering
 version_cmp cmp a b = ordering_then (internal_cmp cmp a.smallest b.smallest) (nat_cmp a.number b.number)
 
--- files in version order: each is put in at its place
+-- files in version order
 abbrev pub in_version_order : (List ℕ → List ℕ → Ordering) → List FileMeta → List FileMeta
 in_version_order cmp files = fold (insert_key (version_cmp cmp)) [] files
 
--- the files that stand at a level
+-- the files at a level
 abbrev pub files_at : List NewFile → ℕ → List FileMeta
 files_at files level = map (λ (f : NewFile). f.meta) (filter (λ (f : NewFile). nat_eq f.level level) files)
 
@@ -30,7 +30,7 @@ level_files cmp v level = in_version_order cmp (files_at v.files level)
 abbrev pub at_level : ℕ → FileMeta → NewFile
 at_level level f = record { level = level; meta = f }
 
--- all files of n levels from this one on as new files, by level and in version order
+-- all files of the n levels from this one on as new files, by level and in version order
 unfoldable pub added_from : (List ℕ → List ℕ → Ordering) → List NewFile → ℕ → ℕ → List NewFile
 added_from cmp files level zero = []
 added_from cmp files level (suc n) = map (at_level level) (in_version_order cmp (files_at files level)) ++ added_from cmp files (level + 1) n
@@ -39,8 +39,8 @@ added_from cmp files level (suc n) = map (at_level level) (in_version_order cmp 
 abbrev pub pointer_entry : ℕ × List ℕ → CompactPointer
 pointer_entry p = record { level = p.0; key = p.1 }
 
--- The edit that makes a version of nothing, but for its numbers: the comparator's name, the compact pointers by level, and
--- all files as new files, by level and in version order.
+-- The edit that makes a version of an empty one, but without its numbers: the comparator's name,
+-- the compact pointers by level, and all files as new files, by level and in version order.
 abbrev pub snapshot_of : List ℕ → (List ℕ → List ℕ → Ordering) → State → Edit
 snapshot_of name cmp v = record {
   comparator = Some name;

@@ -1,4 +1,4 @@
-//! What an edit makes of files and of compact pointers.
+//! What an edit makes of the files and the compact pointers of a version.
 
 ghost use Rattle.std.specs.Prelude.{◌≡◌, true, false, if◌then◌else◌, Some, None, fold, IfOk, IfErr, OnOk};
 ghost use Rattle.std.specs.List.{list_all};
@@ -13,8 +13,10 @@ use coding::{Fault, FaultName};
 use ikey::KeyBuf;
 use std::collections::{BTreeMap, BTreeSet};
 
-/// The files that no deletion names, and the new ones. `Apply` where a deletion names no file, where two new files have
-/// one number, or where a file that stays has the number of a new one.
+/// The files that no deletion names, and then the new ones.
+///
+/// Apply if a deletion names no file of its level, if two new files have one number, or if a file
+/// that stays has the number of a new one. Otherwise the only fault is Memory.
 pub(crate) fn files_after(
     files: Files,
     deleted: BTreeSet<DeletedFile>,
@@ -28,7 +30,8 @@ pub(crate) fn files_after(
     put_in_all(kept, added)
 }
 
-/// Takes out each file that a deletion names. `Apply` where one names no file.
+/// Takes out each file that a deletion names. Apply, the only fault, if one names no file of its
+/// level.
 fn take_out_all(files: &mut Files, deleted: &BTreeSet<DeletedFile>) -> Result<(), Fault>
     ensures kept { OnOk result (files.new ≡ kept_files deleted.now.keys files.old) }
     ensures there { OnOk result (list_all (has_place files.old) deleted.now.keys ≡ true) }
@@ -43,7 +46,8 @@ fn take_out_all(files: &mut Files, deleted: &BTreeSet<DeletedFile>) -> Result<()
     Ok(())
 }
 
-/// Puts in the new files. `Apply` where one has the number of another, be it a new one too.
+/// Puts in the new files. Apply if one has the number of another, old or new. Otherwise the only
+/// fault is Memory.
 fn put_in_all(files: Files, added: Vec<NewFile>) -> Result<Files, Fault>
     ensures { EqualOrMemory (λ v. v) result
         (ok_or (if are_new files added.items then Some (fold with_file files added.items) else None) (fault Apply)) }
@@ -51,7 +55,7 @@ fn put_in_all(files: Files, added: Vec<NewFile>) -> Result<Files, Fault>
     files.with_all(added)?.ok_or(Fault::of(FaultName::Apply))
 }
 
-/// The pointers, of which the new ones replace those of their levels. Refused for want of memory alone.
+/// The pointers, with each new one in place of that of its level. The only fault is Memory.
 pub(crate) fn pointers_after(
     pointers: BTreeMap<u64, KeyBuf>,
     new: Vec<CompactPointer>,

@@ -1,16 +1,16 @@
-//! One field of an edit, lent.
+//! One field of an edit, in the bytes where it lies.
 
 use crate::meta::DeletedFile;
 use ikey::InternalKey;
 
-/// A compact pointer, its key where it lies.
+/// A compact pointer, its key in the bytes where it lies.
 #[derive(Clone, Copy)]
 pub(crate) struct PointerContent<'a> {
     pub level: u64,
     pub key: InternalKey<'a>,
 }
 
-/// A new file, its keys where they lie.
+/// A new file, its keys in the bytes where they lie.
 #[derive(Clone, Copy)]
 pub(crate) struct FileContent<'a> {
     pub level: u64,
@@ -20,7 +20,7 @@ pub(crate) struct FileContent<'a> {
     pub largest: InternalKey<'a>,
 }
 
-/// A field of an edit, with its text and its keys where they lie.
+/// A field of an edit, its text and its keys in the bytes where they lie.
 #[derive(Clone, Copy)]
 pub(crate) enum Field<'a> {
     Comparator(&'a str),

@@ -1,4 +1,4 @@
-//! The files of a version, found by their numbers.
+//! The files of a version, by their numbers.
 
 ghost use Rattle.std.specs.Prelude.{◌≡◌, ◌++◌, true, length, map, fold, if◌then◌else◌, [], ◌∷◌, Some, None, Ok, slice_get, IfOk, IfErr};
 ghost use Rattle.coding.specs.Answers.{EqualOrMemory, fault};
@@ -17,12 +17,12 @@ use std::marker::Model;
 
 /// Files, no two of one number. Contracts see them in the order of their numbers.
 ///
-/// A file is taken out or found in a time that grows with the logarithm of their number.
+/// To find or take out a file takes a time that grows with the logarithm of the number of files.
 #[derive(Drop)]
 pub(crate) struct Files {
-    /// In any order: a file that is taken out leaves its place to the last one.
+    /// In any order: when a file is taken out, the last one moves to its place.
     files: Vec<NewFile>,
-    /// The place of each file under its number.
+    /// The place of each file, by its number.
     places: BTreeMap<u64, usize>,
 }
 
@@ -50,10 +50,11 @@ impl Files {
         }
     }
 
-    /// The files and new ones, or `None` where a new one has the number of another, be it a new one too. Refused for
-    /// want of memory alone.
+    /// These files and new ones; `None` if a new one has the number of another, old or new. The
+    /// only fault is Memory.
     ///
-    /// Each new file takes a time that grows with the logarithm of the number of files, and less where many come together.
+    /// Each new file takes a time that grows with the logarithm of the number of files; less if
+    /// many come together.
     pub fn with_all(self, added: Vec<NewFile>) -> Result<Option<Files>, Fault>
         ensures { EqualOrMemory (λ files. files) result
             (Ok (if are_new self added.items then Some (fold with_file self added.items) else None)) }
@@ -69,7 +70,7 @@ impl Files {
         }
     }
 
-    /// Takes out the file of a number, and gives whether there was one and it stood at the level.
+    /// Takes out the file of this number. Answers whether there was one and it was at this level.
     pub fn take_out(&mut self, place: DeletedFile) -> bool
         ensures there { result ≡ has_place self.old place }
         ensures others { result ≡ true → self.new ≡ kept_files (place ∷ []) self.old }
@@ -84,7 +85,7 @@ impl Files {
         }
     }
 
-    /// The files that stand at a level.
+    /// The files at `level`, by number. The only fault is Memory.
     pub fn at_level(&self, alloc: Global, level: u64) -> Result<Vec<&FileMeta>, Fault>
         ensures files { EqualOrMemory (λ v. map (λ f. f.now) v.items) result
             (Ok (files_at self.now level)) }
@@ -103,7 +104,7 @@ impl Files {
         Ok(found)
     }
 
-    /// A copy of the files. Refused for want of memory alone.
+    /// A copy of the files. The only fault is Memory.
     pub fn copy(&self, alloc: Global) -> Result<Files, Fault>
         ensures same { IfOk result (λ f. f ≡ self.now) }
         ensures memory { IfErr result (λ e. e ≡ fault Memory) }
@@ -121,7 +122,7 @@ impl Files {
     }
 }
 
-/// The files, and then the added ones. Refused for want of memory alone.
+/// `files`, and then `added`. The only fault is Memory.
 fn appended(files: Vec<NewFile>, added: Vec<NewFile>) -> Result<Vec<NewFile>, Fault>
     ensures ok { IfOk result (λ v. v.items ≡ files.items ++ added.items) }
     ensures memory { IfErr result (λ e. e ≡ fault Memory) }
@@ -135,7 +136,7 @@ fn appended(files: Vec<NewFile>, added: Vec<NewFile>) -> Result<Vec<NewFile>, Fa
     Ok(files)
 }
 
-/// Sets the place of the file that lies there, where one does and its number is in the map.
+/// Notes that the file at `place` is there now, if there is one and its number is in the map.
 fn set_place(places: &mut BTreeMap<u64, usize>, files: &[NewFile], place: usize)
     ensures { places.new.entries ≡
         with_place_of (slice_get files.now place) place places.old.entries }

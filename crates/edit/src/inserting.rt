@@ -1,4 +1,4 @@
-//! The places of new files put into a map under their numbers.
+//! Putting the places of new files into the map of places by number.
 
 ghost use Rattle.std.specs.Prelude.{◌≡◌, ◌+◌, ◌<◌, ◌^◌, length, fold, IfOk, IfErr, OnOk};
 ghost use Rattle.std.specs.BTreeMap.{IsOrdered};
@@ -12,16 +12,17 @@ use coding::Fault;
 use std::alloc::Global;
 use std::collections::BTreeMap;
 
-/// So many files are few beside any others.
+/// Up to this many files are few, whatever the map holds.
 const FEW: usize = 16;
 
-/// Files are few beside so many times as many others.
+/// Files are few if the map holds at least this many times as many.
 const SHARE: usize = 4;
 
-/// Puts places, which count from the first one, under the numbers of the files, each in place of one that stands there.
-/// Refused for want of memory alone.
+/// Puts the places of `files`, which count from `first`, into the map under their numbers. A place
+/// under the same number is replaced. The only fault is Memory.
 ///
-/// Few files take a time each that grows with the logarithm of the map's length; more are merged with it in one pass.
+/// Few files take, each, a time that grows with the logarithm of the map's length. More are merged
+/// with the map in one pass.
 pub(crate) fn insert_all(
     alloc: Global,
     places: &mut BTreeMap<u64, usize>,
@@ -40,7 +41,7 @@ pub(crate) fn insert_all(
     }
 }
 
-/// As `insert_all`, one file after the other.
+/// `insert_all`, one file after the other.
 fn insert_each(
     places: &mut BTreeMap<u64, usize>,
     first: usize,
@@ -59,7 +60,7 @@ fn insert_each(
     Ok(())
 }
 
-/// As `insert_all`, by a map of the files' places that is merged with the other.
+/// `insert_all`, by merging the map with one of the new places.
 fn insert_together(
     alloc: Global,
     places: &mut BTreeMap<u64, usize>,
@@ -78,7 +79,7 @@ fn insert_together(
     Ok(())
 }
 
-/// The files' numbers, with places that count from the first one. Refused for want of memory alone.
+/// The numbers of `files`, each with its place, counted from `first`. The only fault is Memory.
 fn numbered(alloc: Global, first: usize, files: &[NewFile]) -> Result<Vec<(u64, usize)>, Fault>
     requires { first + length files.now < 2 ^ 64 }
     ensures ok { IfOk result (λ v. v.items ≡ places_from first files.now) }

@@ -1,4 +1,4 @@
-//! Laws of the format.
+//! Laws of edits and versions.
 
 ghost use Rattle.std.specs.Prelude.{◌≡◌, ℕ, List, Some};
 ghost use Rattle.std.specs.List.{AllByRecursion};
@@ -11,8 +11,9 @@ ghost use Rattle.edit.specs.VersionOrder.{snapshot_of, unnumbered};
 
 use ikey::Comparator;
 
-/// Bytes read as one edit at most, and those that are refused read as none. The bytes of an edit whose fields are within
-/// their limits, and whose deleted files rise by level and number, read as it. A call does nothing.
+/// Bytes read as at most one edit, and those that are refused read as none. The bytes of an edit
+/// read as that edit, if its fields are within their limits and its deleted files rise by level and
+/// number. A call does nothing.
 pub fn edit_laws()
     ensures one_edit { (bytes : List ℕ) (a b : Edit) → IsEdit bytes a → IsEdit bytes b → a ≡ b }
     ensures not_both { (bytes : List ℕ) (e : Fault) (a : Edit) →
@@ -21,8 +22,8 @@ pub fn edit_laws()
         IsStrictlySortedBy deleted_cmp e.deleted → IsEdit (edit_bytes e) e }
 {}
 
-/// The snapshot edit of a version, applied to the empty version, makes the version again, but for its numbers: each version
-/// has a state as it is asked for here. A call does nothing.
+/// The snapshot edit of a version, applied to the empty version, makes the version again, without
+/// its numbers. Each version is as this asks (`IsState`). A call does nothing.
 pub fn snapshot_law<C: Comparator>()
     ensures { (name : List ℕ) (v : State) → IsState v.pointers v.files →
         applied empty_state (snapshot_of name C.cmp v) ≡ Some (unnumbered v) }

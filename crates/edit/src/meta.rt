@@ -1,4 +1,4 @@
-//! What an edit says of files and of compact pointers.
+//! What edits and versions hold: files and compact pointers.
 
 ghost use Rattle.std.specs.Prelude.{Ok};
 ghost use Rattle.coding.specs.Answers.{EqualOrMemory};
@@ -10,7 +10,7 @@ use std::alloc::Global;
 /// How many levels there are: 0 to 6.
 pub(crate) const LEVELS: u64 = 7;
 
-/// A table's number, its length, and its bounds.
+/// A table file: its number, its length, and its smallest and largest key.
 #[derive(Drop)]
 pub struct FileMeta {
     /// The number in the table's name.
@@ -24,7 +24,7 @@ pub struct FileMeta {
 }
 
 impl FileMeta {
-    /// A copy of what is known of the file. Refused for want of memory alone.
+    /// A copy. The only fault is Memory.
     pub fn copy(&self, alloc: Global) -> Result<FileMeta, Fault>
         ensures { EqualOrMemory (λ file. file) result (Ok self.now) }
     {
@@ -47,7 +47,7 @@ pub struct NewFile {
 }
 
 impl NewFile {
-    /// A copy of the file. Refused for want of memory alone.
+    /// A copy. The only fault is Memory.
     pub(crate) fn copy(&self, alloc: Global) -> Result<NewFile, Fault>
         ensures { EqualOrMemory (λ file. file) result (Ok self.now) }
     {
@@ -59,16 +59,16 @@ impl NewFile {
     }
 }
 
-/// Where the next compaction of a level begins: above this internal key.
+/// The compact pointer of a level: its next compaction begins after this internal key.
 #[derive(Drop)]
 pub struct CompactPointer {
     /// From 0 to 6.
     pub level: u64,
-    /// The greatest internal key of the level's inputs to its last compaction.
+    /// The largest internal key of the level's inputs in its last compaction.
     pub key: KeyBuf,
 }
 
-/// The level and the number of a file that an edit takes out. They are ordered by level, then number.
+/// The level and number of a file that an edit deletes. They are ordered by level, then number.
 #[derive(Clone, Copy, Debug, PartialEq, Eq, PartialOrd, Ord)]
 pub struct DeletedFile {
     /// From 0 to 6.

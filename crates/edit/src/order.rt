@@ -1,4 +1,4 @@
-//! The order of files in a version.
+//! Version order: by smallest internal key, then number.
 
 ghost use Rattle.std.specs.Prelude.{◌≡◌, map, true, Ok, IfOk};
 ghost use Rattle.coding.specs.Answers.{EqualOrMemory};
@@ -12,7 +12,7 @@ use ikey::Comparator;
 use std::alloc::Global;
 use std::cmp::Ordering;
 
-/// The files that stand at a level, in version order. Refused for want of memory alone.
+/// The files at `level` in version order. The only fault is Memory.
 pub(crate) fn ordered_at<C: Comparator>(
     alloc: Global,
     files: &Files,
@@ -27,7 +27,7 @@ pub(crate) fn ordered_at<C: Comparator>(
     Ok(found)
 }
 
-/// How two files are ordered in a version: by smallest internal key, then number.
+/// Version order of two files.
 fn version_order<C: Comparator>(a: &FileMeta, b: &FileMeta) -> Ordering
     ensures { result ≡ version_cmp C.cmp a.now b.now }
 {

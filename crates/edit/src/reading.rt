@@ -1,4 +1,4 @@
-//! Reading one field at the front of bytes.
+//! Reading one field at the front of bytes. Nothing is copied.
 
 ghost use Rattle.std.specs.Prelude.{◌≡◌, ◌^◌};
 ghost use Rattle.std.specs.Option.{option_map};
@@ -12,8 +12,9 @@ use crate::tag::Tag;
 use coding::{Fault, FaultName, read_u32_varint, read_u64_varint};
 use ikey::InternalKey;
 
-/// The field at the front, and the bytes behind it. `EditTag` where a number that is no tag stands there, and else
-/// `EditField` where no field does.
+/// The field at the front of `bytes`, and the bytes after it.
+///
+/// EditTag if a varint below 2^32 is there that is no tag; else EditField if no field is there.
 #[tactic(auto, unfolding(crate::specs::Reading::field_at))]
 pub(crate) fn field_at(bytes: &[u8]) -> Result<(Field<'_>, &[u8]), Fault>
     ensures { result_map_both (λ x. (field_in x.0, x.1.now)) (λ e. e) result ≡ field_at bytes.now }
@@ -27,7 +28,7 @@ pub(crate) fn field_at(bytes: &[u8]) -> Result<(Field<'_>, &[u8]), Fault>
     content_at(tag, rest).ok_or(Fault::of(FaultName::EditField))
 }
 
-/// The content of a field of this tag, and the bytes behind it.
+/// The content of a field of this tag, and the bytes after it.
 fn content_at(tag: Tag, bytes: &[u8]) -> Option<(Field<'_>, &[u8])>
     ensures { option_map (λ x. (field_in x.0, x.1.now)) result ≡ content_at tag bytes.now }
 {
@@ -58,7 +59,7 @@ fn content_at(tag: Tag, bytes: &[u8]) -> Option<(Field<'_>, &[u8])>
     }
 }
 
-/// A level and a key.
+/// A compact pointer: level, and length-prefixed internal key.
 #[tactic(auto, unfolding(crate::specs::Reading::pointer_at))]
 fn pointer_at(bytes: &[u8]) -> Option<(Field<'_>, &[u8])>
     ensures { option_map (λ x. (field_in x.0, x.1.now)) result ≡ pointer_at bytes.now }
@@ -68,7 +69,7 @@ fn pointer_at(bytes: &[u8]) -> Option<(Field<'_>, &[u8])>
     Some((Field::Pointer(PointerContent { level, key }), rest))
 }
 
-/// A level and a file's number.
+/// A deleted file: level and number.
 #[tactic(auto, unfolding(crate::specs::Reading::deleted_at))]
 fn deleted_at(bytes: &[u8]) -> Option<(Field<'_>, &[u8])>
     ensures { option_map (λ x. (field_in x.0, x.1.now)) result ≡ deleted_at bytes.now }
@@ -78,7 +79,7 @@ fn deleted_at(bytes: &[u8]) -> Option<(Field<'_>, &[u8])>
     Some((Field::Deleted(DeletedFile { level, number }), rest))
 }
 
-/// A level, and a file's number, length and bounds.
+/// A new file: level, number, size, and length-prefixed smallest and largest key.
 #[tactic(auto, unfolding(crate::specs::Reading::added_at))]
 fn added_at(bytes: &[u8]) -> Option<(Field<'_>, &[u8])>
     ensures { option_map (λ x. (field_in x.0, x.1.now)) result ≡ added_at bytes.now }
@@ -98,7 +99,7 @@ fn added_at(bytes: &[u8]) -> Option<(Field<'_>, &[u8])>
     Some((Field::Added(file), rest))
 }
 
-/// The internal key behind its length.
+/// A length-prefixed internal key.
 #[tactic(auto, unfolding(crate::specs::Reading::key_at))]
 fn key_at(bytes: &[u8]) -> Option<(InternalKey<'_>, &[u8])>
     ensures { option_map (λ x. (x.0.bytes.now, x.1.now)) result ≡ key_at bytes.now }
@@ -108,7 +109,7 @@ fn key_at(bytes: &[u8]) -> Option<(InternalKey<'_>, &[u8])>
     Some((key, rest))
 }
 
-/// The text behind its length.
+/// A length-prefixed text, which is UTF-8.
 #[tactic(auto, unfolding(crate::specs::Reading::text_at))]
 fn text_at(bytes: &[u8]) -> Option<(&str, &[u8])>
     ensures { option_map (λ x. (x.0.now, x.1.now)) result ≡ text_at bytes.now }
@@ -120,7 +121,7 @@ fn text_at(bytes: &[u8]) -> Option<(&str, &[u8])>
     }
 }
 
-/// The level, from 0 to 6.
+/// A level, from 0 to 6.
 #[tactic(auto, unfolding(crate::specs::Reading::level_at))]
 fn level_at(bytes: &[u8]) -> Option<(u64, &[u8])>
     ensures { option_map (λ x. (x.0, x.1.now)) result ≡ level_at bytes.now }
@@ -133,7 +134,7 @@ fn level_at(bytes: &[u8]) -> Option<(u64, &[u8])>
     Some((level, rest))
 }
 
-/// The slice behind its length, which is compared with the bytes that are there.
+/// A length-prefixed slice. The length is compared with the bytes that are there.
 #[tactic(auto, unfolding(crate::specs::Reading::slice_at))]
 fn slice_at(bytes: &[u8]) -> Option<(&[u8], &[u8])>
     ensures { option_map (λ x. (x.0.now, x.1.now)) result ≡ slice_at bytes.now }
@@ -146,7 +147,7 @@ fn slice_at(bytes: &[u8]) -> Option<(&[u8], &[u8])>
     Some(rest.split_at(len))
 }
 
-/// The varint below 2^32.
+/// A varint below 2^32.
 #[tactic(auto, unfolding(crate::specs::Reading::varint_at))]
 fn short_number_at(bytes: &[u8]) -> Option<(u32, &[u8])>
     ensures { option_map (λ x. (x.0, x.1.now)) result ≡ varint_at (2 ^ 32) bytes.now }
@@ -156,7 +157,7 @@ fn short_number_at(bytes: &[u8]) -> Option<(u32, &[u8])>
     Some((number, rest))
 }
 
-/// The varint below 2^64.
+/// A varint below 2^64.
 #[tactic(auto, unfolding(crate::specs::Reading::varint_at))]
 fn number_at(bytes: &[u8]) -> Option<(u64, &[u8])>
     ensures { option_map (λ x. (x.0, x.1.now)) result ≡ varint_at (2 ^ 64) bytes.now }

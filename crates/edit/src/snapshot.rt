@@ -1,4 +1,4 @@
-//! The edit that makes a version of nothing.
+//! The edit that makes a version of an empty one.
 
 ghost use Rattle.std.specs.Prelude.{◌≡◌, ◌++◌, ℕ, List, map, true, IfOk, IfErr, OnOk};
 ghost use Rattle.coding.specs.Answers.{fault};
@@ -14,7 +14,7 @@ use ikey::{Comparator, KeyBuf};
 use std::alloc::Global;
 use std::collections::BTreeMap;
 
-/// All files as new files, by level and in version order. Refused for want of memory alone.
+/// All files as new files, by level and in version order. The only fault is Memory.
 pub(crate) fn all_added<C: Comparator>(alloc: Global, files: &Files) -> Result<Vec<NewFile>, Fault>
     ensures ok { IfOk result (λ v. v.items ≡ added_from C.cmp files.now 0 7) }
     ensures memory { IfErr result (λ e. e ≡ fault Memory) }
@@ -26,7 +26,7 @@ pub(crate) fn all_added<C: Comparator>(alloc: Global, files: &Files) -> Result<V
     Ok(added)
 }
 
-/// The compact pointers, by level. Refused for want of memory alone.
+/// The compact pointers by level. The only fault is Memory.
 pub(crate) fn all_pointers(
     alloc: Global,
     pointers: &BTreeMap<u64, KeyBuf>,
@@ -44,7 +44,7 @@ pub(crate) fn all_pointers(
     Ok(all)
 }
 
-/// Appends the files of a level as new files, in version order.
+/// Appends the files of `level` as new files, in version order. The only fault is Memory.
 fn push_level<C: Comparator>(
     alloc: Global,
     added: &mut Vec<NewFile>,
@@ -60,7 +60,7 @@ fn push_level<C: Comparator>(
     Ok(())
 }
 
-/// Appends copies of the files, at a level.
+/// Appends copies of `files` as new files of `level`. The only fault is Memory.
 fn push_at_level(
     alloc: Global,
     added: &mut Vec<NewFile>,

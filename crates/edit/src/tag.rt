@@ -2,7 +2,7 @@
 
 ghost use Rattle.std.specs.Prelude.{◌≡◌};
 
-/// Which field of an edit it is.
+/// The kind of a field of an edit.
 #[derive(Clone, Copy, Debug, PartialEq, Eq)]
 pub(crate) enum Tag {
     /// The comparator's name.
@@ -19,14 +19,14 @@ pub(crate) enum Tag {
     Deleted,
     /// A new file.
     Added,
-    /// The number of the log before.
+    /// The previous log number.
     PreviousLog,
 }
 
 impl Tag {
     ghost use Rattle.edit.specs.Tag.{tag_number, listed_tag};
 
-    /// The tag of this number; none where no tag has it.
+    /// The tag of this number; None if no tag has it.
     pub fn listed(number: u32) -> Option<Tag>
         ensures { result ≡ listed_tag number }
     {

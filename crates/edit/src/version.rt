@@ -21,7 +21,8 @@ use std::alloc::Global;
 use std::collections::BTreeMap;
 use std::marker::Model;
 
-/// The files of a database, each at a level from 0 to 6, with the counters of the database and the compact pointers.
+/// The files of a database, each at a level from 0 to 6, its counters, and a compact pointer for
+/// each level at which one was set.
 ///
 /// No two files have one number. Contracts see the files in the order of their numbers.
 #[derive(Drop)]
@@ -54,7 +55,7 @@ impl Model for Version {
 impl Version {
     ghost use Rattle.edit.specs.Edit.{edit_in};
 
-    /// The version without files, numbers and pointers.
+    /// The version without files, numbers or pointers.
     pub fn empty(alloc: Global) -> Version
         ensures { result ≡ empty_state }
     {
@@ -68,35 +69,35 @@ impl Version {
         }
     }
 
-    /// The number of the write-ahead log in use, where an edit has set it.
+    /// The number of the write-ahead log in use; None if no edit has set it.
     pub fn log_number(&self) -> Option<u64>
         ensures { result ≡ self.now.log_number }
     {
         self.log_number
     }
 
-    /// The number of the write-ahead log before, where an edit has set it; one that was never set counts as 0.
+    /// The number of the previous write-ahead log; None if no edit has set it, which counts as 0.
     pub fn previous_log(&self) -> Option<u64>
         ensures { result ≡ self.now.previous_log }
     {
         self.previous_log
     }
 
-    /// The least number that no file has yet, where an edit has set it.
+    /// The least number that no file has yet; None if no edit has set it.
     pub fn next_file(&self) -> Option<u64>
         ensures { result ≡ self.now.next_file }
     {
         self.next_file
     }
 
-    /// The greatest sequence in use, where an edit has set it.
+    /// The greatest sequence in use; None if no edit has set it.
     pub fn last_sequence(&self) -> Option<u64>
         ensures { result ≡ self.now.last_sequence }
     {
         self.last_sequence
     }
 
-    /// The compact pointer of a level, where it has one.
+    /// The compact pointer of `level`, 0 to 6; None if none was set.
     pub fn pointer(&self, level: u64) -> Option<&KeyBuf>
         requires { level ≤ 6 }
         ensures { option_copied result ≡ pointer_of self.now level }
@@ -104,12 +105,17 @@ impl Version {
         self.pointers.get(&level)
     }
 
-    /// The version after an edit, which first takes files out, then puts files in, then sets numbers and pointers; this
-    /// one stays as it is.
+    /// The version after `edit`; this one stays as it is. The edit's levels are from 0 to 6.
     ///
-    /// The edit's levels are from 0 to 6. `Comparator` where the edit names another comparator than `C`. Else `Apply`
-    /// where the edit doesn't fit: it takes out a file that isn't at that level, or it puts in a file whose number is then
-    /// there, or it puts in two files of one number. Else refused for want of memory alone.
+    /// Files are deleted first. Then new files are put in, and then numbers and pointers that the
+    /// edit sets are replaced.
+    ///
+    /// Faults:
+    ///
+    /// 1. Comparator: the edit names another comparator than `C`.
+    /// 2. Apply: the edit doesn't fit. It deletes a file that isn't at that level, or has two new
+    ///    files of one number, or a new file with the number of one that stays.
+    /// 3. Memory otherwise.
     pub fn apply<C: Comparator>(&self, alloc: Global, edit: &VersionEdit) -> Result<Version, Fault>
         requires { HasLevels (edit_in edit.now) }
         ensures after { EqualOrMemory (λ v. v) result
@@ -121,10 +127,11 @@ impl Version {
         self.copy(alloc)?.changed(edit.copy(alloc)?)
     }
 
-    /// The version after an edit, made of this one and of what the edit holds.
+    /// The version after `edit`, as `apply` makes it. It copies nothing: this version and the edit
+    /// are used up, also if it is refused.
     ///
-    /// As `apply`, which leaves both as they are; this copies nothing, and uses both up, also where it is refused. The time that it takes is that of the edit: each of
-    /// its fields takes one that grows with the logarithm of the number of files.
+    /// It takes the time of the edit: each of its fields takes a time that grows with the logarithm
+    /// of the number of files. No contract says so.
     pub fn applied<C: Comparator>(self, edit: VersionEdit) -> Result<Version, Fault>
         requires { HasLevels (edit_in edit) }
         ensures after { EqualOrMemory (λ v. v) result
@@ -136,26 +143,30 @@ impl Version {
         self.changed(edit)
     }
 
-    /// The files of a level in version order: by smallest internal key, then number. Refused for want of memory alone.
+    /// The files of `level`, 0 to 6, in version order: by smallest internal key, then number. The
+    /// only fault is Memory.
     pub fn files<C: Comparator>(&self, alloc: Global, level: u64) -> Result<Vec<&FileMeta>, Fault>
         requires { level ≤ 6 }
         ensures ordered { EqualOrMemory (λ files. map (λ file. file.now) files.items) result
             (Ok (level_files C.cmp self.now level)) }
-        // The files rise by number, the pointers by level, and the levels are from 0 to 6.
+        // Files rise by number, pointers by level, and levels are from 0 to 6.
         ensures state { IsState self.now.pointers self.now.files }
     {
         ordered_at::<C>(alloc, &self.files, level)
     }
 
-    /// The edit that makes the version of an empty one, but for its numbers: the comparator's name, the compact pointers by
-    /// level, and all files as new files, by level and in version order. Refused for want of memory alone.
+    /// The edit that makes this version of an empty one, but without its numbers. It has the
+    /// comparator's name, the compact pointers by level, and all files as new files, by level and
+    /// in version order.
+    ///
+    /// The only fault is Memory.
     pub fn snapshot_edit<C: Comparator>(&self, alloc: Global) -> Result<VersionEdit, Fault>
         ensures edit { IfOk result (λ e. edit_in e ≡ snapshot_of C.name_bytes C.cmp self.now) }
         ensures memory { IfErr result (λ e. e ≡ fault Memory) }
-        // It can be applied, and written where the comparator's name is short enough.
+        // It can be applied. It can be written if the comparator's name is short enough.
         ensures levels { IfOk result (λ e. HasLevels (edit_in e)) }
         ensures name { length C.name_bytes < 2 ^ 32 → IfOk result (λ e. HasShortName (edit_in e)) }
-        // The files rise by number, the pointers by level, and the levels are from 0 to 6.
+        // Files rise by number, pointers by level, and levels are from 0 to 6.
         ensures state { IsState self.now.pointers self.now.files }
     {
         let mut edit = VersionEdit::empty(alloc);
@@ -165,8 +176,8 @@ impl Version {
         Ok(edit)
     }
 
-    /// The version after an edit, whose comparator is this version's. `Apply` where the edit doesn't fit. Else refused
-    /// for want of memory alone.
+    /// The version after an edit that names no other comparator. Apply if the edit doesn't fit;
+    /// otherwise the only fault is Memory.
     fn changed(self, edit: VersionEdit) -> Result<Version, Fault>
         requires { HasLevels (edit_in edit) }
         ensures after { EqualOrMemory (λ v. v) result
@@ -184,7 +195,7 @@ impl Version {
         })
     }
 
-    /// A copy of the version. Refused for want of memory alone.
+    /// A copy of the version. The only fault is Memory.
     fn copy(&self, alloc: Global) -> Result<Version, Fault>
         ensures same { IfOk result (λ v. v ≡ self.now) }
         ensures memory { IfErr result (λ e. e ≡ fault Memory) }

@@ -18,24 +18,24 @@ use ikey::{Comparator, KeyBuf};
 use std::alloc::Global;
 use std::collections::BTreeSet;
 
-/// A change of a version. A field that isn't set changes nothing.
+/// A change of a version. What isn't set stays as it is.
 #[derive(Drop)]
 pub struct VersionEdit {
-    /// The name of the comparator that orders the user keys.
+    /// The name of the comparator of the user keys.
     pub comparator: Option<String>,
     /// The number of the write-ahead log in use.
     pub log_number: Option<u64>,
-    /// The number of the write-ahead log before.
+    /// The number of the previous write-ahead log.
     pub previous_log: Option<u64>,
     /// The least number that no file has yet.
     pub next_file: Option<u64>,
     /// The greatest sequence in use.
     pub last_sequence: Option<u64>,
-    /// New compact pointers; of two of one level the later counts.
+    /// New compact pointers. Of two of one level the later counts.
     pub pointers: Vec<CompactPointer>,
-    /// The files that are taken out.
+    /// The files that are deleted, by level and number.
     pub deleted: BTreeSet<DeletedFile>,
-    /// The files that are put in.
+    /// The new files.
     pub added: Vec<NewFile>,
 }
 
@@ -59,18 +59,25 @@ impl VersionEdit {
         }
     }
 
-    /// The edit that the bytes read as: fields in any order, up to the end of the bytes.
+    /// The edit that `bytes` are: fields in any order, and nothing else.
     ///
-    /// A field is a tag, a varint, and behind it the field's content. A name or a number that comes again replaces
-    /// the earlier one. Refused at the first field without a reading: `EditTag` where a number that is no tag stands
-    /// there, and else `EditField`. A claimed length is compared with the bytes that are there before memory is asked
-    /// for. Else refused for want of memory alone.
+    /// A name or a number that comes again replaces the earlier one. Of two compact pointers of a
+    /// level the later counts, and deleted files are a set. No bytes are the edit that changes
+    /// nothing.
+    ///
+    /// Other bytes are refused at the first field that can't be read:
+    ///
+    /// - EditTag: a number that is no tag is there.
+    /// - EditField: otherwise.
+    ///
+    /// A claimed length is compared with the bytes that are there before memory is asked for. The
+    /// only other fault is Memory.
     pub fn decode(alloc: Global, bytes: &[u8]) -> Result<VersionEdit, Fault>
-        // What is read is what the bytes read as.
+        // The result is the edit that the bytes read as.
         ensures found { IfOk result (λ e. IsEdit bytes.now (edit_in e)) }
-        // What the bytes read as is read, unless memory runs out.
+        // Bytes that read as an edit get that edit, or Memory.
         ensures only { (e : Edit) → IsEdit bytes.now e → EqualOrMemory edit_in result (Ok e) }
-        // Which refusal it is.
+        // Which refusal it is: at the first field that can't be read.
         ensures refused { IfErr result (λ e. UnlessMemory e (IsRefused bytes.now e)) }
         // It can be written and applied.
         ensures levels { IfOk result (λ e. HasLevels (edit_in e)) }
@@ -79,16 +86,20 @@ impl VersionEdit {
         VersionEdit::read(alloc, bytes)
     }
 
-    /// The edit's bytes: the comparator, the log number, the previous log number, the next file, the last sequence, the
-    /// compact pointers in their order, the deleted files by level and number, and the new files in their order. What
-    /// isn't set is left out.
+    /// The bytes of the edit. What isn't set is left out. The order is:
     ///
-    /// The levels are from 0 to 6, and the comparator's name has fewer than 2^32 bytes. Refused for want of memory alone.
+    /// 1. comparator, log number, previous log number, next file, last sequence;
+    /// 2. compact pointers in their order;
+    /// 3. deleted files by level and number;
+    /// 4. new files in their order.
+    ///
+    /// Levels are from 0 to 6, and the comparator's name has fewer than 2^32 bytes. The only fault
+    /// is Memory.
     pub fn encode(&self, alloc: Global) -> Result<Vec<u8>, Fault>
         requires levels { HasLevels (edit_in self.now) }
         requires name { HasShortName (edit_in self.now) }
         ensures bytes { IfOk result (λ v. v.items ≡ edit_bytes (edit_in self.now)) }
-        // What was written is read again.
+        // What was written reads back.
         ensures reads_back { IfOk result (λ v. IsEdit v.items (edit_in self.now)) }
         ensures memory { IsOkUnless result (fault Memory) }
     {
@@ -100,7 +111,7 @@ impl VersionEdit {
         Ok(bytes)
     }
 
-    /// Appends the comparator and the numbers.
+    /// Appends the comparator and the numbers that are set. The only fault is Memory.
     fn push_settings(&self, out: &mut Vec<u8>) -> Result<(), Fault>
         requires { HasShortName (edit_in self.now) }
         ensures ok { OnOk result
@@ -116,7 +127,7 @@ impl VersionEdit {
         Ok(())
     }
 
-    /// A copy of the edit. Refused for want of memory alone.
+    /// A copy of the edit. The only fault is Memory.
     pub(crate) fn copy(&self, alloc: Global) -> Result<VersionEdit, Fault>
         ensures same { IfOk result (λ e. edit_in e ≡ edit_in self.now) }
         ensures memory { IfErr result (λ e. e ≡ fault Memory) }
@@ -143,7 +154,7 @@ impl VersionEdit {
         }
     }
 
-    /// Sets each field, one after the other.
+    /// Reads and sets one field after the other.
     fn read(alloc: Global, bytes: &[u8]) -> Result<VersionEdit, Fault>
         ensures found { IfOk result (λ e. IsEdit bytes.now (edit_in e)) }
         ensures refused { IfErr result (λ e. UnlessMemory e (IsRefused bytes.now e)) }
@@ -160,7 +171,7 @@ impl VersionEdit {
         Ok(edit)
     }
 
-    /// Sets one field.
+    /// Sets one field. The only fault is Memory.
     fn set(&mut self, alloc: Global, field: Field<'_>) -> Result<(), Fault>
         ensures ok { OnOk result
             (edit_in self.new ≡ with_field (edit_in self.old) (field_in field.entry)) }

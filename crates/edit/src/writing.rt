@@ -1,4 +1,4 @@
-//! Writing the fields of an edit.
+//! Writing the fields of an edit. The only fault of these calls is Memory.
 
 ghost use Rattle.std.specs.Prelude.{◌≡◌, ◌++◌, ◌<◌, ◌≤◌, ◌^◌, length, map, [], OnOk, IsOkUnless, All, IfSome};
 ghost use Rattle.std.specs.List.{flat_map, AllByRecursion};
@@ -17,7 +17,7 @@ use crate::tag::Tag;
 use coding::{Fault, push_slice, push_varint};
 use std::collections::BTreeSet;
 
-/// Appends the comparator's name, where there is one.
+/// Appends the comparator's name, if there is one.
 pub(crate) fn push_comparator(out: &mut Vec<u8>, name: &Option<String>) -> Result<(), Fault>
     requires { ForSome (option_map string_bytes name.now) (λ n. length n < 2 ^ 32) }
     ensures ok { OnOk result (out.new.items ≡
@@ -33,7 +33,7 @@ pub(crate) fn push_comparator(out: &mut Vec<u8>, name: &Option<String>) -> Resul
     push_slice(out, name.as_str().as_bytes())
 }
 
-/// Appends a field of one number, where there is one.
+/// Appends a field that is one number, if it is set.
 pub(crate) fn push_optional(out: &mut Vec<u8>, tag: Tag, number: Option<u64>) -> Result<(), Fault>
     ensures ok { OnOk result (out.new.items ≡
         out.old.items ++ option_map_or (λ n. varint (tag_number tag) ++ varint n) number []) }
@@ -47,7 +47,7 @@ pub(crate) fn push_optional(out: &mut Vec<u8>, tag: Tag, number: Option<u64>) ->
     push_varint(out, number)
 }
 
-/// Appends each pointer.
+/// Appends each compact pointer.
 pub(crate) fn push_pointers(out: &mut Vec<u8>, pointers: &[CompactPointer]) -> Result<(), Fault>
     requires { All (λ pointer. pointer.level ≤ 6) pointers.now }
     ensures ok { OnOk result
@@ -61,7 +61,7 @@ pub(crate) fn push_pointers(out: &mut Vec<u8>, pointers: &[CompactPointer]) -> R
     Ok(())
 }
 
-/// Appends a pointer.
+/// Appends a compact pointer.
 fn push_pointer(out: &mut Vec<u8>, pointer: &CompactPointer) -> Result<(), Fault>
     requires { pointer.now.level ≤ 6 }
     ensures ok { OnOk result (out.new.items ≡ out.old.items ++ spelling (SetPointer pointer.now)) }
@@ -132,7 +132,7 @@ fn push_file(out: &mut Vec<u8>, file: &NewFile) -> Result<(), Fault>
     push_slice(out, largest.bytes())
 }
 
-/// Appends a number, which is below 2^64.
+/// Appends a number below 2^64.
 fn push_number(out: &mut Vec<u8>, number: u64) -> Result<(), Fault>
     ensures ok { OnOk result (out.new.items ≡ out.old.items ++ varint number) }
     ensures fits { number < 2 ^ 64 }

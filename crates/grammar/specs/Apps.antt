@@ -4,11 +4,11 @@ use Rattle.clap.specs.Words.{App, Rule, Text, new_app, new_rule, with_rule, with
 use Rattle.clap.specs.declared.builder.action.ArgAction.TheVariants.{SetTrue}
 use Rattle.clap.specs.declared.builder.value_parser.ValueParser.TheVariants as parser
 
--- an argument that has to be given
+-- an argument that must be given
 abbrev pub wanted : Text → Rule
 wanted id = record (new_rule id) { required = true }
 
--- `--at HEXKEY`, which has to be given
+-- `--at HEXKEY`, which must be given
 abbrev pub at_rule : Rule
 at_rule = record (wanted (codes "at")) { long = Some (codes "at"); value_names = 1 }
 
@@ -25,7 +25,7 @@ abbrev pub blocks_app : App
 blocks_app =
     with_rule (with_rule (with_rule (with_rule (new_app (codes "blocks")) (wanted (codes "A"))) (wanted (codes "B"))) at_rule) (wanted (codes "OUT"))
 
--- the program, which has to be given a command, and tells its version
+-- the program: a command must be given, and it tells its version
 abbrev pub bare_app : App
 bare_app = record (new_app (codes "sedvokt")) { top = record (new_app (codes "sedvokt")).top { has_version = true; subcommand_required = true } }
 
@@ -33,11 +33,11 @@ bare_app = record (new_app (codes "sedvokt")) { top = record (new_app (codes "se
 abbrev pub dump_app : App
 dump_app = with_rule (new_app (codes "dump")) (wanted (codes "TABLE"))
 
--- a command on a folder alone, as `verify DIR [-v]`
+-- a command on a folder, as `verify DIR [-v]`
 abbrev pub folder_app : Text → App
 folder_app name = with_rule (with_rule (new_app name) (wanted (codes "DIR"))) verbose_rule
 
--- an option with a number of 64 bits, as `--at N`
+-- an option that takes a number of 64 bits, as `--at N`
 abbrev pub number_rule : Text → Rule
 number_rule id = record (new_rule id) { long = Some id; value_names = 1; parser = Some (parser.Unsigned 0 18446744073709551615) }
 
@@ -51,26 +51,27 @@ get_app =
 abbrev pub snapshots_rule : Rule
 snapshots_rule = record (new_rule (codes "snapshots")) { long = Some (codes "snapshots"); value_names = 1 }
 
--- `[--snapshot S] [--snapshots S,S,..] [--block-size B] [--file-size F]`, behind what a command has
+-- `[--snapshot S] [--snapshots S,S,..] [--block-size B] [--file-size F]`, after what a command has
 abbrev pub with_outputs : App → App
 with_outputs app =
     with_rule (with_rule (with_rule (with_rule app (number_rule (codes "snapshot"))) snapshots_rule) (number_rule (codes "block-size")))
     (number_rule (codes "file-size"))
 
--- `DIR [--level N] [--all]`, behind what a command has
+-- `DIR [--level N] [--all]`, after what a command has
 abbrev pub with_levels : App → App
 with_levels app = with_rule (with_rule (with_rule app (wanted (codes "DIR"))) (number_rule (codes "level"))) (flag_rule (codes "all"))
 
--- `[--workers W] [--ranges R] [-v] [--explain]`, behind what a command has
+-- `[--workers W] [--ranges R] [-v] [--explain]`, after what a command has
 abbrev pub with_work : App → App
 with_work app =
     with_rule (with_rule (with_rule (with_rule app (number_rule (codes "workers"))) (number_rule (codes "ranges"))) verbose_rule) (flag_rule (codes "explain"))
 
--- `compact DIR [--level N] [--all] [--workers W] [--ranges R] [-v] [--explain] [--snapshot S] [--snapshots S,S,..] [--block-size B] [--file-size F]`
+-- `compact DIR [--level N] [--all] [--workers W] [--ranges R] [-v] [--explain] [--snapshot S]
+-- [--snapshots S,S,..] [--block-size B] [--file-size F]`
 abbrev pub compact_app : App
 compact_app = with_outputs (with_work (with_levels (new_app (codes "compact"))))
 
--- the commands that read files, and show what is there
+-- the app with `blocks`, `dump` and `manifest`
 abbrev pub with_files_shown : App → App
 with_files_shown app =
     with_subcommand (with_subcommand (with_subcommand app blocks_app.top) dump_app.top) (folder_app (codes "manifest")).top

@@ -86,7 +86,7 @@ const STATUSES: &str =
     "A key is written as hexadecimal digits of either case, two a byte; - is the empty key.
 The status is 0 when the work is done, 1 when it is refused, 2 for a fault of usage and 3 when a device fails.";
 
-/// The program with its commands.
+/// The program with its commands. The only fault is out of memory.
 pub fn program_command<'a>(alloc: Global) -> Result<Command<'a>, AllocError>
     ensures { IfOk result (λ command. app_of command ≡ program_app) }
 {
@@ -115,7 +115,7 @@ fn bare_command<'a>(alloc: Global) -> Command<'a>
         .subcommand_required(true)
 }
 
-/// The command with one more below it. Where that one's memory was refused, so is this.
+/// `command` with one more below it. If that one was refused for lack of memory, so is this.
 fn with_command<'a>(
     command: Command<'a>,
     made: Result<Command<'a>, AllocError>,
@@ -156,7 +156,7 @@ fn dump_command<'a>(alloc: Global) -> Result<Command<'a>, AllocError>
     with_wanted(alloc, command, "TABLE", "The file of the table")
 }
 
-/// A command on a folder alone.
+/// A command on a folder, as `verify DIR [-v]`.
 fn folder_command<'a>(
     alloc: Global,
     name: &'a str,
@@ -170,7 +170,7 @@ fn folder_command<'a>(
     with_verbose(alloc, command)
 }
 
-/// The command `compact DIR (--level N | --all)` with its options.
+/// The command `compact DIR (--level N | --all)` and its options.
 fn compact_command<'a>(alloc: Global) -> Result<Command<'a>, AllocError>
     ensures { IfOk result (IsCommand compact_app) }
 {
@@ -180,7 +180,7 @@ fn compact_command<'a>(alloc: Global) -> Result<Command<'a>, AllocError>
     with_outputs(alloc, command)
 }
 
-/// The command with the folder, and which levels of it are meant.
+/// The command with the folder, and with the options that name a level or all.
 fn with_levels<'a>(alloc: Global, command: Command<'a>) -> Result<Command<'a>, AllocError>
     ensures { IfOk result (Extends with_levels command.entry) }
 {
@@ -189,7 +189,7 @@ fn with_levels<'a>(alloc: Global, command: Command<'a>) -> Result<Command<'a>, A
     with_flag(alloc, command, "all", ALL_HELP)
 }
 
-/// The command with the options on how the work is done, and on what is told of it.
+/// The command with the options on workers and ranges, and on what is told.
 fn with_work<'a>(alloc: Global, command: Command<'a>) -> Result<Command<'a>, AllocError>
     ensures { IfOk result (Extends with_work command.entry) }
 {
@@ -209,14 +209,14 @@ fn with_outputs<'a>(alloc: Global, command: Command<'a>) -> Result<Command<'a>, 
     with_number(alloc, command, "file-size", "F", FILE_SIZE_HELP)
 }
 
-/// A command of this name, which has no argument yet.
+/// A command of this name, without arguments yet.
 fn named<'a>(alloc: Global, name: &'a str, about: &'a str, example: &'a str) -> Command<'a>
     ensures { IsCommand (new_app name.entry.now) result }
 {
     Command::new(alloc, name).about(about).after_help(example)
 }
 
-/// The command with an argument that has to be given.
+/// The command with an argument that must be given.
 fn with_wanted<'a>(
     alloc: Global,
     command: Command<'a>,
@@ -228,7 +228,7 @@ fn with_wanted<'a>(
     command.arg(Arg::new(alloc, id).required(true).help(help))
 }
 
-/// The command with an option with a number of 64 bits.
+/// The command with an option that takes a number of 64 bits.
 fn with_number<'a>(
     alloc: Global,
     command: Command<'a>,
@@ -274,7 +274,7 @@ fn with_flag<'a>(
     command.arg(flag)
 }
 
-/// The command with `--at HEXKEY`, which has to be given.
+/// The command with `--at HEXKEY`, which must be given.
 fn with_at<'a>(alloc: Global, command: Command<'a>) -> Result<Command<'a>, AllocError>
     ensures { IfOk result (Extends (adding at_rule) command.entry) }
 {

@@ -1,4 +1,16 @@
 //! The commands of the program and their options, as `clap` is told of them.
+//!
+//! [`program_command`] is the one public call:
+//!
+//!     blocks A B --at HEXKEY OUT
+//!     dump TABLE
+//!     manifest DIR [-v]
+//!     verify DIR [-v]
+//!     get DIR HEXKEY [--at N] [-v]
+//!     compact DIR (--level N | --all) [options]
+//!
+//! That `--level` and `--all` exclude each other isn't said to `clap`: `usage` tests it. No
+//! contract says which texts of help there are.
 #![tactic(auto)]
 
 mod commands;

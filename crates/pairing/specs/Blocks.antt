@@ -9,15 +9,15 @@ use Rattle.ikey.specs.Bytewise.{bytewise_cmp}
 use Rattle.merge.specs.Union.{IsUnion}
 use Rattle.pairing.specs.Testing.{tested_after}
 
--- the block of a list at interval 16, or TooLarge where that has more than 2 ^ 30 bytes
+-- the block of entries at interval 16; TooLarge if it has more than 2 ^ 30 bytes
 abbrev pub block_within : List Entry → Result (List ℕ) Fault
 block_within entries = if nat_le (length (block 16 entries)) (2 ^ 30) then Ok (block 16 entries) else Err (fault TooLarge)
 
--- a file of a block: its entries where each passes its tests, or the first test that fails
+-- the bytes are a block: its entries if each passes its tests, else the first test that fails
 abbrev pub IsTestedBlock : List ℕ → Result (List Entry) Fault → Type 0
 IsTestedBlock bytes answer = (entries : List Entry) × (IsBlock bytes entries × (answer ≡ tested_after None entries))
 
--- a file that is no block
+-- the bytes aren't a block: Block
 abbrev pub IsNoBlock : List ℕ → Result (List Entry) Fault → Type 0
 IsNoBlock bytes answer = ((entries : List Entry) → IsBlock bytes entries → ⊥) × (answer ≡ Err (fault Block))
 
@@ -25,16 +25,16 @@ IsNoBlock bytes answer = ((entries : List Entry) → IsBlock bytes entries → �
 abbrev pub IsFileAnswer : List ℕ → Result (List Entry) Fault → Type 0
 IsFileAnswer bytes answer = IsTestedBlock bytes answer ⊎ IsNoBlock bytes answer
 
--- the union of two files, or Duplicate where there is none
+-- the union of two files; Duplicate if there is none
 abbrev pub IsUnionAnswer : List Entry → List Entry → Result (List Entry) Fault → Type 0
 IsUnionAnswer a b (Ok union) = IsUnion bytewise_cmp (a ∷ b ∷ []) union
 IsUnionAnswer a b (Err e) = ((union : List Entry) → IsUnion bytewise_cmp (a ∷ b ∷ []) union → ⊥) × (e ≡ fault Duplicate)
 
--- the number of entries and their block, or TooLarge
+-- the number of entries, and their block; or TooLarge
 abbrev pub counted : List Entry → Result (ℕ × List ℕ) Fault
 counted union = block_within union >>= λ bytes. Ok (length union, bytes)
 
--- What two files answer: A is tested, then B; then their union is taken, and its block.
+-- What two files answer: A is tested, then B; then their union is taken, and written as a block.
 abbrev pub IsBlocksAnswer : List ℕ → List ℕ → Result (ℕ × List ℕ) Fault → Type 0
 IsBlocksAnswer a b =
     IsThen (IsFileAnswer a) (λ entries_a.
@@ -42,7 +42,8 @@ IsBlocksAnswer a b =
     IsThen (IsUnionAnswer entries_a entries_b) (λ union answer.
     answer ≡ counted union)))
 
--- Both files read as blocks, and the bytes are the block of the union of their entries, which has so many.
+-- Both files read as blocks. The bytes are the block of the union of their entries, and count is
+-- the number of these.
 pub record IsMerged (a b : List ℕ) (count : ℕ) (merged : List ℕ) : Type 0 where
   pub entries_a : List Entry
   pub entries_b : List Entry

@@ -1,4 +1,4 @@
--- What tested entries stand for, and what comes of them in a range of user keys.
+-- Tested entries as contracts see them, and their union in a range of user keys.
 use Rattle.std.specs.Prelude.{ℕ, ◌≤◌, Bool, true, if◌then◌else◌, List, [], ◌∷◌, length, map, Option, Some, None, Result, Ok, Err}
 use Rattle.std.specs.Ordering.{is_lt}
 use Rattle.coding.specs.Answers.{fault, ◌>>=◌}
@@ -20,17 +20,17 @@ tested_entries ts = map tested_entry ts
 abbrev pub IsLimited : Entry → Type 0
 IsLimited e = length e.value ≤ 16777215
 
--- whether the version of a key is behind that of the key before it, where there is one
+-- whether a key is after the one before it, if there is one, by user key and falling sequence
 abbrev pub is_behind : Option (List ℕ) → List ℕ → Bool
 is_behind None key = true
 is_behind (Some before) key = is_lt (version_cmp bytewise_cmp before key)
 
--- the entries, where each version is behind that of the entry before it, or Duplicate
+-- the entries, if each is after the one before it, by user key and falling sequence; else Duplicate
 abbrev pub distinct_after : Option (List ℕ) → List Entry → Result (List Entry) Fault
 distinct_after before [] = Ok []
 distinct_after before (e ∷ es) = if is_behind before e.key then (distinct_after (Some e.key) es >>= λ others. Ok (e ∷ others)) else Err (fault Duplicate)
 
--- the union of what files have in a range, or Duplicate
+-- the union of the files' entries in a range, or Duplicate
 abbrev pub union_of : List (List Entry) → Result (List Entry) Fault
 union_of parts = distinct_after None (merged bytewise_cmp parts)
 

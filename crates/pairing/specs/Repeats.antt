@@ -1,4 +1,4 @@
--- Versions that stand twice.
+-- Entries of one user key and one sequence.
 use Rattle.std.specs.Prelude.{ℕ, ◌≤◌, Bool, List}
 use Rattle.std.specs.List.{count_by}
 use Rattle.std.specs.Ordering.{is_eq}
@@ -6,14 +6,14 @@ use Rattle.block.specs.Piece.{Entry}
 use Rattle.ikey.specs.Bytewise.{bytewise_cmp}
 use Rattle.merge.specs.Union.{version_cmp}
 
--- whether an entry has the version of a key
+-- whether an entry has the user key and the sequence of a key
 abbrev pub has_version : List ℕ → Entry → Bool
 has_version key e = is_eq (version_cmp bytewise_cmp e.key key)
 
--- how often the version of a key stands among entries
+-- how many entries have the user key and the sequence of a key
 abbrev pub times : List ℕ → List Entry → ℕ
 times key es = count_by (has_version key) es
 
--- a version stands twice
+-- one user key has one sequence twice
 abbrev pub HasRepeat : List Entry → Type 0
 HasRepeat es = (key : List ℕ) × (2 ≤ times key es)

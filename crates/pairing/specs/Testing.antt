@@ -1,4 +1,4 @@
--- The tests of the entries of a file of block contents, in order, and the first that fails.
+-- The tests of a file's entries, in their order.
 use Rattle.std.specs.Prelude.{ℕ, nat_lt, Bool, true, if◌then◌else◌, List, [], ◌∷◌, length, Option, Some, None, Result, Ok, Err}
 use Rattle.std.specs.Ordering.{is_lt}
 use Rattle.coding.specs.Answers.{fault, ◌>>=◌}
@@ -9,19 +9,19 @@ use Rattle.ikey.specs.Bytewise.{bytewise_cmp}
 use Rattle.ikey.specs.Key.{internal_key_reading}
 use Rattle.ikey.specs.Order.{internal_cmp}
 
--- whether a key is above the key before it, where there is one
+-- whether a key is above the one before it, if there is one
 abbrev pub is_above : Option (List ℕ) → List ℕ → Bool
 is_above None key = true
 is_above (Some before) key = is_lt (internal_cmp bytewise_cmp before key)
 
--- An entry after this key: its key is an internal key, its user key and its value are within their limits, and its
--- key is above the key before.
+-- The tests of an entry after this key. Its key is an internal key, and its user key is within its
+-- limit. Its value is within its limit. Its key is above the one before it.
 abbrev pub entry_test : Option (List ℕ) → List ℕ → List ℕ → Result (List ℕ) Fault
 entry_test before key value = do
   internal ← internal_key_reading key
   if nat_lt 16777215 (length value) then Err (fault TooLarge) else if is_above before key then Ok internal else Err (fault Order)
 
--- the entries, where each passes its tests after the one before it
+-- the entries, if each passes its tests after the one before it; else the first test that fails
 abbrev pub tested_after : Option (List ℕ) → List Entry → Result (List Entry) Fault
 tested_after before [] = Ok []
 tested_after before (e ∷ es) = do
@@ -29,7 +29,7 @@ tested_after before (e ∷ es) = do
   others ← tested_after (Some e.key) es
   Ok (e ∷ others)
 
--- the key of the last entry, or else this
+-- the key of the last entry; if there is none, the key before
 abbrev pub last_key : Option (List ℕ) → List Entry → Option (List ℕ)
 last_key before [] = before
 last_key before (e ∷ es) = last_key (Some e.key) es

@@ -1,7 +1,12 @@
-//! Two blocks of tables, merged into the block of the sorted union of their entries.
+//! Two blocks of a table, merged into the block of the sorted union of their entries.
 //!
-//! Each file is tested whole. Then two workers merge the user keys before a key and those from it on, and the runs are
-//! joined, so that the block doesn't depend on that key.
+//! [`blocks`] is the one public call.
+//!
+//! 1. File A is tested whole, and then file B.
+//! 2. Both are parted at a user key. Two workers merge the part before it and the part from it on.
+//! 3. The runs are joined and written as one block. So the block doesn't depend on that key.
+//!
+//! That both workers run, or how much memory the entries take, no contract says.
 #![tactic(auto)]
 
 mod parting;

@@ -1,4 +1,4 @@
-//! The parting of a file's entries at a user key.
+//! Parting a file's entries at a user key.
 
 ghost use Rattle.std.specs.Prelude.{◌≡◌, ◌++◌, ◌↔◌, ℕ, ◌<◌, ◌≤◌, length, IsTrue, slice_index_or};
 ghost use Rattle.std.specs.List.{AllByRecursion};
@@ -10,7 +10,7 @@ ghost use Rattle.pairing.specs.Ranges.{IsBefore, IsFrom};
 use crate::tested::TestedEntry;
 use ikey::{Bytewise, Comparator};
 
-/// The entries before a user key, and those from it on.
+/// The entries before the user key `at`, and those from it on.
 pub(crate) fn parted<'r, 'a>(
     entries: &'r [TestedEntry<'a>],
     at: &[u8],
@@ -22,7 +22,7 @@ pub(crate) fn parted<'r, 'a>(
     entries.split_at(first_from(entries, at))
 }
 
-/// Whether an entry lies in the range before a user key.
+/// Whether the user key of `entry` is before `at`.
 fn is_before(entry: &TestedEntry<'_>, at: &[u8]) -> bool
     ensures { IsTrue result ↔ IsBefore at.now (tested_entry entry.now) }
 {
@@ -30,7 +30,8 @@ fn is_before(entry: &TestedEntry<'_>, at: &[u8]) -> bool
     Bytewise::compare(key.user(), at).is_lt()
 }
 
-/// The place of the first entry that doesn't lie before a user key, or the number of entries.
+/// The place of the first entry whose user key isn't before `at`; the number of entries if there is
+/// none.
 fn first_from(entries: &[TestedEntry<'_>], at: &[u8]) -> usize
     ensures within { result ≤ length entries.now }
     ensures before { (k : ℕ) (d : _) → k < result → IsBefore at.now (tested_entry (slice_index_or entries.now k d)) }

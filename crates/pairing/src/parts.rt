@@ -1,4 +1,4 @@
-//! What two files have in a range of user keys.
+//! The entries of two files in one range of user keys.
 
 ghost use Rattle.std.specs.Prelude.{◌≡◌, ◌≤◌, ◌++◌, [], ◌∷◌, IfErr, IfOk, None, Ok, OnOk, false, length, true};
 ghost use Rattle.std.specs.List.{AllByRecursion};
@@ -22,7 +22,7 @@ use std::alloc::Global;
 use std::marker::Model;
 use table::Cursor;
 
-/// The entries of two files in a range of user keys, seen as these two lists.
+/// The entries of two files in one range of user keys. Contracts see the two lists.
 #[derive(Drop)]
 pub(crate) struct Parts<'r, 'a> {
     a: &'r [TestedEntry<'a>],
@@ -44,7 +44,7 @@ impl<'r, 'a> Model for Parts<'r, 'a> {
 }
 
 impl<'r, 'a> Parts<'r, 'a> {
-    /// These entries of the one file, and those of the other.
+    /// The entries `a` of one file, and `b` of the other.
     pub fn new(a: &'r [TestedEntry<'a>], b: &'r [TestedEntry<'a>]) -> Parts<'r, 'a>
         requires ordered_a { NeverFalls bytewise_cmp (tested_entries a.now) }
         requires ordered_b { NeverFalls bytewise_cmp (tested_entries b.now) }
@@ -53,7 +53,8 @@ impl<'r, 'a> Parts<'r, 'a> {
         Parts { a, b }
     }
 
-    /// The union of both. Refused as Duplicate where a version comes twice.
+    /// The union of both. Duplicate if a user key has one sequence twice; otherwise the only fault
+    /// is Memory.
     pub fn union(&self, alloc: Global) -> Result<Vec<TestedEntry<'a>>, Fault>
         ensures { EqualOrMemory (λ v. tested_entries v.items) result (union_of self.now) }
     {
@@ -66,7 +67,7 @@ impl<'r, 'a> Parts<'r, 'a> {
         Ok(union)
     }
 
-    /// A cursor over the entries of each.
+    /// A cursor over the entries of each file. The only fault is Memory.
     fn cursors(&self, alloc: Global) -> Result<Vec<TestedCursor<'r, 'a>>, Fault>
         ensures all { EqualOrMemory (λ v. v.items) result (Ok self.now) }
         ensures limited { IfOk result (λ _. AllByRecursion IsLimited (joined self.now)) }
@@ -78,7 +79,8 @@ impl<'r, 'a> Parts<'r, 'a> {
     }
 }
 
-/// Appends the entry of a key and a value. Refused as Duplicate where the version of the key isn't behind that of the last entry.
+/// Appends an entry. Duplicate if `key` isn't after the last entry's by user key and falling
+/// sequence; otherwise the only fault is Memory.
 fn push_behind<'a>(
     alloc: Global,
     union: &mut Vec<TestedEntry<'a>>,
@@ -98,7 +100,8 @@ fn push_behind<'a>(
     push_entry(alloc, union, key, value)
 }
 
-/// Whether the version of a key is behind that of the key before it, where there is one.
+/// Whether `key` is after the key before it, if there is one: by user key rising, then sequence
+/// falling. The type doesn't count.
 fn is_behind(before: Option<InternalKey<'_>>, key: &InternalKey<'_>) -> bool
     ensures { result ≡ is_behind (option_map (λ key. key.bytes.now) before.entry) key.now.bytes.now }
 {

@@ -1,4 +1,4 @@
-//! An entry of a file of block contents that passed its tests.
+//! An entry of a block that passed its tests.
 
 ghost use Rattle.std.specs.Prelude.{◌≤◌, length};
 

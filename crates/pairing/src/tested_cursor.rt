@@ -13,7 +13,8 @@ use ikey::{Bytewise, Comparator, InternalKey};
 use std::marker::Model;
 use table::{Cursor, Entries};
 
-/// A place in a list of tested entries, seen as those that are still to come. It takes no memory.
+/// A place in a list of tested entries. Contracts see the entries still to come. It takes no
+/// memory.
 #[derive(Drop)]
 pub(crate) struct TestedCursor<'r, 'a> {
     rest: &'r [TestedEntry<'a>],
@@ -34,7 +35,7 @@ impl<'r, 'a> Model for TestedCursor<'r, 'a> {
 }
 
 impl<'r, 'a> TestedCursor<'r, 'a> {
-    /// All of these entries.
+    /// A cursor before the first of these entries.
     pub fn new(entries: &'r [TestedEntry<'a>]) -> TestedCursor<'r, 'a>
         requires { NeverFalls bytewise_cmp (tested_entries entries.now) }
         ensures { result ≡ tested_entries entries.now }
@@ -60,13 +61,13 @@ impl<'r, 'a> Cursor<'a, Bytewise> for TestedCursor<'r, 'a> {
         self.rest[0].value
     }
 
-    /// Takes the first entry off. It is never refused.
+    /// Takes off the first entry. It is never refused.
     fn advance(&mut self) -> Result<(), Fault> {
         self.skip();
         Ok(())
     }
 
-    /// Takes off the entries below an internal key, one by one. It is never refused.
+    /// Takes off the entries below `target`, one by one. It is never refused.
     fn seek(&mut self, target: InternalKey<'_>) -> Result<(), Fault> {
         while self.is_below(target) {
             self.skip();
@@ -76,7 +77,7 @@ impl<'r, 'a> Cursor<'a, Bytewise> for TestedCursor<'r, 'a> {
 }
 
 impl<'r, 'a> TestedCursor<'r, 'a> {
-    /// Whether the first entry, where there is one, is below an internal key.
+    /// Whether there is an entry, and the first one is below `target`.
     fn is_below(&self, target: InternalKey<'_>) -> bool
         ensures { result ≡ first_is_below bytewise_cmp target.entry.bytes.now self.now }
     {
@@ -86,7 +87,7 @@ impl<'r, 'a> TestedCursor<'r, 'a> {
         }
     }
 
-    /// Takes the first entry off.
+    /// Takes off the first entry.
     fn skip(&mut self)
         requires { 0 < length self.old }
         ensures { self.new ≡ drop 1 self.old }

@@ -1,4 +1,4 @@
-//! The tests of a file of block contents.
+//! The tests of a file that holds a block's contents.
 
 ghost use Rattle.std.specs.Prelude.{◌≡◌, ◌≤◌, ◌++◌, [], ◌∷◌, IfErr, IfOk, None, OnOk, length};
 ghost use Rattle.std.specs.Option.{option_map};
@@ -20,9 +20,10 @@ use std::alloc::Global;
 use std::cmp::Ordering;
 use table::MAX_VALUE_LEN;
 
-/// The entries of a file, where each passes its tests.
+/// The entries of a file, if each passes its tests.
 ///
-/// Refused as Block where the bytes are no block, and else by the first test that fails.
+/// Block if `bytes` aren't a block; else the first test that fails; otherwise the only fault is
+/// Memory.
 pub(crate) fn tested(alloc: Global, bytes: &[u8]) -> Result<Vec<TestedEntry<'_>>, Fault>
     ensures found { IfOk result (λ v. IsBlock bytes.now (tested_entries v.items)) }
     ensures rising { IfOk result (λ v. IsRising bytewise_cmp (tested_entries v.items)) }
@@ -32,7 +33,7 @@ pub(crate) fn tested(alloc: Global, bytes: &[u8]) -> Result<Vec<TestedEntry<'_>>
     tested_all(alloc, BlockCursor::new(alloc, &block)?)
 }
 
-/// The key of the last entry.
+/// The key of the last entry; None if there is no entry.
 pub(crate) fn last_of<'r>(entries: &'r [TestedEntry<'_>]) -> Option<InternalKey<'r>>
     ensures { option_map (λ key. key.bytes.now) result ≡ last_key None (tested_entries entries.now) }
 {
@@ -40,7 +41,8 @@ pub(crate) fn last_of<'r>(entries: &'r [TestedEntry<'_>]) -> Option<InternalKey<
     Some(last.key.as_key())
 }
 
-/// The entries that are still to come, where each passes its tests after the one before it.
+/// The entries still to come, if each passes its tests after the one before it; else the first test
+/// that fails, or Memory.
 fn tested_all<'a>(alloc: Global, mut cursor: BlockCursor<'a>) -> Result<Vec<TestedEntry<'a>>, Fault>
     ensures { EqualOrMemory (λ v. tested_entries v.items) result (tested_after None cursor.entry) }
 {
@@ -54,7 +56,12 @@ fn tested_all<'a>(alloc: Global, mut cursor: BlockCursor<'a>) -> Result<Vec<Test
     Ok(entries)
 }
 
-/// Tests an entry that stands after this key.
+/// Tests an entry after the key before it, if there is one. The first test that fails names the
+/// fault:
+///
+/// 1. Key, TooLarge: the key is an internal key within its limit.
+/// 2. TooLarge: the value has at most 16,777,215 bytes.
+/// 3. Order: the key is above the one before it.
 fn test_entry<'k>(
     before: Option<InternalKey<'_>>,
     key: &'k [u8],
@@ -75,7 +82,7 @@ fn test_entry<'k>(
     }
 }
 
-/// Appends the entry of a key and a value. Memory alone refuses.
+/// Appends an entry. The only fault is Memory.
 pub(crate) fn push_entry<'a>(
     alloc: Global,
     entries: &mut Vec<TestedEntry<'a>>,

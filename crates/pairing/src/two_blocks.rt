@@ -1,4 +1,4 @@
-//! Two blocks into one.
+//! Merging two blocks into one.
 
 ghost use Rattle.std.specs.Prelude.{IfOk, Ok, map};
 ghost use Rattle.coding.specs.Answers.{EqualOrMemory, HoldsOrMemory};
@@ -20,21 +20,26 @@ use std::alloc::Global;
 use std::thread::Threads;
 use table::MAX_TABLE_LEN;
 
-/// How many entries stand for each restart of a block that is made.
+/// The restart interval of the block that is written.
 const INTERVAL: u64 = 16;
 
-/// How many ranges of user keys there are, and how many workers.
+/// The number of ranges of user keys, and of workers.
 const RANGES: u64 = 2;
 
-/// The number of entries of two blocks together, and their block at interval 16.
+/// The number of entries of two blocks together, and the block of their union at interval 16.
 ///
-/// Each file is tested whole, the first before the second: Block where its bytes are no block; then each entry in
-/// order: Key where its key is no internal key, TooLarge where its user key or its value is over its limit, Order where
-/// its key isn't above the one before it. Then Duplicate where a user key comes twice with one sequence, and TooLarge
-/// where the block would have more than 2^30 bytes. Else refused for want of memory alone.
+/// The faults, `a` being tested whole before `b`:
 ///
-/// The entries are merged in two ranges of user keys, those before `at` and those from `at` on, by two workers, and the
-/// runs joined: the block doesn't depend on `at`.
+/// 1. Block: the bytes of a file aren't a block.
+/// 2. Key, TooLarge: an entry's key is no internal key, or its user key has more than 65,535 bytes.
+/// 3. TooLarge: its value has more than 16,777,215 bytes.
+/// 4. Order: its key isn't above the one before it, bytewise.
+/// 5. Duplicate: after both files, if one user key and sequence are there twice.
+/// 6. TooLarge: the block would have more than 2^30 bytes.
+/// 7. Memory otherwise.
+///
+/// Two workers merge the entries before the user key `at` and those from it on, and the runs are
+/// joined. So the block doesn't depend on `at`.
 pub fn blocks<R: Threads + Sync>(
     rt: &R,
     alloc: Global,
@@ -51,7 +56,8 @@ pub fn blocks<R: Threads + Sync>(
     counted(alloc, &entries)
 }
 
-/// The number of entries, and their block. Refused as the block is.
+/// The number of entries, and their block. TooLarge if the block would be too long; otherwise the
+/// only fault is Memory.
 fn counted(alloc: Global, entries: &[TestedEntry<'_>]) -> Result<(u64, Vec<u8>), Fault>
     ensures { EqualOrMemory (λ r. (r.0, r.1.items)) result (counted (tested_entries entries.now)) }
 {
@@ -60,7 +66,8 @@ fn counted(alloc: Global, entries: &[TestedEntry<'_>]) -> Result<(u64, Vec<u8>),
     Ok((count, block))
 }
 
-/// The block of entries, or TooLarge where it would have more bytes than a table may have.
+/// The block of `entries`. TooLarge if it would have more than 2^30 bytes; otherwise the only fault
+/// is Memory.
 fn written(alloc: Global, entries: &[TestedEntry<'_>]) -> Result<Vec<u8>, Fault>
     ensures { EqualOrMemory (λ v. v.items) result (block_within (tested_entries entries.now)) }
 {
@@ -75,9 +82,10 @@ fn written(alloc: Global, entries: &[TestedEntry<'_>]) -> Result<Vec<u8>, Fault>
     builder.finish()
 }
 
-/// The union of two files, merged by two workers in two ranges of user keys, those before `at` and those from `at` on.
+/// The union of two files. Two workers merge the entries before the user key `at` and those from it
+/// on.
 ///
-/// Refused as Duplicate where there is none.
+/// Duplicate if there is no union; otherwise the only fault is Memory.
 fn united<'a, R: Threads + Sync>(
     rt: &R,
     alloc: Global,
@@ -100,7 +108,7 @@ fn united<'a, R: Threads + Sync>(
     in_a_row(alloc, runs)
 }
 
-/// Runs, one behind the other. Refused for want of memory alone.
+/// The entries of all runs, one after the other. The only fault is Memory.
 fn in_a_row<'a>(
     alloc: Global,
     runs: Vec<Vec<TestedEntry<'a>>>,

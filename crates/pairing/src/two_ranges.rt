@@ -1,4 +1,4 @@
-//! The jobs of a merge of two files.
+//! The jobs of merging two files.
 
 use crate::parts::Parts;
 use crate::tested::TestedEntry;
@@ -6,7 +6,8 @@ use board::Labour;
 use coding::Fault;
 use std::alloc::Global;
 
-/// Two ranges of user keys, one behind the other. A job takes the union of what two files have in one of them.
+/// Two ranges of user keys, one after the other. A job makes the union of the entries in one of
+/// them.
 #[derive(Drop)]
 pub(crate) struct TwoRanges<'r, 'a> {
     pub alloc: Global,

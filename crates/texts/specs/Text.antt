@@ -10,39 +10,39 @@ use Rattle.hex.specs.declared.error.FromHexError.{FromHexError}
 abbrev pub nothing_text : List ℕ
 nothing_text = codes "-"
 
--- the lower-case hexadecimal digits of bytes, and the text of no bytes
+-- the lower-case hexadecimal digits of bytes; `-` for no bytes
 abbrev pub text_of_bytes : List ℕ → List ℕ
 text_of_bytes [] = nothing_text
 text_of_bytes (b ∷ bytes) = encode_lower (b ∷ bytes)
 
--- the value of an answer, whatever the error is
+-- the value of an answer; None for any error
 abbrev pub answered : Result (List ℕ) FromHexError → Option (List ℕ)
 answered (Ok bytes) = Some bytes
 answered (Err e) = None
 
--- the bytes whose digits, of either case, a text is; the empty text is no bytes' text
+-- the bytes of a text of hexadecimal digits of either case; None for the empty text and every other
 abbrev pub bytes_of_digits : List ℕ → Option (List ℕ)
 bytes_of_digits [] = None
 bytes_of_digits (c ∷ text) = answered (decode_of (c ∷ text))
 
--- the bytes that a text stands for
+-- the bytes that a text stands for, `-` being no bytes; None if it stands for none
 abbrev pub bytes_of_text : List ℕ → Option (List ℕ)
 bytes_of_text text = if bytes_eq text nothing_text then Some [] else bytes_of_digits text
 
--- A text stands for bytes where it is their text but for the case of its letters.
+-- A text stands for bytes if it is their text, whatever the case of its letters.
 abbrev pub StandsFor : List ℕ → List ℕ → Type 0
 StandsFor text bytes = map to_ascii_lowercase text ≡ text_of_bytes bytes
 
--- a text is a number of 64 bits: decimal digits alone
+-- a text is a number of 64 bits: decimal digits alone, below 2 ^ 64
 abbrev pub IsNumberText : List ℕ → Type 0
 IsNumberText text = IsNumeral 10 text × (digits_value 10 text < 2 ^ 64)
 
--- the number of an option's text, where it is given
+-- the number of an option's text; None if the option isn't given
 abbrev pub IsNumberOf : Option (List ℕ) → Option ℕ → Type 0
 IsNumberOf None number = number ≡ None
 IsNumberOf (Some text) number = IsNumberText text × (number ≡ Some (digits_value 10 text))
 
--- an option is given a text that is no number
+-- the option is given, with a text that isn't a number
 abbrev pub IsNoNumber : Option (List ℕ) → Type 0
 IsNoNumber None = ⊥
 IsNoNumber (Some text) = IsNumberText text → ⊥

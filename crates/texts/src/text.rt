@@ -13,7 +13,9 @@ use std::alloc::Global;
 /// The text of no bytes.
 const NOTHING: &str = "-";
 
-/// The lower-case hexadecimal digits of the bytes, two a byte, and `-` for no bytes. Memory alone refuses.
+/// The text of `bytes`: lower-case hexadecimal digits, two a byte; `-` for no bytes.
+///
+/// It reads back. The only fault is Memory.
 pub fn text_of(alloc: Global, bytes: &[u8]) -> Result<String, Fault>
     ensures digits { EqualOrMemory string_bytes result (Ok (text_of_bytes bytes.now)) }
     ensures read_back { bytes_of_text (text_of_bytes bytes.now) ≡ Some bytes.now }
@@ -24,8 +26,9 @@ pub fn text_of(alloc: Global, bytes: &[u8]) -> Result<String, Fault>
     Ok(hex::encode(alloc, bytes)?)
 }
 
-/// The bytes whose hexadecimal digits, of either case, the text is, and no bytes for `-`. None is the answer
-/// for every other text, as for the empty one. Memory alone refuses.
+/// The bytes of a text of hexadecimal digits of either case, two a byte; no bytes for `-`.
+///
+/// None for every other text, as the empty one. The only fault is Memory.
 #[tactic(auto, using(crate::proofs::TextLemmas::bytes_of_text_meaning))]
 pub fn key_of(alloc: Global, text: &str) -> Result<Option<Vec<u8>>, Fault>
     ensures meaning { (bytes : List ℕ) → IsBytes bytes
@@ -45,7 +48,9 @@ pub fn key_of(alloc: Global, text: &str) -> Result<Option<Vec<u8>>, Fault>
     }
 }
 
-/// The number of a text: decimal digits alone, of a number below 2^64. No sign and no blank is read, and no empty text.
+/// The number of a text of decimal digits, if it is below 2^64; else None.
+///
+/// A sign, a blank or no digit at all is None too.
 pub fn number_of(text: &str) -> Option<u64>
     ensures { MatchOption result (IsNumberText text.now → ⊥)
         (λ number. IsNumberText text.now × (number ≡ digits_value 10 text.now)) }

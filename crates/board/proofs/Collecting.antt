@@ -1,4 +1,4 @@
--- What a run answers, where its labour states the answers of all jobs as one list.
+-- What a run answers, if its labour states the answers of all jobs as one list.
 use Rattle.std.proofs.Common.{◌≡◌, ◌⊎◌, ℕ, zero, suc, ◌<◌, ◌≤◌, inl, inr, List, [], ◌∷◌, map, length, get_or, Some, Result, Ok, Err, IfOk, IfErr, refl, ap, ◌∙◌, arith, slice_get}
 use Rattle.coding.specs.declared.fault.Fault.{Fault}
 use Rattle.coding.specs.Answers.{◌>>=◌, EqualOrMemory, FailsOrMemory}

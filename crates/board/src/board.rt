@@ -34,7 +34,7 @@ const NO_FAULT: u64 = u64::MAX;
 /// many jobs and seats it has.
 ///
 /// Of `n` jobs and `w` seats, seat `s` owns the share from job `s * n / w` to before `(s + 1) * n /
-/// w`, both rounded down. 10 jobs and 4 seats give the shares 0 to 1, 2 to 4, 5 to 6, 7 to 9.
+/// w`. Both are rounded down. 10 jobs and 4 seats give the shares 0 to 1, 2 to 4, 5 to 6, 7 to 9.
 #[derive(Drop)]
 pub struct Board {
     table: Table<(), SeatView, Extent, ByShares, Global>,

@@ -14,7 +14,7 @@ pub trait Labour {
     /// How many jobs there are.
     ghost jobs: { Self → ℕ };
 
-    /// The one fault that refuses the job, if one does. It is never out of memory.
+    /// The one fault that refuses the job, if one does. `Memory` is no such fault.
     ghost refusal: { Self → ℕ → Option Fault };
 
     /// Whether the job gives this result.

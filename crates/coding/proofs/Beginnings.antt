@@ -1,4 +1,4 @@
--- Words of eight bytes: what they have in common.
+-- Words of eight bytes, and the common beginning of two of them.
 use Rattle.std.proofs.Common.{◌≡◌, ◌≢◌, ℕ, zero, suc, ◌+◌, ◌*◌, ◌/◌, ◌%◌, ◌<◌, ◌≤◌, Bool, true, false, eqb, List, [], ◌∷◌, length, get_or, min, take, drop, inl, inr, refl, sym, ap, subst, ◌∙◌, arith}
 use Rattle.std.specs.List.{common_prefix_len}
 use Rattle.std.specs.Int.{trailing_zeros, w64}

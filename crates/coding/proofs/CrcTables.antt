@@ -1,4 +1,4 @@
--- The tables hold what they are to hold: each is held against the definition at each of the 256 bytes, by computing.
+-- Each table has what its definition says, at each of the 256 bytes: shown by computing.
 use Rattle.std.proofs.Common.{◌≡◌, ℕ, zero, suc, ◌+◌, ◌<◌, Bool, true, ◌&&◌, nat_eq, get_or, List, [], ◌∷◌, length, refl, arith, ap, sym, ◌∙◌}
 use Rattle.std.proofs.lemmas.Bool.{and_parts, eqb-true}
 use Rattle.coding.specs.CrcRegister.{after_step, after_steps}

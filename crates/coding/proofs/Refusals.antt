@@ -1,4 +1,4 @@
--- A refusal is the definition's, or want of memory.
+-- A refusal is the definition's, or Memory.
 use Rattle.std.proofs.Common.{◌≡◌, ℕ, Option, None, Result, Err, refl, subst}
 use Rattle.coding.specs.Answers.{fault, UnlessNamed, UnlessMemory, FailsOrMemory}
 use Rattle.coding.specs.declared.fault.Fault.{Fault}
@@ -19,7 +19,7 @@ from_by : (n : FaultName) (i : Option ℕ) (P Q : Type 0) → (P → Q) → Unle
 from_by Memory None P Q f h = tt
 from_by _ _ P Q f h = f h
 
--- what follows of a fact that holds, want of memory aside
+-- what follows of a fact that holds, unless the fault is Memory
 pub unless_from : (e : Fault) (P Q : Type 0) → (P → Q) → UnlessMemory e P → UnlessMemory e Q
 unless_from e P Q f h = from_by e.name e.input P Q f h
 
@@ -27,10 +27,10 @@ only_by : (n : FaultName) (i : Option ℕ) (P : Type 0) → (P → ⊥) → Unle
 only_by Memory None P never h = refl
 only_by _ _ P never h = absurd (never h)
 
--- where the fact is false, only want of memory is left
+-- if the fact is false, the fault is Memory
 pub only_memory : (e : Fault) (P : Type 0) → (P → ⊥) → UnlessMemory e P → e ≡ fault Memory
 only_memory e P never h = only_by e.name e.input P never h
 
--- a failure of the device is no want of memory
+-- Device is not Memory
 pub unless_device : (e : Fault) (P : Type 0) → e.name ≡ Device → UnlessMemory e P → P
 unless_device e P is h = subst (λ (n : FaultName). UnlessNamed n e.input P) is h

@@ -15,8 +15,8 @@ pub enum FaultName {
     NoInput,
     /// A level above 5 was asked for, or an input is neither of that level nor of the next.
     Level,
-    /// An option is outside its limits, there are more than 256 inputs, or the inputs don't fit
-    /// together.
+    /// An option is outside its limits, there are more than 256 inputs, tables and inputs aren't
+    /// equally many, or the grandparents' largest keys don't rise strictly.
     Options,
     /// The boundaries of a split don't rise strictly.
     SplitOrder,

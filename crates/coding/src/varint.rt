@@ -3,8 +3,8 @@
 //!     300 = 0b10_0101100    ac 02    the high bit is set on each byte but the last
 //!
 //! 1. A number below 2^64 has one spelling of 1 to 10 bytes, the shortest.
-//! 2. Bytes have no reading if they begin with a longer spelling (its last group is 0), if the
-//!    number exceeds its width, or if they end within the spelling.
+//! 2. Bytes that begin with a longer spelling have no reading; its last group is 0. Neither have
+//!    bytes whose number exceeds its width, or that end within the spelling.
 //! 3. Bytes after the spelling are not looked at.
 
 ghost use Rattle.std.specs.Prelude.{◌≡◌, ℕ, ◌<◌, ◌≤◌, ◌^◌, ◌↔◌, ◌⊎◌, List, ◌∷◌, ◌++◌, length, OnOk, OnErr, IsOkUnless, Some};

@@ -1,4 +1,4 @@
--- A call that answers a value unless memory runs out.
+-- A call that answers a value, or Memory.
 use Rattle.std.proofs.Common.{◌≡◌, Result, Ok, Err}
 use Rattle.coding.proofs.Refusals.{only_memory}
 use Rattle.coding.specs.Answers.{fault, FailsOrMemory}
@@ -11,6 +11,6 @@ refused e = Err e
 no_refusal : {Y : Type 0} (y : Y) (e : Fault) → Ok y ≡ refused e → ⊥
 no_refusal y e h = cc
 
--- where the definition answers a value, the call's only error is want of memory
+-- if the definition answers a value, the only fault of the call is Memory
 pub FailsOrMemory-memory : {Y : Type 0} (e : Fault) (y : Y) → FailsOrMemory {Y = Y} e (Ok y) → e ≡ fault Memory
 FailsOrMemory-memory e y h = only_memory e (Ok y ≡ refused e) (no_refusal y e) h

@@ -1,4 +1,4 @@
--- A version is made again of its snapshot.
+-- The snapshot edit of a version makes the version again.
 use Rattle.std.proofs.Common.{◌≡◌, ℕ, zero, suc, ◌+◌, ◌<◌, ◌≤◌, Bool, true, false, not, cond, eqb, ◌&&◌, List, [], ◌∷◌, ◌++◌, map, Some, refl, sym, ap, subst, ◌∙◌, append_assoc, append-nil, arith}
 use Rattle.std.specs.List.{All, fold, filter}
 use Rattle.std.specs.List.Sorted.{IsStrictlySortedBy, IsPermutation}

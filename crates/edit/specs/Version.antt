@@ -83,9 +83,10 @@ number_cmp a b = nat_cmp a.meta.number b.meta.number
 abbrev pub with_file : List NewFile → NewFile → List NewFile
 with_file files f = insert_key number_cmp files f
 
--- The files after an edit: those that no deletion names, and the new ones. There are none if a
--- deletion names no file of its level, if two new files have one number, or if a new file has the
--- number of one that stays.
+-- The files after an edit: those that no deletion names, and the new ones. There are none if
+-- - a deletion names no file of its level,
+-- - two new files have one number, or
+-- - a new file has the number of one that stays.
 abbrev pub files_after : List NewFile → List DeletedFile → List NewFile → Option (List NewFile)
 files_after files deleted added =
     if list_all (has_place files) deleted && are_new (kept_files deleted files) added then Some (fold with_file (kept_files deleted files) added) else None

@@ -15,8 +15,8 @@ use std::collections::{BTreeMap, BTreeSet};
 
 /// The files that no deletion names, and then the new ones.
 ///
-/// Apply if a deletion names no file of its level, if two new files have one number, or if a file
-/// that stays has the number of a new one. Otherwise the only fault is Memory.
+/// Apply if a deletion names no file of its level, or if two new files have one number. Apply too
+/// if a file that stays has the number of a new one. Otherwise the only fault is Memory.
 pub(crate) fn files_after(
     files: Files,
     deleted: BTreeSet<DeletedFile>,

@@ -113,8 +113,8 @@ impl Version {
     /// Faults:
     ///
     /// 1. Comparator: the edit names another comparator than `C`.
-    /// 2. Apply: the edit doesn't fit. It deletes a file that isn't at that level, or has two new
-    ///    files of one number, or a new file with the number of one that stays.
+    /// 2. Apply: the edit doesn't fit. It deletes a file that isn't at that level, or two new files
+    ///    have one number, or a new file has the number of one that stays.
     /// 3. Memory otherwise.
     pub fn apply<C: Comparator>(&self, alloc: Global, edit: &VersionEdit) -> Result<Version, Fault>
         requires { HasLevels (edit_in edit.now) }

@@ -19,8 +19,8 @@ const WORD_LEN: usize = 8;
 /// User keys as unsigned bytes, a proper prefix first: LevelDB's comparator.
 ///
 /// - The separator raises the first byte at which `start` and `limit` differ by one, and cuts off
-///   the rest. It is `start` if that byte is 0xff, if the raised byte isn't below that of `limit`,
-///   or if one of the two is a prefix of the other.
+///   the rest. It is `start` if that byte is 0xff, or if the raised byte isn't below that of
+///   `limit`. It is `start` too if one of the two is a prefix of the other.
 /// - The successor raises the first byte that isn't 0xff, and cuts off the rest. It is the key if
 ///   there is no such byte.
 pub struct Bytewise;

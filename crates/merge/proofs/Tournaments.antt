@@ -1,4 +1,4 @@
--- A tournament: what a match and a change of one list do to it, and that its root is ahead of all places.
+-- A tournament: what a match does to it, what a change of one list does, and who wins at the root.
 use Rattle.std.proofs.Common.{Option, Bool, true, false, cond, ◌≡◌, ◌≢◌, ◌⊎◌, ℕ, ◌+◌, ◌-◌, ◌*◌, ◌/◌, ◌<◌, ◌≤◌, List, [], ◌∷◌, ◌++◌, length, map, replicate, get_or, take, drop, set, suc, zero, Some, None, inl, inr, ⊎_elim, refl, sym, ap, subst, ◌∙◌, arith, length-set, get_or-set_same, get_or-set_other}
 use Rattle.std.specs.Prelude.{slice_get, nat_lt}
 use Rattle.std.specs.Option.{option_map}

@@ -10,7 +10,7 @@ use Rattle.ikey.specs.Order.{internal_cmp}
 use Rattle.table.specs.ReadingCursors.{NeverFalls}
 
 -- The first list wins, or is the other one: its first key is smaller, or equal at a place that
--- isn't higher. A list without an entry loses.
+-- isn't higher. A list without an entry loses against one with an entry.
 abbrev pub IsAhead : (List ℕ → List ℕ → Ordering) → ℕ → List Entry → ℕ → List Entry → Type 0
 IsAhead cmp place list other [] = Unit {0}
 IsAhead cmp place [] other (f ∷ fs) = ⊥

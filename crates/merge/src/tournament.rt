@@ -48,8 +48,8 @@ fn lower(one: usize, other: usize) -> usize
     if one < other { one } else { other }
 }
 
-/// Which of two cursors wins: the one whose first key is smaller. Of equal keys the lower place
-/// wins, and a cursor at its end loses.
+/// Which of two cursors wins: the one whose first key is smaller, and of equal keys the lower
+/// place. A cursor at its end loses against any other.
 fn winner<'c, C: Comparator, S: Cursor<'c, C>>(cursors: &[S], one: usize, other: usize) -> usize
     requires one { one < length cursors.now }
     requires other { other < length cursors.now }

@@ -1,4 +1,4 @@
--- The union of what two files have in a range: the entries in order, where each version is behind the one before it.
+-- The union of two files' entries in a range: sorted, and rising by user key and falling sequence.
 use Rattle.std.proofs.Common.{◌≡◌, ◌≢◌, ℕ, Bool, true, false, cond, ◌≤◌, List, [], ◌∷◌, ◌++◌, length, map, drop, Option, Some, None, Result, Ok, Err, refl, sym, ap, subst, ◌∙◌, arith}
 use Rattle.std.specs.Prelude.{slice_get}
 use Rattle.std.specs.Option.{option_map}

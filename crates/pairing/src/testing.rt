@@ -59,7 +59,7 @@ fn tested_all<'a>(alloc: Global, mut cursor: BlockCursor<'a>) -> Result<Vec<Test
 /// Tests an entry after the key before it, if there is one. The first test that fails names the
 /// fault:
 ///
-/// 1. Key, TooLarge: the key is an internal key within its limit.
+/// 1. Key, TooLarge: the key is an internal key, and its user key has at most 65,535 bytes.
 /// 2. TooLarge: the value has at most 16,777,215 bytes.
 /// 3. Order: the key is above the one before it.
 fn test_entry<'k>(

@@ -28,15 +28,15 @@ const RANGES: u64 = 2;
 
 /// The number of entries of two blocks together, and the block of their union at interval 16.
 ///
-/// The faults, `a` being tested whole before `b`:
+/// File `a` is tested whole, and then `b`. The first test that fails names the fault:
 ///
-/// 1. Block: the bytes of a file aren't a block.
-/// 2. Key, TooLarge: an entry's key is no internal key, or its user key has more than 65,535 bytes.
-/// 3. TooLarge: its value has more than 16,777,215 bytes.
-/// 4. Order: its key isn't above the one before it, bytewise.
-/// 5. Duplicate: after both files, if one user key and sequence are there twice.
-/// 6. TooLarge: the block would have more than 2^30 bytes.
-/// 7. Memory otherwise.
+/// 1. Block: the bytes aren't a block.
+/// 2. Then each entry in order. Key: its key is no internal key. TooLarge: its user key has more
+///    than 65,535 bytes, or its value more than 16,777,215. Order: its key isn't above the one
+///    before it, bytewise.
+///
+/// After both files it is Duplicate if a user key has one sequence twice. Then it is TooLarge if
+/// the block would have more than 2^30 bytes. Otherwise the only fault is Memory.
 ///
 /// Two workers merge the entries before the user key `at` and those from it on, and the runs are
 /// joined. So the block doesn't depend on `at`.

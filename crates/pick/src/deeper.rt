@@ -85,7 +85,8 @@ pub(crate) fn deeper_files<C: Comparator>(
 }
 
 /// Copies of the grandparents: the files of `level`, two below the compaction's, whose user keys
-/// overlap `range`, that of all inputs. None if `level` exceeds 6. The only fault is Memory.
+/// overlap `range`, that of all inputs. There is none if `level` exceeds 6. The only fault is
+/// Memory.
 pub(crate) fn grandparents<C: Comparator>(
     alloc: Global,
     version: &Version,

@@ -23,8 +23,8 @@ pub struct Inputs {
     pub level: u64,
     /// The inputs: files of the level in version order, then those of the next level.
     pub files: Vec<InputFile>,
-    /// The grandparents: files of the level after that, whose range of user keys overlaps that of
-    /// all inputs, in version order.
+    /// The grandparents: files of `level` + 2 whose range of user keys overlaps that of all inputs,
+    /// in version order.
     pub grandparents: Vec<FileMeta>,
     /// All files of the levels from `level` + 2 to 6, by level and in version order.
     pub deeper: Vec<FileMeta>,

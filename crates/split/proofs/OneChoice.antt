@@ -1,4 +1,4 @@
--- Keys that rise strictly are told by which keys they are.
+-- Two lists of the same keys that both rise strictly are the same list.
 use Rattle.std.proofs.Common.{◌≡◌, ℕ, zero, suc, ◌<◌, List, [], ◌∷◌, length, get_or, refl, sym, ap, subst, ◌∙◌, inl, inr, arith}
 use Rattle.std.specs.Prelude.{◌⊎◌, Contains}
 use Rattle.std.specs.declared.cmp.Ordering.{Ordering}

@@ -18,7 +18,7 @@ on_any : {X E : Type 0} (r : Result X E) (P : Type 0) → P → OnOk r P
 on_any (Ok x) P h = h
 on_any (Err e) P h = tt
 
--- want of memory needs no reason
+-- Memory needs no reason
 only_memory : {X : Type 0} (r : Result X Fault) (P : Fault → Type 0) → IfErr r (λ e. e ≡ fault Memory) → IfErr r (λ e. UnlessMemory e (P e))
 only_memory (Ok x) P h = tt
 only_memory (Err e) P h = subst (λ (f : Fault). UnlessMemory f (P e)) (sym h) tt

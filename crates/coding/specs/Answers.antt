@@ -53,7 +53,7 @@ abbrev pub UnlessNamed : FaultName → Option ℕ → Type 0 → Type 0
 UnlessNamed Memory None P = Unit {0}
 UnlessNamed _ _ P = P
 
--- P, unless the fault is Memory
+-- P, unless the fault is Memory, about no input
 abbrev pub UnlessMemory : Fault → Type 0 → Type 0
 UnlessMemory e P = UnlessNamed e.name e.input P
 

@@ -5,20 +5,19 @@ ghost use Rattle.std.specs.List.{list_all};
 ghost use Rattle.coding.specs.Answers.{fault};
 ghost use Rattle.coding.specs.declared.fault.FaultName.TheVariants.{Memory};
 ghost use Rattle.merge.specs.Merged.{joined};
-ghost use Rattle.split.specs.Ranges.{key_range, IsCover};
-ghost use Rattle.keep.specs.InRange.{entries_in};
+ghost use Rattle.split.specs.Ranges.{IsCover};
 ghost use Rattle.reads.specs.Standing.{AreFalling};
 ghost use Rattle.checks.specs.Falling.{TellsRange};
 
 use board::{Gate, Labour, run};
 use coding::Fault;
-use compact::add_cursor;
 use ikey::{Comparator, SharedComparator};
+use keep::cursors_from;
 use reads::falls_in;
-use split::{Range, Split};
+use split::Split;
 use std::alloc::Global;
 use std::thread::Threads;
-use table::{SoundTable, TableCursor};
+use table::SoundTable;
 
 /// Tables, walked in the ranges of a split, each a job.
 #[derive(Drop)]
@@ -45,10 +44,11 @@ impl<'r, 't, C: Comparator + 't + 'static> Labour for Falls<'r, 't, C> {
     }
 }
 
-/// Whether of each user key each entry is newer than those behind it, where the entries of each table stand behind those of the
-/// tables before it.
+/// Whether of each user key each entry is newer than those behind it, where the entries of each
+/// table stand behind those of the tables before it.
 ///
-/// The ranges of the split are walked by 1 to 64 workers, a range a job. Refused for want of memory alone.
+/// The ranges of the split are walked by 1 to 64 workers, a range a job. Refused for want of memory
+/// alone.
 pub(crate) fn entries_fall<'t, C: SharedComparator + 'static, G: Gate + Sync, R: Threads + Sync>(
     rt: &R,
     alloc: Global,
@@ -101,21 +101,4 @@ fn falls_at<'t, C: Comparator + 't>(
     let range = split.range(number);
     let cursors = cursors_from(alloc, tables, range)?;
     Ok(falls_in(alloc, cursors, range)?)
-}
-
-/// A cursor over each table that reaches into a range, but for entries before it. Refused for want of memory alone.
-fn cursors_from<'t, C: Comparator + 't>(
-    alloc: Global,
-    tables: &[&SoundTable<'t, C>],
-    range: Range<'_>,
-) -> Result<Vec<TableCursor<'t, C>>, Fault>
-    ensures held { IfOk result (λ v. entries_in C.cmp (key_range range.entry) (joined v.items)
-        ≡ entries_in C.cmp (key_range range.entry) (joined (map (λ t. t.now.entries) tables.now))) }
-    ensures memory { IfErr result (λ e. e ≡ fault Memory) }
-{
-    let mut cursors = Vec::new(alloc);
-    for table in tables {
-        add_cursor(alloc, &mut cursors, table, range)?;
-    }
-    Ok(cursors)
 }

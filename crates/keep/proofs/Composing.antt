@@ -16,7 +16,7 @@ use Rattle.block.specs.Piece.{Entry}
 use Rattle.table.specs.ReadingCursors.{NeverFalls}
 use Rattle.merge.specs.Union.{VersionsRise}
 use Rattle.split.specs.Boundaries.{IsRising}
-use Rattle.split.specs.Ranges.{range_at}
+use Rattle.split.specs.Ranges.{KeyRange, range_at}
 use Rattle.merge.specs.Merged.{joined, merged}
 use Rattle.merge.proofs.Sorting.{sorted_never_falls}
 use Rattle.reads.proofs.Members.{first_in, later_in}
@@ -25,7 +25,7 @@ use Rattle.keep.specs.Keeping.{is_same_user, is_between, is_obsolete, keeps, kep
 use Rattle.keep.specs.InRange.{is_in_range, entries_in}
 use Rattle.keep.specs.declared.mark.Mark.{Mark}
 use Rattle.keep.specs.Marks.{Below, grandparents_below, is_first, heads_behind, heads, changes_behind, changes, marks}
-use Rattle.keep.specs.Runs.{run_of, is_same_version, are_distinct, moved_mark, joined_marks, ranges_from, RangesCompose}
+use Rattle.keep.specs.Runs.{run_of, is_same_version, are_distinct, moved_mark, joined_marks, ranges_from, RangesCompose, KeptInRangeLaw}
 
 -- ---- filters
 
@@ -462,3 +462,82 @@ module _ (cmp : List ℕ → List ℕ → Ordering) (total : IsTotalOrder cmp) w
     refused = λ inputs ks split. distinct_compose ks (merged cmp inputs) split.rising (sorted_never_falls cmp total (joined inputs));
     ranges = ranges_at;
   }
+
+-- ---- what is kept of a range
+
+filter_both : (p q : Entry → Bool) (xs : List Entry) → filter (λ e. p e && q e) xs ≡ filter q (filter p xs)
+filter_both p q [] = refl
+filter_both p q (x ∷ xs) = by (p x) (filter_both p q xs)
+  where
+    by : (b : Bool) → filter (λ e. p e && q e) xs ≡ filter q (filter p xs)
+        → cond (b && q x) (x ∷ filter (λ e. p e && q e) xs) (filter (λ e. p e && q e) xs) ≡ filter q (cond b (x ∷ filter p xs) (filter p xs))
+    by true same = ap (λ (ys : List Entry). cond (q x) (x ∷ ys) ys) same
+    by false same = same
+
+filter_joined : (p : Entry → Bool) (xs ys : List Entry) → filter p (xs ++ ys) ≡ filter p xs ++ filter p ys
+filter_joined p [] ys = refl
+filter_joined p (x ∷ xs) ys = by (p x) (filter_joined p xs ys)
+  where
+    by : (b : Bool) → filter p (xs ++ ys) ≡ filter p xs ++ filter p ys → cond b (x ∷ filter p (xs ++ ys)) (filter p (xs ++ ys)) ≡ cond b (x ∷ filter p xs) (filter p xs) ++ filter p ys
+    by true same = ap (λ (zs : List Entry). x ∷ zs) same
+    by false same = same
+
+module _ (cmp : List ℕ → List ℕ → Ordering) (total : IsTotalOrder cmp) (b : Below) where
+  -- what holds of all entries holds of the kept ones
+  all_kept : (P : Entry → Type 0) (before : Option Entry) (xs : List Entry) → AllByRecursion P xs → AllByRecursion P (kb cmp b before xs)
+  all_kept P before [] h = tt
+  all_kept P before (x ∷ xs) h = by (keep cmp b before x) (all_kept P (Some x) xs h.1)
+    where
+      by : (k : Bool) → AllByRecursion P (kb cmp b (Some x) xs) → AllByRecursion P ((if k then x ∷ [] else []) ++ kb cmp b (Some x) xs)
+      by true rest = (h.0, rest)
+      by false rest = rest
+
+  module _ (k : List ℕ) (xs : List Entry) (h : NeverFall cmp total xs) where
+    abbrev low : List Entry
+    low = filter (is_before cmp total k) xs
+
+    abbrev high : List Entry
+    high = filter (is_behind cmp total k) xs
+
+    kept_halves : kb cmp b None xs ≡ kb cmp b None low ++ kb cmp b None high
+    kept_halves = ap (kb cmp b None) (low_then_high cmp total k xs h) ∙ kept_append cmp b None low high tt (low_fresh cmp total k xs)
+
+    kept_low : kb cmp b None low ≡ filter (is_before cmp total k) (kb cmp b None xs)
+    kept_low =
+        let test = is_before cmp total k in
+        let own = filter_all test (kb cmp b None low) (all_kept (λ e. test e ≡ true) None low (filter_passes test xs)) in
+        let other = filter_none test (kb cmp b None high) (all_map (λ e. not (test e) ≡ true) (λ e. test e ≡ false) (kb cmp b None high) (λ e g. not-true (test e) g) (all_kept (λ e. not (test e) ≡ true) None high (filter_passes (is_behind cmp total k) xs))) in
+        sym (ap (filter test) kept_halves ∙ filter_joined test (kb cmp b None low) (kb cmp b None high) ∙ ap (λ (ys : List Entry). ys ++ filter test (kb cmp b None high)) own
+        ∙ ap (λ (ys : List Entry). kb cmp b None low ++ ys) other ∙ append-nil (kb cmp b None low))
+
+    kept_high : kb cmp b None high ≡ filter (is_behind cmp total k) (kb cmp b None xs)
+    kept_high =
+        let test = is_behind cmp total k in
+        let own = filter_all test (kb cmp b None high) (all_kept (λ e. test e ≡ true) None high (filter_passes test xs)) in
+        let other = filter_none test (kb cmp b None low) (all_map (λ e. is_before cmp total k e ≡ true) (λ e. test e ≡ false) (kb cmp b None low) (λ e g. ap not g) (all_kept (λ e. is_before cmp total k e ≡ true) None low (filter_passes (is_before cmp total k) xs))) in
+        sym (ap (filter test) kept_halves ∙ filter_joined test (kb cmp b None low) (kb cmp b None high) ∙ ap (λ (ys : List Entry). ys ++ filter test (kb cmp b None high)) other ∙ own)
+
+  abbrev upper_test : Option (List ℕ) → Entry → Bool
+  upper_test upper e = option_map_or (λ u. is_lt (cmp (user_of e.key) u)) upper true
+
+  kept_from : (lower : Option (List ℕ)) (xs : List Entry) → NeverFall cmp total xs → kb cmp b None (filter (lower_test cmp total lower) xs) ≡ filter (lower_test cmp total lower) (kb cmp b None xs)
+  kept_from None xs h =
+      ap (kb cmp b None) (filter_all (lower_test cmp total None) xs (all_any (λ e. lower_test cmp total None e ≡ true) xs (λ e. refl)))
+      ∙ sym (filter_all (lower_test cmp total None) (kb cmp b None xs) (all_any (λ e. lower_test cmp total None e ≡ true) (kb cmp b None xs) (λ e. refl)))
+  kept_from (Some k) xs h = kept_high k xs h
+
+  kept_to : (upper : Option (List ℕ)) (xs : List Entry) → NeverFall cmp total xs → kb cmp b None (filter (upper_test upper) xs) ≡ filter (upper_test upper) (kb cmp b None xs)
+  kept_to None xs h =
+      ap (kb cmp b None) (filter_all (upper_test None) xs (all_any (λ e. upper_test None e ≡ true) xs (λ e. refl)))
+      ∙ sym (filter_all (upper_test None) (kb cmp b None xs) (all_any (λ e. upper_test None e ≡ true) (kb cmp b None xs) (λ e. refl)))
+  kept_to (Some k) xs h = kept_low k xs h
+
+  kept_within : (range : KeyRange) (xs : List Entry) → NeverFall cmp total xs → kb cmp b None (entries_in cmp range xs) ≡ entries_in cmp range (kb cmp b None xs)
+  kept_within range xs h =
+      let from = lower_test cmp total range.lower in
+      let to = upper_test range.upper in
+      ap (kb cmp b None) (filter_both from to xs) ∙ kept_to range.upper (filter from xs) (never_filter cmp total from xs h)
+      ∙ ap (filter to) (kept_from range.lower xs h) ∙ sym (filter_both from to (kb cmp b None xs))
+
+pub kept_in_range_law : (cmp : List ℕ → List ℕ → Ordering) → IsTotalOrder cmp → KeptInRangeLaw cmp
+kept_in_range_law cmp total b range union h = kept_within cmp total b range union (versions_never cmp total union h)

@@ -1,5 +1,5 @@
 -- What is left of lists of which some entries are taken off.
-use Rattle.std.proofs.Common.{◌≡◌, ℕ, zero, suc, ◌+◌, Bool, true, false, not, cond, List, [], ◌∷◌, ◌++◌, map, drop, set, Some, inl, inr, ⊎_elim, refl, sym, ap, subst, ◌∙◌, arith}
+use Rattle.std.proofs.Common.{◌≡◌, ℕ, zero, suc, ◌+◌, Bool, true, false, not, cond, List, [], ◌∷◌, ◌++◌, map, drop, set, Some, inl, inr, ⊎_elim, refl, sym, ap, subst, ◌∙◌, append_assoc, arith}
 use Rattle.std.specs.Prelude.{filter, slice_get}
 use Rattle.std.specs.List.{AllByRecursion}
 use Rattle.std.specs.Cmp.{IsTotalOrder}
@@ -16,7 +16,7 @@ use Rattle.merge.specs.Least.{IsAdvanced}
 use Rattle.merge.specs.Seeking.{each_from, EachLeavesFrom}
 use Rattle.merge.proofs.Orders.{less_is}
 use Rattle.merge.proofs.Sorting.{filter-sorted}
-use Rattle.keep.specs.Left.{LosesOnly, EachLosesOnly}
+use Rattle.keep.specs.Left.{LosesOnly, EachLosesOnly, LosesFirst, EachLosesFirst}
 use Rattle.keep.specs.Starting.{first_is}
 
 -- ---- one list
@@ -57,17 +57,6 @@ module _ (test : Entry → Bool) where
 
   -- ---- each of several
 
-  pub each_leaves_all : (lists : List (List Entry)) → EachLosesOnly test lists lists
-  each_leaves_all [] = tt
-  each_leaves_all (l ∷ ls) = (leaves_all l, each_leaves_all ls)
-
-  pub each_leaves_more : (xs bs cs : List (List Entry)) → EachLosesOnly test xs bs → EachLosesOnly test bs cs → EachLosesOnly test xs cs
-  each_leaves_more [] [] cs h k = k
-  each_leaves_more [] (b ∷ bs) cs h k = absurd h
-  each_leaves_more (a ∷ xs) [] cs h k = absurd h
-  each_leaves_more (a ∷ xs) (b ∷ bs) [] h k = absurd k
-  each_leaves_more (a ∷ xs) (b ∷ bs) (c ∷ cs) h k = (leaves_more a b c h.0 k.0, each_leaves_more xs bs cs h.1 k.1)
-
   pub each_others : (olds news : List (List Entry)) → EachLosesOnly test olds news → AllByRecursion (λ list. AllByRecursion (λ e. test e ≡ false) list) news → news ≡ map (λ es. filter (λ e. not (test e)) es) olds
   each_others [] [] h none = refl
   each_others [] (n ∷ news) h none = absurd h
@@ -99,18 +88,60 @@ module _ (test : Entry → Bool) where
   merged_filter cmp total other apart olds news h =
       filter-sorted cmp total other (joined news) ∙ ap (sorted cmp) (each_filter other apart olds news h) ∙ sym (filter-sorted cmp total other (joined olds))
 
+-- ---- first entries alone
+
+module _ (test : Entry → Bool) where
+  abbrev Passed : List Entry → Type 0
+  Passed es = AllByRecursion (λ e. test e ≡ true) es
+
+  all_both : (xs ys : List Entry) → Passed xs → Passed ys → Passed (xs ++ ys)
+  all_both [] ys h k = k
+  all_both (x ∷ xs) ys h k = (h.0, all_both xs ys h.1 k)
+
+  first_all : (es : List Entry) → LosesFirst test es es
+  first_all es = record { gone = []; whole = refl; passed = tt }
+
+  first_more : (xs bs cs : List Entry) → LosesFirst test xs bs → LosesFirst test bs cs → LosesFirst test xs cs
+  first_more xs bs cs h k = record {
+    gone = h.gone ++ k.gone;
+    whole = h.whole ∙ ap (λ (es : List Entry). h.gone ++ es) k.whole ∙ sym (append_assoc h.gone k.gone cs);
+    passed = all_both h.gone k.gone h.passed k.passed;
+  }
+
+  without : (gone es : List Entry) → Passed gone → LosesOnly test (gone ++ es) es
+  without [] es h = leaves_all test es
+  without (g ∷ gone) es h = inl (h.0, without gone es h.1)
+
+  pub each_first_all : (lists : List (List Entry)) → EachLosesFirst test lists lists
+  each_first_all [] = tt
+  each_first_all (l ∷ ls) = (first_all l, each_first_all ls)
+
+  pub each_first_more : (xs bs cs : List (List Entry)) → EachLosesFirst test xs bs → EachLosesFirst test bs cs → EachLosesFirst test xs cs
+  each_first_more [] [] cs h k = k
+  each_first_more [] (b ∷ bs) cs h k = absurd h
+  each_first_more (a ∷ xs) [] cs h k = absurd h
+  each_first_more (a ∷ xs) (b ∷ bs) [] h k = absurd k
+  each_first_more (a ∷ xs) (b ∷ bs) (c ∷ cs) h k = (first_more a b c h.0 k.0, each_first_more xs bs cs h.1 k.1)
+
+  pub each_loses_only : (olds news : List (List Entry)) → EachLosesFirst test olds news → EachLosesOnly test olds news
+  each_loses_only [] [] h = tt
+  each_loses_only [] (n ∷ news) h = absurd h
+  each_loses_only (o ∷ olds) [] h = absurd h
+  each_loses_only (o ∷ olds) (n ∷ news) h =
+      (subst (λ (es : List Entry). LosesOnly test es n) (sym h.0.whole) (without h.0.gone n h.0.passed), each_loses_only olds news h.1)
+
 -- ---- a weaker test
 
-leaves_weaker : (test other : Entry → Bool) → ((e : Entry) → test e ≡ true → other e ≡ true) → (es fs : List Entry) → LosesOnly test es fs → LosesOnly other es fs
-leaves_weaker test other f [] fs h = h
-leaves_weaker test other f (e ∷ es) fs h =
-    ⊎_elim (λ gone. inl (f e gone.0, leaves_weaker test other f es fs gone.1)) (λ stays. inr (stays.0, (stays.1.0, leaves_weaker test other f es stays.0 stays.1.1))) h
+all_weaker : (test other : Entry → Bool) → ((e : Entry) → test e ≡ true → other e ≡ true) → (es : List Entry) → AllByRecursion (λ e. test e ≡ true) es → AllByRecursion (λ e. other e ≡ true) es
+all_weaker test other f [] h = tt
+all_weaker test other f (e ∷ es) h = (f e h.0, all_weaker test other f es h.1)
 
-pub each_leaves_weaker : (test other : Entry → Bool) → ((e : Entry) → test e ≡ true → other e ≡ true) → (olds news : List (List Entry)) → EachLosesOnly test olds news → EachLosesOnly other olds news
-each_leaves_weaker test other f [] [] h = tt
-each_leaves_weaker test other f [] (n ∷ news) h = absurd h
-each_leaves_weaker test other f (o ∷ olds) [] h = absurd h
-each_leaves_weaker test other f (o ∷ olds) (n ∷ news) h = (leaves_weaker test other f o n h.0, each_leaves_weaker test other f olds news h.1)
+pub each_first_weaker : (test other : Entry → Bool) → ((e : Entry) → test e ≡ true → other e ≡ true) → (olds news : List (List Entry)) → EachLosesFirst test olds news → EachLosesFirst other olds news
+each_first_weaker test other f [] [] h = tt
+each_first_weaker test other f [] (n ∷ news) h = absurd h
+each_first_weaker test other f (o ∷ olds) [] h = absurd h
+each_first_weaker test other f (o ∷ olds) (n ∷ news) h =
+    (record { gone = h.0.gone; whole = h.0.whole; passed = all_weaker test other f h.0.gone h.0.passed }, each_first_weaker test other f olds news h.1)
 
 -- ---- a seek
 
@@ -187,23 +218,23 @@ module _ (test : Entry → Bool) where
       let behind : fails test (joined (set lists place es)) ≡ fails test rest = sym (fails-sorted cmp (joined (set lists place es))) ∙ ap (fails test) new in
       passed_by (test e) (fails test (joined lists)) (fails test (joined (set lists place es))) lost (before ∙ ap (λ s. cond s 0 1 + fails test rest) passes ∙ (let z : 0 + fails test rest ≡ fails test rest = omega arith in z) ∙ sym behind)
 
-  each_leaves_lost : (lists : List (List Entry)) (place : ℕ) (e : Entry) (es : List Entry) → slice_get lists place ≡ Some (e ∷ es) → test e ≡ true → EachLosesOnly test lists (set lists place es)
-  each_leaves_lost [] zero e es h passes = absurd (none-some (e ∷ es) h)
-  each_leaves_lost [] (suc place) e es h passes = absurd (none-some (e ∷ es) h)
-  each_leaves_lost (l ∷ ls) zero e es h passes =
-      (subst (λ (xs : List Entry). LosesOnly test xs es) (sym (same_Some l (e ∷ es) h)) (inl (passes, leaves_all test es)), each_leaves_all test ls)
-  each_leaves_lost (l ∷ ls) (suc place) e es h passes = (leaves_all test l, each_leaves_lost ls place e es h passes)
+  each_first_lost : (lists : List (List Entry)) (place : ℕ) (e : Entry) (es : List Entry) → slice_get lists place ≡ Some (e ∷ es) → test e ≡ true → EachLosesFirst test lists (set lists place es)
+  each_first_lost [] zero e es h passes = absurd (none-some (e ∷ es) h)
+  each_first_lost [] (suc place) e es h passes = absurd (none-some (e ∷ es) h)
+  each_first_lost (l ∷ ls) zero e es h passes =
+      (record { gone = e ∷ []; whole = same_Some l (e ∷ es) h; passed = (passes, tt) }, each_first_all test ls)
+  each_first_lost (l ∷ ls) (suc place) e es h passes = (first_all test l, each_first_lost ls place e es h passes)
 
-  stepped_by : (cmp : List ℕ → List ℕ → Ordering) (olds news : List (List Entry)) (all : List Entry) → merged cmp olds ≡ all → IsAdvanced cmp olds news → merged cmp news ≡ drop 1 all → first_is test all ≡ true → EachLosesOnly test olds news
+  stepped_by : (cmp : List ℕ → List ℕ → Ordering) (olds news : List (List Entry)) (all : List Entry) → merged cmp olds ≡ all → IsAdvanced cmp olds news → merged cmp news ≡ drop 1 all → first_is test all ≡ true → EachLosesFirst test olds news
   stepped_by cmp olds news [] whole is rest passes = absurd (false≢true passes)
   stepped_by cmp olds news (first ∷ all) whole is rest passes =
       let e : Entry = is.least.first in
       let es : List Entry = is.least.others in
       let test_of : test e ≡ true = first_passes cmp olds is.place e first es all is.least.here whole (ap (merged cmp) (sym is.lost) ∙ rest) passes in
-      subst (EachLosesOnly test olds) (sym is.lost) (each_leaves_lost olds is.place e es is.least.here test_of)
+      subst (EachLosesFirst test olds) (sym is.lost) (each_first_lost olds is.place e es is.least.here test_of)
 
   -- a step over an entry that passes the test
-  pub stepped : (cmp : List ℕ → List ℕ → Ordering) (olds news : List (List Entry)) → IsAdvanced cmp olds news → merged cmp news ≡ drop 1 (merged cmp olds) → first_is test (merged cmp olds) ≡ true → EachLosesOnly test olds news
+  pub stepped : (cmp : List ℕ → List ℕ → Ordering) (olds news : List (List Entry)) → IsAdvanced cmp olds news → merged cmp news ≡ drop 1 (merged cmp olds) → first_is test (merged cmp olds) ≡ true → EachLosesFirst test olds news
   stepped cmp olds news is rest passes = stepped_by cmp olds news (merged cmp olds) refl is rest passes
 
 -- the first of one list is taken off

@@ -14,3 +14,5 @@ pub mod RangeWalks
 pub mod Neighbours
 pub mod OnAnswers
 pub mod Sought
+pub mod TableBytes
+pub mod Reaching

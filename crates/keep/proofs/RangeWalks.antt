@@ -18,14 +18,14 @@ use Rattle.merge.proofs.Sorting.{sorted_never_falls}
 use Rattle.split.specs.Ranges.{KeyRange}
 use Rattle.keep.specs.declared.walk.Walk.{Walk}
 use Rattle.keep.specs.InRange.{is_in_range, entries_in}
-use Rattle.keep.specs.Left.{is_before, is_passed, each_behind, EachLosesOnly}
+use Rattle.keep.specs.Left.{is_before, is_passed, each_behind, EachLosesOnly, EachLosesFirst}
 use Rattle.keep.specs.Marks.{Below, grandparents_below}
 use Rattle.keep.specs.Runs.{Run, run_of, are_distinct, range_run}
 use Rattle.keep.specs.Starting.{first_is}
 use Rattle.keep.specs.Versions.{newer_of}
 use Rattle.keep.specs.Walking.{is_repeated, walked}
 use Rattle.keep.proofs.Bounds.{below_apart, below_passed, before_passed, from_bound, none_in, none_passed, one_in, in_falls}
-use Rattle.keep.proofs.Leaving.{each_leaves_all, each_leaves_more, each_leaves_weaker, each_others, merged_filter, stepped, all_merged_back}
+use Rattle.keep.proofs.Leaving.{each_first_all, each_first_more, each_first_weaker, each_loses_only, each_others, merged_filter, stepped, all_merged_back}
 use Rattle.keep.proofs.Standing.{Stands, stands_first, stands_walked, stands_repeated, stands_kept, stands_distinct, stands_passed}
 
 -- ---- the first of entries
@@ -65,7 +65,7 @@ head_is (e ∷ es) key value h k =
 -- end of the range, and what remains doesn't stand before its beginning.
 pub record IsWalking (cmp : List ℕ → List ℕ → Ordering) (b : Below) (range : KeyRange) (start now : List (List Entry)) (w : Walk) : Type 0 where
   pub stands : Stands cmp b (entries_in cmp range (merged cmp start)) (entries_in cmp range (merged cmp now)) w
-  pub left : EachLosesOnly (is_passed cmp range) start now
+  pub left : EachLosesFirst (is_passed cmp range) start now
   pub above : AllByRecursion (λ e. is_before cmp range.lower false e ≡ false) (merged cmp now)
 
 module _ (cmp : List ℕ → List ℕ → Ordering) (total : IsTotalOrder cmp) where
@@ -75,24 +75,24 @@ module _ (cmp : List ℕ → List ℕ → Ordering) (total : IsTotalOrder cmp) w
       ap (λ (es : List Entry). if are_distinct es then Ok (run_of cmp b es) else Err (fault Duplicate))
       (merged_filter (is_before cmp range.lower false) cmp total (λ e. is_in_range cmp range (user_of e.key)) (below_apart cmp range) olds news h)
 
-  pub begun_passed : (range : KeyRange) (olds mids news : List (List Entry)) → EachLosesOnly (is_before cmp range.lower false) olds mids → EachLosesOnly (is_passed cmp range) mids news → EachLosesOnly (is_passed cmp range) olds news
+  pub begun_passed : (range : KeyRange) (olds mids news : List (List Entry)) → EachLosesFirst (is_before cmp range.lower false) olds mids → EachLosesFirst (is_passed cmp range) mids news → EachLosesFirst (is_passed cmp range) olds news
   begun_passed range olds mids news h k =
-      each_leaves_more (is_passed cmp range) olds mids news (each_leaves_weaker (is_before cmp range.lower false) (is_passed cmp range) (below_passed cmp range) olds mids h) k
+      each_first_more (is_passed cmp range) olds mids news (each_first_weaker (is_before cmp range.lower false) (is_passed cmp range) (below_passed cmp range) olds mids h) k
 
-  pub all_behind : (range : KeyRange) (olds news : List (List Entry)) → EachLosesOnly (is_passed cmp range) olds news → AllByRecursion (λ e. is_passed cmp range e ≡ false) (merged cmp news) → news ≡ each_behind cmp range olds
+  pub all_behind : (range : KeyRange) (olds news : List (List Entry)) → EachLosesFirst (is_passed cmp range) olds news → AllByRecursion (λ e. is_passed cmp range e ≡ false) (merged cmp news) → news ≡ each_behind cmp range olds
   all_behind range olds news h none =
-      each_others (is_passed cmp range) olds news h (all_merged_back (λ e. is_passed cmp range e ≡ false) cmp news none)
+      each_others (is_passed cmp range) olds news (each_loses_only (is_passed cmp range) olds news h) (all_merged_back (λ e. is_passed cmp range e ≡ false) cmp news none)
 
   -- one step of the beginning
-  pub begins : (lower : Option (List ℕ)) (olds nows news : List (List Entry)) → EachLosesOnly (is_before cmp lower false) olds nows → IsAdvanced cmp nows news → merged cmp news ≡ drop 1 (merged cmp nows) → first_is (is_before cmp lower false) (merged cmp nows) ≡ true → EachLosesOnly (is_before cmp lower false) olds news
+  pub begins : (lower : Option (List ℕ)) (olds nows news : List (List Entry)) → EachLosesFirst (is_before cmp lower false) olds nows → IsAdvanced cmp nows news → merged cmp news ≡ drop 1 (merged cmp nows) → first_is (is_before cmp lower false) (merged cmp nows) ≡ true → EachLosesFirst (is_before cmp lower false) olds news
   begins lower olds nows news left is rest first =
-      each_leaves_more (is_before cmp lower false) olds nows news left (stepped (is_before cmp lower false) cmp nows news is rest first)
+      each_first_more (is_before cmp lower false) olds nows news left (stepped (is_before cmp lower false) cmp nows news is rest first)
 
   pub walking_first : IsExact cmp → (b : Below) (range : KeyRange) (start : List (List Entry)) → first_is (is_before cmp range.lower false) (merged cmp start) ≡ false
       → IsWalking cmp b range start start (record { run = record { kept = []; marks = [] }; last = None; passed = 0 })
   walking_first exact b range start first = record {
     stands = stands_first cmp b total exact (entries_in cmp range (merged cmp start)) (in_falls cmp total range (merged cmp start) (sorted_never_falls cmp total (joined start)));
-    left = each_leaves_all (is_passed cmp range) start;
+    left = each_first_all (is_passed cmp range) start;
     above = from_bound cmp total range.lower false (merged cmp start) (sorted_never_falls cmp total (joined start)) first;
   }
 
@@ -118,7 +118,7 @@ module _ (cmp : List ℕ → List ℕ → Ordering) (total : IsTotalOrder cmp) w
       let test : Entry → Bool = is_passed cmp range in
       record {
         stands = subst (λ (xs : List Entry). Stands cmp b (entries_in cmp range (merged cmp start)) (entries_in cmp range xs) (walked cmp b w e)) (sym rest) (stands_walked cmp b total (entries_in cmp range (merged cmp start)) (entries_in cmp range (drop 1 (merged cmp now))) w e here fresh);
-        left = each_leaves_more test start now next h.left (stepped test cmp now next is rest (passes (merged cmp now) first));
+        left = each_first_more test start now next h.left (stepped test cmp now next is rest (passes (merged cmp now) first));
         above = subst (AllByRecursion (λ f. is_before cmp range.lower false f ≡ false)) (sym rest) (subst (AllByRecursion (λ f. is_before cmp range.lower false f ≡ false)) head h.above).1;
       }
     where

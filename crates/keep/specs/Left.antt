@@ -1,5 +1,7 @@
 -- What merging in a range leaves of the cursors that it walks.
-use Rattle.std.specs.Prelude.{◌≡◌, ◌⊎◌, ℕ, Bool, true, false, not, ◌||◌, List, [], ◌∷◌, map, filter, Option}
+use Rattle.std.specs.Prelude.{◌≡◌, ◌⊎◌, ℕ, Bool, true, false, not, ◌||◌}
+use Rattle.std.specs.Prelude.{List, [], ◌∷◌, ◌++◌, map, filter, Option}
+use Rattle.std.specs.List.{AllByRecursion}
 use Rattle.std.specs.Option.{option_map_or}
 use Rattle.std.specs.Ordering.{is_lt}
 use Rattle.std.specs.declared.cmp.Ordering.{Ordering}
@@ -32,3 +34,17 @@ EachLosesOnly test [] [] = Unit {0}
 EachLosesOnly test [] (new ∷ news) = ⊥
 EachLosesOnly test (old ∷ olds) [] = ⊥
 EachLosesOnly test (old ∷ olds) (new ∷ news) = LosesOnly test old new × EachLosesOnly test olds news
+
+-- a list without its first entries, each of which passes a test
+pub record LosesFirst (test : Entry → Bool) (old new : List Entry) : Type 0 where
+  pub gone : List Entry
+  pub whole : old ≡ gone ++ new
+  pub passed : AllByRecursion (λ e. test e ≡ true) gone
+
+-- each of several lists without its first entries, each of which passes a test
+abbrev pub EachLosesFirst : (Entry → Bool) → List (List Entry) → List (List Entry) → Type 0
+EachLosesFirst test [] [] = Unit {0}
+EachLosesFirst test [] (new ∷ news) = ⊥
+EachLosesFirst test (old ∷ olds) [] = ⊥
+EachLosesFirst test (old ∷ olds) (new ∷ news) =
+    LosesFirst test old new × EachLosesFirst test olds news

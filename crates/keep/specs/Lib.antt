@@ -7,9 +7,9 @@ pub mod Runs
 pub mod Left
 pub mod Begun
 pub mod OneKey
+pub mod Starting
 -- serves proofs alone
 pub mod Versions
 pub mod KeyBuffer
 pub mod KeptPieces
 pub mod Walking
-pub mod Starting

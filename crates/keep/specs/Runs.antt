@@ -89,3 +89,10 @@ abbrev pub DistinctLaw : (List ℕ → List ℕ → Ordering) → Type 0
 DistinctLaw cmp =
     (inputs : List (List Entry)) (union : List Entry) →
     IsUnion cmp inputs union ↔ ((union ≡ merged cmp inputs) × (are_distinct (merged cmp inputs) ≡ true))
+
+-- what is kept of the entries of a range is what is kept of the whole union there
+abbrev pub KeptInRangeLaw : (List ℕ → List ℕ → Ordering) → Type 0
+KeptInRangeLaw cmp =
+    (b : Below) (range : KeyRange) (union : List Entry) → VersionsRise cmp union →
+    (run_of cmp b (entries_in cmp range union)).kept
+    ≡ entries_in cmp range (run_of cmp b union).kept

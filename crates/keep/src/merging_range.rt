@@ -8,7 +8,7 @@ ghost use Rattle.coding.specs.Answers.{EqualOrMemory, fault};
 ghost use Rattle.coding.specs.declared.fault.FaultName.TheVariants.{Memory};
 ghost use Rattle.merge.specs.Merged.{merged};
 ghost use Rattle.split.specs.Ranges.{key_range};
-ghost use Rattle.keep.specs.Left.{is_before, is_passed, each_behind, EachLosesOnly};
+ghost use Rattle.keep.specs.Left.{is_before, is_passed, each_behind, EachLosesFirst};
 ghost use Rattle.keep.specs.Marks.{below_of, LargestRise};
 ghost use Rattle.keep.specs.Runs.{range_run};
 ghost use Rattle.keep.specs.Starting.{first_is};
@@ -24,16 +24,19 @@ use split::Range;
 use std::alloc::Global;
 use table::Cursor;
 
-/// Merges the entries that remain of cursors and whose user keys a range holds, and keeps those that stay.
+/// Merges the entries that remain of cursors and whose user keys a range holds, and keeps those
+/// that stay.
 ///
-/// `listed` and `floor` say which sequences stay readable: each listed one, and all from the floor on. An entry stays
-/// unless the entry before it in the merge, of the same user key, hides it from all of them, or it is a deletion that all
-/// of them see and whose user key no deeper file's range holds. The marks are set among the grandparents of the inputs.
+/// `listed` and `floor` say which sequences stay readable: each listed one, and all from the floor
+/// on. An entry stays unless the entry before it in the merge, of the same user key, hides it from
+/// all of them, or it is a deletion that all of them see and whose user key no deeper file's range
+/// holds. The marks are set among the grandparents of the inputs.
 ///
-/// The cursors are lent. Entries before the range are taken off one by one, so cursors of which many remain are better
-/// sought first. After an Ok each cursor has the entries behind the range. `Duplicate` where the range holds one user key
-/// and sequence twice, and else refused for want of memory alone; after a refusal each cursor has the entries behind the
-/// range, and before them perhaps some of the others.
+/// The cursors are lent. Entries before the range are taken off one by one, so cursors of which
+/// many remain are better sought first. After an Ok each cursor has the entries after the range.
+/// `Duplicate` if the range holds one user key and sequence twice; else refused if memory runs out,
+/// and for no other reason. After a refusal each cursor has lost first entries alone, and none that
+/// stands after the range.
 pub fn merge_range<'a, C: Comparator, S: Cursor<'a, C> + Drop>(
     alloc: Global,
     cursors: &mut Vec<S>,
@@ -48,7 +51,7 @@ pub fn merge_range<'a, C: Comparator, S: Cursor<'a, C> + Drop>(
         (range_run C.cmp (below_of listed.now floor inputs.now) (map S.remaining cursors.old.items) (key_range range.entry)) }
     ensures behind { OnOk result
         (map S.remaining cursors.new.items ≡ each_behind C.cmp (key_range range.entry) (map S.remaining cursors.old.items)) }
-    ensures left { OnErr result (EachLosesOnly (is_passed C.cmp (key_range range.entry))
+    ensures left { OnErr result (EachLosesFirst (is_passed C.cmp (key_range range.entry))
         (map S.remaining cursors.old.items) (map S.remaining cursors.new.items)) }
 {
     let rule = Rule {
@@ -72,19 +75,21 @@ fn merge_lent<'a, C: Comparator, S: Cursor<'a, C> + Drop>(
     requires { LargestRise C.cmp rule.now.grandparents }
     ensures run { EqualOrMemory (λ run. run) result (range_run C.cmp rule.now merging.old (key_range range.entry)) }
     ensures behind { OnOk result (merging.new ≡ each_behind C.cmp (key_range range.entry) merging.old) }
-    ensures left { OnErr result (EachLosesOnly (is_passed C.cmp (key_range range.entry)) merging.old merging.new) }
+    ensures left { OnErr result
+        (EachLosesFirst (is_passed C.cmp (key_range range.entry)) merging.old merging.new) }
 {
     begin::<C, S>(merging, range.lower)?;
     walk_range::<C, S>(alloc, merging, range, rule)
 }
 
-/// Takes off the entries before a range. Refused for want of memory alone, and then some of them may be taken off, and no
-/// others.
+/// Takes off the entries before a range. Refused for want of memory alone, and then some of them
+/// may be taken off, and no others.
 fn begin<'a, C: Comparator, S: Cursor<'a, C> + Drop>(
     merging: &mut Merging<C, S>,
     lower: Option<&[u8]>,
 ) -> Result<(), Fault>
-    ensures left { EachLosesOnly (is_before C.cmp (option_map (λ limit. limit.now) lower.entry) false) merging.old merging.new }
+    ensures left { EachLosesFirst (is_before C.cmp (option_map (λ limit. limit.now) lower.entry) false)
+        merging.old merging.new }
     ensures begun { OnOk result (first_is (is_before C.cmp (option_map (λ limit. limit.now) lower.entry) false)
         (merged C.cmp merging.new) ≡ false) }
     ensures memory { IsOkUnless result (fault Memory) }
@@ -105,7 +110,8 @@ fn walk_range<'a, C: Comparator, S: Cursor<'a, C> + Drop>(
     requires begun { first_is (is_before C.cmp (key_range range).lower false) (merged C.cmp merging.old) ≡ false }
     requires grandparents { LargestRise C.cmp rule.now.grandparents }
     ensures run { EqualOrMemory (λ run. run) result (range_run C.cmp rule.now merging.old (key_range range.entry)) }
-    ensures left { EachLosesOnly (is_passed C.cmp (key_range range.entry)) merging.old merging.new }
+    ensures left { EachLosesFirst (is_passed C.cmp (key_range range.entry))
+        merging.old merging.new }
     ensures behind { OnOk result (AllByRecursion (λ e. is_passed C.cmp (key_range range.entry) e ≡ false) (merged C.cmp merging.new)) }
 {
     let mut walk = Walk::new(alloc);
@@ -116,7 +122,8 @@ fn walk_range<'a, C: Comparator, S: Cursor<'a, C> + Drop>(
     Ok(walk.run)
 }
 
-/// Whether an entry remains, and the user key of the first is before a bound; where there is no bound, what is said.
+/// Whether an entry remains, and the user key of the first is before a bound; where there is no
+/// bound, what is said.
 pub(crate) fn starts_before<'a, C: Comparator, M: Cursor<'a, C>>(
     merging: &M,
     bound: Option<&[u8]>,

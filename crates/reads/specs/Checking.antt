@@ -15,6 +15,7 @@ use Rattle.edit.specs.Version.{are_apart}
 use Rattle.edit.specs.declared.meta.FileMeta.{FileMeta}
 use Rattle.edit.specs.declared.meta.NewFile.{NewFile}
 use Rattle.reads.specs.declared.level_file.LevelFile.{LevelFile}
+use Rattle.reads.specs.Bounds.{has_bounds}
 use Rattle.reads.specs.Tables.{Numbered, table_of, table_entries}
 use Rattle.reads.specs.Lawful.{IsFileOf, IsBelowNext, AreDistinct}
 
@@ -42,7 +43,8 @@ is_below (Some next) number = nat_lt number next
 
 -- whether the version states this length, first key and last key of a file, whose number is below the next one
 abbrev pub is_stated : Option ℕ → FileMeta → ℕ → List ℕ → List ℕ → Bool
-is_stated next f size smallest largest = is_below next f.number && (nat_eq f.size size && (bytes_eq f.smallest smallest && bytes_eq f.largest largest))
+is_stated next f size smallest largest =
+    is_below next f.number && has_bounds f size smallest largest
 
 -- a file is what the version states of it, and its number is below the next one
 pub record IsStatedFile (cmp : List ℕ → List ℕ → Ordering) (tables : List Numbered) (next : Option ℕ) (f : FileMeta) : Type 0 where

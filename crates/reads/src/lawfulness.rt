@@ -13,6 +13,7 @@ ghost use Rattle.reads.specs.Lawful.{IsLawful, IsUnlawful};
 ghost use Rattle.reads.specs.Checking.{file_in, is_below, is_stated, IsStatedFile, stands_before, AreAll, rank_of, standing_cmp, AreListed, AreInTurn};
 ghost use Rattle.reads.specs.Standing.{AreStanding};
 
+use crate::bounds::has_bounds;
 use crate::finding::{LEVELS, tables_test};
 use crate::level_file::LevelFile;
 use crate::numbered_table::NumberedTable;
@@ -181,10 +182,7 @@ fn is_stated(
     ensures { result
         ≡ is_stated next file.now (length bytes.now) smallest.entry.bytes.now largest.entry.bytes.now }
 {
-    is_below(next, file.number)
-        && file.size == bytes.len() as u64
-        && file.smallest.as_key().bytes() == smallest.bytes()
-        && file.largest.as_key().bytes() == largest.bytes()
+    is_below(next, file.number) && has_bounds(file, bytes, smallest, largest)
 }
 
 /// Whether a file's table is what the version states.

@@ -4,6 +4,7 @@
 //! states of them, and the newer entries of each user key stand above the older ones.
 #![tactic(auto)]
 
+mod bounds;
 mod finding;
 mod found;
 mod getting;
@@ -14,6 +15,7 @@ mod numbered_table;
 mod table_places;
 mod walking;
 
+pub use bounds::has_bounds;
 pub use getting::get;
 pub use lawfulness::{lawful, standing_tables};
 pub use laws::answers_newest_first;

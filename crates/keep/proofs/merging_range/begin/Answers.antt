@@ -2,9 +2,9 @@ use Rattle.std.proofs.Common.{refl, false, List, sym, subst, ◌∙◌}
 use Rattle.std.specs.Option.{option_map}
 use Rattle.block.specs.Piece.{Entry}
 use Rattle.merge.specs.Merged.{merged}
-use Rattle.keep.specs.Left.{is_before, EachLosesOnly}
+use Rattle.keep.specs.Left.{is_before, EachLosesFirst}
 use Rattle.keep.proofs.RangeWalks.{first_some, fewer, begins}
-use Rattle.keep.proofs.Leaving.{each_leaves_all}
+use Rattle.keep.proofs.Leaving.{each_first_all}
 use Rattle.keep.proofs.merging_range.begin.Goals as goal
 
 pub advance-requires : goal.advance-requires
@@ -22,10 +22,10 @@ loop-merging-smaller g c =
 
 pub returns-in_err-advance-clause-left : goal.returns-in_err-advance-clause-left
 returns-in_err-advance-clause-left g c =
-    subst (λ (lists : List (List Entry)). EachLosesOnly (is_before g.C.Comparator.cmp (option_map (λ limit. limit.now) c.args.lower) false) c.args.merging.now lists) (sym c.in_err-advance.ensures.unchanged) c.loop-merging.invariant
+    subst (λ (lists : List (List Entry)). EachLosesFirst (is_before g.C.Comparator.cmp (option_map (λ limit. limit.now) c.args.lower) false) c.args.merging.now lists) (sym c.in_err-advance.ensures.unchanged) c.loop-merging.invariant
 
 pub returns-clause-begun : goal.returns-clause-begun
 returns-clause-begun g c = sym c.starts_before.ensures ∙ c.loop-merging-test.false
 
 pub loop-merging-init : goal.loop-merging-init
-loop-merging-init g c = each_leaves_all (is_before g.C.Comparator.cmp (option_map (λ limit. limit.now) c.args.lower) false) c.args.merging.now
+loop-merging-init g c = each_first_all (is_before g.C.Comparator.cmp (option_map (λ limit. limit.now) c.args.lower) false) c.args.merging.now

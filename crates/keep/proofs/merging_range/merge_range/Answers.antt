@@ -4,10 +4,10 @@ use Rattle.coding.specs.Answers.{EqualOrMemory}
 use Rattle.coding.proofs.Refusals.{unless_from}
 use Rattle.block.specs.Piece.{Entry}
 use Rattle.split.specs.Ranges.{key_range}
-use Rattle.keep.specs.Left.{is_passed, each_behind, EachLosesOnly}
+use Rattle.keep.specs.Left.{is_passed, each_behind, EachLosesFirst}
 use Rattle.keep.specs.Marks.{below_of}
 use Rattle.keep.specs.Runs.{Run, range_run}
-use Rattle.keep.proofs.Leaving.{each_leaves_all}
+use Rattle.keep.proofs.Leaving.{each_first_all}
 use Rattle.keep.proofs.OnAnswers.{on_ok, on_err, if_err, same_ok, ok_not_err}
 use Rattle.keep.proofs.merging_range.merge_range.Goals as goal
 
@@ -20,7 +20,7 @@ pub returns-in_err-merging-clause-left : goal.returns-in_err-merging-clause-left
 returns-in_err-merging-clause-left g c =
     let test = is_passed g.C.Comparator.cmp (key_range c.args.range) in
     let lists : List (List Entry) = map g.S.Entries.remaining c.args.cursors.now.items in
-    if_err c.from_residual.result (subst (EachLosesOnly test lists) (sym (ap (map g.S.Entries.remaining) c.in_err-merging.ensures.unchanged)) (each_leaves_all test lists))
+    if_err c.from_residual.result (subst (EachLosesFirst test lists) (sym (ap (map g.S.Entries.remaining) c.in_err-merging.ensures.unchanged)) (each_first_all test lists))
 
 pub returns-clause-run : goal.returns-clause-run
 returns-clause-run g c =
@@ -39,4 +39,4 @@ returns-clause-left g c =
     let test = is_passed g.C.Comparator.cmp (key_range c.args.range) in
     let lists : c.in_ok-merging.merging ≡ map g.S.Entries.remaining c.args.cursors.now.items = sym (same_ok _ _ c.in_ok-merging.ensures.merging) in
     on_err c.merge_lent-run.result _ _
-    (λ h. subst (λ (ls : List (List Entry)). EachLosesOnly test ls (map g.S.Entries.remaining c.into_cursors.result.items)) lists (subst (EachLosesOnly test c.in_ok-merging.merging) (sym c.into_cursors.ensures) h)) c.merge_lent-run.ensures.left
+    (λ h. subst (λ (ls : List (List Entry)). EachLosesFirst test ls (map g.S.Entries.remaining c.into_cursors.result.items)) lists (subst (EachLosesFirst test c.in_ok-merging.merging) (sym c.into_cursors.ensures) h)) c.merge_lent-run.ensures.left

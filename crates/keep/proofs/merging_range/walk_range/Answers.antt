@@ -5,7 +5,7 @@ use Rattle.block.specs.Piece.{Entry}
 use Rattle.merge.specs.Merged.{merged}
 use Rattle.split.specs.Ranges.{key_range}
 use Rattle.keep.specs.declared.walk.Walk.{Walk}
-use Rattle.keep.specs.Left.{is_before, is_passed, EachLosesOnly}
+use Rattle.keep.specs.Left.{is_before, is_passed, EachLosesFirst}
 use Rattle.keep.proofs.RangeWalks.{first_some, fewer, head_is, IsWalking, walking_first, walking_passed, walking_next, walking_repeats, walking_ends, walking_behind}
 use Rattle.keep.proofs.merging_range.walk_range.Goals as goal
 
@@ -59,7 +59,7 @@ returns-in_err-step-clause-left g c = c.loop-merging.invariant.left
 
 pub returns-in_err-advance-clause-left : goal.returns-in_err-advance-clause-left
 returns-in_err-advance-clause-left g c =
-    subst (λ (lists : List (List Entry)). EachLosesOnly (is_passed g.C.Comparator.cmp (key_range c.args.range)) c.args.merging.now lists) (sym c.in_err-advance.ensures.unchanged) c.loop-merging.invariant.left
+    subst (λ (lists : List (List Entry)). EachLosesFirst (is_passed g.C.Comparator.cmp (key_range c.args.range)) c.args.merging.now lists) (sym c.in_err-advance.ensures.unchanged) c.loop-merging.invariant.left
 
 pub returns-clause-run : goal.returns-clause-run
 returns-clause-run g c =

@@ -2,7 +2,7 @@ use Rattle.std.proofs.Common.{◌≡◌, map, take}
 use Rattle.merge.specs.Merged.{joined}
 use Rattle.split.specs.Ranges.{key_range}
 use Rattle.keep.specs.InRange.{entries_in}
-use Rattle.checks.proofs.falling.cursors_from.Given as goal
+use Rattle.keep.proofs.range_cursors.cursors_from.Given as goal
 
 abbrev pub invariant-loop-table : goal.invariant-loop-table
 invariant-loop-table g l =

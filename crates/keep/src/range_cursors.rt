@@ -1,0 +1,119 @@
+//! Cursors over the tables that reach into a range.
+
+ghost use Rattle.std.specs.Prelude.{◌≡◌, ◌++◌, [], true, map, Ok};
+ghost use Rattle.std.specs.Prelude.{IfOk, IfErr, OnOk, OnErr, IsOkUnless};
+ghost use Rattle.std.specs.Option.{option_map, option_map_or};
+ghost use Rattle.std.specs.Ordering.{is_lt};
+ghost use Rattle.coding.specs.Answers.{fault};
+ghost use Rattle.coding.specs.declared.fault.FaultName.TheVariants.{Memory};
+ghost use Rattle.ikey.specs.Key.{user_of};
+ghost use Rattle.table.specs.Reading.{table_reading};
+ghost use Rattle.merge.specs.Merged.{joined};
+ghost use Rattle.split.specs.Ranges.{key_range};
+ghost use Rattle.keep.specs.InRange.{entries_in};
+
+use crate::seeking::seek_range;
+use coding::Fault;
+use ikey::{Comparator, InternalKey};
+use split::Range;
+use std::alloc::Global;
+use table::{SoundTable, TableCursor};
+
+/// A cursor over each table that reaches into a range, without entries before the range. Together
+/// they have the entries of the tables in the range, in their order. Refused if memory runs out,
+/// and for no other reason.
+pub fn cursors_from<'t, C: Comparator + 't>(
+    alloc: Global,
+    tables: &[&SoundTable<'t, C>],
+    range: Range<'_>,
+) -> Result<Vec<TableCursor<'t, C>>, Fault>
+    ensures held { IfOk result (λ v. entries_in C.cmp (key_range range.entry) (joined v.items)
+        ≡ entries_in C.cmp (key_range range.entry) (joined (map (λ t. t.now.entries) tables.now))) }
+    ensures memory { IfErr result (λ e. e ≡ fault Memory) }
+{
+    let mut cursors = Vec::new(alloc);
+    for table in tables {
+        add_cursor(alloc, &mut cursors, table, range)?;
+    }
+    Ok(cursors)
+}
+
+/// Appends a cursor over a table, without entries before a range, if the table reaches into the
+/// range. Refused if memory runs out, and for no other reason.
+pub fn add_cursor<'t, C: Comparator + 't>(
+    alloc: Global,
+    cursors: &mut Vec<TableCursor<'t, C>>,
+    table: &SoundTable<'t, C>,
+    range: Range<'_>,
+) -> Result<(), Fault>
+    ensures held { OnOk result (entries_in C.cmp (key_range range.entry) (joined cursors.new.items)
+        ≡ entries_in C.cmp (key_range range.entry) (joined cursors.old.items)
+        ++ entries_in C.cmp (key_range range.entry) table.now.entries) }
+    ensures unchanged { OnErr result (cursors.new.items ≡ cursors.old.items) }
+    ensures memory { IsOkUnless result (fault Memory) }
+{
+    if misses(table, range) {
+        return Ok(());
+    }
+    let cursor = cursor_from(alloc, table, range)?;
+    cursors.push(cursor)?;
+    Ok(())
+}
+
+/// Whether a table ends before a range or begins after it, so that none of its entries lies in it.
+/// Takes no memory.
+fn misses<C: Comparator>(table: &SoundTable<'_, C>, range: Range<'_>) -> bool
+    ensures { result ≡ true → entries_in C.cmp (key_range range.entry) table.now.entries ≡ [] }
+{
+    let _ = table.bytes();
+    let begins = is_before::<C>(table.smallest(), range.upper, true);
+    let ends = is_before::<C>(table.largest(), range.lower, false);
+    if ends {
+        return true;
+    }
+    !begins
+}
+
+/// Whether a key's user key is before a bound; if there is no bound, what is said. Takes no memory.
+fn is_before<C: Comparator>(key: InternalKey<'_>, bound: Option<&[u8]>, otherwise: bool) -> bool
+    ensures { result ≡ option_map_or (λ limit. is_lt (C.cmp (user_of key.entry.bytes.now) limit))
+        (option_map (λ limit. limit.now) bound.entry) otherwise }
+{
+    match bound {
+        Some(limit) => C::compare(key.user(), limit).is_lt(),
+        None => otherwise,
+    }
+}
+
+/// A cursor over a table, without entries before a range. Refused if memory runs out, and for no
+/// other reason.
+fn cursor_from<'t, C: Comparator + 't>(
+    alloc: Global,
+    table: &SoundTable<'t, C>,
+    range: Range<'_>,
+) -> Result<TableCursor<'t, C>, Fault>
+    ensures held { IfOk result (λ cursor. entries_in C.cmp (key_range range.entry) cursor
+        ≡ entries_in C.cmp (key_range range.entry) table.now.entries) }
+    ensures memory { IfErr result (λ e. e ≡ fault Memory) }
+{
+    let mut cursor = TableCursor::new(alloc, table)?;
+    seek_table(alloc, table.bytes(), &mut cursor, range)?;
+    Ok(cursor)
+}
+
+/// Takes entries before a range off a cursor over a table of these bytes. Refused if memory runs
+/// out, and for no other reason.
+fn seek_table<'t, C: Comparator + 't>(
+    alloc: Global,
+    bytes: &[u8],
+    cursor: &mut TableCursor<'t, C>,
+    range: Range<'_>,
+) -> Result<(), Fault>
+    requires { table_reading C.cmp bytes.now ≡ Ok cursor.old }
+    ensures held { entries_in C.cmp (key_range range.entry) cursor.new
+        ≡ entries_in C.cmp (key_range range.entry) cursor.old }
+    ensures memory { IsOkUnless result (fault Memory) }
+{
+    let _ = bytes;
+    seek_range::<C, _>(alloc, cursor, range)
+}

@@ -3,6 +3,7 @@ pub mod Elements
 pub mod Stopping
 pub mod Outputting
 pub mod Joining
+pub mod Segments
 pub mod Metering
 pub mod Whole
 pub mod Apart

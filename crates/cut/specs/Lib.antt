@@ -1,6 +1,7 @@
 -- what contracts rest on
 pub mod Stops
 pub mod Outputs
+pub mod Segments
 pub mod Plan
 pub mod Planning
 pub mod OutputMeta

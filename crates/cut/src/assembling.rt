@@ -1,4 +1,7 @@
 //! The tables of a plan, of its encoded pieces.
+//!
+//! The pieces stand in the order of their jobs, whatever the order in which workers came to them.
+//! So the first ones are those of the first output, as many as it has, and so on.
 
 ghost use Rattle.std.specs.Prelude.{◌≡◌, length, take, drop, map, IfOk, IfErr, Ok, OnOk};
 ghost use Rattle.std.specs.Vec.Iter.{into_iter_items};
@@ -34,7 +37,8 @@ fn take_front(
     Ok(own)
 }
 
-/// The number and the table of each output, of which the pieces are so many each. Refused for want of memory alone.
+/// The number and the table of each output, of which the pieces are so many each. Refused for want
+/// of memory alone.
 pub(crate) fn assemble_all<C: Comparator>(
     alloc: Global,
     outputs: &[PlannedOutput<'_, '_>],

@@ -1,4 +1,12 @@
 //! Cutting the kept entries of runs into outputs.
+//!
+//! An output ends
+//! (1) at a stop, so that it doesn't overlap too many grandparents;
+//! (2) between stops, before the first entry of another user key once its flushed data blocks have
+//!     reached the maximal file size;
+//! (3) after the last entry.
+//! So all kept entries of a user key go to one output, however many they are, and no two outputs
+//! share a user key.
 
 ghost use Rattle.std.specs.Prelude.{◌≡◌, ◌<◌, ◌≤◌, ◌↔◌, List, [], ◌++◌, length, take, drop, map, flat_map, IsTrue, OnOk, IfOk, IfErr, IsOkUnless};
 ghost use Rattle.std.specs.List.{AllByRecursion};
@@ -21,8 +29,8 @@ use std::alloc::Global;
 use std::marker::Model;
 use table::Options;
 
-/// Outputs that are being cut, seen as their options, the entries of those that are ended, those of the one that takes the
-/// next entry, and those behind.
+/// Outputs that are being cut, seen as their options, the entries of those that are ended, those of
+/// the one that takes the next entry, and those behind.
 #[derive(Drop)]
 struct Cutting<'r, 'a> {
     alloc: Global,
@@ -69,7 +77,8 @@ impl<'r, 'a> Cutting<'r, 'a> {
         self.latest.has_next()
     }
 
-    /// Ends the output that takes the next entry, where it has one. Refused for want of memory alone.
+    /// Ends the output that takes the next entry, where it has one. Refused for want of memory
+    /// alone.
     fn end_output(&mut self) -> Result<(), Fault>
         ensures ended { OnOk result (self.new ≡ record {
           options = self.old.options;
@@ -86,8 +95,8 @@ impl<'r, 'a> Cutting<'r, 'a> {
         Ok(())
     }
 
-    /// Takes in the first entries behind, at least one and at most so many, and answers how many they are. Refused for want of
-    /// memory alone.
+    /// Takes in the first entries behind, at least one and at most so many, and answers how many
+    /// they are. Refused for want of memory alone.
     fn step(&mut self, most: u64) -> Result<u64, Fault>
         requires any { 0 < length self.old.behind }
         requires most { 0 < most }
@@ -105,7 +114,8 @@ impl<'r, 'a> Cutting<'r, 'a> {
         self.latest.take_in(most)
     }
 
-    /// Takes in so many entries, or all where there are fewer, and ends the last output. Refused for want of memory alone.
+    /// Takes in so many entries, or all where there are fewer, and ends the last output. Refused
+    /// for want of memory alone.
     fn take_in(&mut self, count: u128) -> Result<(), Fault>
         ensures ok { OnOk result (self.new ≡ record {
           options = self.old.options;

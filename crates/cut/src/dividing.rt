@@ -1,4 +1,10 @@
-//! Dealing out the data blocks of outputs to pieces.
+//! Dealing out the data blocks of outputs to pieces, the jobs of the workers that encode.
+//!
+//! (1) If all outputs together have fewer than 64 data blocks, each block is a piece, so that 64
+//!     workers may share them.
+//! (2) Else a piece ends with the block at which its bytes reach 2^22, so that a piece is worth the
+//!     turn of a worker.
+//! (3) No piece has blocks of two outputs, so that a table is its pieces and its closing.
 
 ghost use Rattle.std.specs.Prelude.{◌≡◌, ◌≤◌, ◌<◌, ◌^◌, ◌++◌, OnOk, length, IfOk, IfErr};
 ghost use Rattle.std.specs.List.{AllByRecursion};
@@ -14,8 +20,8 @@ use encoding::PlannedBlock;
 use frame::TRAILER_LEN;
 use std::alloc::Global;
 
-/// Adds the pieces of the data blocks of an output, and answers how many they are. A piece ends with the block at which its
-/// bytes reach this many. Refused for want of memory alone.
+/// Adds the pieces of the data blocks of an output, and answers how many they are. A piece ends
+/// with the block at which its bytes reach this many. Refused for want of memory alone.
 fn push_pieces(
     pieces: &mut Vec<Piece>,
     output: usize,

@@ -1,7 +1,8 @@
 //! The plan of the outputs of a compaction.
 //!
-//! The plan is what makes the bytes of a compaction independent of ranges and workers: from the runs of all ranges it says
-//! every output, every data block and every table's length before one byte is written.
+//! The plan is what makes the bytes of a compaction independent of ranges and workers: from the
+//! runs of all ranges it says every output, every data block and every table's length before one
+//! byte is written.
 #![tactic(auto)]
 
 mod assembling;
@@ -20,7 +21,9 @@ mod summing;
 mod table_len;
 mod whole_plan;
 
-pub use laws::{lengths_law, outputs_law, pieces_law, ranges_cut, stops_law, whole_law};
+pub use laws::{
+    lengths_law, outputs_law, pieces_law, ranges_cut, segments_law, stops_law, whole_law,
+};
 pub use output_meta::OutputMeta;
 pub use planning::{MAX_BLOCKS, plan};
 pub use whole_plan::Plan;

@@ -1,4 +1,10 @@
 //! The output that takes the next entry of a plan.
+//!
+//! It may end before an entry
+//! (1) if its flushed data blocks, each with the 5 bytes of its trailer, have reached the maximal
+//!     file size. The open block isn't counted, since its bytes are written only once it is full;
+//! (2) and if the entry's user key is not that of the last entry, so that a user key stays in one
+//!     output.
 
 ghost use Rattle.std.specs.Prelude.{◌≡◌, ℕ, ◌↔◌, ◌<◌, ◌≤◌, false, List, [], ◌++◌, length, take, drop, IsTrue, OnOk, IfOk, IfErr};
 ghost use Rattle.std.specs.List.{AllByRecursion};
@@ -72,9 +78,9 @@ impl<'r, 'a> OpenOutput<'r, 'a> {
         self.current.behind().valid()
     }
 
-    /// Takes in the first entries behind, at least one and at most so many, and answers how many they are, where the output does
-    /// not end before the first of them: no more than make its data block full, nor any before which it may end. Refused for
-    /// want of memory alone.
+    /// Takes in the first entries behind, at least one and at most so many, and answers how many
+    /// they are, where the output does not end before the first of them: no more than make its data
+    /// block full, nor any before which it may end. Refused for want of memory alone.
     pub fn take_in(&mut self, most: u64) -> Result<u64, Fault>
         requires any { 0 < length self.old.behind }
         requires most { 0 < most }
@@ -123,8 +129,8 @@ impl<'r, 'a> OpenOutput<'r, 'a> {
         }
     }
 
-    /// Ends the output and answers its data blocks, of which there are none where it has no entry; and begins another one
-    /// behind it. Refused for want of memory alone.
+    /// Ends the output and answers its data blocks, of which there are none where it has no entry;
+    /// and begins another one behind it. Refused for want of memory alone.
     pub fn end(&mut self, alloc: Global) -> Result<Vec<PlannedBlock<'r, 'a>>, Fault>
         ensures blocks { IfOk result (λ blocks. parts_of blocks.items ≡ data_blocks self.old.options self.old.entries) }
         ensures lens { IfOk result (λ blocks. AllByRecursion (HasLen self.old.options) blocks.items) }

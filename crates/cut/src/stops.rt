@@ -1,4 +1,14 @@
 //! Where outputs end because they would overlap too much of the grandparents.
+//!
+//! Grandparents are the files two levels below the compaction. The next compaction of an output
+//! merges it with all of them that it overlaps, so an output must not overlap too many. There is a
+//! stop before an entry of the union
+//! (1) that is the first of its user key, so that all entries of a user key go to one output, and
+//! (2) before which more than 10 times the maximal file size of grandparents is passed since the
+//!     last stop, or since the first entry of all if there is none yet.
+//! A grandparent is passed once its largest key is below the entry's key. Dropped entries count as
+//! kept ones do: the marks of the runs say how many grandparents are below each of them. Only a
+//! stop begins the count anew; the end of an output by its size does not.
 
 ghost use Rattle.std.specs.Prelude.{◌≡◌, ◌+◌, ◌*◌, ◌^◌, ◌≤◌, max, List, ◌∷◌, ◌++◌, map, OnOk, IsOkUnless, Ok};
 ghost use Rattle.std.specs.List.{sum_by};
@@ -53,7 +63,8 @@ fn room_behind(files: &[FileMeta], room: u64) -> Option<u64>
     Some(left)
 }
 
-/// The room that the grandparents from one number to before another leave, where they don't have more bytes together.
+/// The room that the grandparents from one number to before another leave, where they don't have
+/// more bytes together.
 fn room_past(grandparents: &[FileMeta], from: usize, to: usize, room: u64) -> Option<u64>
     ensures { result ≡ room_left room (size_between grandparents.now from to) }
 {
@@ -90,7 +101,8 @@ impl Overlap {
 }
 
 impl Stopping {
-    /// Passes the next mark, of a run before which so many entries are kept. Refused for want of memory alone.
+    /// Passes the next mark, of a run before which so many entries are kept. Refused for want of
+    /// memory alone.
     fn pass(
         &mut self,
         mark: Mark,
@@ -121,7 +133,8 @@ impl Stopping {
         Ok(())
     }
 
-    /// Passes the marks of the next run, before which so many entries are kept. Refused for want of memory alone.
+    /// Passes the marks of the next run, before which so many entries are kept. Refused for want of
+    /// memory alone.
     fn pass_all(
         &mut self,
         marks: &[Mark],
@@ -145,7 +158,8 @@ impl Stopping {
     }
 }
 
-/// The stops of runs, one behind the other, each by the number of kept entries before it. Refused for want of memory alone.
+/// The stops of runs, one behind the other, each by the number of kept entries before it. Refused
+/// for want of memory alone.
 pub(crate) fn stops(
     alloc: Global,
     runs: &[RangeRun<'_>],

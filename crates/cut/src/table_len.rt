@@ -1,4 +1,11 @@
 //! The exact length of a table, from the lengths of its data blocks.
+//!
+//! The version edit and the test for `TooLarge` need it before the table is written. A table is
+//! (1) its data blocks, each with the 5 bytes of its trailer;
+//! (2) the metaindex, a block without entries, of 8 + 5 bytes;
+//! (3) the index at restart interval 1, with an entry for each data block, and 5 bytes of its
+//!     trailer;
+//! (4) the footer of 48 bytes.
 
 ghost use Rattle.std.specs.Prelude.{◌≡◌, ◌≢◌, ◌^◌, ◌≤◌, ◌<◌, [], length, drop, Ok};
 ghost use Rattle.std.specs.List.{AllByRecursion};
@@ -19,8 +26,8 @@ use table::MAX_TABLE_LEN;
 /// The length of a restart, and of the number of restarts.
 const RESTART_LEN: u64 = 4;
 
-/// How many bytes of a table are neither of data blocks nor of the index block: the metaindex, its trailer and that of the
-/// index, and the footer.
+/// How many bytes of a table are neither of data blocks nor of the index block: the metaindex, its
+/// trailer and that of the index, and the footer.
 const CLOSING_LEN: u64 = 66;
 
 /// How many bytes data blocks take with their trailers; 2^64 - 1 where that is more.
@@ -57,7 +64,8 @@ fn index_key<C: Comparator>(
     internal_separator::<C>(alloc, last, next.key())
 }
 
-/// How many bytes the index block of data blocks has; 2^64 - 1 where there are more. Refused for want of memory alone.
+/// How many bytes the index block of data blocks has; 2^64 - 1 where there are more. Refused for
+/// want of memory alone.
 fn index_len<C: Comparator>(alloc: Global, blocks: &[PlannedBlock<'_, '_>]) -> Result<u64, Fault>
     requires any { blocks.now ≢ [] }
     requires some { AllByRecursion (λ b. b.entries.entries ≢ []) blocks.now }
@@ -78,8 +86,8 @@ fn index_len<C: Comparator>(alloc: Global, blocks: &[PlannedBlock<'_, '_>]) -> R
     Ok(len)
 }
 
-/// How many bytes the table of these data blocks has, or 2^30 + 1 where there are more than 2^30. Refused for want of memory
-/// alone.
+/// How many bytes the table of these data blocks has, or 2^30 + 1 where there are more than 2^30.
+/// Refused for want of memory alone.
 pub(crate) fn table_len<C: Comparator>(
     alloc: Global,
     blocks: &[PlannedBlock<'_, '_>],

@@ -1,0 +1,83 @@
+-- The outputs of a compaction over the union of its inputs alone, as docs/RULES.md has them under
+-- "Where outputs end".
+--
+-- An output that overlaps many of the grandparents, the files two levels below the compaction,
+-- makes its next compaction costly. So the union is cut into segments, and no output has entries of
+-- two. The first segment begins with the first entry, and each later one with the first entry after
+-- that
+-- (1) whose user key is not that of the entry before it, so that all entries of a user key go to
+--     one output, and
+-- (2) below which the grandparents that were passed since the segment before began have more than
+--     10 times the maximal file size together.
+-- All entries of the union count, dropped ones too. What is kept of a segment is then cut by size.
+use Rattle.std.specs.Prelude.{◌≡◌, ◌≢◌, ℕ, ◌*◌, ◌<◌, List, [], ◌∷◌, flat_map}
+use Rattle.std.specs.List.{AllByRecursion}
+use Rattle.std.specs.declared.cmp.Ordering.{Ordering}
+use Rattle.ikey.specs.Key.{user_of}
+use Rattle.block.specs.Piece.{Entry}
+use Rattle.table.specs.declared.options.Options.{Options}
+use Rattle.edit.specs.declared.meta.FileMeta.{FileMeta}
+use Rattle.keep.specs.Keeping.{kept}
+use Rattle.keep.specs.Marks.{Below, grandparents_below}
+use Rattle.merge.specs.Union.{VersionsRise}
+use Rattle.cut.specs.Outputs.{all_of, outputs, outputs_in, AreOutputs}
+use Rattle.cut.specs.Stops.{size_between}
+
+-- An entry begins a segment. `first` began the segment before, and `before` is the last entry of
+-- it.
+pub record BeginsSegment (cmp : List ℕ → List ℕ → Ordering) (grandparents : List FileMeta)
+    (file_size : ℕ) (first before e : Entry) : Type 0 where
+  pub other : user_of before.key ≢ user_of e.key
+  pub passed : 10 * file_size < size_between grandparents
+      (grandparents_below cmp grandparents first.key) (grandparents_below cmp grandparents e.key)
+
+-- In a segment that `first` began, and after `before`: none of these entries begins another
+-- segment, and the first of the rest does, if there is a rest.
+abbrev pub ReachesNext : (List ℕ → List ℕ → Ordering) → List FileMeta → ℕ →
+    Entry → Entry → List Entry → List Entry → Type 0
+ReachesNext cmp grandparents file_size first before [] [] = Unit {0}
+ReachesNext cmp grandparents file_size first before [] (next ∷ rest) =
+    BeginsSegment cmp grandparents file_size first before next
+ReachesNext cmp grandparents file_size first before (e ∷ es) rest =
+    (BeginsSegment cmp grandparents file_size first before e → ⊥)
+    × ReachesNext cmp grandparents file_size first e es rest
+
+-- each list has an entry, and reaches to where the next one begins
+abbrev pub EachReachesNext : (List ℕ → List ℕ → Ordering) → List FileMeta → ℕ →
+    List (List Entry) → Type 0
+EachReachesNext cmp grandparents file_size [] = Unit {0}
+EachReachesNext cmp grandparents file_size ([] ∷ segments) = ⊥
+EachReachesNext cmp grandparents file_size ((first ∷ es) ∷ segments) =
+    ReachesNext cmp grandparents file_size first first es (all_of segments)
+    × EachReachesNext cmp grandparents file_size segments
+
+-- the lists are the segments of a union
+pub record AreSegments (cmp : List ℕ → List ℕ → Ordering) (grandparents : List FileMeta)
+    (file_size : ℕ) (union : List Entry) (segments : List (List Entry)) : Type 0 where
+  pub all : all_of segments ≡ union
+  pub each : EachReachesNext cmp grandparents file_size segments
+
+-- A union has segments, and only these. What is kept of the union is what is kept of each of them,
+-- and the outputs are those of what is kept of each: of entries in order, the shortest beginnings
+-- that may end.
+pub record SegmentsLaw (cmp : List ℕ → List ℕ → Ordering) : Type 0 where
+  pub found : (grandparents : List FileMeta) (file_size : ℕ) (union : List Entry) →
+      (segments : List (List Entry)) × AreSegments cmp grandparents file_size union segments
+  pub only : (grandparents : List FileMeta) (file_size : ℕ) (union : List Entry)
+      (segments others : List (List Entry)) →
+      AreSegments cmp grandparents file_size union segments →
+      AreSegments cmp grandparents file_size union others →
+      segments ≡ others
+  pub all_kept : (b : Below) (file_size : ℕ) (union : List Entry) (segments : List (List Entry)) →
+      AreSegments cmp b.grandparents file_size union segments →
+      kept cmp b.readable b.deeper union
+      ≡ flat_map (λ segment. kept cmp b.readable b.deeper segment) segments
+  pub all_outputs : (b : Below) (o : Options) (union : List Entry) (segments : List (List Entry)) →
+      AreSegments cmp b.grandparents o.file_size union segments →
+      outputs cmp b o union
+      ≡ flat_map (λ segment. outputs_in o (kept cmp b.readable b.deeper segment)) segments
+  pub each_output : (b : Below) (o : Options) (union : List Entry) (segments : List (List Entry)) →
+      VersionsRise cmp union → AreSegments cmp b.grandparents o.file_size union segments →
+      AllByRecursion
+      (λ segment. AreOutputs o (kept cmp b.readable b.deeper segment)
+      (outputs_in o (kept cmp b.readable b.deeper segment))) segments

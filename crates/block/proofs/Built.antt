@@ -64,6 +64,10 @@ next_since-mod r n pos =
       | inr other ↦ rw (ne_eqb (n % r + 1) r other) (let lt : n % r + 1 < r = omega arith in sym (mod-eq_of_lt lt) ∙ mod-add-mod n r 1)
     ]
 
+-- fewer than an interval are counted
+pub since_below : {r : ℕ} {q : List Entry} {pieces restarts last : List ℕ} {since : ℕ} → IsBuilt r q pieces restarts last since → since < r
+since_below {r = r} {q = q} h = omega (arith, h.since_is, mod_below (length q) r h.interval_pos)
+
 -- the first piece of all begins with a restart, so the restarts of pieces are those from 0
 restarts_of-cons : (p : Piece) (ps : List Piece) → p.is_restart ≡ true → length (restarts_of (p ∷ ps)) ≡ max (length (restarts_from 0 (p ∷ ps))) 1
 restarts_of-cons p ps first =

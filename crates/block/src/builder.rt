@@ -1,23 +1,23 @@
 //! Writing a block, entry by entry.
 
-ghost use Rattle.std.specs.Prelude.{◌≡◌, ◌+◌, ◌^◌, ◌<◌, ◌≤◌, ◌↔◌, ◌==◌, if◌then◌else◌, [], ◌++◌, nat_eq, length, take, false, IsTrue, IfOk, IfErr, OnOk, OnErr, IsOkUnless};
-ghost use Rattle.std.specs.List.{common_prefix_len};
+ghost use Rattle.std.specs.Prelude.{◌≡◌, ◌^◌, ◌≤◌, ◌↔◌, [], ◌++◌, length, false, IsTrue, IfOk};
+ghost use Rattle.std.specs.Prelude.{IfErr, OnOk, OnErr, IsOkUnless};
 ghost use Rattle.coding.specs.Answers.{fault};
 ghost use Rattle.coding.specs.declared.fault.FaultName.TheVariants.{Memory};
-ghost use Rattle.coding.specs.Varint.{varint};
-ghost use Rattle.block.specs.Piece.{piece_bytes, restart_bytes};
+ghost use Rattle.block.specs.Piece.{piece_bytes};
 ghost use Rattle.block.specs.Writing.{block};
 ghost use Rattle.block.specs.Building.{with_entry, last_key};
 
-use coding::{Fault, common_len, push_varint};
+use crate::layout::{next_since, push_fields, push_restarts, shared_len};
+use coding::Fault;
 use std::alloc::Global;
 use std::marker::Model;
 
 /// A block that is being written, seen as its restart interval and its entries so far.
 ///
-/// The entry at each multiple of the interval, counted from 0, stands with its whole key, and a restart points at it.
-/// Elsewhere the key leaves out its longest beginning that the key before it has too. `check` reads the block as the same
-/// entries. The block may have 2^31 bytes at most.
+/// The entry at each multiple of the interval, counted from 0, stands with its whole key, and a
+/// restart points at it. Elsewhere the key leaves out its longest beginning that the key before it
+/// has too. `check` reads the block as the same entries. The block may have 2^31 bytes at most.
 #[derive(Drop)]
 pub struct BlockBuilder {
     /// How many entries there are for each restart.
@@ -43,7 +43,8 @@ impl Model for BlockBuilder {
     ghost view = { λ b. record { interval = b.interval; entries = entries_behind [] b.bytes.items } };
 
     ghost invariant = { λ b.
-        IsBuilt b.interval (entries_behind [] b.bytes.items) b.bytes.items b.restarts.items b.last.items b.since };
+        IsBuilt b.interval (entries_behind [] b.bytes.items) b.bytes.items
+        b.restarts.items b.last.items b.since };
 }
 
 impl BlockBuilder {
@@ -62,8 +63,8 @@ impl BlockBuilder {
         }
     }
 
-    /// Appends an entry, after which the block has at most 2^31 bytes: one entry adds at most 34 to the bytes of its key and
-    /// value. A key is any bytes, and the order of keys isn't tested.
+    /// Appends an entry, after which the block has at most 2^31 bytes: one entry adds at most 34 to
+    /// the bytes of its key and value. A key is any bytes, and the order of keys isn't tested.
     ///
     /// Refused for want of memory alone. A refusal leaves it as it was.
     pub fn add(&mut self, key: &[u8], value: &[u8]) -> Result<(), Fault>
@@ -86,11 +87,7 @@ impl BlockBuilder {
         }
         self.last.truncate(shared);
         self.last.extend_from_slice(&key[shared..])?;
-        self.since = if self.since + 1 == self.interval {
-            0
-        } else {
-            self.since + 1
-        };
+        self.since = next_since(self.since, self.interval);
         Ok(())
     }
 
@@ -130,7 +127,8 @@ impl BlockBuilder {
     ///
     /// Refused for want of memory alone. A refusal leaves it as it was.
     pub fn push_block(&self, out: &mut Vec<u8>) -> Result<(), Fault>
-        ensures ok { OnOk result (out.new.items ≡ out.old.items ++ block self.now.interval self.now.entries) }
+        ensures ok { OnOk result (out.new.items
+            ≡ out.old.items ++ block self.now.interval self.now.entries) }
         ensures err { OnErr result (out.new.items ≡ out.old.items) }
         ensures memory { IsOkUnless result (fault Memory) }
     {
@@ -150,8 +148,8 @@ impl BlockBuilder {
         Ok(())
     }
 
-    /// The block of the entries: the entries, their restarts, and the number of restarts. One without entries has the one
-    /// restart 0.
+    /// The block of the entries: the entries, their restarts, and the number of restarts. One
+    /// without entries has the one restart 0.
     ///
     /// Refused for want of memory alone, and then the builder and its entries are gone.
     pub fn finish(self) -> Result<Vec<u8>, Fault>
@@ -175,20 +173,7 @@ impl BlockBuilder {
     }
 }
 
-/// How many bytes of the key before it the next entry leaves out: none where a restart points at it.
-fn shared_len(since: u64, before: &[u8], key: &[u8]) -> usize
-    ensures value { result ≡ (if since == 0 then 0 else common_prefix_len nat_eq before.now key.now) }
-    ensures within { result ≤ length key.now }
-{
-    if since == 0 {
-        0
-    } else {
-        common_len(before, key)
-    }
-}
-
-/// Appends the three lengths, the key's own bytes and the value. Refused for want of memory alone. A refusal leaves it as
-/// it was.
+/// Appends the fields of an entry. Refused only for memory. A refusal leaves it as it was.
 fn push_piece(out: &mut Vec<u8>, shared: usize, unshared: &[u8], value: &[u8]) -> Result<(), Fault>
     ensures ok { OnOk result (out.new.items ≡ out.old.items ++ piece_bytes (record {
       is_restart = false;
@@ -205,57 +190,4 @@ fn push_piece(out: &mut Vec<u8>, shared: usize, unshared: &[u8], value: &[u8]) -
         out.truncate(start);
     }
     written
-}
-
-/// Appends the three lengths, the key's own bytes and the value, or on a refused growth some of them.
-fn push_fields(out: &mut Vec<u8>, shared: usize, unshared: &[u8], value: &[u8]) -> Result<(), Fault>
-    ensures ok { OnOk result (out.new.items ≡ out.old.items ++ piece_bytes (record {
-      is_restart = false;
-      shared = shared;
-      unshared = unshared.now;
-      value = value.now;
-    })) }
-    ensures err { OnErr result (take (length out.old.items) out.new.items ≡ out.old.items) }
-    ensures memory { IsOkUnless result (fault Memory) }
-{
-    push_lengths(out, shared, unshared.len(), value.len())?;
-    out.extend_from_slice(unshared)?;
-    out.extend_from_slice(value)?;
-    Ok(())
-}
-
-/// Appends the three lengths of a piece, or on a refused growth some of them.
-fn push_lengths(
-    out: &mut Vec<u8>,
-    shared: usize,
-    unshared: usize,
-    value: usize,
-) -> Result<(), Fault>
-    ensures ok { OnOk result (out.new.items ≡ out.old.items ++ (varint shared ++ (varint unshared ++ varint value))) }
-    ensures err { OnErr result (take (length out.old.items) out.new.items ≡ out.old.items) }
-    ensures memory { IsOkUnless result (fault Memory) }
-{
-    if shared < 128 && unshared < 128 && value < 128 {
-        // Each takes one byte.
-        out.extend_from_slice(&[shared as u8, unshared as u8, value as u8])?;
-        return Ok(());
-    }
-    push_varint(out, shared as u64)?;
-    push_varint(out, unshared as u64)?;
-    push_varint(out, value as u64)
-}
-
-/// Appends the restarts and their number, four bytes each, or on a refused growth some of those bytes.
-fn push_restarts(out: &mut Vec<u8>, restarts: &[u32]) -> Result<(), Fault>
-    requires { length restarts.now < 2 ^ 32 }
-    ensures ok { OnOk result (out.new.items ≡ out.old.items ++ restart_bytes restarts.now) }
-    ensures err { OnErr result (take (length out.old.items) out.new.items ≡ out.old.items) }
-    ensures memory { IsOkUnless result (fault Memory) }
-{
-    out.reserve(4 * restarts.len() + 4)?;
-    for restart in restarts {
-        out.extend_from_slice(&restart.to_le_bytes())?;
-    }
-    out.extend_from_slice(&(restarts.len() as u32).to_le_bytes())?;
-    Ok(())
 }

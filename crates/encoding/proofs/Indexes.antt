@@ -12,7 +12,8 @@ use Rattle.frame.proofs.Stored.{length-stored}
 use Rattle.table.specs.Table.{IndexKeys, index_key, handle_entry, index_from, stored_blocks, table_of, closing}
 use Rattle.table.proofs.Indexes.{length-closing}
 use Rattle.encoding.specs.declared.planned_block.PlannedBlock.{PlannedBlock}
-use Rattle.encoding.specs.Planned.{parts_of, IsPlanned, place_key}
+use Rattle.encoding.specs.Planned.{parts_of, IsPlanned}
+use Rattle.encoding.specs.PlaceKey.{place_key}
 use Rattle.encoding.proofs.Lists.{suc_is}
 use Rattle.encoding.proofs.Keys.{planned_at, part_at}
 

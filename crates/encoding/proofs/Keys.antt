@@ -10,7 +10,8 @@ use Rattle.encoding.proofs.LastKeys.{last_known}
 use Rattle.table.specs.Table.{IndexKeys}
 use Rattle.table.specs.ReadingEntries.{first_key}
 use Rattle.encoding.specs.declared.planned_block.PlannedBlock.{PlannedBlock}
-use Rattle.encoding.specs.Planned.{parts_of, place_key, IsPlanned}
+use Rattle.encoding.specs.Planned.{parts_of, IsPlanned}
+use Rattle.encoding.specs.PlaceKey.{place_key}
 use Rattle.encoding.proofs.Lists.{suc_is}
 
 -- each block is planned rightly

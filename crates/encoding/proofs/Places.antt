@@ -8,7 +8,7 @@ use Rattle.std.proofs.lemmas.List.{drop_at, length-drop}
 use Rattle.std.proofs.lemmas.Option.{none-some}
 use Rattle.block.specs.Piece.{Entry}
 use Rattle.keep.specs.Runs.{Run}
-use Rattle.encoding.specs.Slices.{sliced, IsSliced}
+use Rattle.encoding.specs.SlicePlaces.{sliced, IsSliced}
 use Rattle.encoding.specs.Standing.{kept_of, StandsAt}
 
 drop_none : (n : ℕ) → drop {A = Entry} n [] ≡ []

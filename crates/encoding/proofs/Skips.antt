@@ -7,7 +7,7 @@ use Rattle.std.proofs.Math.Seq.{drop-append-add}
 use Rattle.std.proofs.lemmas.List.{drop-drop, length-append, length-drop, length-take-le}
 use Rattle.block.specs.Piece.{Entry}
 use Rattle.keep.specs.Runs.{Run}
-use Rattle.encoding.specs.Slices.{sliced, IsSliced}
+use Rattle.encoding.specs.SlicePlaces.{sliced, IsSliced}
 use Rattle.encoding.specs.Standing.{kept_of, StandsAt}
 
 -- so many entries of these runs are still to be taken off, where so many are of all; and they are no more than the entries of

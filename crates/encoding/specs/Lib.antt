@@ -3,3 +3,5 @@ pub mod Slices
 pub mod Planned
 -- serves proofs alone
 pub mod Standing
+pub mod SlicePlaces
+pub mod PlaceKey

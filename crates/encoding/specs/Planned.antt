@@ -1,8 +1,7 @@
 -- Data blocks that are planned.
-use Rattle.std.specs.Prelude.{◌≡◌, ◌≢◌, ℕ, ◌-◌, ◌^◌, List, [], ◌∷◌, length, map, min}
+use Rattle.std.specs.Prelude.{◌≡◌, ◌≢◌, ℕ, ◌-◌, ◌^◌, List, [], length, map, min}
 use Rattle.block.specs.Piece.{Entry}
 use Rattle.block.specs.Writing.{block}
-use Rattle.table.specs.Table.{IndexKeys, index_key}
 use Rattle.encoding.specs.declared.planned_block.PlannedBlock.{PlannedBlock}
 
 -- the entries of each data block
@@ -14,8 +13,3 @@ parts_of blocks = map (λ b. b.entries.entries) blocks
 pub record IsPlanned (interval : ℕ) (b : PlannedBlock) : Type 0 where
   pub some : b.entries.entries ≢ []
   pub len_is : b.len ≡ min (length (block interval b.entries.entries)) (2 ^ 64 - 1)
-
--- the key in the index of the first of some data blocks
-abbrev pub place_key : IndexKeys → List (List Entry) → List ℕ
-place_key keys [] = []
-place_key keys (p ∷ ps) = index_key keys p ps

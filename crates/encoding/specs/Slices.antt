@@ -1,21 +1,8 @@
 -- Consecutive entries of runs.
-use Rattle.std.specs.Prelude.{◌≡◌, ℕ, ◌-◌, ◌^◌, List, length, take, drop, min, Option, None}
-use Rattle.std.specs.List.{last_or}
-use Rattle.std.specs.Option.{option_map}
+use Rattle.std.specs.Prelude.{List}
 use Rattle.block.specs.Piece.{Entry}
 
 -- consecutive entries, and what stands behind them
 pub record Slice : Type 0 where
   pub entries : List Entry
   pub behind : List Entry
-
--- those between a place and a later one, each of which is seen as the entries from it on
-abbrev pub sliced : List Entry → List Entry → Slice
-sliced from to = record { entries = take (length from - length to) from; behind = to }
-
--- the second place is not before the first, so many entries stand between them (or more than 2 ^ 64 - 1), and the last of
--- these has this key
-pub record IsSliced (from to : List Entry) (len : ℕ) (last : Option (List ℕ)) : Type 0 where
-  pub later : drop (length from - length to) from ≡ to
-  pub count : len ≡ min (length from - length to) (2 ^ 64 - 1)
-  pub ended : last ≡ option_map (λ e. e.key) (last_or None (take (length from - length to) from))

@@ -9,17 +9,17 @@ ghost use Rattle.encoding.specs.Planned.{parts_of, IsPlanned};
 
 use crate::indexing::index_block;
 use crate::planned_block::PlannedBlock;
-use crate::storing::push_closing;
 use coding::Fault;
 use ikey::Comparator;
 use std::alloc::Global;
+use table::push_closing;
 
-/// The table of data blocks, of at most 2^30 bytes: their pieces, one behind the other, and the metaindex, the index and
-/// the footer behind them. The pieces are those that [`crate::encode_blocks`] gives of the blocks in order, at this
-/// restart interval.
+/// The table of data blocks, of at most 2^30 bytes: their pieces, one behind the other, and the
+/// metaindex, the index and the footer behind them. The pieces are those that
+/// [`crate::encode_blocks`] gives of the blocks in order, at this restart interval.
 ///
-/// The first piece becomes the table: where it has room for all of that, none of its bytes is copied. Refused for want of
-/// memory alone, and then the pieces are gone.
+/// The first piece becomes the table: where it has room for all of that, none of its bytes is
+/// copied. Refused for want of memory alone, and then the pieces are gone.
 pub fn assemble_table<C: Comparator>(
     alloc: Global,
     blocks: &[PlannedBlock<'_, '_>],
@@ -27,10 +27,13 @@ pub fn assemble_table<C: Comparator>(
     pieces: Vec<Vec<u8>>,
 ) -> Result<Vec<u8>, Fault>
     requires planned { AllByRecursion (IsPlanned interval) blocks.now }
-    requires pieces { flat_map (λ p. p.items) pieces.items ≡ stored_blocks interval (parts_of blocks.now) }
-    requires fits { length (table_of (index_keys C.cmp C.separator_of C.successor_of) interval (parts_of blocks.now)) ≤ 2 ^ 30 }
+    requires pieces { flat_map (λ p. p.items) pieces.items
+        ≡ stored_blocks interval (parts_of blocks.now) }
+    requires fits { length (table_of (index_keys C.cmp C.separator_of C.successor_of) interval
+        (parts_of blocks.now)) ≤ 2 ^ 30 }
     ensures { EqualOrMemory (λ v. v.items) result
-        (Ok (table_of (index_keys C.cmp C.separator_of C.successor_of) interval (parts_of blocks.now))) }
+        (Ok (table_of (index_keys C.cmp C.separator_of C.successor_of) interval
+        (parts_of blocks.now))) }
 {
     let index = index_block::<C>(alloc, blocks, interval)?;
     let mut table = joined(alloc, pieces)?;

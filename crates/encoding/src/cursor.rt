@@ -1,6 +1,7 @@
 //! A place among the kept entries of runs.
 
-ghost use Rattle.std.specs.Prelude.{◌≡◌, ◌<◌, ◌≤◌, ◌↔◌, length, drop, flat_map, slice_get, IsTrue, Some};
+ghost use Rattle.std.specs.Prelude.{◌≡◌, ◌<◌, ◌≤◌, ◌↔◌, length, drop, flat_map, slice_get};
+ghost use Rattle.std.specs.Prelude.{IsTrue, Some};
 ghost use Rattle.std.specs.Option.{option_map};
 ghost use Rattle.encoding.specs.Standing.{kept_of, StandsAt};
 
@@ -8,7 +9,8 @@ use ikey::InternalKey;
 use keep::RangeRun;
 use std::marker::Model;
 
-/// A place among the kept entries of runs, one run behind the other, seen as the entries from there on.
+/// A place among the kept entries of runs, one run behind the other, seen as the entries from there
+/// on.
 #[derive(Drop)]
 pub struct RunsCursor<'r, 'a> {
     /// The run of the first entry that is still to come, and those behind it.
@@ -58,7 +60,8 @@ impl<'r, 'a> RunsCursor<'r, 'a> {
         !self.runs.is_empty()
     }
 
-    /// The internal key of the first entry that is still to come, which lies in its run. Takes no memory.
+    /// The internal key of the first entry that is still to come, which lies in its run. Takes no
+    /// memory.
     pub fn key(&self) -> InternalKey<'r>
         requires { 0 < length self.now }
         ensures { option_map (λ e. e.key) (slice_get self.now 0) ≡ Some result.bytes.now }
@@ -66,7 +69,8 @@ impl<'r, 'a> RunsCursor<'r, 'a> {
         self.runs[0].key(self.entry)
     }
 
-    /// The value of the first entry that is still to come, a slice of an input's bytes. Takes no memory.
+    /// The value of the first entry that is still to come, a slice of an input's bytes. Takes no
+    /// memory.
     pub fn value(&self) -> &'a [u8]
         requires { 0 < length self.now }
         ensures { option_map (λ e. e.value) (slice_get self.now 0) ≡ Some result.now }

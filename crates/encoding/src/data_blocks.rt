@@ -13,8 +13,8 @@ use coding::Fault;
 use frame::Trailer;
 use std::alloc::Global;
 
-/// The bytes of consecutive data blocks, each with its trailer, at a restart interval from 1 to 1,024. Each block has at
-/// most 2^31 bytes. The answer has room for so many bytes from its start.
+/// The bytes of consecutive data blocks, each with its trailer, at a restart interval from 1 to
+/// 1,024. Each block has at most 2^31 bytes. The answer has room for so many bytes from its start.
 ///
 /// Refused for want of memory alone.
 pub fn encode_blocks(
@@ -25,8 +25,10 @@ pub fn encode_blocks(
 ) -> Result<Vec<u8>, Fault>
     requires positive { 1 ≤ interval }
     requires limited { interval ≤ 1024 }
-    requires fits { AllByRecursion (λ b. length (block interval b.entries.entries) ≤ 2 ^ 31) blocks.now }
-    ensures { EqualOrMemory (λ v. v.items) result (Ok (stored_blocks interval (parts_of blocks.now))) }
+    requires fits { AllByRecursion
+        (λ b. length (block interval b.entries.entries) ≤ 2 ^ 31) blocks.now }
+    ensures { EqualOrMemory (λ v. v.items) result
+        (Ok (stored_blocks interval (parts_of blocks.now))) }
 {
     let mut out = Vec::with_capacity(alloc, room)?;
     let mut restarts = Vec::new(alloc);

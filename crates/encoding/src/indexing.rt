@@ -5,7 +5,8 @@ ghost use Rattle.std.specs.List.{AllByRecursion};
 ghost use Rattle.coding.specs.Answers.{EqualOrMemory, fault};
 ghost use Rattle.coding.specs.declared.fault.FaultName.TheVariants.{Memory};
 ghost use Rattle.table.specs.Table.{index_keys, index_from, table_of};
-ghost use Rattle.encoding.specs.Planned.{parts_of, IsPlanned, place_key};
+ghost use Rattle.encoding.specs.Planned.{parts_of, IsPlanned};
+ghost use Rattle.encoding.specs.PlaceKey.{place_key};
 
 use crate::planned_block::PlannedBlock;
 use block::BlockBuilder;
@@ -13,6 +14,7 @@ use coding::Fault;
 use frame::{BlockHandle, TRAILER_LEN};
 use ikey::{Comparator, KeyBuf, internal_separator, internal_successor};
 use std::alloc::Global;
+use table::push_index_entry;
 
 /// The index of data blocks whose table has at most 2^30 bytes.
 pub(crate) fn index_block<C: Comparator>(
@@ -21,28 +23,30 @@ pub(crate) fn index_block<C: Comparator>(
     interval: u64,
 ) -> Result<BlockBuilder, Fault>
     requires planned { AllByRecursion (IsPlanned interval) blocks.now }
-    requires fits { length (table_of (index_keys C.cmp C.separator_of C.successor_of) interval (parts_of blocks.now)) ≤ 2 ^ 30 }
+    requires fits { length (table_of (index_keys C.cmp C.separator_of C.successor_of) interval
+        (parts_of blocks.now)) ≤ 2 ^ 30 }
     ensures index { IfOk result (λ b. b ≡ record {
       interval = 1;
-      entries = index_from (index_keys C.cmp C.separator_of C.successor_of) interval 0 (parts_of blocks.now);
+      entries = index_from (index_keys C.cmp C.separator_of C.successor_of) interval 0
+          (parts_of blocks.now);
     }) }
     ensures memory { IfErr result (λ e. e ≡ fault Memory) }
 {
     let mut index = BlockBuilder::new(alloc, 1);
-    let mut handle = Vec::new(alloc);
+    let mut spelling = Vec::new(alloc);
     let mut offset = 0;
     for place in 0..blocks.len() {
         let size = blocks[place].len;
         let key = index_key::<C>(alloc, blocks, place, interval)?;
-        handle.clear();
-        BlockHandle { offset, size }.push(&mut handle)?;
-        index.add(key.as_key().bytes(), &handle)?;
+        let handle = BlockHandle { offset, size };
+        push_index_entry(&mut index, &mut spelling, key.as_key().bytes(), handle)?;
         offset += size + TRAILER_LEN as u64;
     }
     Ok(index)
 }
 
-/// The key of a data block in the index: between its last key and the first key behind it, or above its last key.
+/// The key of a data block in the index: between its last key and the first key behind it, or above
+/// its last key.
 fn index_key<C: Comparator>(
     alloc: Global,
     blocks: &[PlannedBlock<'_, '_>],
@@ -52,7 +56,8 @@ fn index_key<C: Comparator>(
     requires within { place < length blocks.now }
     requires planned { AllByRecursion (IsPlanned interval) blocks.now }
     ensures { EqualOrMemory (λ own. own) result
-        (Ok (place_key (index_keys C.cmp C.separator_of C.successor_of) (drop place (parts_of blocks.now)))) }
+        (Ok (place_key (index_keys C.cmp C.separator_of C.successor_of)
+        (drop place (parts_of blocks.now)))) }
 {
     let Some(last) = blocks[place].entries.last_key() else {
         unreachable!();

@@ -1,18 +1,18 @@
-//! The encoding of a compaction's outputs: the entries that are kept, as one list, written as data blocks and joined to tables.
+//! The encoding of a compaction's outputs: the entries that are kept, as one list, written as data
+//! blocks and joined to tables.
 //!
-//! A [`RunsCursor`] is a place in that list, a [`RunsSlice`] grows entry by entry, and a [`RunsPart`] is entries that stay
-//! as they are. Keys and values stay where the runs have them, and no call of these three takes memory.
+//! A [`RunsCursor`] is a place in that list, a [`RunsSlice`] grows entry by entry, and a
+//! [`RunsPart`] is entries that stay as they are. Keys and values stay where the runs have them,
+//! and no call of these three takes memory.
 //!
-//! A [`PlannedBlock`] is a data block of which no byte is written yet. [`encode_blocks`] writes consecutive data blocks,
-//! apart from all others, and [`assemble_table`] joins what it wrote to a table:
+//! A [`PlannedBlock`] is a data block of which no byte is written yet. [`encode_blocks`] writes
+//! consecutive data blocks, apart from all others, and [`assemble_table`] joins what it wrote to a
+//! table:
 //!
 //! ```text
-//! data block 1, trailer    the trailer: type byte and masked CRC
-//! ..
-//! data block n, trailer
-//! metaindex, trailer       a block without entries
-//! index, trailer           for each data block its key and its handle
-//! footer                   handles of metaindex and index, magic
+//! data block 1 .. data block i    one call of encode_blocks: each block, then its trailer
+//! data block i + 1 ..             another call, perhaps on another thread
+//! metaindex, index, footer        assemble_table
 //! ```
 #![tactic(auto)]
 
@@ -23,7 +23,6 @@ mod indexing;
 mod part;
 mod planned_block;
 mod slice;
-mod storing;
 mod writing;
 
 pub use assembling::assemble_table;

@@ -8,8 +8,8 @@ use crate::cursor::RunsCursor;
 use ikey::InternalKey;
 use std::marker::Model;
 
-/// Consecutive entries of runs, held as the place of the first and their number, and seen as these and the entries that stand
-/// behind them.
+/// Consecutive entries of runs, held as the place of the first and their number, and seen as these
+/// and the entries that stand behind them.
 #[derive(Drop)]
 pub struct RunsPart<'r, 'a> {
     start: RunsCursor<'r, 'a>,
@@ -52,7 +52,8 @@ impl<'r, 'a> RunsPart<'r, 'a> {
 
     /// The internal key of the last entry, where there is one. Takes no memory.
     pub fn last_key(&self) -> Option<InternalKey<'r>>
-        ensures { option_map (λ key. key.bytes.now) result ≡ option_map (λ e. e.key) (last_or None self.now.entries) }
+        ensures { option_map (λ key. key.bytes.now) result
+            ≡ option_map (λ e. e.key) (last_or None self.now.entries) }
     {
         if self.len == 0 {
             return None;

@@ -1,6 +1,7 @@
 //! Consecutive entries of runs.
 
-ghost use Rattle.std.specs.Prelude.{◌≡◌, ◌-◌, ◌^◌, ◌≤◌, ◌↔◌, [], ◌++◌, length, take, drop, slice_get, IsTrue, Some, None};
+ghost use Rattle.std.specs.Prelude.{◌≡◌, ◌-◌, ◌^◌, ◌≤◌, ◌↔◌, [], ◌++◌, length, take, drop};
+ghost use Rattle.std.specs.Prelude.{slice_get, IsTrue, Some, None};
 ghost use Rattle.std.specs.List.{last_or};
 ghost use Rattle.std.specs.Option.{option_map};
 
@@ -20,7 +21,8 @@ pub struct RunsSlice<'r, 'a> {
 }
 
 impl<'r, 'a> Model for RunsSlice<'r, 'a> {
-    ghost use Rattle.encoding.specs.Slices.{Slice, sliced, IsSliced};
+    ghost use Rattle.encoding.specs.Slices.{Slice};
+    ghost use Rattle.encoding.specs.SlicePlaces.{sliced, IsSliced};
 
     ghost Value = { Slice };
 
@@ -28,7 +30,8 @@ impl<'r, 'a> Model for RunsSlice<'r, 'a> {
 
     ghost use Rattle.std.specs.Option.{option_map};
 
-    ghost invariant = { λ s. IsSliced s.start s.behind s.len (option_map (λ key. key.bytes.now) s.last) };
+    ghost invariant = { λ s. IsSliced s.start s.behind s.len
+        (option_map (λ key. key.bytes.now) s.last) };
 }
 
 impl<'r, 'a> RunsSlice<'r, 'a> {
@@ -66,7 +69,8 @@ impl<'r, 'a> RunsSlice<'r, 'a> {
 
     /// The internal key of the last entry, where there is one. Takes no memory.
     pub fn last_key(&self) -> Option<InternalKey<'r>>
-        ensures { option_map (λ key. key.bytes.now) result ≡ option_map (λ e. e.key) (last_or None self.now.entries) }
+        ensures { option_map (λ key. key.bytes.now) result
+            ≡ option_map (λ e. e.key) (last_or None self.now.entries) }
     {
         self.last
     }

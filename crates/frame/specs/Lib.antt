@@ -1,3 +1,4 @@
+-- what contracts rest on
 pub mod Handle
 pub mod Trailer
 pub mod Footer

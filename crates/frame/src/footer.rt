@@ -1,4 +1,11 @@
-//! The footer of a table.
+//! The footer of a table: its last 48 bytes.
+//!
+//! ```text
+//! metaindex: handle    where the metaindex block lies
+//! index: handle        where the index block lies
+//! zeros                up to the footer's first 40 bytes
+//! magic: u64           0xdb4775248b80fb57, lowest byte first
+//! ```
 
 ghost use Rattle.std.specs.Prelude.{◌≡◌, ◌≤◌, ◌++◌, length, take, OnOk, OnErr, IsOkUnless};
 ghost use Rattle.coding.specs.Answers.{fault};
@@ -19,8 +26,8 @@ const ZEROS: [u8; HANDLES_LEN] = [0; HANDLES_LEN];
 /// The magic of a table, the number 0xdb4775248b80fb57, the lowest byte first.
 const MAGIC: [u8; 8] = [0x57, 0xfb, 0x80, 0x8b, 0x24, 0x75, 0x47, 0xdb];
 
-/// The last 48 bytes of a table: the handles of the metaindex and of the index, zeros up to 40 bytes, and the 8 bytes of
-/// the magic.
+/// The last 48 bytes of a table: the handles of the metaindex and of the index, zeros up to 40
+/// bytes, and the 8 bytes of the magic.
 #[derive(Clone, Copy, Debug, PartialEq, Eq)]
 pub struct Footer {
     /// Where the metaindex block stands.
@@ -34,8 +41,8 @@ impl Footer {
 
     /// The footer that 48 bytes are.
     ///
-    /// `Magic` where the last 8 of them aren't the magic, else `Handle` where the first 40 don't begin with two handles.
-    /// What stands behind these isn't tested. Takes no memory.
+    /// `Magic` where the last 8 of them aren't the magic, else `Handle` where the first 40 don't
+    /// begin with two handles. What stands behind these isn't tested. Takes no memory.
     #[tactic(auto, unfolding(crate::specs::Footer::footer_reading))]
     pub fn read(bytes: &[u8]) -> Result<Footer, Fault>
         requires { length bytes.now ≡ 48 }

@@ -1,4 +1,9 @@
-//! Block handles.
+//! Block handles: where a block lies in its file.
+//!
+//! ```text
+//! offset: varint    of the block's first byte, from the file's beginning
+//! size: varint      of the block's contents, its trailer not counted
+//! ```
 
 ghost use Rattle.std.specs.Prelude.{◌≡◌, ◌≤◌, ◌++◌, length, OnOk, OnErr, IsOkUnless};
 ghost use Rattle.std.specs.Option.{option_map};
@@ -14,7 +19,8 @@ use coding::{Fault, push_varint, read_u64_varint};
 pub struct BlockHandle {
     /// The offset of the block's first byte, in bytes from the file's beginning.
     pub offset: u64,
-    /// The bytes of the block's contents. The 5 bytes of its trailer, which follow them, aren't counted.
+    /// The bytes of the block's contents. The 5 bytes of its trailer, which follow them, aren't
+    /// counted.
     pub size: u64,
 }
 
@@ -32,7 +38,8 @@ impl BlockHandle {
 
     /// The handle whose spelling begins the bytes.
     ///
-    /// None where the bytes don't begin with the shortest spellings of two numbers below 2^64. Takes no memory.
+    /// None where the bytes don't begin with the shortest spellings of two numbers below 2^64.
+    /// Takes no memory.
     #[tactic(auto, unfolding(crate::specs::Handle::handle_reading))]
     pub fn read(bytes: &[u8]) -> Option<HandleBehind<'_>>
         ensures { option_map (λ found. record { handle = found.handle; rest = found.rest.now }) result
@@ -53,7 +60,8 @@ impl BlockHandle {
     /// Refused for want of memory alone. A refusal leaves it as it was.
     #[tactic(auto, unfolding(crate::specs::Handle::handle_bytes))]
     pub fn push(self, out: &mut Vec<u8>) -> Result<(), Fault>
-        ensures ok { OnOk result (out.new.items ≡ out.old.items ++ handle_bytes self.offset self.size) }
+        ensures ok { OnOk result (out.new.items
+            ≡ out.old.items ++ handle_bytes self.offset self.size) }
         ensures err { OnErr result (out.new.items ≡ out.old.items) }
         ensures memory { IsOkUnless result (fault Memory) }
     {

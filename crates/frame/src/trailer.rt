@@ -1,4 +1,10 @@
-//! Stored blocks: contents, and a trailer behind them.
+//! Stored blocks: contents, and a trailer of 5 bytes after them.
+//!
+//! ```text
+//! contents
+//! type: u8         0: contents as they are; 1: compressed by Snappy, which is refused
+//! checksum: u32    the masked CRC-32C of contents and type, lowest byte first
+//! ```
 
 ghost use Rattle.std.specs.Prelude.{◌≡◌, ◌≤◌, ◌++◌, ◌∷◌, length, Ok, IsOk, OnOk, OnErr, IsOkUnless};
 ghost use Rattle.std.specs.Result.{result_map_both};
@@ -19,7 +25,8 @@ const PLAIN: u8 = 0;
 /// The type of contents that Snappy compressed.
 const SNAPPY: u8 = 1;
 
-/// What stands behind a block's contents: 5 bytes, the type and then the checksum, the lowest byte first.
+/// What stands behind a block's contents: 5 bytes, the type and then the checksum, the lowest byte
+/// first.
 #[derive(Clone, Copy, Debug, PartialEq, Eq)]
 pub struct Trailer {
     /// The type of the contents: 0 where they stand as they are, 1 where Snappy compressed them.
@@ -46,7 +53,8 @@ impl Trailer {
     ///
     /// Refused for want of memory alone. A refusal leaves it as it was.
     pub fn push(self, out: &mut Vec<u8>) -> Result<(), Fault>
-        ensures ok { OnOk result (out.new.items ≡ out.old.items ++ self.block_type ∷ little_bytes 4 self.checksum) }
+        ensures ok { OnOk result (out.new.items
+            ≡ out.old.items ++ self.block_type ∷ little_bytes 4 self.checksum) }
         ensures err { OnErr result (out.new.items ≡ out.old.items) }
         ensures memory { IsOkUnless result (fault Memory) }
     {
@@ -58,8 +66,8 @@ impl Trailer {
 
 /// The contents of a stored block, which is contents and the 5 bytes of their trailer.
 ///
-/// `Trailer` where the checksum isn't that of the contents and the type, else `Compressed` where the type is 1, else
-/// `BlockType` where it isn't 0. Takes no memory.
+/// `Trailer` where the checksum isn't that of the contents and the type, else `Compressed` where
+/// the type is 1, else `BlockType` where it isn't 0. Takes no memory.
 #[tactic(auto, unfolding(crate::specs::Trailer::stored_reading))]
 pub fn contents(bytes: &[u8]) -> Result<&[u8], Fault>
     requires { 5 ≤ length bytes.now }
@@ -79,8 +87,8 @@ pub fn contents(bytes: &[u8]) -> Result<&[u8], Fault>
     }
 }
 
-/// The contents of a stored block that is known to pass the tests of [`contents`], which aren't made again. Takes no
-/// memory.
+/// The contents of a stored block that is known to pass the tests of [`contents`], which aren't
+/// made again. Takes no memory.
 pub fn reopen_contents(bytes: &[u8]) -> &[u8]
     requires long { 5 ≤ length bytes.now }
     requires passed { IsOk (stored_reading bytes.now) }

@@ -16,7 +16,8 @@ use Rattle.table.specs.ReadingEntries.{first_key, key_behind, is_some_list, data
 use Rattle.table.specs.Ends.{Ends, ends_of}
 use Rattle.table.specs.ReadingIndex.{IndexEntry, block_in, index_reading}
 use Rattle.table.specs.Reading.{DataBlock, blocks_reading, index_fits, data_reading, index_in, blocks_of, entries_of, Contents, contents_of, contents_reading, table_reading}
-use Rattle.table.specs.Checked.{contents_in, IsChecked}
+use Rattle.table.specs.Checked.{contents_in}
+use Rattle.table.specs.SoundTables.{IsChecked}
 use Rattle.table.specs.ReadingTables.{IsTable}
 use Rattle.table.proofs.Steps.{fails_map}
 use Rattle.table.proofs.DataSteps.{all_ends}

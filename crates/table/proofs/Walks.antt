@@ -26,7 +26,8 @@ use Rattle.block.specs.ReadingBlocks.{block_reading}
 use Rattle.table.specs.ReadingEntries.{first_key, is_above, key_behind, is_some_list, data_test, HaveKeys}
 use Rattle.table.specs.ReadingIndex.{IndexEntry, handle_alone, one_handle, stored_at, block_in, index_entry, index_reading}
 use Rattle.table.specs.Reading.{DataBlock, blocks_reading, is_between, index_fits, entries_of, Contents}
-use Rattle.table.specs.Checked.{contents_in, IsChecked}
+use Rattle.table.specs.Checked.{contents_in}
+use Rattle.table.specs.SoundTables.{IsChecked}
 use Rattle.table.specs.ReadingCursors.{IsRising, entries_from}
 use Rattle.table.specs.Seeking.{first_is_below}
 use Rattle.table.specs.Walking.{block_named, entries_named, all_named, NamesBlock, Indexes, IsLeft}

@@ -1,23 +1,9 @@
--- What is kept of a table that was checked.
-use Rattle.std.specs.Prelude.{◌≡◌, ℕ, List, [], Ok}
+-- What bytes that were checked as a table hold.
+use Rattle.std.specs.Prelude.{ℕ, List, []}
 use Rattle.std.specs.Result.{result_unwrap_or}
 use Rattle.std.specs.declared.cmp.Ordering.{Ordering}
-use Rattle.block.specs.Piece.{Entry}
-use Rattle.block.specs.Building.{last_key}
-use Rattle.table.specs.ReadingEntries.{first_key}
-use Rattle.table.specs.ReadingIndex.{IndexEntry, index_reading}
-use Rattle.table.specs.Reading.{Contents, DataBlock, contents_of, contents_reading, index_in, data_reading, entries_of}
+use Rattle.table.specs.Reading.{Contents, contents_of, contents_reading}
 
 -- what bytes that are a table hold
 abbrev pub contents_in : (List ℕ → List ℕ → Ordering) → List ℕ → Contents
 contents_in cmp bytes = result_unwrap_or (contents_reading cmp bytes) (contents_of bytes [])
-
--- the bytes have an index block of these entries, and data blocks from the first of these keys to the last
-pub record IsChecked (cmp : List ℕ → List ℕ → Ordering) (bytes : List ℕ) (named : List Entry) (smallest largest : List ℕ) : Type 0 where
-  pub index : List IndexEntry
-  pub blocks : List DataBlock
-  pub index_block : index_in bytes ≡ Ok named
-  pub index_entries : index_reading bytes named ≡ Ok index
-  pub data_blocks : data_reading cmp index ≡ Ok blocks
-  pub first : smallest ≡ first_key (entries_of blocks)
-  pub last : largest ≡ last_key [] (entries_of blocks)

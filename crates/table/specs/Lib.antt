@@ -10,12 +10,13 @@ pub mod Reading
 pub mod ReadingTables
 pub mod ReadingBack
 pub mod ReadingCursors
-pub mod KeyLists
+pub mod Checked
 -- serves proofs alone
+pub mod KeyLists
 pub mod Flushed
 pub mod Kept
 pub mod Indexed
 pub mod Ends
-pub mod Checked
+pub mod SoundTables
 pub mod Walking
 pub mod Seeking

@@ -1,6 +1,7 @@
 //! The data blocks of a table that were flushed.
 
-ghost use Rattle.std.specs.Prelude.{◌≡◌, ◌≤◌, ◌<◌, ◌^◌, ◌++◌, ◌∷◌, [], length, IfOk, IfErr, OnOk, OnErr, IsOkUnless, Ok};
+ghost use Rattle.std.specs.Prelude.{◌≡◌, ◌≤◌, ◌<◌, ◌^◌, ◌++◌, ◌∷◌, [], length, IfOk, IfErr};
+ghost use Rattle.std.specs.Prelude.{OnOk, OnErr, IsOkUnless, Ok};
 ghost use Rattle.coding.specs.Answers.{EqualOrMemory, UnlessMemory, fault};
 ghost use Rattle.coding.specs.declared.fault.FaultName.TheVariants.{Memory, TooLarge};
 ghost use Rattle.block.specs.Writing.{block};
@@ -10,9 +11,10 @@ ghost use Rattle.table.specs.Table.{closing, within_limit};
 
 use crate::checking::MAX_TABLE_LEN;
 use crate::flushed_block::FlushedBlock;
+use crate::layout::{push_closing, push_index_entry, push_stored};
 use block::BlockBuilder;
 use coding::{Fault, FaultName};
-use frame::{BlockHandle, FOOTER_LEN, Footer, TRAILER_LEN, Trailer};
+use frame::{FOOTER_LEN, TRAILER_LEN};
 use ikey::KeyBuf;
 use std::alloc::Global;
 
@@ -22,7 +24,8 @@ const MAX_ROOM: u64 = 1 << 26;
 /// The block without entries, as it is for the metaindex.
 const EMPTY_BLOCK_LEN: usize = 8;
 
-/// Data blocks with their trailers, as they stand at the beginning of a table, and what the index has of them.
+/// Data blocks with their trailers, as they stand at the beginning of a table, and what the index
+/// has of them.
 #[derive(Drop)]
 pub(crate) struct Flushed {
     pub bytes: Vec<u8>,
@@ -30,17 +33,19 @@ pub(crate) struct Flushed {
 }
 
 impl Flushed {
-    /// Appends a block with its trailer, which has this key in the index. With the first, room is asked for where a file is to
-    /// have this size.
+    /// Appends a block with its trailer, which has this key in the index. With the first, room is
+    /// asked for where a file is to have this size.
     ///
     /// Refused for want of memory alone. A refusal leaves it as it was.
     pub fn push(&mut self, key: KeyBuf, builder: &BlockBuilder, file_size: u64) -> Result<(), Fault>
         ensures bytes { OnOk result
-            (self.new.bytes.items ≡ self.old.bytes.items ++ stored (block builder.now.interval builder.now.entries)) }
+            (self.new.bytes.items ≡ self.old.bytes.items ++ stored
+            (block builder.now.interval builder.now.entries)) }
         ensures index { OnOk result
             (self.new.index.items
             ≡ self.old.index.items
-            ++ entry_at key (length self.old.bytes.items) (length (block builder.now.interval builder.now.entries)) ∷ []) }
+            ++ entry_at key (length self.old.bytes.items) (length
+            (block builder.now.interval builder.now.entries)) ∷ []) }
         ensures bytes_stay { OnErr result (self.new.bytes.items ≡ self.old.bytes.items) }
         ensures index_stays { OnErr result (self.new.index.items ≡ self.old.index.items) }
         ensures memory { IsOkUnless result (fault Memory) }
@@ -51,7 +56,7 @@ impl Flushed {
             let size = file_size.min(MAX_ROOM);
             let _room = self.bytes.reserve((size + size / 16) as usize);
         }
-        let handle = push_block(&mut self.bytes, builder)?;
+        let handle = push_stored(&mut self.bytes, builder)?;
         self.index.push(FlushedBlock { key, handle })?;
         Ok(())
     }
@@ -61,7 +66,8 @@ impl Flushed {
     /// TooLarge where it would have more than 2^30 bytes.
     pub fn finish(self, alloc: Global) -> Result<Vec<u8>, Fault>
         ensures { EqualOrMemory (λ v. v.items) result
-            (within_limit (self.bytes.items ++ closing (length self.bytes.items) (index_entries self.index.items))) }
+            (within_limit (self.bytes.items
+            ++ closing (length self.bytes.items) (index_entries self.index.items))) }
     {
         let Flushed { mut bytes, index } = self;
         let index = index_block(alloc, &index)?;
@@ -74,59 +80,21 @@ impl Flushed {
     }
 }
 
-/// Appends a block and its trailer, and answers where the block stands.
-///
-/// Refused for want of memory alone. A refusal leaves it as it was.
-fn push_block(out: &mut Vec<u8>, builder: &BlockBuilder) -> Result<BlockHandle, Fault>
-    ensures ok { OnOk result (out.new.items ≡ out.old.items ++ stored (block builder.now.interval builder.now.entries)) }
-    ensures handle { IfOk result (λ h. h ≡ record {
-      offset = length out.old.items;
-      size = length (block builder.now.interval builder.now.entries);
-    }) }
-    ensures err { OnErr result (out.new.items ≡ out.old.items) }
-    ensures memory { IfErr result (λ e. e ≡ fault Memory) }
-{
-    let start = out.len();
-    builder.push_block(out)?;
-    let trailer = Trailer::of(&out[start..]);
-    if let Err(refused) = trailer.push(out) {
-        // The block goes too.
-        out.truncate(start);
-        return Err(refused);
-    }
-    Ok(BlockHandle {
-        offset: start as u64,
-        size: builder.estimate() as u64,
-    })
-}
-
 /// The index block, unless it has more bytes than a table may have.
 fn index_block(alloc: Global, index: &[FlushedBlock]) -> Result<BlockBuilder, Fault>
     ensures ok { IfOk result (λ b. b ≡ record { interval = 1; entries = index_entries index.now }) }
     ensures err { IfErr result
-        (λ e. UnlessMemory e ((e ≡ fault TooLarge) × (2 ^ 30 < length (block 1 (index_entries index.now))))) }
+        (λ e. UnlessMemory e ((e
+        ≡ fault TooLarge) × (2 ^ 30 < length (block 1 (index_entries index.now))))) }
 {
     let mut entries = BlockBuilder::new(alloc, 1);
-    let mut handle = Vec::new(alloc);
+    let mut spelling = Vec::new(alloc);
     for entry in index {
         if entries.estimate() > MAX_TABLE_LEN {
             return Err(Fault::of(FaultName::TooLarge));
         }
-        handle.clear();
-        entry.handle.push(&mut handle)?;
-        entries.add(entry.key.as_key().bytes(), &handle)?;
+        let key = entry.key.as_key().bytes();
+        push_index_entry(&mut entries, &mut spelling, key, entry.handle)?;
     }
     Ok(entries)
-}
-
-/// Appends what stands behind the data blocks: the metaindex, the index and the footer, or on a refused growth some of
-/// that.
-fn push_closing(alloc: Global, out: &mut Vec<u8>, index: &BlockBuilder) -> Result<(), Fault>
-    requires { index.now.interval ≡ 1 }
-    ensures ok { OnOk result (out.new.items ≡ out.old.items ++ closing (length out.old.items) index.now.entries) }
-    ensures memory { IsOkUnless result (fault Memory) }
-{
-    let metaindex = push_block(out, &BlockBuilder::new(alloc, 1))?;
-    let index = push_block(out, index)?;
-    Footer { metaindex, index }.push(out)
 }

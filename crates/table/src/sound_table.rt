@@ -26,8 +26,9 @@ pub struct SoundTable<'a, C: Comparator> {
 }
 
 impl<'a, C: Comparator> Model for SoundTable<'a, C> {
-    ghost use Rattle.table.specs.Checked.{IsChecked, contents_in};
+    ghost use Rattle.table.specs.Checked.{contents_in};
     ghost use Rattle.table.specs.Reading.{Contents};
+    ghost use Rattle.table.specs.SoundTables.{IsChecked};
 
     ghost Value = { Contents };
 
@@ -37,7 +38,7 @@ impl<'a, C: Comparator> Model for SoundTable<'a, C> {
 }
 
 impl<'a, C: Comparator> SoundTable<'a, C> {
-    ghost use Rattle.table.specs.Checked.{IsChecked};
+    ghost use Rattle.table.specs.SoundTables.{IsChecked};
     ghost use Rattle.table.specs.Walking.{Indexes};
 
     /// The bytes of the table, which read as what it holds.
@@ -67,7 +68,8 @@ impl<'a, C: Comparator> SoundTable<'a, C> {
     ///
     /// Refused for want of memory alone. It takes that of the keys, and of one key more.
     pub fn index_users(&self, alloc: Global) -> Result<Vec<Vec<u8>>, Fault>
-        ensures { EqualOrMemory (λ users. map (λ user. user.items) users.items) result (Ok self.now.index_users) }
+        ensures { EqualOrMemory (λ users. map (λ user. user.items) users.items) result
+            (Ok self.now.index_users) }
     {
         let mut entries = BlockCursor::new(alloc, &self.index)?;
         let mut users = Vec::new(alloc);

@@ -1,4 +1,4 @@
-use Rattle.std.proofs.Common.{◌≡◌, ◌≤◌, ◌+◌, ◌^◌, ◌++◌, ℕ, List, length, take, drop, sym, ap, ◌∙◌, arith}
+use Rattle.std.proofs.Common.{◌≡◌, ◌≤◌, ◌+◌, ◌^◌, ℕ, List, length, take, drop, refl, sym, ap, ◌∙◌, arith}
 use Rattle.std.specs.Prelude.{slice_index_or}
 use Rattle.block.specs.Piece.{Entry}
 use Rattle.block.specs.Writing.{block}
@@ -7,7 +7,8 @@ use Rattle.frame.specs.Handle.{handle_bytes}
 use Rattle.table.specs.Table.{IndexKeys, index_keys, index_from, stored_blocks}
 use Rattle.table.proofs.Refused.{ok_is}
 use Rattle.encoding.specs.declared.planned_block.PlannedBlock.{PlannedBlock}
-use Rattle.encoding.specs.Planned.{parts_of, place_key}
+use Rattle.encoding.specs.Planned.{parts_of}
+use Rattle.encoding.specs.PlaceKey.{place_key}
 use Rattle.encoding.proofs.Indexes.{Steps, steps, index_whole}
 use Rattle.encoding.proofs.indexing.index_block.Goals as goal
 
@@ -36,17 +37,16 @@ fits_by index key handle entries h le =
     let same : length (block index.interval (with_entry index.entries key handle)) ≡ length (block 1 entries) = ap (λ (b : Building). length (block b.interval b.entries)) h in
     omega (arith, same, le)
 
-pub add-requires : goal.add-requires
-add-requires g c =
+pub push_index_entry-requires : goal.push_index_entry-requires
+push_index_entry-requires g c =
     let keys : IndexKeys = index_keys g.C.Comparator.cmp g.C.Comparator.separator_of g.C.Comparator.successor_of in
     let blocks : List PlannedBlock = c.args.blocks.now in
     let i : ℕ = c.loop-place.place in
     let size : ℕ = (slice_index_or blocks i c.index-blocks-place.result).len in
     let s : Steps keys c.args.interval blocks i size = steps keys c.args.interval blocks i c.index-blocks-place.result (omega (arith, c.loop-place-test.true)) c.requires.planned c.requires.fits in
     let key = c.bytes.ensures ∙ c.as_key.ensures ∙ sym (ok_is c.in_ok-key.ensures) in
-    let handle = c.deref.ensures.value ∙ c.in_ok-push.ensures.ok ∙ ap (λ (x : List ℕ). x ++ handle_bytes c.loop-place.offset size) c.clear.ensures.items in
-    fits_by c.loop-place.index c.bytes.result.now c.deref.result.now _
-    (added keys c.args.interval blocks i c.loop-place.offset size c.loop-place.index c.bytes.result.now c.deref.result.now s c.loop-place.invariant.0 c.loop-place.invariant.1 key handle) s.fits
+    fits_by c.loop-place.index c.bytes.result.now (handle_bytes c.loop-place.offset size) _
+    (added keys c.args.interval blocks i c.loop-place.offset size c.loop-place.index c.bytes.result.now (handle_bytes c.loop-place.offset size) s c.loop-place.invariant.0 c.loop-place.invariant.1 key refl) s.fits
 
 pub overflow_add-offset : goal.overflow_add-offset
 overflow_add-offset g c =
@@ -67,9 +67,8 @@ loop-place-preserved g c =
     let i : ℕ = c.loop-place.place in
     let size : ℕ = (slice_index_or blocks i c.index-blocks-place.result).len in
     let s : Steps keys c.args.interval blocks i size = steps keys c.args.interval blocks i c.index-blocks-place.result (omega (arith, c.loop-place-test.true)) c.requires.planned c.requires.fits in
-    let key = c.bytes.ensures ∙ c.as_key.ensures ∙ sym (ok_is c.in_ok-key.ensures) in
-    let handle = c.deref.ensures.value ∙ c.in_ok-push.ensures.ok ∙ ap (λ (x : List ℕ). x ++ handle_bytes c.loop-place.offset size) c.clear.ensures.items in (
-      c.in_ok-add.ensures.ok ∙ added keys c.args.interval blocks i c.loop-place.offset size c.loop-place.index c.bytes.result.now c.deref.result.now s c.loop-place.invariant.0 c.loop-place.invariant.1 key handle,
+    let key = c.bytes.ensures ∙ c.as_key.ensures ∙ sym (ok_is c.in_ok-key.ensures) in (
+      c.in_ok-push_index_entry.ensures.ok ∙ added keys c.args.interval blocks i c.loop-place.offset size c.loop-place.index c.bytes.result.now (handle_bytes c.loop-place.offset size) s c.loop-place.invariant.0 c.loop-place.invariant.1 key refl,
       ap (λ (n : ℕ). n + (size + 5)) c.loop-place.invariant.1 ∙ sym s.bytes,
     )
 

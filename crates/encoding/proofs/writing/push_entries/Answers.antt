@@ -50,8 +50,8 @@ loop-preserved c =
     let fits : length (block r (with_entry (take i q) key_is value_is)) ≤ 2147483648 = omega (arith, ap (λ (es : List Entry). length (block r es)) next, front_fits r q (suc i) c.requires.fits) in
     let rest = take_rest key_is shared in
     let offset : length front + (c.len.result - c.len-start.result) ≡ length c.loop.out.items = omega (arith, offset_is c.loop.invariant.0, c.len.ensures, c.len-start.ensures) in
-    let added = one_appended key_is value_is _ c.push_piece.new.out.items c.push_restart.new.restarts.items shared (c.len.result - c.len-start.result) c.next_since-since.result c.loop.invariant.0 fits c.shared_len-shared.ensures.value rest offset c.in_ok-push_piece.ensures.ok c.in_ok-push_restart.ensures.ok c.next_since-since.ensures in (
-      subst (λ (es : List Entry). IsAppended r es front c.push_piece.new.out.items c.push_restart.new.restarts.items key_is c.next_since-since.result) (next ∙ ap (λ (n : ℕ). take n q) (sym (suc_is i))) added,
+    let added = one_appended key_is value_is _ c.push_fields.new.out.items c.push_restart.new.restarts.items shared (c.len.result - c.len-start.result) c.next_since-since.result c.loop.invariant.0 fits c.shared_len-shared.ensures.value rest offset c.in_ok-push_fields.ensures.ok c.in_ok-push_restart.ensures.ok c.next_since-since.ensures in (
+      subst (λ (es : List Entry). IsAppended r es front c.push_fields.new.out.items c.push_restart.new.restarts.items key_is c.next_since-since.result) (next ∙ ap (λ (n : ℕ). take n q) (sym (suc_is i))) added,
       c.advance.ensures ∙ ap (drop 1) c.loop.invariant.1 ∙ sym (drop_next i all),
       c.loop.invariant.2,
     )

@@ -32,21 +32,21 @@ returns-then-estimate-gt-MAX_TABLE_LEN-clause-err c =
     let so_far = ap (λ (b : Building). length (block b.interval b.entries)) c.loop-entry.invariant in
     rw c.of.ensures (refl, omega (arith, so_far, c.estimate.ensures, length-index_part c.args.index.now c.loop-entry.entry-index))
 
-pub add-requires : goal.add-requires
-add-requires c =
+pub push_index_entry-requires : goal.push_index_entry-requires
+push_index_entry-requires c =
     let handle = c.entry-item.result.handle in
-    index_fits c.loop-entry.entries c.bytes.result.now c.deref.result.now handle.offset handle.size
+    index_fits c.loop-entry.entries c.bytes-key.result.now (handle_bytes handle.offset handle.size) handle.offset handle.size
     (omega (arith, c.estimate.ensures))
-    (rw c.bytes.ensures c.as_key.result.lawful.fits)
-    (c.deref.ensures.value ∙ c.in_ok-push.ensures.ok ∙ ap (λ (x : List ℕ). x ++ handle_bytes handle.offset handle.size) c.clear.ensures.items)
+    (rw c.bytes-key.ensures c.as_key.result.lawful.fits)
+    refl
 
 pub loop-entry-preserved : goal.loop-entry-preserved
 loop-entry-preserved c =
     let handle = c.entry-item.result.handle in
-    c.in_ok-add.ensures.ok
-    ∙ entry_added c.args.index.now c.loop-entry.entry-index c.entry-item.result c.loop-entry.entries c.bytes.result.now c.deref.result.now c.loop-entry-test.true c.entry-item.is c.loop-entry.invariant
-    (c.bytes.ensures ∙ c.as_key.ensures)
-    (c.deref.ensures.value ∙ c.in_ok-push.ensures.ok ∙ ap (λ (x : List ℕ). x ++ handle_bytes handle.offset handle.size) c.clear.ensures.items)
+    c.in_ok-push_index_entry.ensures.ok
+    ∙ entry_added c.args.index.now c.loop-entry.entry-index c.entry-item.result c.loop-entry.entries c.bytes-key.result.now (handle_bytes handle.offset handle.size) c.loop-entry-test.true c.entry-item.is c.loop-entry.invariant
+    (c.bytes-key.ensures ∙ c.as_key.ensures)
+    refl
 
 pub returns-clause-ok : goal.returns-clause-ok
 returns-clause-ok c =

@@ -6,12 +6,27 @@ use Rattle.block.specs.Behind.{entries_behind}
 use Rattle.block.specs.Writing.{block}
 use Rattle.block.specs.Building.{Building, with_entry}
 use Rattle.block.specs.Kept.{IsBuilt}
-use Rattle.block.proofs.Built.{length-built, next_piece, next_shared, next_piece_bytes, next_last, next_since, IsKept-next, entries_behind-next}
+use Rattle.block.proofs.Built.{length-built, since_below, next_piece, next_shared, next_piece_bytes, next_last, next_since, IsKept-next, entries_behind-next}
 use Rattle.block.proofs.builder.BlockBuilder.add.Goals as goal
-use Rattle.block.proofs.builder.BlockBuilder.add.Goals.{then-self-eq0+in_ok-push, else-self-eq0, then-self, else-self}
+use Rattle.block.proofs.builder.BlockBuilder.add.Goals.{then-self-eq0+in_ok-push, else-self-eq0}
 
 pub overflow_cast-offset : goal.overflow_cast-offset
 overflow_cast-offset c = omega (arith, length-built c.self.invariant)
+
+pub next_since-self-inside-requires : goal.next_since-self-inside-requires
+next_since-self-inside-requires c =
+    let was = c.self.inside in
+    let interval_same : c.if-self-eq0.self-inside.interval ≡ was.interval =
+    elim c.if-self-eq0.branch [
+      | then-self-eq0+in_ok-push w ↦ ap (λ b. b.interval) w.self-inside-is
+      | else-self-eq0 w ↦ ap (λ b. b.interval) w.self-inside-is
+    ] in
+    let since_same : c.if-self-eq0.self-inside.since ≡ was.since =
+    elim c.if-self-eq0.branch [
+      | then-self-eq0+in_ok-push w ↦ ap (λ b. b.since) w.self-inside-is
+      | else-self-eq0 w ↦ ap (λ b. b.since) w.self-inside-is
+    ] in
+    omega (arith, interval_same, since_same, since_below c.self.invariant)
 
 pub invariant_of-self-2 : goal.invariant_of-self-2
 invariant_of-self-2 c =
@@ -49,14 +64,11 @@ invariant_of-self-2 c =
     ] in
     let last : c.extend_from_slice.new.self.items ≡ c.args.key.now =
     c.in_ok-extend_from_slice.ensures.items ∙ rw (c.truncate.ensures.items, last_same) (next_last was.since was.last.items c.args.key.now _ shared shared_is rest_is) in
-    let since : c.if-self.self ≡ next_since was.interval was.since =
-    elim c.if-self.branch [
-      | then-self w ↦ let ends : was.since + 1 ≡ was.interval = omega (arith, interval_same, since_same, w.if-self.true) in w.self-is ∙ rw (eq-eqb (was.since + 1) was.interval ends) refl
-      | else-self w ↦ let goes_on : was.since + 1 ≡ was.interval → ⊥ = λ e. omega (arith, e, interval_same, since_same, w.if-self.false) in w.self-is ∙ rw (ne_eqb (was.since + 1) was.interval goes_on, since_same) refl
-    ] in
+    let since : c.next_since-self-inside.result ≡ next_since was.interval was.since =
+    c.next_since-self-inside.ensures ∙ ap (λ (n : ℕ). next_since n c.if-self-eq0.self-inside.since) interval_same ∙ ap (λ (n : ℕ). next_since was.interval n) since_same in
     let fits = subst (λ (b : Building). length (block b.interval (with_entry b.entries c.args.key.now c.args.value.now)) ≤ 2 ^ 31) (sym c.self.view_is) c.requires in
-    let kept = IsKept-next c.args.key.now c.args.value.now c.if-self-eq0.self-inside.bytes.items c.if-self-eq0.self-inside.restarts.items c.extend_from_slice.new.self.items c.if-self.self c.self.invariant fits pieces restarts last since in
-    subst (λ (r : ℕ). IsBuilt r (entries_behind [] c.if-self-eq0.self-inside.bytes.items) c.if-self-eq0.self-inside.bytes.items c.if-self-eq0.self-inside.restarts.items c.extend_from_slice.new.self.items c.if-self.self) (sym interval_same) kept.built
+    let kept = IsKept-next c.args.key.now c.args.value.now c.if-self-eq0.self-inside.bytes.items c.if-self-eq0.self-inside.restarts.items c.extend_from_slice.new.self.items c.next_since-self-inside.result c.self.invariant fits pieces restarts last since in
+    subst (λ (r : ℕ). IsBuilt r (entries_behind [] c.if-self-eq0.self-inside.bytes.items) c.if-self-eq0.self-inside.bytes.items c.if-self-eq0.self-inside.restarts.items c.extend_from_slice.new.self.items c.next_since-self-inside.result) (sym interval_same) kept.built
 
 pub returns-clause-ok : goal.returns-clause-ok
 returns-clause-ok c =

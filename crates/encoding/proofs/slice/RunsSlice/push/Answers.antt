@@ -2,7 +2,8 @@ use Rattle.std.proofs.Common.{◌≡◌, ℕ, List, ◌++◌, take, drop, Some, 
 use Rattle.std.specs.Prelude.{slice_get}
 use Rattle.std.specs.Option.{option_map}
 use Rattle.block.specs.Piece.{Entry}
-use Rattle.encoding.specs.Slices.{Slice, sliced, IsSliced}
+use Rattle.encoding.specs.Slices.{Slice}
+use Rattle.encoding.specs.SlicePlaces.{sliced, IsSliced}
 use Rattle.encoding.proofs.Places.{pushed}
 use Rattle.encoding.proofs.slice.RunsSlice.push.Goals as goal
 

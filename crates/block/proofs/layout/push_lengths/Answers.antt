@@ -1,7 +1,7 @@
 use Rattle.std.proofs.Common.{◌∷◌, [], List, ℕ, ◌++◌, sym, ap, ◌∙◌}
 use Rattle.coding.specs.Varint.{varint}
 use Rattle.coding.proofs.Varints.{varint_small}
-use Rattle.block.proofs.builder.push_lengths.Goals as goal
+use Rattle.block.proofs.layout.push_lengths.Goals as goal
 
 pub returns-then-value-lt128-clause-ok : goal.returns-then-value-lt128-clause-ok
 returns-then-value-lt128-clause-ok c =

@@ -4,7 +4,7 @@ use Rattle.block.specs.Building.{Building}
 use Rattle.frame.specs.Trailer.{stored}
 use Rattle.table.proofs.Indexes.{closing_written}
 use Rattle.table.proofs.Refused.{OnOk-map}
-use Rattle.encoding.proofs.storing.push_closing.Goals as goal
+use Rattle.table.proofs.layout.push_closing.Goals as goal
 
 pub returns-clause-ok : goal.returns-clause-ok
 returns-clause-ok c =

@@ -1,0 +1,17 @@
+-- Consecutive entries by their two places.
+use Rattle.std.specs.Prelude.{◌≡◌, ℕ, ◌-◌, ◌^◌, List, length, take, drop, min, Option, None}
+use Rattle.std.specs.List.{last_or}
+use Rattle.std.specs.Option.{option_map}
+use Rattle.block.specs.Piece.{Entry}
+use Rattle.encoding.specs.Slices.{Slice}
+
+-- those between a place and a later one, each of which is seen as the entries from it on
+abbrev pub sliced : List Entry → List Entry → Slice
+sliced from to = record { entries = take (length from - length to) from; behind = to }
+
+-- The second place is not before the first, n entries lie between them (2 ^ 64 - 1 if there are
+-- more), and the last of these has this key.
+pub record IsSliced (from to : List Entry) (n : ℕ) (last : Option (List ℕ)) : Type 0 where
+  pub later : drop (length from - length to) from ≡ to
+  pub count : n ≡ min (length from - length to) (2 ^ 64 - 1)
+  pub ended : last ≡ option_map (λ e. e.key) (last_or None (take (length from - length to) from))

@@ -1,0 +1,20 @@
+-- What is kept of a table that was checked.
+use Rattle.std.specs.Prelude.{◌≡◌, ℕ, List, [], Ok}
+use Rattle.std.specs.declared.cmp.Ordering.{Ordering}
+use Rattle.block.specs.Piece.{Entry}
+use Rattle.block.specs.Building.{last_key}
+use Rattle.table.specs.ReadingEntries.{first_key}
+use Rattle.table.specs.ReadingIndex.{IndexEntry, index_reading}
+use Rattle.table.specs.Reading.{DataBlock, index_in, data_reading, entries_of}
+
+-- the bytes have an index block of these entries, and data blocks from the first of these keys to
+-- the last
+pub record IsChecked (cmp : List ℕ → List ℕ → Ordering) (bytes : List ℕ) (named : List Entry)
+    (smallest largest : List ℕ) : Type 0 where
+  pub index : List IndexEntry
+  pub blocks : List DataBlock
+  pub index_block : index_in bytes ≡ Ok named
+  pub index_entries : index_reading bytes named ≡ Ok index
+  pub data_blocks : data_reading cmp index ≡ Ok blocks
+  pub first : smallest ≡ first_key (entries_of blocks)
+  pub last : largest ≡ last_key [] (entries_of blocks)

@@ -1,0 +1,93 @@
+//! The layout of a table, part by part as it is written.
+//!
+//! ```text
+//! data block 1       the first entries, then their trailer
+//! ..
+//! data block n       the last entries, then their trailer
+//! metaindex block    no entry, then its trailer
+//! index block        for each data block a key and a handle, then its trailer
+//! footer             the handles of metaindex and index, and the magic
+//! ```
+//!
+//! A data block's key in the index is at or above its own keys, and below those of the next. The
+//! crate `block` has the layout of a block, and `frame` those of trailer, handle and footer.
+
+ghost use Rattle.std.specs.Prelude.{◌≡◌, ◌≤◌, ◌^◌, ◌++◌, ◌∷◌, [], length, take, IfOk, IfErr};
+ghost use Rattle.std.specs.Prelude.{OnOk, OnErr, IsOkUnless};
+ghost use Rattle.coding.specs.Answers.{fault};
+ghost use Rattle.coding.specs.declared.fault.FaultName.TheVariants.{Memory};
+ghost use Rattle.block.specs.Writing.{block};
+ghost use Rattle.frame.specs.Trailer.{stored};
+ghost use Rattle.table.specs.Table.{closing, handle_entry};
+
+use block::BlockBuilder;
+use coding::Fault;
+use frame::{BlockHandle, Footer, Trailer};
+use std::alloc::Global;
+
+/// Appends a block and its trailer, and answers the block's handle.
+///
+/// Refused only for memory. A refusal leaves it as it was.
+pub fn push_stored(out: &mut Vec<u8>, builder: &BlockBuilder) -> Result<BlockHandle, Fault>
+    ensures ok { OnOk result (out.new.items
+        ≡ out.old.items ++ stored (block builder.now.interval builder.now.entries)) }
+    ensures handle { IfOk result (λ h. h ≡ record {
+      offset = length out.old.items;
+      size = length (block builder.now.interval builder.now.entries);
+    }) }
+    ensures err { OnErr result (out.new.items ≡ out.old.items) }
+    ensures memory { IfErr result (λ e. e ≡ fault Memory) }
+{
+    let start = out.len();
+    builder.push_block(out)?;
+    let trailer = Trailer::of(&out[start..]);
+    if let Err(refused) = trailer.push(out) {
+        // The block goes too.
+        out.truncate(start);
+        return Err(refused);
+    }
+    Ok(BlockHandle {
+        offset: start as u64,
+        size: builder.estimate() as u64,
+    })
+}
+
+/// Appends an entry to an index block, which then has at most 2^31 bytes: a data block's key and
+/// handle.
+///
+/// What `spelling` held is gone: it lends its memory to the handle's bytes. Refused only for
+/// memory. A refusal leaves the index as it was.
+pub fn push_index_entry(
+    index: &mut BlockBuilder,
+    spelling: &mut Vec<u8>,
+    key: &[u8],
+    handle: BlockHandle,
+) -> Result<(), Fault>
+    requires { length (block index.old.interval
+        (index.old.entries ++ handle_entry key.now handle.offset handle.size ∷ [])) ≤ 2 ^ 31 }
+    ensures ok { OnOk result (index.new ≡ record {
+      interval = index.old.interval;
+      entries = index.old.entries ++ handle_entry key.now handle.offset handle.size ∷ [];
+    }) }
+    ensures err { OnErr result (index.new ≡ index.old) }
+    ensures memory { IsOkUnless result (fault Memory) }
+{
+    spelling.clear();
+    handle.push(spelling)?;
+    index.add(key, spelling)
+}
+
+/// Appends what stands after the data blocks: the metaindex, the index and the footer.
+///
+/// Refused only for memory. A refusal may leave some of that after the bytes that were there.
+pub fn push_closing(alloc: Global, out: &mut Vec<u8>, index: &BlockBuilder) -> Result<(), Fault>
+    requires { index.now.interval ≡ 1 }
+    ensures ok { OnOk result (out.new.items
+        ≡ out.old.items ++ closing (length out.old.items) index.now.entries) }
+    ensures err { OnErr result (take (length out.old.items) out.new.items ≡ out.old.items) }
+    ensures memory { IsOkUnless result (fault Memory) }
+{
+    let metaindex = push_stored(out, &BlockBuilder::new(alloc, 1))?;
+    let index = push_stored(out, index)?;
+    Footer { metaindex, index }.push(out)
+}

@@ -4,8 +4,8 @@ use Rattle.coding.specs.declared.fault.Fault.{Fault}
 use Rattle.coding.specs.Answers.{◌>>=◌, EqualOrMemory, FailsOrMemory}
 use Rattle.coding.proofs.Refusals.{unless_from}
 use Rattle.board.specs.declared.pool.RunFault.{RunFault}
-use Rattle.board.specs.Running.{IsFaultOf, IsResult, AreResults, IsRefused}
-use Rattle.board.specs.Collected.{collected, fault_in, refusal_at, HasValue, fault_of_run}
+use Rattle.board.specs.Running.{IsFaultOf, IsResult, AreResults, IsRefused, fault_of_run}
+use Rattle.board.specs.Collected.{collected, fault_in, refusal_at, HasValue}
 
 some_is : {A : Type 0} (a b : A) → Some a ≡ Some b → a ≡ b
 some_is a b e = cc

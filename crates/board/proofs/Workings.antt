@@ -90,18 +90,11 @@ module _ {O : Type 0} (refusal : ℕ → Option Fault) (gives : ℕ → O → Ty
     refused = subst (λ (z : List ℕ × Option (ℕ × Fault)). IsLeastFailed refusal z.0 z.1) (λ i. (sym (ap (λ (p : Progress). p.failed) d.drawn) i, sym refused i)) h.refused;
   }
 
--- the lesser of two jobs that were refused
-pub least_first : (refusal : ℕ → Option Fault) (failed : List ℕ) (r : ℕ × Fault) (number : ℕ) → IsLeastFailed refusal failed (Some r) → r.0 ≤ number → IsLeastFailed refusal (failed ++ number ∷ []) (Some r)
-least_first refusal failed r number h le = (
-  (let e = times-snoc r.0 failed number in let a = h.0 in omega arith),
-  (λ x any. let e = times-snoc x failed number in elim (same_tells x number) [ inl t ↦ (let a = t.1 in omega arith) | inr t ↦ (let a = t.0 in h.1 x (omega arith)) ]),
-  h.2,
-)
-
-pub least_now : (refusal : ℕ → Option Fault) (failed : List ℕ) (number : ℕ) (fault : Fault) → ((x : ℕ) → 0 < times x failed → number ≤ x) → IsFaultOf refusal number fault → IsLeastFailed refusal (failed ++ number ∷ []) (Some (number, fault))
-least_now refusal failed number fault less is = (
-  (let e = times-snoc number failed number in let o = same_one number in omega arith),
-  (λ x any. let e = times-snoc x failed number in elim (same_tells x number) [ inl t ↦ (let a = t.1 in omega arith) | inr t ↦ (let a = t.0 in less x (omega arith)) ]),
+-- a job that failed is the least of itself alone
+pub least_one : (refusal : ℕ → Option Fault) (number : ℕ) (fault : Fault) → IsFaultOf refusal number fault → IsLeastFailed refusal (number ∷ []) (Some (number, fault))
+least_one refusal number fault is = (
+  (let o = same_one number in omega arith),
+  (λ x any. elim (same_tells x number) [ inl t ↦ (let a = t.1 in omega arith) | inr t ↦ absurd (let a = t.0 in omega arith) ]),
   is,
 )
 

@@ -1,9 +1,7 @@
 -- The answers of all jobs as one answer, for labours that state their answers as a list.
 use Rattle.std.specs.Prelude.{◌≡◌, ℕ, List, [], ◌∷◌, Option, None, Some, Result, Ok, Err, slice_get}
 use Rattle.coding.specs.declared.fault.Fault.{Fault}
-use Rattle.coding.specs.declared.fault.FaultName.TheVariants.{Workers as NamedWorkers, Memory as NamedMemory}
-use Rattle.coding.specs.Answers.{◌>>=◌, fault}
-use Rattle.board.specs.declared.pool.RunFault.{RunFault}
+use Rattle.coding.specs.Answers.{◌>>=◌}
 
 -- the values of all answers in order, or the first refusal
 abbrev pub collected : {B : Type 0} → List (Result B Fault) → Result (List B) Fault
@@ -23,9 +21,3 @@ refusal_at answers job = fault_in (slice_get answers job)
 -- the answer of a job is this value
 abbrev pub HasValue : {B : Type 0} → List (Result B Fault) → ℕ → B → Type 0
 HasValue answers job value = slice_get answers job ≡ Some (Ok value)
-
--- a run's fault as the fault of the call that made the run
-abbrev pub fault_of_run : RunFault → Fault
-fault_of_run (RunFault.Job job e) = e
-fault_of_run RunFault.Workers = fault NamedWorkers
-fault_of_run RunFault.Memory = fault NamedMemory

@@ -1,9 +1,9 @@
 -- What one worker did, and what came back of several.
-use Rattle.std.specs.Prelude.{◌≡◌, ℕ, ◌+◌, ◌<◌, ◌≤◌, List, [], map, Option, None, Some, All, length, slice_index_or}
+use Rattle.std.specs.Prelude.{◌≡◌, ℕ, ◌+◌, ◌<◌, ◌≤◌, List, [], ◌∷◌, map, Option, None, Some, All, length, slice_index_or}
 use Rattle.coding.specs.declared.fault.Fault.{Fault}
 use Rattle.board.specs.declared.shift.Shift.{Shift}
 use Rattle.board.specs.Shares.{times}
-use Rattle.board.specs.Progress.{Layout, Progress, HasEachShare}
+use Rattle.board.specs.Progress.{Layout, Progress, HasEachShare, IsUnspent}
 use Rattle.board.specs.Finished.{HasSpentAll, all_empty, all_done, all_failed}
 use Rattle.board.specs.Running.{IsFaultOf, IsResult}
 
@@ -27,7 +27,18 @@ module _ {O : Type 0} (refusal : ℕ → Option Fault) (gives : ℕ → O → Ty
     pub results : All (IsResult refusal gives) s.results.items
     pub refused : IsLeastFailed refusal s.seat.failed s.refused
 
-  -- what one worker leaves when it ends
+  -- a worker that has drawn a job and not yet spent it
+  pub record HasDrawn (of : Layout) (job : ℕ) (s : Shift O) : Type 0 where
+    pub works : IsWorking of (job ∷ []) s
+    pub unspent : IsUnspent s.seat job
+
+  -- the same worker after it has spent that job: nothing is due, and nothing else was drawn
+  pub record HasSpent (of : Layout) (old new : Shift O) : Type 0 where
+    pub works : IsWorking of [] new
+    pub drawn : new.seat.drawn ≡ old.seat.drawn
+    pub empty : new.seat.empty ≡ old.seat.empty
+
+  -- what one worker leaves at its end
   pub record IsShift (of : Layout) (s : Shift O) : Type 0 where
     pub works : IsWorking of [] s
     pub empty : HasEachShare of.seats s.seat.empty

@@ -1,17 +1,17 @@
 // All jobs of a labour, done by several workers.
-ghost use Rattle.std.specs.Prelude.{◌≡◌, ◌⊎◌, ◌↔◌, ◌<◌, ◌≤◌, ◌^◌, ℕ, List, [], ◌++◌, Option, None, Err, IfOk, IfErr, All, replicate, vec_len, vec_capacity};
+ghost use Rattle.std.specs.Prelude.{◌≡◌, ◌⊎◌, ◌↔◌, ◌<◌, ◌≤◌, ◌^◌, ℕ, [], None, Err, IfOk, IfErr, All, replicate, vec_len, vec_capacity};
 ghost use Rattle.coding.specs.declared.fault.Fault.{Fault};
 ghost use Rattle.board.specs.declared.pool.RunFault.{RunFault};
 ghost use Rattle.board.specs.Running.{AreResults, IsRefused};
 ghost use Rattle.board.specs.Seats.{IsUnused};
-ghost use Rattle.board.specs.Working.{IsShift, IsFiled, IsLeastFailed};
+ghost use Rattle.board.specs.Working.{IsShift, IsFiled};
 
 use crate::board::Board;
 use crate::labour::{Gate, Labour};
 use crate::places::{place, take_all};
 use crate::seat::Seat;
 use crate::shift::Shift;
-use crate::worker::serve;
+use crate::worker::{least_of, serve};
 use coding::{Fault, FaultName};
 use std::alloc::{AllocError, Global};
 use std::thread;
@@ -20,7 +20,8 @@ use std::thread::Threads;
 /// Why a run has no results.
 #[derive(Clone, Copy, Debug, PartialEq, Eq)]
 pub enum RunFault {
-    /// The least job that failed, with its fault: the one that the labour states, or `Memory`.
+    /// A job that failed, with its fault: `Memory`, or the one that the labour states of it. Each
+    /// job before it has a result.
     Job { job: u64, fault: Fault },
     /// The number of workers is outside 1 to 64.
     Workers,
@@ -73,7 +74,7 @@ where
 
 impl From<RunFault> for Fault {
     ghost use Rattle.std.specs.Prelude.{◌≡◌};
-    ghost use Rattle.board.specs.Collected.{fault_of_run};
+    ghost use Rattle.board.specs.Running.{fault_of_run};
 
     ghost from_gives = { λ why e. e ≡ fault_of_run why };
 
@@ -162,25 +163,7 @@ where
     refused
 }
 
-// The lesser of two jobs that failed, each the least of its list.
-fn least_of(one: Option<(u64, Fault)>, other: Option<(u64, Fault)>) -> Option<(u64, Fault)>
-    ensures { (refusal : ℕ → Option Fault) (xs ys : List ℕ)
-        → IsLeastFailed refusal xs one → IsLeastFailed refusal ys other
-        → IsLeastFailed refusal (xs ++ ys) result }
-{
-    let Some((job, fault)) = one else {
-        return other;
-    };
-    let Some((next, reason)) = other else {
-        return Some((job, fault));
-    };
-    if job <= next {
-        return Some((job, fault));
-    }
-    Some((next, reason))
-}
-
-// Gives each seat to a worker.
+// Each seat is given to a worker.
 fn work_all<L: Labour + Sync, G: Gate + Sync, R: Threads + Sync>(
     rt: &R,
     alloc: Global,

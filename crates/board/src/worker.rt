@@ -1,10 +1,9 @@
 // What a worker does.
-ghost use Rattle.std.specs.Prelude.{◌≡◌, ◌≤◌, ℕ, List, [], ◌∷◌, ◌++◌, Option};
+ghost use Rattle.std.specs.Prelude.{◌≤◌, ℕ, List, ◌++◌, Option};
 ghost use Rattle.coding.specs.declared.fault.Fault.{Fault};
-ghost use Rattle.board.specs.Progress.{IsUnspent};
 ghost use Rattle.board.specs.Running.{IsFaultOf};
 ghost use Rattle.board.specs.Seats.{IsUnused};
-ghost use Rattle.board.specs.Working.{IsWorking, IsShift, IsLeastFailed};
+ghost use Rattle.board.specs.Working.{HasDrawn, HasSpent, IsShift, IsLeastFailed};
 
 use crate::board::Board;
 use crate::job::Job;
@@ -49,12 +48,10 @@ fn serve_job<L: Labour, G: Gate>(
 )
 where
     L::Out: Drop,
-    requires works { IsWorking (L.refusal labour.now) (L.gives labour.now) board.now (job ∷ []) shift.old }
-    requires unspent { IsUnspent shift.old.seat job }
+    requires drawn { HasDrawn (L.refusal labour.now) (L.gives labour.now)
+        board.now job shift.old }
     requires within { board.now.jobs ≤ L.jobs labour.now }
-    ensures works { IsWorking (L.refusal labour.now) (L.gives labour.now) board.now [] shift.new }
-    ensures drawn { (shift.new.seat.drawn ≡ shift.old.seat.drawn)
-        × (shift.new.seat.empty ≡ shift.old.seat.empty) }
+    ensures { HasSpent (L.refusal labour.now) (L.gives labour.now) board.now shift.old shift.new }
 {
     let number = job.number();
     let seat = shift.seat.number();
@@ -67,12 +64,10 @@ where
 fn work_unless_skipped<L: Labour>(board: &Board, labour: &L, shift: &mut Shift<L::Out>, job: Job)
 where
     L::Out: Drop,
-    requires works { IsWorking (L.refusal labour.now) (L.gives labour.now) board.now (job ∷ []) shift.old }
-    requires unspent { IsUnspent shift.old.seat job }
+    requires drawn { HasDrawn (L.refusal labour.now) (L.gives labour.now)
+        board.now job shift.old }
     requires within { board.now.jobs ≤ L.jobs labour.now }
-    ensures works { IsWorking (L.refusal labour.now) (L.gives labour.now) board.now [] shift.new }
-    ensures drawn { (shift.new.seat.drawn ≡ shift.old.seat.drawn)
-        × (shift.new.seat.empty ≡ shift.old.seat.empty) }
+    ensures { HasSpent (L.refusal labour.now) (L.gives labour.now) board.now shift.old shift.new }
 {
     let Some(job) = board.skip(&mut shift.seat, job) else {
         return;
@@ -96,33 +91,34 @@ where
 fn refuse<L: Labour>(board: &Board, labour: &L, shift: &mut Shift<L::Out>, job: Job, fault: Fault)
 where
     L::Out: Drop,
-    requires works { IsWorking (L.refusal labour.now) (L.gives labour.now) board.now (job ∷ []) shift.old }
-    requires unspent { IsUnspent shift.old.seat job }
+    requires drawn { HasDrawn (L.refusal labour.now) (L.gives labour.now)
+        board.now job shift.old }
     requires fault { IsFaultOf (L.refusal labour.now) job fault }
-    ensures works { IsWorking (L.refusal labour.now) (L.gives labour.now) board.now [] shift.new }
-    ensures drawn { (shift.new.seat.drawn ≡ shift.old.seat.drawn)
-        × (shift.new.seat.empty ≡ shift.old.seat.empty) }
+    ensures { HasSpent (L.refusal labour.now) (L.gives labour.now) board.now shift.old shift.new }
 {
     let _ = labour;
-    shift.refused = lesser(shift.refused, job.number(), fault);
+    let refused = Some((job.number(), fault));
+    shift.refused = least_of(shift.refused, refused);
     board.fail(&mut shift.seat, job);
 }
 
-// The lesser of two failed jobs, with its fault.
-pub(crate) fn lesser(
-    refused: Option<(u64, Fault)>,
-    number: u64,
-    fault: Fault,
+// The lesser of two jobs that failed, each the least of some.
+pub(crate) fn least_of(
+    one: Option<(u64, Fault)>,
+    other: Option<(u64, Fault)>,
 ) -> Option<(u64, Fault)>
-    ensures { (refusal : ℕ → Option Fault) (failed : List ℕ)
-        → IsLeastFailed refusal failed refused → IsFaultOf refusal number fault
-        → IsLeastFailed refusal (failed ++ number ∷ []) result }
+    ensures { (refusal : ℕ → Option Fault) (xs ys : List ℕ)
+        → IsLeastFailed refusal xs one → IsLeastFailed refusal ys other
+        → IsLeastFailed refusal (xs ++ ys) result }
 {
-    let Some((least, first)) = refused else {
-        return Some((number, fault));
+    let Some((job, fault)) = one else {
+        return other;
     };
-    if least <= number {
-        return Some((least, first));
+    let Some((next, reason)) = other else {
+        return Some((job, fault));
+    };
+    if job <= next {
+        return Some((job, fault));
     }
-    Some((number, fault))
+    Some((next, reason))
 }

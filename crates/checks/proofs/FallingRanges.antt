@@ -8,8 +8,7 @@ use Rattle.coding.specs.Answers.{fault}
 use Rattle.coding.specs.declared.fault.Fault.{Fault}
 use Rattle.coding.specs.declared.fault.FaultName.TheVariants.{Memory}
 use Rattle.coding.proofs.Refusals.{only_memory}
-use Rattle.board.specs.Running.{IsRefused}
-use Rattle.board.specs.Collected.{fault_of_run}
+use Rattle.board.specs.Running.{IsRefused, fault_of_run}
 use Rattle.board.specs.declared.pool.RunFault.{RunFault}
 use Rattle.ikey.specs.Key.{IsInternalKey, user_of}
 use Rattle.block.specs.Piece.{Entry}

@@ -8,8 +8,8 @@ use Rattle.coding.specs.Answers.{fault, ◌>>=◌, FailsOrMemory}
 use Rattle.coding.proofs.Refusals.{FailsOrMemory-from}
 use Rattle.table.specs.ReadingSteps.{pass}
 use Rattle.board.specs.declared.pool.RunFault.{RunFault}
-use Rattle.board.specs.Running.{AreResults, IsRefused}
-use Rattle.board.specs.Collected.{collected, refusal_at, HasValue, fault_of_run}
+use Rattle.board.specs.Running.{AreResults, IsRefused, fault_of_run}
+use Rattle.board.specs.Collected.{collected, refusal_at, HasValue}
 use Rattle.board.proofs.Collecting.{results_collected, refused_collected}
 use Rattle.compact.specs.Runs.{by_workers}
 

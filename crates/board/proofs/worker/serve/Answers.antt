@@ -2,8 +2,11 @@ use Rattle.std.proofs.Common.{refl}
 use Rattle.board.proofs.Workings.{works_draw, works_none, none_all}
 use Rattle.board.proofs.worker.serve.Goals as goal
 
-pub serve_job-requires-clause-works : goal.serve_job-requires-clause-works
-serve_job-requires-clause-works g c = works_draw _ _ _ _ _ _ c.loop-job.invariant c.in-Some.ensures.job refl refl
+pub serve_job-requires-clause-drawn : goal.serve_job-requires-clause-drawn
+serve_job-requires-clause-drawn g c = record {
+  works = works_draw _ _ _ _ _ _ c.loop-job.invariant c.in-Some.ensures.job refl refl;
+  unspent = c.in-Some.ensures.unspent;
+}
 
 pub returns : goal.returns
 returns g c =

@@ -2,7 +2,7 @@ use Rattle.std.proofs.Common.{List, map, length, Result, Ok, Err, refl, sym, ap,
 use Rattle.std.proofs.lemmas.Result.{err_from_is_err_and}
 use Rattle.coding.specs.Answers.{FailsOrMemory}
 use Rattle.coding.specs.declared.fault.Fault.{Fault}
-use Rattle.board.specs.Collected.{fault_of_run}
+use Rattle.board.specs.Running.{fault_of_run}
 use Rattle.board.proofs.Collecting.{results_collected, fault_collected}
 use Rattle.reads.specs.Tables.{Numbered}
 use Rattle.checks.specs.Checked.{table_answers}

@@ -2,7 +2,7 @@ use Rattle.std.proofs.Common.{◌≡◌, ℕ, List, Result, Err, length, refl, s
 use Rattle.std.proofs.lemmas.Result.{err_from_is_err_and}
 use Rattle.coding.specs.Answers.{FailsOrMemory}
 use Rattle.coding.specs.declared.fault.Fault.{Fault}
-use Rattle.board.specs.Collected.{fault_of_run}
+use Rattle.board.specs.Running.{fault_of_run}
 use Rattle.compact.specs.Runs.{by_workers}
 use Rattle.compact.specs.Encoded.{piece_answers}
 use Rattle.compact.proofs.Working.{run_gives, run_fails}

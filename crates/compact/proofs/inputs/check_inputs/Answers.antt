@@ -4,7 +4,7 @@ use Rattle.std.proofs.lemmas.Result.{err_from_is_err_and}
 use Rattle.coding.specs.Answers.{FailsOrMemory}
 use Rattle.coding.specs.declared.fault.Fault.{Fault}
 use Rattle.block.specs.Piece.{Entry}
-use Rattle.board.specs.Collected.{fault_of_run}
+use Rattle.board.specs.Running.{fault_of_run}
 use Rattle.compact.specs.Runs.{by_workers, input_answers}
 use Rattle.compact.proofs.Working.{run_gives, run_fails}
 use Rattle.compact.proofs.InputAnswers.{answers_length, inputs_collected}

@@ -6,7 +6,7 @@ use Rattle.coding.specs.declared.fault.Fault.{Fault}
 use Rattle.block.specs.Piece.{Entry}
 use Rattle.keep.specs.Marks.{Below, below_of}
 use Rattle.keep.specs.Runs.{Run}
-use Rattle.board.specs.Collected.{fault_of_run}
+use Rattle.board.specs.Running.{fault_of_run}
 use Rattle.compact.specs.Runs.{by_workers, range_answers}
 use Rattle.compact.proofs.Working.{run_gives, run_fails}
 use Rattle.compact.proofs.RangeAnswers.{ranges_collected, range_answers_length, map_same}

@@ -1,6 +1,6 @@
 use Rattle.std.proofs.Common.{Err, refl, arith, map}
 use Rattle.std.proofs.lemmas.Result.{err_from_is_err_and}
-use Rattle.board.specs.Collected.{fault_of_run}
+use Rattle.board.specs.Running.{fault_of_run}
 use Rattle.board.proofs.Collecting.{results_collected, fault_collected}
 use Rattle.pairing.specs.Merging.{tested_entries, unions_of}
 use Rattle.pairing.proofs.Unions.{Cut, left_never_falls, right_never_falls}

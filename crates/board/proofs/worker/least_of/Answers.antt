@@ -1,7 +1,7 @@
 use Rattle.std.proofs.Common.{Some, subst, arith}
 use Rattle.board.specs.Working.{IsLeastFailed}
 use Rattle.board.proofs.Filing.{least_left, least_right}
-use Rattle.board.proofs.pool.least_of.Goals as goal
+use Rattle.board.proofs.worker.least_of.Goals as goal
 
 pub returns-then-job-next : goal.returns-then-job-next
 returns-then-job-next c refusal xs ys h k =

@@ -16,7 +16,7 @@ use Rattle.folder.specs.ReadsAs.{IsOneOf}
 use Rattle.folder.specs.declared.order.Order.{Order}
 use Rattle.pick.specs.Picked.{IsPicked, Picked}
 use Rattle.pick.specs.declared.picked.InputFile.{InputFile}
-use Rattle.closure.specs.Closed.{is_input}
+use Rattle.survival.specs.Closed.{is_input}
 use Rattle.reads.specs.Lawful.{IsBelowNext, IsLawful}
 use Rattle.reads.specs.Tables.{Numbered}
 use Rattle.reads.proofs.Members.{first_in, from_filter, from_map}

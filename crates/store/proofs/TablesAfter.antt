@@ -15,7 +15,7 @@ use Rattle.edit.specs.declared.meta.NewFile.{NewFile}
 use Rattle.folder.specs.Levels.{file_numbers}
 use Rattle.folder.specs.ReadsAs.{IsOneOf}
 use Rattle.pick.specs.Picked.{Picked}
-use Rattle.closure.specs.Closed.{is_input}
+use Rattle.survival.specs.Closed.{is_input}
 use Rattle.reads.specs.Lawful.{IsFileOf, IsLawful}
 use Rattle.reads.specs.Tables.{Numbered, table_of}
 use Rattle.reads.proofs.Members.{first_in, later_in, first_or_later, none_in}

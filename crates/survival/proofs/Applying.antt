@@ -27,8 +27,8 @@ use Rattle.reads.specs.Lawful.{IsLawful}
 use Rattle.reads.specs.Tables.{Numbered}
 use Rattle.reads.proofs.Members.{first_or_later, later_in, first_in, none_in, from_filter, in_map, from_map}
 use Rattle.reads.proofs.Orders.{equal_is}
-use Rattle.closure.specs.Closed.{is_input}
-use Rattle.closure.proofs.Closing.{any_at}
+use Rattle.survival.specs.Closed.{is_input}
+use Rattle.survival.proofs.Closing.{any_at}
 use Rattle.cut.specs.Plan.{Planned}
 use Rattle.request.specs.Request.{RequestView}
 use Rattle.request.specs.EditOf.{deletion_of, deletions_of, edit_of, new_file}

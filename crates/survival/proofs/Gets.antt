@@ -28,9 +28,9 @@ use Rattle.reads.proofs.FallingEntries.{each_of, of_each, answers_newest_first}
 use Rattle.reads.proofs.Members.{first_or_later, later_in, first_in, none_in, in_filter, from_filter, in_flat_map, from_flat_map, in_map, from_map}
 use Rattle.reads.proofs.Orders.{less_is}
 use Rattle.reads.proofs.Pairs.{Pairs}
-use Rattle.closure.specs.Together.{StandTogether, entries_read, files_above, files_taken, files_below}
-use Rattle.closure.proofs.FallingOrder.{IsLower, is_of, of_user, user_is, falls}
-use Rattle.closure.proofs.StandingTogether.{inputs_stand_together}
+use Rattle.survival.specs.Together.{StandTogether, entries_read, files_above, files_taken, files_below}
+use Rattle.survival.proofs.FallingOrder.{IsLower, is_of, of_user, user_is, falls}
+use Rattle.survival.proofs.StandingTogether.{inputs_stand_together}
 use Rattle.keep.specs.Keeping.{is_same_user, keeps, kept_behind, kept}
 use Rattle.keep.specs.Readable.{Readable, is_read}
 use Rattle.keep.proofs.Dropped.{one_key_law}

@@ -21,8 +21,8 @@ use Rattle.reads.specs.Tables.{Numbered}
 use Rattle.reads.proofs.Levels.{IsAtLevel, from_level}
 use Rattle.reads.proofs.LawfulVersions.{one_number}
 use Rattle.reads.proofs.Members.{later_in, first_in, from_filter, from_map}
-use Rattle.closure.specs.Closed.{is_input}
-use Rattle.closure.proofs.Closing.{any_at}
+use Rattle.survival.specs.Closed.{is_input}
+use Rattle.survival.proofs.Closing.{any_at}
 
 -- one that passes a test
 pub record Passing {X : Type 0} (p : X → Bool) (xs : List X) : Type 0 where

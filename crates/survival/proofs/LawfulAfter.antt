@@ -37,11 +37,11 @@ use Rattle.reads.proofs.Answers.{entries_are}
 use Rattle.reads.proofs.Members.{later_in, first_in, from_filter, in_flat_map, from_flat_map, in_map, from_map, IsFrom}
 use Rattle.reads.proofs.Newer.{newer_at, newer_of}
 use Rattle.reads.proofs.Pairs.{Pairs, pairs_from, pairs_to, pairs_part, pairs_of_two, pairs_joined}
-use Rattle.closure.specs.Closed.{AreClosed, is_input, IsNewerThanInputs, IsOlderThanInputs}
-use Rattle.closure.proofs.Closing.{closed_inputs}
-use Rattle.closure.proofs.ClosedLevels.{in_level}
-use Rattle.closure.proofs.FallingOrder.{IsLower}
-use Rattle.closure.proofs.FileKeys.{below_upto, from_smallest, keys_total, to_largest, upto_below}
+use Rattle.survival.specs.Closed.{AreClosed, is_input, IsNewerThanInputs, IsOlderThanInputs}
+use Rattle.survival.proofs.Closing.{closed_inputs}
+use Rattle.survival.proofs.ClosedLevels.{in_level}
+use Rattle.survival.proofs.FallingOrder.{IsLower}
+use Rattle.survival.proofs.FileKeys.{below_upto, from_smallest, keys_total, to_largest, upto_below}
 use Rattle.keep.specs.Keeping.{keeps, kept_behind, kept}
 use Rattle.keep.specs.Readable.{Readable, readable_of}
 use Rattle.cut.specs.Outputs.{all_of}

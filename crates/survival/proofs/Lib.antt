@@ -1,3 +1,13 @@
+pub mod FileKeys
+pub mod ClosedLevels
+pub mod BoundaryRanges
+pub mod ClosedHulls
+pub mod Closing
+pub mod ReadOrder
+pub mod FallingOrder
+pub mod Parting
+pub mod StandingTogether
+pub mod RowFacts
 pub mod Gets
 pub mod Inputs
 pub mod Applying

@@ -14,7 +14,7 @@ use Rattle.pick.proofs.Lists.{false_true}
 use Rattle.reads.specs.Tables.{Numbered, table_of}
 use Rattle.reads.proofs.FallingEntries.{each_of}
 use Rattle.reads.proofs.Members.{first_or_later, later_in, first_in, none_in, from_map, in_flat_map, in_map}
-use Rattle.closure.specs.Closed.{is_input}
+use Rattle.survival.specs.Closed.{is_input}
 use Rattle.cut.specs.Outputs.{all_of, UsersRise}
 use Rattle.cut.specs.Plan.{Planned, assembled}
 use Rattle.survival.specs.EditAfter.{AreNumbered}

@@ -23,11 +23,11 @@ use Rattle.reads.specs.Lawful.{IsLawful, AreDisjoint}
 use Rattle.reads.specs.Tables.{Numbered}
 use Rattle.reads.proofs.Levels.{contains_in, is_in}
 use Rattle.reads.proofs.Members.{from_filter, in_filter}
-use Rattle.closure.specs.Closed.{is_input}
-use Rattle.closure.proofs.BoundaryRanges.{HasLargest, begins_on, ends_on, goes_within, has_largest, none_follows, overlapping_leads}
-use Rattle.closure.proofs.ClosedLevels.{all_inputs, among_is, among_own, level_disjoint, level_file_of, level_of, lower_input, other_number}
-use Rattle.closure.proofs.Closing.{any_at}
-use Rattle.closure.proofs.FileKeys.{IsUpTo, below_upto, keys_total, less_upto, range_rises, tied_back, tied_both, user_upto}
+use Rattle.survival.specs.Closed.{is_input}
+use Rattle.survival.proofs.BoundaryRanges.{HasLargest, begins_on, ends_on, goes_within, has_largest, none_follows, overlapping_leads}
+use Rattle.survival.proofs.ClosedLevels.{all_inputs, among_is, among_own, level_disjoint, level_file_of, level_of, lower_input, other_number}
+use Rattle.survival.proofs.Closing.{any_at}
+use Rattle.survival.proofs.FileKeys.{IsUpTo, below_upto, keys_total, less_upto, range_rises, tied_back, tied_both, user_upto}
 use Rattle.survival.proofs.Inputs.{is_one}
 
 refuted : (b : Bool) → (b ≡ true → ⊥) → b ≡ false

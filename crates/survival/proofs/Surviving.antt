@@ -36,8 +36,8 @@ use Rattle.reads.specs.Tables.{Numbered}
 use Rattle.reads.proofs.FallingEntries.{each_of}
 use Rattle.reads.proofs.Levels.{contains_in}
 use Rattle.reads.proofs.Members.{later_in, first_in, from_map}
-use Rattle.closure.proofs.BoundaryRanges.{HasLargest, has_largest}
-use Rattle.closure.proofs.ClosedLevels.{upper_input}
+use Rattle.survival.proofs.BoundaryRanges.{HasLargest, has_largest}
+use Rattle.survival.proofs.ClosedLevels.{upper_input}
 use Rattle.cut.specs.Plan.{Planned}
 use Rattle.request.specs.Request.{RequestView, has_levels, has_options, has_snapshots, is_snapshot_list, named_by, request_test}
 use Rattle.request.specs.EditOf.{deletion_of, deletions_of, edit_of, new_file}

@@ -12,7 +12,7 @@ use Rattle.pick.specs.declared.picked.InputFile.{InputFile}
 use Rattle.reads.specs.Gets.{get_of}
 use Rattle.reads.specs.Lawful.{IsLawful}
 use Rattle.reads.specs.Tables.{Numbered, table_entries, all_entries}
-use Rattle.closure.specs.Closed.{is_input}
+use Rattle.survival.specs.Closed.{is_input}
 use Rattle.keep.specs.Keeping.{kept}
 use Rattle.keep.specs.Readable.{Readable, is_read}
 

@@ -10,7 +10,7 @@ use Rattle.pick.specs.Picked.{Picked, IsPicked}
 use Rattle.reads.specs.Gets.{get_of}
 use Rattle.reads.specs.Lawful.{IsLawful}
 use Rattle.reads.specs.Tables.{Numbered}
-use Rattle.closure.specs.Closed.{is_input}
+use Rattle.survival.specs.Closed.{is_input}
 use Rattle.keep.specs.Readable.{readable_of, is_read}
 use Rattle.request.specs.Request.{RequestView}
 use Rattle.request.specs.OneThread.{Answer, one_thread}

@@ -1,5 +1,0 @@
-use Rattle.closure.proofs.StandingTogether as lemma
-use Rattle.closure.proofs.laws.inputs_stand_together.Goals as goal
-
-pub returns : goal.returns
-returns g c = lemma.inputs_stand_together g.C.Comparator.cmp g.met.C.Comparator.total

@@ -1,4 +1,0 @@
--- what contracts rest on
-pub mod Closed
-pub mod Together
-pub mod Row

@@ -1,13 +1,13 @@
 //! Which file of a folder is refused, and whether its log has writes. Both are told where that is asked for.
 
-ghost use Rattle.std.specs.Prelude.{◌≡◌, ℕ, true, Option, length};
+ghost use Rattle.std.specs.Prelude.{◌≡◌};
 ghost use Rattle.folder.specs.Folder.{TellsSame};
-ghost use Rattle.reads.specs.Checking.{is_below, is_stated};
 
 use coding::{Fault, FaultName};
 use edit::{FileMeta, Version};
 use folder::{CURRENT, Folder, Order, open, table_name};
-use ikey::{Bytewise, Comparator, InternalKey, Shortlex};
+use ikey::{Bytewise, Comparator, Shortlex};
+use reads::has_bounds;
 use std::alloc::Global;
 use table::check;
 
@@ -191,23 +191,7 @@ fn named(
 /// Whether a table has the size and the smallest and the largest key that the manifest says. Refused where it is none.
 fn is_as_stated<C: Comparator>(alloc: Global, table: &ListedTable<'_>) -> Result<bool, Fault> {
     let sound = check::<C>(alloc, &table.file.bytes)?;
-    Ok(is_stated(table.meta, sound.bytes(), sound.smallest(), sound.largest()))
-}
-
-/// Whether the manifest says this length, this first and this last key: what a lawful version asks of a file whose number is below
-/// the next one.
-fn is_stated(
-    meta: &FileMeta,
-    bytes: &[u8],
-    smallest: InternalKey<'_>,
-    largest: InternalKey<'_>,
-) -> bool
-    ensures { (next : Option ℕ) → is_below next meta.now.number ≡ true →
-        result ≡ is_stated next meta.now (length bytes.now) smallest.entry.bytes.now largest.entry.bytes.now }
-{
-    meta.size == bytes.len() as u64
-        && meta.smallest.as_key().bytes() == smallest.bytes()
-        && meta.largest.as_key().bytes() == largest.bytes()
+    Ok(has_bounds(table.meta, sound.bytes(), sound.smallest(), sound.largest()))
 }
 
 /// The name of the log that a folder's manifest names, where it is there and holds writes. Refused as opening the folder is, or

@@ -1,18 +1,24 @@
-//! The tests of a compaction, from what a worker keeps to the whole and to a folder: `keep`, `pieces`, `cut`, `request`, `compact`,
-//! `checks` and `store`.
+//! The tests of a compaction, from who draws which job and what a worker keeps to the whole and to a folder: `board`, `split`,
+//! `merge`, `keep`, `pieces`, `cut`, `request`, `compact`, `checks` and `store`.
 #![tactic(auto)]
 
 #[cfg(test)]
-mod checked_tables;
+mod board_tests;
 #[cfg(test)]
-mod compactions;
+mod checks_tests;
 #[cfg(test)]
-mod joined_pieces;
+mod compact_tests;
 #[cfg(test)]
-mod kept_entries;
+mod cut_tests;
 #[cfg(test)]
-mod plans;
+mod encoding_tests;
 #[cfg(test)]
-mod requests;
+mod keep_tests;
 #[cfg(test)]
-mod stores;
+mod merge_tests;
+#[cfg(test)]
+mod request_tests;
+#[cfg(test)]
+mod split_tests;
+#[cfg(test)]
+mod store_tests;

@@ -1,24 +1,15 @@
-//! The tests of what is read and written, as bytes, `coding`, `ikey`, `block`, `frame` and `logrec`, and as lines, `commands`,
-//! `diagnostics`, `usage`, `texts` and `account`, whose calls `tool` lets out.
+//! The tests of what is read and written as bytes: `coding`, `ikey`, `block`, `logrec`, `frame` and `table`.
 #![tactic(auto)]
 
 #[cfg(test)]
-mod accounts;
+mod block_tests;
 #[cfg(test)]
-mod answers;
+mod coding_tests;
 #[cfg(test)]
-mod blocks;
+mod frame_tests;
 #[cfg(test)]
-mod checksums;
+mod ikey_tests;
 #[cfg(test)]
-mod folders;
+mod logrec_tests;
 #[cfg(test)]
-mod internal_keys;
-#[cfg(test)]
-mod lines;
-#[cfg(test)]
-mod logs;
-#[cfg(test)]
-mod numbers;
-#[cfg(test)]
-mod trailers;
+mod table_tests;

@@ -1,0 +1,150 @@
+//! The outputs of plans, and the tables that are made of their pieces.
+
+ghost use Rattle.std.specs.Prelude.{◌≡◌, map, IfOk};
+ghost use Rattle.cut.specs.Plan.{encoded};
+ghost use Rattle.cut.specs.Planning.{lists_in};
+
+use crate::cut_tests::merged_runs::{picked, plan_of, runs_of};
+use crate::cut_tests::rows::{ALL, Answer, Output, REPEATED, ROWS, Row};
+use crate::cut_tests::tables::{LONG_HEAD, LONG_TAIL};
+use coding::{Fault, FaultName};
+use cut::Plan;
+use ikey::Bytewise;
+use keep::RangeRun;
+use pick::Inputs;
+use std::alloc::Global;
+use std::process::Abort;
+use std::test::*;
+
+/// The pieces of a plan, in the order of their jobs.
+fn encoded(alloc: Global, plan: &Plan<'_, '_, Bytewise>) -> Result<Vec<Vec<u8>>, Fault>
+    ensures { IfOk result (λ pieces. map (λ p. p.items) pieces.items ≡ encoded plan.now.options (lists_in plan.now.outputs)) }
+{
+    let mut pieces = Vec::new(alloc);
+    for job in 0..plan.jobs() {
+        let piece = plan.encode(alloc, job)?;
+        pieces.push(piece)?;
+    }
+    Ok(pieces)
+}
+
+/// Whether a plan tells of these outputs, of which these are the tables.
+fn are_outputs(
+    plan: &Plan<'_, '_, Bytewise>,
+    tables: &[(u64, Vec<u8>)],
+    outputs: &[Output],
+) -> bool {
+    if plan.len() != outputs.len() || tables.len() != outputs.len() {
+        return false;
+    }
+    for place in 0..plan.len() {
+        let meta = plan.output(place);
+        let table = &tables[place];
+        let output = &outputs[place];
+        let told = (meta.number, meta.entries, meta.blocks, meta.len);
+        if told != (output.0, output.1, output.2, output.3.len() as u64)
+            || table.0 != output.0
+            || table.1.as_slice() != output.3
+        {
+            return false;
+        }
+    }
+    plan.is_empty() == outputs.is_empty()
+}
+
+/// Whether the first piece has so many bytes, with which the table of the first output begins.
+fn begins(pieces: &[Vec<u8>], outputs: &[Output], len: usize) -> bool {
+    match (pieces.first(), outputs.first()) {
+        (Some(piece), Some(output)) => piece.len() == len && output.3.starts_with(piece),
+        (None, None) => true,
+        _ => false,
+    }
+}
+
+/// Whether a plan has these outputs, of so many pieces, of which the first has so many bytes.
+fn has_outputs(
+    alloc: Global,
+    plan: &Plan<'_, '_, Bytewise>,
+    outputs: &[Output],
+    (count, len): (usize, usize),
+) -> Result<bool, Fault> {
+    let pieces = encoded(alloc, plan)?;
+    if pieces.len() != count || !begins(&pieces, outputs, len) {
+        return Ok(false);
+    }
+    Ok(are_outputs(plan, &plan.assemble(alloc, pieces)?, outputs))
+}
+
+/// Whether a plan is this one.
+fn is_plan(alloc: Global, plan: &Plan<'_, '_, Bytewise>, wanted: Answer) -> Result<bool, Fault> {
+    match wanted {
+        Answer::Outputs(outputs, pieces) => has_outputs(alloc, plan, outputs, pieces),
+        Answer::Length(len) => Ok(plan.len() == 1 && plan.output(0).len == len),
+        Answer::Refused(_) => Ok(false),
+    }
+}
+
+/// Whether the plan of runs is the one that a row has to have.
+fn is_planned(
+    alloc: Global,
+    row: &Row<'_>,
+    runs: &[RangeRun<'_>],
+    inputs: &Inputs,
+) -> Result<bool, Fault> {
+    let sizes = (row.block_size, row.file_size, row.first_number);
+    match plan_of(alloc, runs, inputs, sizes) {
+        Ok(plan) => is_plan(alloc, &plan, row.answer),
+        Err(fault) => Ok(matches!(row.answer, Answer::Refused(name) if fault == Fault::of(name))),
+    }
+}
+
+/// Whether a row's plan is the one that it has to have.
+fn has_answer(alloc: Global, row: &Row<'_>) -> Result<bool, Fault> {
+    let inputs = picked(alloc, row.files)?;
+    let runs = runs_of(alloc, row, &inputs)?;
+    is_planned(alloc, row, &runs, &inputs)
+}
+
+/// The table of one entry with a value of 2^20 bytes.
+fn long_table(alloc: Global) -> Result<Vec<u8>, Fault> {
+    let value = vec![in alloc; 7u8; 1 << 20]?;
+    let mut bytes = Vec::from_slice(alloc, LONG_HEAD)?;
+    bytes.extend_from_slice(&value)?;
+    bytes.extend_from_slice(LONG_TAIL)?;
+    Ok(bytes)
+}
+
+/// Whether the plan of so many entries of 2^20 bytes each is this one.
+fn has_answer_repeated(alloc: Global, count: usize, answer: Answer) -> Result<bool, Fault> {
+    let table = long_table(alloc)?;
+    let ranges = vec![in alloc; ALL; count]?;
+    let row = Row {
+        table: &table,
+        ranges: &ranges,
+        answer,
+        ..REPEATED
+    };
+    has_answer(alloc, &row)
+}
+
+/// How many bytes an output of 1,023 entries of 2^20 bytes has.
+///
+/// Each entry has a data block of 2^20 + 22 bytes, with its trailer 2^20 + 27. The index has entries of 15 bytes and the spelling
+/// of the offset: one byte for the first, three for the second, four for 254 and five for 767.
+const LONGEST: u64 = 1_072_745_231;
+
+/// Whether an output may have 1,023 such entries, and not one more: it has at most 2^30 bytes.
+fn are_limited(alloc: Global) -> Result<bool, Fault> {
+    let longest = has_answer_repeated(alloc, 1_023, Answer::Length(LONGEST))?;
+    let longer = has_answer_repeated(alloc, 1_024, Answer::Refused(FaultName::TooLarge))?;
+    Ok(longest && longer)
+}
+
+#[test]
+fn plans_and_their_tables(rt: HostRuntime) -> Result<(), Fault> {
+    for row in ROWS {
+        assert!(rt; has_answer(rt.alloc(), row)?, "{}", row.name);
+    }
+    assert!(rt; are_limited(rt.alloc())?);
+    Ok(())
+}

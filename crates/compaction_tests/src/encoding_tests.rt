@@ -1,0 +1,230 @@
+//! Blocks that are planned, encoded and put together over runs, and the entries of runs as one list.
+
+ghost use Rattle.std.specs.Prelude.{◌≡◌, ◌≤◌, ◌^◌, [], ◌++◌, length, flat_map, IfOk};
+ghost use Rattle.std.specs.List.{AllByRecursion};
+ghost use Rattle.block.specs.Building.{last_key, with_entry};
+ghost use Rattle.block.specs.Writing.{block};
+ghost use Rattle.table.specs.Table.{stored_blocks};
+ghost use Rattle.encoding.specs.Planned.{IsPlanned, parts_of};
+
+use block::BlockBuilder;
+use coding::{Fault, FaultName};
+use edit::CompactPointer;
+use encoding::{PlannedBlock, RunsCursor, RunsPart, RunsSlice, assemble_table, encode_blocks};
+use ikey::{Bytewise, InternalKey, KeyBuf, Kind};
+use keep::{RangeRun, is_rising, largest_rise, merge_range};
+use pick::Inputs;
+use split::Range;
+use std::alloc::Global;
+use std::process::Abort;
+use std::test::*;
+use table::{TableCursor, check};
+
+/// `table: abcz@9 put x | abfa@8 put y`
+const TWO_BLOCKS: &[u8] = b"\
+    \0\x0c\x01abcz\x01\x09\0\0\0\0\0\0x\0\0\0\0\x01\0\0\0\0\xaf\x09\xa4\xac\0\x0c\x01abfa\x01\x08\
+    \0\0\0\0\0\0y\0\0\0\0\x01\0\0\0\0y\x97\xbd\xa3\0\0\0\0\x01\0\0\0\0\xc0\xf2\xa1\xb0\0\x0b\x02ab\
+    d\x01\xff\xff\xff\xff\xff\xff\xff\0\x18\0\x09\x02b\x01\xff\xff\xff\xff\xff\xff\xff\x1d\x18\0\0\
+    \0\0\x10\0\0\0\x02\0\0\0\0\x7f6J4\x3a\x08G\x2a\0\0\0\0\0\0\0\0\0\0\0\0\0\0\0\0\0\0\0\0\0\0\0\0\
+    \0\0\0\0\0\0\0\0\0\0\0\0W\xfb\x80\x8b\x24uG\xdb";
+
+/// The first user key, and the second internal key.
+const FIRST: &[u8] = b"abcz";
+
+const LAST: &[u8] = b"abfa\x01\x08\0\0\0\0\0\0";
+
+/// Ranges that hold all user keys. The first, the third and the last hold none of the table's.
+const RANGES: &[Range<'static>] = &[
+    Range {
+        lower: None,
+        upper: Some(b"a"),
+    },
+    Range {
+        lower: Some(b"a"),
+        upper: Some(b"abd"),
+    },
+    Range {
+        lower: Some(b"abd"),
+        upper: Some(b"abf"),
+    },
+    Range {
+        lower: Some(b"abf"),
+        upper: Some(b"b"),
+    },
+    Range {
+        lower: Some(b"b"),
+        upper: None,
+    },
+];
+
+/// Inputs that tell of no file below.
+fn inputs(alloc: Global) -> Result<Inputs, Fault> {
+    let key = KeyBuf::new(alloc, b"b", 1, Kind::Put)?;
+    Ok(Inputs {
+        level: 1,
+        files: Vec::new(alloc),
+        grandparents: Vec::new(alloc),
+        deeper: Vec::new(alloc),
+        pointer: CompactPointer { level: 1, key },
+    })
+}
+
+/// The cursor over the table.
+fn cursor(alloc: Global) -> Result<TableCursor<'static, Bytewise>, Fault> {
+    TableCursor::new(alloc, &check::<Bytewise>(alloc, TWO_BLOCKS)?)
+}
+
+/// The run of a range over the table.
+fn run_of(
+    alloc: Global,
+    range: Range<'static>,
+    inputs: &Inputs,
+) -> Result<RangeRun<'static>, Fault> {
+    if !is_rising(&[]) || !largest_rise::<Bytewise>(&inputs.grandparents) {
+        return Err(Fault::of(FaultName::Options));
+    }
+    let mut cursors = Vec::new(alloc);
+    cursors.push(cursor(alloc)?)?;
+    merge_range::<Bytewise, _>(alloc, &mut cursors, range, &[], 0, inputs)
+}
+
+/// The runs of all ranges.
+fn runs(alloc: Global) -> Result<Vec<RangeRun<'static>>, Fault> {
+    let inputs = inputs(alloc)?;
+    let mut runs = Vec::new(alloc);
+    for range in RANGES {
+        runs.push(run_of(alloc, *range, &inputs)?)?;
+    }
+    Ok(runs)
+}
+
+/// The length of the block of one entry.
+fn len_of(alloc: Global, key: &[u8], value: &[u8]) -> Result<u64, Fault>
+    requires key { length key.now ≤ 1000 }
+    requires value { length value.now ≤ 1000 }
+    ensures { IfOk result (λ len. len ≡ length (block 16 (with_entry [] key.now value.now))) }
+{
+    let mut builder = BlockBuilder::new(alloc, 16);
+    builder.add(key, value)?;
+    Ok(builder.estimate() as u64)
+}
+
+/// The data block of one entry, that at a place, which is a short one.
+fn block_at<'r, 'a>(
+    alloc: Global,
+    cursor: &RunsCursor<'r, 'a>,
+) -> Result<PlannedBlock<'r, 'a>, Fault>
+    ensures planned { IfOk result (λ b. IsPlanned 16 b) }
+    ensures short { IfOk result (λ b. length (block 16 b.entries.entries) ≤ 1000) }
+    ensures key { IfOk result (λ b. length (last_key [] b.entries.entries) ≤ 1000) }
+{
+    if !cursor.valid() {
+        return Err(Fault::of(FaultName::Missing));
+    }
+    let key = cursor.key();
+    let value = cursor.value();
+    if key.bytes().len() > 1000 || value.len() > 1000 {
+        return Err(Fault::of(FaultName::TooLarge));
+    }
+    let len = len_of(alloc, key.bytes(), value)?;
+    if len > 1000 {
+        return Err(Fault::of(FaultName::TooLarge));
+    }
+    let mut entries = RunsSlice::at(cursor.copy());
+    entries.push(key);
+    Ok(PlannedBlock {
+        entries: entries.part(),
+        len,
+    })
+}
+
+/// A piece of some blocks, and one of others.
+fn pieces_of(
+    alloc: Global,
+    front: &[PlannedBlock<'_, '_>],
+    back: &[PlannedBlock<'_, '_>],
+) -> Result<Vec<Vec<u8>>, Fault>
+    requires front { AllByRecursion (λ b. length (block 16 b.entries.entries) ≤ 2 ^ 31) front.now }
+    requires back { AllByRecursion (λ b. length (block 16 b.entries.entries) ≤ 2 ^ 31) back.now }
+    ensures { IfOk result (λ v. flat_map (λ p. p.items) v.items
+        ≡ stored_blocks 16 (parts_of front.now) ++ stored_blocks 16 (parts_of back.now)) }
+{
+    let mut pieces = Vec::new(alloc);
+    pieces.push(encode_blocks(alloc, front, 16, TWO_BLOCKS.len())?)?;
+    pieces.push(encode_blocks(alloc, back, 16, 0)?)?;
+    Ok(pieces)
+}
+
+/// The table of two blocks, each of which is a piece.
+fn assembled(
+    alloc: Global,
+    first: PlannedBlock<'_, '_>,
+    second: PlannedBlock<'_, '_>,
+) -> Result<Vec<u8>, Fault>
+    requires first_planned { IsPlanned 16 first }
+    requires first_short { length (block 16 first.entries.entries) ≤ 1000 }
+    requires first_key { length (last_key [] first.entries.entries) ≤ 1000 }
+    requires second_planned { IsPlanned 16 second }
+    requires second_short { length (block 16 second.entries.entries) ≤ 1000 }
+    requires second_key { length (last_key [] second.entries.entries) ≤ 1000 }
+{
+    let blocks = [first, second];
+    let (front, back) = blocks.split_at(1);
+    let pieces = pieces_of(alloc, front, back)?;
+    assemble_table::<Bytewise>(alloc, &blocks, 16, pieces)
+}
+
+/// Whether the blocks of the first two entries, each a piece, make the table again.
+fn make_the_table(alloc: Global, runs: &[RangeRun<'_>]) -> Result<bool, Fault> {
+    let mut cursor = RunsCursor::new(runs);
+    let first = block_at(alloc, &cursor)?;
+    if !cursor.valid() {
+        return Ok(false);
+    }
+    cursor.advance();
+    let second = block_at(alloc, &cursor)?;
+    Ok(assembled(alloc, first, second)?.as_slice() == TWO_BLOCKS)
+}
+
+/// Whether a key is the second one.
+fn is_last(key: Option<InternalKey<'_>>) -> bool {
+    match key {
+        Some(key) => key.bytes() == LAST,
+        None => false,
+    }
+}
+
+/// Whether a part is both entries.
+fn is_part(part: &RunsPart<'_, '_>) -> bool {
+    let first = part.first();
+    part.len() == 2
+        && is_last(part.last_key())
+        && first.valid()
+        && first.key().user() == FIRST
+        && first.value() == b"x".as_slice()
+}
+
+/// Whether a slice from a place on is one of no entry, and then of both.
+fn is_slice(first: &RunsCursor<'_, '_>) -> bool {
+    let mut slice = RunsSlice::at(first.copy());
+    let is_none = slice.is_empty() && slice.last_key().is_none();
+    if !first.valid() {
+        return false;
+    }
+    slice.push(first.key());
+    let second = slice.behind();
+    if !second.valid() {
+        return false;
+    }
+    slice.push(second.key());
+    let is_both = is_last(slice.last_key()) && !slice.behind().valid();
+    is_none && !slice.is_empty() && is_both && is_part(&slice.part())
+}
+
+#[test]
+fn two_pieces_of_runs_make_their_table(rt: HostRuntime) -> Result<(), Fault> {
+    let runs = runs(rt.alloc())?;
+    assert!(rt; is_slice(&RunsCursor::new(&runs)));
+    assert!(rt; make_the_table(rt.alloc(), &runs)?);
+    Ok(())
+}

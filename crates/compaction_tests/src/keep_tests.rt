@@ -1,0 +1,388 @@
+//! Which entries stay in a range.
+
+use coding::{Fault, FaultName};
+use edit::{Version, VersionEdit};
+use ikey::{Bytewise, Kind};
+use keep::{
+    Mark, RangeRun, Snapshots, begun_law, distinct_law, holds_law, is_rising, largest_rise,
+    merge_range, one_key, ranges_compose, seek_range,
+};
+use pick::{Inputs, inputs};
+use split::Range;
+use std::alloc::Global;
+use std::process::Abort;
+use std::test::*;
+use table::{Cursor, TableCursor, check};
+
+// Tables and edits as the formats of LevelDB have them, a line for each block, footer or file.
+
+/// `table: u@9 put x, u@5 put x, u@3 put x`
+const NINE_FIVE_THREE: &[u8] = b"\
+    \0\x09\x01u\x01\x09\0\0\0\0\0\0x\x02\x07\x01\x05\0\0\0\0\0\0x\x02\x07\x01\x03\0\0\0\0\0\0x\0\0\
+    \0\0\x01\0\0\0\0qX\xd4\xc0\0\0\0\0\x01\0\0\0\0\xc0\xf2\xa1\xb0\0\x09\x02u\x01\x03\0\0\0\0\0\0\
+    \0\x2b\0\0\0\0\x01\0\0\0\0P\xd12\xf20\x08\x3d\x16\0\0\0\0\0\0\0\0\0\0\0\0\0\0\0\0\0\0\0\0\0\0\
+    \0\0\0\0\0\0\0\0\0\0\0\0\0\0W\xfb\x80\x8b\x24uG\xdb";
+
+/// `table: u@9 put x, u@7 put x, u@5 put x, u@3 put x`
+const NINE_TO_THREE: &[u8] = b"\
+    \0\x09\x01u\x01\x09\0\0\0\0\0\0x\x02\x07\x01\x07\0\0\0\0\0\0x\x02\x07\x01\x05\0\0\0\0\0\0x\x02\
+    \x07\x01\x03\0\0\0\0\0\0x\0\0\0\0\x01\0\0\0\0\xb0\xb3\xd2A\0\0\0\0\x01\0\0\0\0\xc0\xf2\xa1\xb0\
+    \0\x09\x02u\x01\x03\0\0\0\0\0\0\06\0\0\0\0\x01\0\0\0\0\xa8\x8bR\xcc\x3b\x08H\x16\0\0\0\0\0\0\0\
+    \0\0\0\0\0\0\0\0\0\0\0\0\0\0\0\0\0\0\0\0\0\0\0\0\0\0\0\0\0W\xfb\x80\x8b\x24uG\xdb";
+
+/// `table: u@12 put x, u@9 put x`
+const TWELVE_NINE: &[u8] = b"\
+    \0\x09\x01u\x01\x0c\0\0\0\0\0\0x\x02\x07\x01\x09\0\0\0\0\0\0x\0\0\0\0\x01\0\0\0\0\xc9\xd7\x88\
+    \xad\0\0\0\0\x01\0\0\0\0\xc0\xf2\xa1\xb0\0\x09\x02u\x01\x09\0\0\0\0\0\0\0\x20\0\0\0\0\x01\0\0\
+    \0\0\xac\xfb\x15\xea\x25\x082\x16\0\0\0\0\0\0\0\0\0\0\0\0\0\0\0\0\0\0\0\0\0\0\0\0\0\0\0\0\0\0\
+    \0\0\0\0\0\0W\xfb\x80\x8b\x24uG\xdb";
+
+/// `table: u@4 del, u@2 put x`
+const DELETED: &[u8] = b"\
+    \0\x09\0u\0\x04\0\0\0\0\0\0\x01\x08\x01\x01\x02\0\0\0\0\0\0x\0\0\0\0\x01\0\0\0\0\xef\xe0\xe5\
+    \x28\0\0\0\0\x01\0\0\0\0\xc0\xf2\xa1\xb0\0\x09\x02u\x01\x02\0\0\0\0\0\0\0\x20\0\0\0\0\x01\0\0\
+    \0\0\x0a\xb0\x5c\x0c\x25\x082\x16\0\0\0\0\0\0\0\0\0\0\0\0\0\0\0\0\0\0\0\0\0\0\0\0\0\0\0\0\0\0\
+    \0\0\0\0\0\0W\xfb\x80\x8b\x24uG\xdb";
+
+/// `table: u@5 put x, u@5 del`
+const TWICE: &[u8] = b"\
+    \0\x09\x01u\x01\x05\0\0\0\0\0\0x\x01\x08\0\0\x05\0\0\0\0\0\0\0\0\0\0\x01\0\0\0\0\x86\x06\x7e\
+    \x91\0\0\0\0\x01\0\0\0\0\xc0\xf2\xa1\xb0\0\x09\x02u\0\x05\0\0\0\0\0\0\0\x20\0\0\0\0\x01\0\0\0\
+    \0R\xda7\x90\x25\x082\x16\0\0\0\0\0\0\0\0\0\0\0\0\0\0\0\0\0\0\0\0\0\0\0\0\0\0\0\0\0\0\0\0\0\0\
+    \0\0W\xfb\x80\x8b\x24uG\xdb";
+
+/// `table: a@1 put x, u@5 put x`
+const A_AND_U: &[u8] = b"\
+    \0\x09\x01a\x01\x01\0\0\0\0\0\0x\0\x09\x01u\x01\x05\0\0\0\0\0\0x\0\0\0\0\x01\0\0\0\0\xd5\xa5d\
+    \x91\0\0\0\0\x01\0\0\0\0\xc0\xf2\xa1\xb0\0\x09\x02u\x01\x05\0\0\0\0\0\0\0\x22\0\0\0\0\x01\0\0\
+    \0\0e\xa6\x8f\x19\x27\x084\x16\0\0\0\0\0\0\0\0\0\0\0\0\0\0\0\0\0\0\0\0\0\0\0\0\0\0\0\0\0\0\0\0\
+    \0\0\0\0W\xfb\x80\x8b\x24uG\xdb";
+
+/// `table: u@9 put x, z@2 put x`
+const U_AND_Z: &[u8] = b"\
+    \0\x09\x01u\x01\x09\0\0\0\0\0\0x\0\x09\x01z\x01\x02\0\0\0\0\0\0x\0\0\0\0\x01\0\0\0\0\x27Oc\xa1\
+    \0\0\0\0\x01\0\0\0\0\xc0\xf2\xa1\xb0\0\x09\x02z\x01\x02\0\0\0\0\0\0\0\x22\0\0\0\0\x01\0\0\0\0\
+    \x9b\x80\x7d\x13\x27\x084\x16\0\0\0\0\0\0\0\0\0\0\0\0\0\0\0\0\0\0\0\0\0\0\0\0\0\0\0\0\0\0\0\0\
+    \0\0\0\0W\xfb\x80\x8b\x24uG\xdb";
+
+/// `edit: file 1 7 114 a@1 put .. z@2 put`
+const ALONE: &[u8] = b"\x07\x01\x07r\x09a\x01\x01\0\0\0\0\0\0\x09z\x01\x02\0\0\0\0\0\0";
+
+/// `edit: file 1 7 114 a@1 put .. z@2 put, file 3 3 114 m@1 put .. m@1 put`
+const OVER_M: &[u8] = b"\
+    \x07\x01\x07r\x09a\x01\x01\0\0\0\0\0\0\x09z\x01\x02\0\0\0\0\0\0\x07\x03\x03r\x09m\x01\x01\0\0\
+    \0\0\0\0\x09m\x01\x01\0\0\0\0\0\0";
+
+/// That file from `t` to `v`.
+/// `edit: file 1 7 114 a@1 put .. z@2 put, file 3 3 114 t@1 put .. v@1 put`
+const OVER_T_TO_V: &[u8] = b"\
+    \x07\x01\x07r\x09a\x01\x01\0\0\0\0\0\0\x09z\x01\x02\0\0\0\0\0\0\x07\x03\x03r\x09t\x01\x01\0\0\
+    \0\0\0\0\x09v\x01\x01\0\0\0\0\0\0";
+
+/// That file from `v` to `w`.
+/// `edit: file 1 7 114 a@1 put .. z@2 put, file 3 3 114 v@1 put .. w@1 put`
+const OVER_V_TO_W: &[u8] = b"\
+    \x07\x01\x07r\x09a\x01\x01\0\0\0\0\0\0\x09z\x01\x02\0\0\0\0\0\0\x07\x03\x03r\x09v\x01\x01\0\0\
+    \0\0\0\0\x09w\x01\x01\0\0\0\0\0\0";
+
+/// A range, whether cursors seek it before it is merged, the sequences that it keeps or none where one stands twice, and how many
+/// grandparents lie below its first entry.
+type Part = (Range<'static>, bool, Option<&'static [u64]>, usize);
+
+/// Tables, the edit of a version whose level 1 is compacted, which sequences stay readable, the last sequence, and parts that are
+/// merged one behind the other.
+type Row = (
+    &'static [&'static [u8]],
+    &'static [u8],
+    Snapshots<'static>,
+    u64,
+    &'static [Part],
+);
+
+/// The range without bounds.
+const ALL: Range<'static> = Range {
+    lower: None,
+    upper: None,
+};
+
+/// The range to before `u`.
+const TO_U: Range<'static> = Range {
+    lower: None,
+    upper: Some(b"u"),
+};
+
+/// The range from `u` to before `z`.
+const FROM_U: Range<'static> = Range {
+    lower: Some(b"u"),
+    upper: Some(b"z"),
+};
+
+/// The range from `z` on.
+const FROM_Z: Range<'static> = Range {
+    lower: Some(b"z"),
+    upper: None,
+};
+
+const ROWS: &[Row] = &[
+    // Values of one user key.
+    (
+        &[NINE_FIVE_THREE],
+        ALONE,
+        Snapshots::From(5),
+        9,
+        &[(ALL, false, Some(&[9, 5]), 0)],
+    ),
+    (
+        &[NINE_FIVE_THREE],
+        ALONE,
+        Snapshots::From(9),
+        9,
+        &[(ALL, false, Some(&[9]), 0)],
+    ),
+    (
+        &[NINE_TO_THREE],
+        ALONE,
+        Snapshots::Listed(&[]),
+        9,
+        &[(ALL, false, Some(&[9]), 0)],
+    ),
+    (
+        &[NINE_TO_THREE],
+        ALONE,
+        Snapshots::Listed(&[5]),
+        9,
+        &[(ALL, false, Some(&[9, 5]), 0)],
+    ),
+    (
+        &[NINE_TO_THREE],
+        ALONE,
+        Snapshots::Listed(&[6]),
+        9,
+        &[(ALL, false, Some(&[9, 5]), 0)],
+    ),
+    (
+        &[NINE_TO_THREE],
+        ALONE,
+        Snapshots::Listed(&[7]),
+        9,
+        &[(ALL, false, Some(&[9, 7]), 0)],
+    ),
+    (
+        &[NINE_TO_THREE],
+        ALONE,
+        Snapshots::Listed(&[3, 6]),
+        9,
+        &[(ALL, false, Some(&[9, 5, 3]), 0)],
+    ),
+    (
+        &[TWELVE_NINE],
+        ALONE,
+        Snapshots::Listed(&[]),
+        9,
+        &[(ALL, false, Some(&[12, 9]), 0)],
+    ),
+    // A deletion and what it deletes, over no deeper file, one that may hold its user key, and one that may not.
+    (
+        &[DELETED],
+        ALONE,
+        Snapshots::Listed(&[2]),
+        4,
+        &[(ALL, false, Some(&[4, 2]), 0)],
+    ),
+    (
+        &[DELETED],
+        ALONE,
+        Snapshots::Listed(&[]),
+        4,
+        &[(ALL, false, Some(&[]), 0)],
+    ),
+    (
+        &[DELETED],
+        ALONE,
+        Snapshots::From(4),
+        4,
+        &[(ALL, false, Some(&[]), 0)],
+    ),
+    (
+        &[DELETED],
+        OVER_T_TO_V,
+        Snapshots::From(4),
+        4,
+        &[(ALL, false, Some(&[4]), 0)],
+    ),
+    (
+        &[DELETED],
+        OVER_V_TO_W,
+        Snapshots::From(4),
+        4,
+        &[(ALL, false, Some(&[]), 0)],
+    ),
+    // Three ranges of the same cursors, and one that is sought.
+    (
+        &[A_AND_U, U_AND_Z],
+        OVER_M,
+        Snapshots::From(1),
+        9,
+        &[
+            (TO_U, false, Some(&[1]), 0),
+            (FROM_U, false, Some(&[9, 5]), 1),
+            (FROM_Z, false, Some(&[2]), 1),
+        ],
+    ),
+    (
+        &[A_AND_U, U_AND_Z],
+        ALONE,
+        Snapshots::From(9),
+        9,
+        &[(FROM_U, true, Some(&[9]), 0)],
+    ),
+    // A user key and sequence twice.
+    (
+        &[TWICE],
+        ALONE,
+        Snapshots::From(9),
+        9,
+        &[(ALL, false, None, 0)],
+    ),
+];
+
+/// What a compaction of level 1 takes of the version that an edit makes of the empty one.
+fn inputs_of(alloc: Global, edit: &[u8]) -> Result<Inputs, Fault> {
+    let edit = VersionEdit::decode(alloc, edit)?;
+    let version = Version::empty(alloc).applied::<Bytewise>(edit)?;
+    inputs::<Bytewise>(alloc, &version, 1)
+}
+
+/// The cursor over a table.
+fn cursor(alloc: Global, bytes: &'static [u8]) -> Result<TableCursor<'static, Bytewise>, Fault> {
+    TableCursor::new(alloc, &check::<Bytewise>(alloc, bytes)?)
+}
+
+/// The cursors over tables.
+fn cursors_of(
+    alloc: Global,
+    tables: &[&'static [u8]],
+) -> Result<Vec<TableCursor<'static, Bytewise>>, Fault> {
+    let mut cursors = Vec::new(alloc);
+    for bytes in tables {
+        cursors.push(cursor(alloc, bytes)?)?;
+    }
+    Ok(cursors)
+}
+
+/// Whether a cursor seeks a range, and stands at its lower bound then.
+fn seeks(
+    alloc: Global,
+    cursor: &mut TableCursor<'static, Bytewise>,
+    range: Range<'static>,
+) -> bool {
+    seek_range::<Bytewise, _>(alloc, cursor, range).is_ok()
+        && cursor.valid()
+        && Some(cursor.key().user()) == range.lower
+}
+
+/// Whether each of these cursors does.
+fn all_seek(
+    alloc: Global,
+    cursors: &mut Vec<TableCursor<'static, Bytewise>>,
+    range: Range<'static>,
+) -> bool {
+    for cursor in cursors.iter_mut() {
+        if !seeks(alloc, cursor, range) {
+            return false;
+        }
+    }
+    true
+}
+
+/// The run of a range.
+fn merged(
+    alloc: Global,
+    cursors: &mut Vec<TableCursor<'static, Bytewise>>,
+    range: Range<'static>,
+    row: &Row,
+    inputs: &Inputs,
+) -> Result<RangeRun<'static>, Fault> {
+    let listed = row.2.listed();
+    if !is_rising(listed) || !largest_rise::<Bytewise>(&inputs.grandparents) {
+        return Err(Fault::of(FaultName::Options));
+    }
+    merge_range::<Bytewise, _>(alloc, cursors, range, listed, row.2.floor(row.3), inputs)
+}
+
+/// Whether the entries of a run have these sequences, where values are `x` and deletions have none, and whether it has one mark, at its
+/// first entry, over so many grandparents.
+fn are_kept(run: &RangeRun<'_>, kept: &[u64], below: usize) -> bool {
+    for place in 0..run.len() {
+        let key = run.key(place);
+        let value: &[u8] = if key.kind() == Kind::Put { b"x" } else { b"" };
+        if place >= kept.len() || key.sequence() != kept[place] || run.value(place) != value {
+            return false;
+        }
+    }
+    let marks = run.marks();
+    run.len() == kept.len() && marks.len() == 1 && marks[0] == Mark { below, kept: 0 }
+}
+
+/// Whether a run is that of a part.
+fn is_run(run: &RangeRun<'_>, part: &Part) -> bool {
+    match part.2 {
+        Some(kept) => are_kept(run, kept, part.3),
+        None => false,
+    }
+}
+
+/// Whether a part is merged so.
+fn is_merged(
+    alloc: Global,
+    cursors: &mut Vec<TableCursor<'static, Bytewise>>,
+    part: &Part,
+    row: &Row,
+    inputs: &Inputs,
+) -> bool {
+    match merged(alloc, cursors, part.0, row, inputs) {
+        Ok(run) => is_run(&run, part),
+        Err(fault) => part.2.is_none() && fault == Fault::of(FaultName::Duplicate),
+    }
+}
+
+/// Whether the parts of a row are, one behind the other by the same cursors.
+fn are_merged(
+    alloc: Global,
+    cursors: &mut Vec<TableCursor<'static, Bytewise>>,
+    row: &Row,
+    inputs: &Inputs,
+) -> bool {
+    for part in row.4 {
+        let is_begun = !part.1 || all_seek(alloc, cursors, part.0);
+        if !is_begun || !is_merged(alloc, cursors, part, row, inputs) {
+            return false;
+        }
+    }
+    true
+}
+
+/// Whether a row is merged as it says.
+fn is_kept(alloc: Global, row: &Row) -> Result<bool, Fault> {
+    let inputs = inputs_of(alloc, row.1)?;
+    let mut cursors = cursors_of(alloc, row.0)?;
+    Ok(are_merged(alloc, &mut cursors, row, &inputs))
+}
+
+#[test]
+fn what_ranges_keep(rt: HostRuntime) -> Result<(), Fault> {
+    for (place, row) in ROWS.iter().enumerate() {
+        assert!(rt; is_kept(rt.alloc(), row)?, "{place}");
+    }
+    Ok(())
+}
+
+#[test]
+fn laws_are_called(rt: HostRuntime) {
+    begun_law::<Bytewise>();
+    distinct_law::<Bytewise>();
+    holds_law::<Bytewise>();
+    one_key::<Bytewise>();
+    ranges_compose::<Bytewise>();
+    assert!(rt; is_rising(&[1, 2]) && !is_rising(&[2, 2]));
+}

@@ -1,0 +1,142 @@
+//! Compactions of folders in memory.
+
+use crate::store_tests::rows::{
+    CURRENT, DEFAULTS, Files, LINES, ONE_FILE, PLAIN, ROWS, Row, TWO_ENTRIES,
+};
+use coding::{Fault, FaultName};
+use folder::{Failing, FolderFault, Shelf};
+use keep::Snapshots;
+use std::test::*;
+use std::thread::Threads;
+use store::{Settings, compact_dir};
+
+/// Bytes, or others where there are none.
+fn or(bytes: &'static [u8], others: &'static [u8]) -> &'static [u8] {
+    if bytes.is_empty() { others } else { bytes }
+}
+
+/// The files of the folder of a row.
+fn files_of(row: &Row) -> [(&'static str, &'static [u8]); 4] {
+    [
+        ("CURRENT", CURRENT),
+        ("MANIFEST-000005", or(row.manifest, ONE_FILE)),
+        ("000007.ldb", or(row.seven, TWO_ENTRIES)),
+        ("000008.ldb", row.eight),
+    ]
+}
+
+/// What the compaction of a row answers over a folder.
+fn answer_of<R: AllocGlobal + Threads + Sync>(
+    rt: &R,
+    folder: &mut Shelf<'_>,
+    row: &Row,
+) -> Result<Vec<u8>, Fault> {
+    compact_dir(rt, rt.alloc(), folder, row.level, &row.settings)
+}
+
+/// Whether an answer is this text, or this refusal.
+fn is_answer(answer: &Result<Vec<u8>, Fault>, wanted: Result<&str, FaultName>) -> bool {
+    match (answer, wanted) {
+        (Ok(lines), Ok(text)) => lines.as_slice() == text.as_bytes(),
+        (Err(fault), Err(name)) => *fault == Fault::of(name),
+        _ => false,
+    }
+}
+
+/// Whether the compaction of a row answers this over a folder.
+fn answers<R: AllocGlobal + Threads + Sync>(
+    rt: &R,
+    folder: &mut Shelf<'_>,
+    row: &Row,
+    wanted: Result<&str, FaultName>,
+) -> bool {
+    is_answer(&answer_of(rt, folder, row), wanted)
+}
+
+/// Whether a folder holds these files.
+fn holds(folder: &Shelf<'_>, files: Files) -> bool {
+    for (name, bytes) in files {
+        if folder.held(name) != Some(*bytes) {
+            return false;
+        }
+    }
+    true
+}
+
+/// Whether the compaction of a row answers and leaves what it has to.
+fn is_compacted<R: AllocGlobal + Threads + Sync>(rt: &R, row: &Row) -> bool {
+    let files = files_of(row);
+    let mut folder = Shelf::new(rt.alloc(), &files);
+    answers(rt, &mut folder, row, row.answer) && holds(&folder, row.left)
+}
+
+/// Whether settings are those that are kept to by default.
+fn are_defaults(settings: &Settings<'_>) -> bool {
+    (settings.workers, settings.ranges) == (DEFAULTS.workers, DEFAULTS.ranges)
+        && matches!(settings.snapshots, Snapshots::Listed([]))
+        && settings.options == DEFAULTS.options
+}
+
+#[test]
+fn folders_that_are_compacted(rt: HostRuntime) {
+    assert!(rt; are_defaults(&Settings::default()));
+    for row in ROWS {
+        assert!(rt; is_compacted(&rt, row), "{}", row.name);
+    }
+}
+
+/// The ways in which a call fails: its fault, whether it is half done, and the refusal.
+const FAILURES: &[(FolderFault, bool, FaultName)] = &[
+    (FolderFault::Device, false, FaultName::Device),
+    (FolderFault::Device, true, FaultName::Device),
+    (FolderFault::Memory, false, FaultName::Memory),
+    (FolderFault::Memory, true, FaultName::Memory),
+];
+
+/// The calls of the compaction of the deletion: a sync of the folder, three reads, and seven of the installation, of which the
+/// last but one renames the new CURRENT.
+const CALLS: u64 = 11;
+
+/// What a second compaction answers: that no input is left where CURRENT was renamed, else the lines of the first.
+fn second(call: u64, is_half_done: bool) -> Result<&'static str, FaultName> {
+    if call == CALLS || (call == CALLS - 1 && is_half_done) {
+        return Err(FaultName::NoInput);
+    }
+    Ok(LINES)
+}
+
+/// Whether the compaction of the deletion is refused at once where a call fails, and a second one goes on from what is left.
+fn ends_well<R: AllocGlobal + Threads + Sync>(
+    rt: &R,
+    call: u64,
+    (fault, is_half_done, name): (FolderFault, bool, FaultName),
+) -> bool {
+    let row = &PLAIN;
+    let files = files_of(row);
+    let mut folder = Shelf::new(rt.alloc(), &files).failing(Failing {
+        call,
+        fault,
+        is_half_done,
+    });
+    let is_refused = answers(rt, &mut folder, row, Err(name));
+    let calls = folder.calls();
+    let goes_on = answers(rt, &mut folder, row, second(call, is_half_done));
+    is_refused && calls == call && goes_on
+}
+
+/// Whether all is well whichever way a call fails.
+fn end_well<R: AllocGlobal + Threads + Sync>(rt: &R, call: u64) -> bool {
+    for failure in FAILURES {
+        if !ends_well(rt, call, *failure) {
+            return false;
+        }
+    }
+    true
+}
+
+#[test]
+fn a_call_that_fails_ends_it(rt: HostRuntime) {
+    for call in 1..CALLS + 1 {
+        assert!(rt; end_well(&rt, call), "{call}");
+    }
+}

@@ -1,4 +1,0 @@
-use Rattle.format_tests.proofs.blocks.is_read_again.Goals as goal
-
-pub reopen-block-requires : goal.reopen-block-requires
-reopen-block-requires c = (c.in_ok-sound.sound.entries, c.in_ok-sound.ensures.found)

@@ -1,0 +1,299 @@
+ghost use Rattle.std.specs.Prelude.{◌≤◌};
+
+use block::{BlockBuilder, BlockCursor, CheckingCursor, check, reopen};
+use coding::{Fault, FaultName};
+use std::alloc::Global;
+use std::process::Abort;
+use std::test::*;
+
+/// `a` at 2, put: the user key, then the kind and the number in eight bytes, the lowest first.
+const FIRST_KEY: [u8; 9] = *b"a\x01\x02\0\0\0\0\0\0";
+/// `a` at 1, put.
+const SECOND_KEY: [u8; 9] = *b"a\x01\x01\0\0\0\0\0\0";
+
+/// The entries `a@2` with `x` and `a@1` with `y` at interval 16: the second key shares two bytes.
+/// `block: a@2 put x, a@1 put y`
+const SHARING: &[u8] =
+    b"\0\x09\x01a\x01\x02\0\0\0\0\0\0x\x02\x07\x01\x01\0\0\0\0\0\0y\0\0\0\0\x01\0\0\0";
+
+/// The same entries at interval 1: both keys stand whole, with a restart each.
+const WHOLE: &[u8] =
+    b"\0\x09\x01a\x01\x02\0\0\0\0\0\0x\0\x09\x01a\x01\x01\0\0\0\0\0\0y\0\0\0\0\x0d\0\0\0\x02\0\0\0";
+
+/// The block of no entries, which has the one restart 0 too.
+const NOTHING: &[u8] = b"\0\0\0\0\x01\0\0\0";
+
+/// Adds an entry to a builder of a block that has so many bytes by now.
+#[tactic(auto, using(block::proofs::Sizes::fits_with_entry))]
+fn add(
+    rt: &impl Abort,
+    builder: &mut BlockBuilder,
+    estimate: usize,
+    key: &[u8; 9],
+    value: &[u8; 1],
+) -> Result<(), Fault> {
+    assert!(rt; estimate <= 21 && builder.estimate() == estimate);
+    builder.add(key, value)
+}
+
+/// Adds both entries to a builder that is empty.
+fn add_both(rt: &impl Abort, builder: &mut BlockBuilder) -> Result<(), Fault> {
+    assert!(rt; builder.is_empty() && builder.last_key().is_empty());
+    add(rt, builder, 8, &FIRST_KEY, b"x")?;
+    assert!(rt; !builder.is_empty() && builder.last_key() == FIRST_KEY.as_slice());
+    add(rt, builder, 21, &SECOND_KEY, b"y")
+}
+
+/// The block of both entries, written by a builder that had them before and was emptied. What it is while it has none is
+/// appended to other bytes.
+fn written(
+    rt: &(impl Abort + AllocGlobal),
+    interval: u64,
+    nothing: &mut Vec<u8>,
+) -> Result<Vec<u8>, Fault>
+    requires positive { 1 ≤ interval }
+    requires limited { interval ≤ 1024 }
+{
+    let mut builder = BlockBuilder::new(rt.alloc(), interval);
+    add_both(rt, &mut builder)?;
+    builder.clear();
+    builder.push_block(nothing)?;
+    add_both(rt, &mut builder)?;
+    builder.finish()
+}
+
+/// Whether both entries are written so at an interval.
+fn is_written(rt: &(impl Abort + AllocGlobal), interval: u64, wanted: &[u8]) -> Result<bool, Fault>
+    requires positive { 1 ≤ interval }
+    requires limited { interval ≤ 1024 }
+{
+    let mut nothing = Vec::new(rt.alloc());
+    let block = written(rt, interval, &mut nothing)?;
+    Ok(nothing.as_slice() == NOTHING && block.as_slice() == wanted)
+}
+
+/// An entry: its key, its value, and whether it is the last one.
+type Entry = (&'static [u8], &'static [u8], bool);
+
+const ENTRIES: &[Entry] = &[(&FIRST_KEY, b"x", false), (&SECOND_KEY, b"y", true)];
+
+/// Bytes that are a block.
+struct Row {
+    name: &'static str,
+    bytes: &'static [u8],
+    entries: &'static [Entry],
+    /// How many restarts it has.
+    restarts: u64,
+    /// The key of the entry at the last of them.
+    last_key: Option<&'static [u8]>,
+    /// The entries from there on.
+    from_last: &'static [Entry],
+}
+
+const ROWS: &[Row] = &[
+    Row {
+        name: "two bytes are shared",
+        bytes: SHARING,
+        entries: ENTRIES,
+        restarts: 1,
+        last_key: Some(&FIRST_KEY),
+        from_last: ENTRIES,
+    },
+    Row {
+        name: "no entries",
+        bytes: NOTHING,
+        entries: &[],
+        restarts: 1,
+        last_key: None,
+        from_last: &[],
+    },
+    Row {
+        name: "a restart at each of two whole keys",
+        bytes: WHOLE,
+        entries: ENTRIES,
+        restarts: 2,
+        last_key: Some(&SECOND_KEY),
+        from_last: &[(&SECOND_KEY, b"y", true)],
+    },
+    Row {
+        name: "a whole key without a restart",
+        bytes: b"\0\x09\x01a\x01\x02\0\0\0\0\0\0x\0\x09\x01a\x01\x01\0\0\0\0\0\0y\0\0\0\0\x01\0\0\0",
+        entries: ENTRIES,
+        restarts: 1,
+        last_key: Some(&FIRST_KEY),
+        from_last: ENTRIES,
+    },
+];
+
+/// Takes the first entry off, and answers whether it is this one.
+fn goes(cursor: &mut BlockCursor<'_>, entry: &Entry) -> Result<bool, Fault> {
+    if !cursor.valid() {
+        return Ok(false);
+    }
+    let is_this = cursor.key() == entry.0
+        && cursor.value() == entry.1
+        && cursor.is_last() == entry.2;
+    cursor.advance()?;
+    Ok(is_this)
+}
+
+/// Whether a cursor has these entries and no more. It takes them off.
+fn has(cursor: &mut BlockCursor<'_>, entries: &[Entry]) -> Result<bool, Fault> {
+    for entry in entries {
+        if !goes(cursor, entry)? {
+            return Ok(false);
+        }
+    }
+    Ok(!cursor.valid())
+}
+
+/// Whether a block has its restarts, and its entries from the last of them on.
+fn is_read_from_last(alloc: Global, row: &Row) -> Result<bool, Fault> {
+    let block = check(row.bytes)?;
+    if block.restarts() != row.restarts {
+        return Ok(false);
+    }
+    let last = block.restarts() - 1;
+    if block.key_at(last) != row.last_key {
+        return Ok(false);
+    }
+    has(&mut BlockCursor::at(alloc, &block, last)?, row.from_last)
+}
+
+/// Whether a block is read again as its entries, and a cursor goes to them from others.
+fn is_read_again(alloc: Global, row: &Row) -> Result<bool, Fault> {
+    let sound = check(row.bytes)?;
+    let block = reopen(row.bytes);
+    let mut cursor = BlockCursor::new(alloc, &block)?;
+    if !has(&mut cursor, row.entries)? {
+        return Ok(false);
+    }
+    cursor.enter(&sound.copy())?;
+    has(&mut cursor, row.entries)
+}
+
+/// Takes the first entry of bytes that are tested on the way off, and answers whether it is this one.
+fn tests(cursor: &mut CheckingCursor<'_>, entry: &Entry) -> Result<bool, Fault> {
+    if !cursor.valid() {
+        return Ok(false);
+    }
+    let is_this = cursor.key() == entry.0 && cursor.value() == entry.1;
+    cursor.advance()?;
+    Ok(is_this)
+}
+
+/// Whether bytes are tested on the way as these entries and no more.
+fn is_tested(cursor: &mut CheckingCursor<'static>, row: &Row) -> Result<bool, Fault> {
+    cursor.enter(row.bytes)?;
+    for entry in row.entries {
+        if !tests(cursor, entry)? {
+            return Ok(false);
+        }
+    }
+    Ok(!cursor.valid())
+}
+
+/// Whether a block is read in each way.
+fn is_read(cursor: &mut CheckingCursor<'static>, alloc: Global, row: &Row) -> Result<bool, Fault> {
+    Ok(is_read_from_last(alloc, row)? && is_read_again(alloc, row)? && is_tested(cursor, row)?)
+}
+
+/// Tests that each block is read.
+fn are_read(rt: &(impl Abort + AllocGlobal)) -> Result<(), Fault> {
+    let mut cursor = CheckingCursor::none(rt.alloc());
+    assert!(rt; !cursor.valid());
+    for row in ROWS {
+        assert!(rt; is_read(&mut cursor, rt.alloc(), row)?, "{}", row.name);
+    }
+    Ok(())
+}
+
+/// Tests that the blocks are written and read.
+fn all(rt: &(impl Abort + AllocGlobal)) -> Result<(), Fault> {
+    assert!(rt; is_written(rt, 16, SHARING)?);
+    assert!(rt; is_written(rt, 1, WHOLE)?);
+    are_read(rt)
+}
+
+/// Whether a call was refused for want of memory.
+fn is_memory(answer: &Result<(), Fault>) -> bool {
+    match answer {
+        Ok(()) => false,
+        Err(refused) => *refused == Fault::of(FaultName::Memory),
+    }
+}
+
+// With `rt try --test --fail-alloc N` the Nth growth is refused, and all is tested once more; without it, none is.
+#[test]
+fn blocks_are_written_and_read(rt: HostRuntime) -> Result<(), Fault> {
+    let answer = all(&rt);
+    if is_memory(&answer) {
+        return all(&rt);
+    }
+    answer
+}
+
+/// Bytes that are no block, and why not.
+const NO_BLOCKS: &[(&str, &[u8])] = &[
+    ("no bytes", b""),
+    ("no restart", b"\0\0\0\0"),
+    ("a restart, and none told", b"\0\0\0\0\0\0\0\0"),
+    (
+        "a restart at no entry",
+        b"\0\x01\0a\0\x01\0b\0\0\0\0\x03\0\0\0\x02\0\0\0",
+    ),
+    (
+        "a restart at the end",
+        b"\0\x01\0a\0\x01\0b\0\0\0\0\x08\0\0\0\x02\0\0\0",
+    ),
+    (
+        "a restart twice",
+        b"\0\x01\0a\0\x01\0b\0\0\0\0\x04\0\0\0\x04\0\0\0\x03\0\0\0",
+    ),
+    (
+        "restarts that fall",
+        b"\0\x01\0a\0\x01\0b\0\0\0\0\x04\0\0\0\0\0\0\0\x03\0\0\0",
+    ),
+    (
+        "a first restart that is not 0",
+        b"\0\x01\0a\0\x01\0b\x04\0\0\0\x01\0\0\0",
+    ),
+    (
+        "a restart at a key that shares",
+        b"\0\x01\0a\x01\x01\0b\0\0\0\0\x04\0\0\0\x02\0\0\0",
+    ),
+    (
+        "more restarts than there is room",
+        b"\0\x01\0a\0\0\0\0\x09\0\0\0",
+    ),
+    (
+        "as many restarts as can be told",
+        b"\0\x01\0a\0\0\0\0\xff\xff\xff\xff",
+    ),
+    (
+        "more shared than there is",
+        b"\0\x01\0a\x02\0\0\0\0\0\0\x01\0\0\0",
+    ),
+    ("a first key that shares", b"\x01\x01\0a\0\0\0\0\x01\0\0\0"),
+    (
+        "a length that is spelt too long",
+        b"\x80\0\x01\0a\0\0\0\0\x01\0\0\0",
+    ),
+    ("an entry cut short", b"\0\x02\0a\0\0\0\0\x01\0\0\0"),
+    ("two restarts of no entry", b"\0\0\0\0\0\0\0\0\x02\0\0\0"),
+];
+
+/// Whether bytes are refused as no block.
+fn is_refused(bytes: &[u8]) -> bool {
+    match check(bytes) {
+        Ok(_) => false,
+        Err(refused) => refused == Fault::of(FaultName::Block),
+    }
+}
+
+#[test]
+fn what_is_no_block(rt: HostRuntime) {
+    for (name, bytes) in NO_BLOCKS {
+        assert!(rt; is_refused(bytes), "{name}");
+    }
+}

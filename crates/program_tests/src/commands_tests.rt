@@ -1,0 +1,301 @@
+use crate::folders::*;
+use account::{Account, text};
+use checks::Work;
+use coding::{Fault, FaultName};
+use commands::{bottom, dump, get_dir, manifest, next_level, progress_text, status, verify};
+use diagnostics::{RefusedFile, account_of, log_with_writes, refused_file};
+use folder::{Failing, FolderFault, Shelf, open};
+use std::alloc::Global;
+use std::test::*;
+use std::thread::Threads;
+use texts::{key_of, text_of};
+
+/// A call, and what it is asked beside the folder.
+enum Call {
+    Manifest,
+    Verify,
+    /// A key, and a sequence.
+    Get(&'static [u8], Option<u64>),
+    RefusedFile,
+    Log,
+    /// The folder before a compaction, and its level.
+    Account(Place, u64),
+    /// Which level has files above the deepest one, and the bottom.
+    NextLevel,
+    /// How far a compaction of eight ranges is, of which so many jobs are done.
+    Progress(u64),
+    Dump(&'static [u8]),
+    TextOf(&'static [u8]),
+    KeyOf(&'static str),
+}
+
+/// The bytes of an answer, or a refusal and its status.
+type Wanted = Result<&'static str, (FaultName, u8)>;
+
+/// What a row shows, the call, its folder, which call on that fails, and the answer: its bytes, of which there are none where there is nothing
+/// to tell, or the refusal and its status.
+type Row = (&'static str, Call, Place, u64, Wanted);
+
+/// The deepest level.
+const DEEPEST: u64 = 6;
+
+/// No call has this number.
+const NEVER: u64 = u64::MAX;
+
+const ROWS: &[Row] = &[
+    ("a file", Call::Manifest, Place::One, NEVER, Ok(ONE_LINES)),
+    (
+        "one file",
+        Call::Verify,
+        Place::One,
+        NEVER,
+        Ok("lawful: 1 files, 2 entries\n"),
+    ),
+    (
+        "a key before it was deleted",
+        Call::Get(b"u", Some(3)),
+        Place::One,
+        NEVER,
+        Ok("78\n"),
+    ),
+    (
+        "no refused file",
+        Call::RefusedFile,
+        Place::One,
+        NEVER,
+        Ok(""),
+    ),
+    (
+        "a damaged table",
+        Call::RefusedFile,
+        Place::Damaged,
+        NEVER,
+        Ok("000007.ldb: Short"),
+    ),
+    (
+        "a log with writes",
+        Call::Log,
+        Place::Logged,
+        NEVER,
+        Ok("000003.log"),
+    ),
+    (
+        "entries that were dropped",
+        Call::Account(Place::One, 1),
+        Place::NoneLeft,
+        NEVER,
+        Ok(LEVEL_1_EXPLAINED),
+    ),
+    (
+        "a level with files",
+        Call::NextLevel,
+        Place::One,
+        NEVER,
+        Ok("1 of 1"),
+    ),
+    (
+        "ranges",
+        Call::Progress(3),
+        Place::Empty,
+        NEVER,
+        Ok("ranges merged: 3 of 8"),
+    ),
+    (
+        "pieces",
+        Call::Progress(20),
+        Place::Empty,
+        NEVER,
+        Ok("pieces encoded: 12"),
+    ),
+    (
+        "a table",
+        Call::Dump(TWO_ENTRIES),
+        Place::Empty,
+        NEVER,
+        Ok("75 4 del\n75 2 put 78\n"),
+    ),
+    (
+        "three bytes",
+        Call::TextOf(b"\0\xab\xff"),
+        Place::Empty,
+        NEVER,
+        Ok("00abff"),
+    ),
+    (
+        "digits of either case",
+        Call::KeyOf("c3A9"),
+        Place::Empty,
+        NEVER,
+        Ok("é"),
+    ),
+    (
+        "manifest: no CURRENT is read",
+        Call::Manifest,
+        Place::One,
+        1,
+        Err((FaultName::Device, 3)),
+    ),
+    (
+        "manifest: no manifest is read",
+        Call::Manifest,
+        Place::One,
+        2,
+        Err((FaultName::Device, 3)),
+    ),
+    (
+        "manifest: no table has to be read",
+        Call::Manifest,
+        Place::One,
+        3,
+        Ok(ONE_LINES),
+    ),
+    (
+        "verify: no manifest is read",
+        Call::Verify,
+        Place::One,
+        2,
+        Err((FaultName::Device, 3)),
+    ),
+    (
+        "verify: no table is read",
+        Call::Verify,
+        Place::One,
+        3,
+        Err((FaultName::Device, 3)),
+    ),
+    (
+        "verify: a damaged table",
+        Call::Verify,
+        Place::Damaged,
+        NEVER,
+        Err((FaultName::Short, 1)),
+    ),
+    (
+        "get: no CURRENT is read",
+        Call::Get(b"u", None),
+        Place::One,
+        1,
+        Err((FaultName::Device, 3)),
+    ),
+    (
+        "get: no table is read",
+        Call::Get(b"u", None),
+        Place::One,
+        3,
+        Err((FaultName::Device, 3)),
+    ),
+];
+
+/// The bytes of a text that is answered.
+fn bytes_of(text: Result<String, Fault>) -> Result<Vec<u8>, Fault> {
+    Ok(text?.into_bytes())
+}
+
+/// The lines of an account that is answered.
+fn lines_of(alloc: Global, account: Result<Account, Fault>) -> Result<Vec<u8>, Fault> {
+    bytes_of(text(alloc, &account?))
+}
+
+/// How the compaction of a level went, by the folder before it and the one behind it.
+fn explained(
+    alloc: Global,
+    before: Files,
+    folder: &mut Shelf<'_>,
+    level: u64,
+) -> Result<Vec<u8>, Fault> {
+    let (order, before) = open(alloc, &mut Shelf::new(alloc, before))?;
+    let (_order, after) = open(alloc, folder)?;
+    lines_of(
+        alloc,
+        account_of(alloc, folder, order, &before, &after, level, 8),
+    )
+}
+
+/// The name of a file that is refused, and why.
+fn refusal_of(alloc: Global, file: &RefusedFile) -> Result<Vec<u8>, Fault> {
+    let (name, fault) = (&file.name, file.fault);
+    Ok(format!(in alloc; "{name}: {fault}")?.into_bytes())
+}
+
+/// The same of the first file of a folder that is refused, if one is.
+fn first_refusal(alloc: Global, folder: &mut Shelf<'_>) -> Result<Vec<u8>, Fault> {
+    match refused_file(alloc, folder)? {
+        Some(file) => refusal_of(alloc, &file),
+        None => Ok(Vec::new(alloc)),
+    }
+}
+
+/// The name of a log with writes, if there is one.
+fn log_name(alloc: Global, folder: &mut Shelf<'_>) -> Result<Vec<u8>, Fault> {
+    match log_with_writes(alloc, folder)? {
+        Some(name) => Ok(name.into_bytes()),
+        None => Ok(Vec::new(alloc)),
+    }
+}
+
+/// The first level of a folder above the deepest one that has files, and the bottom.
+fn levels_of(alloc: Global, folder: &mut Shelf<'_>) -> Result<Vec<u8>, Fault> {
+    let (_order, version) = open(alloc, folder)?;
+    let bottom = bottom(alloc, &version)?;
+    match next_level(alloc, &version, DEEPEST)? {
+        Some(level) => Ok(format!(in alloc; "{level} of {bottom}")?.into_bytes()),
+        None => Ok(Vec::new(alloc)),
+    }
+}
+
+/// The key of a text. One that is no key's is told as Key.
+fn key_in(alloc: Global, text: &str) -> Result<Vec<u8>, Fault> {
+    match key_of(alloc, text)? {
+        Some(key) => Ok(key),
+        None => Err(Fault::of(FaultName::Key)),
+    }
+}
+
+/// What a call answers over a folder.
+fn answer<R: AllocGlobal + Threads + Sync>(
+    rt: &R,
+    call: &Call,
+    folder: &mut Shelf<'_>,
+) -> Result<Vec<u8>, Fault> {
+    let alloc = rt.alloc();
+    match call {
+        Call::Manifest => manifest(alloc, folder),
+        Call::Verify => verify(rt, alloc, folder),
+        Call::Get(key, at) => get_dir(rt, alloc, folder, key, *at),
+        Call::RefusedFile => first_refusal(alloc, folder),
+        Call::Log => log_name(alloc, folder),
+        Call::Account(before, level) => explained(alloc, files_of(*before), folder, *level),
+        Call::NextLevel => levels_of(alloc, folder),
+        Call::Progress(done) => bytes_of(progress_text(alloc, Work::Compact, 8, *done)),
+        Call::Dump(bytes) => dump(alloc, bytes),
+        Call::TextOf(bytes) => bytes_of(text_of(alloc, bytes)),
+        Call::KeyOf(text) => key_in(alloc, text),
+    }
+}
+
+/// Whether an answer is the one that is wanted.
+fn is_answer(answer: &Result<Vec<u8>, Fault>, wanted: &Wanted) -> bool {
+    match (answer, wanted) {
+        (Ok(found), Ok(text)) => found.as_slice() == text.as_bytes(),
+        (Err(fault), Err((name, code))) => fault.name == *name && status(fault) == *code,
+        _ => false,
+    }
+}
+
+/// Whether a call answers what is wanted. The call on the folder that fails is the last one.
+fn is_answered<R: AllocGlobal + Threads + Sync>(rt: &R, row: &Row) -> bool {
+    let (_shown, asked, place, call, wanted) = row;
+    let mut folder = Shelf::new(rt.alloc(), files_of(*place)).failing(Failing {
+        call: *call,
+        fault: FolderFault::Device,
+        is_half_done: false,
+    });
+    is_answer(&answer(rt, asked, &mut folder), wanted) && folder.calls() <= *call
+}
+
+#[test]
+fn calls_answer_what_is_printed(rt: HostRuntime) {
+    for row in ROWS {
+        assert!(rt; is_answered(&rt, row), "{}", row.0);
+    }
+}

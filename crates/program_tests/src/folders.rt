@@ -1,0 +1,78 @@
+//! Folders of files that were worked out by hand from the formats, and the lines that show them.
+
+/// Files by their names.
+pub(crate) type Files = &'static [(&'static str, &'static [u8])];
+
+/// `table: u@4 del, u@2 put x`
+pub(crate) const TWO_ENTRIES: &[u8] = b"\
+    \0\x09\0u\0\x04\0\0\0\0\0\0\x01\x08\x01\x01\x02\0\0\0\0\0\0x\0\0\0\0\x01\0\0\0\0\xef\xe0\xe5\
+    \x28\0\0\0\0\x01\0\0\0\0\xc0\xf2\xa1\xb0\0\x09\x02u\x01\x02\0\0\0\0\0\0\0\x20\0\0\0\0\x01\0\0\
+    \0\0\x0a\xb0\x5c\x0c\x25\x082\x16\0\0\0\0\0\0\0\0\0\0\0\0\0\0\0\0\0\0\0\0\0\0\0\0\0\0\0\0\0\0\
+    \0\0\0\0\0\0W\xfb\x80\x8b\x24uG\xdb";
+
+/// `log: comparator leveldb.BytewiseComparator, log 3, previous 0, next 9, last 4, file 1 7 125
+/// u@4 del .. u@2 put`
+const ONE_FILE: &[u8] = b"\
+    \x23\x1fG\xbe\x3c\0\x01\x01\x1aleveldb.BytewiseComparator\x02\x03\x09\0\x03\x09\x04\x04\x07\
+    \x01\x07\x7d\x09u\0\x04\0\0\0\0\0\0\x09u\x01\x02\0\0\0\0\0\0";
+
+/// `log: comparator leveldb.BytewiseComparator, log 3, previous 0, next 9, last 4, file 1 7 125
+/// u@4 del .. u@2 put | log 3, previous 0, next 10, last 4, pointer 1 u@2 put, delete 1 7`
+const NO_FILE: &[u8] = b"\
+    \x23\x1fG\xbe\x3c\0\x01\x01\x1aleveldb.BytewiseComparator\x02\x03\x09\0\x03\x09\x04\x04\x07\
+    \x01\x07\x7d\x09u\0\x04\0\0\0\0\0\0\x09u\x01\x02\0\0\0\0\0\0d\xcd\xa2\xed\x17\0\x01\x02\x03\
+    \x09\0\x03\x0a\x04\x04\x05\x01\x09u\x01\x02\0\0\0\0\0\0\x06\x01\x07";
+
+const CURRENT: (&str, &[u8]) = ("CURRENT", b"MANIFEST-000005\n");
+
+const ONE_MANIFEST: (&str, &[u8]) = ("MANIFEST-000005", ONE_FILE);
+
+/// File 7, and bytes that are no table in its place.
+const SEVEN: (&str, &[u8]) = ("000007.ldb", TWO_ENTRIES);
+
+const DAMAGED: (&str, &[u8]) = ("000007.ldb", b"damaged");
+
+const ONE: Files = &[CURRENT, ONE_MANIFEST, SEVEN];
+
+const ONE_DAMAGED: Files = &[CURRENT, ONE_MANIFEST, DAMAGED];
+
+/// The folder of file 7, compacted.
+const NONE_LEFT: Files = &[CURRENT, ("MANIFEST-000005", NO_FILE), SEVEN];
+
+/// The folder of file 7 with a log, and with one of no byte.
+const LOGGED: Files = &[CURRENT, ONE_MANIFEST, ("000003.log", b"x")];
+
+/// One of these folders, or one of no file.
+#[derive(Clone, Copy)]
+pub(crate) enum Place {
+    One,
+    Damaged,
+    NoneLeft,
+    Logged,
+    Empty,
+}
+
+/// The files of a folder.
+pub(crate) fn files_of(place: Place) -> Files {
+    match place {
+        Place::One => ONE,
+        Place::Damaged => ONE_DAMAGED,
+        Place::NoneLeft => NONE_LEFT,
+        Place::Logged => LOGGED,
+        Place::Empty => &[],
+    }
+}
+
+/// The lines of [`Place::One`].
+pub(crate) const ONE_LINES: &str =
+    "comparator leveldb.BytewiseComparator\nlog 3\nprevious 0\nnext 9\nlast 4\nfile 1 7 125\n";
+
+/// Level 1 of [`Place::One`] is: the deletion goes, since nothing lies below it, and so does what it hides.
+pub(crate) const LEVEL_1_EXPLAINED: &str = "\
+######################################## level 1: 1 files, 125 bytes
+                                         level 2: 0 files, 0 bytes
+                                         range 1: 0 entries
+######################################## range 2: 2 entries
+                                         kept: 0 entries
+######################################## dropped: 2 entries
+";

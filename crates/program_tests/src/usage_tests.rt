@@ -1,0 +1,102 @@
+use std::alloc::{AllocError, Global};
+use std::test::*;
+use usage::{Line, Usage, line};
+
+/// The words of a command line, parted by bars, and what the program makes of them: the line, or why it asks for nothing.
+type Row = (&'static str, &'static str);
+
+/// The faults of usage are in `tests/cases/usage`, one of each kind aside.
+const ROWS: &[Row] = &[
+    (
+        "sedvokt|blocks|one|two|--at|62|three",
+        r#"Blocks { a: "one", b: "two", at: [98], out: "three" }"#,
+    ),
+    ("sedvokt|blocks|one|two|--at|6|three", "key"),
+    ("sedvokt|blocks|--help", "text"),
+    ("sedvokt|--version", "text"),
+    ("sedvokt|dump|one", r#"Dump { table: "one" }"#),
+    (
+        "sedvokt|manifest|one",
+        r#"Manifest { folder: "one", verbose: false }"#,
+    ),
+    (
+        "sedvokt|verify|one|-v",
+        r#"Verify { folder: "one", verbose: true }"#,
+    ),
+    (
+        "sedvokt|get|one|75",
+        r#"Get { folder: "one", key: [117], at: None, verbose: false }"#,
+    ),
+    (
+        "sedvokt|get|one|-|--at|18446744073709551615",
+        r#"Get { folder: "one", key: [], at: Some(18446744073709551615), verbose: false }"#,
+    ),
+    (
+        "sedvokt|compact|one|--level|1",
+        "Compact { folder: \"one\", levels: One(1), settings: CompactSettings { workers: 4, ranges: 8, readable: Listed([]), options: Options { block_size: 4096, restart_interval: 16, file_size: 2097152 } }, verbosity: Verbosity { verbose: false, explain: false } }",
+    ),
+    (
+        "sedvokt|compact|--workers|0|--file-size=18446744073709551615|one|--ranges|4097|--block-size|007|--level|6|--snapshot|3",
+        "Compact { folder: \"one\", levels: One(6), settings: CompactSettings { workers: 0, ranges: 4097, readable: From(3), options: Options { block_size: 7, restart_interval: 16, file_size: 18446744073709551615 } }, verbosity: Verbosity { verbose: false, explain: false } }",
+    ),
+    (
+        "sedvokt|compact|--explain|one|-v|--all|--snapshots|9,0,18446744073709551615",
+        "Compact { folder: \"one\", levels: All, settings: CompactSettings { workers: 4, ranges: 8, readable: Listed([9, 0, 18446744073709551615]), options: Options { block_size: 4096, restart_interval: 16, file_size: 2097152 } }, verbosity: Verbosity { verbose: true, explain: true } }",
+    ),
+    (
+        "sedvokt|compact|one|--all|--snapshots|18446744073709551616",
+        "snapshots",
+    ),
+    ("sedvokt|compact|one|--all|--level|1", "mistake"),
+];
+
+/// Why a line asks for nothing, in a word.
+fn reason(usage: &Usage) -> &'static str {
+    match usage {
+        Usage::Key => "key",
+        Usage::Snapshots => "snapshots",
+        Usage::Memory => "memory",
+        Usage::Clap(error) if error.use_stderr() => "mistake",
+        Usage::Clap(_) => "text",
+    }
+}
+
+/// The words that bars part.
+fn words_of(alloc: Global, parted: &str) -> Result<Vec<&str>, AllocError> {
+    let mut words = Vec::new(alloc);
+    for word in parted.split('|') {
+        words.push(word)?;
+    }
+    Ok(words)
+}
+
+/// Whether a line is told so.
+fn is_told(alloc: Global, line: &Line<'_>, wanted: &str) -> bool {
+    match format!(in alloc; "{line:?}") {
+        Ok(text) => text.as_str() == wanted,
+        Err(_) => false,
+    }
+}
+
+/// Whether that is what is made of words.
+fn is_made_of(alloc: Global, words: &[&str], wanted: &str) -> bool {
+    match line(alloc, words) {
+        Ok(line) => is_told(alloc, &line, wanted),
+        Err(usage) => reason(&usage) == wanted,
+    }
+}
+
+/// Whether a row's words give what it has to.
+fn is_made(alloc: Global, (parted, wanted): &Row) -> bool {
+    match words_of(alloc, parted) {
+        Ok(words) => is_made_of(alloc, &words, wanted),
+        Err(_) => false,
+    }
+}
+
+#[test]
+fn words_ask_for_what_they_say(rt: HostRuntime) {
+    for row in ROWS {
+        assert!(rt; is_made(rt.alloc(), row), "{}", row.0);
+    }
+}

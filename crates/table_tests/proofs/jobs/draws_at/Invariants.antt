@@ -1,5 +1,0 @@
-use Rattle.std.proofs.Common.{◌≡◌, All}
-use Rattle.table_tests.proofs.jobs.draws_at.Given as goal
-
-abbrev pub invariant-loop : goal.invariant-loop
-invariant-loop l = All (λ p. p.board ≡ l.board) l.made.items

@@ -1,0 +1,226 @@
+use coding::{Fault, FaultName};
+use edit::{FileMeta, Version, VersionEdit, edit_laws, snapshot_law};
+use ikey::Bytewise;
+use std::alloc::Global;
+use std::process::Abort;
+use std::test::*;
+
+// Records of the manifests of two databases that LevelDB 1.23 wrote, as they stand in its files.
+
+/// `edit: comparator leveldb.BytewiseComparator, pointer 0 k00399@48 del, file 1 15 11485
+/// k00000@810 put .. k00398@836 put`
+const COMPACTED: &[u8] = b"\
+    \x01\x1aleveldb.BytewiseComparator\x05\0\x0ek00399\00\0\0\0\0\0\0\x07\x01\x0f\xddY\x0ek00000\
+    \x01\x2a\x03\0\0\0\0\0\x0ek00398\x01D\x03\0\0\0\0\0";
+
+/// `edit: comparator leveldb.BytewiseComparator, pointer 0 k00399@48 del, file 0 22 3334
+/// k00003@1015 put .. k00399@1006 del, file 0 19 3403 k00003@904 put .. k00399@984 put, file 1 15
+/// 11485 k00000@810 put .. k00398@836 put`
+const MIXED: &[u8] = b"\
+    \x01\x1aleveldb.BytewiseComparator\x05\0\x0ek00399\00\0\0\0\0\0\0\x07\0\x16\x86\x1a\x0ek00003\
+    \x01\xf7\x03\0\0\0\0\0\x0ek00399\0\xee\x03\0\0\0\0\0\x07\0\x13\xcb\x1a\x0ek00003\x01\x88\x03\0\
+    \0\0\0\0\x0ek00399\x01\xd8\x03\0\0\0\0\0\x07\x01\x0f\xddY\x0ek00000\x01\x2a\x03\0\0\0\0\0\x0ek\
+    00398\x01D\x03\0\0\0\0\0";
+
+/// Its second record: the counters, and a file at level 0.
+/// `edit: log 26, previous 0, next 27, last 1200, file 0 25 3308 k00001@1152 put .. k00389@1141
+/// put`
+const MIXED_NEXT: &[u8] = b"\
+    \x02\x1a\x09\0\x03\x1b\x04\xb0\x09\x07\0\x19\xec\x19\x0ek00001\x01\x80\x04\0\0\0\0\0\x0ek00389\
+    \x01u\x04\0\0\0\0\0";
+
+/// `edit: log 3, previous 0, next 9, last 4, pointer 1 u@2 put, delete 1 7`
+const DELETING: &[u8] =
+    b"\x02\x03\x09\0\x03\x09\x04\x04\x05\x01\x09u\x01\x02\0\0\0\0\0\0\x06\x01\x07";
+
+/// `edit: log 3, previous 0, next 10, last 4, pointer 1 u@2 put, delete 1 7, file 2 9 113 u@4 del
+/// .. u@4 del`
+const REPLACING: &[u8] = b"\
+    \x02\x03\x09\0\x03\x0a\x04\x04\x05\x01\x09u\x01\x02\0\0\0\0\0\0\x06\x01\x07\x07\x02\x09q\x09u\
+    \0\x04\0\0\0\0\0\0\x09u\0\x04\0\0\0\0\0\0";
+
+/// Edits, and the bytes that each is written as when it was read.
+const EDITS: &[(&[u8], &[u8])] = &[
+    (b"", b""),
+    (COMPACTED, COMPACTED),
+    (MIXED, MIXED),
+    (MIXED_NEXT, MIXED_NEXT),
+    (DELETING, DELETING),
+    (REPLACING, REPLACING),
+    // Of log number 3 and log number 4 the later counts.
+    (b"\x02\x03\x02\x04", b"\x02\x04"),
+    // Deleted files are a set, which is written by level and number.
+    (
+        b"\x06\x01\x02\x06\0\x05\x06\x01\x02",
+        b"\x06\0\x05\x06\x01\x02",
+    ),
+];
+
+/// What the edit of these bytes is written as.
+fn written_again(alloc: Global, bytes: &[u8]) -> Result<Vec<u8>, Fault> {
+    VersionEdit::decode(alloc, bytes)?.encode(alloc)
+}
+
+/// Whether that is these bytes.
+fn is_written(alloc: Global, bytes: &[u8], wanted: &[u8]) -> bool {
+    match written_again(alloc, bytes) {
+        Ok(written) => written.as_slice() == wanted,
+        Err(_) => false,
+    }
+}
+
+#[test]
+fn edits_are_read_and_written(rt: HostRuntime) {
+    edit_laws();
+    for (bytes, wanted) in EDITS {
+        assert!(rt; is_written(rt.alloc(), bytes, wanted), "{wanted:?}");
+    }
+}
+
+/// The field of the comparator's name.
+/// `edit: comparator leveldb.BytewiseComparator`
+const NAME: &[u8] = b"\x01\x1aleveldb.BytewiseComparator";
+
+/// New files of one key each: number 7 and number 5, both at level 1.
+/// `edit: file 1 7 100 u@1 put .. u@1 put, file 1 5 100 a@1 put .. a@1 put`
+const TWO_FILES: &[u8] = b"\
+    \x07\x01\x07d\x09u\x01\x01\0\0\0\0\0\0\x09u\x01\x01\0\0\0\0\0\0\x07\x01\x05d\x09a\x01\x01\0\0\
+    \0\0\0\0\x09a\x01\x01\0\0\0\0\0\0";
+
+/// A new file of number 7 at level 2.
+/// `edit: file 2 7 100 v@1 put .. v@1 put`
+const SEVEN_BELOW: &[u8] = b"\x07\x02\x07d\x09v\x01\x01\0\0\0\0\0\0\x09v\x01\x01\0\0\0\0\0\0";
+
+/// `edit: file 2 7 100 v@1 put .. v@1 put, delete 1 7`
+const SEVEN_MOVED: &[u8] =
+    b"\x07\x02\x07d\x09v\x01\x01\0\0\0\0\0\0\x09v\x01\x01\0\0\0\0\0\0\x06\x01\x07";
+
+/// The snapshot of the version that has number 5 at level 1 and that number 7.
+/// `edit: comparator leveldb.BytewiseComparator, file 1 5 100 a@1 put .. a@1 put, file 2 7 100 v@1
+/// put .. v@1 put`
+const MOVED: &[u8] = b"\
+    \x01\x1aleveldb.BytewiseComparator\x07\x01\x05d\x09a\x01\x01\0\0\0\0\0\0\x09a\x01\x01\0\0\0\0\
+    \0\0\x07\x02\x07d\x09v\x01\x01\0\0\0\0\0\0\x09v\x01\x01\0\0\0\0\0\0";
+
+/// Two new files of number 8, at levels 2 and 3.
+/// `edit: file 2 8 100 v@1 put .. v@1 put, file 3 8 100 w@1 put .. w@1 put`
+const EIGHT_TWICE: &[u8] = b"\
+    \x07\x02\x08d\x09v\x01\x01\0\0\0\0\0\0\x09v\x01\x01\0\0\0\0\0\0\x07\x03\x08d\x09w\x01\x01\0\0\
+    \0\0\0\0\x09w\x01\x01\0\0\0\0\0\0";
+
+/// Two compact pointers of level 3.
+/// `edit: pointer 3 a@1 put, pointer 3 b@1 put`
+const TWO_POINTERS: &[u8] = b"\x05\x03\x09a\x01\x01\0\0\0\0\0\0\x05\x03\x09b\x01\x01\0\0\0\0\0\0";
+
+/// Two edits, and the snapshot of the version that they make of the empty one, one after the other, or how they are refused.
+type Row = (
+    &'static [u8],
+    &'static [u8],
+    Result<&'static [u8], FaultName>,
+);
+
+const VERSIONS: &[Row] = &[
+    (b"", b"", Ok(NAME)),
+    // The first record of a manifest is a snapshot.
+    (COMPACTED, b"", Ok(COMPACTED)),
+    (NAME, MIXED, Ok(MIXED)),
+    // Three files of level 0, by their smallest keys.
+    (
+        MIXED,
+        MIXED_NEXT,
+        Ok(
+            b"\x01\x1aleveldb.BytewiseComparator\x05\0\x0ek00399\00\0\0\0\0\0\0\x07\0\x19\xec\x19\x0ek00001\x01\x80\x04\0\0\0\0\0\x0ek00389\x01u\x04\0\0\0\0\0\x07\0\x16\x86\x1a\x0ek00003\x01\xf7\x03\0\0\0\0\0\x0ek00399\0\xee\x03\0\0\0\0\0\x07\0\x13\xcb\x1a\x0ek00003\x01\x88\x03\0\0\0\0\0\x0ek00399\x01\xd8\x03\0\0\0\0\0\x07\x01\x0f\xddY\x0ek00000\x01*\x03\0\0\0\0\0\x0ek00398\x01D\x03\0\0\0\0\0",
+        ),
+    ),
+    // The later pointer of a level counts.
+    (
+        TWO_POINTERS,
+        b"",
+        Ok(b"\x01\x1aleveldb.BytewiseComparator\x05\x03\x09b\x01\x01\0\0\0\0\0\0"),
+    ),
+    // A file that isn't there, or not at that level.
+    (TWO_FILES, b"\x06\x01\x08", Err(FaultName::Apply)),
+    (TWO_FILES, b"\x06\x02\x07", Err(FaultName::Apply)),
+    // Another order of keys, which comes before a file that isn't there.
+    (
+        TWO_FILES,
+        b"\x01\x01x\x06\x01\x08",
+        Err(FaultName::Comparator),
+    ),
+    // A number that is there, though at another level; it is free once its file is deleted, which is done first.
+    (TWO_FILES, SEVEN_BELOW, Err(FaultName::Apply)),
+    (TWO_FILES, SEVEN_MOVED, Ok(MOVED)),
+    (TWO_FILES, EIGHT_TWICE, Err(FaultName::Apply)),
+];
+
+/// The version of two edits, one after the other.
+fn version_of_two(alloc: Global, first: &[u8], second: &[u8]) -> Result<Version, Fault> {
+    let edit = VersionEdit::decode(alloc, first)?;
+    let version = Version::empty(alloc).applied::<Bytewise>(edit)?;
+    version.apply::<Bytewise>(alloc, &VersionEdit::decode(alloc, second)?)
+}
+
+/// The bytes of its snapshot.
+fn snapshot_of_two(alloc: Global, first: &[u8], second: &[u8]) -> Result<Vec<u8>, Fault> {
+    let version = version_of_two(alloc, first, second)?;
+    version.snapshot_edit::<Bytewise>(alloc)?.encode(alloc)
+}
+
+/// Whether that is what comes of two edits.
+fn is_answered(alloc: Global, row: &Row) -> bool {
+    match (snapshot_of_two(alloc, row.0, row.1), row.2) {
+        (Ok(snapshot), Ok(wanted)) => snapshot.as_slice() == wanted,
+        (Err(refused), Err(wanted)) => refused.name == wanted,
+        _ => false,
+    }
+}
+
+/// Log number, previous log number, next file and last sequence of the second database.
+const NUMBERS: [Option<u64>; 4] = [Some(26), Some(0), Some(27), Some(1200)];
+
+/// Whether a version has these numbers, and a compact pointer at level 0 alone of the two levels that have files there.
+fn has_numbers(version: &Version) -> bool {
+    let numbers = [
+        version.log_number(),
+        version.previous_log(),
+        version.next_file(),
+        version.last_sequence(),
+    ];
+    let is_pointed = match version.pointer(0) {
+        Some(key) => key.as_key().user() == b"k00399".as_slice(),
+        None => false,
+    };
+    numbers == NUMBERS && is_pointed && version.pointer(1).is_none()
+}
+
+/// Whether a file is its first one of level 0 in version order.
+fn is_first(file: &FileMeta) -> bool {
+    file.number == 25
+        && file.size == 3308
+        && file.smallest.as_key().user() == b"k00001".as_slice()
+        && file.largest.as_key().user() == b"k00389".as_slice()
+}
+
+/// Whether a version has three files at level 0, the first of which a copy tells to be that one.
+fn has_files(alloc: Global, version: &Version) -> Result<bool, Fault> {
+    let files = version.files::<Bytewise>(alloc, 0)?;
+    match files.first() {
+        Some(file) => Ok(files.len() == 3 && is_first(&file.copy(alloc)?)),
+        None => Ok(false),
+    }
+}
+
+/// Whether the version of the second database is read so.
+fn is_mixed(alloc: Global) -> Result<bool, Fault> {
+    let version = version_of_two(alloc, MIXED, MIXED_NEXT)?;
+    Ok(has_numbers(&version) && has_files(alloc, &version)?)
+}
+
+#[test]
+fn versions_after_edits(rt: HostRuntime) {
+    snapshot_law::<Bytewise>();
+    assert!(rt; is_mixed(rt.alloc()) == Ok(true));
+    for row in VERSIONS {
+        assert!(rt; is_answered(rt.alloc(), row), "{:?}", row.1);
+    }
+}

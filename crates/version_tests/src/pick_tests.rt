@@ -1,0 +1,220 @@
+use coding::{Fault, FaultName};
+use edit::{FileMeta, Version, VersionEdit};
+use ikey::{Bytewise, Shortlex};
+use pick::{InputFile, Inputs, inputs, is_base, one_choice};
+use std::alloc::Global;
+use std::process::Abort;
+use std::test::*;
+
+// Edits that make the versions, as their bytes: a file has a level, a number, a size, and the internal keys of its first and
+// its last entry.
+
+/// Three files of level 0 that overlap one after the other, and one apart.
+/// `edit: file 0 7 100 c@4 put .. e@4 put, file 0 5 100 e@2 put .. g@2 put, file 0 4 100 a@1 put
+/// .. c@1 put, file 0 6 100 x@3 put .. z@3 put`
+const OVERLAPPING: &[u8] = b"\
+    \x07\0\x07d\x09c\x01\x04\0\0\0\0\0\0\x09e\x01\x04\0\0\0\0\0\0\x07\0\x05d\x09e\x01\x02\0\0\0\0\
+    \0\0\x09g\x01\x02\0\0\0\0\0\0\x07\0\x04d\x09a\x01\x01\0\0\0\0\0\0\x09c\x01\x01\0\0\0\0\0\0\x07\
+    \0\x06d\x09x\x01\x03\0\0\0\0\0\0\x09z\x01\x03\0\0\0\0\0\0";
+
+/// Two files of one user key, and one behind it.
+/// `edit: file 1 8 100 u@10 put .. u@10 put, file 1 9 100 u@5 put .. u@5 put, file 1 3 100 v@4 put
+/// .. w@4 put`
+const OF_ONE_KEY: &[u8] = b"\
+    \x07\x01\x08d\x09u\x01\x0a\0\0\0\0\0\0\x09u\x01\x0a\0\0\0\0\0\0\x07\x01\x09d\x09u\x01\x05\0\0\
+    \0\0\0\0\x09u\x01\x05\0\0\0\0\0\0\x07\x01\x03d\x09v\x01\x04\0\0\0\0\0\0\x09w\x01\x04\0\0\0\0\0\
+    \0";
+
+/// Three files of which each shares a user key with the next, and one behind them.
+/// `edit: file 1 8 100 a@10 put .. u@10 put, file 1 2 100 u@5 put .. v@7 put, file 1 3 100 v@4 put
+/// .. v@2 put, file 1 4 100 w@4 put .. w@2 put`
+const CHAINED: &[u8] = b"\
+    \x07\x01\x08d\x09a\x01\x0a\0\0\0\0\0\0\x09u\x01\x0a\0\0\0\0\0\0\x07\x01\x02d\x09u\x01\x05\0\0\
+    \0\0\0\0\x09v\x01\x07\0\0\0\0\0\0\x07\x01\x03d\x09v\x01\x04\0\0\0\0\0\0\x09v\x01\x02\0\0\0\0\0\
+    \0\x07\x01\x04d\x09w\x01\x04\0\0\0\0\0\0\x09w\x01\x02\0\0\0\0\0\0";
+
+/// Compact pointers of level 1 and level 2, and three files of level 2, the second of which ends
+/// at its pointer.
+/// `edit: pointer 1 b@1 put, pointer 2 f@5 put, file 2 4 100 b@3 put .. c@3 put, file 2 2 100 e@5
+/// put .. f@5 put, file 2 3 100 h@6 put .. i@6 put`
+const POINTED: &[u8] = b"\
+    \x05\x01\x09b\x01\x01\0\0\0\0\0\0\x05\x02\x09f\x01\x05\0\0\0\0\0\0\x07\x02\x04d\x09b\x01\x03\0\
+    \0\0\0\0\0\x09c\x01\x03\0\0\0\0\0\0\x07\x02\x02d\x09e\x01\x05\0\0\0\0\0\0\x09f\x01\x05\0\0\0\0\
+    \0\0\x07\x02\x03d\x09h\x01\x06\0\0\0\0\0\0\x09i\x01\x06\0\0\0\0\0\0";
+
+/// Files of five levels.
+/// `edit: file 1 2 100 c@9 put .. e@9 put, file 1 3 100 p@9 put .. q@9 put, file 2 4 100 a@8 put
+/// .. b@8 put, file 2 5 100 b@7 put .. c@8 put, file 2 6 100 d@8 put .. g@8 put, file 2 7 100 g@7
+/// put .. h@7 put, file 2 8 100 i@8 put .. j@8 put, file 3 9 100 a@4 put .. a@4 put, file 3 10 100
+/// h@4 put .. h@4 put, file 3 11 100 i@4 put .. i@4 put, file 5 12 100 x@3 put .. z@3 put, file 6
+/// 13 100 r@2 put .. s@2 put`
+const LEVELS: &[u8] = b"\
+    \x07\x01\x02d\x09c\x01\x09\0\0\0\0\0\0\x09e\x01\x09\0\0\0\0\0\0\x07\x01\x03d\x09p\x01\x09\0\0\
+    \0\0\0\0\x09q\x01\x09\0\0\0\0\0\0\x07\x02\x04d\x09a\x01\x08\0\0\0\0\0\0\x09b\x01\x08\0\0\0\0\0\
+    \0\x07\x02\x05d\x09b\x01\x07\0\0\0\0\0\0\x09c\x01\x08\0\0\0\0\0\0\x07\x02\x06d\x09d\x01\x08\0\
+    \0\0\0\0\0\x09g\x01\x08\0\0\0\0\0\0\x07\x02\x07d\x09g\x01\x07\0\0\0\0\0\0\x09h\x01\x07\0\0\0\0\
+    \0\0\x07\x02\x08d\x09i\x01\x08\0\0\0\0\0\0\x09j\x01\x08\0\0\0\0\0\0\x07\x03\x09d\x09a\x01\x04\
+    \0\0\0\0\0\0\x09a\x01\x04\0\0\0\0\0\0\x07\x03\x0ad\x09h\x01\x04\0\0\0\0\0\0\x09h\x01\x04\0\0\0\
+    \0\0\0\x07\x03\x0bd\x09i\x01\x04\0\0\0\0\0\0\x09i\x01\x04\0\0\0\0\0\0\x07\x05\x0cd\x09x\x01\
+    \x03\0\0\0\0\0\0\x09z\x01\x03\0\0\0\0\0\0\x07\x06\x0dd\x09r\x01\x02\0\0\0\0\0\0\x09s\x01\x02\0\
+    \0\0\0\0\0";
+
+/// The version that an edit makes of nothing.
+fn version_of(alloc: Global, edit: &[u8]) -> Result<Version, Fault> {
+    Version::empty(alloc).applied::<Bytewise>(VersionEdit::decode(alloc, edit)?)
+}
+
+/// What a compaction of a level takes of that version.
+fn chosen(alloc: Global, edit: &[u8], level: u64) -> Result<Inputs, Fault> {
+    inputs::<Bytewise>(alloc, &version_of(alloc, edit)?, level)
+}
+
+/// What a compaction takes.
+struct Taken {
+    /// The levels and the numbers of its files.
+    files: &'static [(u64, u64)],
+    /// The internal key of its compact pointer.
+    pointer: &'static [u8],
+    /// The numbers of the grandparents, and of the deeper files.
+    grandparents: &'static [u64],
+    deeper: &'static [u64],
+}
+
+/// A version, a level, and what its compaction takes or is refused by.
+type Row = (&'static [u8], u64, Result<Taken, FaultName>);
+
+const ROWS: &[Row] = &[
+    (
+        OVERLAPPING,
+        0,
+        Ok(Taken {
+            files: &[(0, 4), (0, 7), (0, 5)],
+            pointer: b"g\x01\x02\0\0\0\0\0\0",
+            grandparents: &[],
+            deeper: &[],
+        }),
+    ),
+    (
+        OF_ONE_KEY,
+        1,
+        Ok(Taken {
+            files: &[(1, 8), (1, 9)],
+            pointer: b"u\x01\x05\0\0\0\0\0\0",
+            grandparents: &[],
+            deeper: &[],
+        }),
+    ),
+    (
+        CHAINED,
+        1,
+        Ok(Taken {
+            files: &[(1, 8), (1, 2), (1, 3)],
+            pointer: b"v\x01\x02\0\0\0\0\0\0",
+            grandparents: &[],
+            deeper: &[],
+        }),
+    ),
+    (
+        POINTED,
+        2,
+        Ok(Taken {
+            files: &[(2, 3)],
+            pointer: b"i\x01\x06\0\0\0\0\0\0",
+            grandparents: &[],
+            deeper: &[],
+        }),
+    ),
+    (
+        LEVELS,
+        1,
+        Ok(Taken {
+            files: &[(1, 2), (2, 5), (2, 6), (2, 7)],
+            pointer: b"e\x01\x09\0\0\0\0\0\0",
+            grandparents: &[10],
+            deeper: &[9, 10, 11, 12, 13],
+        }),
+    ),
+    // Nothing lies below the last level.
+    (
+        LEVELS,
+        5,
+        Ok(Taken {
+            files: &[(5, 12)],
+            pointer: b"z\x01\x03\0\0\0\0\0\0",
+            grandparents: &[],
+            deeper: &[],
+        }),
+    ),
+    // Levels without a file, and levels above 5.
+    (CHAINED, 0, Err(FaultName::NoInput)),
+    (CHAINED, 2, Err(FaultName::NoInput)),
+    (CHAINED, 5, Err(FaultName::NoInput)),
+    (CHAINED, 6, Err(FaultName::Level)),
+    (CHAINED, 7, Err(FaultName::Level)),
+    (b"", 6, Err(FaultName::Level)),
+];
+
+/// Whether inputs have these levels and numbers.
+fn are_files(found: &[InputFile], wanted: &[(u64, u64)]) -> bool {
+    for (file, place) in found.iter().zip(wanted) {
+        if (file.level, file.meta.number) != *place {
+            return false;
+        }
+    }
+    found.len() == wanted.len()
+}
+
+/// Whether files have these numbers.
+fn are_numbered(found: &[FileMeta], wanted: &[u64]) -> bool {
+    for (file, number) in found.iter().zip(wanted) {
+        if file.number != *number {
+            return false;
+        }
+    }
+    found.len() == wanted.len()
+}
+
+/// Whether inputs are these, of a compaction of a level.
+fn are_taken(found: &Inputs, level: u64, wanted: &Taken) -> bool {
+    found.level == level
+        && found.pointer.level == level
+        && found.pointer.key.as_key().bytes() == wanted.pointer
+        && are_files(&found.files, wanted.files)
+        && are_numbered(&found.grandparents, wanted.grandparents)
+        && are_numbered(&found.deeper, wanted.deeper)
+}
+
+/// Whether a compaction takes what it has to, or is refused so.
+fn is_answered(alloc: Global, row: &Row) -> bool {
+    match (chosen(alloc, row.0, row.1), &row.2) {
+        (Ok(found), Ok(wanted)) => are_taken(&found, row.1, wanted),
+        (Err(refused), Err(wanted)) => refused.name == *wanted,
+        _ => false,
+    }
+}
+
+/// Whether no deeper file has one of these user keys of one byte, or each of them has one.
+fn are_base(found: &Inputs, users: &[u8], wanted: bool) -> bool {
+    for user in users {
+        if is_base::<Bytewise>(found, &[*user]) != wanted {
+            return false;
+        }
+    }
+    true
+}
+
+/// Whether some deeper file has each of `h`, `x`, `y`, `z`, `r` and `s`, and none has `g`, `j`, `w`, `t` or `q`.
+fn are_told(alloc: Global) -> Result<bool, Fault> {
+    let found = chosen(alloc, LEVELS, 1)?;
+    Ok(are_base(&found, b"hxyzrs", false) && are_base(&found, b"gjwtq", true))
+}
+
+#[test]
+fn inputs_and_user_keys_below_them(rt: HostRuntime) {
+    one_choice::<Bytewise>();
+    one_choice::<Shortlex>();
+    assert!(rt; are_told(rt.alloc()) == Ok(true));
+    for (place, row) in ROWS.iter().enumerate() {
+        assert!(rt; is_answered(rt.alloc(), row), "row {place}");
+    }
+}

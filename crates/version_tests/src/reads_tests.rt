@@ -1,0 +1,327 @@
+//! Which versions are lawful, how their tables stand, what they answer, and where entries fall.
+
+use coding::{Fault, FaultName};
+use edit::{Version, VersionEdit};
+use ikey::Bytewise;
+use reads::{NumberedTable, answers_newest_first, falls_in, get, lawful, standing_tables};
+use split::Range;
+use std::alloc::Global;
+use std::process::Abort;
+use std::test::*;
+use table::{SoundTable, TableCursor, check};
+
+// Tables and edits as the formats of LevelDB have them, a line for each block, footer or file.
+
+/// `table: u@10 put a`
+const U_AT_TEN: &[u8] = b"\
+    \0\x09\x01u\x01\x0a\0\0\0\0\0\0a\0\0\0\0\x01\0\0\0\0\xacK\x3a\x94\0\0\0\0\x01\0\0\0\0\xc0\xf2\
+    \xa1\xb0\0\x09\x02u\x01\x0a\0\0\0\0\0\0\0\x15\0\0\0\0\x01\0\0\0\0\x88\xb0\x0a\xf1\x1a\x08\x27\
+    \x16\0\0\0\0\0\0\0\0\0\0\0\0\0\0\0\0\0\0\0\0\0\0\0\0\0\0\0\0\0\0\0\0\0\0\0\0W\xfb\x80\x8b\x24u\
+    G\xdb";
+
+/// `table: u@5 put b`
+const U_AT_FIVE: &[u8] = b"\
+    \0\x09\x01u\x01\x05\0\0\0\0\0\0b\0\0\0\0\x01\0\0\0\0y\xf8\xe9\x7f\0\0\0\0\x01\0\0\0\0\xc0\xf2\
+    \xa1\xb0\0\x09\x02u\x01\x05\0\0\0\0\0\0\0\x15\0\0\0\0\x01\0\0\0\0\xf6U\x18\x14\x1a\x08\x27\x16\
+    \0\0\0\0\0\0\0\0\0\0\0\0\0\0\0\0\0\0\0\0\0\0\0\0\0\0\0\0\0\0\0\0\0\0\0\0W\xfb\x80\x8b\x24uG\
+    \xdb";
+
+/// `table: u@5 put b, u@5 del`
+const U_TWICE: &[u8] = b"\
+    \0\x09\x01u\x01\x05\0\0\0\0\0\0b\x01\x08\0\0\x05\0\0\0\0\0\0\0\0\0\0\x01\0\0\0\0GI\xc1\x1c\0\0\
+    \0\0\x01\0\0\0\0\xc0\xf2\xa1\xb0\0\x09\x02u\0\x05\0\0\0\0\0\0\0\x20\0\0\0\0\x01\0\0\0\0R\xda7\
+    \x90\x25\x082\x16\0\0\0\0\0\0\0\0\0\0\0\0\0\0\0\0\0\0\0\0\0\0\0\0\0\0\0\0\0\0\0\0\0\0\0\0W\xfb\
+    \x80\x8b\x24uG\xdb";
+
+/// Two files of level 1, the newer one first: 8 and 7, of 114 bytes each. The next file has number
+/// 9.
+/// `edit: next 9, file 1 8 114 u@10 put .. u@10 put, file 1 7 114 u@5 put .. u@5 put`
+const TWO: &[u8] = b"\
+    \x03\x09\x07\x01\x08r\x09u\x01\x0a\0\0\0\0\0\0\x09u\x01\x0a\0\0\0\0\0\0\x07\x01\x07r\x09u\x01\
+    \x05\0\0\0\0\0\0\x09u\x01\x05\0\0\0\0\0\0";
+
+/// `edit: next 9, file 0 8 114 u@10 put .. u@10 put, file 0 7 114 u@5 put .. u@5 put`
+const AT_LEVEL_0: &[u8] = b"\
+    \x03\x09\x07\0\x08r\x09u\x01\x0a\0\0\0\0\0\0\x09u\x01\x0a\0\0\0\0\0\0\x07\0\x07r\x09u\x01\x05\
+    \0\0\0\0\0\0\x09u\x01\x05\0\0\0\0\0\0";
+
+/// The newer one at level 0 with the lower number.
+/// `edit: next 9, file 0 7 114 u@10 put .. u@10 put, file 0 8 114 u@5 put .. u@5 put`
+const NEWER_FIRST: &[u8] = b"\
+    \x03\x09\x07\0\x07r\x09u\x01\x0a\0\0\0\0\0\0\x09u\x01\x0a\0\0\0\0\0\0\x07\0\x08r\x09u\x01\x05\
+    \0\0\0\0\0\0\x09u\x01\x05\0\0\0\0\0\0";
+
+/// The newer one at a deeper level.
+/// `edit: next 9, file 2 8 114 u@10 put .. u@10 put, file 1 7 114 u@5 put .. u@5 put`
+const NEWER_BELOW: &[u8] = b"\
+    \x03\x09\x07\x02\x08r\x09u\x01\x0a\0\0\0\0\0\0\x09u\x01\x0a\0\0\0\0\0\0\x07\x01\x07r\x09u\x01\
+    \x05\0\0\0\0\0\0\x09u\x01\x05\0\0\0\0\0\0";
+
+/// The older one with a byte more than its table has.
+/// `edit: next 9, file 1 8 114 u@10 put .. u@10 put, file 1 7 115 u@5 put .. u@5 put`
+const LONGER: &[u8] = b"\
+    \x03\x09\x07\x01\x08r\x09u\x01\x0a\0\0\0\0\0\0\x09u\x01\x0a\0\0\0\0\0\0\x07\x01\x07s\x09u\x01\
+    \x05\0\0\0\0\0\0\x09u\x01\x05\0\0\0\0\0\0";
+
+/// No number of the next file.
+/// `edit: file 1 8 114 u@10 put .. u@10 put, file 1 7 114 u@5 put .. u@5 put`
+const NO_NEXT: &[u8] = b"\
+    \x07\x01\x08r\x09u\x01\x0a\0\0\0\0\0\0\x09u\x01\x0a\0\0\0\0\0\0\x07\x01\x07r\x09u\x01\x05\0\0\
+    \0\0\0\0\x09u\x01\x05\0\0\0\0\0\0";
+
+/// One file, 7, with two entries of one sequence.
+/// `edit: next 9, file 1 7 125 u@5 put .. u@5 del`
+const ONE: &[u8] = b"\x03\x09\x07\x01\x07\x7d\x09u\x01\x05\0\0\0\0\0\0\x09u\0\x05\0\0\0\0\0\0";
+
+/// A file's number and its table.
+type Given = (u64, &'static [u8]);
+
+/// A sequence, and the value of `u` there; none where a table is missing.
+type Get = (u64, Option<Option<&'static [u8]>>);
+
+/// A version, the tables that are given, and what is answered of them.
+struct Row {
+    /// The edit that makes it of the empty version.
+    edit: &'static [u8],
+    first: Given,
+    second: Given,
+    /// How it is refused, where it isn't lawful.
+    lawless: Option<FaultName>,
+    /// The sequences of the tables as they stand; none where that is refused.
+    standing: &'static [u64],
+    gets: &'static [Get],
+}
+
+const ROWS: &[Row] = &[
+    Row {
+        edit: TWO,
+        first: (8, U_AT_TEN),
+        second: (7, U_AT_FIVE),
+        lawless: None,
+        standing: &[10, 5],
+        gets: &[
+            (7, Some(Some(b"b"))),
+            (4, Some(None)),
+            (u64::MAX, Some(Some(b"a"))),
+        ],
+    },
+    Row {
+        edit: AT_LEVEL_0,
+        first: (7, U_AT_FIVE),
+        second: (8, U_AT_TEN),
+        lawless: None,
+        standing: &[10, 5],
+        gets: &[(9, Some(Some(b"b"))), (10, Some(Some(b"a")))],
+    },
+    // A table is missing.
+    Row {
+        edit: TWO,
+        first: (8, U_AT_TEN),
+        second: (9, U_AT_FIVE),
+        lawless: Some(FaultName::Missing),
+        standing: &[],
+        gets: &[(7, None)],
+    },
+    // Older entries stand before newer ones, which is not asked of how tables stand.
+    Row {
+        edit: NEWER_FIRST,
+        first: (7, U_AT_TEN),
+        second: (8, U_AT_FIVE),
+        lawless: Some(FaultName::Lawless),
+        standing: &[5, 10],
+        gets: &[],
+    },
+    Row {
+        edit: NEWER_BELOW,
+        first: (8, U_AT_TEN),
+        second: (7, U_AT_FIVE),
+        lawless: Some(FaultName::Lawless),
+        standing: &[5, 10],
+        gets: &[],
+    },
+    // One sequence of a user key stands twice in a table. Of two tables of one number the first counts.
+    Row {
+        edit: ONE,
+        first: (7, U_TWICE),
+        second: (7, U_AT_FIVE),
+        lawless: Some(FaultName::Lawless),
+        standing: &[5],
+        gets: &[],
+    },
+    // What is stated of a file isn't so: its size, its keys, and that its number is below the next one.
+    Row {
+        edit: LONGER,
+        first: (8, U_AT_TEN),
+        second: (7, U_AT_FIVE),
+        lawless: Some(FaultName::Lawless),
+        standing: &[],
+        gets: &[],
+    },
+    Row {
+        edit: TWO,
+        first: (8, U_AT_FIVE),
+        second: (7, U_AT_FIVE),
+        lawless: Some(FaultName::Lawless),
+        standing: &[],
+        gets: &[],
+    },
+    Row {
+        edit: NO_NEXT,
+        first: (8, U_AT_TEN),
+        second: (7, U_AT_FIVE),
+        lawless: Some(FaultName::Lawless),
+        standing: &[],
+        gets: &[],
+    },
+];
+
+/// The version that an edit makes of the empty one.
+fn version_of(alloc: Global, edit: &[u8]) -> Result<Version, Fault> {
+    let edit = VersionEdit::decode(alloc, edit)?;
+    Version::empty(alloc).applied::<Bytewise>(edit)
+}
+
+/// The table of a file.
+fn table_of(alloc: Global, given: Given) -> Result<NumberedTable<'static, Bytewise>, Fault> {
+    Ok(NumberedTable::of(given.0, check::<Bytewise>(alloc, given.1)?))
+}
+
+/// Whether a table is that of this file.
+fn is_given(table: &NumberedTable<'_, Bytewise>, given: Given) -> bool {
+    table.number() == given.0 && table.table().bytes() == given.1
+}
+
+/// Whether a version is found lawful, or is refused so.
+fn is_judged(
+    alloc: Global,
+    version: &Version,
+    tables: &[NumberedTable<'_, Bytewise>],
+    lawless: Option<FaultName>,
+) -> bool {
+    match lawful(alloc, version, tables) {
+        Ok(()) => lawless.is_none(),
+        Err(fault) => lawless == Some(fault.name),
+    }
+}
+
+/// Whether the smallest keys of tables have these sequences.
+fn are_sequences(tables: &[&SoundTable<'_, Bytewise>], wanted: &[u64]) -> bool {
+    for place in 0..tables.len() {
+        if place >= wanted.len() || tables[place].smallest().sequence() != wanted[place] {
+            return false;
+        }
+    }
+    tables.len() == wanted.len()
+}
+
+/// Whether a version's tables stand as a row says, or that is refused so.
+fn stand(
+    alloc: Global,
+    version: &Version,
+    tables: &[NumberedTable<'_, Bytewise>],
+    row: &Row,
+) -> bool {
+    match standing_tables(alloc, version, tables) {
+        Ok(found) => are_sequences(&found, row.standing),
+        Err(fault) => row.standing.is_empty() && row.lawless == Some(fault.name),
+    }
+}
+
+/// Whether each of these gets is answered so.
+fn are_got(
+    alloc: Global,
+    version: &Version,
+    tables: &[NumberedTable<'_, Bytewise>],
+    gets: &[Get],
+) -> bool {
+    for (at, wanted) in gets {
+        let is_got = match get(alloc, version, tables, b"u", *at) {
+            Ok(found) => *wanted == Some(found),
+            Err(fault) => wanted.is_none() && fault.name == FaultName::Missing,
+        };
+        if !is_got {
+            return false;
+        }
+    }
+    true
+}
+
+/// Whether a version with tables is answered as a row says.
+fn is_row(
+    alloc: Global,
+    version: &Version,
+    tables: &[NumberedTable<'_, Bytewise>],
+    row: &Row,
+) -> bool {
+    is_judged(alloc, version, tables, row.lawless)
+        && stand(alloc, version, tables, row)
+        && are_got(alloc, version, tables, row.gets)
+}
+
+/// Whether a version is, with the tables of the row.
+fn is_answered_with(alloc: Global, version: &Version, row: &Row) -> Result<bool, Fault> {
+    let first = table_of(alloc, row.first)?;
+    let is_first = is_given(&first, row.first);
+    let tables = [first, table_of(alloc, row.second)?];
+    Ok(is_first && is_row(alloc, version, &tables, row))
+}
+
+/// Whether the version of a row is.
+fn is_answered(alloc: Global, row: &Row) -> Result<bool, Fault> {
+    is_answered_with(alloc, &version_of(alloc, row.edit)?, row)
+}
+
+#[test]
+fn versions_and_what_they_answer(rt: HostRuntime) -> Result<(), Fault> {
+    answers_newest_first();
+    for (place, row) in ROWS.iter().enumerate() {
+        assert!(rt; is_answered(rt.alloc(), row)?, "{place}");
+    }
+    Ok(())
+}
+
+/// Tables that stand one before the other, a range of user keys, and whether the entries fall there.
+type Falling = (
+    &'static [&'static [u8]],
+    Option<&'static [u8]>,
+    Option<&'static [u8]>,
+    bool,
+);
+
+const FALLING: &[Falling] = &[
+    (&[U_AT_TEN, U_AT_FIVE], None, None, true),
+    (&[U_AT_FIVE, U_AT_TEN], None, None, false),
+    (&[U_AT_FIVE, U_AT_TEN], Some(b"u"), Some(b"u\0"), false),
+    // The ranges have no entry.
+    (&[U_AT_FIVE, U_AT_TEN], None, Some(b"u"), true),
+    (&[U_AT_FIVE, U_AT_TEN], Some(b"v"), None, true),
+    (&[U_TWICE], None, None, false),
+    (&[], None, None, true),
+];
+
+/// The cursor over a table.
+fn cursor(alloc: Global, bytes: &'static [u8]) -> Result<TableCursor<'static, Bytewise>, Fault> {
+    let table = table_of(alloc, (7, bytes))?.into_table();
+    TableCursor::new(alloc, &table)
+}
+
+/// Whether the entries of tables that stand one before the other fall in a range.
+fn fall(alloc: Global, row: &Falling) -> Result<bool, Fault> {
+    let mut cursors = Vec::new(alloc);
+    for bytes in row.0 {
+        cursors.push(cursor(alloc, bytes)?)?;
+    }
+    let range = Range {
+        lower: row.1,
+        upper: row.2,
+    };
+    falls_in(alloc, cursors, range)
+}
+
+#[test]
+fn entries_that_fall_in_a_range(rt: HostRuntime) -> Result<(), Fault> {
+    for (place, row) in FALLING.iter().enumerate() {
+        assert!(rt; fall(rt.alloc(), row)? == row.3, "{place}");
+    }
+    Ok(())
+}

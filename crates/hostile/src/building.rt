@@ -1,14 +1,16 @@
 //! Builders, logs and edits. What a call changes is tried again where a growth was refused, which left it as it was.
 
 use crate::cases::SMALLEST;
-use crate::worked::{SHORT_RECORD, SNAPSHOT_NINE, VERSION_SEVEN};
+use crate::memory::Memory;
+use crate::worked::{
+    A_AT_ONE, A_AT_TWO, BLOCK, DELETION_LEFT, SHORT_RECORD, SNAPSHOT_NINE, TABLE_THREE_BLOCKS,
+    VERSION_SEVEN,
+};
 use block::BlockBuilder;
 use coding::{Fault, FaultName};
 use edit::{Version, VersionEdit};
 use ikey::{Bytewise, InternalKey};
 use logrec::{append, records};
-use lying::Memory;
-use lying::worked::{A_AT_ONE, A_AT_TWO, BLOCK, DELETION_LEFT, TABLE_THREE_BLOCKS};
 use std::alloc::Global;
 use table::TableBuilder;
 

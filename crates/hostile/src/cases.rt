@@ -1,12 +1,12 @@
 //! Worked compactions by two workers over three ranges.
 
+use crate::case::{Case, Meta, Want};
 use crate::worked::{
-    GRANDPARENTS_EDIT, OUTPUTS_EDIT, TABLE_A_AND_B, TABLE_A_AND_F, TABLE_B, TABLE_B_AND_G,
-    TABLE_B_SPOILT, TABLE_C, TABLE_C_DELETED, TABLE_F, TABLE_G,
+    DELETION_LEFT, GRANDPARENTS_EDIT, OUTPUTS_EDIT, TABLE, TABLE_A_AND_B, TABLE_A_AND_F, TABLE_B,
+    TABLE_B_AND_G, TABLE_B_TWO_SPOILT, TABLE_C, TABLE_C_DELETED, TABLE_F, TABLE_G, TABLE_SPOILT,
+    TABLE_U_DELETED, TABLE_U_TWICE,
 };
 use coding::FaultName;
-use lying::worked::{DELETION_LEFT, TABLE, TABLE_SPOILT, TABLE_U_DELETED, TABLE_U_TWICE};
-use lying::{Case, Meta, Want};
 use table::Options;
 
 /// Blocks, restarts and files as they are where nothing is said.
@@ -112,7 +112,7 @@ pub const FOUR_WORKERS: &Case = &Case {
 pub const SPOILT: &Case = &Case {
     level: 1,
     files: &[A, C, B],
-    tables: &[TABLE_SPOILT, TABLE_C, TABLE_B_SPOILT],
+    tables: &[TABLE_SPOILT, TABLE_C, TABLE_B_TWO_SPOILT],
     grandparents: &[],
     deeper: &[],
     oldest: 1,

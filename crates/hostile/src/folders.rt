@@ -1,16 +1,16 @@
 //! A folder in memory, opened, installed into, compacted and asked, and the calls of other commands.
 
-use crate::worked::NEXT_TEN;
+use crate::fault::wanted;
+use crate::memory::Memory;
+use crate::worked::{
+    BOTH_ENTRIES, CURRENT_FIVE, FIRST_BLOCK, MANIFEST, NEXT_TEN, SECOND_BLOCK, TABLE_U_TWICE,
+};
 use coding::{Fault, FaultName};
 use commands::{dump, get_dir, manifest, verify};
 use edit::{Outcome, Version};
 use folder::{Shelf, load, open};
 use ikey::Bytewise;
 use install::install;
-use lying::worked::{
-    BOTH_ENTRIES, CURRENT_FIVE, FIRST_BLOCK, MANIFEST, SECOND_BLOCK, TABLE_U_TWICE,
-};
-use lying::{Memory, wanted};
 use pairing::blocks;
 use std::alloc::Global;
 use std::thread::Threads;

@@ -10,8 +10,13 @@
 
 mod boards;
 mod building;
+mod case;
 mod cases;
+mod damage;
+mod fault;
 mod folders;
+mod held;
+mod memory;
 mod planning;
 mod requests;
 mod resting;
@@ -19,9 +24,10 @@ mod rows;
 mod walking;
 mod worked;
 
+use crate::damage::print_claims;
+use crate::memory::{Memory, pieces};
 use anyhow::Result;
 use coding::Fault;
-use lying::{Memory, pieces, print_claims};
 use requests::REQUESTS;
 use rows::{ALONE, ONE_THREAD, RESTING, THREADS, run, run_growths};
 use std::alloc::Global;
@@ -102,7 +108,7 @@ fn run_beside<R: AllocGlobal + Print + Threads + Sync>(
         run(rt, memory, RESTING, 0)?;
         run_growths(rt, memory)?;
     }
-    lying::run(rt)?;
+    damage::run(rt)?;
     run(rt, memory, REQUESTS, 0)
 }
 

@@ -1,5 +1,6 @@
 //! Ranges merged, outputs planned and encoded, boards and splits.
 
+use crate::case::picked;
 use crate::cases::{DELETION, SMALLEST};
 use crate::walking::cursors_over;
 use crate::worked::{TABLE_ABC, TABLE_ABCD};
@@ -8,7 +9,6 @@ use coding::{Fault, FaultName};
 use cut::{Plan, plan};
 use ikey::Bytewise;
 use keep::{RangeRun, largest_rise, merge_range};
-use lying::picked;
 use pick::Inputs;
 use split::Split;
 use std::alloc::Global;

@@ -1,13 +1,14 @@
 //! Compactions that are refused, by their inputs and by what is stated of them, and those beside them that are accepted.
 
+use crate::case::{Case, Meta, Want, add_file, compacted, is_answer, picked};
+use crate::damage::mend_blocks;
 use crate::rows::{Row, Workers};
-use coding::Fault;
-use coding::FaultName::{Bounds, Duplicate, Magic, Options as OptionsFault, Trailer};
-use lying::worked::{
+use crate::worked::{
     A_AT_ONE, B_AT_ONE, B_AT_TWO, B_AT_ZERO, BLOCK_ENDS, C_AT_ONE, TABLE, TABLE_B_AT_ONE,
     TABLE_B_SPOILT, TABLE_OF_ANOTHER_MAGIC, TABLE_SPOILT, TABLE_U, U_AT_ONE,
 };
-use lying::{Case, Meta, Want, add_file, compacted, is_answer, mend_blocks, picked};
+use coding::Fault;
+use coding::FaultName::{Bounds, Duplicate, Magic, Options as OptionsFault, Trailer};
 use pick::Inputs;
 use std::alloc::Global;
 use std::thread::Threads;

@@ -2,10 +2,12 @@
 
 use crate::boards::{are_worked, is_closed};
 use crate::building::{add_entry, add_row, version_of};
+use crate::case::{picked, three_ranges};
 use crate::cases::{DELETION, SMALLEST};
+use crate::memory::Memory;
 use crate::planning::runs_of;
 use crate::walking::cursors_over;
-use crate::worked::VERSION_TEN;
+use crate::worked::{A_AT_ONE, A_AT_TWO, B_AT_ONE, BLOCK, TABLE, VERSION_TEN};
 use block::{BlockBuilder, BlockCursor};
 use board::Board;
 use coding::{
@@ -19,8 +21,6 @@ use frame::BlockHandle;
 use ikey::Kind::Put;
 use ikey::{Bytewise, Comparator, InternalKey, KeyBuf, Shortlex};
 use keep::{Mark, RangeRun, Snapshots, is_rising, largest_rise};
-use lying::worked::{A_AT_ONE, A_AT_TWO, B_AT_ONE, BLOCK, TABLE};
-use lying::{Memory, picked, three_ranges};
 use merge::{Merging, least_place};
 use pick::{Inputs, is_base};
 use split::Split;

@@ -1,8 +1,12 @@
 //! Rows of calls, each made while memory is short and then with memory to spare.
 
 use crate::building::{block_built, edited, logged, table_built};
+use crate::case::{Case, carried, is_answer, picked, three_ranges};
 use crate::cases::{DELETION, FOUR_WORKERS, GRANDPARENTS, OUTPUTS, SPOILT};
+use crate::fault::wanted;
 use crate::folders::{blocks_merged, folder_asked, folder_compacted, installed, table_dumped};
+use crate::held::Held;
+use crate::memory::Memory;
 use crate::planning::{chosen, planned, seated};
 use crate::requests::is_answered_of_many;
 use crate::resting::{blocks, board, numbers, plans, rules, tables, versions};
@@ -10,7 +14,6 @@ use crate::walking::{block_walked, merged, table_walked};
 use anyhow::Result;
 use coding::Fault;
 use ikey::Bytewise;
-use lying::{Case, Held, Memory, carried, is_answer, picked, three_ranges, wanted};
 use pick::Inputs;
 use split::Split;
 use std::sync::atomic::Ordering;

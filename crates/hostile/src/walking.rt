@@ -1,11 +1,11 @@
 //! Cursors. What a call moves is tried again where a growth was refused, which left it where it was.
 
-use crate::worked::{TABLE_ABCDE, TABLE_ACE, TABLE_ACF, TABLE_BD};
+use crate::fault::wanted;
+use crate::memory::Memory;
+use crate::worked::{A_AT_ONE, A_AT_TWO, BLOCK, TABLE_ABCDE, TABLE_ACE, TABLE_ACF, TABLE_BD};
 use block::BlockCursor;
 use coding::{Fault, FaultName};
 use ikey::{Bytewise, InternalKey};
-use lying::worked::{A_AT_ONE, A_AT_TWO, BLOCK};
-use lying::{Memory, wanted};
 use merge::Merging;
 use std::alloc::Global;
 use table::{Cursor, TableCursor, check};

@@ -3,10 +3,10 @@
 //! The table is that of `a` at 1 with the value `x`: its data block at 0, its metaindex block at 26, its index block at 39 and its footer
 //! at 66. Where a change is mended, the checksum of the block in which it stands is that of the changed block.
 
-use crate::call::Call;
-use crate::row::Expected::Only;
-use crate::row::Source::Plain;
-use crate::row::{Row, Way};
+use crate::damage::call::Call;
+use crate::damage::row::Expected::Only;
+use crate::damage::row::Source::Plain;
+use crate::damage::row::{Row, Way};
 use crate::worked::CURRENT_FIVE;
 use coding::FaultName::{
     Block, BlockType, Compressed, EditField, EditTag, Empty, Handle, Index, Key, LogChecksum,

@@ -1,34 +1,22 @@
-//! Calls over bytes that lie: what each call that takes bytes answers to bytes that were cut off, changed, or claim more than is there.
+//! Bytes that were cut off, changed, or claim more than is there, and what each call that takes bytes answers to them.
 //!
-//! [`run`] makes all calls and prints each row whose answers are right; what has to come is worked out from the formats and stands beside
-//! the bytes. [`print_claims`] makes those alone whose bytes claim more than is there, also while memory is short.
-//!
-//! [`Memory`] may be taken but for some bytes, [`Held`] holds a worker back, and [`Case`] is a compaction with what has to come of it, for
-//! the program that makes calls while memory is short or refused.
-#![tactic(auto)]
+//! [`run`] makes all calls and prints each row whose answers are right; what has to come is worked out from the formats and stands
+//! beside the bytes. [`print_claims`] makes those alone whose bytes claim more than is there, also while memory is short.
 
 mod beginnings;
 mod call;
-mod case;
 mod changes;
 mod claims;
-mod fault;
-mod held;
 mod limits;
-mod memory;
 mod row;
 mod rows;
-pub mod worked;
 
+use crate::memory::Memory;
 use anyhow::Result;
 use beginnings::BEGINNINGS;
-pub use case::{Case, Meta, Want, add_file, carried, compacted, is_answer, picked, three_ranges};
 use changes::CHANGES;
 use claims::CLAIMS;
-pub use fault::wanted;
-pub use held::Held;
 use limits::LIMITS;
-pub use memory::{Memory, pieces};
 pub use row::mend_blocks;
 use row::print_rows;
 use rows::ROWS;

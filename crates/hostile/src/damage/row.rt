@@ -1,6 +1,6 @@
 //! Rows of bytes, each with its answers.
 
-use crate::call::{Answer, Call, answer};
+use crate::damage::call::{Answer, Call, answer};
 use crate::fault::wanted;
 use crate::memory::Memory;
 use anyhow::Result;

@@ -26,10 +26,10 @@
 //! Its first fragment has 59 bytes, and its second 15. Each begins with its checksum of four bytes. Behind the second's stand
 //! 08 00 01 02 03 09 00 03 09 04 04: eleven bytes, of which three have one of the five values, so that they are changed 52 times.
 
-use crate::call::Call;
-use crate::row::Expected::{Each, Only};
-use crate::row::Source::Plain;
-use crate::row::{Mend, Row, Way};
+use crate::damage::call::Call;
+use crate::damage::row::Expected::{Each, Only};
+use crate::damage::row::Source::Plain;
+use crate::damage::row::{Mend, Row, Way};
 use crate::worked::{
     A_AT_ONE, BLOCK, BLOCK_ENDS, CURRENT_FIVE, DELETION_LEFT, EMPTY_LOG, MANIFEST, NOTHING_LEFT,
     TABLE,

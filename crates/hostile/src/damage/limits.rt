@@ -1,10 +1,10 @@
 //! Lengths at their limits, and a manifest that sets no number.
 
-use crate::call::Call;
-use crate::row::Expected::Only;
-use crate::row::Part::{Bytes, Fill};
-use crate::row::Source::{Joined, Plain};
-use crate::row::{Row, Way};
+use crate::damage::call::Call;
+use crate::damage::row::Expected::Only;
+use crate::damage::row::Part::{Bytes, Fill};
+use crate::damage::row::Source::{Joined, Plain};
+use crate::damage::row::{Row, Way};
 use coding::FaultName::{Apply, EditField, TooLarge};
 
 /// Bytes at the limits of their formats.

@@ -22,11 +22,11 @@
 //! - CURRENT ends with a newline. A manifest without a record names no comparator; one that ends behind its first record sets
 //!   no number.
 
-use crate::call::Call;
-use crate::row::Expected::{Each, Only};
-use crate::row::Part::{Bytes, Fill};
-use crate::row::Source::{Joined, Plain};
-use crate::row::{Row, Way};
+use crate::damage::call::Call;
+use crate::damage::row::Expected::{Each, Only};
+use crate::damage::row::Part::{Bytes, Fill};
+use crate::damage::row::Source::{Joined, Plain};
+use crate::damage::row::{Row, Way};
 use crate::worked::{
     A_AT_ONE, BLOCK, BOTH_ENTRIES, CURRENT_FIVE, DELETION_LEFT, EMPTY_LOG, EMPTY_SNAPSHOT,
     FIRST_BLOCK, MANIFEST, NO_ENTRY, NOTHING_LEFT, SECOND_BLOCK, TABLE, TABLE_THREE_BLOCKS,

@@ -1,9 +1,9 @@
 //! Lengths that are claimed and not there.
 
-use crate::call::Call;
-use crate::row::Expected::Only;
-use crate::row::Source::Plain;
-use crate::row::{Row, Way};
+use crate::damage::call::Call;
+use crate::damage::row::Expected::Only;
+use crate::damage::row::Source::Plain;
+use crate::damage::row::{Row, Way};
 use coding::FaultName::{Block, EditField, LogShape, Range};
 
 /// The greatest number that four bytes hold.

@@ -1,4 +1,4 @@
-//! Figures of blocks: checked, walked over and written.
+//! Figures of blocks: checked and walked over.
 
 ghost use Rattle.std.specs.Prelude.{◌<◌, ◌≡◌, length};
 ghost use Rattle.block.specs.Writing.{block};
@@ -24,31 +24,27 @@ pub fn measure(
 ) -> Result<(), Fault> {
     let blocks = written(rt.alloc(), values)?;
     let sound = all_sound(rt.alloc(), &blocks)?;
-    take(rt, values, &blocks, &sound, figures)
+    take(rt, values.len(), &blocks, &sound, figures)
 }
 
 /// Takes the figures of these blocks.
 fn take(
     rt: &HostRuntime,
-    values: &[[u8; VALUE_LEN]],
+    entries: usize,
     blocks: &[Vec<u8>],
     sound: &[SoundBlock<'_>],
     figures: &mut Figures,
 ) -> Result<(), Fault> {
     let extent = Extent {
         bytes: len_of(blocks),
-        entries: values.len(),
+        entries,
     };
-    let works = [
-        Work::BlockCheck(blocks),
-        Work::BlockWalk(sound),
-        Work::BlockBuilder(values),
-    ];
+    let works = [Work::BlockCheck(blocks), Work::BlockWalk(sound)];
     figures.take(rt, extent, &works)
 }
 
 /// Blocks of entries whose keys rise and whose values are these.
-pub fn written(alloc: Global, values: &[[u8; VALUE_LEN]]) -> Result<Vec<Vec<u8>>, Fault> {
+fn written(alloc: Global, values: &[[u8; VALUE_LEN]]) -> Result<Vec<Vec<u8>>, Fault> {
     let mut blocks = Vec::new(alloc);
     let mut builder = BlockBuilder::new(alloc, INTERVAL);
     for (i, value) in values.iter().enumerate() {

@@ -35,7 +35,7 @@ pub struct Figures {
     pub folded: u32,
     /// What the last work gave.
     pub given: u32,
-    /// Whether a plain way had another answer, or more workers.
+    /// Whether more workers gave something else.
     pub differ: bool,
 }
 
@@ -83,25 +83,14 @@ impl Figures {
         self.take(rt, extent, &[work])
     }
 
-    /// Takes the figures of two works that are done in turn.
-    pub fn take_two<'w>(
-        &mut self,
-        rt: &HostRuntime,
-        extent: Extent,
-        first: Work<'w>,
-        second: Work<'w>,
-    ) -> Result<(), Fault> {
-        self.take(rt, extent, &[first, second])
-    }
-
     /// Does some work once, and gives how long it took.
     fn once(&mut self, rt: &HostRuntime, work: &Work<'_>) -> Result<Duration, Fault> {
         let (given, time) = timed(rt, work, &mut self.target)?;
-        self.note(given, work.is_the_same());
+        self.note(given, false);
         Ok(time)
     }
 
-    /// Notes what some work gave, and where it is not the same as what the work before it gave, if it has to be.
+    /// Notes what some work gave, and whether that is what the work before it gave, if it has to be.
     pub fn note(&mut self, given: u32, is_the_same: bool) {
         if is_the_same && given != self.given {
             self.differ = true;

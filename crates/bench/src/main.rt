@@ -2,18 +2,16 @@
 //!
 //! With the word `full` it times them over 64 MiB and prints a table. `bench compact DIR ROUNDS RANGES` reads the tables of a
 //! database folder once, picks the inputs of level 0, and times the call `compact` alone by one, two and four workers in turn, over
-//! at most so many ranges; nothing is written to the folder. Without words, it makes the same calls but the reading of a file over a
-//! few blocks and a small folder, and prints what is the same on each machine.
+//! at most so many ranges; nothing is written to the folder. Without words, it makes the same calls over a few blocks and a small
+//! folder, and prints what is the same on each machine.
 #![tactic(auto)]
 
 mod blocks;
 mod compaction;
 mod entries;
 mod figures;
-mod files;
 mod jobs;
 mod made;
-mod manifests;
 mod ranges;
 mod sums;
 mod tables;
@@ -36,20 +34,14 @@ use work::{Work, told};
 enum Part {
     Copy,
     Sums,
-    SumByBit,
     Blocks,
     Tables(Group),
-    /// Keys compared, near ones or far ones.
-    Keys(bool),
-    /// Manifests, whose files stand in one record or in many.
-    Manifests(bool),
 }
 
-/// What is timed without workers and files, in the order of the figures.
+/// What is timed without workers, in the order of the figures.
 const PARTS: &[Part] = &[
     Part::Copy,
     Part::Sums,
-    Part::SumByBit,
     Part::Blocks,
     Part::Tables(Group::Whole),
     Part::Tables(Group::Seeks),
@@ -61,11 +53,6 @@ const PARTS: &[Part] = &[
     Part::Tables(Group::Range),
     Part::Tables(Group::Outputs),
     Part::Tables(Group::Lawful),
-    Part::Tables(Group::Split),
-    Part::Keys(true),
-    Part::Keys(false),
-    Part::Manifests(false),
-    Part::Manifests(true),
 ];
 /// The folder of the run without words.
 const SMALL: &str = "mixed";
@@ -77,10 +64,6 @@ struct Extent {
     bytes: usize,
     /// How many jobs a run of the board has.
     jobs: u32,
-    /// How many files manifests have.
-    files: u64,
-    /// How many keys are compared, each with each.
-    keys: usize,
     /// The rounds, of which the fastest counts.
     rounds: u32,
 }
@@ -89,16 +72,12 @@ struct Extent {
 const FULL: Extent = Extent {
     bytes: 64 << 20,
     jobs: 1_000_000,
-    files: 100_000,
-    keys: 640,
     rounds: 7,
 };
 /// The run without it: a few blocks.
 const TINY: Extent = Extent {
     bytes: 64 << 10,
     jobs: 1_000,
-    files: 500,
-    keys: 20,
     rounds: 1,
 };
 
@@ -153,33 +132,27 @@ fn number(word: Option<String>, otherwise: u64) -> u64 {
     }
 }
 
-/// Takes the figures of a run that does so much, but those of workers and of a file, and gives the bytes that they are taken of.
-fn measure(rt: &HostRuntime, extent: &Extent, figures: &mut Figures) -> Result<Vec<u8>, Fault> {
+/// Takes the figures of a run that does so much, but those of workers.
+fn measure(rt: &HostRuntime, extent: &Extent, figures: &mut Figures) -> Result<(), Fault> {
     let bytes = entries::random(rt.alloc(), extent.bytes)?;
     for part in PARTS {
-        measure_part(rt, *part, extent, &bytes, figures)?;
+        measure_part(rt, *part, &bytes, figures)?;
     }
-    Ok(bytes)
+    Ok(())
 }
 
 /// Takes the figures of a part.
 fn measure_part(
     rt: &HostRuntime,
     part: Part,
-    extent: &Extent,
     bytes: &[u8],
     figures: &mut Figures,
 ) -> Result<(), Fault> {
-    // A sixteenth is enough for what goes bit by bit.
-    let (sixteenth, _) = bytes.split_at(bytes.len() / 16);
     match part {
         Part::Copy => sums::measure_copy(rt, bytes, figures),
-        Part::Sums => figures.take_two(rt, over(bytes), Work::Crc(bytes), Work::CrcByTable(bytes)),
-        Part::SumByBit => figures.take_one(rt, over(sixteenth), Work::CrcByBit(sixteenth)),
+        Part::Sums => figures.take_one(rt, over(bytes), Work::Crc(bytes)),
         Part::Blocks => blocks::measure(rt, values_of(bytes, VALUE_LEN + 4), figures),
         Part::Tables(group) => tables::measure(rt, bytes, group, figures),
-        Part::Keys(are_near) => sums::measure_keys(rt, bytes, extent.keys, are_near, figures),
-        Part::Manifests(in_many) => manifests::measure(rt, extent.files, in_many, figures),
     }
 }
 
@@ -194,7 +167,7 @@ fn run_tiny<R: Threads + Sync>(
     compaction::measure(rt, threads, SMALL, 8, figures)
 }
 
-/// The run with `full`. It writes a file into a folder of its own.
+/// The run with `full`.
 fn run_full<R: Threads + Sync>(
     rt: &HostRuntime,
     threads: &R,
@@ -202,8 +175,7 @@ fn run_full<R: Threads + Sync>(
 ) -> Result<(), Fault> {
     figures.rounds = FULL.rounds;
     figures.are_printed = true;
-    let bytes = measure(rt, &FULL, figures)?;
-    files::measure(rt, &bytes, figures)?;
+    measure(rt, &FULL, figures)?;
     end_full(rt, threads, figures)
 }
 
@@ -245,7 +217,7 @@ fn run<R: Threads + Sync>(
 fn main(rt: HostRuntime) -> Result<()> {
     let mut figures = Figures::new(rt.alloc());
     run(&rt, &rt, &mut figures)?;
-    ensure!(!figures.differ, "two ways to one answer differ");
+    ensure!(!figures.differ, "several workers give something else");
     println!(rt; "bench: all figures were taken")?;
     Ok(())
 }

@@ -9,7 +9,7 @@ use crate::work::Work;
 use crate::{ranges, versions};
 use coding::Fault;
 use ikey::{Bytewise, InternalKey};
-use merge::{Merging, least_place};
+use merge::Merging;
 use std::alloc::Global;
 use std::mem;
 use table::{Cursor, SoundTable, TableBuilder, TableCursor};
@@ -37,8 +37,6 @@ pub enum Group {
     Outputs,
     /// Whether the tables of a version are lawful.
     Lawful,
-    /// A split of their user keys.
-    Split,
 }
 
 impl Group {
@@ -51,7 +49,7 @@ impl Group {
             ),
             Group::Cursors(above) => (Deal { above, below: 0 }, 8 * VALUE_LEN),
             Group::Range | Group::Outputs => (Deal { above: 9, below: 0 }, ENTRY_LEN),
-            Group::Lawful | Group::Split => (versions::TABLES, ENTRY_LEN),
+            Group::Lawful => (versions::TABLES, ENTRY_LEN),
         }
     }
 }
@@ -93,16 +91,10 @@ fn take(
         Group::Whole => take_whole(rt, whole, values, written, tables, figures),
         Group::Seeks => figures.take_one(rt, seeks, Work::TableSeek(tables, entries)),
         Group::Builder => figures.take_one(rt, whole, Work::TableBuilder(values)),
-        Group::Cursors(_) => figures.take_two(
-            rt,
-            each,
-            Work::Merge(tables, entries),
-            Work::Pass(tables, entries),
-        ),
+        Group::Cursors(_) => figures.take_one(rt, each, Work::Merge(tables, entries)),
         Group::Range => figures.take_one(rt, whole, Work::MergeRange(tables)),
         Group::Outputs => ranges::take(rt, tables, entries, figures),
         Group::Lawful => versions::take(rt, each, written, tables, figures),
-        Group::Split => versions::take_split(rt, tables, figures),
     }
 }
 
@@ -243,26 +235,4 @@ pub fn merged(
 ) -> Result<u32, Fault> {
     let mut merging = Merging::<Bytewise, _>::new(alloc, cursors(alloc, tables)?)?;
     walked(&mut merging, entries)
-}
-
-/// The same, where each entry is found by a pass over all cursors.
-pub fn passed(
-    alloc: Global,
-    tables: &[SoundTable<'_, Bytewise>],
-    entries: usize,
-) -> Result<u32, Fault> {
-    let mut cursors = cursors(alloc, tables)?;
-    let mut folded = 0u32;
-    for _entry in 0..entries {
-        folded = folded.wrapping_add(pass(&mut cursors)?);
-    }
-    Ok(folded)
-}
-
-/// What the least of the first entries of some cursors holds last, which is taken off; 0 where there is none.
-fn pass(cursors: &mut [TableCursor<'_, Bytewise>]) -> Result<u32, Fault> {
-    match least_place::<Bytewise, _>(cursors) {
-        Some(place) if place < cursors.len() => taken(&mut cursors[place]),
-        _ => Ok(0),
-    }
 }

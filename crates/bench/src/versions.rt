@@ -1,20 +1,16 @@
-//! Figures of a version's tables: whether they are lawful, beside a check of each two of them, and a split of their user keys,
-//! beside a sort of owned keys.
+//! The figure of a version's tables: whether they are lawful.
 
-ghost use Rattle.std.specs.Prelude.{◌<◌, length};
+ghost use Rattle.std.specs.Prelude.{◌<◌, ◌^◌, length};
 
-use crate::entries::{Deal, last_of};
+use crate::entries::Deal;
 use crate::figures::{Extent, Figures};
-use crate::manifests::push_file;
 use crate::work::Work;
-use coding::{Fault, FaultName};
+use coding::{Fault, push_slice, push_varint};
 use edit::{Version, VersionEdit};
-use ikey::{Bytewise, Comparator};
+use ikey::Bytewise;
 use reads::{NumberedTable, lawful};
-use split::Split;
 use std::alloc::Global;
-use std::cmp::Ordering;
-use table::{Cursor, SoundTable, TableCursor, check};
+use table::{SoundTable, check};
 
 /// The tables at level 0, and those at level 1.
 pub const TABLES: Deal = Deal {
@@ -23,10 +19,10 @@ pub const TABLES: Deal = Deal {
 };
 /// The field of the next file's number, 25.
 const NEXT_FILE: [u8; 2] = [3, 25];
-/// How many ranges are wanted of a split.
-const RANGES: usize = 16;
+/// The tag of a new file.
+const NEW_FILE: u64 = 7;
 
-/// Takes the figures of whether these tables are a lawful version.
+/// Takes the figure of whether these tables are a lawful version.
 pub fn take(
     rt: &HostRuntime,
     extent: Extent,
@@ -36,20 +32,7 @@ pub fn take(
 ) -> Result<(), Fault> {
     let version = version_of(rt.alloc(), tables)?;
     let numbered = numbered(rt.alloc(), written)?;
-    take_lawful(rt, extent, &version, &numbered, tables, figures)
-}
-
-/// The same, where the version is made.
-fn take_lawful(
-    rt: &HostRuntime,
-    extent: Extent,
-    version: &Version,
-    numbered: &[NumberedTable<'_, Bytewise>],
-    tables: &[SoundTable<'_, Bytewise>],
-    figures: &mut Figures,
-) -> Result<(), Fault> {
-    let lawful = Work::Lawful(version, numbered);
-    figures.take_two(rt, extent, lawful, Work::LawfulByPairs(tables))
+    figures.take_one(rt, extent, Work::Lawful(&version, &numbered))
 }
 
 /// The tables with falling numbers, the last of which is 1.
@@ -97,149 +80,20 @@ pub fn tested(
     Ok(1)
 }
 
-/// The same, found by a walk over each two tables whose ranges of user keys overlap.
-pub fn tested_by_pairs(alloc: Global, tables: &[SoundTable<'_, Bytewise>]) -> Result<u32, Fault> {
-    for (place, table) in tables.iter().enumerate() {
-        let are = are_newer(alloc, table, &tables[place + 1..])?;
-        if !are {
-            return Err(Fault::of(FaultName::Lawless));
-        }
-    }
-    Ok(1)
-}
-
-/// Whether a table's entries are newer than those of the tables behind it.
-fn are_newer(
-    alloc: Global,
-    table: &SoundTable<'_, Bytewise>,
-    behind: &[SoundTable<'_, Bytewise>],
-) -> Result<bool, Fault> {
-    for other in behind {
-        if overlap(table, other) && !is_newer(alloc, table, other)? {
-            return Ok(false);
-        }
-    }
-    Ok(true)
-}
-
-/// Whether each entry of one table has a greater sequence than each entry of its user key in another.
-fn is_newer(
-    alloc: Global,
-    table: &SoundTable<'_, Bytewise>,
-    other: &SoundTable<'_, Bytewise>,
-) -> Result<bool, Fault> {
-    let mut above = TableCursor::new(alloc, table)?;
-    let mut below = TableCursor::new(alloc, other)?;
-    has_newer_entries(&mut above, &mut below)
-}
-
-/// Whether the ranges of user keys of two tables overlap.
-fn overlap(table: &SoundTable<'_, Bytewise>, other: &SoundTable<'_, Bytewise>) -> bool {
-    !Bytewise::compare(table.largest().user(), other.smallest().user()).is_lt()
-        && !Bytewise::compare(other.largest().user(), table.smallest().user()).is_lt()
-}
-
-/// The same of two cursors. It walks over both once.
-fn has_newer_entries(
-    above: &mut TableCursor<'_, Bytewise>,
-    below: &mut TableCursor<'_, Bytewise>,
-) -> Result<bool, Fault> {
-    for _step in 0..u64::MAX {
-        if let Some(answer) = step(above, below)? {
-            return Ok(answer);
-        }
-    }
-    Ok(true)
-}
-
-/// Takes the first entry off the one of two cursors whose first user key is not greater. Before, the answer where there is one: one of
-/// the cursors has ended, or their user keys are one, and the sequence above is not greater.
-fn step(
-    above: &mut TableCursor<'_, Bytewise>,
-    below: &mut TableCursor<'_, Bytewise>,
-) -> Result<Option<bool>, Fault> {
-    if !above.valid() || !below.valid() {
-        return Ok(Some(true));
-    }
-    match order_of(above, below) {
-        Some(order) if order.is_gt() => below.advance()?,
-        Some(_) => above.advance()?,
-        None => return Ok(Some(false)),
-    }
-    Ok(None)
-}
-
-/// How the user keys of two cursors' first entries are ordered. None where they are one, and the sequence of the first entry is
-/// not greater than that of the other.
-fn order_of(
-    above: &TableCursor<'_, Bytewise>,
-    below: &TableCursor<'_, Bytewise>,
-) -> Option<Ordering>
-    requires above { 0 < length above.now }
-    requires below { 0 < length below.now }
+/// Appends a new-file field: the level, the number and the length of a table, and its smallest and its largest key.
+fn push_file(
+    fields: &mut Vec<u8>,
+    numbers: [u64; 3],
+    smallest: &[u8],
+    largest: &[u8],
+) -> Result<(), Fault>
+    requires smallest { length smallest.now < 2 ^ 32 }
+    requires largest { length largest.now < 2 ^ 32 }
 {
-    let key = above.key();
-    let other = below.key();
-    let order = Bytewise::compare(key.user(), other.user());
-    if order.is_eq() && key.sequence() <= other.sequence() {
-        None
-    } else {
-        Some(order)
+    push_varint(fields, NEW_FILE)?;
+    for number in numbers.iter() {
+        push_varint(fields, *number)?;
     }
-}
-
-/// Takes the figures of a split of the user keys in the indexes of these tables.
-pub fn take_split(
-    rt: &HostRuntime,
-    tables: &[SoundTable<'_, Bytewise>],
-    figures: &mut Figures,
-) -> Result<(), Fault> {
-    let entries = owned_keys(rt.alloc(), tables)?.len();
-    let extent = Extent { bytes: 0, entries };
-    figures.take_two(rt, extent, Work::Choose(tables), Work::Sort(tables))
-}
-
-/// The sum of the last bytes of a split's boundaries.
-pub fn chosen(alloc: Global, tables: &[SoundTable<'_, Bytewise>]) -> Result<u32, Fault> {
-    let split = Split::choose(alloc, tables, RANGES as u64)?;
-    let mut folded = 0u32;
-    for number in 0..split.len() {
-        if let Some(lower) = split.range(number).lower {
-            folded = folded.wrapping_add(last_of(lower));
-        }
-    }
-    Ok(folded)
-}
-
-/// The same, of keys that each own their bytes.
-pub fn sorted(alloc: Global, tables: &[SoundTable<'_, Bytewise>]) -> Result<u32, Fault> {
-    let mut keys = owned_keys(alloc, tables)?;
-    keys.sort_by(|key, other| Bytewise::compare(key, other))?;
-    keys.dedup();
-    Ok(folded_at_boundaries(&keys))
-}
-
-/// The user keys in the indexes of these tables.
-fn owned_keys(alloc: Global, tables: &[SoundTable<'_, Bytewise>]) -> Result<Vec<Vec<u8>>, Fault> {
-    let mut keys = Vec::new(alloc);
-    for table in tables {
-        keys.append(&mut table.index_users(alloc)?)?;
-    }
-    Ok(keys)
-}
-
-/// The sum of the last bytes of the keys at the places of the boundaries, each once.
-fn folded_at_boundaries(keys: &[Vec<u8>]) -> u32 {
-    let mut folded = 0u32;
-    let mut last = None;
-    for number in 1..RANGES {
-        let place = number.saturating_mul(keys.len()) / RANGES;
-        if let Some(key) = keys.get(place) {
-            if last != Some(place) {
-                folded = folded.wrapping_add(last_of(key));
-            }
-        }
-        last = Some(place);
-    }
-    folded
+    push_slice(fields, smallest)?;
+    push_slice(fields, largest)
 }

@@ -2,12 +2,12 @@
 #![tactic(auto)]
 
 #[cfg(test)]
-mod ahead;
+mod folder_ahead_tests;
 #[cfg(test)]
-mod disk;
+mod folder_disk_tests;
 #[cfg(test)]
-mod installs;
+mod folder_opening_tests;
 #[cfg(test)]
-mod opening;
+mod folder_shelf_tests;
 #[cfg(test)]
-mod shelf;
+mod install_tests;

@@ -8,24 +8,31 @@ use std::alloc::Global;
 use std::process::Abort;
 
 /// The field of the bytewise comparator's name.
+/// `edit: comparator leveldb.BytewiseComparator`
 const BYTEWISE: &[u8] = b"\x01\x1aleveldb.BytewiseComparator";
 
 /// The field of the shortlex comparator's name.
+/// `edit: comparator subcompaction.ShortlexComparator`
 const SHORTLEX: &[u8] = b"\x01\x20subcompaction.ShortlexComparator";
 
 /// The field of another comparator's name.
+/// `edit: comparator other`
 const ANOTHER: &[u8] = b"\x01\x05other";
 
 /// Log number 3, previous log number 0, next file 9, last sequence 4.
+/// `edit: log 3, previous 0, next 9, last 4`
 const NUMBERS: &[u8] = b"\x02\x03\x09\0\x03\x09\x04\x04";
 
 /// Log number 3, next file 6, last sequence 4. The manifest's number is just below 6.
+/// `edit: log 3, next 6, last 4`
 const NO_PREVIOUS: &[u8] = b"\x02\x03\x03\x06\x04\x04";
 
-/// A new file at level 1, of number 7 and 125 bytes, from a deletion of `u` at sequence 4 to a value of it at 2.
+/// A new file at level 1, of number 7 and 125 bytes, from a deletion of `u` at sequence 4 to a
+/// value of it at 2.
+/// `edit: file 1 7 125 u@4 del .. u@2 put`
 const SEVEN: &[u8] = b"\x07\x01\x07\x7d\x09u\0\x04\0\0\0\0\0\0\x09u\x01\x02\0\0\0\0\0\0";
 
-/// The deletion of a file that isn't there.
+/// `edit: delete 1 8`
 const ABSENT: &[u8] = b"\x06\x01\x08";
 
 /// The order of a folder, and its log number, previous log number, next file and last sequence.
@@ -145,17 +152,16 @@ pub(crate) type Tables = &'static [(u64, &'static [u8])];
 
 const CURRENT_FIVE: (&str, &[u8]) = ("CURRENT", b"MANIFEST-000005\n");
 
-/// A log of one record: the bytewise comparator, the same numbers, and new files of one key each: number 5 at level 1, and at
-/// level 0 number 3 of `b` and number 8 of `a`.
+/// `log: comparator leveldb.BytewiseComparator, log 3, previous 0, next 9, last 4, file 1 5 100
+/// a@1 put .. a@1 put, file 0 3 100 b@1 put .. b@1 put, file 0 8 100 a@2 put .. a@2 put`
 pub(crate) const THREE_FILES: &[u8] = b"\
-    \x86\x09\xdb\x83\x6c\0\x01\x01\x1aleveldb.BytewiseComparator\x02\x03\x09\0\x03\x09\x04\x04\
-    \x07\x01\x05d\x09a\x01\x01\0\0\0\0\0\0\x09a\x01\x01\0\0\0\0\0\0\
-    \x07\0\x03d\x09b\x01\x01\0\0\0\0\0\0\x09b\x01\x01\0\0\0\0\0\0\
-    \x07\0\x08d\x09a\x01\x02\0\0\0\0\0\0\x09a\x01\x02\0\0\0\0\0\0";
+    \x86\x09\xdb\x83l\0\x01\x01\x1aleveldb.BytewiseComparator\x02\x03\x09\0\x03\x09\x04\x04\x07\
+    \x01\x05d\x09a\x01\x01\0\0\0\0\0\0\x09a\x01\x01\0\0\0\0\0\0\x07\0\x03d\x09b\x01\x01\0\0\0\0\0\
+    \0\x09b\x01\x01\0\0\0\0\0\0\x07\0\x08d\x09a\x01\x02\0\0\0\0\0\0\x09a\x01\x02\0\0\0\0\0\0";
 
-/// The same without a file.
+/// `log: comparator leveldb.BytewiseComparator, log 3, previous 0, next 9, last 4`
 const NO_FILE: &[u8] =
-    b"\xcd\xf0\xe1\x42\x24\0\x01\x01\x1aleveldb.BytewiseComparator\x02\x03\x09\0\x03\x09\x04\x04";
+    b"\xcd\xf0\xe1B\x24\0\x01\x01\x1aleveldb.BytewiseComparator\x02\x03\x09\0\x03\x09\x04\x04";
 
 /// The same without its last byte.
 const TORN: &[u8] =

@@ -1,4 +1,4 @@
-use crate::installs::crashes::{made_at, make_left};
+use crate::install_tests::crashes::{made_at, make_left};
 use coding::{Fault, FaultName};
 use edit::{Outcome, Version};
 use folder::{Failing, Folder, FolderFault, Order, Shelf, ShelfStep, load, open};
@@ -7,12 +7,12 @@ use install::install;
 use std::alloc::Global;
 use std::process::Abort;
 
-/// A log of one record: the comparator, log number 3, previous log number 0, next file 8, last sequence 4, and new files at
-/// level 1, number 6 of 3 bytes for `t` and number 7 of 5 bytes for `u`.
+/// `log: comparator leveldb.BytewiseComparator, log 3, previous 0, next 8, last 4, file 1 6 3 t@1
+/// put .. t@1 put, file 1 7 5 u@2 put .. u@2 put`
 const MANIFEST: &[u8] = b"\
-    \xb7\xaf\x65\x81\x54\0\x01\x01\x1aleveldb.BytewiseComparator\x02\x03\x09\0\x03\x08\x04\x04\
-    \x07\x01\x06\x03\x09t\x01\x01\0\0\0\0\0\0\x09t\x01\x01\0\0\0\0\0\0\
-    \x07\x01\x07\x05\x09u\x01\x02\0\0\0\0\0\0\x09u\x01\x02\0\0\0\0\0\0";
+    \xb7\xafe\x81T\0\x01\x01\x1aleveldb.BytewiseComparator\x02\x03\x09\0\x03\x08\x04\x04\x07\x01\
+    \x06\x03\x09t\x01\x01\0\0\0\0\0\0\x09t\x01\x01\0\0\0\0\0\0\x07\x01\x07\x05\x09u\x01\x02\0\0\0\
+    \0\0\0\x09u\x01\x02\0\0\0\0\0\0";
 
 /// The files of the version before: file 6 has its older name, and file 9 was left by an earlier failure.
 const FILES: &[(&str, &[u8])] = &[

@@ -1,7 +1,7 @@
 //! Tables of a folder of the system that are read ahead.
 
-use crate::disk::{has, makes, new_path};
-use crate::opening::{NamedFiles, THREE_FILES, Tables, are_loaded, version_of};
+use crate::folder_disk_tests::{has, makes, new_path};
+use crate::folder_opening_tests::{NamedFiles, THREE_FILES, Tables, are_loaded, version_of};
 use coding::FaultName;
 use edit::Version;
 use folder::*;
@@ -71,12 +71,12 @@ const LATER: Result<Tables, FaultName> = Ok(&[
     (5, b"five"),
 ]);
 
-/// A log of one record: the shortlex comparator, log number 3, previous log number 0, next file 9, last sequence 4, and new files
-/// at level 1, of one key each: number 4 of `aa` and number 6 of `b`, which comes first in this order.
+/// `log: comparator subcompaction.ShortlexComparator, log 3, previous 0, next 9, last 4, file 1 4
+/// 100 aa@1 put .. aa@1 put, file 1 6 100 b@1 put .. b@1 put`
 const SHORTER_FIRST: &[u8] = b"\
-    \xc9\x3e\x9b\x25\x5c\0\x01\x01\x20subcompaction.ShortlexComparator\x02\x03\x09\0\x03\x09\x04\x04\
-    \x07\x01\x04d\x0aaa\x01\x01\0\0\0\0\0\0\x0aaa\x01\x01\0\0\0\0\0\0\
-    \x07\x01\x06d\x09b\x01\x01\0\0\0\0\0\0\x09b\x01\x01\0\0\0\0\0\0";
+    \xc9\x3e\x9b\x25\x5c\0\x01\x01\x20subcompaction.ShortlexComparator\x02\x03\x09\0\x03\x09\x04\
+    \x04\x07\x01\x04d\x0aaa\x01\x01\0\0\0\0\0\0\x0aaa\x01\x01\0\0\0\0\0\0\x07\x01\x06d\x09b\x01\
+    \x01\0\0\0\0\0\0\x09b\x01\x01\0\0\0\0\0\0";
 
 /// Their tables, which are loaded in this order as they were read ahead, and then as they were written anew.
 const TWO: Trial = Trial {
@@ -92,27 +92,27 @@ const TWO: Trial = Trial {
     ..THREE
 };
 
-/// A log of one record: the bytewise comparator, log number 3, next file 100, last sequence 4, and new files at level 1, of one
-/// key each. They are more than are read at once, and their numbers fall where their keys rise.
+/// `log: comparator leveldb.BytewiseComparator, log 3, next 100, last 4, file 1 51 1 q@1 put ..
+/// q@1 put, file 1 52 1 p@1 put .. p@1 put, file 1 53 1 o@1 put .. o@1 put, file 1 54 1 n@1 put ..
+/// n@1 put, file 1 55 1 m@1 put .. m@1 put, file 1 56 1 l@1 put .. l@1 put, file 1 57 1 k@1 put ..
+/// k@1 put, file 1 58 1 j@1 put .. j@1 put, file 1 59 1 i@1 put .. i@1 put, file 1 60 1 h@1 put ..
+/// h@1 put, file 1 61 1 g@1 put .. g@1 put, file 1 62 1 f@1 put .. f@1 put, file 1 63 1 e@1 put ..
+/// e@1 put, file 1 64 1 d@1 put .. d@1 put, file 1 65 1 c@1 put .. c@1 put, file 1 66 1 b@1 put ..
+/// b@1 put, file 1 67 1 a@1 put .. a@1 put`
 const MANY_FILES: &[u8] = b"\
-    \x7a\x2f\x9f\xe1\xba\x01\x01\x01\x1aleveldb.BytewiseComparator\x02\x03\x03\x64\x04\x04\
-    \x07\x01\x33\x01\x09q\x01\x01\0\0\0\0\0\0\x09q\x01\x01\0\0\0\0\0\0\
-    \x07\x01\x34\x01\x09p\x01\x01\0\0\0\0\0\0\x09p\x01\x01\0\0\0\0\0\0\
-    \x07\x01\x35\x01\x09o\x01\x01\0\0\0\0\0\0\x09o\x01\x01\0\0\0\0\0\0\
-    \x07\x01\x36\x01\x09n\x01\x01\0\0\0\0\0\0\x09n\x01\x01\0\0\0\0\0\0\
-    \x07\x01\x37\x01\x09m\x01\x01\0\0\0\0\0\0\x09m\x01\x01\0\0\0\0\0\0\
-    \x07\x01\x38\x01\x09l\x01\x01\0\0\0\0\0\0\x09l\x01\x01\0\0\0\0\0\0\
-    \x07\x01\x39\x01\x09k\x01\x01\0\0\0\0\0\0\x09k\x01\x01\0\0\0\0\0\0\
-    \x07\x01\x3a\x01\x09j\x01\x01\0\0\0\0\0\0\x09j\x01\x01\0\0\0\0\0\0\
-    \x07\x01\x3b\x01\x09i\x01\x01\0\0\0\0\0\0\x09i\x01\x01\0\0\0\0\0\0\
-    \x07\x01\x3c\x01\x09h\x01\x01\0\0\0\0\0\0\x09h\x01\x01\0\0\0\0\0\0\
-    \x07\x01\x3d\x01\x09g\x01\x01\0\0\0\0\0\0\x09g\x01\x01\0\0\0\0\0\0\
-    \x07\x01\x3e\x01\x09f\x01\x01\0\0\0\0\0\0\x09f\x01\x01\0\0\0\0\0\0\
-    \x07\x01\x3f\x01\x09e\x01\x01\0\0\0\0\0\0\x09e\x01\x01\0\0\0\0\0\0\
-    \x07\x01\x40\x01\x09d\x01\x01\0\0\0\0\0\0\x09d\x01\x01\0\0\0\0\0\0\
-    \x07\x01\x41\x01\x09c\x01\x01\0\0\0\0\0\0\x09c\x01\x01\0\0\0\0\0\0\
-    \x07\x01\x42\x01\x09b\x01\x01\0\0\0\0\0\0\x09b\x01\x01\0\0\0\0\0\0\
-    \x07\x01\x43\x01\x09a\x01\x01\0\0\0\0\0\0\x09a\x01\x01\0\0\0\0\0\0";
+    z\x2f\x9f\xe1\xba\x01\x01\x01\x1aleveldb.BytewiseComparator\x02\x03\x03d\x04\x04\x07\x013\x01\
+    \x09q\x01\x01\0\0\0\0\0\0\x09q\x01\x01\0\0\0\0\0\0\x07\x014\x01\x09p\x01\x01\0\0\0\0\0\0\x09p\
+    \x01\x01\0\0\0\0\0\0\x07\x015\x01\x09o\x01\x01\0\0\0\0\0\0\x09o\x01\x01\0\0\0\0\0\0\x07\x016\
+    \x01\x09n\x01\x01\0\0\0\0\0\0\x09n\x01\x01\0\0\0\0\0\0\x07\x017\x01\x09m\x01\x01\0\0\0\0\0\0\
+    \x09m\x01\x01\0\0\0\0\0\0\x07\x018\x01\x09l\x01\x01\0\0\0\0\0\0\x09l\x01\x01\0\0\0\0\0\0\x07\
+    \x019\x01\x09k\x01\x01\0\0\0\0\0\0\x09k\x01\x01\0\0\0\0\0\0\x07\x01\x3a\x01\x09j\x01\x01\0\0\0\
+    \0\0\0\x09j\x01\x01\0\0\0\0\0\0\x07\x01\x3b\x01\x09i\x01\x01\0\0\0\0\0\0\x09i\x01\x01\0\0\0\0\
+    \0\0\x07\x01\x3c\x01\x09h\x01\x01\0\0\0\0\0\0\x09h\x01\x01\0\0\0\0\0\0\x07\x01\x3d\x01\x09g\
+    \x01\x01\0\0\0\0\0\0\x09g\x01\x01\0\0\0\0\0\0\x07\x01\x3e\x01\x09f\x01\x01\0\0\0\0\0\0\x09f\
+    \x01\x01\0\0\0\0\0\0\x07\x01\x3f\x01\x09e\x01\x01\0\0\0\0\0\0\x09e\x01\x01\0\0\0\0\0\0\x07\x01\
+    \x40\x01\x09d\x01\x01\0\0\0\0\0\0\x09d\x01\x01\0\0\0\0\0\0\x07\x01A\x01\x09c\x01\x01\0\0\0\0\0\
+    \0\x09c\x01\x01\0\0\0\0\0\0\x07\x01B\x01\x09b\x01\x01\0\0\0\0\0\0\x09b\x01\x01\0\0\0\0\0\0\x07\
+    \x01C\x01\x09a\x01\x01\0\0\0\0\0\0\x09a\x01\x01\0\0\0\0\0\0";
 
 /// Their tables.
 const MANY: Trial = Trial {

@@ -1,29 +1,25 @@
 -- The lines of a folder's tables, step by step.
-use Rattle.std.proofs.Common.{◌≡◌, ◌≢◌, ◌⊎◌, ℕ, ◌≤◌, List, [], ◌∷◌, Option, Result, Ok, Err, IfErr, IsErrAnd, refl, sym, ap, subst, ◌∙◌, inl, inr}
-use Rattle.std.specs.List.{All, AllZip}
+use Rattle.std.proofs.Common.{◌≡◌, ◌≢◌, ◌⊎◌, ℕ, ◌≤◌, List, Option, Result, Ok, Err, IfErr, IsErrAnd, refl, sym, subst, inl, inr}
+use Rattle.std.specs.List.{All}
 use Rattle.std.specs.declared.cmp.Ordering.{Ordering}
 use Rattle.coding.proofs.Refusals.{unless_from, unless_device}
-use Rattle.coding.specs.Answers.{HoldsOrMemory, EqualOrMemory, UnlessMemory, fault}
+use Rattle.coding.specs.Answers.{HoldsOrMemory, EqualOrMemory, UnlessMemory}
 use Rattle.coding.specs.declared.fault.Fault.{Fault}
 use Rattle.coding.specs.declared.fault.FaultName.TheVariants.{Device}
 use Rattle.edit.specs.Version.{State}
-use Rattle.folder.proofs.CountLemmas.{steady}
-use Rattle.folder.proofs.LoadingLemmas.{table_before}
+use Rattle.folder.proofs.LoadingLemmas.{loaded_before}
 use Rattle.folder.proofs.OpeningLemmas.{failed_since}
 use Rattle.folder.specs.Folder.{TellsSame}
 use Rattle.folder.specs.Levels.{file_numbers}
-use Rattle.folder.specs.Loading.{IsLoaded, IsTableOf}
-use Rattle.folder.specs.Opening.{FolderAnswers, HasDeviceFailed, IsOpened, IsStopped, StopsAtDevice}
+use Rattle.folder.specs.Loading.{IsLoaded}
+use Rattle.folder.specs.Opening.{FolderAnswers, HasDeviceFailed, IsOpened, IsStopped}
 use Rattle.folder.specs.declared.order.Order.{Order}
 use Rattle.reads.specs.Tables.{Numbered}
 use Rattle.checks.proofs.LawfulLemmas.{handed_on, sound_other}
 use Rattle.commands.proofs.TableSizes.{IsFew, few_in_each}
 use Rattle.checks.specs.LawfulTables.{IsLawfulTables}
-use Rattle.commands.specs.Lines.{order_cmp}
-use Rattle.commands.specs.FolderLines.{IsLineOfLoaded, IsLineOfVersion, got_line, verified_line}
-use Rattle.commands.specs.Questions.{IsFolderAnswer, IsVersionAnswer}
-use Rattle.commands.specs.declared.question.Question.{Question}
-use Rattle.commands.specs.declared.question.Question.TheVariants.{Lawful, Value}
+use Rattle.folder.specs.Orders.{order_cmp}
+use Rattle.commands.specs.FolderLines.{IsLineOfFolder, IsLineOfLoaded, IsLineOfVersion}
 
 abbrev refusal : {Y : Type 0} → Fault → Result Y Fault
 refusal e = Err e
@@ -79,69 +75,20 @@ pub told_in : (tells : List ℕ → Option (List ℕ) → Type 0) (cmp : List �
     → IsLoaded tells (file_numbers cmp v) (Ok loaded) → (a : Result (List ℕ) Fault) → IsLineOfLoaded cmp v loaded line_of a → IsLineOfVersion tells cmp v line_of a
 told_in tells cmp v line_of loaded h a t = (Ok loaded, (h, t))
 
--- what was in the folder at first, told later
-zip_before : (old new : List ℕ → Option (List ℕ) → Type 0) (numbers : List ℕ) (tables : List (ℕ × List ℕ)) → TellsSame old new → AllZip (IsTableOf new) numbers tables → AllZip (IsTableOf old) numbers tables
-zip_before old new [] [] same h = tt
-zip_before old new [] (t ∷ tables) same h = absurd h
-zip_before old new (n ∷ numbers) [] same h = absurd h
-zip_before old new (n ∷ numbers) (t ∷ tables) same h = ((h.0.0, table_before old new n (Ok t.1) same h.0.1), zip_before old new numbers tables same h.1)
-
-loaded_before : (old new : List ℕ → Option (List ℕ) → Type 0) (numbers : List ℕ) (r : Result (List (ℕ × List ℕ)) Fault) → TellsSame old new → IsLoaded new numbers r → IsLoaded old numbers r
-loaded_before old new numbers (Ok tables) same h = zip_before old new numbers tables same h
-loaded_before old new numbers (Err e) same h = record {
-  before = h.before;
-  tables = h.tables;
-  number = h.number;
-  behind = h.behind;
-  parts = h.parts;
-  read = zip_before old new h.before h.tables same h.read;
-  missing = table_before old new h.number (Err e) same h.missing;
-}
-
 -- the folder isn't opened
-pub not_opened : (tells : List ℕ → Option (List ℕ) → Type 0) (question : Question) (e : Fault) → IsOpened tells (Err e) → IsFolderAnswer tells question (Err e)
-not_opened tells question e h = (Err e, (h, refl))
+pub not_opened : (tells : List ℕ → Option (List ℕ) → Type 0) (line_of : State → List Numbered → List ℕ) (e : Fault) → IsOpened tells (Err e) → IsLineOfFolder tells line_of (Err e)
+not_opened tells line_of e h = (Err e, (h, refl))
 
-module _ (old new : List ℕ → Option (List ℕ) → Type 0) (same : TellsSame old new) where
-  line_before : (cmp : List ℕ → List ℕ → Ordering) (v : State) (line_of : List Numbered → List ℕ) (a : Result (List ℕ) Fault)
-      → IsLineOfVersion new cmp v line_of a → IsLineOfVersion old cmp v line_of a
-  line_before cmp v line_of a h = (h.0, (loaded_before old new (file_numbers cmp v) h.0 same h.1.0, h.1.1))
+module _ (old new : List ℕ → Option (List ℕ) → Type 0) (same : TellsSame old new) (order : Order) (v : State) (line_of : State → List Numbered → List ℕ) (opened : IsOpened old (Ok (order, v))) where
+  line_before : (a : Result (List ℕ) Fault) → IsLineOfVersion new (order_cmp order) v (line_of v) a → IsLineOfFolder old line_of a
+  line_before a h = (Ok (order, v), (opened, (h.0, (loaded_before old new (file_numbers (order_cmp order) v) h.0 same h.1.0, h.1.1))))
 
-  version_before : (cmp : List ℕ → List ℕ → Ordering) (v : State) (question : Question) (a : Result (List ℕ) Fault)
-      → IsVersionAnswer new cmp v question a → IsVersionAnswer old cmp v question a
-  version_before cmp v Lawful a h = line_before cmp v verified_line a h
-  version_before cmp v (Value key at) a h = line_before cmp v (got_line key.now at v) a h
-
-  module _ (order : Order) (v : State) (question : Question) (opened : IsOpened old (Ok (order, v))) where
-    folder_answer : (a : Result (List ℕ) Fault) → IsVersionAnswer new (order_cmp order) v question a → IsFolderAnswer old question a
-    folder_answer a h = (Ok (order, v), (opened, version_before (order_cmp order) v question a h))
-
-    -- it is, and then the version answers
-    pub opened_answer : {X : Type 0} (view : X → List ℕ) (before middle now : ℕ) (r : Result X Fault) → before ≤ middle → middle ≤ now
-        → FolderAnswers view middle now r (IsVersionAnswer new (order_cmp order) v question) → FolderAnswers view before now r (IsFolderAnswer old question)
-    opened_answer view before middle now (Ok x) one two given = folder_answer (Ok (view x)) given
-    opened_answer view before middle now (Err e) one two given =
-        unless_from e (IsStopped middle now e ⊎ IsVersionAnswer new (order_cmp order) v question (Err e)) (IsStopped before now e ⊎ IsFolderAnswer old question (Err e)) (λ h. elim h [
-          | inl stopped ↦ inl (stopped.0, failed_since before middle now one two stopped.1)
-          | inr found ↦ inr (folder_answer (Err e) found)
-        ]) given
-
--- a call's refusal that `?` hands on ends where it ended
-pub stops_handed : {X Y : Type 0} (before now : ℕ) (first : Result X Fault) (e : Fault) (r : Result Y Fault) → first ≡ Err e → IsErrAnd r (λ f. f ≡ e) → StopsAtDevice before now first → StopsAtDevice before now r
-stops_handed before now first e (Ok y) is h stops = absurd h
-stops_handed {X} before now first e (Err f) is h stops = λ rose. ap (λ (x : Fault). refusal x) (h ∙ same_refusal {Y = X} e (fault Device) (sym is ∙ stops rose))
-
--- a call that answered a value left the count as it was, and the next one reads nothing
-pub stops_steady : {X Y : Type 0} (before now : ℕ) (first : Result X Fault) (x : X) (r : Result Y Fault) → first ≡ Ok x → StopsAtDevice before now first → StopsAtDevice before now r
-stops_steady before now first x r is stops = λ rose. absurd (no_refusal x (fault Device) (sym is ∙ stops rose))
-
--- a call that answered a value, and then one that ends where the device fails
-pub stops_later : {X Y : Type 0} (before middle now : ℕ) (first : Result X Fault) (x : X) (r : Result Y Fault) → first ≡ Ok x → before ≤ middle → StopsAtDevice before middle first
-    → StopsAtDevice middle now r → StopsAtDevice before now r
-stops_later before middle now first x r is later one two =
-    subst (λ (n : ℕ). StopsAtDevice n now r) (steady before before middle x first is refl later one) two
-
--- a device that failed after a time failed after an earlier time
-pub device_since : {X : Type 0} (before middle now : ℕ) (r : Result X Fault) → before ≤ middle → middle ≤ now → IfErr r (HasDeviceFailed middle now) → IfErr r (HasDeviceFailed before now)
-device_since before middle now (Ok x) one two h = tt
-device_since before middle now (Err e) one two h = λ same. failed_since before middle now one two (h same)
+  -- it is, and then the version answers
+  pub opened_answer : {X : Type 0} (view : X → List ℕ) (before middle now : ℕ) (r : Result X Fault) → before ≤ middle → middle ≤ now
+      → FolderAnswers view middle now r (IsLineOfVersion new (order_cmp order) v (line_of v)) → FolderAnswers view before now r (IsLineOfFolder old line_of)
+  opened_answer view before middle now (Ok x) one two given = line_before (Ok (view x)) given
+  opened_answer view before middle now (Err e) one two given =
+      unless_from e (IsStopped middle now e ⊎ IsLineOfVersion new (order_cmp order) v (line_of v) (Err e)) (IsStopped before now e ⊎ IsLineOfFolder old line_of (Err e)) (λ h. elim h [
+        | inl stopped ↦ inl (stopped.0, failed_since before middle now one two stopped.1)
+        | inr found ↦ inr (line_before (Err e) found)
+      ]) given

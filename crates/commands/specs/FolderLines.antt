@@ -11,7 +11,7 @@ use Rattle.folder.specs.Opening.{IsOpened}
 use Rattle.reads.specs.Gets.{get_of}
 use Rattle.reads.specs.Tables.{Numbered}
 use Rattle.checks.specs.LawfulTables.{IsLawfulTables}
-use Rattle.commands.specs.Lines.{order_cmp}
+use Rattle.folder.specs.Orders.{order_cmp}
 use Rattle.texts.specs.Text.{text_of_bytes}
 
 -- the line of the tables of a lawful version

@@ -4,6 +4,5 @@ pub mod Dump
 pub mod Lines
 pub mod FolderLines
 pub mod Descent
-pub mod Progress
--- serves proofs alone
 pub mod Questions
+pub mod Progress

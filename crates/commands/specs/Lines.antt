@@ -5,23 +5,16 @@ use Rattle.std.specs.Option.{option_map_or}
 use Rattle.std.specs.declared.cmp.Ordering.{Ordering}
 use Rattle.coding.specs.Answers.{IsThen}
 use Rattle.coding.specs.declared.fault.Fault.{Fault}
-use Rattle.ikey.specs.Bytewise.{bytewise_cmp}
 use Rattle.ikey.specs.Key.{kind_number, kind_of, sequence_of, user_of}
-use Rattle.ikey.specs.Shortlex.{shortlex_cmp}
 use Rattle.edit.specs.Version.{State, pointer_of}
 use Rattle.edit.specs.VersionOrder.{level_files}
 use Rattle.edit.specs.declared.meta.FileMeta.{FileMeta}
 use Rattle.folder.specs.Levels.{all_levels}
 use Rattle.folder.specs.Manifest.{order_name}
 use Rattle.folder.specs.Opening.{IsOpened}
+use Rattle.folder.specs.Orders.{order_cmp}
 use Rattle.texts.specs.Text.{text_of_bytes}
 use Rattle.folder.specs.declared.order.Order.{Order}
-use Rattle.folder.specs.declared.order.Order.TheVariants.{Bytewise, Shortlex}
-
--- how an order compares user keys
-abbrev pub order_cmp : Order → List ℕ → List ℕ → Ordering
-order_cmp Bytewise = bytewise_cmp
-order_cmp Shortlex = shortlex_cmp
 
 -- the line of a number that may be unset, which then is 0
 abbrev pub number_line : List ℕ → Option ℕ → List ℕ

@@ -1,46 +1,45 @@
 //! The commands on a database folder: what each answers of the version that the folder holds.
 
-ghost use Rattle.std.specs.Prelude.{◌≡◌, ◌≤◌, Ok, IfErr};
-ghost use Rattle.coding.specs.Answers.{EqualOrMemory};
-ghost use Rattle.folder.specs.Folder.{TellsSame};
-ghost use Rattle.folder.specs.Opening.{FolderAnswers, HasDeviceFailed, StopsAtDevice};
-ghost use Rattle.commands.specs.FolderLines.{IsLineOfFolder, got_line, verified_line};
-ghost use Rattle.commands.specs.Lines.{IsShown, order_cmp, version_lines};
-ghost use Rattle.commands.specs.Questions.{IsFolderAnswer, IsVersionAnswer};
+ghost use Rattle.std.specs.Prelude.{Ok, map};
+ghost use Rattle.coding.specs.Answers.{EqualOrMemory, HoldsOrMemory};
+ghost use Rattle.folder.specs.Opening.{FolderAnswers};
+ghost use Rattle.folder.specs.Orders.{order_cmp};
+ghost use Rattle.folder.specs.Reports.{OnlyReads, ReportsDevice};
+ghost use Rattle.commands.specs.FolderLines.{IsLineOfFolder, IsLineOfLoaded, IsLineOfVersion, got_line, verified_line};
+ghost use Rattle.commands.specs.Lines.{IsShown, version_lines};
+ghost use Rattle.commands.specs.Questions.{line_of};
 
-use crate::getting::got_in;
+use crate::getting::got;
 use crate::question::Question;
 use crate::showing::version_lines;
-use crate::verifying::verified_in;
-use board::Open;
+use crate::verifying::verified;
 use checks::Watch;
 use coding::Fault;
 use edit::Version;
-use folder::{Folder, Order, open};
+use folder::{Folder, Order, load, open};
 use ikey::{Bytewise, SharedComparator, Shortlex};
 use std::alloc::Global;
 use std::thread::Threads;
 
-/// The lines that show a folder's version, each with its newline: `comparator NAME`, `log N`, `previous N`, `next N` and
-/// `last N`, then `pointer L KEY SEQ TYPE` by level, and then `file L NUMBER SIZE` by level and in version order.
+/// The lines that show a folder's version, each with its newline: `comparator NAME`, `log N`,
+/// `previous N`, `next N` and `last N`, then `pointer L KEY SEQ TYPE` by level, and then `file L
+/// NUMBER SIZE` by level and in version order.
 ///
-/// A key is in hexadecimal digits, `-` where it is empty; a previous log number that was never set is 0. Refused as
-/// opening the folder is.
+/// A key is in hexadecimal digits, `-` where it is empty; a previous log number that was never set
+/// is 0. Refused as opening the folder is.
 pub fn manifest<F: Folder>(alloc: Global, folder: &mut F) -> Result<Vec<u8>, Fault>
     ensures answer { FolderAnswers (λ v. v.items) (F.failed folder.old) (F.failed folder.new) result
         (IsShown (F.tells folder.old)) }
-    ensures device { IfErr result (HasDeviceFailed (F.failed folder.old) (F.failed folder.new)) }
-    ensures same { TellsSame (F.tells folder.old) (F.tells folder.new) }
-    ensures calls { F.calls folder.new ≡ F.calls folder.old }
-    ensures at_once { StopsAtDevice (F.failed folder.old) (F.failed folder.new) result }
-    ensures later { F.failed folder.old ≤ F.failed folder.new }
+    ensures device { ReportsDevice F.Folder folder.old folder.new result }
+    ensures reads { OnlyReads F.Folder folder.old folder.new }
 {
     let (order, version) = open(alloc, folder)?;
-    lines_in_order(alloc, order, &version)
+    manifest_lines(alloc, order, &version)
 }
 
-/// The lines of a version of an order.
-fn lines_in_order(alloc: Global, order: Order, version: &Version) -> Result<Vec<u8>, Fault>
+/// The lines of a version of an order: what [`manifest`] answers of a folder that was opened
+/// already. Refused only if memory runs out.
+pub fn manifest_lines(alloc: Global, order: Order, version: &Version) -> Result<Vec<u8>, Fault>
     ensures { EqualOrMemory (λ v. v.items) result (Ok (version_lines order version.now)) }
 {
     match order {
@@ -49,31 +48,17 @@ fn lines_in_order(alloc: Global, order: Order, version: &Version) -> Result<Vec<
     }
 }
 
-/// Tests the version that a folder holds, and answers the line `lawful: F files, E entries`: how many files the version
-/// has, and how many entries are in all their tables.
+/// Tests the version that a folder holds, and answers the line `lawful: F files, E entries`: how
+/// many files the version has, and how many entries are in all their tables.
 ///
-/// Refused as opening the folder is; then Missing at the first table that isn't there, by level and in version order;
-/// then by the first of the tables that is none, as `table::check` refuses it; and then Lawless where the version isn't
-/// lawful. A call that the device fails is Device at once, and want of memory Memory. Only reads. Four workers check the
-/// tables, and whichever comes first, the answer is the same.
-pub fn verify<F: Folder, R: Threads + Sync>(
-    rt: &R,
-    alloc: Global,
-    folder: &mut F,
-) -> Result<Vec<u8>, Fault>
-    ensures answer { FolderAnswers (λ v. v.items) (F.failed folder.old) (F.failed folder.new) result
-        (IsLineOfFolder (F.tells folder.old) (λ _. verified_line)) }
-    ensures device { IfErr result (HasDeviceFailed (F.failed folder.old) (F.failed folder.new)) }
-    ensures same { TellsSame (F.tells folder.old) (F.tells folder.new) }
-    ensures calls { F.calls folder.new ≡ F.calls folder.old }
-    ensures at_once { StopsAtDevice (F.failed folder.old) (F.failed folder.new) result }
-    ensures later { F.failed folder.old ≤ F.failed folder.new }
-{
-    verify_watched(rt, alloc, folder, &Open)
-}
-
-/// What [`verify`] answers, while somebody watches.
-pub fn verify_watched<F: Folder, W: Watch + Sync, R: Threads + Sync>(
+/// Refused as opening the folder is; then Missing at the first table that isn't there, by level and
+/// in version order; then by the first table whose bytes are refused, as `table::check` refuses
+/// them; and then Lawless if the version isn't lawful. If the device fails a call, the answer is
+/// Device and no further call is made; if memory runs out, it is Memory. Only reads. Four workers
+/// check the tables, and whichever comes first, the answer is the same.
+///
+/// The work is told to `watch`, which is `&Open` if nobody watches.
+pub fn verify<F: Folder, W: Watch + Sync, R: Threads + Sync>(
     rt: &R,
     alloc: Global,
     folder: &mut F,
@@ -81,40 +66,18 @@ pub fn verify_watched<F: Folder, W: Watch + Sync, R: Threads + Sync>(
 ) -> Result<Vec<u8>, Fault>
     ensures answer { FolderAnswers (λ v. v.items) (F.failed folder.old) (F.failed folder.new) result
         (IsLineOfFolder (F.tells folder.old) (λ _. verified_line)) }
-    ensures device { IfErr result (HasDeviceFailed (F.failed folder.old) (F.failed folder.new)) }
-    ensures same { TellsSame (F.tells folder.old) (F.tells folder.new) }
-    ensures calls { F.calls folder.new ≡ F.calls folder.old }
-    ensures at_once { StopsAtDevice (F.failed folder.old) (F.failed folder.new) result }
-    ensures later { F.failed folder.old ≤ F.failed folder.new }
+    ensures device { ReportsDevice F.Folder folder.old folder.new result }
+    ensures reads { OnlyReads F.Folder folder.old folder.new }
 {
     answered(rt, alloc, folder, Question::Lawful, watch)
 }
 
-/// The line of the value that a user key has at a sequence in the version that a folder holds, in lower-case hexadecimal
-/// digits, `-` where it is empty; `none` where the key has no value there. The sequence is of any size; where it isn't
-/// given, it is the version's last one.
+/// The line of the value that a user key has at a sequence in the version that a folder holds, in
+/// lower-case hexadecimal digits, `-` if it is empty; `none` if the key has no value there. The
+/// sequence is of any size; if it isn't given, it is the version's last one.
 ///
-/// Refused as `verify` is. Only reads.
-pub fn get_dir<F: Folder, R: Threads + Sync>(
-    rt: &R,
-    alloc: Global,
-    folder: &mut F,
-    key: &[u8],
-    at: Option<u64>,
-) -> Result<Vec<u8>, Fault>
-    ensures answer { FolderAnswers (λ v. v.items) (F.failed folder.old) (F.failed folder.new) result
-        (IsLineOfFolder (F.tells folder.old) (got_line key.now at)) }
-    ensures device { IfErr result (HasDeviceFailed (F.failed folder.old) (F.failed folder.new)) }
-    ensures same { TellsSame (F.tells folder.old) (F.tells folder.new) }
-    ensures calls { F.calls folder.new ≡ F.calls folder.old }
-    ensures at_once { StopsAtDevice (F.failed folder.old) (F.failed folder.new) result }
-    ensures later { F.failed folder.old ≤ F.failed folder.new }
-{
-    get_dir_watched(rt, alloc, folder, key, at, &Open)
-}
-
-/// What [`get_dir`] answers, while somebody watches.
-pub fn get_dir_watched<F: Folder, W: Watch + Sync, R: Threads + Sync>(
+/// Refused as `verify` is, and told to `watch` in the same way. Only reads.
+pub fn get_dir<F: Folder, W: Watch + Sync, R: Threads + Sync>(
     rt: &R,
     alloc: Global,
     folder: &mut F,
@@ -124,11 +87,8 @@ pub fn get_dir_watched<F: Folder, W: Watch + Sync, R: Threads + Sync>(
 ) -> Result<Vec<u8>, Fault>
     ensures answer { FolderAnswers (λ v. v.items) (F.failed folder.old) (F.failed folder.new) result
         (IsLineOfFolder (F.tells folder.old) (got_line key.now at)) }
-    ensures device { IfErr result (HasDeviceFailed (F.failed folder.old) (F.failed folder.new)) }
-    ensures same { TellsSame (F.tells folder.old) (F.tells folder.new) }
-    ensures calls { F.calls folder.new ≡ F.calls folder.old }
-    ensures at_once { StopsAtDevice (F.failed folder.old) (F.failed folder.new) result }
-    ensures later { F.failed folder.old ≤ F.failed folder.new }
+    ensures device { ReportsDevice F.Folder folder.old folder.new result }
+    ensures reads { OnlyReads F.Folder folder.old folder.new }
 {
     answered(rt, alloc, folder, Question::Value { key, at }, watch)
 }
@@ -142,19 +102,17 @@ fn answered<F: Folder, W: Watch + Sync, R: Threads + Sync>(
     watch: &W,
 ) -> Result<Vec<u8>, Fault>
     ensures answer { FolderAnswers (λ v. v.items) (F.failed folder.old) (F.failed folder.new) result
-        (IsFolderAnswer (F.tells folder.old) question.entry) }
-    ensures device { IfErr result (HasDeviceFailed (F.failed folder.old) (F.failed folder.new)) }
-    ensures same { TellsSame (F.tells folder.old) (F.tells folder.new) }
-    ensures calls { F.calls folder.new ≡ F.calls folder.old }
-    ensures at_once { StopsAtDevice (F.failed folder.old) (F.failed folder.new) result }
-    ensures later { F.failed folder.old ≤ F.failed folder.new }
+        (IsLineOfFolder (F.tells folder.old) (line_of question.entry)) }
+    ensures device { ReportsDevice F.Folder folder.old folder.new result }
+    ensures reads { OnlyReads F.Folder folder.old folder.new }
 {
     let (order, version) = open(alloc, folder)?;
-    answered_in_order(rt, alloc, folder, order, &version, question, watch)
+    answer_opened(rt, alloc, folder, order, &version, question, watch)
 }
 
-/// What a version of an order answers, with the tables that the folder holds.
-fn answered_in_order<F: Folder, W: Watch + Sync, R: Threads + Sync>(
+/// What a version of an order answers, with the tables that the folder holds: what [`verify`] and
+/// [`get_dir`] answer of a folder that was opened already. Only reads.
+pub fn answer_opened<F: Folder, W: Watch + Sync, R: Threads + Sync>(
     rt: &R,
     alloc: Global,
     folder: &mut F,
@@ -164,12 +122,10 @@ fn answered_in_order<F: Folder, W: Watch + Sync, R: Threads + Sync>(
     watch: &W,
 ) -> Result<Vec<u8>, Fault>
     ensures answer { FolderAnswers (λ v. v.items) (F.failed folder.old) (F.failed folder.new) result
-        (IsVersionAnswer (F.tells folder.old) (order_cmp order) version.now question.entry) }
-    ensures device { IfErr result (HasDeviceFailed (F.failed folder.old) (F.failed folder.new)) }
-    ensures same { TellsSame (F.tells folder.old) (F.tells folder.new) }
-    ensures calls { F.calls folder.new ≡ F.calls folder.old }
-    ensures at_once { StopsAtDevice (F.failed folder.old) (F.failed folder.new) result }
-    ensures later { F.failed folder.old ≤ F.failed folder.new }
+        (IsLineOfVersion (F.tells folder.old) (order_cmp order) version.now
+        (line_of question.entry version.now)) }
+    ensures device { ReportsDevice F.Folder folder.old folder.new result }
+    ensures reads { OnlyReads F.Folder folder.old folder.new }
 {
     match order {
         Order::Bytewise => answered_by::<Bytewise, F, W, R>(
@@ -191,17 +147,30 @@ fn answered_by<C: SharedComparator + 'static, F: Folder, W: Watch + Sync, R: Thr
     watch: &W,
 ) -> Result<Vec<u8>, Fault>
     ensures answer { FolderAnswers (λ v. v.items) (F.failed folder.old) (F.failed folder.new) result
-        (IsVersionAnswer (F.tells folder.old) C.cmp version.now question.entry) }
-    ensures device { IfErr result (HasDeviceFailed (F.failed folder.old) (F.failed folder.new)) }
-    ensures same { TellsSame (F.tells folder.old) (F.tells folder.new) }
-    ensures calls { F.calls folder.new ≡ F.calls folder.old }
-    ensures at_once { StopsAtDevice (F.failed folder.old) (F.failed folder.new) result }
-    ensures later { F.failed folder.old ≤ F.failed folder.new }
+        (IsLineOfVersion (F.tells folder.old) C.cmp version.now
+        (line_of question.entry version.now)) }
+    ensures device { ReportsDevice F.Folder folder.old folder.new result }
+    ensures reads { OnlyReads F.Folder folder.old folder.new }
+{
+    let loaded = load::<C, F>(alloc, folder, version)?;
+    answer_loaded::<C, W, R>(rt, alloc, version, &loaded, question, watch)
+}
+
+/// What a version answers with the tables of these numbers and bytes.
+fn answer_loaded<C: SharedComparator + 'static, W: Watch + Sync, R: Threads + Sync>(
+    rt: &R,
+    alloc: Global,
+    version: &Version,
+    loaded: &[(u64, Vec<u8>)],
+    question: Question<'_>,
+    watch: &W,
+) -> Result<Vec<u8>, Fault>
+    ensures { HoldsOrMemory (λ v. v.items) result
+        (IsLineOfLoaded C.cmp version.now (map (λ t. (t.0, t.1.items)) loaded.now)
+        (line_of question.entry version.now)) }
 {
     match question {
-        Question::Lawful => verified_in::<C, F, W, R>(rt, alloc, folder, version, watch),
-        Question::Value { key, at } => got_in::<C, F, W, R>(
-            rt, alloc, folder, version, key, at, watch,
-        ),
+        Question::Lawful => verified::<C, W, R>(rt, alloc, version, loaded, watch),
+        Question::Value { key, at } => got::<C, W, R>(rt, alloc, version, loaded, key, at, watch),
     }
 }

@@ -1,47 +1,22 @@
 //! The value of a user key in a folder.
 
-ghost use Rattle.std.specs.Prelude.{◌≡◌, ◌≤◌, map, Ok, IfErr};
+ghost use Rattle.std.specs.Prelude.{◌≡◌, map, Ok};
 ghost use Rattle.std.specs.Option.{option_map};
 ghost use Rattle.coding.specs.Answers.{HoldsOrMemory, EqualOrMemory};
-ghost use Rattle.folder.specs.Folder.{TellsSame};
-ghost use Rattle.folder.specs.Opening.{FolderAnswers, HasDeviceFailed, StopsAtDevice};
-ghost use Rattle.commands.specs.FolderLines.{IsLineOfLoaded, IsLineOfVersion, got_line, sequence_at, value_line};
+ghost use Rattle.commands.specs.FolderLines.{IsLineOfLoaded, got_line, sequence_at, value_line};
 
 use crate::verifying::WORKERS;
 use checks::{Watch, Work, lawful_tables};
 use coding::Fault;
 use edit::Version;
-use folder::{Folder, load};
 use ikey::SharedComparator;
 use reads::get;
 use std::alloc::Global;
 use std::thread::Threads;
 use texts::text_of;
 
-/// The line of the value in a version, with the tables that the folder holds.
-pub(crate) fn got_in<C: SharedComparator + 'static, F: Folder, W: Watch + Sync, R: Threads + Sync>(
-    rt: &R,
-    alloc: Global,
-    folder: &mut F,
-    version: &Version,
-    key: &[u8],
-    at: Option<u64>,
-    watch: &W,
-) -> Result<Vec<u8>, Fault>
-    ensures answer { FolderAnswers (λ v. v.items) (F.failed folder.old) (F.failed folder.new) result
-        (IsLineOfVersion (F.tells folder.old) C.cmp version.now (got_line key.now at version.now)) }
-    ensures device { IfErr result (HasDeviceFailed (F.failed folder.old) (F.failed folder.new)) }
-    ensures same { TellsSame (F.tells folder.old) (F.tells folder.new) }
-    ensures calls { F.calls folder.new ≡ F.calls folder.old }
-    ensures at_once { StopsAtDevice (F.failed folder.old) (F.failed folder.new) result }
-    ensures later { F.failed folder.old ≤ F.failed folder.new }
-{
-    let loaded = load::<C, F>(alloc, folder, version)?;
-    got::<C, W, R>(rt, alloc, version, &loaded, key, at, watch)
-}
-
 /// The line of the value in a version, with the tables of these numbers and bytes.
-fn got<C: SharedComparator + 'static, W: Watch + Sync, R: Threads + Sync>(
+pub(crate) fn got<C: SharedComparator + 'static, W: Watch + Sync, R: Threads + Sync>(
     rt: &R,
     alloc: Global,
     version: &Version,

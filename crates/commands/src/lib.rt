@@ -12,8 +12,10 @@ mod question;
 mod showing;
 mod verifying;
 
+pub use board::Open;
 pub use descent::{bottom, next_level};
 pub use dumping::dump;
 pub use exit_status::status;
-pub use folder_commands::{get_dir, get_dir_watched, manifest, verify, verify_watched};
+pub use folder_commands::{answer_opened, get_dir, manifest, manifest_lines, verify};
 pub use progress::progress_text;
+pub use question::Question;

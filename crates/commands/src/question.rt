@@ -2,7 +2,7 @@
 
 /// A question to a version and its tables.
 #[derive(Clone, Copy)]
-pub(crate) enum Question<'k> {
+pub enum Question<'k> {
     /// Whether the version is lawful, and how many files and entries it has.
     Lawful,
     /// The value of a user key at a sequence, or at the version's last one.

@@ -1,17 +1,14 @@
 //! Testing whether the version of a folder is lawful.
 
-ghost use Rattle.std.specs.Prelude.{◌≡◌, ◌++◌, ◌≤◌, map, Ok, IfErr, OnOk, string_bytes};
+ghost use Rattle.std.specs.Prelude.{◌≡◌, ◌++◌, map, Ok, IfErr, OnOk, string_bytes};
 ghost use Rattle.coding.specs.Answers.{HoldsOrMemory, EqualOrMemory, fault};
 ghost use Rattle.coding.specs.declared.fault.FaultName.TheVariants.{Memory};
-ghost use Rattle.folder.specs.Folder.{TellsSame};
-ghost use Rattle.folder.specs.Opening.{FolderAnswers, HasDeviceFailed, StopsAtDevice};
-ghost use Rattle.commands.specs.FolderLines.{IsLineOfLoaded, IsLineOfVersion, lawful_line, verified_line};
+ghost use Rattle.commands.specs.FolderLines.{IsLineOfLoaded, lawful_line, verified_line};
 
 use crate::counting::entry_count;
 use checks::{Watch, Work, lawful_tables};
 use coding::Fault;
 use edit::Version;
-use folder::{Folder, load};
 use ikey::SharedComparator;
 use std::alloc::Global;
 use std::thread::Threads;
@@ -19,27 +16,8 @@ use std::thread::Threads;
 /// How many workers check the tables of a folder.
 pub(crate) const WORKERS: u64 = 4;
 
-/// The line of a version that is lawful with the tables that the folder holds.
-pub(crate) fn verified_in<
-    C: SharedComparator + 'static,
-    F: Folder,
-    W: Watch + Sync,
-    R: Threads + Sync,
->(rt: &R, alloc: Global, folder: &mut F, version: &Version, watch: &W) -> Result<Vec<u8>, Fault>
-    ensures answer { FolderAnswers (λ v. v.items) (F.failed folder.old) (F.failed folder.new) result
-        (IsLineOfVersion (F.tells folder.old) C.cmp version.now verified_line) }
-    ensures device { IfErr result (HasDeviceFailed (F.failed folder.old) (F.failed folder.new)) }
-    ensures same { TellsSame (F.tells folder.old) (F.tells folder.new) }
-    ensures calls { F.calls folder.new ≡ F.calls folder.old }
-    ensures at_once { StopsAtDevice (F.failed folder.old) (F.failed folder.new) result }
-    ensures later { F.failed folder.old ≤ F.failed folder.new }
-{
-    let loaded = load::<C, F>(alloc, folder, version)?;
-    verified::<C, W, R>(rt, alloc, version, &loaded, watch)
-}
-
 /// Tests a version with the tables of these numbers and bytes.
-fn verified<C: SharedComparator + 'static, W: Watch + Sync, R: Threads + Sync>(
+pub(crate) fn verified<C: SharedComparator + 'static, W: Watch + Sync, R: Threads + Sync>(
     rt: &R,
     alloc: Global,
     version: &Version,

@@ -1,7 +1,6 @@
 //! The account of a compaction, made of what a folder holds behind it: the files that went into it are still there.
 
-ghost use Rattle.std.specs.Prelude.{◌≡◌};
-ghost use Rattle.folder.specs.Folder.{TellsSame};
+ghost use Rattle.folder.specs.Reports.{OnlyReads};
 
 use crate::diagnosis::{LEVELS, table_file};
 use account::{Account, LevelInputs, Output, RangeEntries};
@@ -31,8 +30,7 @@ pub fn account_of<F: Folder>(
     level: u64,
     ranges: u64,
 ) -> Result<Account, Fault>
-    ensures same { TellsSame (F.tells folder.old) (F.tells folder.new) }
-    ensures calls { F.calls folder.new ≡ F.calls folder.old }
+    ensures reads { OnlyReads F.Folder folder.old folder.new }
 {
     match order {
         Order::Bytewise => {
@@ -53,8 +51,7 @@ fn account_by<C: Comparator, F: Folder>(
     level: u64,
     ranges: u64,
 ) -> Result<Account, Fault>
-    ensures same { TellsSame (F.tells folder.old) (F.tells folder.new) }
-    ensures calls { F.calls folder.new ≡ F.calls folder.old }
+    ensures reads { OnlyReads F.Folder folder.old folder.new }
 {
     let picked = inputs::<C>(alloc, before, level)?;
     let outputs = outputs_of::<C>(alloc, after, before.next_file().unwrap_or(0))?;
@@ -70,8 +67,7 @@ fn account_from<C: Comparator, F: Folder>(
     level: u64,
     ranges: u64,
 ) -> Result<Account, Fault>
-    ensures same { TellsSame (F.tells folder.old) (F.tells folder.new) }
-    ensures calls { F.calls folder.new ≡ F.calls folder.old }
+    ensures reads { OnlyReads F.Folder folder.old folder.new }
 {
     let entries = entries_of::<C, F>(alloc, folder, files, &outputs, ranges)?;
     let levels = levels_of(alloc, files, level)?;
@@ -113,8 +109,7 @@ fn entries_of<C: Comparator, F: Folder>(
     outputs: &[Output],
     ranges: u64,
 ) -> Result<Entries, Fault>
-    ensures same { TellsSame (F.tells folder.old) (F.tells folder.new) }
-    ensures calls { F.calls folder.new ≡ F.calls folder.old }
+    ensures reads { OnlyReads F.Folder folder.old folder.new }
 {
     let taken = read_tables(alloc, folder, &numbers_of_inputs(alloc, files)?)?;
     let made = read_tables(alloc, folder, &numbers_of_outputs(alloc, outputs)?)?;
@@ -187,8 +182,7 @@ fn read_tables<F: Folder>(
     folder: &mut F,
     numbers: &[u64],
 ) -> Result<Vec<Vec<u8>>, Fault>
-    ensures same { TellsSame (F.tells folder.old) (F.tells folder.new) }
-    ensures calls { F.calls folder.new ≡ F.calls folder.old }
+    ensures reads { OnlyReads F.Folder folder.old folder.new }
 {
     let mut tables = Vec::with_capacity(alloc, numbers.len())?;
     for number in numbers {

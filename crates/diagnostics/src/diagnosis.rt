@@ -1,7 +1,7 @@
 //! Which file of a folder is refused, and whether its log has writes. Both are told where that is asked for.
 
 ghost use Rattle.std.specs.Prelude.{◌≡◌};
-ghost use Rattle.folder.specs.Folder.{TellsSame};
+ghost use Rattle.folder.specs.Reports.{OnlyReads};
 
 use coding::{Fault, FaultName};
 use edit::{FileMeta, Version};
@@ -30,8 +30,7 @@ pub struct RefusedFile {
 /// Refused for a failing device or want of memory alone: what is wrong with a file is no refusal but the answer. Where one of
 /// these two befalls the opening, or memory ran out at the test of a table, it may be answered as what is wrong with that file.
 pub fn refused_file<F: Folder>(alloc: Global, folder: &mut F) -> Result<Option<RefusedFile>, Fault>
-    ensures same { TellsSame (F.tells folder.old) (F.tells folder.new) }
-    ensures calls { F.calls folder.new ≡ F.calls folder.old }
+    ensures reads { OnlyReads F.Folder folder.old folder.new }
 {
     match open(alloc, folder) {
         Ok((Order::Bytewise, version)) => refused_table::<Bytewise, F>(alloc, folder, &version),
@@ -45,8 +44,7 @@ pub fn refused_file<F: Folder>(alloc: Global, folder: &mut F) -> Result<Option<R
 
 /// The file at which a folder's opening is refused: the manifest, where CURRENT names one, or else CURRENT.
 fn opening_file<F: Folder>(alloc: Global, folder: &mut F) -> Result<String, Fault>
-    ensures same { TellsSame (F.tells folder.old) (F.tells folder.new) }
-    ensures calls { F.calls folder.new ≡ F.calls folder.old }
+    ensures reads { OnlyReads F.Folder folder.old folder.new }
 {
     let current = folder.read(CURRENT)?;
     let name = match &current {
@@ -92,8 +90,7 @@ fn refused_table<C: Comparator, F: Folder>(
     folder: &mut F,
     version: &Version,
 ) -> Result<Option<RefusedFile>, Fault>
-    ensures same { TellsSame (F.tells folder.old) (F.tells folder.new) }
-    ensures calls { F.calls folder.new ≡ F.calls folder.old }
+    ensures reads { OnlyReads F.Folder folder.old folder.new }
 {
     let mut tables = Vec::new(alloc);
     for level in 0..LEVELS {
@@ -113,8 +110,7 @@ fn push_tables<'v, F: Folder>(
     files: &[&'v FileMeta],
     tables: &mut Vec<ListedTable<'v>>,
 ) -> Result<Option<RefusedFile>, Fault>
-    ensures same { TellsSame (F.tells folder.old) (F.tells folder.new) }
-    ensures calls { F.calls folder.new ≡ F.calls folder.old }
+    ensures reads { OnlyReads F.Folder folder.old folder.new }
 {
     for meta in files {
         match table_file(alloc, folder, meta.number)? {
@@ -145,8 +141,7 @@ pub(crate) fn table_file<F: Folder>(
     folder: &mut F,
     number: u64,
 ) -> Result<Option<TableFile>, Fault>
-    ensures same { TellsSame (F.tells folder.old) (F.tells folder.new) }
-    ensures calls { F.calls folder.new ≡ F.calls folder.old }
+    ensures reads { OnlyReads F.Folder folder.old folder.new }
 {
     let name = table_name(alloc, number)?;
     if let Some(bytes) = folder.read(name.as_str())? {
@@ -194,13 +189,15 @@ fn is_as_stated<C: Comparator>(alloc: Global, table: &ListedTable<'_>) -> Result
     Ok(has_bounds(table.meta, sound.bytes(), sound.smallest(), sound.largest()))
 }
 
-/// The name of the log that a folder's manifest names, where it is there and holds writes. Refused as opening the folder is, or
-/// where the log can't be read. Only reads.
-pub fn log_with_writes<F: Folder>(alloc: Global, folder: &mut F) -> Result<Option<String>, Fault>
-    ensures same { TellsSame (F.tells folder.old) (F.tells folder.new) }
-    ensures calls { F.calls folder.new ≡ F.calls folder.old }
+/// The name of the log that a version names, if it is there and holds writes. Refused if the log can't be read. Only reads.
+pub fn log_with_writes<F: Folder>(
+    alloc: Global,
+    folder: &mut F,
+    version: &Version,
+) -> Result<Option<String>, Fault>
+    ensures reads { OnlyReads F.Folder folder.old folder.new }
 {
-    let number = log_number(alloc, folder)?;
+    let number = version.log_number().unwrap_or(0);
     let name = format!(in alloc; "{number:06}.log")?;
     if holds_bytes(folder, name.as_str())? {
         Ok(Some(name))
@@ -211,21 +208,10 @@ pub fn log_with_writes<F: Folder>(alloc: Global, folder: &mut F) -> Result<Optio
 
 /// Whether a folder has a file of this name that isn't empty.
 fn holds_bytes<F: Folder>(folder: &mut F, name: &str) -> Result<bool, Fault>
-    ensures same { TellsSame (F.tells folder.old) (F.tells folder.new) }
-    ensures calls { F.calls folder.new ≡ F.calls folder.old }
+    ensures reads { OnlyReads F.Folder folder.old folder.new }
 {
     match folder.read(name)? {
         Some(bytes) => Ok(!bytes.is_empty()),
         None => Ok(false),
     }
-}
-
-/// The number of the log that a folder's manifest names, 0 where it names none. Refused as opening the folder is.
-fn log_number<F: Folder>(alloc: Global, folder: &mut F) -> Result<u64, Fault>
-    ensures same { TellsSame (F.tells folder.old) (F.tells folder.new) }
-    ensures calls { F.calls folder.new ≡ F.calls folder.old }
-{
-    let (_, version) = open(alloc, folder)?;
-    let number = version.log_number().unwrap_or(0);
-    Ok(number)
 }

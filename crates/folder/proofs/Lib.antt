@@ -12,4 +12,5 @@ pub mod NameEnds
 pub mod WrittenLemmas
 mod AloneLemmas
 pub mod CountLemmas
+pub mod ReportLemmas
 mod ShelfLemmas

@@ -66,3 +66,22 @@ missing_there tells numbers i tables e within all h = record {
   read = all;
   missing = h;
 }
+
+-- tables that are read later
+zip_before : (old new : List ℕ → Option (List ℕ) → Type 0) (numbers : List ℕ) (tables : List (ℕ × List ℕ)) → TellsSame old new → AllZip (IsTableOf new) numbers tables → AllZip (IsTableOf old) numbers tables
+zip_before old new [] [] same h = tt
+zip_before old new [] (t ∷ tables) same h = absurd h
+zip_before old new (n ∷ numbers) [] same h = absurd h
+zip_before old new (n ∷ numbers) (t ∷ tables) same h = ((h.0.0, table_before old new n (Ok t.1) same h.0.1), zip_before old new numbers tables same h.1)
+
+pub loaded_before : (old new : List ℕ → Option (List ℕ) → Type 0) (numbers : List ℕ) (r : Result (List (ℕ × List ℕ)) Fault) → TellsSame old new → IsLoaded new numbers r → IsLoaded old numbers r
+loaded_before old new numbers (Ok tables) same h = zip_before old new numbers tables same h
+loaded_before old new numbers (Err e) same h = record {
+  before = h.before;
+  tables = h.tables;
+  number = h.number;
+  behind = h.behind;
+  parts = h.parts;
+  read = zip_before old new h.before h.tables same h.read;
+  missing = table_before old new h.number (Err e) same h.missing;
+}

@@ -2,7 +2,8 @@
 use Rattle.std.proofs.Common.{◌≡◌, ℕ, ◌+◌, ◌<◌, Bor, true, false, List, [], ◌∷◌, length, map, drop, get_or, Option, Some, None, refl, sym, ap, subst, ◌∙◌, inl, inr, if◌then◌else◌, add-one, drop-cons}
 use Rattle.std.specs.Str.{bytes_eq}
 use Rattle.folder.specs.Calls.{Created, Done, Files, FolderSynced, Renamed, Step, Synced, Tells, TellsAfter, Tried, moved, put, renamed, with_file, with_synced}
-use Rattle.folder.specs.Shelf.{Alters, after_steps, files_in}
+use Rattle.folder.specs.Attempts.{Alters}
+use Rattle.folder.specs.Shelf.{after_steps, files_in}
 use Rattle.folder.specs.declared.shelf_step.ShelfStep.{ShelfStep}
 use Rattle.folder.proofs.PutLemmas.{put_other, put_same, same_name}
 

@@ -6,7 +6,8 @@ use Rattle.folder.specs.Calls.{Call, Created, Done, Shown, Step, Synced, Tried, 
 use Rattle.folder.specs.Runs.{AreMade}
 use Rattle.folder.specs.Crash.{Leads, World}
 use Rattle.folder.specs.Free.{IsFree}
-use Rattle.folder.specs.ReadsAs.{IsWritten, StandsAs}
+use Rattle.folder.specs.ReadsAs.{StandsAs}
+use Rattle.folder.specs.Written.{IsWritten}
 use Rattle.folder.specs.declared.order.Order.{Order}
 use Rattle.folder.proofs.CrashLemmas.{stands_made, stands_still, stands_synced}
 use Rattle.folder.proofs.PutLemmas.{put_other, put_same, same_name}

@@ -1,6 +1,6 @@
--- What a call of the code stands for, and what became of it.
-use Rattle.std.specs.Prelude.{if◌then◌else◌}
-use Rattle.folder.specs.Calls.{Call, Created, Done, FolderSynced, Renamed, Step, Synced, Tried}
+-- What a call of the code stands for, what became of it, and what that makes of files.
+use Rattle.std.specs.Prelude.{◌≡◌, ◌⊎◌, ℕ, Bool, if◌then◌else◌, List, Option, Some, None}
+use Rattle.folder.specs.Calls.{Call, Created, Done, Files, FolderSynced, Renamed, Step, Synced, Tried, moved, put}
 use Rattle.folder.specs.declared.trail.Attempt.{Attempt}
 use Rattle.folder.specs.declared.trail.WriteCall.{WriteCall}
 use Rattle.folder.specs.declared.trail.WriteCall.TheVariants.{Create, Rename, Sync, SyncFolder}
@@ -13,3 +13,18 @@ call_in SyncFolder = FolderSynced
 
 abbrev pub step_in : Attempt → Step
 step_in attempt = if attempt.is_done then Done (call_in attempt.call) else Tried (call_in attempt.call)
+
+-- What a step makes of files, and a call that failed may have made a file of any bytes or none, or renamed one or not.
+abbrev pub Alters : Step → Files → Files → Type 0
+Alters (Done (Created name bytes)) old new = new ≡ put old name (Some bytes)
+Alters (Tried (Created name bytes)) old new = (new ≡ old) ⊎ ((held : Option (List ℕ)) × (new ≡ put old name held))
+Alters (Done (Renamed from to)) old new = new ≡ moved None old from to
+Alters (Tried (Renamed from to)) old new = (new ≡ old) ⊎ (new ≡ moved None old from to)
+Alters (Done (Synced name)) old new = new ≡ old
+Alters (Tried (Synced name)) old new = new ≡ old
+Alters (Done FolderSynced) old new = new ≡ old
+Alters (Tried FolderSynced) old new = new ≡ old
+
+-- a call that was done, or that failed
+abbrev pub tried_if : Bool → Call → Step
+tried_if failed call = if failed then Tried call else Done call

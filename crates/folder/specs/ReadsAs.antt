@@ -1,5 +1,5 @@
 -- What the files of a folder read as: a version and its tables.
-use Rattle.std.specs.Prelude.{◌≡◌, ◌⊎◌, ◌<◌, ◌^◌, ℕ, true, List, [], ◌∷◌, codes, Option, Some, None, Ok}
+use Rattle.std.specs.Prelude.{◌≡◌, ◌⊎◌, ◌<◌, ◌^◌, ℕ, List, [], ◌∷◌, codes, Option, Some, None, Ok}
 use Rattle.std.specs.declared.cmp.Ordering.{Ordering}
 use Rattle.edit.specs.Version.{State}
 use Rattle.folder.specs.Calls.{Files}
@@ -43,8 +43,3 @@ pub record IsSettled (w : World) (name : List ℕ) : Type 0 where
 pub record StandsAs (cmp : List ℕ → List ℕ → Ordering) (order : Order) (v : State) (tables : List (ℕ × List ℕ)) (w : World) : Type 0 where
   pub reads : ReadsAs cmp order v tables w.shown.files
   pub settled : (name : List ℕ) → RestsOn cmp v w.shown.files name → IsSettled w name
-
--- a file is there under its name with its bytes, and was synced since
-pub record IsWritten (w : World) (file : List ℕ × List ℕ) : Type 0 where
-  pub held : w.shown.files file.0 ≡ Some file.1
-  pub synced : w.shown.synced file.0 ≡ true

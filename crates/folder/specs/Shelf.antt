@@ -1,8 +1,8 @@
 -- A folder in memory: its files at first, and the calls that wrote since.
-use Rattle.std.specs.Prelude.{◌≡◌, ◌⊎◌, ℕ, Bool, if◌then◌else◌, List, [], ◌∷◌, Option, Some, None, string_bytes}
+use Rattle.std.specs.Prelude.{ℕ, if◌then◌else◌, List, [], ◌∷◌, Some, None, string_bytes}
 use Rattle.std.specs.Map.{lookup}
 use Rattle.std.specs.Str.{bytes_eq}
-use Rattle.folder.specs.Calls.{Call, Created, Done, Files, FolderSynced, Renamed, Step, Synced, Tried, moved, put}
+use Rattle.folder.specs.Calls.{Files, Step, moved, put}
 use Rattle.folder.specs.declared.shelf_step.ShelfCall.{ShelfCall}
 use Rattle.folder.specs.declared.shelf_step.ShelfCall.TheVariants.{Create, Rename, Sync, SyncFolder}
 use Rattle.folder.specs.declared.shelf_step.ShelfStep.{ShelfStep}
@@ -26,21 +26,6 @@ after_step step files = if step.is_shown then made_by step.call files else files
 abbrev pub after_steps : List ShelfStep → Files → Files
 after_steps [] files = files
 after_steps (step ∷ steps) files = after_step step (after_steps steps files)
-
--- What a step makes of files, where a call that failed may have made a file of any bytes or none, or renamed one or not.
-abbrev pub Alters : Step → Files → Files → Type 0
-Alters (Done (Created name bytes)) old new = new ≡ put old name (Some bytes)
-Alters (Tried (Created name bytes)) old new = (new ≡ old) ⊎ ((held : Option (List ℕ)) × (new ≡ put old name held))
-Alters (Done (Renamed from to)) old new = new ≡ moved None old from to
-Alters (Tried (Renamed from to)) old new = (new ≡ old) ⊎ (new ≡ moved None old from to)
-Alters (Done (Synced name)) old new = new ≡ old
-Alters (Tried (Synced name)) old new = new ≡ old
-Alters (Done FolderSynced) old new = new ≡ old
-Alters (Tried FolderSynced) old new = new ≡ old
-
--- a call that was done, or that failed
-abbrev pub tried_if : Bool → Call → Step
-tried_if failed call = if failed then Tried call else Done call
 
 -- a folder in memory, as contracts see it
 pub record Shelved : Type 0 where

@@ -28,5 +28,4 @@ pub use opening::open;
 pub use order::Order;
 pub use shelf::{Failing, Shelf};
 pub use shelf_step::{ShelfCall, ShelfStep};
-pub use trail::{Attempt, Trail, WriteCall};
 pub use whole_files::WholeFiles;

@@ -1,12 +1,12 @@
 //! Reading a version's tables.
 
-ghost use Rattle.std.specs.Prelude.{◌≡◌, ◌++◌, ◌≤◌, map, Ok, IfErr, OnOk, IsOkUnless};
+ghost use Rattle.std.specs.Prelude.{◌≡◌, ◌++◌, map, Ok, OnOk, IsOkUnless};
 ghost use Rattle.coding.specs.Answers.{EqualOrMemory, fault};
 ghost use Rattle.coding.specs.declared.fault.FaultName.TheVariants.{Memory};
-ghost use Rattle.folder.specs.Folder.{TellsSame};
 ghost use Rattle.folder.specs.Levels.{file_numbers};
 ghost use Rattle.folder.specs.Loading.{IsLoaded, IsTableAnswer};
-ghost use Rattle.folder.specs.Opening.{FolderAnswers, HasDeviceFailed, StopsAtDevice};
+ghost use Rattle.folder.specs.Opening.{FolderAnswers};
+ghost use Rattle.folder.specs.Reports.{OnlyReads, ReportsDevice};
 
 use crate::folder::Folder;
 use crate::names::{old_table_name, table_name};
@@ -29,11 +29,8 @@ pub fn load<C: Comparator, F: Folder>(
 ) -> Result<Vec<(u64, Vec<u8>)>, Fault>
     ensures answer { FolderAnswers (λ v. map (λ t. (t.0, t.1.items)) v.items) (F.failed folder.old) (F.failed folder.new) result
         (IsLoaded (F.tells folder.old) (file_numbers C.cmp version.now)) }
-    ensures device { IfErr result (HasDeviceFailed (F.failed folder.old) (F.failed folder.new)) }
-    ensures same { TellsSame (F.tells folder.old) (F.tells folder.new) }
-    ensures calls { F.calls folder.new ≡ F.calls folder.old }
-    ensures at_once { StopsAtDevice (F.failed folder.old) (F.failed folder.new) result }
-    ensures later { F.failed folder.old ≤ F.failed folder.new }
+    ensures device { ReportsDevice F.Folder folder.old folder.new result }
+    ensures reads { OnlyReads F.Folder folder.old folder.new }
 {
     let numbers = file_numbers::<C>(alloc, version)?;
     tables(alloc, folder, &numbers)
@@ -65,10 +62,8 @@ fn tables<F: Folder>(
 ) -> Result<Vec<(u64, Vec<u8>)>, Fault>
     ensures answer { FolderAnswers (λ v. map (λ t. (t.0, t.1.items)) v.items) (F.failed folder.old) (F.failed folder.new) result
         (IsLoaded (F.tells folder.old) numbers.now) }
-    ensures same { TellsSame (F.tells folder.old) (F.tells folder.new) }
-    ensures calls { F.calls folder.new ≡ F.calls folder.old }
-    ensures at_once { StopsAtDevice (F.failed folder.old) (F.failed folder.new) result }
-    ensures later { F.failed folder.old ≤ F.failed folder.new }
+    ensures device { ReportsDevice F.Folder folder.old folder.new result }
+    ensures reads { OnlyReads F.Folder folder.old folder.new }
 {
     let mut tables = Vec::with_capacity(alloc, numbers.len())?;
     for number in numbers {
@@ -81,10 +76,8 @@ fn tables<F: Folder>(
 /// The bytes of the table of a number.
 fn table<F: Folder>(alloc: Global, folder: &mut F, number: u64) -> Result<Vec<u8>, Fault>
     ensures answer { FolderAnswers (λ v. v.items) (F.failed folder.old) (F.failed folder.new) result (IsTableAnswer (F.tells folder.old) number) }
-    ensures same { TellsSame (F.tells folder.old) (F.tells folder.new) }
-    ensures calls { F.calls folder.new ≡ F.calls folder.old }
-    ensures at_once { StopsAtDevice (F.failed folder.old) (F.failed folder.new) result }
-    ensures later { F.failed folder.old ≤ F.failed folder.new }
+    ensures device { ReportsDevice F.Folder folder.old folder.new result }
+    ensures reads { OnlyReads F.Folder folder.old folder.new }
 {
     let name = table_name(alloc, number)?;
     let old_name = old_table_name(alloc, number)?;

@@ -1,8 +1,7 @@
 //! Opening a folder.
 
-ghost use Rattle.std.specs.Prelude.{◌≡◌, ◌≤◌, IfErr};
-ghost use Rattle.folder.specs.Folder.{TellsSame};
-ghost use Rattle.folder.specs.Opening.{FolderAnswers, HasDeviceFailed, IsHeld, IsOpened, StopsAtDevice};
+ghost use Rattle.folder.specs.Opening.{FolderAnswers, IsHeld, IsOpened};
+ghost use Rattle.folder.specs.Reports.{OnlyReads, ReportsDevice};
 
 use crate::edits::version_in;
 use crate::folder::Folder;
@@ -23,11 +22,8 @@ use std::alloc::Global;
 /// Memory. Only reads.
 pub fn open<F: Folder>(alloc: Global, folder: &mut F) -> Result<(Order, Version), Fault>
     ensures answer { FolderAnswers (λ r. (r.0, r.1)) (F.failed folder.old) (F.failed folder.new) result (IsOpened (F.tells folder.old)) }
-    ensures device { IfErr result (HasDeviceFailed (F.failed folder.old) (F.failed folder.new)) }
-    ensures same { TellsSame (F.tells folder.old) (F.tells folder.new) }
-    ensures calls { F.calls folder.new ≡ F.calls folder.old }
-    ensures at_once { StopsAtDevice (F.failed folder.old) (F.failed folder.new) result }
-    ensures later { F.failed folder.old ≤ F.failed folder.new }
+    ensures device { ReportsDevice F.Folder folder.old folder.new result }
+    ensures reads { OnlyReads F.Folder folder.old folder.new }
 {
     let current = held(folder, CURRENT)?;
     let number = number_in_current(alloc, &current)?;
@@ -39,10 +35,8 @@ pub fn open<F: Folder>(alloc: Global, folder: &mut F) -> Result<(Order, Version)
 /// The bytes of a file. Missing where there is no file of that name.
 pub(crate) fn held<F: Folder>(folder: &mut F, name: &str) -> Result<Vec<u8>, Fault>
     ensures answer { FolderAnswers (λ v. v.items) (F.failed folder.old) (F.failed folder.new) result (IsHeld (F.tells folder.old) name.now) }
-    ensures same { TellsSame (F.tells folder.old) (F.tells folder.new) }
-    ensures calls { F.calls folder.new ≡ F.calls folder.old }
-    ensures at_once { StopsAtDevice (F.failed folder.old) (F.failed folder.new) result }
-    ensures later { F.failed folder.old ≤ F.failed folder.new }
+    ensures device { ReportsDevice F.Folder folder.old folder.new result }
+    ensures reads { OnlyReads F.Folder folder.old folder.new }
 {
     match folder.read(name)? {
         Some(bytes) => Ok(bytes),

@@ -2,10 +2,10 @@
 
 ghost use Rattle.std.specs.Prelude.{◌≡◌, [], ◌∷◌, ◌++◌, map, Err, IfOk};
 ghost use Rattle.std.specs.Option.{option_map};
-ghost use Rattle.folder.specs.Attempts.{call_in};
+ghost use Rattle.folder.specs.Attempts.{Alters, call_in, tried_if};
 ghost use Rattle.folder.specs.Calls.{Files, Tells, step_of};
 ghost use Rattle.folder.specs.Folder.{failures_after};
-ghost use Rattle.folder.specs.Shelf.{Alters, after_steps, files_in, held_by, made_by, tried_if};
+ghost use Rattle.folder.specs.Shelf.{after_steps, files_in, held_by, made_by};
 ghost use Rattle.folder.specs.declared.folder.FolderFault.TheVariants.{Memory};
 
 use crate::folder::{Folder, FolderFault};

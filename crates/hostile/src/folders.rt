@@ -14,7 +14,7 @@ use install::install;
 use pairing::blocks;
 use std::alloc::Global;
 use std::thread::Threads;
-use store::{Settings, compact_dir};
+use store::{Open, Settings, compact_dir};
 
 /// The folder of one table, of a deletion of `u` at 4 and a value `x` at 2.
 const FILES: &[(&str, &[u8])] = &[
@@ -109,7 +109,7 @@ fn is_compacted<R: AllocGlobal + Threads + Sync>(
     rt: &R,
     shelf: &mut Shelf<'_>,
 ) -> Result<bool, Fault> {
-    let lines = compact_dir(rt, rt.alloc(), shelf, 1, &Settings::default())?;
+    let lines = compact_dir(rt, rt.alloc(), shelf, 1, &Settings::default(), &Open)?;
     Ok(lines.as_slice() == COMPACTED)
 }
 
@@ -138,8 +138,8 @@ fn told<R: AllocGlobal + Threads + Sync>(
 ) -> Result<Vec<u8>, Fault> {
     match question {
         Question::Manifest => manifest(rt.alloc(), shelf),
-        Question::Verify => verify(rt, rt.alloc(), shelf),
-        Question::Get(at) => get_dir(rt, rt.alloc(), shelf, b"u", *at),
+        Question::Verify => verify(rt, rt.alloc(), shelf, &Open),
+        Question::Get(at) => get_dir(rt, rt.alloc(), shelf, b"u", *at, &Open),
     }
 }
 

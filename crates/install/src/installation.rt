@@ -5,6 +5,7 @@ ghost use Rattle.coding.specs.Answers.{UnlessMemory};
 ghost use Rattle.edit.specs.Version.{State};
 ghost use Rattle.folder.specs.Runs.{Runs};
 ghost use Rattle.folder.specs.Opening.{IsStopped, StopsAtDevice};
+ghost use Rattle.folder.specs.Reports.{ReportsDevice};
 ghost use Rattle.folder.specs.declared.order.Order.{Order};
 ghost use Rattle.install.specs.Install.{IsEditedBy, Survives, install_calls, manifest_bytes, tables_after, tables_in};
 
@@ -41,10 +42,9 @@ pub fn install<C: Comparator, F: Folder>(
         → Survives C.cmp order version.now tables next (tables_after C.cmp next (tables_in outcome.now.tables.items) tables)
         (F.calls folder.old) (F.calls folder.new) (F.tells folder.old) (F.tells folder.new) result }
 
-    // Device is answered only where the device failed, and at once; nothing else but want of memory is.
+    // Only Device and Memory are answered, Device only if the device failed, and then no further call is made.
     ensures refused { IfErr result (λ e. UnlessMemory e (IsStopped (F.failed folder.old) (F.failed folder.new) e)) }
-    ensures at_once { StopsAtDevice (F.failed folder.old) (F.failed folder.new) result }
-    ensures later { F.failed folder.old ≤ F.failed folder.new }
+    ensures device { ReportsDevice F.Folder folder.old folder.new result }
 {
     let manifest = manifest_bytes::<C>(alloc, version, &outcome.edit)?;
     make_calls(alloc, folder, manifest_number, &outcome.tables, &manifest)

@@ -2,7 +2,9 @@ use crate::folders::*;
 use account::{Account, text};
 use checks::Work;
 use coding::{Fault, FaultName};
-use commands::{bottom, dump, get_dir, manifest, next_level, progress_text, status, verify};
+use commands::{
+    Open, bottom, dump, get_dir, manifest, next_level, progress_text, status, verify,
+};
 use diagnostics::{RefusedFile, account_of, log_with_writes, refused_file};
 use folder::{Failing, FolderFault, Shelf, open};
 use std::alloc::Global;
@@ -227,7 +229,8 @@ fn first_refusal(alloc: Global, folder: &mut Shelf<'_>) -> Result<Vec<u8>, Fault
 
 /// The name of a log with writes, if there is one.
 fn log_name(alloc: Global, folder: &mut Shelf<'_>) -> Result<Vec<u8>, Fault> {
-    match log_with_writes(alloc, folder)? {
+    let (_order, version) = open(alloc, folder)?;
+    match log_with_writes(alloc, folder, &version)? {
         Some(name) => Ok(name.into_bytes()),
         None => Ok(Vec::new(alloc)),
     }
@@ -260,8 +263,8 @@ fn answer<R: AllocGlobal + Threads + Sync>(
     let alloc = rt.alloc();
     match call {
         Call::Manifest => manifest(alloc, folder),
-        Call::Verify => verify(rt, alloc, folder),
-        Call::Get(key, at) => get_dir(rt, alloc, folder, key, *at),
+        Call::Verify => verify(rt, alloc, folder, &Open),
+        Call::Get(key, at) => get_dir(rt, alloc, folder, key, *at, &Open),
         Call::RefusedFile => first_refusal(alloc, folder),
         Call::Log => log_name(alloc, folder),
         Call::Account(before, level) => explained(alloc, files_of(*before), folder, *level),

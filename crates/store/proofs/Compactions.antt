@@ -20,6 +20,7 @@ use Rattle.request.specs.Request.{RequestView}
 use Rattle.store.specs.Asking.{numbered_request, compaction_of, manifest_of, request_of}
 use Rattle.store.specs.Compaction.{Compacted}
 use Rattle.store.specs.Joint.{JointLaw}
+use Rattle.store.specs.Lines.{compaction_lines}
 use Rattle.store.specs.declared.settings.Settings.{Settings}
 
 -- the answer of a compaction is that of one thread
@@ -34,10 +35,11 @@ thread_of cmp separator_of successor_of v loaded p s answer h =
 
 -- what a compaction answers is installed
 pub is_compacted : (cmp : List ℕ → List ℕ → Ordering) (separator_of : List ℕ → List ℕ → List ℕ) (successor_of : List ℕ → List ℕ) → JointLaw cmp separator_of successor_of
-    → (order : Order) (v : State) (loaded : List (ℕ × List ℕ)) (tables : List Numbered) (level : ℕ) (p : Picked) (s : Settings) (answer : Answer)
+    → (order : Order) (v : State) (loaded : List (ℕ × List ℕ)) (tables : List Numbered) (level : ℕ) (p : Picked) (s : Settings) (answer : Answer) (lines : List ℕ)
     → IsLawfulTables cmp v loaded (Ok tables) → IsState v.pointers v.files → IsPicked cmp v level p → (request_of v loaded p s).log_number < 2 ^ 64 → (request_of v loaded p s).previous_log < 2 ^ 64
-    → compaction_of cmp separator_of successor_of v loaded p s ≡ Ok answer → Compacted order cmp separator_of successor_of v loaded level s answer
-is_compacted cmp separator_of successor_of joint order v loaded tables level p s answer sound state picked log previous answered = record {
+    → compaction_of cmp separator_of successor_of v loaded p s ≡ Ok answer → lines ≡ compaction_lines answer.tables p.files (manifest_of v)
+    → Compacted order cmp separator_of successor_of v loaded level s answer lines
+is_compacted cmp separator_of successor_of joint order v loaded tables level p s answer lines sound state picked log previous answered told = record {
   tables = tables;
   lawful = sound;
   picked = p;
@@ -45,6 +47,7 @@ is_compacted cmp separator_of successor_of joint order v loaded tables level p s
   answered = answered;
   edited = joint order v loaded tables level p s answer (sound_checked cmp v loaded tables sound) (sound_lawful cmp v loaded tables sound) state.levels.file_levels picked log previous
       (thread_of cmp separator_of successor_of v loaded p s answer answered);
+  told = told;
 }
 
 -- a refusal behind a test that passed

@@ -1,26 +1,21 @@
 -- The compaction of a folder, step by step.
-use Rattle.std.proofs.Common.{◌≡◌, ◌≢◌, ◌⊎◌, ℕ, ◌≤◌, List, [], ◌∷◌, Option, Result, Ok, Err, IfErr, IsErrAnd, OnOk, refl, sym, ap, subst, ◌∙◌, inl, inr, codes}
-use Rattle.std.specs.List.{AllZip}
+use Rattle.std.proofs.Common.{◌≡◌, ◌≢◌, ◌⊎◌, ℕ, ◌≤◌, List, Option, Result, Ok, Err, IsErrAnd, OnOk, refl, inl, inr, codes}
 use Rattle.coding.proofs.Refusals.{unless_from, unless_device}
-use Rattle.coding.specs.Answers.{IsThen, UnlessMemory, fault}
+use Rattle.coding.specs.Answers.{IsThen, UnlessMemory}
 use Rattle.coding.specs.declared.fault.Fault.{Fault}
 use Rattle.coding.specs.declared.fault.FaultName.TheVariants.{Device}
 use Rattle.edit.specs.Version.{State}
-use Rattle.folder.proofs.CountLemmas.{steady}
-use Rattle.folder.proofs.LoadingLemmas.{table_before}
+use Rattle.folder.proofs.LoadingLemmas.{loaded_before}
 use Rattle.folder.proofs.OpeningLemmas.{failed_since, hands_on, held_before}
 use Rattle.folder.specs.Calls.{Files, Tells}
 use Rattle.folder.specs.Folder.{TellsSame}
-use Rattle.folder.specs.Loading.{IsLoaded, IsTableOf}
-use Rattle.folder.specs.Opening.{FolderAnswers, HasDeviceFailed, IsOpened, IsStopped, StopsAtDevice}
+use Rattle.folder.specs.Loading.{IsLoaded}
+use Rattle.folder.specs.Opening.{FolderAnswers, HasDeviceFailed, IsOpened, IsStopped}
 use Rattle.folder.specs.ReadsAs.{IsHeldIn}
 use Rattle.folder.specs.declared.order.Order.{Order}
 
 abbrev refusal : {Y : Type 0} → Fault → Result Y Fault
 refusal e = Err e
-
-same_refusal : {Y : Type 0} (e d : Fault) → refusal {Y = Y} e ≡ refusal d → e ≡ d
-same_refusal e d h = cc
 
 pub no_refusal : {Y : Type 0} (y : Y) (e : Fault) → Ok y ≡ refusal e → ⊥
 no_refusal y e h = cc
@@ -41,24 +36,6 @@ opened_before old new r same (Ok current, (h, (Ok number, (n, (m, (k, f)))))) =
 -- what a folder that tells files opens as is what they open as
 pub opened_in : (tells : List ℕ → Option (List ℕ) → Type 0) (files : Files) (r : Result (Order × State) Fault) → Tells tells files → IsOpened tells r → IsOpened (IsHeldIn files) r
 opened_in tells files r h opened = opened_before (IsHeldIn files) tells r (turned tells files h) opened
-
-zip_before : (old new : List ℕ → Option (List ℕ) → Type 0) (numbers : List ℕ) (tables : List (ℕ × List ℕ)) → TellsSame old new → AllZip (IsTableOf new) numbers tables → AllZip (IsTableOf old) numbers tables
-zip_before old new [] [] same h = tt
-zip_before old new [] (t ∷ tables) same h = absurd h
-zip_before old new (n ∷ numbers) [] same h = absurd h
-zip_before old new (n ∷ numbers) (t ∷ tables) same h = ((h.0.0, table_before old new n (Ok t.1) same h.0.1), zip_before old new numbers tables same h.1)
-
-loaded_before : (old new : List ℕ → Option (List ℕ) → Type 0) (numbers : List ℕ) (r : Result (List (ℕ × List ℕ)) Fault) → TellsSame old new → IsLoaded new numbers r → IsLoaded old numbers r
-loaded_before old new numbers (Ok tables) same h = zip_before old new numbers tables same h
-loaded_before old new numbers (Err e) same h = record {
-  before = h.before;
-  tables = h.tables;
-  number = h.number;
-  behind = h.behind;
-  parts = h.parts;
-  read = zip_before old new h.before h.tables same h.read;
-  missing = table_before old new h.number (Err e) same h.missing;
-}
 
 -- and the tables that it loads are theirs
 pub loaded_in : (tells : List ℕ → Option (List ℕ) → Type 0) (files : Files) (numbers : List ℕ) (r : Result (List (ℕ × List ℕ)) Fault) → Tells tells files → IsLoaded tells numbers r → IsLoaded (IsHeldIn files) numbers r
@@ -92,37 +69,9 @@ stopped_on {Y = Y} view before middle now r e IsAnswer h one two given =
 
 -- ---- Device
 
--- a call's refusal that `?` hands on ends where it ended
-pub stops_handed : {X Y : Type 0} (before now : ℕ) (first : Result X Fault) (e : Fault) (r : Result Y Fault) → first ≡ Err e → IsErrAnd r (λ f. f ≡ e) → StopsAtDevice before now first → StopsAtDevice before now r
-stops_handed before now first e (Ok y) is h stops = absurd h
-stops_handed {X} before now first e (Err f) is h stops = λ rose. ap (λ (x : Fault). refusal x) (h ∙ same_refusal {Y = X} e (fault Device) (sym is ∙ stops rose))
-
--- a call that answered a value left the count as it was, and the next one reads nothing
-pub stops_steady : {X Y : Type 0} (before now : ℕ) (first : Result X Fault) (x : X) (r : Result Y Fault) → first ≡ Ok x → StopsAtDevice before now first → StopsAtDevice before now r
-stops_steady before now first x r is stops = λ rose. absurd (no_refusal x (fault Device) (sym is ∙ stops rose))
-
--- a call that answered a value, and then one that ends where the device fails
-pub stops_later : {X Y : Type 0} (before middle now : ℕ) (first : Result X Fault) (x : X) (r : Result Y Fault) → first ≡ Ok x → before ≤ middle → StopsAtDevice before middle first
-    → StopsAtDevice middle now r → StopsAtDevice before now r
-stops_later before middle now first x r is later one two =
-    subst (λ (n : ℕ). StopsAtDevice n now r) (steady before before middle x first is refl later one) two
-
--- a device that failed after a time failed after an earlier time
-pub device_since : {X : Type 0} (before middle now : ℕ) (r : Result X Fault) → before ≤ middle → middle ≤ now → IfErr r (HasDeviceFailed middle now) → IfErr r (HasDeviceFailed before now)
-device_since before middle now (Ok x) one two h = tt
-device_since before middle now (Err e) one two h = λ same. failed_since before middle now one two (h same)
-
--- a refusal that `?` hands on
-pub device_handed : {X : Type 0} (before middle now : ℕ) (r : Result X Fault) (e : Fault) → IsErrAnd r (λ f. f ≡ e) → before ≤ middle → middle ≤ now → HasDeviceFailed middle now e → IfErr r (HasDeviceFailed before now)
-device_handed before middle now (Ok x) e h one two given = tt
-device_handed before middle now (Err f) e h one two given = λ same. failed_since before middle now one two (given (sym (ap (λ (x : Fault). x.name) h) ∙ same))
-
 -- it was another name, or the device had failed
 pub never_device : (before now : ℕ) (e : Fault) (P : Type 0) → (P → e.name ≢ Device) → UnlessMemory e P → HasDeviceFailed before now e
 never_device before now e P f given = λ same. absurd (f (unless_device e P same given) same)
-
-pub stopped_device : (before now : ℕ) (e : Fault) → UnlessMemory e (IsStopped before now e) → HasDeviceFailed before now e
-stopped_device before now e given = λ same. (unless_device e (IsStopped before now e) same given).1
 
 -- an error is no value
 pub no_value : {T : Type 0} (r : Result T Fault) (P : Fault → Type 0) → IsErrAnd r P → OnOk r ⊥

@@ -1,5 +1,6 @@
 -- The installation of a compaction, as a part of the call.
-use Rattle.std.proofs.Common.{◌≡◌, ℕ, false, List, [], ◌∷◌, ◌++◌, Option, Result, Ok, Err, IfErr, IsErrAnd, OnOk, refl, sym, ap, subst, ◌∙◌, inl, inr}
+use Rattle.std.proofs.Common.{◌≡◌, ℕ, false, List, [], ◌∷◌, ◌++◌, Option, Result, Ok, Err, IfErr, IfOk, IsErrAnd, OnOk, refl, sym, ap, subst, ◌∙◌, inl, inr}
+use Rattle.std.specs.Global.{Vec}
 use Rattle.std.specs.declared.cmp.Ordering.{Ordering}
 use Rattle.coding.specs.Answers.{UnlessMemory, fault}
 use Rattle.coding.specs.declared.fault.Fault.{Fault}
@@ -20,8 +21,8 @@ use Rattle.folder.specs.declared.order.Order.{Order}
 use Rattle.install.specs.Install.{IsEditedBy, Survives, tables_after}
 use Rattle.request.specs.OneThread.{Answer}
 use Rattle.store.specs.Asking.{manifest_of}
-use Rattle.store.specs.Compaction.{Compacted, IsInstalled, IsLeft, IsOpenedLeft, IsVersionLeft, next_of}
-use Rattle.store.specs.Orders.{order_cmp, order_separator, order_successor}
+use Rattle.store.specs.Compaction.{Compacted, IsInstalled, IsLeft, IsVersionLeft, next_of}
+use Rattle.folder.specs.Orders.{order_cmp, order_separator, order_successor}
 use Rattle.store.specs.declared.settings.Settings.{Settings}
 
 -- what survives of one answer does of another one that is a value where the first is
@@ -44,18 +45,19 @@ Promises name cmp v number answer before after old new r =
     (order : Order) (next : State) (tables : List (ℕ × List ℕ)) → IsEditedBy name cmp order v number answer.tables answer.edit next
     → Survives cmp order v tables next (tables_after cmp next answer.tables tables) before after old new r
 
-pub installed_by : {T U : Type 0} (name : List ℕ) (order : Order) (cmp : List ℕ → List ℕ → Ordering) (separator_of : List ℕ → List ℕ → List ℕ) (successor_of : List ℕ → List ℕ) (files : Files) (v : State) (loaded : List (ℕ × List ℕ)) (level : ℕ) (s : Settings) (answer : Answer)
-    (before after : List Step) (old middle new : List ℕ → Option (List ℕ) → Type 0) (r : Result T Fault) (q : Result U Fault)
-    → order_name order ≡ name → ReadsAs cmp order v loaded files → Compacted order cmp separator_of successor_of v loaded level s answer → ((P : Type 0) → OnOk r P → OnOk q P) → TellsSame old middle
-    → IfErr q (λ e. UnlessMemory e (e ≡ fault Device)) → Promises name cmp v (manifest_of v) answer before after middle new r
+pub installed_by : {T : Type 0} (name : List ℕ) (order : Order) (cmp : List ℕ → List ℕ → Ordering) (separator_of : List ℕ → List ℕ → List ℕ) (successor_of : List ℕ → List ℕ) (files : Files) (v : State) (loaded : List (ℕ × List ℕ)) (level : ℕ) (s : Settings) (answer : Answer) (lines : List ℕ)
+    (before after : List Step) (old middle new : List ℕ → Option (List ℕ) → Type 0) (r : Result T Fault) (q : Result (Vec ℕ) Fault)
+    → order_name order ≡ name → ReadsAs cmp order v loaded files → Compacted order cmp separator_of successor_of v loaded level s answer lines → ((P : Type 0) → OnOk r P → OnOk q P) → TellsSame old middle
+    → IfOk q (λ text. text.items ≡ lines) → IfErr q (λ e. UnlessMemory e (e ≡ fault Device)) → Promises name cmp v (manifest_of v) answer before after middle new r
     → IsInstalled order cmp separator_of successor_of files level s before after old new q
-installed_by name order cmp separator_of successor_of files v loaded level s answer before after old middle new r q named reads done f same refused promises =
+installed_by name order cmp separator_of successor_of files v loaded level s answer lines before after old middle new r q named reads done f same printed refused promises =
     let edited = subst (λ (n : List ℕ). IsEditedBy n cmp order v (manifest_of v) answer.tables answer.edit done.edited.next) named done.edited.edited in
     record {
-      compaction = record { version = v; loaded = loaded; reads = reads; answer = answer; compacted = done };
+      compaction = record { version = v; loaded = loaded; reads = reads; answer = answer; lines = lines; compacted = done };
       survives = survives_on cmp order v done.edited.next loaded (tables_after cmp done.edited.next answer.tables loaded) before after old middle new r q f
           (λ files tells name held. (λ h. (tells name held).0 ((same name held).1 h), λ h. (same name held).0 ((tells name held).1 h)))
           (promises order done.edited.next loaded edited);
+      printed = printed;
       refused = refused;
     }
 
@@ -70,6 +72,11 @@ pub refused_on : {T U : Type 0} (r : Result T Fault) (q : Result U Fault) (e : F
 refused_on r (Ok x) e P h given = absurd h
 refused_on r (Err f) e P h given = tt
 
+-- a call that was refused answers no value
+pub refused_ok : {T : Type 0} (q : Result T Fault) (e : Fault) (P : T → Type 0) → IsErrAnd q (λ f. f ≡ e) → IfOk q P
+refused_ok (Ok x) e P h = absurd h
+refused_ok (Err f) e P h = tt
+
 pub valued_on : {T U : Type 0} (r : Result T Fault) (x : T) (q : Result U Fault) (P : Type 0) → r ≡ Ok x → OnOk r P → OnOk q P
 valued_on r x (Ok y) P is given = subst (λ (a : Result _ Fault). OnOk a P) is given
 valued_on r x (Err e) P is given = tt
@@ -80,22 +87,16 @@ still : (old new : List ℕ → Option (List ℕ) → Type 0) → TellsSame old 
 still old new same files tells name held = (λ h. (tells name held).0 ((same name held).1 h), λ h. (same name held).0 ((tells name held).1 h))
 
 -- an installation, told from earlier calls on
-installed_since : {T : Type 0} (order : Order) (cmp : List ℕ → List ℕ → Ordering) (separator_of : List ℕ → List ℕ → List ℕ) (successor_of : List ℕ → List ℕ) (files : Files) (level : ℕ) (s : Settings)
-    (first before after : List Step) (zero old new : List ℕ → Option (List ℕ) → Type 0) (r : Result T Fault) → before ≡ first → ((files : Files) → Tells zero files → Tells old files)
+installed_since : (order : Order) (cmp : List ℕ → List ℕ → Ordering) (separator_of : List ℕ → List ℕ → List ℕ) (successor_of : List ℕ → List ℕ) (files : Files) (level : ℕ) (s : Settings)
+    (first before after : List Step) (zero old new : List ℕ → Option (List ℕ) → Type 0) (r : Result (Vec ℕ) Fault) → before ≡ first → ((files : Files) → Tells zero files → Tells old files)
     → IsInstalled order cmp separator_of successor_of files level s before after old new r → IsInstalled order cmp separator_of successor_of files level s first after zero new r
 installed_since order cmp separator_of successor_of files level s first before after zero old new r is told i = record {
   compaction = i.compaction;
   survives = subst (λ (b : List Step). Survives cmp order i.compaction.version i.compaction.loaded (next_of i.compaction) (tables_after cmp (next_of i.compaction) i.compaction.answer.tables i.compaction.loaded) b after zero new r) is
       (survives_on cmp order i.compaction.version (next_of i.compaction) i.compaction.loaded (tables_after cmp (next_of i.compaction) i.compaction.answer.tables i.compaction.loaded) before after zero old new r r (λ P x. x) told i.survives);
+  printed = i.printed;
   refused = i.refused;
 }
-
--- what is left of a folder that was opened
-pub opened_left : {T : Type 0} (order : Order) (files : Files) (level : ℕ) (s : Settings) (first before after : List Step) (zero old new : List ℕ → Option (List ℕ) → Type 0) (r : Result T Fault) → before ≡ first → TellsSame zero old
-    → IsVersionLeft order (order_cmp order) (order_separator order) (order_successor order) files level s before after old new r → IsOpenedLeft files level s first after zero new r
-opened_left order files level s first before after zero old new r is same (inl u) = inl (record { calls = u.calls ∙ is; same = told_since zero old new same u.same; refused = u.refused })
-opened_left order files level s first before after zero old new r is same (inr i) =
-    inr (order, installed_since order (order_cmp order) (order_separator order) (order_successor order) files level s first before after zero old new r is (still zero old same) i)
 
 -- a sync of the folder changes nothing of what may be read
 pub sync_told : {T : Type 0} (r : Result T FolderFault) (old new : List ℕ → Option (List ℕ) → Type 0) → TellsAfter (step_of FolderSynced r) old new → (files : Files) → Tells old files → Tells new files
@@ -111,33 +112,43 @@ sync_call (Ok x) = refl
 sync_call (Err e) = refl
 
 -- the sync was refused
-pub sync_refused : {T U : Type 0} (files : Files) (level : ℕ) (s : Settings) (before after : List Step) (old new : List ℕ → Option (List ℕ) → Type 0) (r : Result T FolderFault) (q : Result U Fault)
+pub sync_refused : {T : Type 0} (files : Files) (level : ℕ) (s : Settings) (before after : List Step) (old new : List ℕ → Option (List ℕ) → Type 0) (r : Result T FolderFault) (q : Result (Vec ℕ) Fault)
     → after ≡ before ++ step_of FolderSynced r ∷ [] → TellsAfter (step_of FolderSynced r) old new → OnOk q ⊥ → IsLeft files level s before after old new q
 sync_refused files level s before after old new r q calls change refused =
     inl (record { step = step_of FolderSynced r; call = sync_call r; calls = calls; same = sync_told r old new change; refused = refused })
 
--- what is left of a folder that was synced
-pub synced_left : {T U : Type 0} (files : Files) (level : ℕ) (s : Settings) (first before after : List Step) (zero old new : List ℕ → Option (List ℕ) → Type 0) (r : Result T FolderFault) (x : T) (q : Result U Fault)
-    → r ≡ Ok x → before ≡ first ++ step_of FolderSynced r ∷ [] → TellsAfter (step_of FolderSynced r) zero old → IsOpenedLeft files level s before after old new q → IsLeft files level s first after zero new q
-synced_left files level s first before after zero old new r x q done calls change (inl u) =
+-- it was synced, and nothing was called that writes
+pub synced_still : {T : Type 0} (files : Files) (level : ℕ) (s : Settings) (first before after : List Step) (zero old new : List ℕ → Option (List ℕ) → Type 0) (r : Result T FolderFault) (q : Result (Vec ℕ) Fault)
+    → before ≡ first ++ step_of FolderSynced r ∷ [] → TellsAfter (step_of FolderSynced r) zero old → after ≡ before → TellsSame old new → OnOk q ⊥ → IsLeft files level s first after zero new q
+synced_still files level s first before after zero old new r q calls change no_more same refused =
     inl (record {
       step = step_of FolderSynced r;
       call = sync_call r;
-      calls = u.calls ∙ calls;
-      same = λ fs tells. still old new u.same fs (sync_told r zero old change fs tells);
-      refused = u.refused;
+      calls = no_more ∙ calls;
+      same = λ fs tells. still old new same fs (sync_told r zero old change fs tells);
+      refused = refused;
     })
-synced_left files level s first before after zero old new r x q done calls change (inr h) =
-    let order = h.0 in
-    let is : before ≡ first ++ Done FolderSynced ∷ [] = calls ∙ ap (λ (a : Result _ FolderFault). first ++ step_of FolderSynced a ∷ []) done in
-    inr (order, installed_since order (order_cmp order) (order_separator order) (order_successor order) files level s (first ++ Done FolderSynced ∷ []) before after zero old new q is (sync_told r zero old change) h.1)
+
+-- what is left of a folder that was synced and opened
+pub synced_left : {T : Type 0} (order : Order) (files : Files) (level : ℕ) (s : Settings) (first synced before after : List Step) (zero middle old new : List ℕ → Option (List ℕ) → Type 0)
+    (r : Result T FolderFault) (x : T) (q : Result (Vec ℕ) Fault) → r ≡ Ok x → synced ≡ first ++ step_of FolderSynced r ∷ [] → TellsAfter (step_of FolderSynced r) zero middle → before ≡ synced → TellsSame middle old
+    → IsVersionLeft order (order_cmp order) (order_separator order) (order_successor order) files level s before after old new q → IsLeft files level s first after zero new q
+synced_left order files level s first synced before after zero middle old new r x q done calls change is same (inl u) =
+    synced_still files level s first synced after zero middle new r q calls change (u.calls ∙ is) (told_since middle old new same u.same) u.refused
+synced_left order files level s first synced before after zero middle old new r x q done calls change is same (inr i) =
+    let begun : before ≡ first ++ Done FolderSynced ∷ [] = is ∙ calls ∙ ap (λ (a : Result _ FolderFault). first ++ step_of FolderSynced a ∷ []) done in
+    inr (
+      order,
+      installed_since order (order_cmp order) (order_separator order) (order_successor order) files level s (first ++ Done FolderSynced ∷ []) before after zero old new q begun
+          (λ fs tells. still middle old same fs (sync_told r zero middle change fs tells)) i,
+    )
 
 -- what is left of a folder whose version was compacted
-pub version_left : {T U : Type 0} (name : List ℕ) (order : Order) (cmp : List ℕ → List ℕ → Ordering) (separator_of : List ℕ → List ℕ → List ℕ) (successor_of : List ℕ → List ℕ) (files : Files) (v : State) (loaded : List (ℕ × List ℕ)) (level : ℕ) (s : Settings) (answer : Answer)
-    (first before after : List Step) (zero old new : List ℕ → Option (List ℕ) → Type 0) (r : Result T Fault) (q : Result U Fault)
-    → order_name order ≡ name → ReadsAs cmp order v loaded files → Compacted order cmp separator_of successor_of v loaded level s answer → ((P : Type 0) → OnOk r P → OnOk q P) → before ≡ first → TellsSame zero old
-    → IfErr q (λ e. UnlessMemory e (e ≡ fault Device)) → Promises name cmp v (manifest_of v) answer before after old new r
+pub version_left : {T : Type 0} (name : List ℕ) (order : Order) (cmp : List ℕ → List ℕ → Ordering) (separator_of : List ℕ → List ℕ → List ℕ) (successor_of : List ℕ → List ℕ) (files : Files) (v : State) (loaded : List (ℕ × List ℕ)) (level : ℕ) (s : Settings) (answer : Answer) (lines : List ℕ)
+    (first before after : List Step) (zero old new : List ℕ → Option (List ℕ) → Type 0) (r : Result T Fault) (q : Result (Vec ℕ) Fault)
+    → order_name order ≡ name → ReadsAs cmp order v loaded files → Compacted order cmp separator_of successor_of v loaded level s answer lines → ((P : Type 0) → OnOk r P → OnOk q P) → before ≡ first → TellsSame zero old
+    → IfOk q (λ text. text.items ≡ lines) → IfErr q (λ e. UnlessMemory e (e ≡ fault Device)) → Promises name cmp v (manifest_of v) answer before after old new r
     → IsVersionLeft order cmp separator_of successor_of files level s first after zero new q
-version_left name order cmp separator_of successor_of files v loaded level s answer first before after zero old new r q named reads done f is same refused promises =
+version_left name order cmp separator_of successor_of files v loaded level s answer lines first before after zero old new r q named reads done f is same printed refused promises =
     inr (installed_since order cmp separator_of successor_of files level s first before after zero old new q is (still zero old same)
-    (installed_by name order cmp separator_of successor_of files v loaded level s answer before after old old new r q named reads done f (λ n held. (λ h. h, λ h. h)) refused promises))
+    (installed_by name order cmp separator_of successor_of files v loaded level s answer lines before after old old new r q named reads done f (λ n held. (λ h. h, λ h. h)) printed refused promises))

@@ -14,7 +14,7 @@ use Rattle.checks.specs.LawfulTables.{IsLawfulTables}
 use Rattle.request.specs.OneThread.{Answer}
 use Rattle.store.specs.Asking.{compaction_of, manifest_of}
 use Rattle.store.specs.Lines.{compaction_lines}
-use Rattle.store.specs.Orders.{order_cmp, order_separator, order_successor}
+use Rattle.folder.specs.Orders.{order_cmp, order_separator, order_successor}
 use Rattle.store.specs.declared.settings.Settings.{Settings}
 
 -- the lines of a compaction's answer, or its refusal

@@ -1,5 +1,6 @@
 -- What a compaction makes of a folder.
-use Rattle.std.specs.Prelude.{◌≡◌, ◌⊎◌, ℕ, true, List, [], ◌∷◌, ◌++◌, Option, Result, Ok, IfErr, OnOk}
+use Rattle.std.specs.Prelude.{◌≡◌, ◌⊎◌, ℕ, true, List, [], ◌∷◌, ◌++◌, Option, Result, Ok, IfErr, IfOk, OnOk}
+use Rattle.std.specs.Global.{Vec}
 use Rattle.std.specs.declared.cmp.Ordering.{Ordering}
 use Rattle.coding.specs.Answers.{UnlessMemory, fault}
 use Rattle.coding.specs.declared.fault.Fault.{Fault}
@@ -19,7 +20,8 @@ use Rattle.checks.specs.LawfulTables.{IsLawfulTables}
 use Rattle.request.specs.OneThread.{Answer}
 use Rattle.install.specs.Install.{IsEditedBy, StandsAfter, Survives, tables_after}
 use Rattle.store.specs.Asking.{compaction_of, last_of, manifest_of}
-use Rattle.store.specs.Orders.{order_cmp, order_separator, order_successor}
+use Rattle.store.specs.Lines.{compaction_lines}
+use Rattle.folder.specs.Orders.{order_cmp, order_separator, order_successor}
 use Rattle.store.specs.declared.settings.Settings.{Settings}
 
 -- The edited version of a compaction's answer: the answer's edit makes it of the version, by the manifest of the next file's
@@ -35,15 +37,16 @@ pub record Edited (order : Order) (cmp : List ℕ → List ℕ → Ordering) (v 
       get_of next tables_next user at ≡ get_of v tables user at
 
 -- A compaction of a level of a version with the bytes of its tables: the version is lawful, the inputs are picked, and this is
--- what their compaction answers, and what it makes.
+-- what their compaction answers, what it makes, and the lines that tell of it.
 pub record Compacted (order : Order) (cmp : List ℕ → List ℕ → Ordering) (separator_of : List ℕ → List ℕ → List ℕ) (successor_of : List ℕ → List ℕ)
-    (v : State) (loaded : List (ℕ × List ℕ)) (level : ℕ) (s : Settings) (answer : Answer) : Type 0 where
+    (v : State) (loaded : List (ℕ × List ℕ)) (level : ℕ) (s : Settings) (answer : Answer) (lines : List ℕ) : Type 0 where
   pub tables : List Numbered
   pub lawful : IsLawfulTables cmp v loaded (Ok tables)
   pub picked : Picked
   pub is_picked : IsPicked cmp v level picked
   pub answered : compaction_of cmp separator_of successor_of v loaded picked s ≡ Ok answer
   pub edited : Edited order cmp v loaded tables s answer
+  pub told : lines ≡ compaction_lines answer.tables picked.files (manifest_of v)
 
 -- A compaction of a level of the version that files read as.
 pub record Compaction (order : Order) (cmp : List ℕ → List ℕ → Ordering) (separator_of : List ℕ → List ℕ → List ℕ) (successor_of : List ℕ → List ℕ)
@@ -52,7 +55,8 @@ pub record Compaction (order : Order) (cmp : List ℕ → List ℕ → Ordering)
   pub loaded : List (ℕ × List ℕ)
   pub reads : ReadsAs cmp order version loaded files
   pub answer : Answer
-  pub compacted : Compacted order cmp separator_of successor_of version loaded level s answer
+  pub lines : List ℕ
+  pub compacted : Compacted order cmp separator_of successor_of version loaded level s answer lines
 
 -- the edited version of a compaction
 abbrev pub next_of : {order : Order} {cmp : List ℕ → List ℕ → Ordering} {separator_of : List ℕ → List ℕ → List ℕ} {successor_of : List ℕ → List ℕ}
@@ -73,35 +77,28 @@ pub record IsSynced {T : Type 0} (before after : List Step) (old new : List ℕ 
   pub same : (files : Files) → Tells old files → Tells new files
   pub refused : OnOk result ⊥
 
--- A compaction was installed, from these calls on: a crash at any moment leaves the version before or the edited one, at Ok
--- it is the edited one, and nothing else is answered but Device and Memory.
-pub record IsInstalled {T : Type 0} (order : Order) (cmp : List ℕ → List ℕ → Ordering)
+-- A compaction was installed, from these calls on: a crash at any moment leaves the version before or the edited one. At Ok it
+-- is the edited one, and its lines are the answer. Nothing else is answered but Device and Memory.
+pub record IsInstalled (order : Order) (cmp : List ℕ → List ℕ → Ordering)
     (separator_of : List ℕ → List ℕ → List ℕ) (successor_of : List ℕ → List ℕ)
     (files : Files) (level : ℕ) (s : Settings) (before after : List Step)
-    (old new : List ℕ → Option (List ℕ) → Type 0) (result : Result T Fault) : Type 0 where
+    (old new : List ℕ → Option (List ℕ) → Type 0) (result : Result (Vec ℕ) Fault) : Type 0 where
   pub compaction : Compaction order cmp separator_of successor_of files level s
   pub survives : Survives cmp order compaction.version compaction.loaded (next_of compaction)
       (tables_after cmp (next_of compaction) compaction.answer.tables compaction.loaded) before after old new result
+  pub printed : IfOk result (λ text. text.items ≡ compaction.lines)
   pub refused : IfErr result (λ e. UnlessMemory e (e ≡ fault Device))
 
 -- what is left of a folder whose version has this order: it is unchanged, or a compaction was installed
-abbrev pub IsVersionLeft : {T : Type 0} → Order → (List ℕ → List ℕ → Ordering) → (List ℕ → List ℕ → List ℕ) → (List ℕ → List ℕ) → Files → ℕ → Settings
-    → List Step → List Step → (List ℕ → Option (List ℕ) → Type 0) → (List ℕ → Option (List ℕ) → Type 0) → Result T Fault → Type 0
+abbrev pub IsVersionLeft : Order → (List ℕ → List ℕ → Ordering) → (List ℕ → List ℕ → List ℕ) → (List ℕ → List ℕ) → Files → ℕ → Settings
+    → List Step → List Step → (List ℕ → Option (List ℕ) → Type 0) → (List ℕ → Option (List ℕ) → Type 0) → Result (Vec ℕ) Fault → Type 0
 IsVersionLeft order cmp separator_of successor_of files level s before after old new result =
     IsUnchanged before after old new result ⊎ IsInstalled order cmp separator_of successor_of files level s before after old new result
 
--- the same, in the order that it has
-abbrev pub IsOpenedLeft : {T : Type 0} → Files → ℕ → Settings
-    → List Step → List Step → (List ℕ → Option (List ℕ) → Type 0) → (List ℕ → Option (List ℕ) → Type 0) → Result T Fault → Type 0
-IsOpenedLeft files level s before after old new result =
-    IsUnchanged before after old new result
-    ⊎ ((order : Order) × IsInstalled order (order_cmp order) (order_separator order) (order_successor order) files level s
-    before after old new result)
-
 -- What is left of a folder that held these files: it holds what it held, or behind a sync of the folder a compaction was
 -- installed.
-abbrev pub IsLeft : {T : Type 0} → Files → ℕ → Settings
-    → List Step → List Step → (List ℕ → Option (List ℕ) → Type 0) → (List ℕ → Option (List ℕ) → Type 0) → Result T Fault → Type 0
+abbrev pub IsLeft : Files → ℕ → Settings
+    → List Step → List Step → (List ℕ → Option (List ℕ) → Type 0) → (List ℕ → Option (List ℕ) → Type 0) → Result (Vec ℕ) Fault → Type 0
 IsLeft files level s before after old new result =
     IsSynced before after old new result
     ⊎ ((order : Order) × IsInstalled order (order_cmp order) (order_separator order) (order_successor order) files level s

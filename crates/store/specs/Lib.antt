@@ -1,5 +1,4 @@
 -- what contracts rest on
-pub mod Orders
 pub mod Asking
 pub mod Lines
 pub mod Taking

@@ -56,7 +56,8 @@ pub(crate) fn compact_loaded<C: SharedComparator + 'static, W: Watch + Sync, R: 
     ensures answer { HoldsOrMemory (λ c. c.lines.items) result
         (IsLoadedCompacted C.cmp C.separator_of C.successor_of version.now (tables_in loaded.now) level settings.now) }
     ensures compacted { (order : Order) → IfOk result (λ c.
-        Compacted order C.cmp C.separator_of C.successor_of version.now (tables_in loaded.now) level settings.now (answer_in c.outcome)) }
+        Compacted order C.cmp C.separator_of C.successor_of version.now (tables_in loaded.now) level settings.now (answer_in c.outcome)
+        c.lines.items) }
 {
     answer_is_installed::<C>();
     inputs_are_tables::<C>();

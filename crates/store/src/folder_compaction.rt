@@ -1,19 +1,19 @@
 //! The compaction of a database folder.
 
-ghost use Rattle.std.specs.Prelude.{◌≡◌, ◌≤◌, ◌<◌, ◌^◌, length, Ok, IfErr};
+ghost use Rattle.std.specs.Prelude.{◌≡◌, ◌<◌, ◌^◌, length, Ok};
 ghost use Rattle.folder.specs.Calls.{Files, Tells};
 ghost use Rattle.folder.specs.Manifest.{order_name};
-ghost use Rattle.folder.specs.Opening.{FolderAnswers, HasDeviceFailed, IsOpened, StopsAtDevice};
+ghost use Rattle.folder.specs.Opening.{FolderAnswers, IsOpened};
+ghost use Rattle.folder.specs.Orders.{order_cmp, order_separator, order_successor};
 ghost use Rattle.folder.specs.ReadsAs.{IsHeldIn};
+ghost use Rattle.folder.specs.Reports.{ReportsDevice};
 ghost use Rattle.folder.specs.declared.order.Order.{Order};
 ghost use Rattle.store.specs.Answers.{IsFolderCompacted, IsVersionCompacted};
-ghost use Rattle.store.specs.Compaction.{IsLeft, IsOpenedLeft, IsVersionLeft};
-ghost use Rattle.store.specs.Orders.{order_cmp, order_separator, order_successor};
+ghost use Rattle.store.specs.Compaction.{IsLeft, IsVersionLeft};
 
 use crate::asking::manifest_of;
 use crate::compacting::compact_loaded;
 use crate::settings::Settings;
-use board::Open;
 use checks::Watch;
 use coding::Fault;
 use edit::Version;
@@ -23,42 +23,24 @@ use install::install;
 use std::alloc::Global;
 use std::thread::Threads;
 
-/// Compacts a level of the version that a folder holds, and installs the outcome. Answers its lines, each with its newline:
-/// `output NUMBER SIZE` of each new table in order, `deleted LEVEL NUMBER` of each input by level and number, and
-/// `installed MANIFEST-NNNNNN`.
+/// Compacts a level of the version that a folder holds, and installs the outcome. Answers its
+/// lines, each with its newline: `output NUMBER SIZE` of each new table in order, `deleted LEVEL
+/// NUMBER` of each input by level and number, and `installed MANIFEST-NNNNNN`.
 ///
-/// The folder is synced first, so that what is opened outlives a crash. The manifest has the version's next file as its
-/// number, the outputs have the numbers behind it.
+/// The folder is synced first, so that what is opened outlives a crash. Then it is opened, and what
+/// is read is compacted as [`compact_opened`] does it.
 ///
-/// Refused as opening the folder is; then Missing at the first table that isn't there, by level and in version order; then by
-/// the first of the tables that is none, as `table::check` refuses it; then Lawless where the version isn't lawful; then Level
-/// where the level is above 5, and NoInput where it has no file; then SplitCount where the ranges are not from 1 to 4,096;
-/// then Numbers where next file is 2^64 - 1; and then as `compact::compact` is, Workers first. A call that the device fails is
-/// Device at once, and want of memory Memory. Where it is refused by anything else than Device or Memory, the folder holds what
-/// it held; after these two it reads as the version before or as the edited one, and is opened again.
-pub fn compact_dir<F: Folder, R: Threads + Sync>(
-    rt: &R,
-    alloc: Global,
-    folder: &mut F,
-    level: u64,
-    settings: &Settings<'_>,
-) -> Result<Vec<u8>, Fault>
-    // Over a folder that tells these files: the lines, or the first refusal in this order.
-    ensures answer { (files : Files) → Tells (F.tells folder.old) files →
-        FolderAnswers (λ v. v.items) (F.failed folder.old) (F.failed folder.new) result (IsFolderCompacted files level settings.now) }
-    // What is left of it: what it held, or the edited version, which is lawful and answers each readable get as before.
-    ensures left { (files : Files) → Tells (F.tells folder.old) files →
-        IsLeft files level settings.now (F.calls folder.old) (F.calls folder.new) (F.tells folder.old) (F.tells folder.new) result }
-    ensures device { IfErr result (HasDeviceFailed (F.failed folder.old) (F.failed folder.new)) }
-    ensures at_once { StopsAtDevice (F.failed folder.old) (F.failed folder.new) result }
-    ensures later { F.failed folder.old ≤ F.failed folder.new }
-{
-    compact_dir_watched(rt, alloc, folder, level, settings, &Open)
-}
-
-/// Compacts a level of the version that a folder holds, and installs the outcome, as [`compact_dir`] does, while somebody watches:
-/// is told of each long part of the work, and called around each of its jobs. What is answered is the same.
-pub fn compact_dir_watched<F: Folder, W: Watch + Sync, R: Threads + Sync>(
+/// Refused as opening the folder is; then Missing at the first table that isn't there, by level and
+/// in version order; then by the first table whose bytes are refused, as `table::check` refuses
+/// them; then Lawless if the version isn't lawful; then Level if the level is above 5, and NoInput
+/// if it has no file; then SplitCount if the ranges are not from 1 to 4,096; then Numbers if next
+/// file is 2^64 - 1; and then as `compact::compact` is, Workers first. If the device fails a call,
+/// the answer is Device and no further call is made; if memory runs out, it is Memory. If it is
+/// refused by anything else than Device or Memory, the folder holds what it held; after these two
+/// it reads as the version before or as the edited one, and is opened again.
+///
+/// The work is told to `watch`, which is `&Open` if nobody watches. What is answered is the same.
+pub fn compact_dir<F: Folder, W: Watch + Sync, R: Threads + Sync>(
     rt: &R,
     alloc: Global,
     folder: &mut F,
@@ -68,41 +50,24 @@ pub fn compact_dir_watched<F: Folder, W: Watch + Sync, R: Threads + Sync>(
 ) -> Result<Vec<u8>, Fault>
     // Over a folder that tells these files: the lines, or the first refusal in this order.
     ensures answer { (files : Files) → Tells (F.tells folder.old) files →
-        FolderAnswers (λ v. v.items) (F.failed folder.old) (F.failed folder.new) result (IsFolderCompacted files level settings.now) }
-    // What is left of it: what it held, or the edited version, which is lawful and answers each readable get as before.
+        FolderAnswers (λ v. v.items) (F.failed folder.old) (F.failed folder.new) result
+        (IsFolderCompacted files level settings.now) }
+    // What is left of it: what it held, or the edited version, which is lawful and answers each
+    // readable get as before.
     ensures left { (files : Files) → Tells (F.tells folder.old) files →
-        IsLeft files level settings.now (F.calls folder.old) (F.calls folder.new) (F.tells folder.old) (F.tells folder.new) result }
-    ensures device { IfErr result (HasDeviceFailed (F.failed folder.old) (F.failed folder.new)) }
-    ensures at_once { StopsAtDevice (F.failed folder.old) (F.failed folder.new) result }
-    ensures later { F.failed folder.old ≤ F.failed folder.new }
+        IsLeft files level settings.now (F.calls folder.old) (F.calls folder.new)
+        (F.tells folder.old) (F.tells folder.new) result }
+    ensures device { ReportsDevice F.Folder folder.old folder.new result }
 {
     folder.sync_folder()?;
-    compact_opened(rt, alloc, folder, level, settings, watch)
-}
-
-/// Opens a folder, compacts a level of its version, and installs the outcome.
-fn compact_opened<F: Folder, W: Watch + Sync, R: Threads + Sync>(
-    rt: &R,
-    alloc: Global,
-    folder: &mut F,
-    level: u64,
-    settings: &Settings<'_>,
-    watch: &W,
-) -> Result<Vec<u8>, Fault>
-    ensures answer { (files : Files) → Tells (F.tells folder.old) files →
-        FolderAnswers (λ v. v.items) (F.failed folder.old) (F.failed folder.new) result (IsFolderCompacted files level settings.now) }
-    ensures left { (files : Files) → Tells (F.tells folder.old) files →
-        IsOpenedLeft files level settings.now (F.calls folder.old) (F.calls folder.new) (F.tells folder.old) (F.tells folder.new) result }
-    ensures device { IfErr result (HasDeviceFailed (F.failed folder.old) (F.failed folder.new)) }
-    ensures at_once { StopsAtDevice (F.failed folder.old) (F.failed folder.new) result }
-    ensures later { F.failed folder.old ≤ F.failed folder.new }
-{
     let (order, version) = open(alloc, folder)?;
-    compact_in_order(rt, alloc, folder, order, &version, level, settings, watch)
+    compact_opened(rt, alloc, folder, order, &version, level, settings, watch)
 }
 
-/// Compacts a level of a version of an order, and installs the outcome.
-fn compact_in_order<F: Folder, W: Watch + Sync, R: Threads + Sync>(
+/// Compacts a level of a version that a folder was opened as, in its order, and installs the
+/// outcome: what [`compact_dir`] does with a folder that was synced and opened already. The
+/// manifest has the version's next file as its number, the outputs have the numbers after it.
+pub fn compact_opened<F: Folder, W: Watch + Sync, R: Threads + Sync>(
     rt: &R,
     alloc: Global,
     folder: &mut F,
@@ -114,13 +79,15 @@ fn compact_in_order<F: Folder, W: Watch + Sync, R: Threads + Sync>(
 ) -> Result<Vec<u8>, Fault>
     ensures answer { (files : Files) → Tells (F.tells folder.old) files →
         FolderAnswers (λ v. v.items) (F.failed folder.old) (F.failed folder.new) result
-        (IsVersionCompacted (order_cmp order) (order_separator order) (order_successor order) files version.now level settings.now) }
-    ensures left { (files : Files) → Tells (F.tells folder.old) files → IsOpened (IsHeldIn files) (Ok (order, version.now)) →
-        IsVersionLeft order (order_cmp order) (order_separator order) (order_successor order) files level settings.now
+        (IsVersionCompacted (order_cmp order) (order_separator order) (order_successor order)
+        files version.now level settings.now) }
+    // Over files that open as this version in this order.
+    ensures left { (files : Files) → Tells (F.tells folder.old) files →
+        IsOpened (IsHeldIn files) (Ok (order, version.now)) →
+        IsVersionLeft order (order_cmp order) (order_separator order) (order_successor order)
+        files level settings.now
         (F.calls folder.old) (F.calls folder.new) (F.tells folder.old) (F.tells folder.new) result }
-    ensures device { IfErr result (HasDeviceFailed (F.failed folder.old) (F.failed folder.new)) }
-    ensures at_once { StopsAtDevice (F.failed folder.old) (F.failed folder.new) result }
-    ensures later { F.failed folder.old ≤ F.failed folder.new }
+    ensures device { ReportsDevice F.Folder folder.old folder.new result }
 {
     match order {
         Order::Bytewise => {
@@ -132,7 +99,8 @@ fn compact_in_order<F: Folder, W: Watch + Sync, R: Threads + Sync>(
     }
 }
 
-/// Compacts a level of a version, and installs the outcome. The comparator's name has fewer than 2^32 bytes.
+/// Compacts a level of a version, and installs the outcome. The comparator's name has fewer than
+/// 2^32 bytes.
 fn compact_version<C: SharedComparator + 'static, F: Folder, W: Watch + Sync, R: Threads + Sync>(
     rt: &R,
     alloc: Global,
@@ -145,14 +113,14 @@ fn compact_version<C: SharedComparator + 'static, F: Folder, W: Watch + Sync, R:
     requires { length C.name_bytes < 2 ^ 32 }
     ensures answer { (files : Files) → Tells (F.tells folder.old) files →
         FolderAnswers (λ v. v.items) (F.failed folder.old) (F.failed folder.new) result
-        (IsVersionCompacted C.cmp C.separator_of C.successor_of files version.now level settings.now) }
-    ensures left { (files : Files) (order : Order) → Tells (F.tells folder.old) files → order_name order ≡ C.name_bytes →
+        (IsVersionCompacted C.cmp C.separator_of C.successor_of
+        files version.now level settings.now) }
+    ensures left { (files : Files) (order : Order) → Tells (F.tells folder.old) files →
+        order_name order ≡ C.name_bytes →
         IsOpened (IsHeldIn files) (Ok (order, version.now)) →
         IsVersionLeft order C.cmp C.separator_of C.successor_of files level settings.now
         (F.calls folder.old) (F.calls folder.new) (F.tells folder.old) (F.tells folder.new) result }
-    ensures device { IfErr result (HasDeviceFailed (F.failed folder.old) (F.failed folder.new)) }
-    ensures at_once { StopsAtDevice (F.failed folder.old) (F.failed folder.new) result }
-    ensures later { F.failed folder.old ≤ F.failed folder.new }
+    ensures device { ReportsDevice F.Folder folder.old folder.new result }
 {
     let loaded = load::<C, F>(alloc, folder, version)?;
     let compacted = compact_loaded::<C, W, R>(rt, alloc, version, &loaded, level, settings, watch)?;

@@ -10,7 +10,8 @@ mod lines;
 mod settings;
 mod taking;
 
+pub use board::Open;
 pub use checks::{Watch, Work};
-pub use folder_compaction::{compact_dir, compact_dir_watched};
+pub use folder_compaction::{compact_dir, compact_opened};
 pub use laws::{answer_is_installed, inputs_are_tables, request_is_over, sync_stands};
 pub use settings::Settings;

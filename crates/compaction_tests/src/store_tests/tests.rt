@@ -8,7 +8,7 @@ use folder::{Failing, FolderFault, Shelf};
 use keep::Snapshots;
 use std::test::*;
 use std::thread::Threads;
-use store::{Settings, compact_dir};
+use store::{Open, Settings, compact_dir};
 
 /// Bytes, or others where there are none.
 fn or(bytes: &'static [u8], others: &'static [u8]) -> &'static [u8] {
@@ -31,7 +31,7 @@ fn answer_of<R: AllocGlobal + Threads + Sync>(
     folder: &mut Shelf<'_>,
     row: &Row,
 ) -> Result<Vec<u8>, Fault> {
-    compact_dir(rt, rt.alloc(), folder, row.level, &row.settings)
+    compact_dir(rt, rt.alloc(), folder, row.level, &row.settings, &Open)
 }
 
 /// Whether an answer is this text, or this refusal.

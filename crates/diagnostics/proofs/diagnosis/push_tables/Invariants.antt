@@ -1,9 +1,5 @@
-use Rattle.std.proofs.Common.{◌≡◌}
-use Rattle.folder.specs.Folder.{TellsSame}
+use Rattle.folder.specs.Reports.{OnlyReads}
 use Rattle.diagnostics.proofs.diagnosis.push_tables.Given as goal
 
 abbrev pub invariant-loop-meta : goal.invariant-loop-meta
-invariant-loop-meta g l =
-    let tells = g.F.Folder.tells in
-    let calls = g.F.Folder.calls in
-    record { same : TellsSame (tells l.fn.folder) (tells l.folder); calls : calls l.folder ≡ calls l.fn.folder }
+invariant-loop-meta g l = OnlyReads g.F.Folder l.fn.folder l.folder

@@ -1,8 +1,9 @@
 use Rattle.std.proofs.Common.{rules}
+use Rattle.folder.proofs.ReportLemmas.{reads_then}
+use Rattle.folder.specs.Reports.{OnlyReads}
 use Rattle.diagnostics.proofs.diagnosis.refused_file.Goals as goal
 
-pub returns-in_ok-name-in-Err-clause-same : goal.returns-in_ok-name-in-Err-clause-same
-returns-in_ok-name-in-Err-clause-same g c = search rules
-
-pub returns-in_ok-name-in-Err-clause-calls : goal.returns-in_ok-name-in-Err-clause-calls
-returns-in_ok-name-in-Err-clause-calls g c = search rules
+pub returns-in_ok-name-in-Err : goal.returns-in_ok-name-in-Err
+returns-in_ok-name-in-Err g c =
+    let reads : OnlyReads g.F.Folder c.args.folder.now c.opening_file.new.folder = reads_then c.open.ensures.reads c.opening_file.ensures.reads in
+    search (rules, reads)

@@ -1,4 +1,5 @@
-use Rattle.std.proofs.Common.{◌≡◌, ◌<◌, ◌^◌, ℕ, List, ap, ◌∙◌, arith}
+use Rattle.std.proofs.Common.{◌≡◌, ◌<◌, ◌^◌, ℕ, List, refl, ap, ◌∙◌, arith, rules}
+use Rattle.folder.proofs.ReportLemmas.{reports_steady, stopped_device}
 use Rattle.install.specs.Install.{install_calls, manifest_bytes, tables_after, tables_in}
 use Rattle.install.proofs.Installed.{survives, undone}
 use Rattle.install.proofs.Parts.{hands_none, runs_same}
@@ -31,3 +32,15 @@ returns-clause-survives g c order next tables h =
     let runs = runs_same (install_calls n (tables_in c.deref-2.result.now) c.deref-3.result.now) (install_calls n outputs (manifest_bytes name cmp v edit)) (calls before) (calls now) (tells' before) (tells' now) c.make_calls.result
     (ap (λ (t : List (ℕ × List ℕ)). install_calls n t c.deref-3.result.now) one ∙ ap (install_calls n outputs) two) c.make_calls.ensures.runs in
     survives cmp order v next tables outputs n edit small g.met.C.Comparator.total c.in_ok-manifest.ensures.state name h c.in_ok-manifest.ensures.reads_back (calls before) (calls now) (tells' before) (tells' now) c.make_calls.result runs
+
+pub returns-in_err-manifest-clause-device : goal.returns-in_err-manifest-clause-device
+returns-in_err-manifest-clause-device g c = reports_steady c.from_residual.result refl (search rules)
+
+pub returns-clause-device : goal.returns-clause-device
+returns-clause-device g c =
+    let failed = g.F.Folder.failed in
+    record {
+      device = stopped_device (failed c.args.folder.now) (failed c.make_calls.new.folder) c.make_calls.result c.make_calls.ensures.refused;
+      at_once = c.make_calls.ensures.at_once;
+      later = c.make_calls.ensures.later;
+    }

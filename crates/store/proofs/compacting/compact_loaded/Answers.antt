@@ -1,4 +1,5 @@
 use Rattle.std.proofs.Common.{◌≡◌, List, ℕ, Result, Ok, Err, sym, ap, ◌∙◌}
+use Rattle.coding.proofs.Binds.{ok_is}
 use Rattle.coding.specs.Answers.{IsThen}
 use Rattle.coding.specs.declared.fault.Fault.{Fault}
 use Rattle.install.specs.Install.{tables_in}
@@ -10,7 +11,7 @@ use Rattle.checks.proofs.LawfulLemmas.{handed_on}
 use Rattle.compact.specs.Answered.{answer_in}
 use Rattle.request.specs.OneThread.{Answer}
 use Rattle.store.specs.Answers.{IsLoadedCompacted, lines_of}
-use Rattle.store.specs.Asking.{compaction_of}
+use Rattle.store.specs.Asking.{compaction_of, manifest_of}
 use Rattle.store.specs.Lines.{compaction_lines}
 use Rattle.store.proofs.Compactions.{is_compacted, picked_of}
 use Rattle.store.proofs.Flow.{first_passed, first_refused, no_refusal}
@@ -88,5 +89,8 @@ returns-clause-compacted g c order =
     let p = picked_in c.in_ok-picked.picked in
     let loaded = tables_in c.args.loaded.now in
     let are = (c.inputs_are_tables.ensures v loaded c.in_ok-tables.tables.items c.args.level p c.in_ok-tables.ensures (picked_of cmp v c.args.level p c.in_ok-picked.ensures.picked)).1 in
-    is_compacted cmp g.C.Comparator.separator_of g.C.Comparator.successor_of c.answer_is_installed.ensures order v loaded c.in_ok-tables.tables.items c.args.level p c.args.settings.now (answer_in c.in_ok-outcome.outcome)
+    let outputs = tables_in c.in_ok-outcome.outcome.tables.items in
+    let lines = sym c.in_ok-lines.ensures ∙ ap (λ (fs : List InputFile). Ok (compaction_lines outputs fs c.manifest_of.result)) c.deref.ensures.value ∙ ap (λ (n : ℕ). Ok (compaction_lines outputs p.files n)) c.manifest_of.ensures in
+    is_compacted cmp g.C.Comparator.separator_of g.C.Comparator.successor_of c.answer_is_installed.ensures order v loaded c.in_ok-tables.tables.items c.args.level p c.args.settings.now (answer_in c.in_ok-outcome.outcome) c.in_ok-lines.lines.items
     c.in_ok-tables.ensures c.in_ok-picked.ensures.state (picked_of cmp v c.args.level p c.in_ok-picked.ensures.picked) c.in_ok-outcome.ensures.logs.0 c.in_ok-outcome.ensures.logs.1 (c.in_ok-outcome.ensures.answer loaded are)
+    (ok_is c.in_ok-lines.lines.items (compaction_lines outputs p.files (manifest_of v)) lines)

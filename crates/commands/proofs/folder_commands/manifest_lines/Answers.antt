@@ -1,8 +1,9 @@
 use Rattle.std.proofs.Common.{Ok, subst, sym}
 use Rattle.coding.specs.Answers.{EqualOrMemory}
 use Rattle.folder.specs.declared.order.Order.{Order}
-use Rattle.commands.specs.Lines.{lines_by, order_cmp}
-use Rattle.commands.proofs.folder_commands.lines_in_order.Goals as goal
+use Rattle.folder.specs.Orders.{order_cmp}
+use Rattle.commands.specs.Lines.{lines_by}
+use Rattle.commands.proofs.folder_commands.manifest_lines.Goals as goal
 
 pub returns-in-Bytewise : goal.returns-in-Bytewise
 returns-in-Bytewise c =

@@ -1,8 +1,0 @@
-use Rattle.std.proofs.Common.{rules}
-use Rattle.diagnostics.proofs.diagnosis.log_number.Goals as goal
-
-pub returns-clause-same : goal.returns-clause-same
-returns-clause-same g c = search rules
-
-pub returns-clause-calls : goal.returns-clause-calls
-returns-clause-calls g c = search rules

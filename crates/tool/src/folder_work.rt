@@ -1,14 +1,12 @@
 //! The work on a folder, from its path to what is printed.
 
-ghost use Rattle.std.specs.Prelude.{◌≤◌, IfOk};
-
 use crate::explaining::in_words;
 use crate::files;
 use crate::progress_line::ProgressLine;
 use crate::telling::Telling;
-use account::{Account, text};
+use account::text;
 use coding::Fault;
-use commands::{bottom, get_dir_watched, manifest, next_level, verify_watched};
+use commands::{Question, answer_opened, bottom, manifest_lines, next_level};
 use diagnostics::account_of;
 use edit::Version;
 use folder::{Disk, Folder, Order, WholeFiles, open};
@@ -18,17 +16,24 @@ use std::io::Write;
 use std::rt::Files;
 use std::thread::Threads;
 use std::time::{Clock, Instant};
-use store::{Settings, compact_dir_watched};
+use store::{Settings, compact_opened};
 use usage::{CompactSettings, Levels, Readable};
+
+/// What a folder was opened as: the order of its user keys, and its version.
+#[derive(Drop)]
+struct Opened {
+    order: Order,
+    version: Version,
+}
 
 /// Prints the version of a folder.
 pub(crate) fn print_version<R: Files + Print + Eprint + Clock + AllocGlobal>(
     rt: &R,
     telling: Telling<'_>,
 ) -> Result<(), Fault> {
-    telling.tell_log(rt);
     let begun = telling.begin(rt);
-    let answer = manifest(rt.alloc(), &mut Disk::new(rt, telling.folder));
+    let opened = begin_work(rt, telling)?;
+    let answer = manifest_lines(rt.alloc(), opened.order, &opened.version);
     print_answer(rt, telling, "manifest", begun, answer)
 }
 
@@ -36,44 +41,50 @@ pub(crate) fn print_version<R: Files + Print + Eprint + Clock + AllocGlobal>(
 pub(crate) fn print_verdict<
     R: Files + WholeFiles + Print + Eprint + Clock + AllocGlobal + Threads + Sync,
 >(rt: &R, telling: Telling<'_>) -> Result<(), Fault> {
-    telling.tell_log(rt);
     let begun = telling.begin(rt);
-    let answer = verdict(rt, telling);
+    let opened = begin_work(rt, telling)?;
+    let answer = answered(rt, telling, &opened, Question::Lawful);
     print_answer(rt, telling, "verify", begun, answer)
-}
-
-/// What the version of a folder is.
-fn verdict<R: Files + WholeFiles + Eprint + Clock + AllocGlobal + Threads + Sync>(
-    rt: &R,
-    telling: Telling<'_>,
-) -> Result<Vec<u8>, Fault> {
-    let progress = ProgressLine::new(rt, telling.is_watched);
-    let mut folder = read_ahead(rt, telling.folder);
-    let answer = verify_watched(rt, rt.alloc(), &mut folder, &progress);
-    progress.erase();
-    answer
 }
 
 /// Prints the value of a key in a folder.
 pub(crate) fn print_value<
     R: Files + WholeFiles + Print + Eprint + Clock + AllocGlobal + Threads + Sync,
 >(rt: &R, telling: Telling<'_>, key: &[u8], at: Option<u64>) -> Result<(), Fault> {
-    telling.tell_log(rt);
     let begun = telling.begin(rt);
-    let answer = value(rt, telling, key, at);
+    let opened = begin_work(rt, telling)?;
+    let answer = answered(rt, telling, &opened, Question::Value { key, at });
     print_answer(rt, telling, "get", begun, answer)
 }
 
-/// The value of a key in a folder.
-fn value<R: Files + WholeFiles + Eprint + Clock + AllocGlobal + Threads + Sync>(
+/// Opens a folder, and tells of its log.
+fn begin_work<R: Files + Eprint + Clock + AllocGlobal>(
     rt: &R,
     telling: Telling<'_>,
-    key: &[u8],
-    at: Option<u64>,
+) -> Result<Opened, Fault> {
+    let opened = open_folder(rt, telling)?;
+    telling.tell_log(rt, &opened.version);
+    Ok(opened)
+}
+
+/// What the version of a folder answers.
+fn answered<R: Files + WholeFiles + Eprint + Clock + AllocGlobal + Threads + Sync>(
+    rt: &R,
+    telling: Telling<'_>,
+    opened: &Opened,
+    question: Question<'_>,
 ) -> Result<Vec<u8>, Fault> {
     let progress = ProgressLine::new(rt, telling.is_watched);
-    let mut folder = read_ahead(rt, telling.folder);
-    let answer = get_dir_watched(rt, rt.alloc(), &mut folder, key, at, &progress);
+    let mut folder = read_ahead(rt, telling.folder, opened);
+    let answer = answer_opened(
+        rt,
+        rt.alloc(),
+        &mut folder,
+        opened.order,
+        &opened.version,
+        question,
+        &progress,
+    );
     progress.erase();
     answer
 }
@@ -90,55 +101,77 @@ fn print_answer<R: Files + Print + Eprint + Clock + AllocGlobal>(
     print_lines(rt, answer?.as_slice())
 }
 
-/// Compacts a level of a folder, or all of them one by one.
+/// Compacts a level of a folder, or all of them one by one. The folder is synced first, so that
+/// what is read of it from then on outlives a crash.
 pub(crate) fn compact_folder<
     R: Files + WholeFiles + Print + Eprint + Clock + AllocGlobal + Threads + Sync,
 >(rt: &R, telling: Telling<'_>, levels: Levels, settings: &CompactSettings) -> Result<(), Fault> {
     sync(rt, telling)?;
-    telling.tell_log(rt);
+    let opened = begin_work(rt, telling)?;
     match levels {
-        Levels::One(level) => compact_level(rt, telling, level, settings),
-        Levels::All => compact_all(rt, telling, settings),
+        Levels::One(level) => compact_one(rt, telling, &opened, level, settings),
+        Levels::All => compact_all(rt, telling, opened, settings),
     }
 }
 
-/// Compacts the first level that has a file, again and again, until all files are at the bottom.
-fn compact_all<R: Files + WholeFiles + Print + Eprint + Clock + AllocGlobal + Threads + Sync>(
+/// Compacts a level of a folder.
+fn compact_one<R: Files + WholeFiles + Print + Eprint + Clock + AllocGlobal + Threads + Sync>(
     rt: &R,
     telling: Telling<'_>,
+    opened: &Opened,
+    level: u64,
     settings: &CompactSettings,
 ) -> Result<(), Fault> {
-    let bottom = bottom_of(rt, telling)?;
-    for _ in 0..u64::MAX {
-        let Some(level) = next_level_of(rt, telling, bottom)? else {
-            break;
-        };
-        compact_level(rt, telling, level, settings)?;
+    compact_level(rt, telling, opened, level, settings)?;
+    if telling.is_explaining {
+        explain(
+            rt,
+            telling.folder,
+            opened,
+            &open_quietly(rt, telling),
+            level,
+            settings.ranges,
+        );
     }
     Ok(())
 }
 
-/// The level at which all files of a folder are in the end.
-fn bottom_of<R: Files + Eprint + Clock + AllocGlobal>(
+/// Compacts the first level that has a file, again and again, until all files are at the bottom.
+/// What the folder is opened as after a compaction is what the next one starts from.
+fn compact_all<R: Files + WholeFiles + Print + Eprint + Clock + AllocGlobal + Threads + Sync>(
     rt: &R,
     telling: Telling<'_>,
-) -> Result<u64, Fault>
-    ensures { IfOk result (λ bottom. bottom ≤ 6) }
-{
-    let version = opened(rt, telling)?;
-    bottom(rt.alloc(), &version)
+    first: Opened,
+    settings: &CompactSettings,
+) -> Result<(), Fault> {
+    let bottom = bottom(rt.alloc(), &first.version)?;
+    let mut opened = first;
+    for _ in 0..u64::MAX {
+        let Some(level) = next_level(rt.alloc(), &opened.version, bottom)? else {
+            break;
+        };
+        opened = compact_step(rt, telling, &opened, level, settings)?;
+    }
+    Ok(())
 }
 
-/// The first level of a folder above the bottom that has a file.
-fn next_level_of<R: Files + Eprint + Clock + AllocGlobal>(
+/// Compacts a level of a folder, and answers what the folder is opened as then.
+fn compact_step<R: Files + WholeFiles + Print + Eprint + Clock + AllocGlobal + Threads + Sync>(
     rt: &R,
     telling: Telling<'_>,
-    bottom: u64,
-) -> Result<Option<u64>, Fault>
-    requires { bottom ≤ 6 }
-{
-    let version = opened(rt, telling)?;
-    next_level(rt.alloc(), &version, bottom)
+    opened: &Opened,
+    level: u64,
+    settings: &CompactSettings,
+) -> Result<Opened, Fault> {
+    compact_level(rt, telling, opened, level, settings)?;
+    let after = open_quietly(rt, telling);
+    if telling.is_explaining {
+        explain(rt, telling.folder, opened, &after, level, settings.ranges);
+    }
+    if after.is_err() {
+        telling.end(rt, "open", None, &after);
+    }
+    after
 }
 
 /// Syncs a folder, so that what is read of it from then on outlives a crash.
@@ -154,45 +187,35 @@ fn sync<R: Files + Eprint + Clock + AllocGlobal>(
     answer
 }
 
-/// The version of a folder.
-fn opened<R: Files + Eprint + Clock + AllocGlobal>(
+/// What a folder is opened as. A refusal is told.
+fn open_folder<R: Files + Eprint + Clock + AllocGlobal>(
     rt: &R,
     telling: Telling<'_>,
-) -> Result<Version, Fault> {
-    let answer = open(rt.alloc(), &mut Disk::new(rt, telling.folder));
+) -> Result<Opened, Fault> {
+    let answer = open_quietly(rt, telling);
     if answer.is_err() {
         telling.end(rt, "open", None, &answer);
     }
-    let (_, version) = answer?;
-    Ok(version)
+    answer
 }
 
-/// Compacts a level of a folder, prints what was made, and tells how it went where that is asked for.
-fn compact_level<R: Files + WholeFiles + Print + Eprint + Clock + AllocGlobal + Threads + Sync>(
-    rt: &R,
-    telling: Telling<'_>,
-    level: u64,
-    settings: &CompactSettings,
-) -> Result<(), Fault> {
-    if !telling.is_explaining {
-        return compact_once(rt, telling, level, settings);
-    }
-    let before = open(rt.alloc(), &mut Disk::new(rt, telling.folder));
-    compact_once(rt, telling, level, settings)?;
-    explain(rt, telling.folder, before, level, settings.ranges);
-    Ok(())
+/// What a folder is opened as. Nothing is told of a refusal.
+fn open_quietly<R: Files + AllocGlobal>(rt: &R, telling: Telling<'_>) -> Result<Opened, Fault> {
+    let (order, version) = open(rt.alloc(), &mut Disk::new(rt, telling.folder))?;
+    Ok(Opened { order, version })
 }
 
 /// Compacts a level of a folder, and prints what was made.
-fn compact_once<R: Files + WholeFiles + Print + Eprint + Clock + AllocGlobal + Threads + Sync>(
+fn compact_level<R: Files + WholeFiles + Print + Eprint + Clock + AllocGlobal + Threads + Sync>(
     rt: &R,
     telling: Telling<'_>,
+    opened: &Opened,
     level: u64,
     settings: &CompactSettings,
 ) -> Result<(), Fault> {
     let step = format!(in rt.alloc(); "compact --level {level}")?;
     let begun = telling.begin(rt);
-    let answer = compacted(rt, telling, level, settings);
+    let answer = compacted(rt, telling, opened, level, settings);
     print_answer(rt, telling, step.as_str(), begun, answer)
 }
 
@@ -200,38 +223,50 @@ fn compact_once<R: Files + WholeFiles + Print + Eprint + Clock + AllocGlobal + T
 fn compacted<R: Files + WholeFiles + Eprint + Clock + AllocGlobal + Threads + Sync>(
     rt: &R,
     telling: Telling<'_>,
+    opened: &Opened,
     level: u64,
     settings: &CompactSettings,
 ) -> Result<Vec<u8>, Fault> {
     let progress = ProgressLine::new(rt, telling.is_watched);
-    let mut folder = read_ahead(rt, telling.folder);
+    let mut folder = read_ahead(rt, telling.folder, opened);
     let settings = kept_to(settings);
-    let answer = compact_dir_watched(rt, rt.alloc(), &mut folder, level, &settings, &progress);
+    let answer = compact_opened(
+        rt,
+        rt.alloc(),
+        &mut folder,
+        opened.order,
+        &opened.version,
+        level,
+        &settings,
+        &progress,
+    );
     progress.erase();
     answer
 }
 
-/// The folder at a path, its tables read ahead by several threads. Where that can't be, they are read when they are asked for.
+/// The folder at a path, its version's tables read ahead by several threads. One that can't be read
+/// ahead is read when it is asked for.
 fn read_ahead<'r, R: Files + WholeFiles + AllocGlobal + Threads>(
     rt: &'r R,
     path: &'r str,
+    opened: &Opened,
 ) -> Disk<'r, R> {
     let mut folder = Disk::new(rt, path);
-    if let Ok((order, version)) = open(rt.alloc(), &mut Disk::new(rt, path)) {
-        folder.read_ahead(order, &version);
-    }
+    folder.read_ahead(opened.order, &opened.version);
     folder
 }
 
-/// Tells how the compaction of a level went, by the version before it. That it can't be told changes nothing else.
+/// Tells how the compaction of a level went, by what the folder was opened as before it and after
+/// it. That it can't be told changes nothing else.
 fn explain<R: Files + Eprint + AllocGlobal>(
     rt: &R,
     folder: &str,
-    before: Result<(Order, Version), Fault>,
+    before: &Opened,
+    after: &Result<Opened, Fault>,
     level: u64,
     ranges: u64,
 ) {
-    match explanation(rt, folder, before, level, ranges) {
+    match explanation(rt, folder, before, after, level, ranges) {
         Ok(lines) => {
             let _ = rt.eprint(lines.as_str());
         }
@@ -246,35 +281,24 @@ fn explain<R: Files + Eprint + AllocGlobal>(
 fn explanation<R: Files + AllocGlobal>(
     rt: &R,
     folder: &str,
-    before: Result<(Order, Version), Fault>,
+    before: &Opened,
+    after: &Result<Opened, Fault>,
     level: u64,
     ranges: u64,
 ) -> Result<String, Fault> {
-    let (order, before) = before?;
-    let account = account_since(rt, folder, order, &before, level, ranges)?;
+    let account = match after {
+        Ok(after) => account_of(
+            rt.alloc(),
+            &mut Disk::new(rt, folder),
+            before.order,
+            &before.version,
+            &after.version,
+            level,
+            ranges,
+        )?,
+        Err(fault) => return Err(*fault),
+    };
     text(rt.alloc(), &account)
-}
-
-/// The account of the compaction of a level, by the version before it.
-fn account_since<R: Files + AllocGlobal>(
-    rt: &R,
-    folder: &str,
-    order: Order,
-    before: &Version,
-    level: u64,
-    ranges: u64,
-) -> Result<Account, Fault> {
-    let mut folder = Disk::new(rt, folder);
-    let (_, after) = open(rt.alloc(), &mut folder)?;
-    account_of(
-        rt.alloc(),
-        &mut folder,
-        order,
-        before,
-        &after,
-        level,
-        ranges,
-    )
 }
 
 /// What a compaction keeps to, as its command line says.

@@ -5,6 +5,7 @@ ghost use Rattle.std.specs.Prelude.{◌≡◌, true, IfSome};
 use crate::explaining::in_words;
 use coding::{Fault, FaultName};
 use diagnostics::{log_with_writes, refused_file};
+use edit::Version;
 use folder::Disk;
 use std::rt::Files;
 use std::time::{Clock, Instant};
@@ -32,7 +33,8 @@ impl<'a> Telling<'a> {
         self
     }
 
-    /// The time at which a step begins, where it will be told. None where the clock can't be read, too.
+    /// The time at which a step begins, where it will be told. None where the clock can't be read,
+    /// too.
     pub fn begin<R: Clock>(self, rt: &R) -> Option<Instant>
         ensures { IfSome result (λ _. self.entry.is_on ≡ true) }
     {
@@ -60,12 +62,13 @@ impl<'a> Telling<'a> {
         }
     }
 
-    /// Tells of a log with writes that are in no table.
-    pub fn tell_log<R: Files + Eprint + AllocGlobal>(self, rt: &R) {
+    /// Tells of the log that the folder's version names, if it holds writes that are in no table.
+    pub fn tell_log<R: Files + Eprint + AllocGlobal>(self, rt: &R, version: &Version) {
         if !self.is_on {
             return;
         }
-        if let Ok(Some(log)) = log_with_writes(rt.alloc(), &mut Disk::new(rt, self.folder)) {
+        let mut folder = Disk::new(rt, self.folder);
+        if let Ok(Some(log)) = log_with_writes(rt.alloc(), &mut folder, version) {
             let _ = eprintln!(rt;
                 "{log}: holds writes that are in no table yet, and are not seen here"
             );
@@ -87,8 +90,8 @@ impl<'a> Telling<'a> {
     }
 }
 
-/// Whether the fault of a file is why the work on its folder was refused. A table that isn't as the manifest says makes the
-/// version lawless.
+/// Whether the fault of a file is why the work on its folder was refused. A table that isn't as the
+/// manifest says makes the version lawless.
 fn explains(file: &Fault, work: &Fault) -> bool {
     file.name == work.name || file.name == FaultName::Bounds && work.name == FaultName::Lawless
 }

@@ -1,6 +1,5 @@
 //! Which file of a folder is refused, and whether its log has writes. Both are told where that is asked for.
 
-ghost use Rattle.std.specs.Prelude.{◌≡◌};
 ghost use Rattle.folder.specs.Reports.{OnlyReads};
 
 use coding::{Fault, FaultName};

@@ -5,13 +5,13 @@ ghost use Rattle.std.specs.List.{flat_map};
 ghost use Rattle.coding.specs.Answers.{EqualOrMemory, fault};
 ghost use Rattle.coding.specs.declared.fault.FaultName.TheVariants.{Memory};
 ghost use Rattle.install.specs.Install.{tables_in};
-ghost use Rattle.request.specs.EditOf.{deletions_of};
 ghost use Rattle.store.specs.Lines.{compaction_lines, deleted_line, installed_line, output_line};
 
 use coding::Fault;
 use edit::{DeletedFile, Outcome};
 use folder::manifest_name;
 use pick::InputFile;
+use request::deletions_of;
 use std::alloc::Global;
 use std::collections::BTreeSet;
 
@@ -32,21 +32,6 @@ pub(crate) fn compaction_lines(
     push_all_deleted(&mut text, &deleted)?;
     push_installed(alloc, &mut text, manifest_number)?;
     Ok(text.into_bytes())
-}
-
-/// The places of inputs by level and number, each once. Refused for want of memory alone.
-fn deletions_of(alloc: Global, inputs: &[InputFile]) -> Result<BTreeSet<DeletedFile>, Fault>
-    ensures { EqualOrMemory (λ set. set.keys) result (Ok (deletions_of inputs.now)) }
-{
-    let mut deleted = BTreeSet::new(alloc);
-    for input in inputs {
-        let file = DeletedFile {
-            level: input.level,
-            number: input.meta.number,
-        };
-        deleted.insert(file)?;
-    }
-    Ok(deleted)
 }
 
 /// Appends the lines of the outputs.

@@ -1,6 +1,6 @@
 -- what contracts rest on
 pub mod Runs
-pub mod Encoded
 pub mod Answered
 -- serves proofs alone
+pub mod Encoded
 pub mod Sound

@@ -4,12 +4,12 @@ pub mod Outputs
 pub mod Segments
 pub mod Plan
 pub mod Planning
+pub mod Metered
 pub mod OutputMeta
 pub mod Lengths
 pub mod Sizes
 -- serves proofs alone
 pub mod Stopping
-pub mod Metered
 pub mod Opened
 pub mod Cutting
 pub mod TableLength

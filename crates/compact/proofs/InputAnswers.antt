@@ -15,31 +15,29 @@ use Rattle.block.specs.Building.{last_key}
 use Rattle.table.specs.Reading.{Contents, contents_reading}
 use Rattle.table.specs.ReadingEntries.{first_key}
 use Rattle.table.specs.ReadingSteps.{pass}
-use Rattle.table.proofs.CheckedTables.{last_is}
 use Rattle.edit.specs.declared.meta.FileMeta.{FileMeta}
 use Rattle.pick.specs.declared.picked.InputFile.{InputFile}
 use Rattle.board.specs.Collected.{collected}
+use Rattle.reads.specs.Bounds.{has_bounds}
+use Rattle.keep.proofs.Reaching.{first_from, last_from}
 use Rattle.request.specs.Inputs.{about, is_stated, input_reading, inputs_reading}
-use Rattle.compact.specs.Runs.{input_answers}
+use Rattle.compact.specs.JobAnswers.{input_answers}
 
 -- ---- what a version states
 
-pub first_from : (es : List Entry) (key : List ℕ) → Some key ≡ option_map (λ e. e.key) (slice_get es 0) → key ≡ first_key es
-first_from [] key h = absurd cc
-first_from (e ∷ es) key h = same_Some key e.key h
-
-pub last_from : (es : List Entry) (key : List ℕ) → Some key ≡ option_map (λ e. e.key) (slice_get es (length es - 1)) → key ≡ last_key [] es
-last_from [] key h = absurd cc
-last_from (e ∷ es) key h = same_Some key (last_key [] (e ∷ es)) (h ∙ last_is (e ∷ es) (record { first = e; others = es; same = refl }))
+all_of_three : (a b c : Bool) → (a && (b && c)) ≡ (a && b && c)
+all_of_three true b c = refl
+all_of_three false b c = refl
 
 -- the test, by a table's bytes, its first and its last key
 pub stated_by : (f : FileMeta) (t : Contents) (bytes smallest largest : List ℕ) → bytes ≡ t.bytes
     → Some smallest ≡ option_map (λ e. e.key) (slice_get t.entries 0) → Some largest ≡ option_map (λ e. e.key) (slice_get t.entries (length t.entries - 1))
-    → (nat_eq f.size (length bytes) && bytes_eq f.smallest smallest && bytes_eq f.largest largest) ≡ is_stated f t
+    → has_bounds f (length bytes) smallest largest ≡ is_stated f t
 stated_by f t bytes smallest largest b s l =
-    ap (λ (bs : List ℕ). nat_eq f.size (length bs) && bytes_eq f.smallest smallest && bytes_eq f.largest largest) b
-    ∙ ap (λ (k : List ℕ). nat_eq f.size (length t.bytes) && bytes_eq f.smallest k && bytes_eq f.largest largest) (first_from t.entries smallest s)
-    ∙ ap (λ (k : List ℕ). nat_eq f.size (length t.bytes) && bytes_eq f.smallest (first_key t.entries) && bytes_eq f.largest k) (last_from t.entries largest l)
+    ap (λ (bs : List ℕ). has_bounds f (length bs) smallest largest) b
+    ∙ ap (λ (k : List ℕ). has_bounds f (length t.bytes) k largest) (first_from t.entries smallest s)
+    ∙ ap (λ (k : List ℕ). has_bounds f (length t.bytes) (first_key t.entries) k) (last_from t.entries largest l)
+    ∙ all_of_three (nat_eq f.size (length t.bytes)) (bytes_eq f.smallest (first_key t.entries)) (bytes_eq f.largest (last_key [] t.entries))
 
 -- ---- the reading of an input
 

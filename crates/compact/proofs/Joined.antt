@@ -22,7 +22,7 @@ use Rattle.request.specs.Request.{RequestView, below_request, request_test}
 use Rattle.request.specs.Inputs.{inputs_reading, union_reading}
 use Rattle.request.specs.OneThread.{Answer, one_thread}
 use Rattle.compact.specs.Runs.{by_workers, runs_reading}
-use Rattle.compact.specs.Answered.{written_of}
+use Rattle.compact.specs.Written.{written_of}
 use Rattle.compact.proofs.Working.{within, within_limits}
 
 -- ---- steps

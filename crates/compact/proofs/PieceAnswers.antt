@@ -9,7 +9,7 @@ use Rattle.coding.specs.Answers.{◌>>=◌}
 use Rattle.board.specs.Collected.{collected}
 use Rattle.cut.specs.Plan.{encoded, pieces, jobs}
 use Rattle.cut.specs.Planning.{PlanSeen, lists_in}
-use Rattle.compact.specs.Encoded.{piece_answers}
+use Rattle.compact.specs.JobAnswers.{piece_answers}
 
 abbrev good : List ℕ → Result (List ℕ) Fault
 good bytes = Ok bytes

@@ -16,7 +16,8 @@ use Rattle.keep.specs.InRange.{entries_in}
 use Rattle.keep.specs.Marks.{Below}
 use Rattle.keep.specs.Runs.{Run, run_of, are_distinct, range_run, ranges_from, ranges_of, runs_of, RangesCompose}
 use Rattle.board.specs.Collected.{collected}
-use Rattle.compact.specs.Runs.{range_answers, runs_reading}
+use Rattle.compact.specs.JobAnswers.{range_answers}
+use Rattle.compact.specs.Runs.{runs_reading}
 
 abbrev unless_twice : {A : Type 0} → Bool → A → Result A Fault
 unless_twice distinct x = cond distinct (Ok x) (Err (fault Duplicate))

@@ -27,8 +27,8 @@ read_inputs cmp place (i ∷ is) (t ∷ ts) h =
     (read_stated cmp i.meta t.bytes t h.0 h.1.0)
     ∙ ap (λ (rest : Result (List (List Entry)) Fault). rest >>= λ others. Ok (t.entries ∷ others)) (read_inputs cmp (place + 1) is ts h.1.1)
 
-all_three : (a b c : Bool) → a ≡ true → b ≡ true → c ≡ true → (a && b && c) ≡ true
-all_three a b c h k l = ap (λ x. x && b && c) h ∙ ap (λ x. true && x && c) k ∙ l
+all_three : (a b c : Bool) → a ≡ true → b ≡ true → c ≡ true → (a && (b && c)) ≡ true
+all_three a b c h k l = ap (λ x. x && (b && c)) h ∙ ap (λ x. x && c) k ∙ l
 
 -- a file of a lawful version is what the version states
 pub stated_lawful : (cmp : List ℕ → List ℕ → Ordering) (tables : List Numbered) (f : FileMeta) (h : IsFileOf cmp tables f) → is_stated f h.table ≡ true

@@ -2,5 +2,6 @@
 pub mod Runs
 pub mod Answered
 -- serves proofs alone
-pub mod Encoded
+pub mod JobAnswers
+pub mod Written
 pub mod Sound

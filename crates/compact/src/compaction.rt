@@ -12,7 +12,8 @@ ghost use Rattle.request.specs.Inputs.{inputs_reading};
 ghost use Rattle.request.specs.OneThread.{compacted, one_thread};
 ghost use Rattle.request.specs.Request.{has_levels, request_in, request_test};
 ghost use Rattle.survival.specs.Survive.{LeavesReads};
-ghost use Rattle.compact.specs.Answered.{answer_in, written_of};
+ghost use Rattle.compact.specs.Answered.{answer_in};
+ghost use Rattle.compact.specs.Written.{written_of};
 
 use crate::inputs::check_inputs;
 use crate::ranges::merge_ranges;
@@ -31,16 +32,22 @@ use std::thread::Threads;
 use survival::reads_survive;
 use table::SoundTable;
 
-/// Carries out a compaction by 1 to 64 workers, and answers its tables and its edit: just what one thread answers, whatever
-/// the ranges of the split, the number of workers and the order in which they come to their jobs.
+/// Carries out a compaction by 1 to 64 workers, and answers its tables and its edit: just what one
+/// thread answers, whatever the ranges of the split, the number of workers and the order in which
+/// they come to their jobs.
 ///
-/// Reads survive: where the inputs were picked from a lawful version and the request has its tables' bytes, its counters and
-/// a first number at or above its next file, the edit applies, the version after it is lawful with the outputs, and each get
-/// at a sequence that stays readable answers as before.
+/// It checks the tables of the inputs itself, and then calls [`compact_tables`]. The program calls
+/// that function, since it has checked all tables of its folder before.
 ///
-/// `Workers` where these are not from 1 to 64. Else the first refusal of the request, as `Request::check` has it; else that of
-/// the first input that has one, with its place; else `Duplicate` where the inputs hold one user key and sequence twice; else
-/// `Numbers` or `TooLarge` of the outputs; else refused for want of memory alone.
+/// Reads survive: where the inputs were picked from a lawful version and the request has its
+/// tables' bytes, its counters and a first number at or above its next file, the edit applies, the
+/// version after it is lawful with the outputs, and each get at a sequence that stays readable
+/// answers as before.
+///
+/// `Workers` where these are not from 1 to 64. Else the first refusal of the request, as
+/// `Request::check` has it; else that of the first input that has one, with its place; else
+/// `Duplicate` where the inputs hold one user key and sequence twice; else `Numbers` or `TooLarge`
+/// of the outputs; else refused for want of memory alone.
 pub fn compact<'a, C: SharedComparator + 'static, G: Gate + Sync, R: Threads + Sync>(
     rt: &R,
     alloc: Global,
@@ -52,21 +59,22 @@ pub fn compact<'a, C: SharedComparator + 'static, G: Gate + Sync, R: Threads + S
     ensures same { EqualOrMemory answer_in result (compacted C.cmp C.separator_of C.successor_of workers (request_in request.now)) }
     ensures reads { IfOk result (λ outcome. LeavesReads C.cmp (request_in request.now) (answer_in outcome)) }
 {
-    reads_survive::<C>();
     passed_law::<C>();
     check_workers(workers)?;
     request.check::<C>()?;
     let files = &request.picked.files;
     let tables = check_inputs::<C, G, R>(rt, alloc, files, request.tables, workers, gate)?;
-    compact_sound(rt, alloc, request, &tables, split, workers, gate)
+    compact_tables(rt, alloc, request, &tables, split, workers, gate)
 }
 
-/// Carries out a compaction over tables that are checked already, those of the request's inputs in their order: just what
-/// [`compact`] answers. No table is checked again.
+/// Carries out a compaction over tables that are checked already, those of the request's inputs in
+/// their order: just what [`compact`] answers. No table is checked again.
 ///
-/// `Workers` where these are not from 1 to 64. Else the first refusal of the request, as `Request::check` has it; else
-/// `Duplicate` where the tables hold one user key and sequence twice; else `Numbers` or `TooLarge` of the outputs; else
-/// refused for want of memory alone.
+/// The program's call, and the last step of [`compact`].
+///
+/// `Workers` where these are not from 1 to 64. Else the first refusal of the request, as
+/// `Request::check` has it; else `Duplicate` where the tables hold one user key and sequence twice;
+/// else `Numbers` or `TooLarge` of the outputs; else refused for want of memory alone.
 pub fn compact_tables<'t, C: SharedComparator + 'static, G: Gate + Sync, R: Threads + Sync>(
     rt: &R,
     alloc: Global,

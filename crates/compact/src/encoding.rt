@@ -25,7 +25,7 @@ impl<'p, C: Comparator + 'static> Labour for Encodes<'p, C> {
 
     ghost use Rattle.std.specs.Prelude.{length};
     ghost use Rattle.board.specs.Collected.{refusal_at, HasValue};
-    ghost use Rattle.compact.specs.Encoded.{piece_answers};
+    ghost use Rattle.compact.specs.JobAnswers.{piece_answers};
 
     ghost jobs = { λ s. length (piece_answers s.plan.now) };
 

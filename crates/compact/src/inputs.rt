@@ -1,17 +1,18 @@
 //! The first run: the inputs are checked.
 
-ghost use Rattle.std.specs.Prelude.{◌≡◌, ◌<◌, ◌≤◌, nat_eq, ◌&&◌, List, length, map, slice_get, Some, Result};
-ghost use Rattle.std.specs.Str.{bytes_eq};
+ghost use Rattle.std.specs.Prelude.{◌≡◌, ◌<◌, ◌≤◌, List, length, map, slice_get, Some, Result};
 ghost use Rattle.coding.specs.Answers.{EqualOrMemory, FailsOrMemory};
 ghost use Rattle.block.specs.Piece.{Entry};
 ghost use Rattle.request.specs.Inputs.{about, is_stated, input_reading, inputs_reading};
-ghost use Rattle.compact.specs.Runs.{by_workers, input_answers};
+ghost use Rattle.compact.specs.Runs.{by_workers};
+ghost use Rattle.compact.specs.JobAnswers.{input_answers};
 
 use board::{Gate, Labour, run};
 use coding::{Fault, FaultName};
 use edit::FileMeta;
-use ikey::{Comparator, InternalKey, SharedComparator};
+use ikey::{Comparator, SharedComparator};
 use pick::InputFile;
+use reads::has_bounds;
 use std::alloc::Global;
 use std::marker::PhantomData;
 use std::thread::Threads;
@@ -31,7 +32,7 @@ impl<'r, 't, C: Comparator> Labour for Checks<'r, 't, C> {
 
     ghost use Rattle.std.specs.Prelude.{length, map};
     ghost use Rattle.board.specs.Collected.{refusal_at, HasValue};
-    ghost use Rattle.compact.specs.Runs.{input_answers};
+    ghost use Rattle.compact.specs.JobAnswers.{input_answers};
 
     ghost jobs = { λ s. length (input_answers C.cmp 0 s.files.now (map (λ t. t.now) s.tables.now)) };
 
@@ -44,12 +45,13 @@ impl<'r, 't, C: Comparator> Labour for Checks<'r, 't, C> {
     }
 }
 
-/// Checks the inputs of a compaction by 1 to 64 workers, a table a job, and answers the tables in order. There are at most
-/// 256 inputs.
+/// Checks the inputs of a compaction by 1 to 64 workers, a table a job, and answers the tables in
+/// order. There are at most 256 inputs.
 ///
-/// Of each input the bytes have to be a table, else the refusal is that of `table::check`, and the table has to have the
-/// size, the smallest and the largest key that the version states, else it is `Bounds`. The refusal is that of the first
-/// input that has one, and names its place, whichever worker came first. `Workers` where these are not from 1 to 64.
+/// Of each input the bytes have to be a table, else the refusal is that of `table::check`, and the
+/// table has to have the size, the smallest and the largest key that the version states, else it is
+/// `Bounds`. The refusal is that of the first input that has one, and names its place, whichever
+/// worker came first. `Workers` where these are not from 1 to 64.
 ///
 /// Else refused for want of memory alone, which is about no input.
 pub fn check_inputs<'t, C: SharedComparator, G: Gate + Sync, R: Threads + Sync>(
@@ -139,20 +141,4 @@ fn is_stated<C: Comparator>(file: &FileMeta, table: &SoundTable<'_, C>) -> bool
     ensures { result ≡ is_stated file.now table.now }
 {
     has_bounds(file, table.bytes(), table.smallest(), table.largest())
-}
-
-/// Whether a version states this length, this first and this last key.
-fn has_bounds(
-    file: &FileMeta,
-    bytes: &[u8],
-    smallest: InternalKey<'_>,
-    largest: InternalKey<'_>,
-) -> bool
-    ensures { result
-        ≡ (nat_eq file.now.size (length bytes.now) && bytes_eq file.now.smallest smallest.entry.bytes.now
-        && bytes_eq file.now.largest largest.entry.bytes.now) }
-{
-    file.size == bytes.len() as u64
-        && file.smallest.as_key().bytes() == smallest.bytes()
-        && file.largest.as_key().bytes() == largest.bytes()
 }

@@ -16,4 +16,4 @@ mod writing;
 
 pub use compaction::{compact, compact_tables};
 pub use inputs::check_inputs;
-pub use ranges::{add_cursor, merge_ranges};
+pub use ranges::merge_ranges;

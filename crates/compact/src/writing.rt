@@ -5,7 +5,8 @@ ghost use Rattle.coding.specs.Answers.{EqualOrMemory};
 ghost use Rattle.table.specs.Table.{table};
 ghost use Rattle.pick.specs.Picked.{picked_in};
 ghost use Rattle.request.specs.Request.{has_levels, request_in};
-ghost use Rattle.compact.specs.Answered.{answer_in, answer_of};
+ghost use Rattle.compact.specs.Answered.{answer_in};
+ghost use Rattle.compact.specs.Written.{answer_of};
 
 use crate::edit_bytes::edit_bytes;
 use crate::encoding::encode_pieces;

@@ -1,7 +1,7 @@
 use Rattle.std.proofs.Common.{◌≤◌, List, map, length, Result, Ok, sym, ap, subst, ◌∙◌}
 use Rattle.std.proofs.lemmas.Result.{err_from_is_err_and}
 use Rattle.coding.specs.declared.fault.Fault.{Fault}
-use Rattle.coding.specs.Answers.{◌>>=◌, EqualOrMemory, FailsOrMemory}
+use Rattle.coding.specs.Answers.{◌>>=◌, FailsOrMemory}
 use Rattle.coding.proofs.Refusals.{FailsOrMemory-from}
 use Rattle.block.specs.Piece.{Entry}
 use Rattle.table.specs.Reading.{Contents}
@@ -9,10 +9,8 @@ use Rattle.pick.specs.declared.picked.InputFile.{InputFile}
 use Rattle.request.specs.Inputs.{inputs_reading}
 use Rattle.request.specs.OneThread.{Answer, one_thread}
 use Rattle.request.specs.Request.{RequestView, request_in}
-use Rattle.survival.specs.Survive.{LeavesReads}
-use Rattle.compact.specs.Answered.{answer_in}
 use Rattle.compact.specs.Runs.{by_workers}
-use Rattle.compact.proofs.Joined.{answer_is, few_workers, if_answered, inputs_are, refused_input, refused_test, some_worker}
+use Rattle.compact.proofs.Joined.{answer_is, inputs_are, refused_input, refused_test}
 use Rattle.compact.proofs.compaction.compact.Goals as goal
 
 abbrev read_as : List (List Entry) → Result (List (List Entry)) Fault
@@ -64,26 +62,10 @@ returns-in_err-tables g c =
       reads = rw (p.1) tt;
     }
 
-pub compact_sound-requires-clause-some : goal.compact_sound-requires-clause-some
-compact_sound-requires-clause-some g c κs within = some_worker c.args.workers (sym c.in_ok-check_workers.ensures)
-
-pub compact_sound-requires-clause-limited : goal.compact_sound-requires-clause-limited
-compact_sound-requires-clause-limited g c κs within = few_workers c.args.workers (sym c.in_ok-check_workers.ensures)
-
-pub compact_sound-requires-clause-read : goal.compact_sound-requires-clause-read
-compact_sound-requires-clause-read g c κs within =
+pub compact_tables-requires-clause-read : goal.compact_tables-requires-clause-read
+compact_tables-requires-clause-read g c κs within =
     let cmp = g.C.Comparator.cmp in
     let r : RequestView = request_in c.args.request.now in
     sym (inputs_are c.args.workers (sym c.in_ok-check_workers.ensures) (inputs_reading cmp 0 r.picked.files r.tables))
     ∙ ap (λ (files : List InputFile). by_workers c.args.workers (inputs_reading cmp 0 files r.tables)) (sym c.deref.ensures.value)
     ∙ c.in_ok-tables.ensures ∙ ap (λ (ts : List Contents). read_as (map (λ t. t.entries) ts)) (sym c.deref-2.ensures.value)
-
-pub returns : goal.returns
-returns g c =
-    let cmp = g.C.Comparator.cmp in
-    let r : RequestView = request_in c.args.request.now in
-    let thread : Result Answer Fault = one_thread cmp g.C.Comparator.separator_of g.C.Comparator.successor_of r in
-    record {
-      same = subst (λ (a : Result Answer Fault). EqualOrMemory answer_in c.compact_sound.result a) (sym (answer_is c.args.workers (sym c.in_ok-check_workers.ensures) thread)) c.compact_sound.ensures;
-      reads = if_answered answer_in (LeavesReads cmp r) c.compact_sound.result thread c.compact_sound.ensures (c.reads_survive.ensures r);
-    }

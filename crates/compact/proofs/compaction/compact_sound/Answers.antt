@@ -11,7 +11,8 @@ use Rattle.keep.specs.Runs.{Run, joined_run}
 use Rattle.cut.specs.Outputs.{outputs_of}
 use Rattle.request.specs.OneThread.{Answer}
 use Rattle.request.specs.Request.{RequestView, request_in, below_request}
-use Rattle.compact.specs.Answered.{answer_in, written_of}
+use Rattle.compact.specs.Answered.{answer_in}
+use Rattle.compact.specs.Written.{written_of}
 use Rattle.compact.specs.Runs.{by_workers, runs_reading}
 use Rattle.compact.proofs.Joined.{whole_answer, refused_answer}
 use Rattle.compact.proofs.compaction.compact_sound.Goals as goal

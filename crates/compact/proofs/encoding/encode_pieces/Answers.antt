@@ -4,7 +4,7 @@ use Rattle.coding.specs.Answers.{FailsOrMemory}
 use Rattle.coding.specs.declared.fault.Fault.{Fault}
 use Rattle.board.specs.Running.{fault_of_run}
 use Rattle.compact.specs.Runs.{by_workers}
-use Rattle.compact.specs.Encoded.{piece_answers}
+use Rattle.compact.specs.JobAnswers.{piece_answers}
 use Rattle.compact.proofs.Working.{run_gives, run_fails}
 use Rattle.compact.proofs.PieceAnswers.{pieces_collected, pieces_length}
 use Rattle.compact.proofs.encoding.encode_pieces.Goals as goal

@@ -5,7 +5,8 @@ use Rattle.coding.specs.Answers.{FailsOrMemory}
 use Rattle.coding.specs.declared.fault.Fault.{Fault}
 use Rattle.block.specs.Piece.{Entry}
 use Rattle.board.specs.Running.{fault_of_run}
-use Rattle.compact.specs.Runs.{by_workers, input_answers}
+use Rattle.compact.specs.Runs.{by_workers}
+use Rattle.compact.specs.JobAnswers.{input_answers}
 use Rattle.compact.proofs.Working.{run_gives, run_fails}
 use Rattle.compact.proofs.InputAnswers.{answers_length, inputs_collected}
 use Rattle.compact.proofs.inputs.check_inputs.Goals as goal

@@ -5,8 +5,8 @@ use Rattle.block.specs.Piece.{Entry}
 use Rattle.split.specs.Ranges.{KeyRange, key_range}
 use Rattle.keep.specs.Marks.{Below, below_of}
 use Rattle.keep.specs.Runs.{Run, range_run}
+use Rattle.keep.proofs.Reaching.{run_same}
 use Rattle.compact.proofs.RangeAnswers.{map_same}
-use Rattle.compact.proofs.Reaching.{run_same}
 use Rattle.compact.proofs.ranges.merge_tables.Goals as goal
 
 pub returns : goal.returns
@@ -17,5 +17,5 @@ returns g c =
     let cursors : List (List Entry) = c.in_ok-cursors.cursors.items in
     subst (λ (a : Result Run Fault). EqualOrMemory (λ (r : Run). r) c.merge_range.result a)
     (ap (λ (ls : List (List Entry)). range_run cmp below ls range) (map_same cursors)
-    ∙ run_same cmp g.met.C.Comparator.total range below (map (λ t. t.entries) c.args.tables.now) cursors c.in_ok-cursors.ensures.held)
+    ∙ run_same cmp g.met.C.Comparator.total range below (map (λ t. t.now.entries) c.args.tables.now) cursors c.in_ok-cursors.ensures.held)
     c.merge_range.ensures.run

@@ -8,7 +8,7 @@ use Rattle.keep.specs.Marks.{Below, below_of}
 use Rattle.keep.specs.Runs.{Run, range_run}
 use Rattle.keep.proofs.Composing.{ranges_compose_law}
 use Rattle.board.proofs.Collecting.{work_gives, work_refuses}
-use Rattle.compact.specs.Runs.{Merging, range_answers}
+use Rattle.compact.specs.JobAnswers.{Merging, range_answers}
 use Rattle.compact.proofs.RangeAnswers.{range_answer_at}
 use Rattle.compact.proofs.ranges.MergesLabour.work.Goals as goal
 
@@ -17,7 +17,7 @@ returns-clause-ok g c =
     let cmp = g.C.Comparator.cmp in
     let s = c.self.inside in
     let below : Below = below_of s.listed.now s.floor s.inputs.now in
-    let tables : List (List Entry) = map (λ t. t.entries) s.tables.now in
+    let tables : List (List Entry) = map (λ t. t.now.entries) s.tables.now in
     let answer : Result Run Fault = range_run cmp below tables (range_at s.split.now c.args.job) in
     let within : c.args.job ≤ length s.split.now = omega (arith, c.requires, ap (λ (m : Merging). length m.boundaries) c.self.view_is) in
     let at = subst (λ (m : Merging). slice_get (range_answers cmp m.below m.boundaries m.inputs) c.args.job ≡ Some answer) c.self.view_is
@@ -30,7 +30,7 @@ returns-clause-err g c =
     let cmp = g.C.Comparator.cmp in
     let s = c.self.inside in
     let below : Below = below_of s.listed.now s.floor s.inputs.now in
-    let tables : List (List Entry) = map (λ t. t.entries) s.tables.now in
+    let tables : List (List Entry) = map (λ t. t.now.entries) s.tables.now in
     let answer : Result Run Fault = range_run cmp below tables (range_at s.split.now c.args.job) in
     let within : c.args.job ≤ length s.split.now = omega (arith, c.requires, ap (λ (m : Merging). length m.boundaries) c.self.view_is) in
     let at = subst (λ (m : Merging). slice_get (range_answers cmp m.below m.boundaries m.inputs) c.args.job ≡ Some answer) c.self.view_is

@@ -1,4 +1,4 @@
--- What stands before a range takes no part in it.
+-- Entries before a range take no part in it.
 use Rattle.std.specs.Prelude.{◌≡◌, ℕ, false, List}
 use Rattle.std.specs.declared.cmp.Ordering.{Ordering}
 use Rattle.block.specs.Piece.{Entry}
@@ -7,7 +7,7 @@ use Rattle.keep.specs.Left.{is_before, EachLosesOnly}
 use Rattle.keep.specs.Marks.{Below}
 use Rattle.keep.specs.Runs.{range_run}
 
--- lists that have lost some entries before a range give in it what they gave
+-- lists that lost some entries before a range have the run of it that they had
 abbrev pub BegunLaw : (List ℕ → List ℕ → Ordering) → Type 0
 BegunLaw cmp =
     (b : Below) (range : KeyRange) (olds news : List (List Entry)) →

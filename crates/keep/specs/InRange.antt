@@ -7,15 +7,16 @@ use Rattle.ikey.specs.Key.{user_of}
 use Rattle.block.specs.Piece.{Entry}
 use Rattle.split.specs.Ranges.{KeyRange, IsIn}
 
--- whether a range holds a user key: it is at or after the lower bound and before the upper bound, where there are these
+-- whether a range holds a user key: it is at or after the lower bound, if there is one, and before
+-- the upper bound, if there is one
 abbrev pub is_in_range : (List ℕ → List ℕ → Ordering) → KeyRange → List ℕ → Bool
 is_in_range cmp range user =
     option_map_or (λ lower. not (is_lt (cmp user lower))) range.lower true && option_map_or (λ upper. is_lt (cmp user upper)) range.upper true
 
--- the entries whose user keys a range holds
+-- the entries whose user keys the range holds
 abbrev pub entries_in : (List ℕ → List ℕ → Ordering) → KeyRange → List Entry → List Entry
 entries_in cmp range entries = filter (λ e. is_in_range cmp range (user_of e.key)) entries
 
--- the test is the fact that a split states of its ranges
+-- the test holds of just the user keys that a split states of a range
 abbrev pub HoldsLaw : (List ℕ → List ℕ → Ordering) → Type 0
 HoldsLaw cmp = (range : KeyRange) (user : List ℕ) → (is_in_range cmp range user ≡ true) ↔ IsIn cmp range user

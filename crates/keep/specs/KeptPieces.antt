@@ -1,15 +1,16 @@
--- Kept entries in pieces of one length, and those behind them.
+-- Kept entries in full pieces, and the last piece after them.
 use Rattle.std.specs.Prelude.{◌≡◌, ℕ, ◌≤◌, List, [], ◌∷◌, ◌++◌, length}
 use Rattle.std.specs.List.{AllByRecursion}
 use Rattle.ikey.specs.Key.{IsInternalKey}
 use Rattle.block.specs.Piece.{Entry}
 
--- the entries of pieces, and behind them those of a last one
+-- the entries of the pieces, and after them those of the last one
 abbrev pub all_kept : List (List Entry) → List Entry → List Entry
 all_kept [] last = last
 all_kept (p ∷ ps) last = p ++ all_kept ps last
 
--- the pieces are full, the last one has at most as many entries as a full one, and all have so many, each with an internal key
+-- the pieces have 4,096 entries each, the last one at most as many, and `number` is how many
+-- entries all have; each key is an internal key
 pub record AreInPieces (pieces : List (List Entry)) (behind : List Entry) (number : ℕ) : Type 0 where
   pub full : AllByRecursion (λ p. length p ≡ 4096) pieces
   pub last : length behind ≤ 4096

@@ -1,4 +1,4 @@
--- What merging in a range leaves of the cursors that it walks.
+-- What a merge of a range leaves of the cursors.
 use Rattle.std.specs.Prelude.{◌≡◌, ◌⊎◌, ℕ, Bool, true, false, not, ◌||◌}
 use Rattle.std.specs.Prelude.{List, [], ◌∷◌, ◌++◌, map, filter, Option}
 use Rattle.std.specs.List.{AllByRecursion}
@@ -9,39 +9,40 @@ use Rattle.ikey.specs.Key.{user_of}
 use Rattle.block.specs.Piece.{Entry}
 use Rattle.split.specs.Ranges.{KeyRange}
 
--- whether an entry's user key is before a bound, or what is said where there is no bound
+-- whether an entry's user key is before a bound; `otherwise` if there is no bound
 abbrev pub is_before : (List ℕ → List ℕ → Ordering) → Option (List ℕ) → Bool → Entry → Bool
 is_before cmp bound otherwise e = option_map_or (λ limit. is_lt (cmp (user_of e.key) limit)) bound otherwise
 
--- whether a walk of a range goes past an entry: its user key is before the upper bound, or before the lower one
+-- whether a walk of a range passes an entry: its user key is before the lower bound or before the
+-- upper one; without an upper bound all are passed
 abbrev pub is_passed : (List ℕ → List ℕ → Ordering) → KeyRange → Entry → Bool
 is_passed cmp range e = is_before cmp range.lower false e || is_before cmp range.upper true e
 
--- of each list the entries behind a range
+-- of each list the entries after a range
 abbrev pub each_behind : (List ℕ → List ℕ → Ordering) → KeyRange → List (List Entry) → List (List Entry)
 each_behind cmp range lists = map (λ entries. filter (λ e. not (is_passed cmp range e)) entries) lists
 
--- each entry of a list, in their order, but some that pass a test
+-- the new list has the entries of the old one in their order, less some that pass the test
 abbrev pub LosesOnly : (Entry → Bool) → List Entry → List Entry → Type 0
 LosesOnly test [] new = new ≡ []
 LosesOnly test (e ∷ es) new =
     ((test e ≡ true) × LosesOnly test es new)
     ⊎ ((left : List Entry) × ((new ≡ e ∷ left) × LosesOnly test es left))
 
--- of each list each entry, in their order, but some that pass a test
+-- each new list has the entries of its old one in their order, less some that pass the test
 abbrev pub EachLosesOnly : (Entry → Bool) → List (List Entry) → List (List Entry) → Type 0
 EachLosesOnly test [] [] = Unit {0}
 EachLosesOnly test [] (new ∷ news) = ⊥
 EachLosesOnly test (old ∷ olds) [] = ⊥
 EachLosesOnly test (old ∷ olds) (new ∷ news) = LosesOnly test old new × EachLosesOnly test olds news
 
--- a list without its first entries, each of which passes a test
+-- the new list is the old one without its first entries, each of which passes the test
 pub record LosesFirst (test : Entry → Bool) (old new : List Entry) : Type 0 where
   pub gone : List Entry
   pub whole : old ≡ gone ++ new
   pub passed : AllByRecursion (λ e. test e ≡ true) gone
 
--- each of several lists without its first entries, each of which passes a test
+-- each new list is its old one without its first entries, each of which passes the test
 abbrev pub EachLosesFirst : (Entry → Bool) → List (List Entry) → List (List Entry) → Type 0
 EachLosesFirst test [] [] = Unit {0}
 EachLosesFirst test [] (new ∷ news) = ⊥

@@ -1,4 +1,4 @@
--- Where a compaction stands among the files two levels below, the grandparents, as it goes over its entries.
+-- How many grandparents lie below the entries of a compaction, and where that number changes.
 use Rattle.std.specs.Prelude.{◌≡◌, ℕ, ◌+◌, nat_eq, Bool, true, not, if◌then◌else◌, List, [], ◌∷◌, ◌++◌, count_by, AllPairs, Option, Some, None}
 use Rattle.std.specs.Ordering.{is_lt}
 use Rattle.std.specs.declared.cmp.Ordering.{Ordering}
@@ -11,7 +11,7 @@ use Rattle.keep.specs.declared.mark.Mark.{Mark}
 use Rattle.keep.specs.Readable.{Readable}
 use Rattle.keep.specs.Keeping.{is_same_user, keeps}
 
--- how many grandparents lie wholly below an internal key: their largest keys are below it
+-- how many grandparents lie below an internal key: their largest keys are below it
 abbrev pub grandparents_below : (List ℕ → List ℕ → Ordering) → List FileMeta → List ℕ → ℕ
 grandparents_below cmp grandparents key = count_by (λ (f : FileMeta). is_lt (internal_cmp cmp f.largest key)) grandparents
 
@@ -19,13 +19,14 @@ grandparents_below cmp grandparents key = count_by (λ (f : FileMeta). is_lt (in
 abbrev pub LargestRise : (List ℕ → List ℕ → Ordering) → List FileMeta → Type 0
 LargestRise cmp grandparents = AllPairs (λ (f later : FileMeta). internal_cmp cmp f.largest later.largest ≡ Less) grandparents
 
--- what a compaction has to know of its entries: which sequences stay readable, the deeper files, and the grandparents
+-- what the drop rule and the marks need to know: which sequences stay readable, the deeper files,
+-- and the grandparents
 pub record Below : Type 0 where
   pub readable : Readable
   pub deeper : List FileMeta
   pub grandparents : List FileMeta
 
--- that of inputs, where each listed sequence stays readable, and all from this floor on
+-- that of inputs, if the listed sequences stay readable and all from the floor on
 abbrev pub below_of : List ℕ → ℕ → Inputs → Below
 below_of listed floor inputs = record {
   readable = record { listed = listed; floor = floor };
@@ -33,34 +34,35 @@ below_of listed floor inputs = record {
   grandparents = inputs.grandparents.items;
 }
 
--- whether an entry is the first of its user key, where this entry stands before it
+-- whether an entry is the first of its user key, with `before` as the previous one
 abbrev pub is_first : Option Entry → Entry → Bool
 is_first None e = true
 is_first (Some before) e = not (is_same_user before e)
 
--- The marks of all user keys of entries, kept or dropped, at their first entries. The entries stand behind this one, and
--- behind so many that are kept.
+-- A mark at the first entry of each user key, kept or dropped, with `before` as the entry previous
+-- to the first, and n kept entries before it.
 abbrev pub heads_behind : (List ℕ → List ℕ → Ordering) → Below → Option Entry → ℕ → List Entry → List Mark
 heads_behind cmp b before n [] = []
 heads_behind cmp b before n (e ∷ es) =
     (if is_first before e then record { below = grandparents_below cmp b.grandparents e.key; kept = n } ∷ [] else [])
     ++ heads_behind cmp b (Some e) (if keeps cmp b.readable b.deeper before e then n + 1 else n) es
 
--- a mark at the first entry of each user key
+-- a mark at the first entry of each user key, kept or dropped
 abbrev pub heads : (List ℕ → List ℕ → Ordering) → Below → List Entry → List Mark
 heads cmp b entries = heads_behind cmp b None 0 entries
 
--- the marks behind one with so many grandparents below it, but those that have as many as the mark before
+-- the marks that differ in their number from the mark before, the first being after one with
+-- `below`
 abbrev pub changes_behind : ℕ → List Mark → List Mark
 changes_behind below [] = []
 changes_behind below (m ∷ ms) = if nat_eq m.below below then changes_behind below ms else m ∷ changes_behind m.below ms
 
--- the first mark, and each that has another number of grandparents below it than the mark before
+-- the first mark, and each whose number of grandparents differs from that of the mark before
 abbrev pub changes : List Mark → List Mark
 changes [] = []
 changes (m ∷ ms) = m ∷ changes_behind m.below ms
 
--- The marks of entries: at the first of them, and at the first entry of each user key where the number of grandparents
--- below differs from that of the user key before.
+-- The marks of entries: at the first of all, and at the first entry of each user key at which the
+-- number of grandparents below differs from that of the user key before.
 abbrev pub marks : (List ℕ → List ℕ → Ordering) → Below → List Entry → List Mark
 marks cmp b entries = changes (heads cmp b entries)

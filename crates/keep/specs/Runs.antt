@@ -1,4 +1,4 @@
--- What merging and dropping gives in one range of user keys, and how the ranges of a split compose.
+-- The run of a range of user keys, and how the runs of a split's ranges compose.
 use Rattle.std.specs.Prelude.{◌≡◌, ◌↔◌, ℕ, ◌+◌, ◌≤◌, nat_eq, Bool, true, not, ◌&&◌, if◌then◌else◌, List, [], ◌∷◌, ◌++◌, length, map, flat_map, slice_get, Option, Some, None, Result, Ok, Err}
 use Rattle.std.specs.List.{list_any, list_all}
 use Rattle.std.specs.declared.cmp.Ordering.{Ordering}
@@ -16,15 +16,16 @@ use Rattle.keep.specs.InRange.{entries_in}
 use Rattle.keep.specs.declared.mark.Mark.{Mark}
 use Rattle.keep.specs.Marks.{Below, marks, changes}
 
--- the kept entries of a range, and the marks of all its entries
+-- the kept entries of a range, and its marks
 pub record Run : Type 0 where
   pub kept : List Entry
   pub marks : List Mark
 
+-- the run of entries: the kept ones of them, and their marks
 abbrev pub run_of : (List ℕ → List ℕ → Ordering) → Below → List Entry → Run
 run_of cmp b entries = record { kept = kept cmp b.readable b.deeper entries; marks = marks cmp b entries }
 
--- whether two entries are of one user key with one sequence
+-- whether two entries have one user key and one sequence
 abbrev pub is_same_version : Entry → Entry → Bool
 is_same_version a b = is_same_user a b && nat_eq (sequence_of a.key) (sequence_of b.key)
 
@@ -33,33 +34,33 @@ abbrev pub are_distinct : List Entry → Bool
 are_distinct [] = true
 are_distinct (e ∷ es) = not (list_any (is_same_version e) es) && are_distinct es
 
--- The answer on a range of user keys: Duplicate where it holds one user key and sequence twice, else the run of its
--- entries, which are those of the sorted merge of the inputs.
+-- The answer on a range of user keys: Duplicate if it holds one user key and sequence twice, else
+-- the run of the entries that the sorted merge of the inputs has there.
 abbrev pub range_run : (List ℕ → List ℕ → Ordering) → Below → List (List Entry) → KeyRange → Result Run Fault
 range_run cmp b inputs range =
     if are_distinct (entries_in cmp range (merged cmp inputs))
     then Ok (run_of cmp b (entries_in cmp range (merged cmp inputs)))
     else Err (fault Duplicate)
 
--- a mark behind so many kept entries more
+-- a mark, if n kept entries more come before it
 abbrev pub moved_mark : ℕ → Mark → Mark
 moved_mark n m = record { below = m.below; kept = n + m.kept }
 
--- the marks of runs, one behind the other, the first of them behind so many kept entries
+-- the marks of runs, one after the other, with n kept entries before the first run
 abbrev pub joined_marks : ℕ → List Run → List Mark
 joined_marks n [] = []
 joined_marks n (r ∷ rs) = map (moved_mark n) r.marks ++ joined_marks (n + length r.kept) rs
 
--- runs, one behind the other
+-- runs, one after the other
 abbrev pub joined_run : List Run → Run
 joined_run runs = record { kept = flat_map (λ r. r.kept) runs; marks = joined_marks 0 runs }
 
--- the ranges from a lower bound on: to before each boundary, and behind the last
+-- the ranges from a lower bound on: up to each boundary, and after the last
 abbrev pub ranges_from : Option (List ℕ) → List (List ℕ) → List KeyRange
 ranges_from lower [] = record { lower = lower; upper = None } ∷ []
 ranges_from lower (b ∷ bs) = record { lower = lower; upper = Some b } ∷ ranges_from (Some b) bs
 
--- the ranges between boundaries, in order
+-- the k + 1 ranges of k boundaries, in order
 abbrev pub ranges_of : List (List ℕ) → List KeyRange
 ranges_of boundaries = ranges_from None boundaries
 
@@ -67,13 +68,14 @@ ranges_of boundaries = ranges_from None boundaries
 abbrev pub parts_of : (List ℕ → List ℕ → Ordering) → List (List ℕ) → List Entry → List (List Entry)
 parts_of cmp boundaries entries = map (λ range. entries_in cmp range entries) (ranges_of boundaries)
 
--- the runs of the ranges between boundaries
+-- the run of each range
 abbrev pub runs_of : (List ℕ → List ℕ → Ordering) → Below → List (List ℕ) → List Entry → List Run
 runs_of cmp b boundaries union = map (run_of cmp b) (parts_of cmp boundaries union)
 
--- Ranges compose, at every cutting between user keys. The kept entries of the ranges in order are those of the whole
--- union, and so are their marks, but those at the beginning of a range that repeat the number before. Some range is
--- refused exactly where all inputs together hold one user key and sequence twice.
+-- Ranges compose, however they are cut between user keys. The kept entries of the ranges in order
+-- are those of the whole union. So are their marks, but a range's first mark may repeat the number
+-- before it. Some range is refused exactly if all inputs together hold one user key and sequence
+-- twice.
 pub record RangesCompose (cmp : List ℕ → List ℕ → Ordering) : Type 0 where
   pub kept : (b : Below) (boundaries : List (List ℕ)) (union : List Entry) → IsSplit cmp boundaries → VersionsRise cmp union →
       (joined_run (runs_of cmp b boundaries union)).kept ≡ (run_of cmp b union).kept
@@ -84,7 +86,7 @@ pub record RangesCompose (cmp : List ℕ → List ℕ → Ordering) : Type 0 whe
   -- the ranges are those that a split gives
   pub ranges : (boundaries : List (List ℕ)) (i : ℕ) → i ≤ length boundaries → slice_get (ranges_of boundaries) i ≡ Some (range_at boundaries i)
 
--- the inputs have a union exactly where they hold no user key and sequence twice, and it is their sorted merge
+-- inputs have a union exactly if no user key has one sequence twice, and it is their sorted merge
 abbrev pub DistinctLaw : (List ℕ → List ℕ → Ordering) → Type 0
 DistinctLaw cmp =
     (inputs : List (List Entry)) (union : List Entry) →

@@ -11,7 +11,7 @@ pub record EntryVersion : Type 0 where
 abbrev pub version_of : List ℕ → EntryVersion
 version_of key = record { user = user_of key; sequence = sequence_of key }
 
--- the sequence of the last version, where it is of this user key
+-- the sequence of the last version, if it is of this user key
 abbrev pub newer_of : Option EntryVersion → List ℕ → Option ℕ
 newer_of None user = None
 newer_of (Some v) user = if bytes_eq v.user user then Some v.sequence else None

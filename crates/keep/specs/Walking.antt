@@ -1,4 +1,4 @@
--- How far the entries of a range have been walked, and what the next one does.
+-- How far the entries of a range were walked, and what the next one does.
 use Rattle.std.specs.Prelude.{ℕ, nat_eq, nat_lt, nat_le, Bool, false, not, ◌&&◌, ◌||◌, if◌then◌else◌, List, [], ◌∷◌, ◌++◌, length, Option, Some, None}
 use Rattle.std.specs.List.{list_any}
 use Rattle.std.specs.Option.{is_none}
@@ -12,34 +12,36 @@ use Rattle.keep.specs.Readable.{Readable}
 use Rattle.keep.specs.Keeping.{is_obsolete}
 use Rattle.keep.specs.Marks.{Below, grandparents_below}
 
--- whether the entry before, of this sequence where it has the user key, is of the sequence of this internal key
+-- whether the previous entry, of sequence `newer` in the same user key, has the sequence of this
+-- key
 abbrev pub is_repeated : Option ℕ → List ℕ → Bool
 is_repeated None key = false
 is_repeated (Some newer) key = nat_eq newer (sequence_of key)
 
--- whether a listed sequence reads a version of a sequence, and not yet one of a newer sequence
+-- whether a listed sequence is at or above `older` and below `newer`
 abbrev pub is_needed : List ℕ → ℕ → ℕ → Bool
 is_needed listed newer older = list_any (λ s. nat_le older s && nat_lt s newer) listed
 
--- whether the entry before, of this sequence where it has the user key, hides that of an internal key
+-- whether the previous entry, of sequence `newer` in the same user key, hides this key's entry
 abbrev pub is_hidden_by : Readable → Option ℕ → List ℕ → Bool
 is_hidden_by r None key = false
 is_hidden_by r (Some newer) key = nat_le newer r.floor && not (is_needed r.listed newer (sequence_of key))
 
--- whether an entry is kept behind that entry
+-- whether an entry is kept; `newer` is the sequence of the previous entry if it has the same user
+-- key
 abbrev pub keeps_behind : (List ℕ → List ℕ → Ordering) → Below → Option ℕ → Entry → Bool
 keeps_behind cmp b newer e = not (is_hidden_by b.readable newer e.key) && not (is_obsolete cmp b.readable b.deeper e)
 
--- Whether the first entry of a user key sets a mark: it is the first of all, or where so many grandparents lay below the
--- user key before it, another number lies below it.
+-- Whether the first entry of a user key sets a mark: it is the first of the range, or the number of
+-- grandparents below it is not that of the user key before.
 abbrev pub sets_mark : Option EntryVersion → ℕ → ℕ → Bool
 sets_mark last passed below = is_none last || not (nat_eq below passed)
 
--- the marks that it sets, where so many entries before it are kept
+-- the marks that it sets, with `kept` kept entries before it
 abbrev pub new_marks : Option EntryVersion → ℕ → ℕ → ℕ → List Mark
 new_marks last passed below kept = if sets_mark last passed below then record { below = below; kept = kept } ∷ [] else []
 
--- what the first entry of a user key does
+-- the walk after the marks of the first entry of a user key
 abbrev pub begun : (List ℕ → List ℕ → Ordering) → Below → Walk → List ℕ → Walk
 begun cmp b w key = record {
   run = record {
@@ -50,12 +52,12 @@ begun cmp b w key = record {
   passed = grandparents_below cmp b.grandparents key;
 }
 
--- what an entry does where the entry before it, of this sequence, has its user key; or none has
+-- the walk after an entry's marks: only the first entry of a user key may set one
 abbrev pub headed : (List ℕ → List ℕ → Ordering) → Below → Option ℕ → Walk → List ℕ → Walk
 headed cmp b None w key = begun cmp b w key
 headed cmp b (Some newer) w key = w
 
--- what each entry does behind that
+-- the walk after an entry was kept or dropped
 abbrev pub taken : Bool → Walk → Entry → Walk
 taken keeps w e = record {
   run = record {
@@ -66,7 +68,7 @@ taken keeps w e = record {
   passed = w.passed;
 }
 
--- what an entry does
+-- the walk after an entry
 abbrev pub walked : (List ℕ → List ℕ → Ordering) → Below → Walk → Entry → Walk
 walked cmp b w e =
     taken (keeps_behind cmp b (newer_of w.last (user_of e.key)) e) (headed cmp b (newer_of w.last (user_of e.key)) w e.key) e

@@ -1,4 +1,4 @@
-//! Tests of what merging in a range asks for.
+//! Tests of what [`crate::merge_range`] requires.
 
 ghost use Rattle.std.specs.Prelude.{◌≡◌, ◌↔◌, true};
 ghost use Rattle.std.specs.List.Sorted.{IsStrictlyIncreasing};
@@ -7,14 +7,14 @@ ghost use Rattle.keep.specs.Marks.{LargestRise};
 use edit::FileMeta;
 use ikey::Comparator;
 
-/// Whether listed sequences rise strictly. Takes no memory.
+/// Whether the sequences of `listed` rise strictly. Takes no memory.
 pub fn is_rising(listed: &[u64]) -> bool
     ensures { (result ≡ true) ↔ IsStrictlyIncreasing listed.now }
 {
     listed.is_sorted_by(|sequence, next| sequence < next)
 }
 
-/// Whether the largest keys of grandparents rise strictly. Takes no memory.
+/// Whether the largest keys of `grandparents` rise strictly. Takes no memory.
 pub fn largest_rise<C: Comparator>(grandparents: &[FileMeta]) -> bool
     ensures { (result ≡ true) ↔ LargestRise C.cmp grandparents.now }
 {

@@ -6,7 +6,7 @@ ghost use Rattle.keep.specs.Marks.{grandparents_below, LargestRise};
 use edit::FileMeta;
 use ikey::{Comparator, InternalKey};
 
-/// How many grandparents lie wholly below an internal key, of which so many are known to.
+/// The number of grandparents that lie wholly below `key`. The first `known` are known to.
 pub(crate) fn count_below<C: Comparator>(
     grandparents: &[FileMeta],
     known: usize,

@@ -15,20 +15,21 @@ use std::alloc::Global;
 use std::marker::Model;
 use std::mem;
 
-/// How many entries a full piece has.
+/// The number of entries of a full piece.
 const PIECE_LEN: usize = 4_096;
 
-/// Kept entries, one behind the other, seen as these.
+/// A list of kept entries.
 ///
-/// They lie in pieces, so that no growth moves those that are there.
+/// Why pieces: a growth moves no entry that is there.
 #[derive(Drop)]
 pub(crate) struct KeptList<'a> {
     alloc: Global,
     /// The pieces that are full.
     full: Vec<KeptPiece<'a>>,
-    /// The entries behind them.
+    /// The entries after them.
     last: KeptPiece<'a>,
-    /// A unit for each entry. They take no memory, and their number is that of a vector.
+    /// A unit for each entry. Units take no memory, and their number is bounded as that of any
+    /// vector.
     tally: Vec<()>,
 }
 
@@ -45,8 +46,9 @@ impl<'a> Model for KeptList<'a> {
     ghost invariant = { λ l. AreInPieces l.full.items l.last (length l.tally.items) };
 }
 
-/// Puts the last piece behind the full ones where it is full, and begins an empty one. Refused for want of memory alone, and
-/// then nothing has changed.
+/// Makes room in `last`: if it is full, it joins `full`, and an empty piece takes its place.
+///
+/// The only fault is Memory, which leaves the entries unchanged.
 fn make_room<'a>(
     alloc: Global,
     full: &mut Vec<KeptPiece<'a>>,
@@ -68,7 +70,7 @@ fn make_room<'a>(
     Ok(())
 }
 
-/// The piece of a number, of full ones and the last behind them.
+/// The piece of this number: one of `full`, or `last` after them.
 fn piece_of<'k, 'a>(
     full: &'k [KeptPiece<'a>],
     last: &'k KeptPiece<'a>,
@@ -85,7 +87,7 @@ fn piece_of<'k, 'a>(
 }
 
 impl<'a> KeptList<'a> {
-    /// No entry. Takes no memory.
+    /// The empty list. Takes no memory.
     pub fn new(alloc: Global) -> KeptList<'a>
         ensures { result ≡ [] }
     {
@@ -97,7 +99,7 @@ impl<'a> KeptList<'a> {
         }
     }
 
-    /// Keeps an entry, behind those that are kept. Refused for want of memory alone, and then nothing has changed.
+    /// Appends an entry. The only fault is Memory, which leaves the list unchanged.
     pub fn push(&mut self, key: InternalKey<'_>, value: &'a [u8]) -> Result<(), Fault>
         ensures ok { OnOk result (self.new ≡ self.old ++ record { key = key.entry.bytes.now; value = value.now } ∷ []) }
         ensures err { OnErr result (self.new ≡ self.old) }
@@ -118,7 +120,7 @@ impl<'a> KeptList<'a> {
         self.tally.len()
     }
 
-    /// The internal key of the entry at a place. Takes no memory.
+    /// The internal key of the entry at `place`. Takes no memory.
     pub fn key(&self, place: usize) -> InternalKey<'_>
         requires { place < length self.now }
         ensures { option_map (λ e. e.key) (slice_get self.now place) ≡ Some result.bytes.now }
@@ -127,7 +129,7 @@ impl<'a> KeptList<'a> {
         piece.key(place % PIECE_LEN)
     }
 
-    /// The value of the entry at a place, a slice of an input's bytes. Takes no memory.
+    /// The value of the entry at `place`, a slice of an input's bytes. Takes no memory.
     pub fn value(&self, place: usize) -> &'a [u8]
         requires { place < length self.now }
         ensures { option_map (λ e. e.value) (slice_get self.now place) ≡ Some result.now }

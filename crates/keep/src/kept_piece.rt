@@ -1,4 +1,7 @@
 //! A piece of the kept entries of a range.
+//!
+//!     keys    key 0 | key 1 | key 2 | ...      one buffer
+//!     kept    end of key i in it, and value i  a slice of an input's bytes
 
 ghost use Rattle.std.specs.Prelude.{◌≡◌, ◌<◌, ◌≤◌, [], ◌∷◌, ◌++◌, length, slice_get, slice_range, OnOk, OnErr, IsOkUnless, Some, Ok};
 ghost use Rattle.std.specs.Option.{option_map};
@@ -11,9 +14,9 @@ use ikey::InternalKey;
 use std::alloc::Global;
 use std::marker::Model;
 
-/// Kept entries, one behind the other, seen as these.
+/// A list of kept entries.
 ///
-/// Their keys lie in one buffer, one behind the other, and their values are slices of the inputs' bytes.
+/// Their keys lie in one buffer, one after the other. Their values are slices of the inputs' bytes.
 #[derive(Drop)]
 pub(crate) struct KeptPiece<'a> {
     keys: Vec<u8>,
@@ -33,7 +36,7 @@ impl<'a> Model for KeptPiece<'a> {
     ghost invariant = { λ p. AreKeys p.keys.items p.kept.items };
 }
 
-/// The bytes from one offset to another.
+/// The bytes from offset `start` to before offset `end`.
 fn part_of(bytes: &[u8], start: usize, end: usize) -> &[u8]
     requires rises { start ≤ end }
     requires within { end ≤ length bytes.now }
@@ -43,7 +46,7 @@ fn part_of(bytes: &[u8], start: usize, end: usize) -> &[u8]
 }
 
 impl<'a> KeptPiece<'a> {
-    /// No entry. Takes no memory.
+    /// The empty piece. Takes no memory.
     pub fn new(alloc: Global) -> KeptPiece<'a>
         ensures { result ≡ [] }
     {
@@ -53,7 +56,8 @@ impl<'a> KeptPiece<'a> {
         }
     }
 
-    /// No entry, with room for as many as this one has, and for as many bytes of keys. Refused for want of memory alone.
+    /// An empty piece with room for as many entries as this one has, and for as many bytes of keys.
+    /// The only fault is Memory.
     pub fn emptied(&self, alloc: Global) -> Result<KeptPiece<'a>, Fault>
         ensures { EqualOrMemory (λ piece. piece) result (Ok []) }
     {
@@ -63,7 +67,7 @@ impl<'a> KeptPiece<'a> {
         })
     }
 
-    /// Keeps an entry, behind those that are kept. Refused for want of memory alone, and then nothing has changed.
+    /// Appends an entry. The only fault is Memory, which leaves the piece unchanged.
     pub fn push(&mut self, key: InternalKey<'_>, value: &'a [u8]) -> Result<(), Fault>
         ensures ok { OnOk result (self.new ≡ self.old ++ record { key = key.entry.bytes.now; value = value.now } ∷ []) }
         ensures err { OnErr result (self.new ≡ self.old) }
@@ -83,7 +87,7 @@ impl<'a> KeptPiece<'a> {
         self.kept.len()
     }
 
-    /// The internal key of the entry at a place. Takes no memory.
+    /// The internal key of the entry at `place`. Takes no memory.
     pub fn key(&self, place: usize) -> InternalKey<'_>
         requires { place < length self.now }
         ensures { option_map (λ e. e.key) (slice_get self.now place) ≡ Some result.bytes.now }
@@ -97,7 +101,7 @@ impl<'a> KeptPiece<'a> {
         InternalKey { bytes }
     }
 
-    /// The value of the entry at a place, a slice of an input's bytes. Takes no memory.
+    /// The value of the entry at `place`, a slice of an input's bytes. Takes no memory.
     pub fn value(&self, place: usize) -> &'a [u8]
         requires { place < length self.now }
         ensures { option_map (λ e. e.value) (slice_get self.now place) ≡ Some result.now }

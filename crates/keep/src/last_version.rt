@@ -1,4 +1,4 @@
-//! The entry before the next one, as far as the next one has to know it.
+//! What the next entry has to know of the previous one.
 
 ghost use Rattle.std.specs.Prelude.{◌≡◌, OnOk, IsOkUnless, Some, None};
 ghost use Rattle.coding.specs.Answers.{fault};
@@ -11,7 +11,7 @@ use ikey::InternalKey;
 use std::alloc::Global;
 use std::marker::Model;
 
-/// The user key and the sequence of the entry that came last, where one came.
+/// The user key and the sequence of the previous entry; None before the first.
 #[derive(Drop)]
 pub(crate) struct LastVersion {
     user: Vec<u8>,
@@ -30,7 +30,7 @@ impl Model for LastVersion {
 }
 
 impl LastVersion {
-    /// No entry came yet.
+    /// Before the first entry.
     pub fn none(alloc: Global) -> LastVersion
         ensures { result ≡ None }
     {
@@ -47,7 +47,7 @@ impl LastVersion {
         self.sequence.is_none()
     }
 
-    /// The sequence of the entry that came last, where it has this user key.
+    /// The sequence of the previous entry if it has the user key `user`, else None.
     pub fn newer_of(&self, user: &[u8]) -> Option<u64>
         ensures { result ≡ newer_of self.now user.now }
     {
@@ -58,7 +58,7 @@ impl LastVersion {
         }
     }
 
-    /// The entry of this internal key came. Refused for want of memory alone.
+    /// Makes the entry of `key` the previous one. The only fault is Memory.
     pub fn set(&mut self, key: InternalKey<'_>) -> Result<(), Fault>
         ensures ok { OnOk result (self.new ≡ Some (version_of key.entry.bytes.now)) }
         ensures memory { IsOkUnless result (fault Memory) }

@@ -1,4 +1,4 @@
-//! Laws of keeping, over the definitions alone.
+//! Laws of the drop rule and of ranges, over the definitions alone.
 
 ghost use Rattle.keep.specs.Begun.{BegunLaw};
 ghost use Rattle.keep.specs.InRange.{HoldsLaw};
@@ -7,13 +7,27 @@ ghost use Rattle.keep.specs.Runs.{DistinctLaw, KeptInRangeLaw, RangesCompose};
 
 use ikey::Comparator;
 
-/// The law that no sequence that stays readable sees what a compaction does to a user key. A call
-/// does nothing.
+/// The law that no readable sequence sees what is dropped of one user key.
+///
+/// Take the entries of the user key, the newest first. Each dropped one
+///
+/// - lies under a kept one that hides it from every readable sequence, or
+/// - is a dropped deletion with nothing left under it, or
+/// - lies under such a deletion.
+///
+/// So at each readable sequence the kept entries answer what all of them answered, between newer
+/// entries above and older ones below. A call does nothing.
 pub fn one_key<C: Comparator>()
     ensures { OneKeyLaw C.cmp }
 {}
 
-/// The law that the ranges of a split compose. A call does nothing.
+/// The law that ranges compose, however they are cut between user keys:
+///
+/// - the kept entries of the ranges, one range after the other, are those of the whole union;
+/// - their marks are those of the union, but a range's first mark may repeat the number before it;
+/// - some range is refused exactly if all inputs together hold one user key and sequence twice.
+///
+/// A call does nothing.
 pub fn ranges_compose<C: Comparator>()
     ensures { RangesCompose C.cmp }
 {}
@@ -24,14 +38,14 @@ pub fn kept_in_range<C: Comparator>()
     ensures { KeptInRangeLaw C.cmp }
 {}
 
-/// The law that inputs have a union where they hold no user key and sequence twice. A call does
-/// nothing.
+/// The law that inputs have a union exactly if no user key has one sequence twice, and that their
+/// sorted merge is it. A call does nothing.
 pub fn distinct_law<C: Comparator>()
     ensures { DistinctLaw C.cmp }
 {}
 
-/// The law that a test of user keys is the fact that a split states of its ranges. A call does
-/// nothing.
+/// The law that `is_in_range` holds of just the user keys that a split states of a range. A call
+/// does nothing.
 pub fn holds_law<C: Comparator>()
     ensures { HoldsLaw C.cmp }
 {}

@@ -1,8 +1,18 @@
 //! Which entries of the inputs a compaction keeps, in one range of user keys.
 //!
-//! [`merge_range`] walks cursors as one over the user keys of a range. Of the entries of one user key those stay that some
-//! readable sequence sees; [`Snapshots`] says which sequences stay readable. A [`RangeRun`] has the entries that stay, and
-//! marks, which say where the user keys stand among the files two levels below.
+//! 1. [`Snapshots`] says which sequences stay readable: those of a list, and all from a floor on.
+//! 2. [`cursors_from`] and [`add_cursor`] make cursors over the tables that reach into a range, and
+//!    [`seek_range`] seeks any other cursor.
+//! 3. [`merge_range`] merges the cursors over the range and drops what no reader can see.
+//! 4. A [`RangeRun`] has the kept entries, and a [`Mark`] for each user key before which the number
+//!    of grandparents changes.
+//!
+//! [`is_rising`] and [`largest_rise`] test what `merge_range` requires. [`one_key`] is the law that
+//! no readable sequence sees what is dropped; [`ranges_compose`] the law that ranges may be cut
+//! anywhere between user keys.
+//!
+//! No contract says that a cursor is made only over a table that reaches into the range, nor how
+//! much memory a run takes.
 #![tactic(auto)]
 
 mod conditions;

@@ -1,10 +1,10 @@
-//! A place among the grandparents.
+//! A mark: how many grandparents lie below a user key.
 
-/// The first entry of a user key: how many grandparents lie wholly below it, and how many entries before it are kept.
+/// A mark at the first entry of a user key, kept or dropped.
 #[derive(Clone, Copy, Debug, PartialEq, Eq)]
 pub struct Mark {
-    /// The number of grandparents whose largest key is below the entry's.
+    /// The number of grandparents whose largest internal key is below the entry's.
     pub below: usize,
-    /// The number of kept entries before the entry, in its range.
+    /// The number of kept entries before the entry in its range.
     pub kept: usize,
 }

@@ -24,19 +24,24 @@ use split::Range;
 use std::alloc::Global;
 use table::Cursor;
 
-/// Merges the entries that remain of cursors and whose user keys a range holds, and keeps those
-/// that stay.
+/// The kept entries and the marks of `range`, of all entries that `cursors` have still to come.
 ///
-/// `listed` and `floor` say which sequences stay readable: each listed one, and all from the floor
-/// on. An entry stays unless the entry before it in the merge, of the same user key, hides it from
-/// all of them, or it is a deletion that all of them see and whose user key no deeper file's range
-/// holds. The marks are set among the grandparents of the inputs.
+/// Entries come in the order of their internal keys. One stays unless
 ///
-/// The cursors are lent. Entries before the range are taken off one by one, so cursors of which
-/// many remain are better sought first. After an Ok each cursor has the entries after the range.
-/// `Duplicate` if the range holds one user key and sequence twice; else refused if memory runs out,
-/// and for no other reason. After a refusal each cursor has lost first entries alone, and none that
-/// stands after the range.
+/// (1) the previous entry has its user key and a sequence at or below `floor`, and no listed
+///     sequence is below that one's and at or above its own; or
+/// (2) it is a deletion, at or below `floor` and each listed sequence, and no deeper file's range
+///     holds its user key.
+///
+/// "Previous" means previous in the merge, kept or not. `listed` and `floor` say which sequences
+/// stay readable: each listed one, and all from `floor` on. The marks count the grandparents of
+/// `inputs`.
+///
+/// Faults: Duplicate if the range holds one user key and sequence twice, else only Memory.
+///
+/// The cursors are lent. Entries before the range are taken off one by one, so seek a cursor first
+/// that has many of them. After an Ok each cursor has the entries after the range. After a refusal
+/// each has lost some of its first entries at most, and none after the range.
 pub fn merge_range<'a, C: Comparator, S: Cursor<'a, C> + Drop>(
     alloc: Global,
     cursors: &mut Vec<S>,
@@ -65,7 +70,7 @@ pub fn merge_range<'a, C: Comparator, S: Cursor<'a, C> + Drop>(
     run
 }
 
-/// Merges the entries of a range from cursors that are walked as one.
+/// The run of a range, merged from `merging`. Faults and what is left as of [`merge_range`].
 fn merge_lent<'a, C: Comparator, S: Cursor<'a, C> + Drop>(
     alloc: Global,
     merging: &mut Merging<C, S>,
@@ -82,8 +87,8 @@ fn merge_lent<'a, C: Comparator, S: Cursor<'a, C> + Drop>(
     walk_range::<C, S>(alloc, merging, range, rule)
 }
 
-/// Takes off the entries before a range. Refused for want of memory alone, and then some of them
-/// may be taken off, and no others.
+/// Takes off the entries before the range. The only fault is Memory: some of them may be lost then,
+/// and no others.
 fn begin<'a, C: Comparator, S: Cursor<'a, C> + Drop>(
     merging: &mut Merging<C, S>,
     lower: Option<&[u8]>,
@@ -100,7 +105,8 @@ fn begin<'a, C: Comparator, S: Cursor<'a, C> + Drop>(
     Ok(())
 }
 
-/// Walks the entries of a range, from where it begins.
+/// The run of a range, from a merge that has no entry before it. Faults and what is left as of
+/// [`merge_range`].
 fn walk_range<'a, C: Comparator, S: Cursor<'a, C> + Drop>(
     alloc: Global,
     merging: &mut Merging<C, S>,
@@ -122,8 +128,8 @@ fn walk_range<'a, C: Comparator, S: Cursor<'a, C> + Drop>(
     Ok(walk.run)
 }
 
-/// Whether an entry remains, and the user key of the first is before a bound; where there is no
-/// bound, what is said.
+/// Whether there is an entry to come whose user key is before `bound`. If there is no bound,
+/// `otherwise` says whether the first entry counts as before it.
 pub(crate) fn starts_before<'a, C: Comparator, M: Cursor<'a, C>>(
     merging: &M,
     bound: Option<&[u8]>,

@@ -19,9 +19,11 @@ use split::Range;
 use std::alloc::Global;
 use table::{SoundTable, TableCursor};
 
-/// A cursor over each table that reaches into a range, without entries before the range. Together
-/// they have the entries of the tables in the range, in their order. Refused if memory runs out,
-/// and for no other reason.
+/// A cursor over each table that reaches into `range`, without the entries before the range.
+/// Together they have the entries of the tables in the range, in their order.
+///
+/// The only fault is Memory. That no cursor is made over a table that misses the range, no contract
+/// says.
 pub fn cursors_from<'t, C: Comparator + 't>(
     alloc: Global,
     tables: &[&SoundTable<'t, C>],
@@ -38,8 +40,11 @@ pub fn cursors_from<'t, C: Comparator + 't>(
     Ok(cursors)
 }
 
-/// Appends a cursor over a table, without entries before a range, if the table reaches into the
-/// range. Refused if memory runs out, and for no other reason.
+/// Appends a cursor over `table`, without the entries before `range`, if the table reaches into the
+/// range.
+///
+/// The only fault is Memory, which leaves `cursors` unchanged. That no cursor is made over a table
+/// that misses the range, no contract says.
 pub fn add_cursor<'t, C: Comparator + 't>(
     alloc: Global,
     cursors: &mut Vec<TableCursor<'t, C>>,
@@ -60,8 +65,8 @@ pub fn add_cursor<'t, C: Comparator + 't>(
     Ok(())
 }
 
-/// Whether a table ends before a range or begins after it, so that none of its entries lies in it.
-/// Takes no memory.
+/// Whether the table ends before the range or begins after it, so that the range has none of its
+/// entries. Takes no memory.
 fn misses<C: Comparator>(table: &SoundTable<'_, C>, range: Range<'_>) -> bool
     ensures { result ≡ true → entries_in C.cmp (key_range range.entry) table.now.entries ≡ [] }
 {
@@ -74,7 +79,8 @@ fn misses<C: Comparator>(table: &SoundTable<'_, C>, range: Range<'_>) -> bool
     !begins
 }
 
-/// Whether a key's user key is before a bound; if there is no bound, what is said. Takes no memory.
+/// Whether the user key of `key` is before `bound`; `otherwise` if there is no bound. Takes no
+/// memory.
 fn is_before<C: Comparator>(key: InternalKey<'_>, bound: Option<&[u8]>, otherwise: bool) -> bool
     ensures { result ≡ option_map_or (λ limit. is_lt (C.cmp (user_of key.entry.bytes.now) limit))
         (option_map (λ limit. limit.now) bound.entry) otherwise }
@@ -85,8 +91,7 @@ fn is_before<C: Comparator>(key: InternalKey<'_>, bound: Option<&[u8]>, otherwis
     }
 }
 
-/// A cursor over a table, without entries before a range. Refused if memory runs out, and for no
-/// other reason.
+/// A cursor over `table`, without the entries before `range`. The only fault is Memory.
 fn cursor_from<'t, C: Comparator + 't>(
     alloc: Global,
     table: &SoundTable<'t, C>,
@@ -101,8 +106,8 @@ fn cursor_from<'t, C: Comparator + 't>(
     Ok(cursor)
 }
 
-/// Takes entries before a range off a cursor over a table of these bytes. Refused if memory runs
-/// out, and for no other reason.
+/// Takes the entries before `range` off a cursor over the table of `bytes`. The only fault is
+/// Memory.
 fn seek_table<'t, C: Comparator + 't>(
     alloc: Global,
     bytes: &[u8],

@@ -1,4 +1,4 @@
-//! What merging in a range gives.
+//! What a merge of a range answers.
 
 ghost use Rattle.std.specs.Prelude.{◌≡◌, ◌<◌, [], ◌∷◌, ◌++◌, length, slice_get, OnOk, OnErr, IsOkUnless, Some};
 ghost use Rattle.std.specs.List.{AllByRecursion};
@@ -15,10 +15,10 @@ use ikey::InternalKey;
 use std::alloc::Global;
 use std::marker::Model;
 
-/// The entries of a range that stay, and its marks, seen as these two lists.
+/// The kept entries of a range, and its marks.
 ///
-/// It lies in pieces of 4,096 entries. A piece has its keys in one buffer, one behind the other, and its values are slices of
-/// the inputs' bytes: a kept entry takes 24 bytes and those of its key, and nothing is allocated for it alone.
+/// Entries lie in pieces of 4,096. A piece has its keys in one buffer; values are slices of the
+/// inputs' bytes. So an entry takes 24 bytes and those of its key, and no allocation of its own.
 #[derive(Drop)]
 pub struct RangeRun<'a> {
     kept: KeptList<'a>,
@@ -44,7 +44,7 @@ impl<'a> RangeRun<'a> {
         }
     }
 
-    /// Keeps an entry, behind those that are kept. Refused for want of memory alone, and then nothing has changed.
+    /// Appends a kept entry. The only fault is Memory, which leaves the run unchanged.
     pub(crate) fn push(&mut self, key: InternalKey<'_>, value: &'a [u8]) -> Result<(), Fault>
         ensures ok { OnOk result (self.new ≡ record {
           kept = self.old.kept ++ record { key = key.entry.bytes.now; value = value.now } ∷ [];
@@ -56,7 +56,8 @@ impl<'a> RangeRun<'a> {
         self.kept.push(key, value)
     }
 
-    /// Sets a mark at the entry that comes next. Refused for want of memory alone, and then nothing has changed.
+    /// Appends a mark, with `below` grandparents, before the next kept entry. The only fault is
+    /// Memory, which leaves the run unchanged.
     pub(crate) fn push_mark(&mut self, below: usize) -> Result<(), Fault>
         ensures ok { OnOk result (self.new ≡ record {
           kept = self.old.kept;
@@ -78,7 +79,7 @@ impl<'a> RangeRun<'a> {
         self.kept.len()
     }
 
-    /// The internal key of the kept entry at a place. Takes no memory.
+    /// The internal key of the kept entry at `place`. Takes no memory.
     pub fn key(&self, place: usize) -> InternalKey<'_>
         requires { place < length self.now.kept }
         ensures { option_map (λ e. e.key) (slice_get self.now.kept place) ≡ Some result.bytes.now }
@@ -86,7 +87,7 @@ impl<'a> RangeRun<'a> {
         self.kept.key(place)
     }
 
-    /// The value of the kept entry at a place, a slice of an input's bytes. Takes no memory.
+    /// The value of the kept entry at `place`, a slice of an input's bytes. Takes no memory.
     pub fn value(&self, place: usize) -> &'a [u8]
         requires { place < length self.now.kept }
         ensures { option_map (λ e. e.value) (slice_get self.now.kept place) ≡ Some result.now }
@@ -94,8 +95,9 @@ impl<'a> RangeRun<'a> {
         self.kept.value(place)
     }
 
-    /// The marks: at the first entry of the range, and at the first entry of each user key before which another number
-    /// of grandparents lies than before that of the user key before. Takes no memory.
+    /// The marks, in order. The run of a range has one at its first entry, and one at each user key
+    /// at which the number of grandparents below differs from that of the user key before. Takes no
+    /// memory.
     pub fn marks(&self) -> &[Mark]
         ensures { result.now ≡ self.now.marks }
     {

@@ -17,11 +17,11 @@ use split::Range;
 use std::alloc::Global;
 use table::Cursor;
 
-/// Takes off the entries before a range.
+/// Takes off the entries before `range`.
 ///
-/// It seeks the first internal key that a user key at the lower bound may have. Where no entry's sequence is over its
-/// limit, entries before the range alone are taken off, and then a merge of the range gives what it would have given
-/// (`begun_law`). Refused for want of memory alone.
+/// It seeks the first internal key that the lower bound may have as a user key. If all sequences
+/// are below 2^56, only entries before the range are taken off, also by a refused call. A merge of
+/// the range then answers what it would have answered (`begun_law`). The only fault is Memory.
 pub fn seek_range<'a, C: Comparator, S: Cursor<'a, C>>(
     alloc: Global,
     cursor: &mut S,
@@ -40,8 +40,8 @@ pub fn seek_range<'a, C: Comparator, S: Cursor<'a, C>>(
     Ok(())
 }
 
-/// Seeks the first internal key that a user key may have, where one is named and a user key may be as long. Refused for
-/// want of memory alone.
+/// Seeks the first internal key that `user` may have. Does nothing if there is none, or if it is
+/// longer than a user key may be. The only fault is Memory.
 fn seek_user<'a, C: Comparator, S: Cursor<'a, C>>(
     alloc: Global,
     cursor: &mut S,

@@ -3,22 +3,23 @@
 ghost use Rattle.std.specs.Prelude.{◌≡◌};
 ghost use Rattle.keep.specs.Readable.{listed_of, floor_of};
 
-/// Which sequences stay readable after a compaction: at each of these every get answers after it what it answered before.
+/// Which sequences stay readable after a compaction: at each of them every get answers as before.
 ///
-/// Both forms are one rule over a list of sequences and a floor: each listed sequence stays readable, and the floor and
-/// every sequence above it.
+/// Both forms are one rule over a list and a floor: a sequence stays readable if it is listed, or
+/// is at or above the floor.
 #[derive(Clone, Copy)]
 pub enum Snapshots<'a> {
-    /// This sequence, the oldest snapshot, and every later one. It serves a store that doesn't know its readers, but
-    /// knows that none of them reads at an earlier sequence.
+    /// This sequence, which is the oldest snapshot, and every later one. For a store that knows
+    /// only that no reader is at an earlier sequence. It is LevelDB's rule.
     From(u64),
-    /// Each of these sequences, the last sequence of the version, and every later one. It serves a store that knows its
-    /// readers. They rise strictly, and none is above the last sequence.
+    /// Each of these sequences, and every one from the version's last sequence on. For a store that
+    /// knows its snapshots. They have to rise strictly, none above the last sequence; else a
+    /// request is refused as SnapshotList.
     Listed(&'a [u64]),
 }
 
 impl<'a> Snapshots<'a> {
-    /// The sequences that stay readable one by one. Takes no memory.
+    /// The listed sequences; `From` has none. Takes no memory.
     pub fn listed(self) -> &'a [u64]
         ensures { result.now ≡ listed_of self.entry }
     {
@@ -28,7 +29,8 @@ impl<'a> Snapshots<'a> {
         }
     }
 
-    /// The sequence from which on every one stays readable, in a version of this last sequence. Takes no memory.
+    /// The floor: every sequence from it on stays readable. It is that of `From`, or else
+    /// `last_sequence`. Takes no memory.
     pub fn floor(self, last_sequence: u64) -> u64
         ensures { result ≡ floor_of self.entry last_sequence }
     {

@@ -3,8 +3,8 @@
 use crate::last_version::LastVersion;
 use crate::range_run::RangeRun;
 
-/// How far a range has been walked: what is kept so far, the entry that came last, and how many grandparents lie below
-/// the first entry of its user key.
+/// How far a range was walked: the run so far, the previous entry, and how many grandparents lie
+/// below the first entry of its user key.
 #[derive(Drop)]
 pub(crate) struct Walk<'a> {
     pub run: RangeRun<'a>,

@@ -18,7 +18,7 @@ use ikey::{Comparator, InternalKey};
 use std::alloc::Global;
 
 impl<'a> Walk<'a> {
-    /// A walk of which nothing is done.
+    /// A walk before the first entry.
     pub fn new(alloc: Global) -> Walk<'a>
         ensures { result ≡ record { run = record { kept = []; marks = [] }; last = None; passed = 0 } }
     {
@@ -29,15 +29,16 @@ impl<'a> Walk<'a> {
         }
     }
 
-    /// Whether the first entry of a user key sets a mark, where so many grandparents lie below it.
+    /// Whether the first entry of a user key, with `below` grandparents below it, sets a mark.
     fn sets_mark(&self, below: usize) -> bool
         ensures { result ≡ sets_mark self.now.last self.now.passed below }
     {
         self.last.is_none() || below != self.passed
     }
 
-    /// The first entry of a user key: passes the grandparents below it, and sets a mark where there are other ones than
-    /// before the user key before it, or where it is the first of the range. Refused for want of memory alone.
+    /// The first entry of a user key. Counts the grandparents below it, and sets a mark if the
+    /// number differs from that of the user key before or if it is the first of the range. The only
+    /// fault is Memory.
     fn begin<C: Comparator>(&mut self, rule: &Rule<'_>, key: &InternalKey<'_>) -> Result<(), Fault>
         requires passed { self.old.passed ≤ grandparents_below C.cmp rule.now.grandparents key.now.bytes.now }
         requires rising { LargestRise C.cmp rule.now.grandparents }
@@ -52,8 +53,8 @@ impl<'a> Walk<'a> {
         Ok(())
     }
 
-    /// The next entry. Refused as `Duplicate` where it repeats the user key and the sequence of the one before it, and else
-    /// for want of memory alone.
+    /// Walks the next entry: it is kept or dropped. Faults: Duplicate if it has the user key and
+    /// the sequence of the previous entry, else only Memory.
     pub fn step<C: Comparator>(
         &mut self,
         rule: &Rule<'_>,

@@ -1,4 +1,4 @@
--- The tables of a plan, of its encoded pieces.
+-- The tables of a plan, joined of its encoded pieces.
 use Rattle.std.specs.Prelude.{◌≡◌, ℕ, ◌≤◌, ◌^◌, List, [], ◌∷◌, length, map, take, drop, flat_map}
 use Rattle.std.specs.List.{AllByRecursion}
 use Rattle.table.specs.Table.{IndexKeys, stored_blocks, table_of}
@@ -6,13 +6,13 @@ use Rattle.encoding.specs.Planned.{IsPlanned}
 use Rattle.cut.specs.declared.planned_output.PlannedOutput.{PlannedOutput}
 use Rattle.cut.specs.Opened.{parts_of}
 
--- an output whose table can be assembled of these pieces
+-- an output whose table can be joined of these pieces
 pub record IsReady (keys : IndexKeys) (interval : ℕ) (p : PlannedOutput) (pieces : List (List ℕ)) : Type 0 where
   pub planned : AllByRecursion (IsPlanned interval) p.blocks.items
   pub fits : length (table_of keys interval (parts_of p.blocks.items)) ≤ 2 ^ 30
   pub bytes : flat_map (λ piece. piece) pieces ≡ stored_blocks interval (parts_of p.blocks.items)
 
--- outputs whose tables can be assembled of pieces, so many of them each
+-- outputs whose tables can be joined of pieces, of which output i has `counts[i]`
 abbrev pub AreReady : IndexKeys → ℕ → List PlannedOutput → List ℕ → List (List ℕ) → Type 0
 AreReady keys interval [] counts pieces = Unit {0}
 AreReady keys interval (p ∷ ps) [] pieces = ⊥

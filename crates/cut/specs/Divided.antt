@@ -10,12 +10,12 @@ blocks_at [] i = []
 blocks_at (p ∷ ps) zero = p.blocks.items
 blocks_at (p ∷ ps) (suc i) = blocks_at ps i
 
--- the blocks of a piece
+-- the data blocks of a piece
 abbrev pub piece_blocks : List PlannedOutput → Piece → List PlannedBlock
 piece_blocks outputs p = slice_range (blocks_at outputs p.output) p.from p.to
 
--- The places of the pieces of an output's blocks, where one is open that begins at a place and has so many bytes, and the
--- next block stands at another. A piece ends with the block at which its bytes reach the limit.
+-- The pieces of an output's data blocks from place `at` on, if a piece is open that begins at
+-- `from` and has `size` bytes. A piece ends with the block at which its bytes reach `limit`.
 abbrev pub places_from : ℕ → ℕ → ℕ → ℕ → ℕ → List PlannedBlock → List Piece
 places_from output limit from at size [] = if nat_lt from at then record { output = output; from = from; to = at } ∷ [] else []
 places_from output limit from at size (b ∷ bs) =
@@ -23,7 +23,7 @@ places_from output limit from at size (b ∷ bs) =
     then record { output = output; from = from; to = at + 1 } ∷ places_from output limit (at + 1) (at + 1) 0 bs
     else places_from output limit from (at + 1) (size + (b.len + 5)) bs
 
--- those of outputs, the first of which stands at this place
+-- the pieces of outputs, the first of which is at place `output`
 abbrev pub places_all : ℕ → ℕ → List PlannedOutput → List Piece
 places_all limit output [] = []
 places_all limit output (p ∷ ps) = places_from output limit 0 0 0 p.blocks.items ++ places_all limit (output + 1) ps
@@ -33,6 +33,7 @@ abbrev pub counts_all : ℕ → ℕ → List PlannedOutput → List ℕ
 counts_all limit output [] = []
 counts_all limit output (p ∷ ps) = length (places_from output limit 0 0 0 p.blocks.items) ∷ counts_all limit (output + 1) ps
 
--- the size of a piece, where there are so many blocks in all
+-- The bytes at which a piece ends, if there are `blocks` data blocks in all: with fewer than 64,
+-- each block is a piece.
 abbrev pub piece_limit : ℕ → ℕ
 piece_limit blocks = if nat_lt blocks 64 then 0 else 2 ^ 22

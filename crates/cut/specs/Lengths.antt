@@ -1,22 +1,23 @@
--- How long blocks and tables are, by lengths alone.
+-- The lengths of blocks and tables, as sums of lengths.
 use Rattle.std.specs.Prelude.{◌≡◌, ℕ, zero, suc, ◌+◌, ◌%◌, ◌==◌, if◌then◌else◌, List, [], ◌∷◌, ◌++◌, length}
 use Rattle.block.specs.Piece.{Entry, piece_bytes}
 use Rattle.block.specs.Writing.{block, piece_of}
 use Rattle.block.specs.Building.{last_key}
 use Rattle.table.specs.Table.{closing, stored_blocks}
 
--- the bytes of the restart of the entry at a place, if it has one; that of the first is there from the start
+-- the bytes of the restart of the entry at a place, if it has one; the first entry's is counted in
+-- the empty block
 abbrev pub restart_len : ℕ → ℕ → ℕ
 restart_len interval zero = 0
 restart_len interval (suc n) = if suc n % interval == 0 then 4 else 0
 
--- what one more entry adds to the block of entries: its piece, and its restart
+-- what one more entry adds to the block of entries: its own bytes, and its restart
 abbrev pub added_len : ℕ → List Entry → Entry → ℕ
 added_len interval q e = length (piece_bytes (piece_of interval (length q) (last_key [] q) e)) + restart_len interval (length q)
 
--- A block of no entries has 8 bytes, and one entry more adds what it is said to add. A data block more adds its bytes and 5
--- of its trailer, and what closes a table has the bytes of the index and 66 more: a block without entries, both trailers,
--- and the footer.
+-- A block of no entries has 8 bytes, and each entry adds `added_len`. Each data block adds its
+-- bytes and the 5 of its trailer to a table. What closes a table has the bytes of the index and 66
+-- more: the metaindex, both trailers, and the footer.
 pub record LengthsLaw : Type 0 where
   pub none : (interval : ℕ) → length (block interval []) ≡ 8
   pub more : (interval : ℕ) (q : List Entry) (e : Entry) → length (block interval (q ++ e ∷ [])) ≡ length (block interval q) + added_len interval q e

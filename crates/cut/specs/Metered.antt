@@ -1,4 +1,4 @@
--- A data block that is measured entry by entry, with none of its bytes at hand.
+-- A data block that is measured entry by entry, before any of its bytes is made.
 use Rattle.std.specs.Prelude.{◌≡◌, ℕ, ◌+◌, ◌-◌, ◌%◌, ◌^◌, ◌≤◌, nat_eq, ◌==◌, ◌&&◌, if◌then◌else◌, List, ◌++◌, length, take, drop, Option, Some, None}
 use Rattle.std.specs.List.{common_prefix_len, last_or}
 use Rattle.std.specs.Option.{is_some, option_map}
@@ -6,18 +6,18 @@ use Rattle.block.specs.Piece.{Entry}
 use Rattle.block.specs.Writing.{block}
 use Rattle.cut.specs.Sizes.{saturated, piece_size}
 
--- a block that takes the next entry: its restart interval, its entries so far, and the entries behind them
+-- an open data block: its restart interval, its entries, and the entries still to come
 pub record Metered : Type 0 where
   pub interval : ℕ
   pub entries : List Entry
   pub behind : List Entry
 
--- a block that has taken in so many of the entries behind
+-- the open block after n more entries
 abbrev pub grown : ℕ → Metered → Metered
 grown n m = record { interval = m.interval; entries = m.entries ++ take n m.behind; behind = drop n m.behind }
 
--- what is kept of the block of these entries: its length, and how many of them stand behind the last whole interval; and
--- their number is one of 64 bits
+-- What is kept of the block of these entries: its length, and the number of entries after the last
+-- whole interval. There are at most 2 ^ 64 - 1 entries.
 pub record IsMetered (interval : ℕ) (entries : List Entry) (len since : ℕ) : Type 0 where
   pub positive : 1 ≤ interval
   pub limited : interval ≤ 1024
@@ -25,24 +25,25 @@ pub record IsMetered (interval : ℕ) (entries : List Entry) (len since : ℕ) :
   pub since_is : since ≡ length entries % interval
   pub counted : length entries ≤ 2 ^ 64 - 1
 
--- the entries behind the last whole interval, one entry further on
+-- the number of entries after the last whole interval, with one entry more
 abbrev pub next_since : ℕ → ℕ → ℕ
 next_since interval since = if since + 1 == interval then 0 else since + 1
 
--- the key of the last of some entries, where there is one
+-- the key of the last of these entries; None if there is none
 abbrev pub ended : List Entry → Option (List ℕ)
 ended q = option_map (λ (e : Entry). e.key) (last_or None q)
 
--- how many bytes a key shares with the one before it, where there is one
+-- how many bytes a key shares with the one before it, if there is one
 abbrev pub shared_with : Option (List ℕ) → List ℕ → ℕ
 shared_with None key = 0
 shared_with (Some before) key = common_prefix_len nat_eq before key
 
--- how many bytes it leaves out in a block: none where a restart points at it
+-- how many bytes of the key an entry leaves out: none if a restart points at it
 abbrev pub left_out : ℕ → Option (List ℕ) → List ℕ → ℕ
 left_out since before key = if since == 0 then 0 else shared_with before key
 
--- how many bytes an entry adds to a block: those of its piece, and those of its restart, where it is not the first
+-- How many bytes an entry adds to a block: its own bytes, and those of its restart if it has one
+-- and is not the first.
 abbrev pub added_size : ℕ → Option (List ℕ) → List ℕ → ℕ → ℕ
 added_size since before key value =
     piece_size (left_out since before key) (length key - left_out since before key) value

@@ -1,4 +1,4 @@
--- An output that takes the next entry of a plan.
+-- An open output of a plan.
 use Rattle.std.specs.Prelude.{◌≡◌, ℕ, Bool, false, true, List, [], ◌∷◌, ◌++◌, length, map, Option}
 use Rattle.std.specs.List.{AllByRecursion}
 use Rattle.block.specs.Piece.{Entry}
@@ -12,17 +12,17 @@ use Rattle.cut.specs.Outputs.{all_of, ends_before}
 use Rattle.cut.specs.Plan.{stored_len}
 use Rattle.cut.specs.Sizes.{saturated}
 
--- what an output is cut by, its entries so far, and the entries behind them
+-- the options of an output, its entries so far, and the entries still to come
 pub record Opened : Type 0 where
   pub options : Options
   pub entries : List Entry
   pub behind : List Entry
 
--- the entries of each planned block
+-- the entries of each planned data block
 abbrev pub parts_of : List PlannedBlock → List (List Entry)
 parts_of blocks = map (λ (b : PlannedBlock). b.entries.entries) blocks
 
--- the entries of planned blocks, one behind the other
+-- the entries of planned data blocks, one block after the other
 abbrev pub entries_in_blocks : List PlannedBlock → List Entry
 entries_in_blocks blocks = all_of (parts_of blocks)
 
@@ -39,13 +39,13 @@ pub record ArePlanned (o : Options) (blocks : List PlannedBlock) : Type 0 where
   pub cut : parts_of blocks ≡ data_blocks o (entries_in_blocks blocks)
   pub lens : AllByRecursion (HasLen o) blocks
 
--- whether an output of these entries ends before the first of those behind them
+-- whether an output of entries q ends before the first of those to come
 abbrev pub ends_by : Options → List Entry → List Entry → Bool
 ends_by o q [] = false
 ends_by o q (e ∷ es) = ends_before o q e
 
--- What is kept of an output: its full data blocks, how many bytes they take, and the open block. However many entries come
--- behind, the data blocks begin with the full ones.
+-- What is kept of an open output: its full data blocks, their bytes, its last key and the open
+-- block. Whatever entries are still to come, its data blocks begin with the full ones.
 pub record IsOpen (o : Options) (blocks : List PlannedBlock) (flushed : ℕ) (last : Option (List ℕ)) (open_one : Metered) : Type 0 where
   pub limits : AreInLimits o
   pub interval : open_one.interval ≡ o.restart_interval

@@ -7,7 +7,7 @@ use Rattle.cut.specs.Metered.{ended}
 use Rattle.cut.specs.Plan.{Planned}
 use Rattle.cut.specs.Sizes.{saturated}
 
--- these are the number, the sizes and the bounds of an output of a plan
+-- the number, the sizes and the bounds of an output of a plan
 pub record IsMetaOf (p : Planned) (m : OutputMeta) : Type 0 where
   pub number : m.number ≡ p.number
   pub entries : m.entries ≡ saturated (length p.entries)

@@ -1,4 +1,5 @@
--- The plan of the outputs: numbers, data blocks and exact lengths, and the work that is left.
+-- The plan of the outputs: numbers, data blocks, exact lengths, and the pieces that are to be
+-- encoded.
 use Rattle.std.specs.Prelude.{◌≡◌, ℕ, ◌+◌, ◌^◌, nat_lt, nat_le, ◌&&◌, if◌then◌else◌, List, [], ◌∷◌, ◌++◌, length, map, flat_map, Result, Ok}
 use Rattle.std.specs.List.{list_all}
 use Rattle.std.specs.declared.cmp.Ordering.{Ordering}
@@ -11,20 +12,21 @@ use Rattle.table.specs.DataBlocks.{data_blocks}
 use Rattle.table.specs.Table.{closing, index_from, index_keys, stored_blocks, table}
 use Rattle.table.specs.ReadingSteps.{pass}
 
--- an output: the number of its file, its entries, the place after the last entry of each of its data blocks, and the length
--- of its table
+-- an output: the number of its file, its entries, the place after the last entry of each data
+-- block, and the length of its table
 pub record Planned : Type 0 where
   pub number : ℕ
   pub entries : List Entry
   pub blocks : List ℕ
   pub length : ℕ
 
--- the places after the last entry of each part, where so many entries stand before the first
+-- the place after the last entry of each part, with `at` entries before the first part
 abbrev pub ends_from : ℕ → List (List Entry) → List ℕ
 ends_from at [] = []
 ends_from at (p ∷ ps) = (at + length p) ∷ ends_from (at + length p) ps
 
--- the outputs of these lists of entries, numbered from here on, each of which is written as this table
+-- the outputs of these lists of entries, numbered from `number` on; `table_of` is how a table is
+-- written
 abbrev pub planned_from : (List Entry → List ℕ) → Options → ℕ → List (List Entry) → List Planned
 planned_from table_of o number [] = []
 planned_from table_of o number (q ∷ qs) =
@@ -35,8 +37,8 @@ planned_from table_of o number (q ∷ qs) =
 abbrev pub parts : Options → List (List Entry) → List (List Entry)
 parts o outputs = flat_map (data_blocks o) outputs
 
--- The plan of outputs, numbered from the first number on. Numbers where the number behind the last exceeds 2 ^ 64 - 1;
--- TooLarge where a table exceeds 2 ^ 30 bytes, or where there are more than 2 ^ 40 data blocks.
+-- The plan of outputs, numbered from `first` on. Numbers if the number after the last exceeds 2 ^
+-- 64 - 1; else TooLarge if a table exceeds 2 ^ 30 bytes or there are more than 2 ^ 40 data blocks.
 abbrev pub plan_of : (List Entry → List ℕ) → Options → ℕ → List (List Entry) → Result (List Planned) Fault
 plan_of table_of o first outputs = do
   _ ← pass (nat_lt (first + length outputs) (2 ^ 64)) Numbers
@@ -47,17 +49,17 @@ plan_of table_of o first outputs = do
 abbrev pub assembled : (List Entry → List ℕ) → List Planned → List (ℕ × List ℕ)
 assembled table_of plan = map (λ (p : Planned). (p.number, table_of p.entries)) plan
 
--- how many bytes data blocks take, each with its trailer
+-- the bytes of data blocks, each with its trailer
 abbrev pub stored_len : ℕ → List (List Entry) → ℕ
 stored_len interval parts = length (stored_blocks interval parts)
 
--- the data blocks of an open piece, where there are any
+-- the open piece, if it has a data block
 abbrev pub open_piece : List (List Entry) → List (List (List Entry))
 open_piece [] = []
 open_piece (p ∷ ps) = (p ∷ ps) ∷ []
 
--- The pieces of data blocks of one output, of which some are in an open piece. A piece ends with the block at which its
--- bytes reach this size.
+-- The pieces of an output's data blocks, if the open piece has the blocks `latest`. A piece ends
+-- with the block at which its bytes reach `size`.
 abbrev pub pieces_behind : ℕ → ℕ → List (List Entry) → List (List Entry) → List (List (List Entry))
 pieces_behind size interval latest [] = open_piece latest
 pieces_behind size interval latest (p ∷ ps) =
@@ -65,8 +67,8 @@ pieces_behind size interval latest (p ∷ ps) =
     then (latest ++ p ∷ []) ∷ pieces_behind size interval [] ps
     else pieces_behind size interval (latest ++ p ∷ []) ps
 
--- The pieces of an output, each of consecutive data blocks, which are encoded by themselves. Where all outputs together
--- have fewer than 64 data blocks, each block is a piece; else a piece has some 2 ^ 22 bytes.
+-- The pieces of an output. If all outputs together have fewer than 64 data blocks, each block is a
+-- piece; else a piece ends with the block at which its bytes reach 2 ^ 22.
 abbrev pub pieces_in : Options → ℕ → List Entry → List (List (List Entry))
 pieces_in o blocks q =
     if nat_lt blocks 64 then map (λ p. p ∷ []) (data_blocks o q) else pieces_behind (2 ^ 22) o.restart_interval [] (data_blocks o q)
@@ -75,7 +77,7 @@ pieces_in o blocks q =
 abbrev pub pieces : Options → List (List Entry) → List (List (List Entry))
 pieces o outputs = flat_map (pieces_in o (length (parts o outputs))) outputs
 
--- how many pieces are to be encoded
+-- how many pieces there are
 abbrev pub jobs : Options → List (List Entry) → ℕ
 jobs o outputs = length (pieces o outputs)
 
@@ -83,8 +85,8 @@ jobs o outputs = length (pieces o outputs)
 abbrev pub encoded : Options → List (List Entry) → List (List ℕ)
 encoded o outputs = map (stored_blocks o.restart_interval) (pieces o outputs)
 
--- The bytes of a piece are those of its blocks, each with its trailer. Those of an output's pieces, one behind the other,
--- and what closes its table are its table.
+-- The bytes of a piece are those of its data blocks, each with its trailer. The pieces of an
+-- output, one after the other, and what closes its table are its table.
 abbrev pub PiecesLaw : Type 0
 PiecesLaw =
     (cmp : List ℕ → List ℕ → Ordering) (separator_of : List ℕ → List ℕ → List ℕ) (successor_of : List ℕ → List ℕ)

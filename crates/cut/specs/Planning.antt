@@ -1,4 +1,4 @@
--- A plan that is made.
+-- A plan, as contracts see it.
 use Rattle.std.specs.Prelude.{◌≡◌, ◌≢◌, ℕ, ◌+◌, ◌^◌, ◌≤◌, List, [], ◌∷◌, length, map}
 use Rattle.std.specs.Global.{Vec}
 use Rattle.std.specs.List.{AllByRecursion, sum_by}
@@ -17,7 +17,8 @@ pub record PlanSeen : Type 0 where
   pub options : Options
   pub outputs : List Planned
 
--- an output as it is seen: its number, its entries, the places after the last entries of its blocks, and its length
+-- an output as contracts see it: its number, its entries, the place after the last entry of each
+-- data block, and its length
 abbrev pub planned_of : PlannedOutput → Planned
 planned_of p = record {
   number = p.number;
@@ -31,17 +32,17 @@ pub record HaveEntries (blocks : List PlannedBlock) : Type 0 where
   pub any : blocks ≢ []
   pub some : AllByRecursion (λ (b : PlannedBlock). b.entries.entries ≢ []) blocks
 
--- outputs of these blocks, numbered from here on, each of the length that is told of its blocks
+-- outputs of these data blocks, numbered from `number` on; `size_of` tells the length of a table
 abbrev pub numbered_from : (List PlannedBlock → ℕ) → ℕ → List (Vec PlannedBlock) → List PlannedOutput
 numbered_from size_of number [] = []
 numbered_from size_of number (b ∷ bs) = record { number = number; blocks = b; len = size_of b.items } ∷ numbered_from size_of (number + 1) bs
 
--- how many data blocks outputs have
+-- how many data blocks all outputs have
 abbrev pub block_count : List PlannedOutput → ℕ
 block_count outputs = sum_by (λ (p : PlannedOutput). length p.blocks.items) outputs
 
--- an output of a plan: its blocks are the data blocks of their entries, and its length is that of its table, of at most
--- 2 ^ 30 bytes
+-- an output of a plan: its blocks are the data blocks of their entries, and its length, at most 2 ^
+-- 30, is that of its table
 pub record IsPlannedOutput (table_of : List Entry → List ℕ) (o : Options) (p : PlannedOutput) : Type 0 where
   pub planned : ArePlanned o p.blocks.items
   pub some : HaveEntries p.blocks.items
@@ -52,7 +53,7 @@ pub record IsPlannedOutput (table_of : List Entry → List ℕ) (o : Options) (p
 abbrev pub lists_in : List Planned → List (List Entry)
 lists_in outputs = map (λ (p : Planned). p.entries) outputs
 
--- what is kept of a plan
+-- what a plan keeps: outputs in their limits, their pieces, and how many pieces each output has
 pub record IsPlan (table_of : List Entry → List ℕ) (o : Options) (outputs : List PlannedOutput) (pieces : List Piece) (counts : List ℕ) : Type 0 where
   pub limits : AreInLimits o
   pub each : AllByRecursion (IsPlannedOutput table_of o) outputs

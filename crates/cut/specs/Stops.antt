@@ -1,21 +1,21 @@
--- Where an output ends because it would overlap too much of the grandparents. Grandparents are the files two levels below
--- the compaction, which the next compaction of the outputs would have to merge with them.
+-- Overlap stops: where an output ends because it would overlap too much of the grandparents. A
+-- later compaction of the output would have to merge the grandparents that it overlaps.
 use Rattle.std.specs.Prelude.{◌≡◌, ◌↔◌, ℕ, ◌+◌, ◌-◌, ◌*◌, ◌≤◌, nat_lt, Bool, true, false, if◌then◌else◌, List, [], ◌∷◌, ◌++◌, take, drop}
 use Rattle.std.specs.List.{sum_by, AllByRecursion}
 use Rattle.edit.specs.declared.meta.FileMeta.{FileMeta}
 use Rattle.keep.specs.declared.mark.Mark.{Mark}
 use Rattle.keep.specs.Marks.{changes}
 
--- the sizes of the grandparents from one number to before another, together
+-- the sizes of the grandparents at places `from` to before `to`, together
 abbrev pub size_between : List FileMeta → ℕ → ℕ → ℕ
 size_between grandparents from to = sum_by (λ (f : FileMeta). f.size) (take (to - from) (drop from grandparents))
 
--- Whether there is a stop at a mark, where so many grandparents lie below the stop before it: those passed since have more
--- than 10 times the maximal file size together.
+-- Whether there is a stop at a mark, if `since` grandparents lie below the stop before: those
+-- passed since have more than 10 times the maximal file size together.
 abbrev pub is_stop : List FileMeta → ℕ → ℕ → Mark → Bool
 is_stop grandparents file_size since m = nat_lt (10 * file_size) (size_between grandparents since m.below)
 
--- the stops at marks behind a stop below which so many grandparents lie
+-- the stops at the marks after a stop with `since` grandparents below it
 abbrev pub stops_behind : List FileMeta → ℕ → ℕ → List Mark → List ℕ
 stops_behind grandparents file_size since [] = []
 stops_behind grandparents file_size since (m ∷ ms) =
@@ -23,14 +23,16 @@ stops_behind grandparents file_size since (m ∷ ms) =
     then m.kept ∷ stops_behind grandparents file_size m.below ms
     else stops_behind grandparents file_size since ms
 
--- The stops of a compaction, each by the number of kept entries before it. A stop is asked at the first entry of each user
--- key, kept or dropped. From the first entry, and then from each stop, the next is at the first mark at which the
--- grandparents passed since have more than 10 times the maximal file size together.
+-- The stops of a compaction, each by the number of kept entries before it. A stop is asked at the
+-- first entry of each user key, kept or dropped. From the first entry of all, and then from each
+-- stop, the next stop is the first mark at which the grandparents passed since have more than 10
+-- times the maximal file size together.
 abbrev pub stops : List FileMeta → ℕ → List Mark → List ℕ
 stops grandparents file_size [] = []
 stops grandparents file_size (m ∷ ms) = stops_behind grandparents file_size m.below ms
 
--- these are the stops at marks behind a stop: each is at the first mark that is one, and behind the last no mark is
+-- these are the stops at marks after a stop: each is at the first mark that is one, and after the
+-- last no mark is one
 abbrev pub AreStops : List FileMeta → ℕ → ℕ → List Mark → List ℕ → Type 0
 AreStops grandparents file_size since ms [] = AllByRecursion (λ m. is_stop grandparents file_size since m ≡ false) ms
 AreStops grandparents file_size since ms (place ∷ places) =
@@ -39,8 +41,8 @@ AreStops grandparents file_size since ms (place ∷ places) =
     × (is_stop grandparents file_size since m ≡ true) × (place ≡ m.kept)
     × AreStops grandparents file_size m.below rest places
 
--- marks have these stops and no others; a mark that repeats the number of the mark before is never one; and sizes add up, so
--- that a running sum tells them
+-- Marks have these stops and no others. A mark that repeats the number of the mark before is never
+-- a stop. Sizes add up, so a running sum finds them.
 pub record StopsLaw : Type 0 where
   pub these : (grandparents : List FileMeta) (file_size since : ℕ) (ms : List Mark) (places : List ℕ) →
       AreStops grandparents file_size since ms places ↔ (stops_behind grandparents file_size since ms ≡ places)

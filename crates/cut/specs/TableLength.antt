@@ -8,30 +8,30 @@ use Rattle.encoding.specs.declared.planned_block.PlannedBlock.{PlannedBlock}
 use Rattle.cut.specs.Opened.{parts_of}
 use Rattle.cut.specs.Sizes.{piece_size}
 
--- a length where 2 ^ 30 + 1 stands for itself and for all that are greater
+-- a length, or 2 ^ 30 + 1 if it is more
 abbrev pub capped : ℕ → ℕ
 capped n = min n (2 ^ 30 + 1)
 
--- how many bytes planned blocks take, each with its trailer
+-- the length of planned data blocks, each with its trailer
 abbrev pub lens_of : List PlannedBlock → ℕ
 lens_of blocks = sum_by (λ (b : PlannedBlock). b.len + 5) blocks
 
--- the key in the index of the first of some blocks
+-- the index key of the first of these data blocks
 abbrev pub key_at : IndexKeys → List PlannedBlock → List ℕ
 key_at keys [] = []
 key_at keys (b ∷ bs) = index_key keys b.entries.entries (parts_of bs)
 
--- the entries of the index of planned blocks, of which the first stands at this offset
+-- the index entries of planned data blocks, the first of which is at offset `at`
 abbrev pub index_of : IndexKeys → ℕ → List PlannedBlock → List Entry
 index_of keys at [] = []
 index_of keys at (b ∷ bs) = handle_entry (key_at keys (b ∷ bs)) at b.len ∷ index_of keys (at + b.len + 5) bs
 
--- how many bytes the table of planned blocks has, or 2 ^ 30 + 1 where there are more than 2 ^ 30
+-- the length of the table of planned data blocks, or 2 ^ 30 + 1 if it is more than 2 ^ 30
 abbrev pub table_size : IndexKeys → List PlannedBlock → ℕ
 table_size keys blocks =
     if nat_lt (2 ^ 30) (lens_of blocks) then 2 ^ 30 + 1 else capped (lens_of blocks + 66 + length (block 1 (index_of keys 0 blocks)))
 
--- how many bytes entries take in a block where a restart points at each
+-- the bytes that entries take in a block in which a restart points at each
 abbrev pub index_sizes : List Entry → ℕ
 index_sizes [] = 0
 index_sizes (e ∷ es) = piece_size 0 (length e.key) (length e.value) + 4 + index_sizes es

@@ -1,7 +1,7 @@
-//! The tables of a plan, of its encoded pieces.
+//! The tables of a plan, joined of its encoded pieces.
 //!
-//! The pieces stand in the order of their jobs, whatever the order in which workers came to them.
-//! So the first ones are those of the first output, as many as it has, and so on.
+//! Pieces are in the order of their jobs, whatever the order in which workers encoded them. So the
+//! first output has the first ones, as many as it has pieces, and so on.
 
 ghost use Rattle.std.specs.Prelude.{◌≡◌, length, take, drop, map, IfOk, IfErr, Ok, OnOk};
 ghost use Rattle.std.specs.Vec.Iter.{into_iter_items};
@@ -17,7 +17,7 @@ use ikey::Comparator;
 use std::alloc::Global;
 use std::vec::IntoIter;
 
-/// Takes off so many pieces, or all where there are fewer. Refused for want of memory alone.
+/// Takes off the first `count` pieces, or all if there are fewer. The only fault is Memory.
 fn take_front(
     alloc: Global,
     rest: &mut IntoIter<Vec<u8>>,
@@ -37,8 +37,8 @@ fn take_front(
     Ok(own)
 }
 
-/// The number and the table of each output, of which the pieces are so many each. Refused for want
-/// of memory alone.
+/// The number and the table of each output. Output i has `counts[i]` of the pieces. The only fault
+/// is Memory.
 pub(crate) fn assemble_all<C: Comparator>(
     alloc: Global,
     outputs: &[PlannedOutput<'_, '_>],

@@ -29,12 +29,12 @@ use std::alloc::Global;
 use std::marker::Model;
 use table::Options;
 
-/// Outputs that are being cut, seen as their options, the entries of those that are ended, those of
-/// the one that takes the next entry, and those behind.
+/// Outputs that are being cut: the options, the entries of each output that has ended, those of the
+/// open output, and the entries still to come.
 #[derive(Drop)]
 struct Cutting<'r, 'a> {
     alloc: Global,
-    /// The data blocks of each output that is ended.
+    /// The data blocks of each output that has ended.
     ended: Vec<Vec<PlannedBlock<'r, 'a>>>,
     latest: OpenOutput<'r, 'a>,
 }
@@ -58,7 +58,7 @@ impl<'r, 'a> Model for Cutting<'r, 'a> {
 }
 
 impl<'r, 'a> Cutting<'r, 'a> {
-    /// No outputs, before the entries from a place on. Takes no memory.
+    /// No outputs yet, before the entries from `place` on. Takes no memory.
     fn new(alloc: Global, options: Options, place: RunsCursor<'r, 'a>) -> Cutting<'r, 'a>
         requires { AreInLimits options }
         ensures { result ≡ record { options = options; outputs = []; latest = []; behind = place.entry } }
@@ -70,15 +70,14 @@ impl<'r, 'a> Cutting<'r, 'a> {
         }
     }
 
-    /// Whether an entry stands behind.
+    /// Whether an entry is still to come.
     fn has_next(&self) -> bool
         ensures { IsTrue result ↔ (0 < length self.now.behind) }
     {
         self.latest.has_next()
     }
 
-    /// Ends the output that takes the next entry, where it has one. Refused for want of memory
-    /// alone.
+    /// Ends the open output, if it has an entry. The only fault is Memory.
     fn end_output(&mut self) -> Result<(), Fault>
         ensures ended { OnOk result (self.new ≡ record {
           options = self.old.options;
@@ -95,8 +94,8 @@ impl<'r, 'a> Cutting<'r, 'a> {
         Ok(())
     }
 
-    /// Takes in the first entries behind, at least one and at most so many, and answers how many
-    /// they are. Refused for want of memory alone.
+    /// Takes in the next entries, at least one and at most `most`, and answers how many. The only
+    /// fault is Memory.
     fn step(&mut self, most: u64) -> Result<u64, Fault>
         requires any { 0 < length self.old.behind }
         requires most { 0 < most }
@@ -114,8 +113,8 @@ impl<'r, 'a> Cutting<'r, 'a> {
         self.latest.take_in(most)
     }
 
-    /// Takes in so many entries, or all where there are fewer, and ends the last output. Refused
-    /// for want of memory alone.
+    /// Takes in `count` entries, or all if there are fewer, and ends the last output. The only
+    /// fault is Memory.
     fn take_in(&mut self, count: u128) -> Result<(), Fault>
         ensures ok { OnOk result (self.new ≡ record {
           options = self.old.options;
@@ -133,7 +132,7 @@ impl<'r, 'a> Cutting<'r, 'a> {
         self.end_output()
     }
 
-    /// Takes in all entries, and ends the last output. Refused for want of memory alone.
+    /// Takes in all entries, and ends the last output. The only fault is Memory.
     fn take_all(&mut self) -> Result<(), Fault>
         ensures ok { OnOk result (self.new ≡ record {
           options = self.old.options;
@@ -149,7 +148,7 @@ impl<'r, 'a> Cutting<'r, 'a> {
         self.end_output()
     }
 
-    /// Takes in all entries, and ends an output at each stop. Refused for want of memory alone.
+    /// Takes in all entries, and ends an output at each stop. The only fault is Memory.
     fn cut(&mut self, stops: &[u128]) -> Result<(), Fault>
         requires { self.old.latest ≡ [] }
         ensures outputs { OnOk result (self.new.outputs
@@ -165,7 +164,7 @@ impl<'r, 'a> Cutting<'r, 'a> {
         self.take_all()
     }
 
-    /// The data blocks of the outputs that are ended.
+    /// The data blocks of the outputs that have ended.
     fn into_ended(self) -> Vec<Vec<PlannedBlock<'r, 'a>>>
         ensures entries { map (λ blocks. entries_in_blocks blocks.items) result.items ≡ self.entry.outputs }
         ensures planned { AllByRecursion (λ blocks. ArePlanned self.entry.options blocks.items) result.items }
@@ -174,7 +173,7 @@ impl<'r, 'a> Cutting<'r, 'a> {
     }
 }
 
-/// The data blocks of each output of runs, one behind the other. Refused for want of memory alone.
+/// The data blocks of each output of `runs`, one run after the other. The only fault is Memory.
 pub(crate) fn outputs<'r, 'a>(
     alloc: Global,
     runs: &'r [RangeRun<'a>],

@@ -1,10 +1,10 @@
-//! Dealing out the data blocks of outputs to pieces, the jobs of the workers that encode.
+//! Dealing out data blocks to pieces. A piece is the job of a worker that encodes.
 //!
-//! (1) If all outputs together have fewer than 64 data blocks, each block is a piece, so that 64
+//! (1) If all outputs together have fewer than 64 data blocks, each block is a piece. Why: then 64
 //!     workers may share them.
-//! (2) Else a piece ends with the block at which its bytes reach 2^22, so that a piece is worth the
-//!     turn of a worker.
-//! (3) No piece has blocks of two outputs, so that a table is its pieces and its closing.
+//! (2) Else a piece ends with the block at which its bytes, with trailers, reach 2^22. Why: a piece
+//!     is worth the turn of a worker then.
+//! (3) No piece has blocks of two outputs. Why: a table is its pieces and its closing then.
 
 ghost use Rattle.std.specs.Prelude.{◌≡◌, ◌≤◌, ◌<◌, ◌^◌, ◌++◌, OnOk, length, IfOk, IfErr};
 ghost use Rattle.std.specs.List.{AllByRecursion};
@@ -20,8 +20,9 @@ use encoding::PlannedBlock;
 use frame::TRAILER_LEN;
 use std::alloc::Global;
 
-/// Adds the pieces of the data blocks of an output, and answers how many they are. A piece ends
-/// with the block at which its bytes reach this many. Refused for want of memory alone.
+/// Appends the pieces of `blocks`, which are the data blocks of the output at place `output`, and
+/// answers how many they are. A piece ends with the block at which its bytes reach `limit`. The
+/// only fault is Memory.
 fn push_pieces(
     pieces: &mut Vec<Piece>,
     output: usize,
@@ -54,14 +55,15 @@ fn push_pieces(
     Ok(count)
 }
 
-/// The pieces of outputs in order, and how many each output has.
+/// The pieces of all outputs in order, and how many each output has.
 #[derive(Drop)]
 pub(crate) struct Division {
     pub pieces: Vec<Piece>,
     pub counts: Vec<usize>,
 }
 
-/// The pieces of outputs. Refused for want of memory alone.
+/// The pieces of `outputs`. A piece ends with the block at which its bytes reach `limit`. The only
+/// fault is Memory.
 pub(crate) fn pieces_of(
     alloc: Global,
     outputs: &[PlannedOutput<'_, '_>],

@@ -1,5 +1,4 @@
-//! Laws of cutting, over the definitions alone: `segments_law` says the outputs of a union without
-//! marks, and `outputs_law` how what is kept of a segment is cut by its size.
+//! Laws of the rules of cutting, over the definitions alone.
 
 ghost use Rattle.cut.specs.Lengths.{LengthsLaw};
 ghost use Rattle.cut.specs.Outputs.{OutputsLaw, RangesCutLaw, WholeLaw};
@@ -10,40 +9,47 @@ ghost use Rattle.cut.specs.Stops.{StopsLaw};
 use ikey::Comparator;
 
 /// The law of the stops at marks. A call does nothing.
+///
+/// - Marks have the stops that `stops` finds, and no others: each is at the first mark at which
+///   more than 10 times the maximal file size is passed since the stop before.
+/// - A mark that repeats the number of the mark before is never a stop.
+/// - Sizes of grandparents add up, so a running sum finds the stops.
 pub fn stops_law()
     ensures { StopsLaw }
 {}
 
-/// The law of the outputs of a segment. A call does nothing.
+/// The law that a segment has one cutting into outputs, which `outputs_in` finds: each output is
+/// the shortest nonempty beginning that may end, or the whole rest. A call does nothing.
 pub fn outputs_law<C: Comparator>()
     ensures { OutputsLaw C.cmp }
 {}
 
-/// The law of the outputs over the union alone: the segments that its entries have between stops,
-/// and the outputs of what is kept of each. A call does nothing.
+/// The law that a union has one cutting into segments at its stops, and that its outputs are those
+/// of what is kept of each segment. A call does nothing.
 pub fn segments_law<C: Comparator>()
     ensures { SegmentsLaw C.cmp }
 {}
 
-/// The law that outputs are the kept entries, cut between user keys into parts of which none is
-/// empty. A call does nothing.
+/// The law that outputs are the kept entries, cut into parts of which none is empty, and that the
+/// user keys of an output are below those of all later ones. A call does nothing.
 pub fn whole_law<C: Comparator>()
     ensures { WholeLaw C.cmp }
 {}
 
-/// The law that the runs of the ranges of a split have the outputs of the union. A call does
-/// nothing.
+/// The law that the runs of the ranges of a split have together the outputs of the union. A call
+/// does nothing.
 pub fn ranges_cut<C: Comparator>()
     ensures { RangesCutLaw C.cmp }
 {}
 
-/// The law that the pieces of an output, one behind the other, and its closing are its table. A
-/// call does nothing.
+/// The law that the pieces of an output, one after the other, and what closes its table are its
+/// table. A call does nothing.
 pub fn pieces_law()
     ensures { PiecesLaw }
 {}
 
-/// The law of a block's length, by what each entry adds to it. A call does nothing.
+/// The law of the lengths of blocks and tables, by what each entry and each block adds. A call does
+/// nothing.
 pub fn lengths_law()
     ensures { LengthsLaw }
 {}

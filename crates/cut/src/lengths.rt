@@ -1,10 +1,10 @@
-//! Lengths of what a block will have, with none of its bytes at hand.
+//! Lengths of what a block will have, before any of its bytes is made.
 
 ghost use Rattle.std.specs.Prelude.{◌≡◌, ◌≤◌, length};
 ghost use Rattle.coding.specs.Varint.{varint};
 ghost use Rattle.cut.specs.Sizes.{saturated, piece_size};
 
-/// How many bytes the spelling of a number takes.
+/// The length of a number as a varint: 1 to 10 bytes.
 pub(crate) fn varint_len(number: u64) -> u64
     ensures value { result ≡ length (varint number) }
     ensures within { result ≤ 10 }
@@ -18,14 +18,14 @@ pub(crate) fn varint_len(number: u64) -> u64
     len
 }
 
-/// How many bytes an entry takes in a block, where these are the lengths of what it shares of the key before it, of the
-/// rest of its key, and of its value. A sum of 2^64 or more is 2^64 - 1.
+/// The length of an entry in a block: three varints, and the unshared bytes and the value.
+/// `shared`, `unshared` and `value` are in bytes. A sum of 2^64 or more is answered as 2^64 - 1.
 #[inline(always)]
 pub(crate) fn piece_len(shared: usize, unshared: usize, value: usize) -> u64
     ensures { result ≡ saturated (piece_size shared unshared value) }
 {
     if shared < 128 && unshared < 128 && value < 128 {
-        // Each length takes one byte.
+        // Each of the three varints takes one byte.
         return 3 + unshared as u64 + value as u64;
     }
     let lengths = varint_len(shared as u64)

@@ -1,8 +1,17 @@
 //! The plan of the outputs of a compaction.
 //!
-//! The plan is what makes the bytes of a compaction independent of ranges and workers: from the
-//! runs of all ranges it says every output, every data block and every table's length before one
-//! byte is written.
+//! 1. [`plan`] takes the runs of all ranges, and answers a [`Plan`]: each output, its data blocks
+//!    and the exact length of its table, before a byte is written. It doesn't depend on how the
+//!    entries were dealt out to ranges.
+//! 2. [`Plan::output`] tells of an output what its entry in the edit needs.
+//! 3. [`Plan::jobs`] says how many pieces are to be encoded, and [`Plan::encode`] encodes one. Any
+//!    thread may encode any piece.
+//! 4. [`Plan::assemble`] joins the pieces, in the order of their jobs, to tables.
+//!
+//! So the bytes of a compaction depend on neither ranges nor workers. The laws of this crate say it
+//! over the definitions: [`whole_law`], [`outputs_law`], [`ranges_cut`], [`pieces_law`] and others.
+//!
+//! No contract says how much memory a plan takes.
 #![tactic(auto)]
 
 mod assembling;

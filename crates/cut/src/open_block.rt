@@ -1,4 +1,4 @@
-//! The data block that takes the next entry of a plan.
+//! The data block of a plan that takes the next entry.
 
 ghost use Rattle.std.specs.Prelude.{◌≡◌, ◌≢◌, ℕ, ◌↔◌, ◌-◌, ◌^◌, ◌≤◌, ◌<◌, false, [], length, IsTrue};
 ghost use Rattle.std.specs.Option.{option_map};
@@ -16,20 +16,20 @@ use std::marker::Model;
 use std::mem;
 use table::Options;
 
-/// The length of a block without entries: one restart, and their number.
+/// The length of a block without entries: one restart, and the count.
 const EMPTY_LEN: u64 = 8;
 
 /// The length of a restart.
 const RESTART_LEN: u64 = 4;
 
-/// A data block that takes the next entry, seen as its restart interval, its entries and those behind them.
+/// An open data block: its restart interval, its entries, and the entries still to come.
 #[derive(Drop)]
 pub(crate) struct OpenBlock<'r, 'a> {
     interval: u64,
     slice: RunsSlice<'r, 'a>,
-    /// How many bytes the block would have; 2^64 - 1 where there are more.
+    /// The length that the block would have now; 2^64 - 1 if it is more.
     len: u64,
-    /// The number of entries behind the last whole interval.
+    /// The number of entries after the last whole interval.
     since: u64,
 }
 
@@ -43,8 +43,8 @@ impl<'r, 'a> Model for OpenBlock<'r, 'a> {
     ghost invariant = { λ b. IsMetered b.interval b.slice.entries b.len b.since };
 }
 
-/// How many bytes of its key an entry leaves out, where so many stand behind the last whole interval, and this is the key
-/// before it.
+/// How many bytes of `key` the next entry shares with the key before it: none if `since`, the
+/// number of entries after the last whole interval, is 0, for then a restart points at it.
 #[inline(always)]
 fn left_out(since: u64, before: Option<InternalKey<'_>>, key: InternalKey<'_>) -> usize
     ensures value { result ≡ left_out since (option_map (λ k. k.bytes.now) before.entry) key.entry.bytes.now }
@@ -59,8 +59,8 @@ fn left_out(since: u64, before: Option<InternalKey<'_>>, key: InternalKey<'_>) -
     }
 }
 
-/// How many bytes an entry adds to a block, where so many stand behind the last whole interval, and this is the key before
-/// it. A sum of 2^64 or more is 2^64 - 1.
+/// How many bytes the next entry adds to the block, if `since` entries come after the last whole
+/// interval and `before` is the key before it. A sum of 2^64 or more is answered as 2^64 - 1.
 #[inline(always)]
 fn added_len(since: u64, before: Option<InternalKey<'_>>, key: InternalKey<'_>, value: &[u8]) -> u64
     ensures { result
@@ -77,7 +77,7 @@ fn added_len(since: u64, before: Option<InternalKey<'_>>, key: InternalKey<'_>, 
     piece.saturating_add(restart)
 }
 
-/// How many entries stand behind the last whole interval, with one more.
+/// The number of entries after the last whole interval, with one entry more.
 fn next_since(since: u64, interval: u64) -> u64
     requires { since < interval }
     ensures { result ≡ next_since interval since }
@@ -86,7 +86,8 @@ fn next_since(since: u64, interval: u64) -> u64
 }
 
 impl<'r, 'a> OpenBlock<'r, 'a> {
-    /// No entries, before those from a place on, at a restart interval from 1 to 1,024. Takes no memory.
+    /// No entries, before those from `place` on, at a restart interval from 1 to 1,024. Takes no
+    /// memory.
     pub fn new(interval: u64, place: RunsCursor<'r, 'a>) -> OpenBlock<'r, 'a>
         requires positive { 1 ≤ interval }
         requires limited { interval ≤ 1024 }
@@ -100,7 +101,7 @@ impl<'r, 'a> OpenBlock<'r, 'a> {
         }
     }
 
-    /// Takes in the first entry behind.
+    /// Takes in the next entry.
     fn push(&mut self)
         requires any { 0 < length self.old.behind }
         requires counted { length self.old.entries < 2 ^ 64 - 1 }
@@ -114,8 +115,8 @@ impl<'r, 'a> OpenBlock<'r, 'a> {
         self.since = next_since(self.since, self.interval);
     }
 
-    /// Takes in the first entries behind until the block reaches the block size, but at most so many, where it has an entry; and
-    /// answers how many they are.
+    /// Takes in the next entries until the block reaches the block size, at most `most`, and
+    /// answers how many. The block has an entry already.
     fn fill(&mut self, options: Options, most: u64) -> u64
         requires limits { AreInLimits options }
         requires interval { self.old.interval ≡ options.restart_interval }
@@ -125,7 +126,8 @@ impl<'r, 'a> OpenBlock<'r, 'a> {
         ensures within { result ≤ length self.old.behind }
         ensures part { (n : ℕ) → n < result → is_full options (grown n self.old).entries ≡ false }
     {
-        // What each entry changes stands in variables of the loop, so that none of it is written back before the end.
+        // What each entry changes is in variables of the loop, so that none of it is written back
+        // before the loop's end.
         let next = RunsSlice::at(self.slice.behind());
         let mut slice = mem::replace(&mut self.slice, next);
         let mut len = self.len;
@@ -146,8 +148,8 @@ impl<'r, 'a> OpenBlock<'r, 'a> {
         taken
     }
 
-    /// Takes in the first entries behind until the block reaches the block size, at least one and at most so many; and answers
-    /// how many they are. Takes no memory.
+    /// Takes in the next entries until the block reaches the block size, at least one and at most
+    /// `most`, and answers how many. Takes no memory.
     pub fn take_in(&mut self, options: Options, most: u64) -> u64
         requires limits { AreInLimits options }
         requires interval { self.old.interval ≡ options.restart_interval }
@@ -164,14 +166,14 @@ impl<'r, 'a> OpenBlock<'r, 'a> {
         1 + self.fill(options, most - 1)
     }
 
-    /// The key of the last entry, where there is one.
+    /// The key of the last entry; None if there is no entry.
     pub fn last_key(&self) -> Option<InternalKey<'r>>
         ensures { option_map (λ key. key.bytes.now) result ≡ ended self.now.entries }
     {
         self.slice.last_key()
     }
 
-    /// Whether there is an entry, and the block reaches the block size.
+    /// Whether there is an entry and the block has reached the block size.
     pub fn is_full(&self, options: Options) -> bool
         requires { self.now.interval ≡ options.restart_interval }
         ensures { result ≡ is_full options self.now.entries }
@@ -186,14 +188,14 @@ impl<'r, 'a> OpenBlock<'r, 'a> {
         self.slice.is_empty()
     }
 
-    /// The place behind the last entry.
+    /// The place after the last entry.
     pub fn behind(&self) -> RunsCursor<'r, 'a>
         ensures { result ≡ self.now.behind }
     {
         self.slice.behind()
     }
 
-    /// Ends the block, and begins another one behind it. Takes no memory.
+    /// Ends the block and answers it, and begins another one after it. Takes no memory.
     pub fn end(&mut self) -> PlannedBlock<'r, 'a>
         ensures entries { result.entries.entries ≡ self.old.entries }
         ensures len { result.len ≡ saturated (length (block self.old.interval self.old.entries)) }

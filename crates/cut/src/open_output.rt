@@ -1,10 +1,11 @@
-//! The output that takes the next entry of a plan.
+//! The output of a plan that takes the next entry.
 //!
-//! It may end before an entry
-//! (1) if its flushed data blocks, each with the 5 bytes of its trailer, have reached the maximal
-//!     file size. The open block isn't counted, since its bytes are written only once it is full;
-//! (2) and if the entry's user key is not that of the last entry, so that a user key stays in one
-//!     output.
+//! It ends before an entry if both hold:
+//!
+//! (1) Its flushed data blocks, each with the 5 bytes of its trailer, have reached the maximal file
+//!     size. The open block isn't counted. Why: its bytes are written only when it is full.
+//! (2) The entry's user key is not that of the last entry. Why: so all entries of a user key are in
+//!     one output.
 
 ghost use Rattle.std.specs.Prelude.{◌≡◌, ℕ, ◌↔◌, ◌<◌, ◌≤◌, false, List, [], ◌++◌, length, take, drop, IsTrue, OnOk, IfOk, IfErr};
 ghost use Rattle.std.specs.List.{AllByRecursion};
@@ -26,17 +27,17 @@ use std::marker::Model;
 use std::mem;
 use table::Options;
 
-/// An output that takes the next entry, seen as its options, its entries and those behind them.
+/// An open output: its options, its entries, and the entries still to come.
 #[derive(Drop)]
 pub(crate) struct OpenOutput<'r, 'a> {
     options: Options,
     /// The data blocks that are full.
     blocks: Vec<PlannedBlock<'r, 'a>>,
-    /// How many bytes they take with their trailers; 2^64 - 1 where that is more.
+    /// The length of these blocks with their trailers; 2^64 - 1 if it is more.
     flushed: u64,
-    /// The key of the last entry, where there is one.
+    /// The key of the last entry; None if there is no entry.
     last: Option<InternalKey<'r>>,
-    /// The data block that is not full.
+    /// The data block that is not full yet.
     current: OpenBlock<'r, 'a>,
 }
 
@@ -57,7 +58,7 @@ impl<'r, 'a> Model for OpenOutput<'r, 'a> {
 }
 
 impl<'r, 'a> OpenOutput<'r, 'a> {
-    /// No entries, before those from a place on. Takes no memory.
+    /// No entries, before those from `place` on. Takes no memory.
     pub fn new(alloc: Global, options: Options, place: RunsCursor<'r, 'a>) -> OpenOutput<'r, 'a>
         requires { AreInLimits options }
         ensures { result ≡ record { options = options; entries = []; behind = place.entry } }
@@ -71,16 +72,16 @@ impl<'r, 'a> OpenOutput<'r, 'a> {
         }
     }
 
-    /// Whether an entry stands behind.
+    /// Whether an entry is still to come.
     pub fn has_next(&self) -> bool
         ensures { IsTrue result ↔ (0 < length self.now.behind) }
     {
         self.current.behind().valid()
     }
 
-    /// Takes in the first entries behind, at least one and at most so many, and answers how many
-    /// they are, where the output does not end before the first of them: no more than make its data
-    /// block full, nor any before which it may end. Refused for want of memory alone.
+    /// Takes in the next entries, at least one and at most `most`, and answers how many. It stops
+    /// when the data block is full, and before an entry before which the output may end. It must
+    /// not end before the first of them. The only fault is Memory.
     pub fn take_in(&mut self, most: u64) -> Result<u64, Fault>
         requires any { 0 < length self.old.behind }
         requires most { 0 < most }
@@ -115,7 +116,7 @@ impl<'r, 'a> OpenOutput<'r, 'a> {
         Ok(taken)
     }
 
-    /// Whether the output ends before the first entry behind.
+    /// Whether the output ends before the next entry.
     pub fn ends_before_next(&self) -> bool
         requires { 0 < length self.now.behind }
         ensures { result ≡ ends_by self.now.options self.now.entries self.now.behind }
@@ -129,8 +130,8 @@ impl<'r, 'a> OpenOutput<'r, 'a> {
         }
     }
 
-    /// Ends the output and answers its data blocks, of which there are none where it has no entry;
-    /// and begins another one behind it. Refused for want of memory alone.
+    /// Ends the output and answers its data blocks, none if it has no entry; and begins another one
+    /// after it. The only fault is Memory.
     pub fn end(&mut self, alloc: Global) -> Result<Vec<PlannedBlock<'r, 'a>>, Fault>
         ensures blocks { IfOk result (λ blocks. parts_of blocks.items ≡ data_blocks self.old.options self.old.entries) }
         ensures lens { IfOk result (λ blocks. AllByRecursion (HasLen self.old.options) blocks.items) }

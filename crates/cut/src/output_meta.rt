@@ -7,14 +7,14 @@ use ikey::InternalKey;
 pub struct OutputMeta<'r> {
     /// The number of its file.
     pub number: u64,
-    /// How many entries it has, or 2^64 - 1 where there are more.
+    /// The number of its entries; 2^64 - 1 if there are more.
     pub entries: u64,
-    /// How many data blocks it has.
+    /// The number of its data blocks.
     pub blocks: usize,
-    /// How many bytes its table has, at most 2^30.
+    /// The length of its table in bytes, at most 2^30.
     pub len: u64,
-    /// Its first key.
+    /// Its first internal key.
     pub smallest: InternalKey<'r>,
-    /// Its last key.
+    /// Its last internal key.
     pub largest: InternalKey<'r>,
 }

@@ -7,8 +7,8 @@ use encoding::PlannedBlock;
 pub struct PlannedOutput<'r, 'a> {
     /// The number of its file.
     pub number: u64,
-    /// Its data blocks in order, one at least.
+    /// Its data blocks in order, at least one.
     pub blocks: Vec<PlannedBlock<'r, 'a>>,
-    /// How many bytes it has.
+    /// The length of its table in bytes.
     pub len: u64,
 }

@@ -28,21 +28,25 @@ use std::alloc::Global;
 use std::marker::PhantomData;
 use table::{MAX_TABLE_LEN, Options};
 
-/// The most data blocks that all outputs of a plan may have together, 2^40.
+/// The greatest number of data blocks in all outputs of a plan, 2^40.
 pub const MAX_BLOCKS: u64 = 1 << 40;
 
-/// Where there are fewer data blocks than this, each is a piece.
+/// If all outputs together have fewer data blocks than this, each block is a piece.
 const FEW_BLOCKS: u64 = 64;
 
-/// A piece ends with the block at which its bytes reach this many, where there are more blocks.
+/// Else a piece ends with the block at which its bytes reach this many.
 const PIECE_LEN: u64 = 1 << 22;
 
-/// The plan of the outputs of a compaction, from the runs of all ranges in order. It does not depend on how the entries were
-/// dealt out to ranges. Grandparents are the files that the marks of the runs count.
+/// The plan of the outputs of a compaction, of the runs of all its ranges in order. It doesn't
+/// depend on how the entries were dealt out to ranges. `grandparents` are the files that the marks
+/// of the runs count. Outputs are numbered from `first_number` on.
 ///
-/// Outputs are numbered from the first number on. `Numbers` where the number behind the last would pass 2^64 - 1; else
-/// `TooLarge` where an output has more than 2^30 bytes, or all together have more than 2^40 data blocks; else refused for
-/// want of memory alone.
+/// Faults, in this order:
+///
+/// - Numbers: the number after the last output's exceeds 2^64 - 1.
+/// - TooLarge: a table would have more than 2^30 bytes, or all outputs together more than 2^40 data
+///   blocks.
+/// - Memory.
 pub fn plan<'r, 'a, C: Comparator>(
     alloc: Global,
     runs: &'r [RangeRun<'a>],
@@ -74,8 +78,8 @@ pub fn plan<'r, 'a, C: Comparator>(
     })
 }
 
-/// The outputs of these data blocks, numbered from here on. Where a table has more than 2^30 bytes, its length is 2^30 + 1.
-/// Refused for want of memory alone.
+/// The outputs of these data blocks, numbered from `first_number` on. A length of more than 2^30
+/// bytes is given as 2^30 + 1. The only fault is Memory.
 fn numbered<'r, 'a, C: Comparator>(
     alloc: Global,
     ended: Vec<Vec<PlannedBlock<'r, 'a>>>,
@@ -101,14 +105,14 @@ fn numbered<'r, 'a, C: Comparator>(
     Ok(outputs)
 }
 
-/// Whether no output has more than 2^30 bytes, and there are at most 2^40 data blocks.
+/// Whether each output has at most 2^30 bytes, and all have at most 2^40 data blocks together.
 fn are_small(outputs: &[PlannedOutput<'_, '_>]) -> bool
     ensures { result ≡ (list_all (λ p. nat_le p.len (2 ^ 30)) outputs.now && nat_le (block_count outputs.now) (2 ^ 40)) }
 {
     are_short(outputs) && count_blocks(outputs) <= MAX_BLOCKS
 }
 
-/// Whether no output has more than 2^30 bytes.
+/// Whether each output has at most 2^30 bytes.
 fn are_short(outputs: &[PlannedOutput<'_, '_>]) -> bool
     ensures { result ≡ list_all (λ p. nat_le p.len (2 ^ 30)) outputs.now }
 {
@@ -116,7 +120,7 @@ fn are_short(outputs: &[PlannedOutput<'_, '_>]) -> bool
     outputs.iter().all(|output| output.len <= limit)
 }
 
-/// How many data blocks outputs have together; 2^64 - 1 where there are more.
+/// The number of data blocks of all outputs; 2^64 - 1 if there are more.
 fn count_blocks(outputs: &[PlannedOutput<'_, '_>]) -> u64
     ensures { result ≡ saturated (block_count outputs.now) }
 {
@@ -127,7 +131,7 @@ fn count_blocks(outputs: &[PlannedOutput<'_, '_>]) -> u64
     count
 }
 
-/// The pieces of outputs, in order. Refused for want of memory alone.
+/// The pieces of outputs, in order. The only fault is Memory.
 fn divided(alloc: Global, outputs: &[PlannedOutput<'_, '_>]) -> Result<Division, Fault>
     requires { AllByRecursion (λ p. lens_of p.blocks.items ≤ 2 ^ 30) outputs.now }
     ensures pieces { IfOk result (λ division. division.pieces.items

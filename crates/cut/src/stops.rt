@@ -1,14 +1,23 @@
-//! Where outputs end because they would overlap too much of the grandparents.
+//! Overlap stops: where outputs end since they would overlap too much of the grandparents.
 //!
-//! Grandparents are the files two levels below the compaction. The next compaction of an output
-//! merges it with all of them that it overlaps, so an output must not overlap too many. There is a
-//! stop before an entry of the union
-//! (1) that is the first of its user key, so that all entries of a user key go to one output, and
+//! Grandparents are the files two levels below the compaction. Why a stop: a later compaction of an
+//! output would have to merge the grandparents that it overlaps.
+//!
+//!               counted from here                   stop
+//!                    |                                |
+//!     entries     ---a-----b---------c----------------d-----------
+//!     passed          [ 1 ]  [  2  ]       [   3    ]    [ 4 ]
+//!                     sizes of 1, 2 and 3 > 10 * file_size
+//!
+//! There is a stop before an entry of the union
+//!
+//! (1) that is the first of its user key, so all entries of a user key go to one output, and
 //! (2) before which more than 10 times the maximal file size of grandparents is passed since the
-//!     last stop, or since the first entry of all if there is none yet.
-//! A grandparent is passed once its largest key is below the entry's key. Dropped entries count as
-//! kept ones do: the marks of the runs say how many grandparents are below each of them. Only a
-//! stop begins the count anew; the end of an output by its size does not.
+//!     last stop, or since the first entry of all if there was no stop yet.
+//!
+//! A grandparent is passed when its largest key is below the entry's. Dropped entries count as kept
+//! ones do: the marks of the runs say how many grandparents are below each. Only a stop begins the
+//! count anew; the end of an output by its size does not.
 
 ghost use Rattle.std.specs.Prelude.{◌≡◌, ◌+◌, ◌*◌, ◌^◌, ◌≤◌, max, List, ◌∷◌, ◌++◌, map, OnOk, IsOkUnless, Ok};
 ghost use Rattle.std.specs.List.{sum_by};
@@ -26,30 +35,31 @@ use edit::FileMeta;
 use keep::{Mark, RangeRun};
 use std::alloc::Global;
 
-/// Stops are where more of the grandparents is passed than this many times the maximal file size.
+/// There is a stop if more than this many times the maximal file size of grandparents is passed.
 const MAX_OVERLAP: u64 = 10;
 
-/// How much of the grandparents is passed since a stop, or since the first mark.
+/// What is passed of the grandparents since a stop, or since the first mark.
 #[derive(Clone, Copy)]
 pub(crate) struct Overlap {
-    /// How many grandparents lie below the stop.
+    /// The number of grandparents below the stop.
     pub since: usize,
-    /// How many lie below the furthest mark behind it: those between the two are counted.
+    /// The number below the furthest mark after it. Those between the two are counted.
     pub counted: usize,
     /// How many bytes more may be passed without a stop.
     pub room: u64,
 }
 
-/// The stops at the marks so far.
+/// The stops found at the marks so far.
 #[derive(Drop)]
 pub(crate) struct Stopping {
-    /// What is passed since the last stop, or since the first mark where there is no stop yet.
+    /// What is passed since the last stop, or since the first mark if there is no stop yet; None
+    /// before the first mark.
     pub overlap: Option<Overlap>,
     /// The number of kept entries before each stop.
     pub places: Vec<u128>,
 }
 
-/// The room that files leave, where they don't have more bytes together.
+/// What is left of `room` after the sizes of `files`; None if they exceed it.
 fn room_behind(files: &[FileMeta], room: u64) -> Option<u64>
     ensures { result ≡ room_left room (sum_by (λ (f : FileMeta). f.size) files.now) }
 {
@@ -63,8 +73,8 @@ fn room_behind(files: &[FileMeta], room: u64) -> Option<u64>
     Some(left)
 }
 
-/// The room that the grandparents from one number to before another leave, where they don't have
-/// more bytes together.
+/// What is left of `room` after the sizes of the grandparents at places `from` to before `to`; None
+/// if they exceed it.
 fn room_past(grandparents: &[FileMeta], from: usize, to: usize, room: u64) -> Option<u64>
     ensures { result ≡ room_left room (size_between grandparents.now from to) }
 {
@@ -74,7 +84,8 @@ fn room_past(grandparents: &[FileMeta], from: usize, to: usize, room: u64) -> Op
 }
 
 impl Overlap {
-    /// Nothing is passed since a stop below which so many grandparents lie.
+    /// Nothing is passed yet since a stop with `below` grandparents below it. `limit` bytes may be
+    /// passed.
     fn new(below: usize, limit: u64) -> Overlap
         ensures { result ≡ record { since = below; counted = below; room = limit } }
     {
@@ -85,7 +96,7 @@ impl Overlap {
         }
     }
 
-    /// What is passed at a mark below which so many grandparents lie, where that is no stop.
+    /// What is passed at a mark with `below` grandparents below it; None if there is a stop.
     fn at(self, grandparents: &[FileMeta], below: usize) -> Option<Overlap>
         ensures { result
             ≡ option_map (λ room. record { since = self.since; counted = max self.counted below; room = room })
@@ -101,8 +112,8 @@ impl Overlap {
 }
 
 impl Stopping {
-    /// Passes the next mark, of a run before which so many entries are kept. Refused for want of
-    /// memory alone.
+    /// Passes the next mark, which is one of a run that has `passed` kept entries before it. The
+    /// only fault is Memory.
     fn pass(
         &mut self,
         mark: Mark,
@@ -133,8 +144,8 @@ impl Stopping {
         Ok(())
     }
 
-    /// Passes the marks of the next run, before which so many entries are kept. Refused for want of
-    /// memory alone.
+    /// Passes the marks of the next run, which has `passed` kept entries before it. The only fault
+    /// is Memory.
     fn pass_all(
         &mut self,
         marks: &[Mark],
@@ -158,8 +169,8 @@ impl Stopping {
     }
 }
 
-/// The stops of runs, one behind the other, each by the number of kept entries before it. Refused
-/// for want of memory alone.
+/// The stops of `runs`, one run after the other: each is the number of kept entries before it. The
+/// only fault is Memory.
 pub(crate) fn stops(
     alloc: Global,
     runs: &[RangeRun<'_>],

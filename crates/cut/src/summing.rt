@@ -1,4 +1,4 @@
-//! What planned data blocks hold.
+//! What planned data blocks have together.
 
 ghost use Rattle.std.specs.Prelude.{◌≡◌, length, slice_get, Some};
 ghost use Rattle.std.specs.Option.{option_map};
@@ -13,7 +13,7 @@ use crate::planned_output::PlannedOutput;
 use encoding::PlannedBlock;
 use ikey::InternalKey;
 
-/// How many entries data blocks have together, or 2^64 - 1 where there are more.
+/// The number of entries of data blocks; 2^64 - 1 if there are more.
 fn count_entries(blocks: &[PlannedBlock<'_, '_>]) -> u64
     ensures { result ≡ saturated (length (entries_in_blocks blocks.now)) }
 {
@@ -44,7 +44,7 @@ fn last_key<'r>(blocks: &[PlannedBlock<'r, '_>]) -> InternalKey<'r>
     }
 }
 
-/// What is known of an output.
+/// What is known of an output before it is written.
 pub(crate) fn meta_of<'r>(output: &PlannedOutput<'r, '_>) -> OutputMeta<'r>
     requires { HaveEntries output.now.blocks.items }
     ensures { IsMetaOf (planned_of output.now) result }

@@ -1,11 +1,11 @@
-//! The exact length of a table, from the lengths of its data blocks.
+//! The exact length of a table, computed of the lengths of its data blocks.
 //!
-//! The version edit and the test for `TooLarge` need it before the table is written. A table is
-//! (1) its data blocks, each with the 5 bytes of its trailer;
-//! (2) the metaindex, a block without entries, of 8 + 5 bytes;
-//! (3) the index at restart interval 1, with an entry for each data block, and 5 bytes of its
-//!     trailer;
-//! (4) the footer of 48 bytes.
+//!     data blocks      each with the 5 bytes of its trailer
+//!     metaindex        a block without entries: 8 bytes and 5
+//!     index            at restart interval 1, an entry for each data block, and 5 bytes
+//!     footer           48 bytes
+//!
+//! Why: the version edit and the test for `TooLarge` need it before the table is written.
 
 ghost use Rattle.std.specs.Prelude.{◌≡◌, ◌≢◌, ◌^◌, ◌≤◌, ◌<◌, [], length, drop, Ok};
 ghost use Rattle.std.specs.List.{AllByRecursion};
@@ -23,14 +23,14 @@ use ikey::{Comparator, KeyBuf, internal_separator, internal_successor};
 use std::alloc::Global;
 use table::MAX_TABLE_LEN;
 
-/// The length of a restart, and of the number of restarts.
+/// The length of a restart, and of the count of restarts.
 const RESTART_LEN: u64 = 4;
 
-/// How many bytes of a table are neither of data blocks nor of the index block: the metaindex, its
-/// trailer and that of the index, and the footer.
+/// What a table has beside its data blocks and the contents of its index: the metaindex, its
+/// trailer, the trailer of the index, and the footer.
 const CLOSING_LEN: u64 = 66;
 
-/// How many bytes data blocks take with their trailers; 2^64 - 1 where that is more.
+/// The length of data blocks with their trailers; 2^64 - 1 if it is more.
 pub(crate) fn stored_len(blocks: &[PlannedBlock<'_, '_>]) -> u64
     ensures { result ≡ saturated (lens_of blocks.now) }
 {
@@ -43,7 +43,7 @@ pub(crate) fn stored_len(blocks: &[PlannedBlock<'_, '_>]) -> u64
     len
 }
 
-/// The key in the index of the data block at a place. Refused for want of memory alone.
+/// The index key of the data block at `place`. The only fault is Memory.
 fn index_key<C: Comparator>(
     alloc: Global,
     blocks: &[PlannedBlock<'_, '_>],
@@ -64,8 +64,7 @@ fn index_key<C: Comparator>(
     internal_separator::<C>(alloc, last, next.key())
 }
 
-/// How many bytes the index block of data blocks has; 2^64 - 1 where there are more. Refused for
-/// want of memory alone.
+/// The length of the index block of data blocks; 2^64 - 1 if it is more. The only fault is Memory.
 fn index_len<C: Comparator>(alloc: Global, blocks: &[PlannedBlock<'_, '_>]) -> Result<u64, Fault>
     requires any { blocks.now ≢ [] }
     requires some { AllByRecursion (λ b. b.entries.entries ≢ []) blocks.now }
@@ -86,8 +85,8 @@ fn index_len<C: Comparator>(alloc: Global, blocks: &[PlannedBlock<'_, '_>]) -> R
     Ok(len)
 }
 
-/// How many bytes the table of these data blocks has, or 2^30 + 1 where there are more than 2^30.
-/// Refused for want of memory alone.
+/// The length of the table of these data blocks; 2^30 + 1 if it is more than 2^30. The only fault
+/// is Memory.
 pub(crate) fn table_len<C: Comparator>(
     alloc: Global,
     blocks: &[PlannedBlock<'_, '_>],

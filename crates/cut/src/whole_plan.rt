@@ -21,17 +21,18 @@ use std::alloc::Global;
 use std::marker::{Model, PhantomData};
 use table::Options;
 
-/// The outputs of a compaction before a byte of them is written, seen as its options and these outputs: their numbers, their
-/// entries, the ends of their data blocks and the exact lengths of their tables.
+/// The outputs of a compaction before a byte of them is written. Of each it knows the number, the
+/// entries, the ends of its data blocks, and the exact length of its table.
 ///
-/// It holds places and lengths: keys and values stay where the runs have them.
+/// It holds places, lengths, and the last keys as they lie in their runs: keys and values stay
+/// where the runs have them, and no key is built for an entry. No contract says so.
 #[derive(Drop)]
 pub struct Plan<'r, 'a, C: Comparator> {
     pub(crate) options: Options,
     pub(crate) outputs: Vec<PlannedOutput<'r, 'a>>,
-    /// What is encoded by itself.
+    /// The pieces, each encoded by one call.
     pub(crate) pieces: Vec<Piece>,
-    /// How many pieces each output has.
+    /// The number of pieces of each output.
     pub(crate) counts: Vec<usize>,
     pub(crate) order: PhantomData<C>,
 }
@@ -48,7 +49,7 @@ impl<'r, 'a, C: Comparator> Model for Plan<'r, 'a, C> {
     ghost invariant = { λ p. IsPlan (table C.cmp C.separator_of C.successor_of p.options) p.options p.outputs.items p.pieces.items p.counts.items };
 }
 
-/// The blocks from one place to before another.
+/// The blocks at places `from` to before `to`.
 fn range_of<'p, 'r, 'a>(
     blocks: &'p [PlannedBlock<'r, 'a>],
     from: usize,
@@ -78,8 +79,9 @@ impl<'r, 'a, C: Comparator> Plan<'r, 'a, C> {
 
     /// How many pieces are to be encoded, at most 2^40. Takes no memory.
     ///
-    /// A piece is consecutive data blocks of one output, each with its trailer. Where all outputs together have fewer than 64
-    /// data blocks each is a piece; else a piece ends with the block at which its bytes reach 2^22.
+    /// A piece is consecutive data blocks of one output, each with its trailer. If all outputs
+    /// together have fewer than 64 data blocks, each block is a piece. Else a piece ends with the
+    /// block at which its bytes reach 2^22.
     pub fn jobs(&self) -> u64
         ensures number { result ≡ jobs self.now.options (lists_in self.now.outputs) }
         ensures few { result ≤ 2 ^ 40 }
@@ -87,8 +89,9 @@ impl<'r, 'a, C: Comparator> Plan<'r, 'a, C> {
         self.pieces.len() as u64
     }
 
-    /// The bytes of a piece, in memory that is asked for once: the first of an output has room for the whole table. Refused for
-    /// want of memory alone.
+    /// The bytes of the piece of number `job`. The only fault is Memory.
+    ///
+    /// The memory is asked for once; the first piece of an output has room for the whole table.
     pub fn encode(&self, alloc: Global, job: u64) -> Result<Vec<u8>, Fault>
         requires { job < jobs self.now.options (lists_in self.now.outputs) }
         ensures ok { IfOk result (λ bytes.
@@ -106,8 +109,10 @@ impl<'r, 'a, C: Comparator> Plan<'r, 'a, C> {
         encode_blocks(alloc, blocks, self.options.restart_interval, room as usize)
     }
 
-    /// The number and the table of each output, of the pieces that [`Plan::encode`] gives, in the order of their jobs. Where an
-    /// output has one piece, none of its bytes is copied. Refused for want of memory alone.
+    /// The number and the table of each output. `pieces` are those that [`Plan::encode`] answers,
+    /// in the order of their jobs. The only fault is Memory.
+    ///
+    /// If an output has one piece, none of its bytes is copied.
     pub fn assemble(
         &self,
         alloc: Global,
@@ -121,7 +126,7 @@ impl<'r, 'a, C: Comparator> Plan<'r, 'a, C> {
         assemble_all::<C>(alloc, &self.outputs, &self.counts, interval, pieces)
     }
 
-    /// What is known of the output at a place. Takes no memory.
+    /// What is known of the output at `place`. Takes no memory.
     pub fn output(&self, place: usize) -> OutputMeta<'r>
         requires { place < length self.now.outputs }
         ensures { IfSome (slice_get self.now.outputs place) (λ p. IsMetaOf p result) }

@@ -19,15 +19,16 @@ deletion_of i = record { level = i.level; number = i.meta.number }
 abbrev pub deletions_of : List InputFile → List DeletedFile
 deletions_of files = fold (insert_key deleted_cmp) [] (map deletion_of files)
 
--- an output as a new file of a level
+-- an output as a new file: its number, the length of its table, its first and last key
 abbrev pub new_file : ℕ → Planned → NewFile
 new_file level p = record {
   level = level;
   meta = record { number = p.number; size = p.length; smallest = first_key p.entries; largest = last_key [] p.entries };
 }
 
--- The edit of a compaction: the version's counters, the next file behind the outputs, the compact pointer of the level, the
--- deletion of each input, and the outputs as new files of the next level. It names no comparator.
+-- The edit of a compaction: the request's counters, as next file the number after the last
+-- output's, the compact pointer of the level, the deletion of each input, and the outputs as new
+-- files of the next level. It names no comparator.
 abbrev pub edit_of : RequestView → List Planned → Edit
 edit_of r plan = record {
   comparator = None;

@@ -15,24 +15,25 @@ use Rattle.merge.specs.Merged.{merged}
 use Rattle.pick.specs.declared.picked.InputFile.{InputFile}
 use Rattle.keep.specs.Runs.{are_distinct}
 
--- a fault that is about the input at this place
+-- a fault gets the place of the input that it is about
 abbrev pub about : {A : Type 0} → ℕ → Result A Fault → Result A Fault
 about place (Ok x) = Ok x
 about place (Err e) = Err (record e { input = Some place })
 
--- whether a table's length, first and last key are those that the version states of its file
+-- whether a table's length, first and last key are those that the version states
 abbrev pub is_stated : FileMeta → Contents → Bool
 is_stated f table =
     nat_eq f.size (length table.bytes) && bytes_eq f.smallest (first_key table.entries) && bytes_eq f.largest (last_key [] table.entries)
 
--- the entries of the table of an input, or the first test that its bytes fail: those of a table, then Bounds
+-- the entries of an input's table, or the first test that fails: those of a table, then Bounds
 abbrev pub input_reading : (List ℕ → List ℕ → Ordering) → FileMeta → List ℕ → Result (List Entry) Fault
 input_reading cmp f bytes = do
   table ← contents_reading cmp bytes
   _ ← pass (is_stated f table) Bounds
   Ok table.entries
 
--- the entries of each input, of which the first stands at this place, or the fault of the first that is refused
+-- The entries of each input, the first of which is at `place`; or the fault of the first input that
+-- is refused, with its place.
 abbrev pub inputs_reading : (List ℕ → List ℕ → Ordering) → ℕ → List InputFile → List (List ℕ) → Result (List (List Entry)) Fault
 inputs_reading cmp place (i ∷ is) (bytes ∷ others) = do
   entries ← about place (input_reading cmp i.meta bytes)
@@ -40,6 +41,6 @@ inputs_reading cmp place (i ∷ is) (bytes ∷ others) = do
   Ok (entries ∷ rest)
 inputs_reading cmp place _ _ = Ok []
 
--- the union of the inputs, or Duplicate where a user key has one sequence twice
+-- the union of the inputs; Duplicate if a user key has one sequence twice
 abbrev pub union_reading : (List ℕ → List ℕ → Ordering) → List (List Entry) → Result (List Entry) Fault
 union_reading cmp inputs = if are_distinct (merged cmp inputs) then Ok (merged cmp inputs) else Err (fault Duplicate)

@@ -19,12 +19,13 @@ pub record Answer : Type 0 where
   pub tables : List (ℕ × List ℕ)
   pub edit : List ℕ
 
--- how an output is written
+-- how the table of an output is written
 abbrev pub table_for : (List ℕ → List ℕ → Ordering) → (List ℕ → List ℕ → List ℕ) → (List ℕ → List ℕ) → RequestView → List Entry → List ℕ
 table_for cmp separator_of successor_of r = table cmp separator_of successor_of r.options
 
--- What one thread answers: the first refusal, of the request, then of the inputs in order, then Duplicate, then Numbers and
--- TooLarge of the outputs; else the table of each output, and the bytes of the edit. It knows neither ranges nor workers.
+-- What one thread answers: the first refusal of the request, then of the inputs in order, then
+-- Duplicate, then Numbers and TooLarge of the outputs. Else the table of each output with its
+-- number, and the bytes of the edit. It knows neither ranges nor workers.
 abbrev pub one_thread : (List ℕ → List ℕ → Ordering) → (List ℕ → List ℕ → List ℕ) → (List ℕ → List ℕ) → RequestView → Result Answer Fault
 one_thread cmp separator_of successor_of r = do
   _ ← request_test cmp r
@@ -33,7 +34,8 @@ one_thread cmp separator_of successor_of r = do
   plan ← plan_of (table_for cmp separator_of successor_of r) r.options r.first_number (outputs cmp (below_request r) r.options union)
   Ok (record { tables = assembled (table_for cmp separator_of successor_of r) plan; edit = edit_bytes (edit_of r plan) })
 
--- What a compaction by so many workers answers: Workers where they are not from 1 to 64, else what one thread answers.
+-- What a compaction by `workers` workers answers: Workers unless they are from 1 to 64, else what
+-- one thread answers.
 abbrev pub compacted : (List ℕ → List ℕ → Ordering) → (List ℕ → List ℕ → List ℕ) → (List ℕ → List ℕ) → ℕ → RequestView → Result Answer Fault
 compacted cmp separator_of successor_of workers r = do
   _ ← pass (nat_le 1 workers && nat_le workers 64) Workers

@@ -9,9 +9,9 @@ use Rattle.keep.specs.Marks.{LargestRise}
 use Rattle.keep.specs.Readable.{listed_of}
 use Rattle.request.specs.Request.{RequestView, request_test}
 
--- It has an input, at most 256, and a table for each; the level is one from 0 to 5, and each input is of it or of the next;
--- the options are within their limits, the largest keys of the grandparents and the listed snapshots rise strictly, and the
--- last sequence is below 2 ^ 56 - 1.
+-- What a request has that passes its tests: an input, at most 256, and a table for each; a level
+-- from 0 to 5, and inputs of it or of the next; options in their limits. The grandparents' largest
+-- keys and the listed snapshots rise strictly, and the last sequence is below 2 ^ 56 - 1.
 pub record IsPassed (cmp : List ℕ → List ℕ → Ordering) (r : RequestView) : Type 0 where
   pub some : r.picked.files ≢ []
   pub few : length r.picked.files ≤ 256

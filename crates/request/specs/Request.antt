@@ -1,4 +1,4 @@
--- What a compaction is asked for, and the tests of that.
+-- What a compaction is asked for, and its tests.
 use Rattle.std.specs.Prelude.{ℕ, ◌+◌, ◌-◌, ◌^◌, nat_eq, nat_lt, nat_le, Bool, true, ◌&&◌, ◌||◌, List, [], ◌∷◌, length, map, Result}
 use Rattle.std.specs.List.{list_all}
 use Rattle.std.specs.Ordering.{is_lt}
@@ -19,7 +19,7 @@ use Rattle.keep.specs.declared.snapshots.Snapshots.{Snapshots}
 use Rattle.keep.specs.declared.snapshots.Snapshots.TheVariants.{From, Listed}
 use Rattle.request.specs.declared.request.Request.{Request}
 
--- a request, without where its inputs and tables lie in memory
+-- a request as contracts see it: its bytes, not where they are in memory
 pub record RequestView : Type 0 where
   pub picked : Picked
   pub tables : List (List ℕ)
@@ -30,7 +30,7 @@ pub record RequestView : Type 0 where
   pub last_sequence : ℕ
   pub options : declared.Options
 
--- a request of the code
+-- the request that the code holds
 abbrev pub request_in : Request → RequestView
 request_in r = record {
   picked = picked_in r.picked.now;
@@ -43,7 +43,8 @@ request_in r = record {
   options = r.options;
 }
 
--- what merging has to know of a request: which sequences stay readable, the deeper files, and the grandparents
+-- what the drop rule needs to know of a request: the readable sequences, the deeper files, and the
+-- grandparents
 abbrev pub below_request : RequestView → Below
 below_request r = record {
   readable = readable_of r.snapshots r.last_sequence;
@@ -51,11 +52,11 @@ below_request r = record {
   grandparents = r.picked.grandparents;
 }
 
--- whether the level is one from 0 to 5, and each input is of it or of the next
+-- whether the level is from 0 to 5, and each input is of it or of the next
 abbrev pub has_levels : Picked → Bool
 has_levels p = nat_le p.level 5 && list_all (λ (i : InputFile). nat_eq i.level p.level || nat_eq i.level (p.level + 1)) p.files
 
--- whether each option is within its limits
+-- whether each option is in its limits
 abbrev pub are_in_limits : declared.Options → Bool
 are_in_limits o =
     nat_le 1 o.block_size && nat_le o.block_size 4194304
@@ -71,8 +72,8 @@ rises_by is_below _ = true
 abbrev pub largest_rise : (List ℕ → List ℕ → Ordering) → List FileMeta → Bool
 largest_rise cmp files = rises_by (λ (f g : FileMeta). is_lt (internal_cmp cmp f.largest g.largest)) files
 
--- whether the options are within their limits, the inputs are 256 at most with a table each, and the largest keys of the
--- grandparents rise
+-- whether the options are in their limits, there are at most 256 inputs with a table each, and the
+-- largest keys of the grandparents rise
 abbrev pub has_options : (List ℕ → List ℕ → Ordering) → RequestView → Bool
 has_options cmp r =
     are_in_limits r.options && nat_le (length r.picked.files) 256 && nat_eq (length r.tables) (length r.picked.files)
@@ -83,17 +84,17 @@ abbrev pub named_by : Snapshots → List ℕ
 named_by (From oldest) = oldest ∷ []
 named_by (Listed list) = list.now
 
--- Whether the snapshots and the last sequence are below 2 ^ 56 - 1. LevelDB starts its last sequence of a user key there, so
--- that a snapshot of that sequence would drop every entry.
+-- Whether the snapshots and the last sequence are below 2 ^ 56 - 1. Why: LevelDB begins the last
+-- sequence of a user key there, so such a snapshot would drop every entry.
 abbrev pub has_snapshots : RequestView → Bool
 has_snapshots r = list_all (λ n. nat_lt n (2 ^ 56 - 1)) (r.last_sequence ∷ named_by r.snapshots)
 
--- whether listed snapshots are 4,096 at most, rise strictly, and none is above the last sequence
+-- whether listed snapshots are at most 4,096, rise strictly, and none is above the last sequence
 abbrev pub is_snapshot_list : Snapshots → ℕ → Bool
 is_snapshot_list (From oldest) last = true
 is_snapshot_list (Listed list) last = nat_le (length list.now) 4096 && rises_by nat_lt list.now && list_all (λ n. nat_le n last) list.now
 
--- the tests of a request in their order
+-- the tests of a request in their order; the first refusal counts
 abbrev pub request_test : (List ℕ → List ℕ → Ordering) → RequestView → Result (Unit {0}) Fault
 request_test cmp r = do
   _ ← pass (is_some_list r.picked.files) NoInput

@@ -19,12 +19,19 @@ use std::alloc::Global;
 use std::collections::BTreeSet;
 
 impl<'a> Request<'a> {
-    /// The edit of a compaction of which these are the outputs, in order, as new files: the request's counters, the next file
-    /// behind the outputs, the compact pointer of the level, the deletions of the inputs, and the new files. It names no
-    /// comparator.
+    /// The version edit of the compaction, if `outputs` are its outputs in order. It has
     ///
-    /// The number behind the last output is at most 2^64 - 1. Refused for want of memory alone. Where the request passes its
-    /// tests, the edit can be encoded and applied.
+    /// - the request's log number, previous log number and last sequence;
+    /// - as next file the number after the last output's;
+    /// - the compact pointer of the level;
+    /// - the deletion of each input by level and number, each once;
+    /// - `outputs` as new files.
+    ///
+    /// It names no comparator. Requires that the number after the last output's is below 2^64.
+    ///
+    /// The only fault is Memory. If the request passes its test of levels and the outputs are at
+    /// levels up to 6, so is all that the edit names. So the edit of a request that passes its
+    /// tests can be encoded and applied.
     pub fn edit(&self, alloc: Global, outputs: Vec<NewFile>) -> Result<VersionEdit, Fault>
         requires { self.now.first_number + length outputs.items < 2 ^ 64 }
         ensures edit { (plan : List Planned) → outputs.items ≡ map (new_file (self.now.picked.now.level + 1)) plan →
@@ -50,7 +57,7 @@ impl<'a> Request<'a> {
     }
 }
 
-/// The deletions of inputs by level and number, each once. Refused only if memory runs out.
+/// The deletions of inputs by level and number, each once. The only fault is Memory.
 pub fn deletions_of(alloc: Global, files: &[InputFile]) -> Result<BTreeSet<DeletedFile>, Fault>
     ensures { EqualOrMemory (λ set. set.keys) result (Ok (deletions_of files.now)) }
 {
@@ -65,7 +72,7 @@ pub fn deletions_of(alloc: Global, files: &[InputFile]) -> Result<BTreeSet<Delet
     Ok(deleted)
 }
 
-/// The compact pointer of the compaction's level. Refused for want of memory alone.
+/// The compact pointer of the compaction's level. The only fault is Memory.
 fn pointer_of(alloc: Global, picked: &Inputs) -> Result<CompactPointer, Fault>
     ensures { EqualOrMemory (λ pointer. pointer) result (Ok (record { level = picked.now.level; key = picked.now.pointer.key })) }
 {

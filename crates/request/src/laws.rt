@@ -4,7 +4,7 @@ ghost use Rattle.request.specs.Passed.{PassedLaw};
 
 use ikey::Comparator;
 
-/// The law of what a request has that passes its tests. A call does nothing.
+/// The law of what each request has that passes its tests. A call does nothing.
 pub fn passed_law<C: Comparator>()
     ensures { PassedLaw C.cmp }
 {}

@@ -13,24 +13,24 @@ use keep::Snapshots;
 use pick::{InputFile, Inputs};
 use table::Options;
 
-/// How many inputs a compaction has at most.
+/// The greatest number of inputs.
 pub const MAX_INPUTS: usize = 256;
 
-/// How many snapshots a request lists at most.
+/// The greatest number of listed snapshots.
 pub const MAX_SNAPSHOTS: usize = 4_096;
 
-/// The greatest level that a compaction takes files of; its outputs go to the level below.
+/// The greatest level that is compacted. Its outputs go to level 6.
 const LAST_LEVEL: u64 = 5;
 
-/// Whether the level is one from 0 to 5, and each input is of it or of the next.
+/// Whether the level is from 0 to 5, and each input is of it or of the next.
 pub(crate) fn has_levels(picked: &Inputs) -> bool
     ensures { result ≡ has_levels (picked_in picked.now) }
 {
     picked.level <= LAST_LEVEL && are_of(&picked.files, picked.level, picked.level + 1)
 }
 
-/// Whether the options are within their limits, the inputs are 256 at most with a table each, and the largest keys of the
-/// grandparents rise strictly.
+/// Whether the options are in their limits, there are at most 256 inputs with a table each, and the
+/// largest keys of the grandparents rise strictly.
 pub(crate) fn has_options<C: Comparator>(request: &Request<'_>) -> bool
     ensures { result ≡ has_options C.cmp (request_in request.now) }
 {
@@ -40,7 +40,7 @@ pub(crate) fn has_options<C: Comparator>(request: &Request<'_>) -> bool
         && largest_rise::<C>(&request.picked.grandparents)
 }
 
-/// Whether the snapshots and the last sequence are below 2^56 - 1.
+/// Whether all snapshots and the last sequence are below 2^56 - 1.
 pub(crate) fn has_snapshots(request: &Request<'_>) -> bool
     ensures { result ≡ has_snapshots (request_in request.now) }
 {
@@ -51,7 +51,7 @@ pub(crate) fn has_snapshots(request: &Request<'_>) -> bool
         }
 }
 
-/// Whether listed snapshots are 4,096 at most, rise strictly, and none is above the last sequence.
+/// Whether listed snapshots are at most 4,096, rise strictly, and none is above the last sequence.
 pub(crate) fn is_snapshot_list(snapshots: Snapshots<'_>, last_sequence: u64) -> bool
     ensures { result ≡ is_snapshot_list snapshots.entry last_sequence }
 {
@@ -63,7 +63,7 @@ pub(crate) fn is_snapshot_list(snapshots: Snapshots<'_>, last_sequence: u64) -> 
     }
 }
 
-/// Whether each input is of one level or of another.
+/// Whether each input is of `level` or of `next`.
 fn are_of(files: &[InputFile], level: u64, next: u64) -> bool
     ensures { result ≡ list_all (λ (i : InputFile). nat_eq i.level level || nat_eq i.level next) files.now }
 {
@@ -72,7 +72,7 @@ fn are_of(files: &[InputFile], level: u64, next: u64) -> bool
         .all(|input| input.level == level || input.level == next)
 }
 
-/// Whether each option is within its limits.
+/// Whether each option is in its limits.
 fn are_in_limits(options: &Options) -> bool
     ensures { result ≡ are_in_limits options.now }
 {
@@ -86,21 +86,21 @@ fn largest_rise<C: Comparator>(files: &[FileMeta]) -> bool
     keep::largest_rise::<C>(files)
 }
 
-/// Whether numbers are below a limit.
+/// Whether all `numbers` are below `limit`.
 fn are_below(numbers: &[u64], limit: u64) -> bool
     ensures { result ≡ list_all (λ n. nat_lt n limit) numbers.now }
 {
     numbers.iter().all(|number| *number < limit)
 }
 
-/// Whether numbers rise strictly.
+/// Whether `numbers` rise strictly.
 fn rise(numbers: &[u64]) -> bool
     ensures { result ≡ rises_by nat_lt numbers.now }
 {
     keep::is_rising(numbers)
 }
 
-/// Whether none of the numbers is above a limit.
+/// Whether no number is above `limit`.
 fn are_at_most(numbers: &[u64], limit: u64) -> bool
     ensures { result ≡ list_all (λ n. nat_le n limit) numbers.now }
 {

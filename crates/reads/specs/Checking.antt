@@ -1,4 +1,4 @@
--- What is tested of a version's files, one by one and two by two.
+-- What is tested of a version's files, one by one and in order.
 use Rattle.std.specs.Prelude.{◌≡◌, ℕ, ◌+◌, ◌-◌, ◌<◌, nat_lt, nat_le, nat_eq, Bool, true, false, not, ◌&&◌, ◌||◌, if◌then◌else◌, List, length, map, slice_get, slice_index_or, Option, Some, None, Ok, AllPairs, Contains}
 use Rattle.std.specs.List.{IsDistinct}
 use Rattle.std.specs.Option.{option_map, option_map_or}
@@ -23,30 +23,31 @@ use Rattle.reads.specs.Lawful.{IsFileOf, IsBelowNext, AreDistinct}
 abbrev pub file_in : LevelFile → NewFile
 file_in f = record { level = f.level; meta = f.meta.now }
 
--- whether a user key is at or after a range's lower bound, where it has one
+-- whether a user key is at or after a range's lower bound, if it has one
 abbrev pub is_from : (List ℕ → List ℕ → Ordering) → KeyRange → List ℕ → Bool
 is_from cmp range user = option_map_or (λ lower. not (is_lt (cmp user lower))) range.lower true
 
--- whether it is before its upper bound, where it has one
+-- whether a user key is before a range's upper bound, if it has one
 abbrev pub is_before_end : (List ℕ → List ℕ → Ordering) → KeyRange → List ℕ → Bool
 is_before_end cmp range user = option_map_or (λ upper. is_lt (cmp user upper)) range.upper true
 
--- Whether a key that comes next in the order of keys is of the user key of the one before it, and comes of a list before the one
--- of that or has no lower sequence.
+-- Whether the next key in a merge breaks the order after the last one: it has the same user key,
+-- and comes from an earlier list or has no lower sequence.
 abbrev pub steps_back : List ℕ → ℕ → List ℕ → ℕ → Bool
 steps_back last place key next = bytes_eq (user_of key) (user_of last) && (nat_lt next place || nat_le (sequence_of last) (sequence_of key))
 
--- whether a number is below the next one, where there is one
+-- whether a number is below next file; false if next file was never set
 abbrev pub is_below : Option ℕ → ℕ → Bool
 is_below None number = false
 is_below (Some next) number = nat_lt number next
 
--- whether the version states this length, first key and last key of a file, whose number is below the next one
+-- whether the version states this length, first key and last key of a file, and its number is below
+-- next file
 abbrev pub is_stated : Option ℕ → FileMeta → ℕ → List ℕ → List ℕ → Bool
 is_stated next f size smallest largest =
     is_below next f.number && has_bounds f size smallest largest
 
--- a file is what the version states of it, and its number is below the next one
+-- a file's table is what the version states, and its number is below next file
 pub record IsStatedFile (cmp : List ℕ → List ℕ → Ordering) (tables : List Numbered) (next : Option ℕ) (f : FileMeta) : Type 0 where
   pub table : Contents
   pub there : table_of tables f.number ≡ Some table
@@ -63,8 +64,8 @@ pub record IsSoundFile (cmp : List ℕ → List ℕ → Ordering) (tables : List
   pub below_next : IsBelowNext next f.number
   pub distinct : AllPairs AreDistinct (table_entries tables f.number)
 
--- whether a file stands before another: at a shallower level, or at level 0 with the higher number, or at one level from 1
--- on with a range of internal keys below that of the other
+-- Whether a file comes before another: it is at a shallower level, or at level 0 with the higher
+-- number, or at one level from 1 on with a range of internal keys below that of the other.
 abbrev pub stands_before : (List ℕ → List ℕ → Ordering) → NewFile → NewFile → Bool
 stands_before cmp f g =
     nat_lt f.level g.level
@@ -74,7 +75,7 @@ stands_before cmp f g =
 abbrev pub same_file : NewFile → NewFile → Bool
 same_file f g = nat_eq f.meta.number g.meta.number
 
--- these are all files of a version, whose numbers are apart, each once
+-- the listed files are all files of a version, each once, and no two have one number
 pub record AreAll (files listed : List NewFile) : Type 0 where
   pub apart : are_apart files ≡ true
   pub distinct : IsDistinct same_file listed
@@ -85,15 +86,16 @@ pub record AreAll (files listed : List NewFile) : Type 0 where
 abbrev pub rank_of : NewFile → ℕ
 rank_of f = if nat_eq f.level 0 then f.meta.number else 0
 
--- files as they stand one before the other: by level, those of level 0 by falling number, and those of the others by smallest key
+-- The order of files, newer entries first: by level, at level 0 by falling number, at each other
+-- level by smallest key.
 abbrev pub standing_cmp : (List ℕ → List ℕ → Ordering) → NewFile → NewFile → Ordering
 standing_cmp cmp f g = ordering_then (nat_cmp f.level g.level) (ordering_then (nat_cmp (rank_of g) (rank_of f)) (internal_cmp cmp f.meta.smallest g.meta.smallest))
 
--- these are all files of a version, in that order
+-- the listed files are all files of a version, in that order
 pub record AreListed (cmp : List ℕ → List ℕ → Ordering) (files : List NewFile) (listed : List LevelFile) : Type 0 where
   pub all : AreAll files (map file_in listed)
   pub sorted : IsSortedBy (λ f g. is_lt (standing_cmp cmp (file_in f) (file_in g))) listed
 
--- each file stands before the one behind it
+-- each file comes before the next one
 abbrev pub AreInTurn : (List ℕ → List ℕ → Ordering) → List LevelFile → Type 0
 AreInTurn cmp listed = (k : ℕ) (d : LevelFile) → k + 1 < length listed → stands_before cmp (file_in (slice_index_or listed k d)) (file_in (slice_index_or listed (k + 1) d)) ≡ true

@@ -9,11 +9,11 @@ use Rattle.block.specs.Piece.{Entry}
 use Rattle.edit.specs.Version.{State}
 use Rattle.reads.specs.Tables.{Numbered, all_entries}
 
--- whether an entry is of a user key, with a sequence of at most this
+-- whether an entry has this user key, and a sequence of at most `at`
 abbrev pub is_visible : List ℕ → ℕ → Entry → Bool
 is_visible user at e = bytes_eq (user_of e.key) user && nat_le (sequence_of e.key) at
 
--- an entry, or another one where that has a greater sequence
+-- of two entries the one of the greater sequence; the first if they are equal
 abbrev pub newer : Entry → Option Entry → Entry
 newer e None = e
 newer e (Some other) = if nat_lt (sequence_of e.key) (sequence_of other.key) then other else e
@@ -23,16 +23,17 @@ abbrev pub newest : List Entry → Option Entry
 newest [] = None
 newest (e ∷ es) = Some (newer e (newest es))
 
--- the value that an entry gives its user key; none where it is a deletion
+-- the value of an entry of this kind; None for a deletion
 abbrev pub value_by : Kind → List ℕ → Option (List ℕ)
 value_by Put value = Some value
 value_by Delete value = None
 
+-- the value of an entry; None if it is a deletion
 abbrev pub value_in : Entry → Option (List ℕ)
 value_in e = value_by (kind_of e.key) e.value
 
--- What a version answers of a user key at a sequence: of all entries of the user key in all tables of the version with a
--- sequence of at most that one, the value of the one of the greatest sequence; none where it is a deletion, or where there
--- is no such entry.
+-- What a version answers of a user key at a sequence: of all its entries in all tables of the
+-- version with a sequence of at most that, the value of the one of the greatest sequence. None if
+-- that is a deletion, or if there is no such entry.
 abbrev pub get_of : State → List Numbered → List ℕ → ℕ → Option (List ℕ)
 get_of v tables user at = option_and_then value_in (newest (filter (is_visible user at) (all_entries tables v.files)))

@@ -17,8 +17,8 @@ use Rattle.edit.specs.declared.meta.FileMeta.{FileMeta}
 use Rattle.edit.specs.declared.meta.NewFile.{NewFile}
 use Rattle.reads.specs.Tables.{Numbered, table_of, table_entries, all_entries, tables_test}
 
--- A file's table is there and accepted: its bytes read as just that table, whose entries have internal keys that rise
--- strictly; and its length, its first and its last key are those that the version states.
+-- A file's table is there and accepted: its bytes read as just that table, and its internal keys
+-- rise strictly. Its length, first and last key are those that the version states.
 pub record IsFileOf (cmp : List ℕ → List ℕ → Ordering) (tables : List Numbered) (f : FileMeta) : Type 0 where
   pub table : Contents
   pub there : table_of tables f.number ≡ Some table
@@ -29,33 +29,34 @@ pub record IsFileOf (cmp : List ℕ → List ℕ → Ordering) (tables : List Nu
   pub smallest : option_map (λ e. e.key) (slice_get table.entries 0) ≡ Some f.smallest
   pub largest : option_map (λ e. e.key) (slice_get table.entries (length table.entries - 1)) ≡ Some f.largest
 
--- the number is below next file; no number is where next file was never set
+-- the number is below next file; no number is if next file was never set
 abbrev pub IsBelowNext : Option ℕ → ℕ → Type 0
 IsBelowNext None number = ⊥
 IsBelowNext (Some next) number = number < next
 
--- the ranges of internal keys of two files don't overlap
+-- the ranges of internal keys of two files are disjoint
 abbrev pub AreDisjoint : (List ℕ → List ℕ → Ordering) → FileMeta → FileMeta → Type 0
 AreDisjoint cmp f g = (internal_cmp cmp f.largest g.smallest ≡ Less) ⊎ (internal_cmp cmp g.largest f.smallest ≡ Less)
 
--- two entries are not of one user key with one sequence
+-- two entries don't have one user key and one sequence
 abbrev pub AreDistinct : Entry → Entry → Type 0
 AreDistinct a b = user_of a.key ≡ user_of b.key → sequence_of a.key ≢ sequence_of b.key
 
--- each of the newer entries has a greater sequence than each of the older ones of its user key
+-- of one user key, each newer entry has a greater sequence than each older one
 abbrev pub AreNewer : List Entry → List Entry → Type 0
 AreNewer newer older = All (λ a. All (λ b. user_of a.key ≡ user_of b.key → sequence_of b.key < sequence_of a.key) older) newer
 
--- a file stands above another: at a shallower level, or both at level 0 and it has the higher number
+-- a file is above another: at a shallower level, or both at level 0 and it has the higher number
 abbrev pub StandsAbove : NewFile → NewFile → Type 0
 StandsAbove f g = (f.level < g.level) ⊎ ((f.level ≡ 0) × (g.level ≡ 0) × (g.meta.number < f.meta.number))
 
 -- A version is lawful with these tables:
--- each file's table is accepted and is what the version states of it;
--- each number stands once, and is below next file;
--- the files of each level from 1 on have disjoint ranges of internal keys;
--- no user key has one sequence twice in all tables;
--- of one user key, the entries of a file have greater sequences than those of each file that it stands above.
+-- - each file's table is accepted and is what the version states of it;
+-- - each number is there once, and is below next file;
+-- - the files of each level from 1 on have disjoint ranges of internal keys;
+-- - no user key has one sequence twice in all tables;
+-- - of one user key, the entries of a file have greater sequences than those of each file that it
+--   is above.
 pub record IsLawful (cmp : List ℕ → List ℕ → Ordering) (v : State) (tables : List Numbered) : Type 0 where
   pub files : All (λ f. IsFileOf cmp tables f.meta) v.files
   pub apart : are_apart v.files ≡ true
@@ -66,7 +67,7 @@ pub record IsLawful (cmp : List ℕ → List ℕ → Ordering) (v : State) (tabl
   pub newer_above : (f g : NewFile) → Contains v.files f → Contains v.files g → StandsAbove f g
       → AreNewer (table_entries tables f.meta.number) (table_entries tables g.meta.number)
 
--- why a version isn't found lawful: a file has no table, or else the version isn't lawful
+-- why a version is refused: Missing if a file has no table, else Lawless if it isn't lawful
 abbrev pub IsUnlawful : (List ℕ → List ℕ → Ordering) → State → List Numbered → Fault → Type 0
 IsUnlawful cmp v tables e =
     (tables_test tables v.files ≡ Err e) ⊎ ((tables_test tables v.files ≡ Ok tt) × (e ≡ fault Lawless) × (IsLawful cmp v tables → ⊥))

@@ -1,11 +1,11 @@
--- Tables, found by the entries of a map from their numbers to their places.
+-- Tables, found by a map from their numbers to their places.
 use Rattle.std.specs.Prelude.{◌≡◌, ℕ, suc, nat_eq, if◌then◌else◌, List, [], ◌∷◌, Option, Some, None}
 use Rattle.std.specs.Map.{lookup}
 use Rattle.std.specs.Ordering.{nat_cmp}
 use Rattle.std.specs.BTreeMap.{is_at}
 use Rattle.reads.specs.Tables.{Numbered}
 
--- the place of the first table of a number, where the first of all is at this place
+-- the place of the first table of a number, if the first of all is at `place`
 abbrev pub first_place : List Numbered → ℕ → ℕ → Option ℕ
 first_place [] place number = None
 first_place (t ∷ tables) place number = if nat_eq t.number number then Some place else first_place tables (suc place) number

@@ -14,11 +14,11 @@ pub record Numbered : Type 0 where
   pub number : ℕ
   pub contents : Contents
 
--- the table of a number: the first of them, where several have it
+-- the table of a number: the first that has it
 abbrev pub table_of : List Numbered → ℕ → Option Contents
 table_of tables number = option_map (λ t. t.contents) (find (λ t. nat_eq t.number number) tables)
 
--- the entries of the table of a number; none where there is no such table
+-- the entries of the table of a number; none if there is no such table
 abbrev pub table_entries : List Numbered → ℕ → List Entry
 table_entries tables number = option_map_or (λ t. t.entries) (table_of tables number) []
 
@@ -26,6 +26,6 @@ table_entries tables number = option_map_or (λ t. t.entries) (table_of tables n
 abbrev pub all_entries : List Numbered → List NewFile → List Entry
 all_entries tables files = flat_map (λ f. table_entries tables f.meta.number) files
 
--- Missing where one of the files has no table
+-- Missing if one of the files has no table
 abbrev pub tables_test : List Numbered → List NewFile → Result (Unit {0}) Fault
 tables_test tables files = if list_all (λ f. is_some (table_of tables f.meta.number)) files then Ok tt else Err (fault Missing)

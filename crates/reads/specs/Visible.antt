@@ -5,23 +5,25 @@ use Rattle.ikey.specs.Key.{user_of, sequence_of, kind_of}
 use Rattle.block.specs.Piece.{Entry}
 use Rattle.reads.specs.declared.found.Found.{Found}
 
--- what is seen of an entry
+-- what is found of an entry: its sequence, kind and value
 pub record Visible : Type 0 where
   pub sequence : ℕ
   pub kind : Kind
   pub value : List ℕ
 
+-- what a search finds of an entry
 abbrev pub visible_of : Entry → Visible
 visible_of e = record { sequence = sequence_of e.key; kind = kind_of e.key; value = e.value }
 
+-- what a search found
 abbrev pub visible_in : Found → Visible
 visible_in f = record { sequence = f.sequence; kind = f.kind; value = f.value.now }
 
--- an entry is of a user key, with a sequence of at most this
+-- an entry has this user key, and a sequence of at most `at`
 abbrev pub IsVisible : List ℕ → ℕ → Entry → Type 0
 IsVisible user at e = (user_of e.key ≡ user) × (sequence_of e.key ≤ at)
 
--- this is seen of one of the visible entries, and none of them has a greater sequence
+-- this was found of one of the visible entries, and none of them has a greater sequence
 pub record IsNewest (entries : List Entry) (user : List ℕ) (at : ℕ) (seen : Visible) : Type 0 where
   pub entry : Entry
   pub there : Contains entries entry
@@ -29,12 +31,12 @@ pub record IsNewest (entries : List Entry) (user : List ℕ) (at : ℕ) (seen : 
   pub is : visible_of entry ≡ seen
   pub most : (e : Entry) → Contains entries e → IsVisible user at e → sequence_of e.key ≤ seen.sequence
 
--- what is seen of the visible entry of the greatest sequence, or that no entry is visible
+-- what was found is the visible entry of the greatest sequence, or no entry is visible
 abbrev pub IsAnswer : List Entry → List ℕ → ℕ → Option Visible → Type 0
 IsAnswer entries user at None = (e : Entry) → Contains entries e → IsVisible user at e → ⊥
 IsAnswer entries user at (Some seen) = IsNewest entries user at seen
 
--- the one of the greater sequence, the first where they are equal
+-- the one of the greater sequence; the first if they are equal
 abbrev pub newer_visible : Option Visible → Option Visible → Option Visible
 newer_visible None other = other
 newer_visible (Some first) None = Some first

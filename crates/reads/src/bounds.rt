@@ -6,8 +6,8 @@ ghost use Rattle.reads.specs.Bounds.{has_bounds};
 use edit::FileMeta;
 use ikey::InternalKey;
 
-/// Whether a version states this length, this first key and this last key of a file. Takes no
-/// memory.
+/// Whether the version states of `file` the length of `bytes`, and these smallest and largest keys.
+/// Takes no memory.
 pub fn has_bounds(
     file: &FileMeta,
     bytes: &[u8],

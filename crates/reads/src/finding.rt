@@ -20,7 +20,7 @@ use ikey::{Comparator, InternalKey};
 use std::alloc::Global;
 use table::{Cursor, SoundTable, TableCursor};
 
-/// How many levels there are: 0 to 6.
+/// The number of levels: 0 to 6.
 pub(crate) const LEVELS: u64 = 7;
 
 /// Whether each of the files has a table.
@@ -36,7 +36,7 @@ fn have_tables<C: Comparator>(files: &[&FileMeta], tables: &TablePlaces<'_, '_, 
     true
 }
 
-/// `Missing` where a file of the version has no table. Else refused for want of memory alone.
+/// Missing if a file of the version has no table. Else the only fault is Memory.
 pub(crate) fn tables_test<C: Comparator>(
     alloc: Global,
     version: &Version,
@@ -53,10 +53,10 @@ pub(crate) fn tables_test<C: Comparator>(
     Ok(())
 }
 
-/// The first entry of a table at or above an internal key that is a value, where it is of the same user key: of the
-/// entries of that user key with the sequence of that key or a lower one, that of the greatest sequence.
+/// The newest entry of a user key that a sequence sees, in one table; None if there is none.
 ///
-/// Refused for want of memory alone.
+/// `target` is that user key and sequence, as a put. The first entry at or above it is that entry,
+/// if it has the same user key. The only fault is Memory.
 pub(crate) fn newest_in_table<'a, C: Comparator>(
     alloc: Global,
     table: &SoundTable<'a, C>,
@@ -72,13 +72,13 @@ pub(crate) fn newest_in_table<'a, C: Comparator>(
     Ok(first_of_user(&cursor, target))
 }
 
-/// What a cursor's first entry has, where it is of the user key of an internal key.
+/// The cursor's first entry, if it has the user key of `target`.
 fn first_of_user<'a, C: Comparator>(
     cursor: &TableCursor<'a, C>,
     target: InternalKey<'_>,
 ) -> Option<Found<'a>>
     requires { kind_of target.bytes.now ≡ Put }
-    // Where it was sought in entries, it is what they answer.
+    // After a seek in a table's entries it is their answer.
     ensures { (entries : List Entry) → cursor.now ≡ entries_from C.cmp target.entry.bytes.now entries →
         IsAnswer entries (user_of target.entry.bytes.now) (sequence_of target.entry.bytes.now) (option_map visible_in result) }
 {

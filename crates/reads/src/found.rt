@@ -1,4 +1,4 @@
-//! An entry that was found.
+//! What was found of an entry.
 
 ghost use Rattle.std.specs.Prelude.{◌≡◌};
 ghost use Rattle.std.specs.Option.{option_map};
@@ -6,7 +6,7 @@ ghost use Rattle.reads.specs.Gets.{value_by};
 
 use ikey::Kind;
 
-/// What an entry has for its user key, and its sequence.
+/// The sequence, the kind and the value of an entry. Its user key is known.
 #[derive(Clone, Copy)]
 pub(crate) struct Found<'a> {
     /// Below 2^56.
@@ -18,7 +18,7 @@ pub(crate) struct Found<'a> {
 }
 
 impl<'a> Found<'a> {
-    /// The value; none where the entry is a deletion.
+    /// The value; None if the entry is a deletion.
     pub fn held(self) -> Option<&'a [u8]>
         ensures { option_map (λ value. value.now) result ≡ value_by self.entry.kind self.entry.value.now }
     {

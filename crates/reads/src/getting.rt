@@ -1,4 +1,9 @@
 //! What a version answers of a user key.
+//!
+//! (1) It goes from level to level, and stops at the first level that has an entry. Why: of one
+//!     user key, entries at shallower levels are newer, if the version is lawful.
+//! (2) At a level it looks into the tables whose range of user keys holds the key, and takes the
+//!     entry of the greatest sequence. Why: tables of level 0 overlap.
 
 ghost use Rattle.std.specs.Prelude.{◌≡◌, ◌≤◌, ◌&&◌, true, map, Ok, IfOk, IfErr};
 ghost use Rattle.std.specs.List.{list_all, All, flat_map};
@@ -22,15 +27,17 @@ use edit::{FileMeta, Version};
 use ikey::{Comparator, InternalKey, KeyBuf, Kind, MAX_SEQUENCE, MAX_USER_KEY};
 use std::alloc::Global;
 
-/// The value of a user key at a sequence: of all entries of the user key with a sequence of at most `at` in the version's
-/// tables, the value of the one of the greatest sequence. None where that is a deletion, or where there is no such entry.
+/// The value of the user key `key` at the sequence `at`. Of all its entries in the version's tables
+/// with a sequence of at most `at`, the one of the greatest sequence answers. None if that is a
+/// deletion, or if there is no such entry.
 ///
-/// The table of a file is the first in the list that has its number. `Missing` where a file of the version has no table;
-/// else refused for want of memory alone. In a version that isn't lawful the answer may be another.
+/// The table of a file is the first in `tables` that has its number.
 ///
-/// It goes from level to level, looks into the tables whose range of user keys holds the key, and stops at the first level
-/// that has an entry. It copies no value, and takes the memory of one key, of a place for each table, of a level's list of
-/// files, and of a cursor.
+/// Faults: Missing if a file of the version has no table, else only Memory. If the version isn't
+/// lawful, the answer may be another.
+///
+/// It copies no value. It takes the memory of one key, of a place for each table, of a level's list
+/// of files, and of a cursor; no contract says so.
 pub fn get<'a, C: Comparator>(
     alloc: Global,
     version: &Version,
@@ -46,7 +53,7 @@ pub fn get<'a, C: Comparator>(
     get_among(alloc, version, &tables, key, at)
 }
 
-/// The same, of tables whose places are known.
+/// As [`get`], of tables whose places are known.
 fn get_among<'a, C: Comparator>(
     alloc: Global,
     version: &Version,
@@ -69,9 +76,8 @@ fn get_among<'a, C: Comparator>(
     Ok(found.held())
 }
 
-/// The newest entry of a user key that a sequence sees, at the first level that has one.
-///
-/// Refused for want of memory alone.
+/// The newest entry of a user key that a sequence sees, at the first level that has one. `target`
+/// is both, as a put. The only fault is Memory.
 fn newest_in_version<'a, C: Comparator>(
     alloc: Global,
     version: &Version,
@@ -95,9 +101,8 @@ fn newest_in_version<'a, C: Comparator>(
     Ok(None)
 }
 
-/// The newest entry of a user key that a sequence sees, among the files of a level.
-///
-/// It looks into the tables whose range of user keys holds the key. Refused for want of memory alone.
+/// The newest entry of a user key that a sequence sees, among the files of a level. `target` is
+/// both, as a put. The only fault is Memory.
 fn newest_at_level<'a, C: Comparator>(
     alloc: Global,
     files: &[&FileMeta],
@@ -124,7 +129,7 @@ fn newest_at_level<'a, C: Comparator>(
     Ok(newest)
 }
 
-/// The entry of the greater sequence, the first where they are equal.
+/// The entry of the greater sequence; the first if they are equal.
 fn newer<'a>(one: Option<Found<'a>>, other: Option<Found<'a>>) -> Option<Found<'a>>
     ensures { option_map visible_in result
         ≡ newer_visible (option_map visible_in one.entry) (option_map visible_in other.entry) }
@@ -136,7 +141,7 @@ fn newer<'a>(one: Option<Found<'a>>, other: Option<Found<'a>>) -> Option<Found<'
     }
 }
 
-/// Whether a user key lies in the file's range of user keys.
+/// Whether the file's range of user keys holds `user`.
 fn may_hold<C: Comparator>(file: &FileMeta, user: &[u8]) -> bool
     ensures { result ≡ (is_le (C.cmp (user_of file.now.smallest) user.now)
         && is_le (C.cmp user.now (user_of file.now.largest))) }

@@ -1,4 +1,9 @@
 //! Whether a version is lawful.
+//!
+//! The files are ordered so that newer entries of a user key come first: by level, at level 0 by
+//! falling number, at each other level by smallest key. Then a version is lawful if each file is
+//! what the version states, each comes before the next one, and of each user key the sequences fall
+//! through all tables.
 
 ghost use Rattle.std.specs.Prelude.{◌≡◌, ◌↔◌, ◌≤◌, true, map, Ok, IsTrue, IfOk, IfErr, OnOk, ◌++◌, length};
 ghost use Rattle.std.specs.List.{All};
@@ -27,20 +32,23 @@ use std::alloc::Global;
 use std::cmp::Ordering;
 use table::{SoundTable, TableCursor};
 
-/// Whether a version is lawful with these tables:
+/// Whether the version is lawful with these tables:
 ///
 /// - each file's size, smallest and largest key are those of its table;
-/// - each number is below next file;
+/// - each number is there once, and below next file;
 /// - the files of each level from 1 on have disjoint ranges of internal keys;
 /// - no user key has one sequence twice in the whole version;
-/// - of one user key, each entry at a shallower level has a greater sequence than each at a deeper level, and at level 0
-///   each entry in a file of higher number has a greater one than each in a file of lower number.
+/// - of one user key, each entry at a shallower level has a greater sequence than each at a deeper
+///   one;
+/// - the same at level 0 of entries in a file of higher number and in one of lower number.
 ///
-/// The table of a file is the first in the list that has its number. `Missing` where a file of the version has no table,
-/// before all else; `Lawless` where the version isn't lawful; else refused for want of memory alone.
+/// The table of a file is the first in `tables` that has its number.
 ///
-/// It walks over all tables once, in the order of their keys: an entry takes a time that grows with the logarithm of the number
-/// of files.
+/// Faults: Missing if a file of the version has no table; else Lawless if the version isn't lawful;
+/// else only Memory.
+///
+/// It walks over all tables once, in the order of their keys. An entry takes a time that grows with
+/// the logarithm of the number of files; no contract says so.
 pub fn lawful<C: Comparator>(
     alloc: Global,
     version: &Version,
@@ -60,11 +68,11 @@ pub fn lawful<C: Comparator>(
     Ok(())
 }
 
-/// A version's tables as they stand one before the other, those whose entries are newer first: by level, those of level 0 by falling
-/// number, and those of each other level by smallest key.
+/// The version's tables, those with newer entries first: by level, at level 0 by falling number, at
+/// each other level by smallest key.
 ///
-/// Refused as `lawful` refuses it where the version isn't lawful, but that it looks at no entry between a table's first and its last
-/// one: whether the entries of one user key stand in order is left (`falls_in`).
+/// It makes all tests of [`lawful`] but one, which [`falls_in`] makes: that of each user key the
+/// sequences fall through these tables. Faults as of `lawful`, for these tests.
 pub fn standing_tables<'t, 'a, C: Comparator>(
     alloc: Global,
     version: &Version,
@@ -78,7 +86,7 @@ pub fn standing_tables<'t, 'a, C: Comparator>(
     standing_among(alloc, version, &tables)
 }
 
-/// The same, of tables whose places are known.
+/// As [`standing_tables`], of tables whose places are known.
 fn standing_among<'t, 'a, C: Comparator>(
     alloc: Global,
     version: &Version,
@@ -99,7 +107,7 @@ fn standing_among<'t, 'a, C: Comparator>(
     tables_of(alloc, &files, tables)
 }
 
-/// Appends the files of a level. Refused for want of memory alone.
+/// Appends the files of a level. The only fault is Memory.
 fn push_level<'v>(
     all: &mut Vec<LevelFile<'v>>,
     level: u64,
@@ -115,7 +123,7 @@ fn push_level<'v>(
     Ok(())
 }
 
-/// All files of a version, level by level. Refused for want of memory alone.
+/// All files of a version, level by level. The only fault is Memory.
 fn all_files<'v, C: Comparator>(
     alloc: Global,
     version: &'v Version,
@@ -137,7 +145,8 @@ fn rank_of(file: &LevelFile<'_>) -> u64
     if file.level == 0 { file.meta.number } else { 0 }
 }
 
-/// How files stand one before the other: by level, those of level 0 by falling number, and those of the others by smallest key.
+/// The order of files, newer entries first: by level, at level 0 by falling number, at each other
+/// level by smallest key.
 fn standing_order<C: Comparator>(file: &LevelFile<'_>, other: &LevelFile<'_>) -> Ordering
     ensures { result ≡ standing_cmp C.cmp (file_in file.now) (file_in other.now) }
 {
@@ -148,7 +157,7 @@ fn standing_order<C: Comparator>(file: &LevelFile<'_>, other: &LevelFile<'_>) ->
     levels.then(ranks.then(keys))
 }
 
-/// All files of a version as they stand one before the other. Refused for want of memory alone.
+/// All files of a version in that order. The only fault is Memory.
 fn listed_files<'v, C: Comparator>(
     alloc: Global,
     version: &'v Version,
@@ -161,7 +170,7 @@ fn listed_files<'v, C: Comparator>(
     Ok(files)
 }
 
-/// Whether a number is below the next one, where there is one.
+/// Whether `number` is below `next`; false if there is no `next`.
 fn is_below(next: Option<u64>, number: u64) -> bool
     ensures { result ≡ is_below next number }
 {
@@ -171,7 +180,8 @@ fn is_below(next: Option<u64>, number: u64) -> bool
     }
 }
 
-/// Whether a version states a table's length, its first and its last key, and a number below the next one.
+/// Whether the version states of `file` the length of `bytes` and these keys, and its number is
+/// below `next`.
 fn is_stated(
     next: Option<u64>,
     file: &FileMeta,
@@ -202,7 +212,7 @@ fn is_as_stated<C: Comparator>(
     is_stated(next, file, table.bytes(), smallest, largest)
 }
 
-/// Whether that holds of each file.
+/// Whether each file's table is what the version states.
 fn are_as_stated<C: Comparator>(
     files: &[LevelFile<'_>],
     tables: &TablePlaces<'_, '_, C>,
@@ -219,8 +229,9 @@ fn are_as_stated<C: Comparator>(
     true
 }
 
-/// Whether a file stands before another, whose entries are then older: at a shallower level, at level 0 with the higher
-/// number, and at one level from 1 on with a range of internal keys below that of the other.
+/// Whether `file` comes before `other`, so that its entries of one user key are the newer ones: it
+/// is at a shallower level, or at level 0 with the higher number, or at one level from 1 on with a
+/// range of internal keys below that of the other.
 fn stands_before<C: Comparator>(file: &LevelFile<'_>, other: &LevelFile<'_>) -> bool
     ensures { result ≡ stands_before C.cmp (file_in file.now) (file_in other.now) }
 {
@@ -235,7 +246,7 @@ fn stands_before<C: Comparator>(file: &LevelFile<'_>, other: &LevelFile<'_>) -> 
             })
 }
 
-/// Whether each file stands before the one behind it.
+/// Whether each file comes before the next one.
 fn are_in_turn<C: Comparator>(files: &[LevelFile<'_>]) -> bool
     ensures { IsTrue result ↔ AreInTurn C.cmp files.now }
 {
@@ -247,7 +258,7 @@ fn are_in_turn<C: Comparator>(files: &[LevelFile<'_>]) -> bool
     true
 }
 
-/// The table of each file. Refused for want of memory alone.
+/// The table of each file. The only fault is Memory.
 fn tables_of<'t, 'a, C: Comparator>(
     alloc: Global,
     files: &[LevelFile<'_>],
@@ -268,7 +279,7 @@ fn tables_of<'t, 'a, C: Comparator>(
     Ok(found)
 }
 
-/// A cursor over each table. Refused for want of memory alone.
+/// A cursor over each table. The only fault is Memory.
 fn cursors_over<'a, C: Comparator>(
     alloc: Global,
     tables: &[&SoundTable<'a, C>],

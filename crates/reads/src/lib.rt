@@ -1,7 +1,17 @@
 //! What a version answers, and whether it is lawful.
 //!
-//! A version with its tables answers the value of a user key at a sequence. It is lawful where its tables are what it
-//! states of them, and the newer entries of each user key stand above the older ones.
+//! 1. A [`NumberedTable`] is a checked table with the number of its file.
+//! 2. [`lawful`] tests a version with its tables: each table is what the version states of it, and
+//!    of each user key newer entries are above older ones.
+//! 3. [`standing_tables`] and [`falls_in`] make the same test in parts, so that workers may share
+//!    it.
+//! 4. [`get`] answers the value of a user key at a sequence.
+//!
+//! [`has_bounds`] tests what a version states of a file. [`answers_newest_first`] is the law that
+//! the entries of a user key answer a get, the newest first.
+//!
+//! No contract says how long these calls take. Of a version that isn't lawful, no contract says
+//! which value `get` answers.
 #![tactic(auto)]
 
 mod bounds;

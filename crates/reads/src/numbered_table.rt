@@ -6,7 +6,7 @@ use ikey::Comparator;
 use std::marker::Model;
 use table::SoundTable;
 
-/// A table that was checked, and the number of the file that it is. Contracts see the number and what the table holds.
+/// A checked table, and the number of its file. Contracts see the number and what the table holds.
 #[derive(Drop)]
 pub struct NumberedTable<'a, C: Comparator> {
     number: u64,
@@ -22,14 +22,14 @@ impl<'a, C: Comparator> Model for NumberedTable<'a, C> {
 }
 
 impl<'a, C: Comparator> NumberedTable<'a, C> {
-    /// The table of a number.
+    /// The table of the file `number`.
     pub fn of(number: u64, table: SoundTable<'a, C>) -> NumberedTable<'a, C>
         ensures { result ≡ record { number = number; contents = table.entry } }
     {
         NumberedTable { number, table }
     }
 
-    /// The number in the table's name.
+    /// The number of the file.
     pub fn number(&self) -> u64
         ensures { result ≡ self.now.number }
     {

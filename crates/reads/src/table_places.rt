@@ -17,7 +17,7 @@ use table::SoundTable;
 
 /// Tables, with the place of the first one of each number. Contracts see the tables.
 ///
-/// A table is found in a time that grows with the logarithm of their number.
+/// A table is found in a time that grows with the logarithm of their number; no contract says so.
 #[derive(Drop)]
 pub(crate) struct TablePlaces<'t, 'a, C: Comparator> {
     tables: &'t [NumberedTable<'a, C>],
@@ -37,7 +37,7 @@ impl<'t, 'a, C: Comparator> Model for TablePlaces<'t, 'a, C> {
 }
 
 impl<'t, 'a, C: Comparator> TablePlaces<'t, 'a, C> {
-    /// The places of these tables. Refused for want of memory alone.
+    /// The places of `tables`. The only fault is Memory.
     pub fn of(
         alloc: Global,
         tables: &'t [NumberedTable<'a, C>],
@@ -48,7 +48,7 @@ impl<'t, 'a, C: Comparator> TablePlaces<'t, 'a, C> {
         Ok(TablePlaces { tables, places })
     }
 
-    /// The first table of a number.
+    /// The first table of `number`.
     pub fn table(&self, number: u64) -> Option<&'t SoundTable<'a, C>>
         ensures { option_map (λ t. t.now) result ≡ table_of self.now number }
     {
@@ -59,7 +59,7 @@ impl<'t, 'a, C: Comparator> TablePlaces<'t, 'a, C> {
     }
 }
 
-/// The table at a place.
+/// The table at `place`.
 fn table_at<'t, 'a, C: Comparator>(
     tables: &'t [NumberedTable<'a, C>],
     place: usize,
@@ -70,7 +70,7 @@ fn table_at<'t, 'a, C: Comparator>(
     tables[place].table()
 }
 
-/// The place of the first table of each number. Refused for want of memory alone.
+/// The place of the first table of each number. The only fault is Memory.
 fn first_places<C: Comparator>(
     alloc: Global,
     tables: &[NumberedTable<'_, C>],

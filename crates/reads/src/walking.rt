@@ -16,11 +16,15 @@ use split::Range;
 use std::alloc::Global;
 use table::{Cursor, TableCursor};
 
-/// Whether of each user key of a range each entry is newer than those behind it, where the entries of each cursor stand behind
-/// those of the cursors before it.
+/// Whether, of every user key in `range`, the sequences strictly fall when the cursors are read one
+/// after the other.
 ///
-/// It walks over all of them once, in the order of their keys, up to the end of the range, and takes the memory of two keys and of the
-/// merge. An entry takes a time that grows with the logarithm of the number of cursors. Refused for want of memory alone.
+/// It walks over all entries once, in the order of their keys, up to the end of the range. An entry
+/// is older than the previous one of its user key if its sequence is lower and it comes from the
+/// same cursor or a later one. The only fault is Memory.
+///
+/// It takes the memory of two keys and of the merge, and an entry takes a time that grows with the
+/// logarithm of the number of cursors; no contract says so.
 pub fn falls_in<C: Comparator>(
     alloc: Global,
     cursors: Vec<TableCursor<'_, C>>,
@@ -35,7 +39,7 @@ pub fn falls_in<C: Comparator>(
     is_falling(&mut merging, &mut last, range)
 }
 
-/// Whether that holds of the entries of a merge. It leaves the key of the last entry that it took off in `last`.
+/// As [`falls_in`], of a merge. `last` is room for keys, and has the last key that was taken off.
 fn is_falling<'c, C: Comparator, S: Cursor<'c, C> + Drop>(
     merging: &mut Merging<C, S>,
     last: &mut KeyBuf,
@@ -63,7 +67,7 @@ fn is_falling<'c, C: Comparator, S: Cursor<'c, C> + Drop>(
     Ok(true)
 }
 
-/// Whether a key's user key is before a range's upper bound, where it has one.
+/// Whether the user key of `key` is before the range's upper bound, if it has one.
 fn is_before_end<C: Comparator>(key: InternalKey<'_>, range: Range<'_>) -> bool
     ensures { result ≡ is_before_end C.cmp (key_range range.entry) (user_of key.entry.bytes.now) }
 {
@@ -73,7 +77,7 @@ fn is_before_end<C: Comparator>(key: InternalKey<'_>, range: Range<'_>) -> bool
     }
 }
 
-/// Whether a key's user key is at or after a range's lower bound, where it has one.
+/// Whether the user key of `key` is at or after the range's lower bound, if it has one.
 fn is_from<C: Comparator>(key: InternalKey<'_>, range: Range<'_>) -> bool
     ensures { result ≡ is_from C.cmp (key_range range.entry) (user_of key.entry.bytes.now) }
 {
@@ -83,8 +87,8 @@ fn is_from<C: Comparator>(key: InternalKey<'_>, range: Range<'_>) -> bool
     }
 }
 
-/// Whether a key that comes next is of the user key of the last one, and comes of a cursor before the one of that or has no
-/// lower sequence.
+/// Whether `key`, from the cursor at `next`, breaks the order after `last`, from the cursor at
+/// `place`: it has the same user key, and comes from an earlier cursor or has no lower sequence.
 fn steps_back(last: InternalKey<'_>, place: usize, key: InternalKey<'_>, next: usize) -> bool
     ensures { result ≡ steps_back last.entry.bytes.now place key.entry.bytes.now next }
 {

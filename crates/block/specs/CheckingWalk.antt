@@ -7,7 +7,7 @@ use Rattle.block.specs.Passing.{Kept}
 use Rattle.block.specs.Checking.{Checking}
 use Rattle.block.specs.declared.checking_cursor.CheckingCursor.TheInside.{Inside}
 
--- the entries before the restarts, and of them the entry at the place, where there is one, and those behind it
+-- the bytes, all entries before the restarts, and those from the place on
 abbrev pub tested : Inside → Checking
 tested c = record {
   bytes = c.bytes.now;
@@ -15,7 +15,7 @@ tested c = record {
   ahead = if c.valid then record { key = c.key.items; value = c.value.now } ∷ entries_behind c.key.items c.rest.now else [];
 }
 
--- The bytes up to the place pass, and all of them where no entry is there.
+-- The bytes up to the place pass the tests. If no entry is there, all of them do.
 pub record Passes (bytes area rest pending key : List ℕ) (valid : Bool) : Type 0 where
   pub restarts : List ℕ
   pub split : IsSplit bytes area restarts
@@ -24,5 +24,6 @@ pub record Passes (bytes area rest pending key : List ℕ) (valid : Bool) : Type
   pub walks : valid ≡ true → Kept area restarts rest pending (length key)
   pub ended : valid ≡ false → IsArea area restarts
 
+-- the bytes of a checking cursor up to its place pass the tests
 abbrev pub IsTesting : Inside → Type 0
 IsTesting c = Passes c.bytes.now c.area.now c.rest.now c.pending.now c.key.items c.valid

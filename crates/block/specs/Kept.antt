@@ -8,23 +8,23 @@ use Rattle.block.specs.Building.{last_key}
 use Rattle.block.specs.Sound.{Sound, numbers_in}
 use Rattle.block.specs.Behind.{entries_behind}
 
--- The bytes before the restarts and those of the restarts are of a block.
+-- the bytes before the restarts, and those of the restarts, are of a block
 abbrev pub IsArea : List ℕ → List ℕ → Type 0
 IsArea area restarts = (ps : List Piece) × AreOfBlock ps × (area ≡ flat_map piece_bytes ps) × (restarts ≡ flat_map (little_bytes 4) (restarts_of ps))
 
--- how many entries stand before this offset
+-- how many entries come before this offset
 abbrev pub entries_before : List ℕ → ℕ → ℕ
 entries_before area offset = length (entries_behind [] (take offset area))
 
--- what stands in the bytes before the restarts and in those of the restarts
+-- the block that these bytes before the restarts and these restarts are
 abbrev pub sound_in : List ℕ → List ℕ → Sound
 sound_in area restarts = record {
   entries = entries_behind [] area;
   restarts = map (entries_before area) (numbers_in restarts);
 }
 
--- What is kept of these entries: their pieces, the restarts that point at pieces, the last key, and the number of
--- entries behind the last whole interval. Their block has a size that each of its numbers can give.
+-- What is kept of these entries: their pieces, the offsets of the restarts, the last key, and the
+-- number of entries after the last whole interval. Their block has at most 2 ^ 31 bytes.
 pub record IsBuilt (interval : ℕ) (entries : List Entry) (pieces restarts last : List ℕ) (since : ℕ) : Type 0 where
   pub interval_pos : 1 ≤ interval
   pub interval_le : interval ≤ 1024

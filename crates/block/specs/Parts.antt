@@ -2,11 +2,11 @@
 use Rattle.std.specs.Prelude.{◌≡◌, ℕ, ◌*◌, ◌<◌, ◌^◌, List, ◌++◌, length}
 use Rattle.byteorder.specs.Endian.{little_bytes}
 
--- the bytes begin with the number of this offset
+-- the first restart is this offset
 abbrev pub BeginsWith : List ℕ → ℕ → Type 0
 BeginsWith pending at = (others : List ℕ) × (pending ≡ little_bytes 4 at ++ others)
 
--- the bytes are these, then at least one restart, then the number of restarts
+-- The bytes are the entries, then at least one restart, then the count of restarts.
 pub record IsSplit (bytes area restarts : List ℕ) : Type 0 where
   pub count : ℕ
   pub some : 0 < count

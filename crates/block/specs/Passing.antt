@@ -7,7 +7,7 @@ use Rattle.block.specs.Reading.{Field, piece_at}
 use Rattle.block.specs.Kept.{IsArea}
 use Rattle.block.specs.Parts.{BeginsWith}
 
--- the length of the last key, after a key of so many bytes
+-- the length of the last key, if the key before these pieces has the length `before`
 abbrev pub key_len_after : ℕ → List Piece → ℕ
 key_len_after before [] = before
 key_len_after before (p ∷ ps) = key_len_after (p.shared + length p.unshared) ps
@@ -16,7 +16,7 @@ key_len_after before (p ∷ ps) = key_len_after (p.shared + length p.unshared) p
 abbrev pub Below : ℕ → List ℕ → Type 0
 Below limit xs = AllByRecursion (λ x. x < limit) xs
 
--- What was read so far are lawful pieces with their restarts.
+-- what was read so far are lawful pieces with their restarts
 pub record Read (area restarts rest pending : List ℕ) (key_len : ℕ) : Type 0 where
   pub done : List Piece
   pub pieces : ArePieces 0 done
@@ -26,7 +26,7 @@ pub record Read (area restarts rest pending : List ℕ) (key_len : ℕ) : Type 0
   pub fit : Below (2 ^ 32) (restarts_from 0 done)
   pub first : BeginsWithRestart done
 
--- What is still to be read, where all of it is of a block.
+-- what is still to be read are lawful pieces with their restarts
 pub record Ahead (rest pending : List ℕ) (key_len at : ℕ) : Type 0 where
   pub more : List Piece
   pub pieces : ArePieces key_len more
@@ -34,12 +34,13 @@ pub record Ahead (rest pending : List ℕ) (key_len at : ℕ) : Type 0 where
   pub to_pass : pending ≡ flat_map (little_bytes 4) (restarts_from at more)
   pub fit : Below (2 ^ 32) (restarts_from at more)
 
--- what one pass keeps: what it read is lawful, and what is left is of a block where all of it is
+-- what one pass keeps: what it read is lawful, and if all bytes are of a block, so is what is left
 pub record Kept (area restarts rest pending : List ℕ) (key_len : ℕ) : Type 0 where
   pub so_far : Read area restarts rest pending key_len
   pub ahead : IsArea area restarts → Ahead rest pending key_len (length area - length rest)
 
--- This piece stands next, with these restarts behind it: it shares no more than there is, and a pass goes on behind it.
+-- The next piece, and the restarts after it: it shares no more than the key before it has, and a
+-- pass goes on after it.
 pub record IsNextPiece (area rest pending : List ℕ) (key_len : ℕ) (x : Field Piece) (others : List ℕ) : Type 0 where
   pub read : piece_at rest ≡ Some x
   pub shared : x.field.shared ≤ key_len

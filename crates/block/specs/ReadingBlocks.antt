@@ -1,4 +1,4 @@
--- The list of entries that bytes are a block of, as an answer.
+-- The tests of a block, and the entries that a reader answers.
 use Rattle.std.specs.Prelude.{◌≡◌, ℕ, zero, suc, ◌+◌, ◌-◌, ◌*◌, ◌^◌, nat_eq, nat_le, nat_lt, Bool, true, false, ◌&&◌, ◌||◌, not, if◌then◌else◌, List, [], ◌∷◌, length, take, drop, Result, Ok, Err}
 use Rattle.std.specs.List.{list_all}
 use Rattle.std.specs.Option.{option_map_or}
@@ -11,11 +11,11 @@ use Rattle.block.specs.Piece.{Entry, Piece, piece_bytes, entries_after, restarts
 use Rattle.block.specs.Reading.{piece_at}
 use Rattle.block.specs.Sound.{numbers_in}
 
--- the number of restarts, in the last four bytes
+-- the count of restarts, in the last four bytes
 abbrev pub restart_count : List ℕ → ℕ
 restart_count bytes = little_number 4 (drop (length bytes - 4) bytes)
 
--- how many bytes stand before the restarts
+-- the length of the bytes before the restarts
 abbrev pub area_len : List ℕ → ℕ
 area_len bytes = length bytes - (4 * restart_count bytes + 4)
 
@@ -28,49 +28,50 @@ abbrev pub is_next : List ℕ → ℕ → Bool
 is_next [] at = false
 is_next (restart ∷ restarts) at = nat_eq restart at
 
--- the restarts behind this offset
+-- the restarts after this offset
 abbrev pub restarts_behind : List ℕ → ℕ → List ℕ
 restarts_behind restarts at = if is_next restarts at then drop 1 restarts else restarts
 
--- the piece, and whether a restart points at it
+-- the piece, with whether a restart points at it
 abbrev pub with_mark : Bool → Piece → Piece
 with_mark is_restart p = record { is_restart = is_restart; shared = p.shared; unshared = p.unshared; value = p.value }
 
--- at most so many pieces at the front of bytes, the first of them at this offset, with these restarts
+-- at most n pieces at the front of bytes, the first of them at offset `at`, with these restarts
 abbrev pub pieces_in : ℕ → ℕ → List ℕ → List ℕ → List Piece
 pieces_in zero at restarts bytes = []
 pieces_in (suc n) at restarts bytes =
     option_map_or (λ p. with_mark (is_next restarts at) p.field ∷ pieces_in n (at + length (piece_bytes p.field)) (restarts_behind restarts at) p.rest) (piece_at bytes) []
 
--- the pieces that stand in bytes, up to the first bytes that are no piece
+-- the pieces in the bytes, up to the first bytes that are no piece
 unfoldable pub pieces_of : List ℕ → List Piece
 pieces_of bytes = pieces_in (area_len bytes) 0 (restarts_in bytes) (take (area_len bytes) bytes)
 
--- whether a piece may stand after a key of so many bytes
+-- whether a piece may come after a key of length `before`
 abbrev pub is_piece_after : ℕ → Piece → Bool
 is_piece_after before p =
     nat_le p.shared before && (not p.is_restart || nat_eq p.shared 0) && nat_lt p.shared (2 ^ 32) && nat_lt (length p.unshared) (2 ^ 32) && nat_lt (length p.value) (2 ^ 32)
 
--- whether each piece may stand after the key before it, the first after a key of so many bytes
+-- whether each piece may come after the key before it, the first after a key of length `before`
 abbrev pub are_pieces : ℕ → List Piece → Bool
 are_pieces before [] = true
 are_pieces before (p ∷ ps) = is_piece_after before p && are_pieces (p.shared + length p.unshared) ps
 
--- whether a restart points at the first piece, where there is one
+-- whether a restart points at the first piece, if there is one
 abbrev pub begins_with_restart : List Piece → Bool
 begins_with_restart [] = true
 begins_with_restart (p ∷ ps) = p.is_restart
 
--- whether the pieces may be those of a block
+-- whether the pieces are those of a block
 abbrev pub are_of_block : List Piece → Bool
 are_of_block ps = are_pieces 0 ps && begins_with_restart ps && list_all (λ restart. nat_lt restart (2 ^ 32)) (length (restarts_of ps) ∷ restarts_of ps)
 
--- the entries of the pieces that stand in the bytes, where those may be a block's and spell the bytes
+-- The entries of the bytes as a block, or Block: the pieces in them have to be those of a block,
+-- and their block has to be the bytes.
 unfoldable pub block_reading : List ℕ → Result (List Entry) Fault
 block_reading bytes =
     if are_of_block (pieces_of bytes) && bytes_eq bytes (block_bytes (pieces_of bytes)) then Ok (entries_after [] (pieces_of bytes)) else Err (fault Block)
 
--- The bytes that have a reading are a block of that list, and those of a block have a reading.
+-- bytes read as a list of entries exactly if they are a block of it
 pub record ReadsBlocks : Type 0 where
   pub found : (bytes : List ℕ) (entries : List Entry) → block_reading bytes ≡ Ok entries → IsBlock bytes entries
   pub only : (bytes : List ℕ) (entries : List Entry) → IsBlock bytes entries → block_reading bytes ≡ Ok entries

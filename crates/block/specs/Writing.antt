@@ -3,8 +3,9 @@ use Rattle.std.specs.Prelude.{ℕ, ◌+◌, ◌%◌, nat_eq, ◌==◌, true, fal
 use Rattle.std.specs.List.{common_prefix_len}
 use Rattle.block.specs.Piece.{Entry, Piece, block_bytes}
 
--- The piece of the entry at a place, after this key: at each multiple of the interval there is a restart, and
--- elsewhere all of the longest common beginning is shared.
+-- The piece of the entry at a place, after the key `before`. At each multiple of the interval it
+-- shares nothing and is a restart. Any other shares the longest common beginning with the key
+-- before it.
 abbrev pub piece_of : ℕ → ℕ → List ℕ → Entry → Piece
 piece_of interval place before e =
     if place % interval == 0
@@ -16,7 +17,7 @@ piece_of interval place before e =
       value = e.value;
     }
 
--- the pieces of entries, the first of them at this place and after this key
+-- the pieces of entries, the first of them at place `place` and after the key `before`
 abbrev pub pieces_from : ℕ → ℕ → List ℕ → List Entry → List Piece
 pieces_from interval place before [] = []
 pieces_from interval place before (e ∷ es) = piece_of interval place before e ∷ pieces_from interval (place + 1) e.key es

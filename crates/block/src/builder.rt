@@ -13,22 +13,24 @@ use coding::Fault;
 use std::alloc::Global;
 use std::marker::Model;
 
-/// A block that is being written, seen as its restart interval and its entries so far.
+/// A block that is being written: its restart interval and its entries so far.
 ///
-/// The entry at each multiple of the interval, counted from 0, stands with its whole key, and a
-/// restart points at it. Elsewhere the key leaves out its longest beginning that the key before it
-/// has too. `check` reads the block as the same entries. The block may have 2^31 bytes at most.
+/// 1. The entry at each multiple of the interval, counted from 0, is stored with its whole key, and
+///    a restart points at it. Why: a reader can begin there.
+/// 2. Any other entry shares the longest common beginning with the key before it.
+///
+/// `check` reads the block as the same entries. A block may have at most 2^31 bytes.
 #[derive(Drop)]
 pub struct BlockBuilder {
-    /// How many entries there are for each restart.
+    /// The number of entries from one restart to the next.
     interval: u64,
-    /// The entries as they will stand in the block.
+    /// The entries as they are in the block.
     bytes: Vec<u8>,
     /// The offsets of the entries with whole keys.
     restarts: Vec<u32>,
-    /// The key of the last entry; empty where there is none.
+    /// The key of the last entry; empty if there is none.
     last: Vec<u8>,
-    /// The number of entries behind the last whole interval.
+    /// The number of entries after the last whole interval.
     since: u64,
 }
 
@@ -63,10 +65,10 @@ impl BlockBuilder {
         }
     }
 
-    /// Appends an entry, after which the block has at most 2^31 bytes: one entry adds at most 34 to
-    /// the bytes of its key and value. A key is any bytes, and the order of keys isn't tested.
+    /// Appends an entry. A key is any bytes, and the order of keys isn't tested.
     ///
-    /// Refused for want of memory alone. A refusal leaves it as it was.
+    /// Requires that the block then has at most 2^31 bytes. One entry adds at most 34 to the bytes
+    /// of its key and value. The only fault is Memory, which leaves the builder unchanged.
     pub fn add(&mut self, key: &[u8], value: &[u8]) -> Result<(), Fault>
         requires { length (block self.old.interval (with_entry self.old.entries key.now value.now)) ≤ 2 ^ 31 }
         ensures ok { OnOk result (self.new ≡ record {
@@ -91,7 +93,7 @@ impl BlockBuilder {
         Ok(())
     }
 
-    /// The length in bytes, from 8 to 2^31, of the block that `finish` would give now.
+    /// The length in bytes, from 8 to 2^31, of the block that `finish` would answer now.
     pub fn estimate(&self) -> usize
         ensures { result ≡ length (block self.now.interval self.now.entries) }
     {
@@ -106,14 +108,14 @@ impl BlockBuilder {
         self.bytes.is_empty()
     }
 
-    /// The key of the last entry; empty where there is none.
+    /// The key of the last entry; empty if there is none.
     pub fn last_key(&self) -> &[u8]
         ensures { result.now ≡ last_key [] self.now.entries }
     {
         &self.last
     }
 
-    /// Takes all entries out, and keeps their memory for others.
+    /// Takes all entries out, and keeps their memory for other entries.
     pub fn clear(&mut self)
         ensures { self.new ≡ record { interval = self.old.interval; entries = [] } }
     {
@@ -123,9 +125,8 @@ impl BlockBuilder {
         self.since = 0;
     }
 
-    /// Appends the block that `finish` would give now.
-    ///
-    /// Refused for want of memory alone. A refusal leaves it as it was.
+    /// Appends the block that `finish` would answer now. The only fault is Memory, which leaves
+    /// `out` unchanged.
     pub fn push_block(&self, out: &mut Vec<u8>) -> Result<(), Fault>
         ensures ok { OnOk result (out.new.items
             ≡ out.old.items ++ block self.now.interval self.now.entries) }
@@ -148,10 +149,10 @@ impl BlockBuilder {
         Ok(())
     }
 
-    /// The block of the entries: the entries, their restarts, and the number of restarts. One
-    /// without entries has the one restart 0.
+    /// The block: the entries, their restarts, and the count of restarts. A block without entries
+    /// has the one restart 0.
     ///
-    /// Refused for want of memory alone, and then the builder and its entries are gone.
+    /// The only fault is Memory, and then the builder and its entries are gone.
     pub fn finish(self) -> Result<Vec<u8>, Fault>
         ensures ok { IfOk result (λ bytes. bytes.items ≡ block self.interval self.entries) }
         ensures memory { IfErr result (λ e. e ≡ fault Memory) }
@@ -173,7 +174,7 @@ impl BlockBuilder {
     }
 }
 
-/// Appends the fields of an entry. Refused only for memory. A refusal leaves it as it was.
+/// Appends the fields of an entry. The only fault is Memory, which leaves `out` unchanged.
 fn push_piece(out: &mut Vec<u8>, shared: usize, unshared: &[u8], value: &[u8]) -> Result<(), Fault>
     ensures ok { OnOk result (out.new.items ≡ out.old.items ++ piece_bytes (record {
       is_restart = false;

@@ -11,14 +11,14 @@ use coding::{Fault, FaultName};
 use std::alloc::Global;
 use std::marker::Model;
 
-/// A place in bytes that may be a block, seen as the bytes, the entries that stand in them, and those of them that are still
-/// to come.
+/// A place in bytes that may be a block: the bytes, the entries in them, and those still to come.
 ///
-/// Each step tests one entry more and what restarts say of it, as `check` does. Where no entry is still to come, the bytes
-/// are a block of these entries; until then a step may find that they are none. So a test of the entries themselves can be
-/// made in the same walk.
+/// Each step tests one entry more and what restarts say of it, as `check` does. If no entry is
+/// still to come, the bytes are a block of the entries. Until then a step may refuse them. So the
+/// entries themselves can be tested in the same walk.
 ///
-/// It lends the bytes, and owns those of one key.
+/// Over bytes that are a block it shows the entries that `check` reads. Over others it may show
+/// some entries before it is refused. It lends the bytes, and owns one key.
 #[derive(Drop)]
 pub struct CheckingCursor<'a> {
     bytes: &'a [u8],
@@ -43,7 +43,7 @@ impl<'a> Model for CheckingCursor<'a> {
 }
 
 impl<'a> CheckingCursor<'a> {
-    /// The end of a block without entries. It takes no memory.
+    /// The end of a block without entries. Takes no memory.
     pub fn none(alloc: Global) -> CheckingCursor<'a>
         ensures { result.ahead ≡ [] }
     {
@@ -58,10 +58,10 @@ impl<'a> CheckingCursor<'a> {
         }
     }
 
-    /// Goes to all entries of other bytes. The key lies in the same memory where that is enough.
+    /// Goes to the first entry of other bytes. The key stays in the same memory if that is enough.
     ///
-    /// Refused as `check` refuses the bytes, where it sees no block at once, or for want of memory. A refusal leaves it as it
-    /// was.
+    /// Faults: Block if this step finds that the bytes are no block; else only Memory. A refusal
+    /// leaves the cursor unchanged.
     pub fn enter(&mut self, bytes: &'a [u8]) -> Result<(), Fault>
         ensures bytes { OnOk result (self.new.bytes ≡ bytes.now) }
         ensures ahead { OnOk result (self.new.ahead ≡ self.new.all) }
@@ -94,7 +94,7 @@ impl<'a> CheckingCursor<'a> {
         Ok(())
     }
 
-    /// Whether an entry is still to come. Where none is, the bytes are a block of all entries.
+    /// Whether an entry is still to come. If none is, the bytes are a block of all the entries.
     #[inline]
     pub fn valid(&self) -> bool
         ensures some { IsTrue result ↔ (0 < length self.now.ahead) }
@@ -103,7 +103,7 @@ impl<'a> CheckingCursor<'a> {
         self.valid
     }
 
-    /// The key of the first entry that is still to come, until the next `advance`.
+    /// The key of the next entry, until the next `advance`.
     #[inline]
     pub fn key(&self) -> &[u8]
         requires { 0 < length self.now.ahead }
@@ -112,7 +112,7 @@ impl<'a> CheckingCursor<'a> {
         &self.key
     }
 
-    /// The value of the first entry that is still to come, a part of the bytes.
+    /// The value of the next entry, a part of the bytes.
     #[inline]
     pub fn value(&self) -> &'a [u8]
         requires { 0 < length self.now.ahead }
@@ -121,10 +121,10 @@ impl<'a> CheckingCursor<'a> {
         self.value
     }
 
-    /// Takes the first entry off, and tests the next.
+    /// Takes off the next entry, and tests the one after it.
     ///
-    /// Refused as `check` refuses the bytes, where it finds that they are no block, or for want of memory. A refusal leaves it
-    /// as it was.
+    /// Faults: Block if this step finds that the bytes are no block; else only Memory. A refusal
+    /// leaves the cursor unchanged.
     #[inline]
     pub fn advance(&mut self) -> Result<(), Fault>
         requires { 0 < length self.old.ahead }

@@ -13,9 +13,9 @@ use coding::Fault;
 use std::alloc::Global;
 use std::marker::Model;
 
-/// A place in a block, seen as the entries from there on, in the order of the block.
+/// A place in a block: the entries from there on, in the order of the block.
 ///
-/// It lends the block's bytes, and owns those of one key.
+/// It lends the block's bytes, and owns one key.
 #[derive(Drop)]
 pub struct BlockCursor<'a> {
     valid: bool,
@@ -39,9 +39,7 @@ impl<'a> Model for BlockCursor<'a> {
 }
 
 impl<'a> BlockCursor<'a> {
-    /// All entries of a block.
-    ///
-    /// Refused for want of memory alone. It takes the bytes of one key.
+    /// All entries of `block`. It takes the memory of one key. The only fault is Memory.
     pub fn new(alloc: Global, block: &SoundBlock<'a>) -> Result<BlockCursor<'a>, Fault>
         ensures all { IfOk result (λ cursor. cursor ≡ block.now.entries) }
         ensures memory { IfErr result (λ e. e ≡ fault Memory) }
@@ -49,9 +47,8 @@ impl<'a> BlockCursor<'a> {
         BlockCursor::over(alloc, block.area())
     }
 
-    /// The entries from a restart on. Restarts are counted from 0.
-    ///
-    /// Refused for want of memory alone. It takes the bytes of one key.
+    /// The entries of `block` from its restart of number `restart` on, counted from 0. It takes the
+    /// memory of one key. The only fault is Memory.
     pub fn at(alloc: Global, block: &SoundBlock<'a>, restart: u64) -> Result<BlockCursor<'a>, Fault>
         requires { restart < length block.now.restarts }
         ensures from { IfOk result (λ cursor. cursor ≡ drop (slice_index block.now.restarts restart) block.now.entries) }
@@ -60,7 +57,7 @@ impl<'a> BlockCursor<'a> {
         BlockCursor::over(alloc, block.area_from(restart))
     }
 
-    /// No entries. It takes no memory.
+    /// No entries. Takes no memory.
     pub fn none(alloc: Global) -> BlockCursor<'a>
         ensures { result ≡ [] }
     {
@@ -80,7 +77,7 @@ impl<'a> BlockCursor<'a> {
         self.valid
     }
 
-    /// The key of the first entry that is still to come, until the next `advance`.
+    /// The key of the next entry, until the next `advance`.
     pub fn key(&self) -> &[u8]
         requires { 0 < length self.now }
         ensures { option_map (λ e. e.key) (slice_get self.now 0) ≡ Some result.now }
@@ -88,7 +85,7 @@ impl<'a> BlockCursor<'a> {
         &self.key
     }
 
-    /// The value of the first entry that is still to come, a part of the block's bytes.
+    /// The value of the next entry, a part of the block's bytes.
     pub fn value(&self) -> &'a [u8]
         requires { 0 < length self.now }
         ensures { option_map (λ e. e.value) (slice_get self.now 0) ≡ Some result.now }
@@ -96,7 +93,7 @@ impl<'a> BlockCursor<'a> {
         self.value
     }
 
-    /// Whether the first entry that is still to come is the last of them.
+    /// Whether the next entry is the last one.
     pub fn is_last(&self) -> bool
         requires { 0 < length self.now }
         ensures { IsTrue result ↔ (length self.now ≡ 1) }
@@ -104,9 +101,7 @@ impl<'a> BlockCursor<'a> {
         self.rest.is_empty()
     }
 
-    /// Takes the first entry off.
-    ///
-    /// Refused for want of memory alone. A refusal leaves it as it was.
+    /// Takes off the next entry. The only fault is Memory, which leaves the cursor unchanged.
     pub fn advance(&mut self) -> Result<(), Fault>
         requires { 0 < length self.old }
         ensures ok { OnOk result (self.new ≡ drop 1 self.old) }
@@ -124,9 +119,8 @@ impl<'a> BlockCursor<'a> {
         Ok(())
     }
 
-    /// Goes to all entries of another block. The key lies in the same memory where that is enough.
-    ///
-    /// Refused for want of memory alone. A refusal leaves it as it was.
+    /// Goes to the first entry of another block. The key stays in the same memory if that is
+    /// enough. The only fault is Memory, which leaves the cursor unchanged.
     pub fn enter(&mut self, block: &SoundBlock<'a>) -> Result<(), Fault>
         ensures ok { OnOk result (self.new ≡ block.now.entries) }
         ensures err { OnErr result (self.new ≡ self.old) }
@@ -144,7 +138,7 @@ impl<'a> BlockCursor<'a> {
         Ok(())
     }
 
-    /// The entries of pieces, the first of which has its whole key.
+    /// The entries in `pieces`, the first of which has its whole key. The only fault is Memory.
     fn over(alloc: Global, pieces: &'a [u8]) -> Result<BlockCursor<'a>, Fault>
         requires { ArePiecesBehind [] pieces.now }
         ensures all { IfOk result (λ cursor. cursor ≡ entries_behind [] pieces.now) }
@@ -165,7 +159,8 @@ impl<'a> BlockCursor<'a> {
     }
 }
 
-/// Keeps so many bytes of a key and appends the others. Refused for want of memory alone. A refusal leaves it as it was.
+/// Keeps the first `shared` bytes of a key and appends `unshared`. The only fault is Memory, which
+/// leaves the key unchanged.
 #[inline]
 pub(crate) fn replace_end(key: &mut Vec<u8>, shared: usize, unshared: &[u8]) -> Result<(), Fault>
     ensures ok { OnOk result (key.new.items ≡ take shared key.old.items ++ unshared.now) }

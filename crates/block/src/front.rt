@@ -1,11 +1,11 @@
-//! What stands at the front of a block's bytes, and the bytes behind it.
+//! What is at the front of a block's bytes, and the bytes after it.
 
 ghost use Rattle.std.specs.Prelude.{◌<◌, ◌^◌, length};
 
-/// A piece at the front of bytes: the three parts of an entry, and the bytes behind it.
+/// An entry at the front of bytes, as it is stored, and the bytes after it.
 #[derive(Clone, Copy)]
 pub(crate) struct FrontPiece<'a> {
-    /// How many bytes of the key before begin its key.
+    /// How many bytes of the key before it begin its key.
     pub shared: usize,
     /// The other bytes of its key.
     pub unshared: &'a [u8],
@@ -15,7 +15,7 @@ pub(crate) struct FrontPiece<'a> {
     ghost unshared_fits: { length unshared.now < 2 ^ 32 },
 }
 
-/// A length at the front of bytes, and the bytes behind it.
+/// A length at the front of bytes, and the bytes after it.
 #[derive(Clone, Copy)]
 pub(crate) struct FrontLength<'a> {
     pub length: usize,

@@ -3,7 +3,7 @@
 //! ```text
 //! block:  entry 1 .. entry n
 //!         restart: u32            for each restart, the offset of the entry that it points at
-//!         restarts: u32           how many restarts there are, at least one
+//!         restarts: u32           the count: how many restarts there are, at least one
 //!
 //! entry:  shared: varint          how many bytes of the key before it begin its key
 //!         unshared: varint        how many other bytes its key has
@@ -12,8 +12,17 @@
 //!         value
 //! ```
 //!
-//! A restart points at an entry that shares nothing. A number of four bytes has its lowest byte
-//! first.
+//! A number of four bytes has its lowest byte first. A restart points at an entry that shares
+//! nothing. Why: a reader can begin there, and find a key by halving.
+//!
+//! The block of `a` at 2 put `x` and `a` at 1 put `y`, at restart interval 16:
+//!
+//! ```text
+//!  0   00 09 01  61 01 02 00 00 00 00 00 00  78    shares nothing, 9 bytes of key, 1 of value
+//! 13   02 07 01  01 00 00 00 00 00 00        79    shares 61 01, 7 bytes of key, 1 of value
+//! 24   00 00 00 00                                 the restart
+//! 28   01 00 00 00                                 the count
+//! ```
 
 ghost use Rattle.std.specs.Prelude.{◌≡◌, ◌+◌, ◌^◌, ◌<◌, ◌≤◌, ◌==◌, if◌then◌else◌, ◌++◌};
 ghost use Rattle.std.specs.Prelude.{nat_eq, length, take, false, OnOk, OnErr, IsOkUnless};
@@ -25,8 +34,8 @@ ghost use Rattle.block.specs.Piece.{piece_bytes, restart_bytes};
 
 use coding::{Fault, common_len, push_varint};
 
-/// How many entries of an interval were written, with one more: 0 again after its last, so that a
-/// restart points at the next.
+/// The number of entries of an interval so far, with one more. It is 0 again after the interval's
+/// last entry, so a restart points at the next.
 #[inline(always)]
 pub fn next_since(since: u64, interval: u64) -> u64
     requires { since < interval }
@@ -35,10 +44,10 @@ pub fn next_since(since: u64, interval: u64) -> u64
     if since + 1 == interval { 0 } else { since + 1 }
 }
 
-/// How many bytes of the key before it an entry leaves out: none if it begins an interval, so that
-/// a restart points at it.
+/// How many bytes of the key before it an entry shares. It is none if the entry begins an interval,
+/// for then a restart points at it.
 ///
-/// `since` is how many entries of the interval stand before it. Takes no memory.
+/// `since` is how many entries of the interval come before it. Takes no memory.
 #[inline(always)]
 pub fn shared_len(since: u64, before: &[u8], key: &[u8]) -> usize
     ensures value { result
@@ -52,10 +61,9 @@ pub fn shared_len(since: u64, before: &[u8], key: &[u8]) -> usize
     }
 }
 
-/// Appends the fields of an entry: three lengths, the bytes of its key after those shared, and its
-/// value.
+/// Appends the fields of an entry: three lengths, the unshared bytes of its key, and its value.
 ///
-/// Refused only for memory. A refusal may leave some of them after the bytes that were there.
+/// The only fault is Memory. It may leave some of them after the bytes that were there.
 #[inline(always)]
 pub fn push_fields(
     out: &mut Vec<u8>,
@@ -78,7 +86,8 @@ pub fn push_fields(
     Ok(())
 }
 
-/// Appends the three lengths of an entry, or on a refused growth some of them.
+/// Appends the three lengths of an entry. The only fault is Memory, which may leave some of them
+/// after the bytes that were there.
 #[inline(always)]
 fn push_lengths(
     out: &mut Vec<u8>,
@@ -92,7 +101,7 @@ fn push_lengths(
     ensures memory { IsOkUnless result (fault Memory) }
 {
     if shared < 128 && unshared < 128 && value < 128 {
-        // Each takes one byte.
+        // Each of the three varints takes one byte.
         out.extend_from_slice(&[shared as u8, unshared as u8, value as u8])?;
         return Ok(());
     }
@@ -101,9 +110,9 @@ fn push_lengths(
     push_varint(out, value as u64)
 }
 
-/// Appends what ends a block: its restarts and their number, four bytes each.
+/// Appends what ends a block: its restarts and their count, four bytes each.
 ///
-/// Refused only for memory. A refusal may leave some of them after the bytes that were there.
+/// The only fault is Memory. It may leave some of them after the bytes that were there.
 pub fn push_restarts(out: &mut Vec<u8>, restarts: &[u32]) -> Result<(), Fault>
     requires { length restarts.now < 2 ^ 32 }
     ensures ok { OnOk result (out.new.items ≡ out.old.items ++ restart_bytes restarts.now) }

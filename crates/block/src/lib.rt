@@ -1,9 +1,15 @@
-//! Blocks: lists of entries whose keys share their beginnings.
+//! Blocks: lists of entries whose keys share their beginnings. `layout.rt` shows the format.
 //!
-//! A [`BlockBuilder`] writes one, entry by entry. [`check`] reads bytes as a block and gives a
-//! [`SoundBlock`], over which a [`BlockCursor`] goes without a further test. A [`CheckingCursor`]
-//! makes these tests on its way. [`push_fields`] and [`push_restarts`] write the parts of a block,
-//! for whoever builds it without a builder; `layout.rt` shows them.
+//! 1. A [`BlockBuilder`] writes a block, entry by entry.
+//! 2. [`check`] reads bytes as a block and answers a [`SoundBlock`]. [`reopen`] does the same of
+//!    bytes that are known to be a block, without a test.
+//! 3. A [`BlockCursor`] walks a `SoundBlock` without a further test. A [`CheckingCursor`] walks
+//!    bytes that may be a block, and makes the tests of `check` on its way.
+//!
+//! [`push_fields`] and [`push_restarts`] write the parts of a block, for a writer without a
+//! builder. [`reads_back`] and [`reads_blocks`] are laws of the format.
+//!
+//! No contract says that keys are in order: a block's keys are any bytes.
 #![tactic(auto)]
 
 ghost use Rattle.std.specs.Prelude.{◌^◌, ◌≤◌, length, List, ℕ};
@@ -26,13 +32,13 @@ pub use cursor::BlockCursor;
 pub use layout::{next_since, push_fields, push_restarts, shared_len};
 pub use sound_block::{SoundBlock, check, reopen};
 
-/// The block of a list at any interval reads as that list.
+/// The law that the block of a list, at any restart interval and of at most 2^31 bytes, reads as
+/// that list. A call does nothing.
 pub fn reads_back()
     ensures { (r : ℕ) (q : List Entry) → length (block r q) ≤ 2 ^ 31 → IsBlock (block r q) q }
 {}
 
-/// The law that what is read of bytes as a block is the list that they are a block of. A call does
-/// nothing.
+/// The law that bytes read as a list exactly if they are a block of it. A call does nothing.
 pub fn reads_blocks()
     ensures { ReadsBlocks }
 {}

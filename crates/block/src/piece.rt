@@ -1,4 +1,4 @@
-//! One entry as it lies in a block's bytes.
+//! One entry as it is stored in a block.
 
 ghost use Rattle.std.specs.Prelude.{◌≡◌, ◌<◌, ◌^◌};
 ghost use Rattle.std.specs.Option.{option_map};
@@ -8,7 +8,7 @@ ghost use Rattle.block.specs.Front.{front_field};
 use crate::front::{FrontLength, FrontPiece};
 use coding::read_u32_varint;
 
-/// The piece at the front of bytes, where one stands there.
+/// The entry at the front of bytes, if there is one.
 #[inline]
 pub(crate) fn piece_at(bytes: &[u8]) -> Option<FrontPiece<'_>>
     ensures { option_map front_field result ≡ piece_at bytes.now }
@@ -28,7 +28,7 @@ pub(crate) fn piece_at(bytes: &[u8]) -> Option<FrontPiece<'_>>
     }
 }
 
-/// The piece at the front of bytes, whose lengths have any number of bytes.
+/// The entry at the front of bytes, whose lengths may have several bytes.
 #[tactic(auto, unfolding(crate::specs::Reading::piece_at))]
 fn piece_by_varints(bytes: &[u8]) -> Option<FrontPiece<'_>>
     ensures { option_map front_field result ≡ piece_at bytes.now }
@@ -39,7 +39,7 @@ fn piece_by_varints(bytes: &[u8]) -> Option<FrontPiece<'_>>
     piece_of(shared.length, unshared.length, value.length, value.rest)
 }
 
-/// The piece of these lengths, whose key's own bytes and value stand at the front of bytes.
+/// The entry of these lengths, if `bytes` begin with the unshared bytes of its key and its value.
 #[inline]
 fn piece_of(shared: usize, unshared: usize, value: usize, bytes: &[u8]) -> Option<FrontPiece<'_>>
     requires shared { shared < 2 ^ 32 }

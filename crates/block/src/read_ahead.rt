@@ -1,27 +1,29 @@
 //! Memory that is read ahead of a walk.
+//!
+//! Where an entry begins is known only when the one before it was read. So a walk waits for memory
+//! at each line that the processor did not foresee, and it foresees little if many walks take
+//! turns. A window's lines are read together, and waited for together.
 
 ghost use Rattle.std.specs.Prelude.{◌≡◌, ◌<◌, ◌≤◌, ◌-◌, ◌*◌, ◌/◌, length, min};
 ghost use Rattle.block.specs.ReadingAhead.{folded_lines};
 
-/// The bytes of a line, as memory hands them to a processor.
+/// The bytes of a line of memory, as a processor reads it.
 const LINE_LEN: usize = 64;
-/// How many bytes are read ahead together, at most.
+/// The greatest number of bytes that are read ahead together.
 const WINDOW_LEN: usize = 1024;
 
-/// How far the bytes of a walk were read ahead of it.
-///
-/// Where an entry begins is known by the one before it alone. So a walk waits for memory at each line that the processor
-/// did not foresee, and it foresees little where many walks go on in turn. The lines of a window are waited for together.
+/// How far the bytes of a walk were read ahead.
 #[derive(Clone, Copy)]
 pub(crate) struct ReadAhead {
-    /// How many bytes were left behind the last window.
+    /// The number of bytes that were left after the last window.
     left: usize,
-    /// The first bytes of the last window's lines, folded, so that their reading is not left out.
+    /// The first bytes of the last window's lines, folded. Why: so the compiler keeps their
+    /// reading.
     folded: u8,
 }
 
 impl ReadAhead {
-    /// Nothing was read ahead.
+    /// Before anything was read ahead.
     pub(crate) fn nothing() -> ReadAhead
         ensures left { result.left ≡ 0xffffffffffffffff }
         ensures folded { result.folded ≡ 0 }
@@ -32,7 +34,8 @@ impl ReadAhead {
         }
     }
 
-    /// Reads the next window of what is left of the walk, where the walk has come behind the last one.
+    /// Reads the next window of `rest`, the bytes still to be walked, if the walk has passed the
+    /// last one.
     #[inline]
     pub(crate) fn reach(&mut self, rest: &[u8])
         ensures before { self.old.left < length rest.now → self.new ≡ self.old }
@@ -49,7 +52,7 @@ impl ReadAhead {
     }
 }
 
-/// The first bytes of so many lines, folded.
+/// The first byte of each of the first `lines` lines, folded.
 fn folded_lines(bytes: &[u8], lines: usize) -> u8
     requires { lines * 64 ≤ length bytes.now }
     ensures { result ≡ folded_lines lines bytes.now }

@@ -1,4 +1,4 @@
-//! Which bytes are a block.
+//! Which bytes are a block: the tests of a reader.
 
 ghost use Rattle.std.specs.Prelude.{◌≡◌, ◌≢◌, ◌<◌, ◌≤◌, ◌^◌, ◌↔◌, [], length, drop, slice_get, slice_index, Some, IsTrue, IfSome, IfNone, IfOk, IsOkAnd, IfErr, List, ℕ};
 ghost use Rattle.std.specs.List.{All};
@@ -20,13 +20,13 @@ use byteorder::{ByteOrder, LittleEndian};
 use coding::{Fault, FaultName};
 use std::marker::Model;
 
-/// The bytes of a restart, or of their number.
+/// The length of a restart, and of the count of restarts.
 const RESTART_LEN: usize = 4;
 
-/// The bytes of a block that were checked, seen as its entries and the places among them at which its restarts point.
+/// A block that was checked: its entries, and the places among them at which its restarts point.
 ///
-/// The place of a restart is the number of entries that stand before it. The entry there has its whole key, so that a
-/// walk can begin there. The first place is 0, and each is above the one before it.
+/// The place of a restart is the number of entries before it. The entry there has its whole key, so
+/// a walk can begin there. The first place is 0, and each is above the one before it.
 #[derive(Drop)]
 pub struct SoundBlock<'a> {
     area: &'a [u8],
@@ -45,7 +45,7 @@ impl<'a> Model for SoundBlock<'a> {
 }
 
 impl<'a> SoundBlock<'a> {
-    /// How many restarts the block has: 1 or more.
+    /// The number of restarts, 1 or more.
     pub fn restarts(&self) -> u64
         ensures count { result ≡ length self.now.restarts }
         ensures some { 0 < result }
@@ -56,8 +56,8 @@ impl<'a> SoundBlock<'a> {
         (self.restarts.len() / RESTART_LEN) as u64
     }
 
-    /// The key of the entry at a restart, a part of the block's bytes; `None` where the block has no entries. Restarts
-    /// are counted from 0.
+    /// The key of the entry at the restart of number `restart`, counted from 0; None if the block
+    /// has no entries. It is a part of the block's bytes.
     ///
     /// It reads that entry alone, and takes no memory.
     pub fn key_at(&self, restart: u64) -> Option<&'a [u8]>
@@ -69,7 +69,7 @@ impl<'a> SoundBlock<'a> {
         Some(piece.unshared)
     }
 
-    /// The same block again, over the same bytes. It takes no memory.
+    /// The same block, over the same bytes. Takes no memory.
     pub fn copy(&self) -> SoundBlock<'a>
         ensures { result ≡ self.now }
     {
@@ -87,7 +87,7 @@ impl<'a> SoundBlock<'a> {
         self.area
     }
 
-    /// The bytes from a restart on, up to the restarts.
+    /// The bytes from the entry at a restart up to the restarts.
     pub(crate) fn area_from(&self, restart: u64) -> &'a [u8]
         requires { restart < length self.now.restarts }
         ensures entries { entries_behind [] result.now ≡ drop (slice_index self.now.restarts restart) self.now.entries }
@@ -102,16 +102,21 @@ impl<'a> SoundBlock<'a> {
 
 /// Reads bytes as a block: its entries, and the places among them at which its restarts point.
 ///
-/// A block is its entries, then its restarts, then the number of restarts. An entry is three varints below 2^32, then the
-/// last bytes of its key, then its value: the varints say how many bytes of the key before begin its key, how many more
-/// its key has, and how many its value has. Restarts and their number have four bytes each, the lowest first. The
-/// restarts are offsets of entries that share nothing: the first is 0, each is above the one before it, and there is at
-/// least one. A block without entries has just the one.
+/// Bytes are a block if all of this holds; else they are refused as Block, and for nothing else:
 ///
-/// Each such spelling is read, and not only that of `BlockBuilder`: a key may share fewer bytes than it could, and a
-/// restart may point at any entry that shares nothing. The order of keys isn't tested.
+/// - there is at least one restart, and the restarts are before the count, four bytes each;
+/// - the first restart is 0, and the restarts rise strictly;
+/// - the bytes before the restarts are entries, one after the other, with nothing left over;
+/// - an entry is three varints below 2^32, each in its shortest spelling, then the unshared bytes
+///   of its key, then its value;
+/// - shared is at most the length of the key before, and 0 at the first entry;
+/// - each restart is the offset of an entry whose shared is 0;
+/// - if there is no entry, there is one restart.
 ///
-/// Refused as Block exactly where the bytes have no reading as a block. It reads them once, and takes no memory.
+/// Any such block is read, not only that of `BlockBuilder`: a key may share fewer bytes than it
+/// could, and a restart may point at any entry that shares nothing. The order of keys isn't tested.
+///
+/// It reads the bytes once, and takes no memory.
 pub fn check(bytes: &[u8]) -> Result<SoundBlock<'_>, Fault>
     ensures found { IfOk result (λ block. IsBlock bytes.now block.entries) }
     ensures places { IfOk result (λ block. PointsAt bytes.now block.restarts) }
@@ -130,10 +135,10 @@ pub fn check(bytes: &[u8]) -> Result<SoundBlock<'_>, Fault>
     })
 }
 
-/// Reads bytes again that are known to be a block, as those of which [`check`] answered Ok. None of its tests is made
+/// Reads bytes that are known to be a block, as those that [`check`] accepted. No test is made
 /// again.
 ///
-/// It reads the number of restarts and no more, whatever the block holds, and takes no memory.
+/// It reads only the count of restarts, whatever the block holds, and takes no memory.
 pub fn reopen(bytes: &[u8]) -> SoundBlock<'_>
     requires { (entries : List Entry) × IsBlock bytes.now entries }
     ensures found { IsBlock bytes.now result.entries }
@@ -149,14 +154,15 @@ pub fn reopen(bytes: &[u8]) -> SoundBlock<'_>
     }
 }
 
-/// The two parts of a block before the number of its restarts.
+/// The two parts of a block before the count of its restarts.
 #[derive(Clone, Copy)]
 pub(crate) struct Parts<'a> {
     pub area: &'a [u8],
     pub restarts: &'a [u8],
 }
 
-/// Takes the number of restarts off the end, and the restarts before it.
+/// The bytes before the restarts, and those of the restarts. None if the bytes have no such parts:
+/// at least one restart, and then their count.
 pub(crate) fn split(bytes: &[u8]) -> Option<Parts<'_>>
     ensures found { IfSome result (λ parts. IsSplit bytes.now parts.area.now parts.restarts.now) }
     ensures none { IfNone result ((area restarts : List ℕ) → IsSplit bytes.now area restarts → ⊥) }
@@ -173,7 +179,7 @@ pub(crate) fn split(bytes: &[u8]) -> Option<Parts<'_>>
     Some(Parts { area, restarts })
 }
 
-/// Whether the number of this offset is the next restart.
+/// Whether the next restart is `at`.
 #[inline]
 fn is_next(pending: &[u8], at: usize) -> bool
     ensures { IsTrue result ↔ ((at < 2 ^ 32) × BeginsWith pending.now at) }
@@ -181,7 +187,7 @@ fn is_next(pending: &[u8], at: usize) -> bool
     pending.len() >= RESTART_LEN && LittleEndian::read_u32(pending) as usize == at
 }
 
-/// Whether the restarts begin with 0, and are no more where there are no pieces.
+/// Whether the restarts begin with 0, and are no more than that if there are no entries.
 pub(crate) fn are_begun(area: &[u8], restarts: &[u8]) -> bool
     ensures begins { IsTrue result → BeginsWith restarts.now 0 }
     ensures nothing { IsTrue result → area.now ≡ [] → IsArea area.now restarts.now }
@@ -196,15 +202,15 @@ pub(crate) fn are_begun(area: &[u8], restarts: &[u8]) -> bool
     true
 }
 
-/// A piece that stands next, and the restarts behind it.
+/// The next entry as it is stored, and the restarts after it.
 #[derive(Clone, Copy)]
 pub(crate) struct NextPiece<'a> {
     pub piece: FrontPiece<'a>,
     pub pending: &'a [u8],
 }
 
-/// The piece at the front of what is left before the restarts, where it shares no more than the key before it has, and
-/// nothing where the next restart points at it.
+/// The entry at the front of `rest`, and the restarts after it. None if there is no entry, if it
+/// shares more than the key before it has, or if a restart points at it and it shares something.
 #[inline]
 pub(crate) fn next_piece<'a>(
     area: &[u8],
@@ -235,7 +241,8 @@ pub(crate) fn next_piece<'a>(
     Some(NextPiece { piece, pending })
 }
 
-/// Whether the bytes before the restarts are pieces, and the restarts offsets of pieces that share nothing.
+/// Whether the bytes before the restarts are entries, and each restart is the offset of an entry
+/// that shares nothing.
 fn are_pieces(area: &[u8], restarts: &[u8]) -> bool
     requires { length restarts.now < 2 ^ 34 }
     ensures { IsTrue result ↔ IsArea area.now restarts.now }

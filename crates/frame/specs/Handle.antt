@@ -1,4 +1,4 @@
--- A block handle: where a block stands in its file, by its offset and the size of its contents.
+-- A block handle: where a block is in its file, by its offset and the size of its contents.
 use Rattle.std.specs.Prelude.{◌≡◌, ℕ, ◌<◌, ◌^◌, ◌↔◌, List, ◌++◌, drop, Option, Some}
 use Rattle.coding.specs.Answers.{and_then}
 use Rattle.coding.specs.Varint.{varint, varint_reading}
@@ -8,12 +8,12 @@ use Rattle.frame.specs.declared.handle.BlockHandle.{BlockHandle}
 unfoldable pub handle_bytes : ℕ → ℕ → List ℕ
 handle_bytes offset size = varint offset ++ varint size
 
--- a handle at the front of bytes, and the bytes behind it
+-- a handle at the front of bytes, and the bytes after it
 pub record HandleBehind : Type 0 where
   pub handle : BlockHandle
   pub rest : List ℕ
 
--- the handle whose spelling begins the bytes, its numbers below 2 ^ 64, and the bytes behind the spelling
+-- the handle whose spelling begins the bytes, its numbers below 2 ^ 64, and the bytes after it
 unfoldable pub handle_reading : List ℕ → Option HandleBehind
 handle_reading bytes =
     and_then (varint_reading (2 ^ 64) bytes) (λ offset.
@@ -23,7 +23,7 @@ handle_reading bytes =
       rest = drop size.1 (drop offset.1 bytes);
     })))
 
--- a handle is read exactly where its spelling begins the bytes
+-- a handle is read exactly if its spelling begins the bytes
 abbrev pub HandleReadLaw : Type 0
 HandleReadLaw = (bytes : List ℕ) (offset size : ℕ) (rest : List ℕ) →
     (handle_reading bytes ≡ Some (record { handle = record { offset = offset; size = size }; rest = rest })) ↔

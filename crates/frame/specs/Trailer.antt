@@ -1,5 +1,6 @@
--- A stored block: its contents, and behind them a trailer of 5 bytes. That is the type of the contents, 0 as they are
--- or 1 compressed by Snappy, and the mask of the CRC of contents and type, 4 bytes, the lowest first.
+-- A stored block: its contents, and after them a trailer of 5 bytes. That is the type of the
+-- contents, 0 as they are or 1 compressed by Snappy, and the masked CRC of contents and type, 4
+-- bytes, lowest first.
 use Rattle.std.specs.Prelude.{◌≡◌, ℕ, ◌-◌, ◌<◌, ◌≤◌, ◌==◌, not, if◌then◌else◌, List, [], ◌∷◌, ◌++◌, length, take, drop, slice_index, Result, Ok, Err}
 use Rattle.byteorder.specs.Endian.{little_bytes, little_number}
 use Rattle.coding.specs.Answers.{fault}
@@ -7,7 +8,7 @@ use Rattle.coding.specs.Crc.{crc32c, masked}
 use Rattle.coding.specs.declared.fault.Fault.{Fault}
 use Rattle.coding.specs.declared.fault.FaultName.TheVariants.{Trailer, Compressed, BlockType}
 
--- what stands behind contents that are stored as they are
+-- the trailer of contents that are stored as they are
 unfoldable pub trailer_bytes : List ℕ → List ℕ
 trailer_bytes contents = 0 ∷ little_bytes 4 (masked (crc32c (contents ++ 0 ∷ [])))
 
@@ -15,8 +16,8 @@ trailer_bytes contents = 0 ∷ little_bytes 4 (masked (crc32c (contents ++ 0 ∷
 abbrev pub stored : List ℕ → List ℕ
 stored contents = contents ++ trailer_bytes contents
 
--- The contents of a stored block, of at least 5 bytes, or the first test that fails: the checksum is that of the
--- contents and the type as stored, the type is not 1, and it is 0.
+-- The contents of a stored block, of at least 5 bytes, or the first test that fails: the checksum
+-- is that of the contents and the type, the type is not 1, and it is 0.
 unfoldable pub stored_reading : List ℕ → Result (List ℕ) Fault
 stored_reading bytes =
     let size = length bytes - 5 in
@@ -31,7 +32,7 @@ stored_reading bytes =
 abbrev pub StoredLaw : Type 0
 StoredLaw = (contents : List ℕ) → stored_reading (stored contents) ≡ Ok contents
 
--- contents are read of their stored bytes alone
+-- contents are read only of the bytes that they are stored as
 abbrev pub OnlyStoredLaw : Type 0
 OnlyStoredLaw = (bytes contents : List ℕ) → 5 ≤ length bytes → ((i : ℕ) → slice_index bytes i < 256) →
     stored_reading bytes ≡ Ok contents → bytes ≡ stored contents

@@ -14,7 +14,7 @@ ghost use Rattle.coding.specs.declared.fault.FaultName.TheVariants.{Memory};
 use crate::handle::BlockHandle;
 use coding::{Fault, FaultName};
 
-/// The bytes of a footer.
+/// The length of a footer, in bytes.
 pub const FOOTER_LEN: usize = 48;
 
 /// The bytes of a footer before the magic.
@@ -23,26 +23,26 @@ const HANDLES_LEN: usize = 40;
 /// What fills a footer up to the magic.
 const ZEROS: [u8; HANDLES_LEN] = [0; HANDLES_LEN];
 
-/// The magic of a table, the number 0xdb4775248b80fb57, the lowest byte first.
+/// The magic of a table: the number 0xdb4775248b80fb57, lowest byte first.
 const MAGIC: [u8; 8] = [0x57, 0xfb, 0x80, 0x8b, 0x24, 0x75, 0x47, 0xdb];
 
 /// The last 48 bytes of a table: the handles of the metaindex and of the index, zeros up to 40
 /// bytes, and the 8 bytes of the magic.
 #[derive(Clone, Copy, Debug, PartialEq, Eq)]
 pub struct Footer {
-    /// Where the metaindex block stands.
+    /// Where the metaindex block is.
     pub metaindex: BlockHandle,
-    /// Where the index block stands.
+    /// Where the index block is.
     pub index: BlockHandle,
 }
 
 impl Footer {
     ghost use Rattle.frame.specs.Footer.{footer_bytes, footer_reading, handles_bytes};
 
-    /// The footer that 48 bytes are.
+    /// Reads the 48 bytes of a footer. Takes no memory.
     ///
-    /// `Magic` where the last 8 of them aren't the magic, else `Handle` where the first 40 don't
-    /// begin with two handles. What stands behind these isn't tested. Takes no memory.
+    /// Magic if the last 8 bytes aren't the magic; else Handle if the first 40 don't begin with two
+    /// handles. What comes after the handles isn't tested.
     #[tactic(auto, unfolding(crate::specs::Footer::footer_reading))]
     pub fn read(bytes: &[u8]) -> Result<Footer, Fault>
         requires { length bytes.now ≡ 48 }
@@ -64,9 +64,7 @@ impl Footer {
         })
     }
 
-    /// Appends the 48 bytes.
-    ///
-    /// Refused for want of memory alone. A refusal leaves it as it was.
+    /// Appends the 48 bytes. The only fault is Memory, which leaves `out` unchanged.
     pub fn push(self, out: &mut Vec<u8>) -> Result<(), Fault>
         ensures ok { OnOk result (out.new.items ≡ out.old.items ++ footer_bytes self) }
         ensures err { OnErr result (out.new.items ≡ out.old.items) }
@@ -80,7 +78,7 @@ impl Footer {
         pushed
     }
 
-    /// Appends the 48 bytes, or on a refused growth some of them.
+    /// Appends the 48 bytes. The only fault is Memory, which may leave some of them.
     #[tactic(auto, unfolding(crate::specs::Footer::footer_bytes))]
     fn push_parts(self, out: &mut Vec<u8>) -> Result<(), Fault>
         ensures ok { OnOk result (out.new.items ≡ out.old.items ++ footer_bytes self) }

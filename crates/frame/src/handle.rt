@@ -12,34 +12,33 @@ ghost use Rattle.coding.specs.declared.fault.FaultName.TheVariants.{Memory};
 
 use coding::{Fault, push_varint, read_u64_varint};
 
-/// Where a block stands in its file.
+/// Where a block is in its file.
 ///
 /// It is spelt as two varints, in 2 to 20 bytes: the offset, and then the size.
 #[derive(Clone, Copy, Debug, PartialEq, Eq)]
 pub struct BlockHandle {
     /// The offset of the block's first byte, in bytes from the file's beginning.
     pub offset: u64,
-    /// The bytes of the block's contents. The 5 bytes of its trailer, which follow them, aren't
+    /// The length of the block's contents in bytes. The 5 bytes of the trailer after them aren't
     /// counted.
     pub size: u64,
 }
 
-/// A handle at the front of bytes.
+/// A handle at the front of bytes, and the bytes after it.
 #[derive(Clone, Copy)]
 pub struct HandleBehind<'a> {
     /// The handle.
     pub handle: BlockHandle,
-    /// The bytes behind its spelling.
+    /// The bytes after its spelling.
     pub rest: &'a [u8],
 }
 
 impl BlockHandle {
     ghost use Rattle.frame.specs.Handle.{handle_bytes, handle_reading};
 
-    /// The handle whose spelling begins the bytes.
+    /// The handle whose spelling begins the bytes. Takes no memory.
     ///
-    /// None where the bytes don't begin with the shortest spellings of two numbers below 2^64.
-    /// Takes no memory.
+    /// None if the bytes don't begin with two numbers below 2^64, each in its shortest spelling.
     #[tactic(auto, unfolding(crate::specs::Handle::handle_reading))]
     pub fn read(bytes: &[u8]) -> Option<HandleBehind<'_>>
         ensures { option_map (λ found. record { handle = found.handle; rest = found.rest.now }) result
@@ -55,9 +54,7 @@ impl BlockHandle {
         })
     }
 
-    /// Appends the spelling of the handle.
-    ///
-    /// Refused for want of memory alone. A refusal leaves it as it was.
+    /// Appends the spelling of the handle. The only fault is Memory, which leaves `out` unchanged.
     #[tactic(auto, unfolding(crate::specs::Handle::handle_bytes))]
     pub fn push(self, out: &mut Vec<u8>) -> Result<(), Fault>
         ensures ok { OnOk result (out.new.items
@@ -68,7 +65,7 @@ impl BlockHandle {
         let start = out.len();
         push_varint(out, self.offset)?;
         if let Err(refused) = push_varint(out, self.size) {
-            // The bytes of the offset go too.
+            // The bytes of the offset are taken off too.
             out.truncate(start);
             return Err(refused);
         }

@@ -16,7 +16,7 @@ ghost use Rattle.coding.specs.declared.fault.FaultName.TheVariants.{Memory};
 use byteorder::{ByteOrder, LittleEndian};
 use coding::{Fault, FaultName, crc32c, crc32c_pair, mask};
 
-/// The bytes of a trailer.
+/// The length of a trailer, in bytes.
 pub const TRAILER_LEN: usize = 5;
 
 /// The type of contents that are stored as they are.
@@ -25,13 +25,12 @@ const PLAIN: u8 = 0;
 /// The type of contents that Snappy compressed.
 const SNAPPY: u8 = 1;
 
-/// What stands behind a block's contents: 5 bytes, the type and then the checksum, the lowest byte
-/// first.
+/// The 5 bytes after a block's contents: the type, and then the checksum, lowest byte first.
 #[derive(Clone, Copy, Debug, PartialEq, Eq)]
 pub struct Trailer {
-    /// The type of the contents: 0 where they stand as they are, 1 where Snappy compressed them.
+    /// The type of the contents: 0 if they are stored as they are, 1 if Snappy compressed them.
     pub block_type: u8,
-    /// The mask of the CRC-32C of the contents and the type.
+    /// The masked CRC-32C of the contents and the type.
     pub checksum: u32,
 }
 
@@ -49,9 +48,7 @@ impl Trailer {
         }
     }
 
-    /// Appends the 5 bytes.
-    ///
-    /// Refused for want of memory alone. A refusal leaves it as it was.
+    /// Appends the 5 bytes. The only fault is Memory, which leaves `out` unchanged.
     pub fn push(self, out: &mut Vec<u8>) -> Result<(), Fault>
         ensures ok { OnOk result (out.new.items
             ≡ out.old.items ++ self.block_type ∷ little_bytes 4 self.checksum) }
@@ -64,17 +61,17 @@ impl Trailer {
     }
 }
 
-/// The contents of a stored block, which is contents and the 5 bytes of their trailer.
+/// The contents of a stored block: `bytes` less the 5 of the trailer. Takes no memory.
 ///
-/// `Trailer` where the checksum isn't that of the contents and the type, else `Compressed` where
-/// the type is 1, else `BlockType` where it isn't 0. Takes no memory.
+/// Trailer if the checksum isn't that of the contents and the type; else Compressed if the type is
+/// 1; else BlockType if it isn't 0.
 #[tactic(auto, unfolding(crate::specs::Trailer::stored_reading))]
 pub fn contents(bytes: &[u8]) -> Result<&[u8], Fault>
     requires { 5 ≤ length bytes.now }
     ensures { result_map_both (λ found. found.now) (λ e. e) result ≡ stored_reading bytes.now }
 {
     let (summed, checksum) = bytes.split_at(bytes.len() - 4);
-    // The checksum is read last: it lies behind all the bytes that are read for the sum.
+    // The checksum is read last: it comes after all the bytes that are read for the sum.
     let sum = mask(crc32c(summed));
     if sum != LittleEndian::read_u32(checksum) {
         return Err(Fault::of(FaultName::Trailer));
@@ -87,8 +84,8 @@ pub fn contents(bytes: &[u8]) -> Result<&[u8], Fault>
     }
 }
 
-/// The contents of a stored block that is known to pass the tests of [`contents`], which aren't
-/// made again. Takes no memory.
+/// The contents of a stored block that is known to pass the tests of [`contents`]. No test is made
+/// again. Takes no memory.
 pub fn reopen_contents(bytes: &[u8]) -> &[u8]
     requires long { 5 ≤ length bytes.now }
     requires passed { IsOk (stored_reading bytes.now) }

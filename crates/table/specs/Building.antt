@@ -7,12 +7,12 @@ use Rattle.block.specs.Piece.{Entry}
 use Rattle.block.specs.Building.{last_key}
 use Rattle.table.specs.declared.options.Options.{Options}
 
--- what a table is written with, and its entries so far
+-- the options of a table, and its entries so far
 pub record TableBuilding : Type 0 where
   pub options : Options
   pub entries : List Entry
 
--- the key is above the keys of entries in order, where there are any
+-- the key is above the last of these entries, if there is one
 abbrev pub IsAboveLast : (List ℕ → List ℕ → Ordering) → List Entry → List ℕ → Type 0
 IsAboveLast cmp [] key = Unit {0}
 IsAboveLast cmp (e ∷ es) key = internal_cmp cmp (last_key e.key es) key ≡ Less

@@ -4,6 +4,6 @@ use Rattle.std.specs.Result.{result_unwrap_or}
 use Rattle.std.specs.declared.cmp.Ordering.{Ordering}
 use Rattle.table.specs.Reading.{Contents, contents_of, contents_reading}
 
--- what bytes that are a table hold
+-- what bytes hold as a table; if they are invalid, the bytes without an entry
 abbrev pub contents_in : (List ℕ → List ℕ → Ordering) → List ℕ → Contents
 contents_in cmp bytes = result_unwrap_or (contents_reading cmp bytes) (contents_of bytes [])

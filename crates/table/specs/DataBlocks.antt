@@ -1,22 +1,22 @@
--- The data blocks that a list of entries is cut into. A block ends with the entry that makes its bytes reach the block
--- size; the last one may stay below it.
+-- The data blocks that a list of entries is cut into. A data block ends with the entry that makes
+-- its bytes reach the block size; the last one may stay below it.
 use Rattle.std.specs.Prelude.{◌≡◌, ◌≢◌, ℕ, ◌+◌, ◌<◌, nat_le, Bool, true, false, if◌then◌else◌, List, [], ◌∷◌, ◌++◌, length, take, ◌⊎◌, ◌↔◌}
 use Rattle.std.specs.List.{sum_by}
 use Rattle.block.specs.Piece.{Entry}
 use Rattle.block.specs.Writing.{block}
 use Rattle.table.specs.declared.options.Options.{Options}
 
--- whether the entries are some, and their block reaches the block size
+-- whether there is an entry, and the block of the entries has reached the block size
 abbrev pub is_full : Options → List Entry → Bool
 is_full o [] = false
 is_full o (e ∷ es) = nat_le o.block_size (length (block o.restart_interval (e ∷ es)))
 
--- the entries of an open block, where there are any
+-- the open data block, if it has an entry
 abbrev pub open_block : List Entry → List (List Entry)
 open_block [] = []
 open_block (e ∷ es) = (e ∷ es) ∷ []
 
--- the data blocks of entries that are open and of those behind them
+-- the data blocks of the open block's entries `latest` and those after them
 abbrev pub blocks_behind : Options → List Entry → List Entry → List (List Entry)
 blocks_behind o latest [] = open_block latest
 blocks_behind o latest (e ∷ es) =
@@ -26,14 +26,15 @@ blocks_behind o latest (e ∷ es) =
 unfoldable pub data_blocks : Options → List Entry → List (List Entry)
 data_blocks o q = blocks_behind o [] q
 
--- A data block, with these entries behind it: it has an entry, no shorter beginning of it is full, and it is full itself
--- unless nothing is behind it.
+-- p is a data block, with these entries after it: it has an entry, no shorter beginning of it is
+-- full, and it is full itself unless nothing comes after it
 pub record IsDataBlock (o : Options) (p rest : List Entry) : Type 0 where
   pub some : p ≢ []
   pub shortest : (n : ℕ) → n < length p → is_full o (take n p) ≡ false
   pub full : (is_full o p ≡ true) ⊎ (rest ≡ [])
 
--- the parts are the data blocks of the list: the first of them is one with the entries of the others behind it
+-- the parts are the data blocks of the list: the first is one, with the entries of the others after
+-- it
 abbrev pub AreDataBlocks : Options → List Entry → List (List Entry) → Type 0
 AreDataBlocks o q [] = q ≡ []
 AreDataBlocks o q (p ∷ ps) = (rest : List Entry) × (q ≡ p ++ rest) × IsDataBlock o p rest × AreDataBlocks o rest ps

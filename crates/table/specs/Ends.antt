@@ -14,7 +14,8 @@ pub record Ends : Type 0 where
   pub smallest : List ℕ
   pub largest : List ℕ
 
--- the first and the last key of a data block after this key, where its entries pass their tests
+-- the first and the last key of a data block after the key `before`, or the first test that its
+-- entries fail
 abbrev pub ends_reading : (List ℕ → List ℕ → Ordering) → Option (List ℕ) → List Entry → Result Ends Fault
 ends_reading cmp before entries = do
   _ ← data_test cmp before entries
@@ -24,7 +25,8 @@ ends_reading cmp before entries = do
 abbrev pub ends_of : List DataBlock → Ends
 ends_of blocks = record { smallest = first_key (entries_of blocks); largest = last_key [] (entries_of blocks) }
 
--- the first and the last key of a data block that is stored in these bytes, after this key
+-- the first and the last key of a stored data block after the key `before`, or the first test that
+-- it fails
 abbrev pub stored_ends : (List ℕ → List ℕ → Ordering) → Option (List ℕ) → List ℕ → Result Ends Fault
 stored_ends cmp before stored = do
   entries ← block_in stored

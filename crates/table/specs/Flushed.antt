@@ -1,4 +1,4 @@
--- The data blocks that were flushed, and their entries of the index.
+-- The data blocks that were flushed, and their index entries.
 use Rattle.std.specs.Prelude.{ℕ, ◌+◌, List, [], ◌∷◌, map, length}
 use Rattle.block.specs.Piece.{Entry}
 use Rattle.block.specs.Writing.{block}
@@ -7,20 +7,21 @@ use Rattle.table.specs.declared.flushed_block.FlushedBlock.{FlushedBlock}
 use Rattle.table.specs.Table.{IndexKeys, handle_entry}
 use Rattle.table.specs.ReadingEntries.{first_key}
 
--- the index entry of a block at this offset and of this size
+-- what the index has of a block at this offset and of this size
 abbrev pub entry_at : List ℕ → ℕ → ℕ → FlushedBlock
 entry_at key offset size = record { key = key; handle = record { offset = offset; size = size } }
 
--- the entries of the index as they are written
+-- the index entries as they are written
 abbrev pub index_entries : List FlushedBlock → List Entry
 index_entries index = map (λ i. handle_entry i.key i.handle.offset i.handle.size) index
 
--- the first key of blocks, or of what stands behind them
+-- the first key of the blocks; the key `behind` after them if there is no block
 abbrev pub next_key : List (List Entry) → List ℕ → List ℕ
 next_key [] behind = behind
 next_key (p ∷ ps) behind = first_key p
 
--- the entries of the index of blocks that stand before this key, where the first of them stands at this offset
+-- The index entries of blocks that come before the key `behind`, the first block being at offset
+-- `at`.
 abbrev pub index_before : IndexKeys → ℕ → ℕ → List (List Entry) → List ℕ → List FlushedBlock
 index_before keys interval at [] behind = []
 index_before keys interval at (p ∷ ps) behind =

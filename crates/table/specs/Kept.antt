@@ -15,7 +15,7 @@ use Rattle.table.specs.Table.{IndexKeys, stored_blocks}
 use Rattle.table.specs.ReadingEntries.{first_key}
 use Rattle.table.specs.Flushed.{index_before}
 
--- the entries of a block, by its bytes: those before its restarts
+-- the entries of a block, of its bytes before the restarts
 unfoldable pub block_entries : List ℕ → List Entry
 block_entries bytes =
     entries_behind [] (take (length bytes - (4 * little_number 4 (drop (length bytes - 4) bytes) + 4)) bytes)
@@ -25,7 +25,7 @@ abbrev pub blocks_in : List ℕ → List ℕ → List (List Entry)
 blocks_in bytes [] = []
 blocks_in bytes (size ∷ sizes) = block_entries (take size bytes) ∷ blocks_in (drop (size + 5) bytes) sizes
 
--- the entries of parts, one behind the other
+-- the entries of parts, one part after the other
 abbrev pub entries_of_parts : List (List Entry) → List Entry
 entries_of_parts parts = flat_map (λ p. p) parts
 
@@ -33,8 +33,8 @@ entries_of_parts parts = flat_map (λ p. p) parts
 unfoldable pub entries_so_far : List ℕ → List FlushedBlock → List Entry → List Entry
 entries_so_far bytes index entries = entries_of_parts (blocks_in bytes (map (λ (i : FlushedBlock). i.handle.size) index)) ++ entries
 
--- What is kept of a list: the bytes of its flushed data blocks and their entries of the index, and the entries of the
--- open block behind them, which is the one that is not flushed though it may be full.
+-- What is kept of a list: the bytes of its flushed data blocks, their index entries, and the
+-- entries of the open block after them. The open block isn't flushed, though it may be full.
 pub record IsBuilt (keys : IndexKeys) (o : Options) (parts : List (List Entry)) (bytes : List ℕ) (index : List FlushedBlock) (interval : ℕ) (entries : List Entry) : Type 0 where
   pub limits : AreInLimits o
   pub interval_is : interval ≡ o.restart_interval
@@ -51,6 +51,6 @@ pub record IsBuilt (keys : IndexKeys) (o : Options) (parts : List (List Entry)) 
 abbrev pub IsKept : IndexKeys → Options → List ℕ → List FlushedBlock → Building → Type 0
 IsKept keys o bytes index latest = (parts : List (List Entry)) × IsBuilt keys o parts bytes index latest.interval latest.entries
 
--- a block without entries, at the restart interval
+-- a block without entries at the restart interval
 abbrev pub IsSpare : Options → Building → Type 0
 IsSpare o b = b ≡ record { interval = o.restart_interval; entries = [] }

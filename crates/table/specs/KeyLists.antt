@@ -1,12 +1,12 @@
--- Keys that lie one behind the other.
+-- Keys, one after the other in one buffer.
 use Rattle.std.specs.Prelude.{◌≡◌, ℕ, zero, suc, ◌+◌, ◌-◌, ◌≤◌, List, [], ◌∷◌, length, take, drop}
 
--- the bytes from this place on, cut at each of the places where a key ends
+-- the bytes from place `from` on, cut at each place where a key ends
 abbrev pub cut_at : ℕ → List ℕ → List ℕ → List (List ℕ)
 cut_at from [] bytes = []
 cut_at from (end ∷ ends) bytes = take (end - from) bytes ∷ cut_at end ends (drop (end - from) bytes)
 
--- these places are the ends of keys that are all of the bytes from this place on
+-- the places are the ends of keys that are together all bytes from place `from` on
 abbrev pub AreEnds : ℕ → List ℕ → List ℕ → Type 0
 AreEnds from [] bytes = bytes ≡ []
 AreEnds from (end ∷ ends) bytes = (from ≤ end) × (end ≤ from + length bytes) × AreEnds end ends (drop (end - from) bytes)

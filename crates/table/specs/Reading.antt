@@ -1,4 +1,4 @@
--- What stands in a table's bytes, and the first test that other bytes fail.
+-- What is in a table's bytes, and the first test that other bytes fail.
 use Rattle.std.specs.Prelude.{ℕ, ◌-◌, ◌^◌, nat_le, Bool, true, ◌&&◌, not, List, [], ◌∷◌, length, map, drop, Option, Some, None, Result, Ok}
 use Rattle.std.specs.List.{flat_map}
 use Rattle.std.specs.Ordering.{is_gt}
@@ -15,13 +15,13 @@ use Rattle.table.specs.ReadingSteps.{pass}
 use Rattle.table.specs.ReadingEntries.{first_key, key_behind, is_above, is_some_list, data_test}
 use Rattle.table.specs.ReadingIndex.{IndexEntry, stored_at, block_in, index_reading}
 
--- the entries of a data block, and its key in the index
+-- the entries of a data block, and its index key
 pub record DataBlock : Type 0 where
   pub index_key : List ℕ
   pub entries : List Entry
 
--- The data blocks in the order of the index, the first of them after this key: each is a block, has an entry, and each
--- of its entries passes its test after the key before it in the table.
+-- The data blocks in the order of the index, the first of them after the key `before`. Each is a
+-- block with an entry, and each entry passes its test after the key before it in the table.
 abbrev pub blocks_reading : (List ℕ → List ℕ → Ordering) → Option (List ℕ) → List IndexEntry → Result (List DataBlock) Fault
 blocks_reading cmp before [] = Ok []
 blocks_reading cmp before (i ∷ is) = do
@@ -30,17 +30,18 @@ blocks_reading cmp before (i ∷ is) = do
   others ← blocks_reading cmp (key_behind before entries) is
   Ok (record { index_key = i.key; entries = entries } ∷ others)
 
--- whether a block is above the index key before it, where there is one, and none of its keys is above its own
+-- whether a block is above the index key before it, if there is one, and none of its keys is above
+-- its own index key
 abbrev pub is_between : (List ℕ → List ℕ → Ordering) → Option (List ℕ) → DataBlock → Bool
 is_between cmp below b = is_above cmp below (first_key b.entries) && not (is_gt (internal_cmp cmp (last_key [] b.entries) b.index_key))
 
--- whether each index key is at or after its block's last key and before the next block's first key, the first block
--- being above this index key
+-- Whether each index key is at or above its block's last key and below the next block's first key.
+-- The first block is above the index key `below`, if there is one.
 abbrev pub index_fits : (List ℕ → List ℕ → Ordering) → Option (List ℕ) → List DataBlock → Bool
 index_fits cmp below [] = true
 index_fits cmp below (b ∷ bs) = is_between cmp below b && index_fits cmp (Some b.index_key) bs
 
--- the data blocks that the index names, and the order of the index keys among them
+-- the data blocks that the index names; Empty if there is none, Index if an index key doesn't fit
 abbrev pub data_reading : (List ℕ → List ℕ → Ordering) → List IndexEntry → Result (List DataBlock) Fault
 data_reading cmp index = do
   _ ← pass (is_some_list index) Empty
@@ -48,8 +49,8 @@ data_reading cmp index = do
   _ ← pass (index_fits cmp None blocks) Index
   Ok blocks
 
--- The index of the bytes. They have a footer of 48 bytes with the magic and two handles, that of the metaindex and that
--- of the index; both blocks lie before it, the metaindex is a block, and so is the index.
+-- The index of the bytes. They end with a footer of 48 bytes: two handles and the magic. The
+-- metaindex and the index are before it, and both are blocks.
 abbrev pub index_in : List ℕ → Result (List Entry) Fault
 index_in bytes = do
   _ ← pass (nat_le (length bytes) (2 ^ 30)) Size
@@ -77,6 +78,7 @@ pub record Contents : Type 0 where
   pub entries : List Entry
   pub index_users : List (List ℕ)
 
+-- what the bytes hold, if these are their data blocks
 abbrev pub contents_of : List ℕ → List DataBlock → Contents
 contents_of bytes blocks = record {
   bytes = bytes;

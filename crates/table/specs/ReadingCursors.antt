@@ -12,17 +12,17 @@ abbrev pub IsRising : (List ℕ → List ℕ → Ordering) → List Entry → Ty
 IsRising cmp [] = Unit {0}
 IsRising cmp (e ∷ es) = AllByRecursion (λ f. internal_cmp cmp e.key f.key ≡ Less) es × IsRising cmp es
 
--- each entry's internal key isn't above those of all later ones
+-- each entry's internal key is at or below those of all later ones
 abbrev pub NeverFalls : (List ℕ → List ℕ → Ordering) → List Entry → Type 0
 NeverFalls cmp [] = Unit {0}
 NeverFalls cmp (e ∷ es) = AllByRecursion (λ f. is_le (internal_cmp cmp e.key f.key) ≡ true) es × NeverFalls cmp es
 
--- the entries from the first on that isn't below this internal key
+-- the entries from the first one at or above this internal key
 abbrev pub entries_from : (List ℕ → List ℕ → Ordering) → List ℕ → List Entry → List Entry
 entries_from cmp target [] = []
 entries_from cmp target (e ∷ es) = if is_lt (internal_cmp cmp e.key target) then entries_from cmp target es else e ∷ es
 
--- What a refused walk to an internal key leaves of entries: each one, in their order, but some that are below it.
+-- What a refused seek may leave: the entries in their order, less some that are below the target.
 abbrev pub LeavesFrom : (List ℕ → List ℕ → Ordering) → List ℕ → List Entry → List Entry → Type 0
 LeavesFrom cmp target [] new = new ≡ []
 LeavesFrom cmp target (e ∷ es) new =

@@ -17,25 +17,26 @@ abbrev pub first_key : List Entry → List ℕ
 first_key [] = []
 first_key (e ∷ es) = e.key
 
--- the key of the last entry, or else this
+-- the key of the last entry; `before` if there is none
 abbrev pub key_behind : Option (List ℕ) → List Entry → Option (List ℕ)
 key_behind before [] = before
 key_behind before (e ∷ es) = Some (last_key e.key es)
 
--- whether an internal key is above the one before it, where there is one
+-- whether an internal key is above the one before it, if there is one
 abbrev pub is_above : (List ℕ → List ℕ → Ordering) → Option (List ℕ) → List ℕ → Bool
 is_above cmp None key = true
 is_above cmp (Some before) key = is_lt (internal_cmp cmp before key)
 
--- An entry after this key: its key is an internal key of a user key within its limit, its value is within its limit,
--- and its key is above the key before.
+-- The tests of an entry after the key `before`: its key is an internal key (Key) and within its
+-- limit (TooLarge), its value is within its limit (TooLarge), and its key is above `before`
+-- (Order).
 abbrev pub entry_test : (List ℕ → List ℕ → Ordering) → Option (List ℕ) → Entry → Result (Unit {0}) Fault
 entry_test cmp before e = do
   _ ← internal_key_reading e.key
   _ ← pass (nat_le (length e.value) 16777215) TooLarge
   pass (is_above cmp before e.key) Order
 
--- each entry after the one before it, the first of them after this key
+-- each entry passes its tests after the one before it, the first after the key `before`
 abbrev pub entries_test : (List ℕ → List ℕ → Ordering) → Option (List ℕ) → List Entry → Result (Unit {0}) Fault
 entries_test cmp before [] = Ok tt
 entries_test cmp before (e ∷ es) = do
@@ -47,12 +48,13 @@ abbrev pub is_some_list : {A : Type 0} → List A → Bool
 is_some_list [] = false
 is_some_list (x ∷ xs) = true
 
--- the entries of a data block after this key: there is one, and each passes its test
+-- the tests of a data block after the key `before`: it has an entry (Empty), and each passes its
+-- tests
 abbrev pub data_test : (List ℕ → List ℕ → Ordering) → Option (List ℕ) → List Entry → Result (Unit {0}) Fault
 data_test cmp before entries = do
   _ ← pass (is_some_list entries) Empty
   entries_test cmp before entries
 
--- the key of each entry is an internal key
+-- each key is an internal key
 abbrev pub HaveKeys : List Entry → Type 0
 HaveKeys entries = AllByRecursion (λ e. internal_key_reading e.key ≡ Ok e.key) entries

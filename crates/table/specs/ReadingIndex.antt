@@ -1,4 +1,4 @@
--- The index of a table: for each data block a key, and where the block stands.
+-- The index of a table: for each data block a key, and where the block is.
 use Rattle.std.specs.Prelude.{ℕ, ◌+◌, nat_le, if◌then◌else◌, List, [], ◌∷◌, length, take, drop, Option, Some, None, Result, Ok, Err}
 use Rattle.coding.specs.Answers.{fault, ◌>>=◌}
 use Rattle.coding.specs.declared.fault.Fault.{Fault}
@@ -15,7 +15,7 @@ pub record IndexEntry : Type 0 where
   pub key : List ℕ
   pub stored : List ℕ
 
--- the handle, where nothing stands behind it
+-- the handle, if nothing comes after it
 abbrev pub handle_alone : BlockHandle → List ℕ → Result BlockHandle Fault
 handle_alone handle [] = Ok handle
 handle_alone handle (b ∷ bytes) = Err (fault Handle)
@@ -25,18 +25,20 @@ abbrev pub one_handle : Option HandleBehind → Result BlockHandle Fault
 one_handle None = Err (fault Handle)
 one_handle (Some found) = handle_alone found.handle found.rest
 
--- the stored block that a handle points at: contents and the 5 bytes of a trailer, before the 48 bytes of the footer
+-- The stored block that a handle points at: contents and the 5 bytes of a trailer, before the 48
+-- bytes of the footer; else Range.
 abbrev pub stored_at : List ℕ → BlockHandle → Result (List ℕ) Fault
 stored_at bytes handle =
     if nat_le (handle.offset + handle.size + 5 + 48) (length bytes) then Ok (take (handle.size + 5) (drop handle.offset bytes)) else Err (fault Range)
 
--- the entries of a stored block, or the first test that it fails: its checksum, its type, its contents
+-- the entries of a stored block, or the first test that it fails: its checksum, its type, its
+-- contents
 abbrev pub block_in : List ℕ → Result (List Entry) Fault
 block_in stored = do
   contents ← stored_reading stored
   block_reading contents
 
--- an entry of the index: an internal key within its limit, and one handle of a block within the table
+-- an entry of the index: an internal key within its limit, and one handle of a block in the table
 abbrev pub index_entry : List ℕ → Entry → Result IndexEntry Fault
 index_entry bytes e = do
   key ← internal_key_reading e.key

@@ -1,9 +1,9 @@
--- Tests one after the other: the first that fails is the answer.
+-- Tests, one after the other: the first that fails is the answer.
 use Rattle.std.specs.Prelude.{Bool, if◌then◌else◌, Result, Ok, Err}
 use Rattle.coding.specs.Answers.{fault}
 use Rattle.coding.specs.declared.fault.Fault.{Fault}
 use Rattle.coding.specs.declared.fault.FaultName.{FaultName}
 
--- a test, refused by this name where it fails
+-- a test, which is refused by this name if it fails
 abbrev pub pass : Bool → FaultName → Result (Unit {0}) Fault
 pass holds name = if holds then Ok tt else Err (fault name)

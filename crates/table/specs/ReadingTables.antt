@@ -1,4 +1,5 @@
--- What a table is: the bytes that hold a list of entries, in blocks with any lawful sharing and any lawful restarts.
+-- What a table is: the bytes that hold a list of entries, in blocks with any lawful sharing and any
+-- lawful restarts.
 use Rattle.std.specs.Prelude.{◌≡◌, ◌≢◌, ℕ, ◌<◌, ◌≤◌, ◌^◌, List, [], ◌∷◌, ◌++◌, length, slice_index, Ok}
 use Rattle.std.specs.List.{AllByRecursion}
 use Rattle.std.specs.declared.cmp.Ordering.{Ordering}
@@ -16,7 +17,7 @@ use Rattle.table.specs.ReadingEntries.{first_key, HaveKeys}
 use Rattle.table.specs.ReadingCursors.{IsRising}
 use Rattle.table.specs.Reading.{DataBlock, entries_of, table_reading}
 
--- a block of these entries is stored at a handle, before a footer's 48 bytes
+-- a block of these entries is stored where the handle says, before the 48 bytes of a footer
 pub record StandsAt (bytes : List ℕ) (handle : BlockHandle) (entries : List Entry) : Type 0 where
   pub before : List ℕ
   pub contents : List ℕ
@@ -27,14 +28,15 @@ pub record StandsAt (bytes : List ℕ) (handle : BlockHandle) (entries : List En
   pub footer : 48 ≤ length behind
   pub block : IsBlock contents entries
 
--- the last 48 bytes are a footer's: two handles, anything up to 40 bytes, and the magic
+-- the last 48 bytes are a footer: two handles, anything up to 40 bytes, and the magic
 pub record EndsWith (bytes : List ℕ) (footer : Footer) : Type 0 where
   pub before : List ℕ
   pub padding : List ℕ
   pub whole : bytes ≡ before ++ ((handles_bytes footer ++ padding) ++ magic)
   pub len : length (handles_bytes footer ++ padding) ≡ 40
 
--- an entry of the index names a data block: its key is an internal key, and its value the handle of a block that has an entry
+-- an entry of the index names a data block: its key is an internal key, and its value is the handle
+-- of a block that has an entry
 pub record IsNamed (bytes : List ℕ) (e : Entry) (b : DataBlock) : Type 0 where
   pub handle : BlockHandle
   pub key : e.key ≡ b.index_key
@@ -49,7 +51,7 @@ AreNamed bytes [] [] = Unit {0}
 AreNamed bytes (e ∷ es) (b ∷ bs) = IsNamed bytes e b × AreNamed bytes es bs
 AreNamed bytes _ _ = ⊥
 
--- a key of the index is below the first key of the next block, where there is one
+-- a key of the index is below the first key of the next block, if there is one
 abbrev pub IsBelowNext : (List ℕ → List ℕ → Ordering) → List ℕ → List DataBlock → Type 0
 IsBelowNext cmp key [] = Unit {0}
 IsBelowNext cmp key (b ∷ bs) = internal_cmp cmp key (first_key b.entries) ≡ Less
@@ -77,10 +79,11 @@ pub record IsTable (cmp : List ℕ → List ℕ → Ordering) (bytes : List ℕ)
   pub values : AllByRecursion (λ e. length e.value ≤ 16777215) entries
   pub rising : IsRising cmp entries
 
+-- each number is a byte
 abbrev pub AreBytes : List ℕ → Type 0
 AreBytes bytes = (i : ℕ) → slice_index bytes i < 256
 
--- Bytes that are a table of entries read as those, and bytes that read as entries are a table of them.
+-- Bytes read as a list of entries exactly if they are a table of it.
 pub record ReadsTables (cmp : List ℕ → List ℕ → Ordering) : Type 0 where
   pub found : (bytes : List ℕ) (entries : List Entry) → AreBytes bytes → table_reading cmp bytes ≡ Ok entries → IsTable cmp bytes entries
   pub only : (bytes : List ℕ) (entries : List Entry) → IsTable cmp bytes entries → table_reading cmp bytes ≡ Ok entries

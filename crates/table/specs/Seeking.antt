@@ -1,4 +1,4 @@
--- Where a walk to an internal key begins in a block: at a restart, since the key there stands whole.
+-- Where a walk to an internal key begins in a block: at a restart, since the whole key is there.
 use Rattle.std.specs.Prelude.{◌≡◌, ℕ, ◌<◌, Bool, true, false, List, [], ◌∷◌, length, drop, slice_index}
 use Rattle.std.specs.Ordering.{is_lt}
 use Rattle.std.specs.declared.cmp.Ordering.{Ordering}
@@ -6,16 +6,16 @@ use Rattle.block.specs.Piece.{Entry}
 use Rattle.block.specs.Sound.{Sound}
 use Rattle.ikey.specs.Order.{internal_cmp}
 
--- whether the first entry, where there is one, is below this internal key
+-- whether the first entry, if there is one, is below this internal key
 abbrev pub first_is_below : (List ℕ → List ℕ → Ordering) → List ℕ → List Entry → Bool
 first_is_below cmp target [] = false
 first_is_below cmp target (e ∷ es) = is_lt (internal_cmp cmp e.key target)
 
--- whether the entry at a restart, where there is one, is below this internal key
+-- whether the entry at a restart, if there is one, is below this internal key
 abbrev pub restart_is_below : (List ℕ → List ℕ → Ordering) → List ℕ → Sound → ℕ → Bool
 restart_is_below cmp target block restart = first_is_below cmp target (drop (slice_index block.restarts restart) block.entries)
 
--- the last restart whose key is below this internal key, or the first restart where there is none
+-- the last restart whose key is below this internal key, or the first restart if there is none
 pub record IsLastBelow (cmp : List ℕ → List ℕ → Ordering) (target : List ℕ) (block : Sound) (restart : ℕ) : Type 0 where
   pub within : restart < length block.restarts
   pub below : 0 < restart → restart_is_below cmp target block restart ≡ true

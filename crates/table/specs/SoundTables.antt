@@ -7,8 +7,8 @@ use Rattle.table.specs.ReadingEntries.{first_key}
 use Rattle.table.specs.ReadingIndex.{IndexEntry, index_reading}
 use Rattle.table.specs.Reading.{DataBlock, index_in, data_reading, entries_of}
 
--- the bytes have an index block of these entries, and data blocks from the first of these keys to
--- the last
+-- The bytes have an index block of these entries, and data blocks that begin with the first of
+-- these keys and end with the second.
 pub record IsChecked (cmp : List ℕ → List ℕ → Ordering) (bytes : List ℕ) (named : List Entry)
     (smallest largest : List ℕ) : Type 0 where
   pub index : List IndexEntry

@@ -1,5 +1,5 @@
--- The one table that is written of a list: its data blocks, the metaindex block, which has no entry, the index block and
--- the footer. Each block has its trailer.
+-- The one table that is written of a list: its data blocks, the metaindex block, which has no
+-- entry, the index block and the footer. Each block has its trailer.
 use Rattle.std.specs.Prelude.{ℕ, ◌+◌, ◌^◌, nat_le, if◌then◌else◌, List, [], ◌∷◌, ◌++◌, length, Result, Ok, Err}
 use Rattle.std.specs.List.{flat_map}
 use Rattle.std.specs.declared.cmp.Ordering.{Ordering}
@@ -18,7 +18,7 @@ use Rattle.table.specs.declared.options.Options.{Options}
 use Rattle.table.specs.DataBlocks.{data_blocks}
 use Rattle.table.specs.ReadingEntries.{first_key}
 
--- how the keys of an index are made: between two keys, and at or above a key
+-- how index keys are made: between two keys, and at or above a key
 pub record IndexKeys : Type 0 where
   pub between : List ℕ → List ℕ → List ℕ
   pub above : List ℕ → List ℕ
@@ -30,7 +30,8 @@ index_keys cmp separator_of successor_of = record {
   above = internal_successor_of cmp successor_of;
 }
 
--- the key of a data block in the index: between its last key and the first key behind it, or above its last key
+-- the index key of a data block: the separator of its last key and the next block's first, or for
+-- the last block the successor of its last key
 abbrev pub index_key : IndexKeys → List Entry → List (List Entry) → List ℕ
 index_key keys p [] = keys.above (last_key [] p)
 index_key keys p (n ∷ ns) = keys.between (last_key [] p) (first_key n)
@@ -39,7 +40,7 @@ index_key keys p (n ∷ ns) = keys.between (last_key [] p) (first_key n)
 abbrev pub handle_entry : List ℕ → ℕ → ℕ → Entry
 handle_entry key offset size = record { key = key; value = handle_bytes offset size }
 
--- the entries of the index, where the first data block stands at this offset
+-- the entries of the index, the first data block being at offset `at`
 abbrev pub index_from : IndexKeys → ℕ → ℕ → List (List Entry) → List Entry
 index_from keys interval at [] = []
 index_from keys interval at (p ∷ ps) =
@@ -53,18 +54,18 @@ stored_blocks interval parts = flat_map (λ p. stored (block interval p)) parts
 abbrev pub metaindex : List ℕ
 metaindex = block 1 []
 
--- the footer behind this many bytes of data blocks, the metaindex, and an index of this size
+-- the footer after data blocks of `at` bytes, the metaindex, and an index of this size
 abbrev pub footer_at : ℕ → ℕ → Footer
 footer_at at size = record {
   metaindex = record { offset = at; size = length metaindex };
   index = record { offset = at + length metaindex + 5; size = size };
 }
 
--- what stands behind the data blocks
+-- what comes after the data blocks: the metaindex, the index and the footer
 unfoldable pub closing : ℕ → List Entry → List ℕ
 closing at index = stored metaindex ++ (stored (block 1 index) ++ footer_bytes (footer_at at (length (block 1 index))))
 
--- the table of data blocks
+-- the table of these data blocks
 abbrev pub table_of : IndexKeys → ℕ → List (List Entry) → List ℕ
 table_of keys interval parts =
     stored_blocks interval parts ++ closing (length (stored_blocks interval parts)) (index_from keys interval 0 parts)
@@ -74,6 +75,6 @@ unfoldable pub table : (List ℕ → List ℕ → Ordering) → (List ℕ → Li
 table cmp separator_of successor_of o q =
     table_of (index_keys cmp separator_of successor_of) o.restart_interval (data_blocks o q)
 
--- bytes of a table that has at most 2 ^ 30
+-- the bytes; TooLarge if they are more than 2 ^ 30
 abbrev pub within_limit : List ℕ → Result (List ℕ) Fault
 within_limit bytes = if nat_le (length bytes) (2 ^ 30) then Ok bytes else Err (fault TooLarge)

@@ -1,4 +1,5 @@
--- What is left of a table that is being walked: entries of a data block, and behind them the index's other entries.
+-- What is left of a table that is being walked: entries of a data block, and then the other entries
+-- of the index.
 use Rattle.std.specs.Prelude.{◌≡◌, ℕ, ◌<◌, true, List, [], ◌++◌, length, drop, Result, Ok}
 use Rattle.std.specs.List.{flat_map, AllByRecursion}
 use Rattle.std.specs.Ordering.{is_le}
@@ -21,16 +22,16 @@ block_named bytes value = do
   stored ← stored_at bytes handle
   block_in stored
 
--- the entries of the data block that an entry of the index names, where it names one
+-- the entries of the data block that an entry of the index names; none if it names none
 unfoldable pub entries_named : List ℕ → Entry → List Entry
 entries_named bytes i = result_unwrap_or (block_named bytes i.value) []
 
--- the entries of the data blocks that entries of the index name, one behind the other
+-- the entries of the data blocks that entries of the index name, one block after the other
 abbrev pub all_named : List ℕ → List Entry → List Entry
 all_named bytes index = flat_map (entries_named bytes) index
 
--- An entry of the index names a data block. The block has an entry, its keys are internal keys and rise strictly, and
--- none of them is above the index key.
+-- An entry of the index names a data block. The block has an entry, its internal keys rise
+-- strictly, and none of them is above the index key.
 pub record NamesBlock (cmp : List ℕ → List ℕ → Ordering) (bytes : List ℕ) (i : Entry) : Type 0 where
   pub key : internal_key_reading i.key ≡ Ok i.key
   pub block : block_named bytes i.value ≡ Ok (entries_named bytes i)
@@ -39,8 +40,8 @@ pub record NamesBlock (cmp : List ℕ → List ℕ → Ordering) (bytes : List �
   pub rising : IsRising cmp (entries_named bytes i)
   pub within : AllByRecursion (λ e. is_le (internal_cmp cmp e.key i.key) ≡ true) (entries_named bytes i)
 
--- These entries of the index name the data blocks of the table that has these entries. The index keys rise strictly, and
--- so do the entries'.
+-- These entries of the index name the data blocks of the table of these entries. The index keys
+-- rise strictly, and so do the entries' keys.
 pub record Indexes (cmp : List ℕ → List ℕ → Ordering) (bytes : List ℕ) (index entries : List Entry) : Type 0 where
   pub some : 0 < length index
   pub named : AllByRecursion (NamesBlock cmp bytes) index
@@ -48,8 +49,8 @@ pub record Indexes (cmp : List ℕ → List ℕ → Ordering) (bytes : List ℕ)
   pub whole : all_named bytes index ≡ entries
   pub rising : IsRising cmp entries
 
--- What is left of a table whose index is known: of its entries all but the first so many. Nothing is left of a data block
--- only where no other block is.
+-- What is left of a table whose index is known: all its entries but the first `passed`. If nothing
+-- is left of the data block, no other block is left.
 pub record IsLeft (cmp : List ℕ → List ℕ → Ordering) (bytes : List ℕ) (names block index : List Entry) : Type 0 where
   pub all : Indexes cmp bytes names (all_named bytes names)
   pub keys : HaveKeys block

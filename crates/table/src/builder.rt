@@ -18,9 +18,10 @@ use std::alloc::Global;
 use std::marker::{Model, PhantomData};
 use std::mem;
 
-/// A table that is being written, seen as its options and its entries so far.
+/// A table that is being written: its options and its entries so far.
 ///
-/// Entries are gathered into a block until that reaches the block size; with the next entry the block is flushed.
+/// Entries are added to a block until it reaches the block size. It is flushed when the next entry
+/// is added. Why: its index key lies between its last key and that entry's.
 #[derive(Drop)]
 pub struct TableBuilder<C: Comparator> {
     alloc: Global,
@@ -29,7 +30,7 @@ pub struct TableBuilder<C: Comparator> {
     flushed: Flushed,
     /// The block that takes the next entry, unless it is full.
     block: BlockBuilder,
-    /// A block without entries, which takes the next one where that is full.
+    /// A block without entries, which takes the next entry if that one is full.
     next: BlockBuilder,
     order: PhantomData<C>,
 }
@@ -72,9 +73,8 @@ impl<C: Comparator> TableBuilder<C> {
         }
     }
 
-    /// Whether a key is above the last one, as [`TableBuilder::add`] asks of its key. Without an entry each key is.
-    ///
-    /// It takes no memory.
+    /// Whether `key` is above the last key, as [`TableBuilder::add`] requires. Without an entry
+    /// each key is. Takes no memory.
     pub fn is_above_last(&self, key: &InternalKey) -> bool
         ensures { IsTrue result ↔ IsAboveLast C.cmp self.now.entries key.now.bytes.now }
     {
@@ -87,9 +87,10 @@ impl<C: Comparator> TableBuilder<C> {
         last.compare::<C>(key).is_lt()
     }
 
-    /// Appends an entry: a key above the last one, and a value of at most 16,777,215 bytes.
+    /// Appends an entry. Requires a key above the last one, and a value of at most 16,777,215
+    /// bytes.
     ///
-    /// Refused for want of memory alone. A refusal leaves it as it was.
+    /// The only fault is Memory, which leaves the builder unchanged.
     pub fn add(&mut self, key: InternalKey, value: &[u8]) -> Result<(), Fault>
         requires above { IsAboveLast C.cmp self.old.entries key.bytes.now }
         requires value_fits { length value.now < 2 ^ 24 }
@@ -111,7 +112,7 @@ impl<C: Comparator> TableBuilder<C> {
         self.next.add(key.bytes, value)?;
         let file_size = self.options.file_size;
         if let Err(refused) = self.flushed.push(between, &self.block, file_size) {
-            // The next block has no entry again.
+            // The next block is emptied again.
             self.next.clear();
             return Err(refused);
         }
@@ -120,8 +121,8 @@ impl<C: Comparator> TableBuilder<C> {
         Ok(())
     }
 
-    /// The bytes of the data blocks that are flushed, each with the 5 of its trailer: those that reach the block size. An
-    /// open block isn't counted.
+    /// The flushed size: the bytes of the data blocks that have reached the block size, each with
+    /// the 5 of its trailer. An open block isn't counted.
     pub fn flushed(&self) -> u64
         ensures { result ≡ flushed self.now.options self.now.entries }
     {
@@ -133,7 +134,8 @@ impl<C: Comparator> TableBuilder<C> {
         (self.flushed.bytes.len() + open) as u64
     }
 
-    /// The table of the entries. `TooLarge` where it would have more than 2^30 bytes. A refusal uses the builder up.
+    /// The table of the entries. Faults: TooLarge if it would have more than 2^30 bytes, else only
+    /// Memory. A refusal uses the builder up.
     pub fn finish(self) -> Result<Vec<u8>, Fault>
         ensures { EqualOrMemory (λ v. v.items) result
             (within_limit (table C.cmp C.separator_of C.successor_of self.options self.entries)) }
@@ -155,7 +157,7 @@ impl<C: Comparator> TableBuilder<C> {
     }
 }
 
-/// Whether a block has an entry and reaches the block size.
+/// Whether a block has an entry and has reached the block size.
 fn is_full(block: &BlockBuilder, options: &Options) -> bool
     requires { block.now.interval ≡ options.now.restart_interval }
     ensures { result ≡ is_full options.now block.now.entries }

@@ -1,4 +1,4 @@
-//! Which bytes are a table.
+//! Which bytes are a table: the tests of a reader.
 
 ghost use Rattle.std.specs.Prelude.{◌≡◌, ◌≤◌, ◌&&◌, not, IfOk, OnOk, IsOk, List, length, Ok};
 ghost use Rattle.std.specs.Option.{option_map};
@@ -24,38 +24,41 @@ use ikey::{Comparator, InternalKey, KeyBuf};
 use std::alloc::Global;
 use std::cmp::Ordering;
 
-/// The most bytes of a table, 2^30.
+/// The greatest length of a table, 2^30 bytes.
 pub const MAX_TABLE_LEN: usize = 1 << 30;
 
-/// The most bytes of a value, 2^24 - 1.
+/// The greatest length of a value, 2^24 - 1 bytes.
 pub const MAX_VALUE_LEN: usize = 16_777_215;
 
-/// Reads bytes as a table: one list of entries, whose internal keys rise strictly.
-///
-/// A table has data blocks, a metaindex block, an index block and a footer. Each block is followed by a type of one byte
-/// and the masked CRC-32C of both. The footer's 48 bytes are the handles of the metaindex and of the index, anything up
-/// to 40 bytes, and the magic. The index has an entry for each data block: a key at or above the block's keys and below
-/// those of the next, and the block's handle. What the metaindex holds isn't read.
+/// Reads bytes as a table: one list of entries, whose internal keys rise strictly. `layout.rt`
+/// shows the format. What the metaindex holds isn't read.
 ///
 /// Other bytes are refused by the first of these tests that fails:
+///
 /// 1. they are at most 2^30: `Size`;
 /// 2. they are at least 48: `Short`;
-/// 3. they end with the magic: `Magic`;
-/// 4. both handles of the footer have a reading: `Handle`;
-/// 5. the metaindex, and then the index, lies before the footer: `Range`;
-/// 6. the metaindex block, and
-/// 7. the index block has its checksum, else `Trailer`; isn't compressed by Snappy, else `Compressed`; is of type 0, else
-///    `BlockType`; and is a block, else `Block`;
-/// 8. of each entry of the index in order, the key is an internal key: `Key`; its user key has at most 65,535 bytes:
-///    `TooLarge`; the value is one handle: `Handle`; and that lies before the footer: `Range`;
+/// 3. the last 8 are the magic: `Magic`;
+/// 4. both handles of the footer have a reading: `Handle`; the rest up to 40 bytes isn't tested;
+/// 5. the metaindex, and then the index, is before the footer: `Range`;
+/// 6. the metaindex is a stored block: (1);
+/// 7. the index is a stored block: (1);
+/// 8. of each entry of the index in order: the key is an internal key: `Key`; its user key has at
+///    most 65,535 bytes: `TooLarge`; the value is one handle: `Handle`; what it points at is before
+///    the footer: `Range`;
 /// 9. the index has an entry: `Empty`;
-/// 10. of each data block in the order of the index, the tests of a block, as in 7; it has an entry: `Empty`; and of each
-///     entry in order, the key is an internal key: `Key`; its user key has at most 65,535 bytes and the value at most
-///     16,777,215: `TooLarge`; and the key is above the one before it in the table: `Order`;
-/// 11. each key of the index is at or above its block's last key, and below the next block's first: `Index`.
+/// 10. of each data block in the order of the index: it is a stored block: (1); it has an entry:
+///     `Empty`; and of each entry in order: the key is an internal key: `Key`; its user key has at
+///     most 65,535 bytes and the value at most 16,777,215: `TooLarge`; the key is above the one
+///     before it in the table: `Order`;
+/// 11. each key of the index is at or above its block's last key, and below the next block's first:
+///     `Index`.
 ///
-/// It reads each data block once, and keeps two keys; on the way it takes the memory of the keys of the index. What a
-/// footer or an index claims is held against the bytes that are there before memory is asked for.
+/// (1) Its checksum is that of contents and type: `Trailer`; the type isn't 1, which is Snappy's:
+///     `Compressed`; it is 0: `BlockType`; the contents are a block: `Block`.
+///
+/// Or the fault is Memory. It reads each data block once, and keeps two keys; on the way it takes
+/// the memory of the index keys. What a footer or an index claims is compared with the bytes that
+/// are there before memory is asked for.
 pub fn check<C: Comparator>(alloc: Global, bytes: &[u8]) -> Result<SoundTable<'_, C>, Fault>
     // The bytes are a table of what is read.
     ensures found { IfOk result (λ table. IsTable C.cmp bytes.now table.entries) }
@@ -68,7 +71,7 @@ pub fn check<C: Comparator>(alloc: Global, bytes: &[u8]) -> Result<SoundTable<'_
     read(alloc, bytes)
 }
 
-/// The law that bytes are read as a table exactly where they are one. A call does nothing.
+/// The law that bytes read as a table exactly if they are one. A call does nothing.
 pub fn reads_tables<C: Comparator>()
     ensures { ReadsTables C.cmp }
 {}
@@ -83,7 +86,7 @@ fn read<C: Comparator>(alloc: Global, bytes: &[u8]) -> Result<SoundTable<'_, C>,
     Ok(SoundTable::of(bytes, block, bounds))
 }
 
-/// The stored block that a handle points at, where it lies before the footer.
+/// The stored block that `handle` points at; Range unless it is before the footer.
 pub(crate) fn stored_at(bytes: &[u8], handle: BlockHandle) -> Result<&[u8], Fault>
     ensures reading { result_map_both (λ stored. stored.now) (λ e. e) result ≡ stored_at bytes.now handle }
     ensures long { IfOk result (λ stored. 5 ≤ length stored.now) }
@@ -100,7 +103,7 @@ pub(crate) fn stored_at(bytes: &[u8], handle: BlockHandle) -> Result<&[u8], Faul
     Ok(stored)
 }
 
-/// The block that is stored in bytes.
+/// The block in stored bytes, or the first test that they fail.
 fn block_in(stored: &[u8]) -> Result<SoundBlock<'_>, Fault>
     requires { 5 ≤ length stored.now }
     ensures { EqualOrMemory (λ block. block.entries) result (block_in stored.now) }
@@ -108,7 +111,8 @@ fn block_in(stored: &[u8]) -> Result<SoundBlock<'_>, Fault>
     block::check(contents(stored)?)
 }
 
-/// The index block, where the footer and the metaindex block pass their tests.
+/// The index block, or the first test that the footer, the metaindex block or the index block
+/// fails.
 fn index_in(bytes: &[u8]) -> Result<SoundBlock<'_>, Fault>
     ensures { EqualOrMemory (λ block. block.entries) result (index_in bytes.now) }
 {
@@ -126,7 +130,7 @@ fn index_in(bytes: &[u8]) -> Result<SoundBlock<'_>, Fault>
     block_in(index)
 }
 
-/// An entry of the index.
+/// What an entry of the index names, or the first test that it fails.
 fn indexed_block<'a>(
     alloc: Global,
     bytes: &'a [u8],
@@ -149,7 +153,7 @@ fn indexed_block<'a>(
     })
 }
 
-/// The entries of the index.
+/// What each entry of the index names, or the first test that one fails.
 fn indexed_blocks<'a>(
     alloc: Global,
     bytes: &'a [u8],
@@ -166,7 +170,7 @@ fn indexed_blocks<'a>(
     Ok(all)
 }
 
-/// Tests an entry that stands after this key.
+/// Tests an entry after the key `before`, and answers its key.
 fn test_entry<'k, C: Comparator>(
     before: Option<InternalKey<'_>>,
     key: &'k [u8],
@@ -188,8 +192,9 @@ fn test_entry<'k, C: Comparator>(
     }
 }
 
-/// The first and the last key of the entries that are still to come, which stand after this key, where they are a block and
-/// pass their tests. What is wrong with one of them may be told before what is wrong with the block.
+/// The first and the last key of the entries still to come, after the key `before`, if they are of
+/// a block and pass their tests. A fault of an entry may be answered although the bytes are no
+/// block.
 fn bounds_ahead<C: Comparator>(
     alloc: Global,
     cursor: &mut CheckingCursor<'_>,
@@ -215,8 +220,8 @@ fn bounds_ahead<C: Comparator>(
     Ok(Bounds { smallest, largest })
 }
 
-/// The first and the last key of a stored data block that stands after this key, where it is a block and its entries pass
-/// their tests. The cursor walks over them, wherever it was.
+/// The first and the last key of a stored data block after the key `before`, or the first test that
+/// it fails. `cursor` walks over it, wherever it was before.
 fn bounds_of<'a, C: Comparator>(
     alloc: Global,
     cursor: &mut CheckingCursor<'a>,
@@ -239,7 +244,8 @@ fn bounds_of<'a, C: Comparator>(
     }
 }
 
-/// Whether a block of these bounds is above the index key before it, and none of its keys above its own.
+/// Whether a block with these bounds is above the index key before it, and none of its keys is
+/// above its own index key.
 fn is_between<C: Comparator>(below: Option<&KeyBuf>, bounds: &Bounds, key: &KeyBuf) -> bool
     ensures { result
         ≡ (is_above C.cmp (option_map (λ key. key.now) below.entry) bounds.now.smallest
@@ -252,8 +258,8 @@ fn is_between<C: Comparator>(below: Option<&KeyBuf>, bounds: &Bounds, key: &KeyB
     above && bounds.largest.as_key().compare::<C>(&key.as_key()) != Ordering::Greater
 }
 
-/// The first and the last key of the data blocks that the index names, where these and the index keys among them pass
-/// their tests.
+/// The first and the last key of the data blocks that the index names, or the first test that they
+/// or the index keys among them fail.
 fn bounds_of_all<'a, C: Comparator>(
     alloc: Global,
     index: &[IndexedBlock<'a>],
@@ -264,7 +270,7 @@ fn bounds_of_all<'a, C: Comparator>(
     let Some((first, others)) = index.split_first() else {
         return Err(Fault::of(FaultName::Empty));
     };
-    // One cursor for all blocks, so that the memory of its key is asked for once.
+    // One cursor walks all blocks, so the memory of its key is asked for once.
     let mut cursor = CheckingCursor::none(alloc);
     let mut bounds = bounds_of::<C>(alloc, &mut cursor, first.stored, None)?;
     let mut fits = is_between::<C>(None, &bounds, &first.key);

@@ -12,39 +12,37 @@ use ikey::{Comparator, InternalKey};
 
 /// A place in a list of entries.
 pub trait Entries {
-    /// The entries that are still to come.
+    /// The entries still to come.
     ghost remaining: { Self → List Entry };
 }
 
-/// A place in a list of entries whose internal keys never fall: the entries that are still to come.
+/// A place in a list of entries whose internal keys never fall: the entries still to come.
 pub trait Cursor<'a, C: Comparator>: Entries {
     /// Whether an entry is still to come. Takes no memory.
     fn valid(&self) -> bool
         ensures some { IsTrue result ↔ (0 < length (Self.remaining self.now)) }
         ensures ordered { NeverFalls C.cmp (Self.remaining self.now) };
 
-    /// The internal key of the first entry that is still to come. Takes no memory.
+    /// The internal key of the next entry. Takes no memory.
     fn key(&self) -> InternalKey<'_>
         requires { 0 < length (Self.remaining self.now) }
         ensures { option_map (λ e. e.key) (slice_get (Self.remaining self.now) 0) ≡ Some result.bytes.now };
 
-    /// The value of the first entry that is still to come. Takes no memory.
+    /// The value of the next entry. Takes no memory.
     fn value(&self) -> &'a [u8]
         requires { 0 < length (Self.remaining self.now) }
         ensures { option_map (λ e. e.value) (slice_get (Self.remaining self.now) 0) ≡ Some result.now };
 
-    /// Takes the first entry off.
-    ///
-    /// Refused for want of memory alone. A refusal leaves it as it was.
+    /// Takes off the next entry. The only fault is Memory, which leaves the cursor unchanged.
     fn advance(&mut self) -> Result<(), Fault>
         requires { 0 < length (Self.remaining self.old) }
         ensures ok { OnOk result (Self.remaining self.new ≡ drop 1 (Self.remaining self.old)) }
         ensures err { OnErr result (Self.remaining self.new ≡ Self.remaining self.old) }
         ensures memory { IsOkUnless result (fault Memory) };
 
-    /// Takes off the entries below an internal key. It never goes back.
+    /// Takes off the entries below `target`. It never goes back.
     ///
-    /// Refused for want of memory alone. A refusal may have taken off some of those entries, and no others.
+    /// The only fault is Memory. Some of those entries may be lost then, and no others.
     fn seek(&mut self, target: InternalKey<'_>) -> Result<(), Fault>
         ensures ok { OnOk result
             (Self.remaining self.new ≡ entries_from C.cmp target.entry.bytes.now (Self.remaining self.old)) }
@@ -57,7 +55,7 @@ impl<S: Entries> Entries for &mut S {
     ghost remaining = { λ lent. S.remaining lent.now };
 }
 
-/// A cursor that is only lent.
+/// A lent cursor is a cursor too.
 impl<'a, C: Comparator, S: Cursor<'a, C>> Cursor<'a, C> for &mut S {
     fn valid(&self) -> bool {
         (**self).valid()

@@ -18,14 +18,14 @@ use frame::{FOOTER_LEN, TRAILER_LEN};
 use ikey::KeyBuf;
 use std::alloc::Global;
 
-/// The most bytes that are asked for before they are written, 64 MiB.
+/// The greatest number of bytes that are asked for before they are written, 64 MiB.
 const MAX_ROOM: u64 = 1 << 26;
 
-/// The block without entries, as it is for the metaindex.
+/// The length of the block without entries, as the metaindex is.
 const EMPTY_BLOCK_LEN: usize = 8;
 
-/// Data blocks with their trailers, as they stand at the beginning of a table, and what the index
-/// has of them.
+/// Data blocks with their trailers, as they are at the beginning of a table, and what the index has
+/// of them.
 #[derive(Drop)]
 pub(crate) struct Flushed {
     pub bytes: Vec<u8>,
@@ -33,10 +33,10 @@ pub(crate) struct Flushed {
 }
 
 impl Flushed {
-    /// Appends a block with its trailer, which has this key in the index. With the first, room is
-    /// asked for where a file is to have this size.
+    /// Appends a block with its trailer; `key` is its index key. At the first block, room is asked
+    /// for a file of `file_size` bytes.
     ///
-    /// Refused for want of memory alone. A refusal leaves it as it was.
+    /// The only fault is Memory, which leaves the blocks unchanged.
     pub fn push(&mut self, key: KeyBuf, builder: &BlockBuilder, file_size: u64) -> Result<(), Fault>
         ensures bytes { OnOk result
             (self.new.bytes.items ≡ self.old.bytes.items ++ stored
@@ -52,7 +52,7 @@ impl Flushed {
     {
         self.index.reserve(1)?;
         if self.bytes.is_empty() {
-            // A sixteenth is for the index. Where so much is refused, the file grows block by block.
+            // A sixteenth is for the index. If so much is refused, the file grows block by block.
             let size = file_size.min(MAX_ROOM);
             let _room = self.bytes.reserve((size + size / 16) as usize);
         }
@@ -61,9 +61,9 @@ impl Flushed {
         Ok(())
     }
 
-    /// The table of the blocks: they, the metaindex, the index and the footer.
+    /// The table of these data blocks: the blocks, the metaindex, the index and the footer.
     ///
-    /// TooLarge where it would have more than 2^30 bytes.
+    /// Faults: TooLarge if it would have more than 2^30 bytes, else only Memory.
     pub fn finish(self, alloc: Global) -> Result<Vec<u8>, Fault>
         ensures { EqualOrMemory (λ v. v.items) result
             (within_limit (self.bytes.items
@@ -80,7 +80,7 @@ impl Flushed {
     }
 }
 
-/// The index block, unless it has more bytes than a table may have.
+/// The index block. Faults: TooLarge, only if it has more than 2^30 bytes; else only Memory.
 fn index_block(alloc: Global, index: &[FlushedBlock]) -> Result<BlockBuilder, Fault>
     ensures ok { IfOk result (λ b. b ≡ record { interval = 1; entries = index_entries index.now }) }
     ensures err { IfErr result

@@ -3,11 +3,11 @@
 use frame::BlockHandle;
 use ikey::KeyBuf;
 
-/// What stands in the index for a data block.
+/// What the index has of a data block.
 #[derive(Drop)]
 pub(crate) struct FlushedBlock {
-    /// A key at or above the block's last key, and below the first key behind it.
+    /// A key at or above the block's last key, and below the next block's first key.
     pub key: KeyBuf,
-    /// Where the block stands.
+    /// Where the block is.
     pub handle: BlockHandle,
 }

@@ -4,10 +4,10 @@ ghost use Rattle.std.specs.Prelude.{◌≤◌, length};
 
 use ikey::KeyBuf;
 
-/// What an entry of the index stands for.
+/// What an entry of the index names.
 #[derive(Drop)]
 pub(crate) struct IndexedBlock<'a> {
-    /// A key at or above those of the data block, and below those of the next.
+    /// A key at or above the block's last key, and below the next block's first key.
     pub key: KeyBuf,
     /// The block's contents, and the 5 bytes of their trailer.
     pub stored: &'a [u8],

@@ -1,4 +1,4 @@
-//! Keys that lie one behind the other.
+//! Keys, one after the other in one buffer.
 
 ghost use Rattle.std.specs.Prelude.{◌≡◌, ◌+◌, ◌<◌, ◌↔◌, [], ◌∷◌, ◌++◌, length, slice_index_or, IsTrue, OnOk, OnErr, IsOkUnless};
 ghost use Rattle.coding.specs.Answers.{fault};
@@ -9,13 +9,13 @@ use coding::Fault;
 use std::alloc::Global;
 use std::marker::Model;
 
-/// A list of keys, seen as the bytes of each. They lie one behind the other in one buffer, so that a key takes its bytes
-/// and a place.
+/// A list of keys. They are one after the other in one buffer, so a key takes its bytes and a
+/// place.
 #[derive(Drop)]
 pub struct KeyList {
     /// The bytes of all keys.
     bytes: Vec<u8>,
-    /// Where each key ends among them.
+    /// Where each key ends in the buffer.
     ends: Vec<usize>,
 }
 
@@ -48,14 +48,14 @@ impl KeyList {
         self.ends.as_slice().len()
     }
 
-    /// Whether there are none.
+    /// Whether there are no keys.
     pub fn is_empty(&self) -> bool
         ensures { IsTrue result ↔ (length self.now ≡ 0) }
     {
         self.len() == 0
     }
 
-    /// The key at a place, counted from 0.
+    /// The key at `place`, counted from 0.
     pub fn get(&self, place: usize) -> &[u8]
         requires { place < length self.now }
         ensures { result.now ≡ slice_index_or self.now place [] }
@@ -63,7 +63,7 @@ impl KeyList {
         cut(&self.bytes, &self.ends, place)
     }
 
-    /// Appends a key. Refused for want of memory alone. A refusal leaves it as it was.
+    /// Appends a key. The only fault is Memory, which leaves the list unchanged.
     pub(crate) fn push(&mut self, key: &[u8]) -> Result<(), Fault>
         ensures ok { OnOk result (self.new ≡ self.old ++ key.now ∷ []) }
         ensures err { OnErr result (self.new ≡ self.old) }
@@ -74,7 +74,7 @@ impl KeyList {
     }
 }
 
-/// The key at a place of bytes that are cut at these ends.
+/// The key at `place`, if `bytes` are cut at `ends`.
 fn cut<'k>(bytes: &'k [u8], ends: &[usize], place: usize) -> &'k [u8]
     requires ends { AreEnds 0 ends.now bytes.now }
     requires inside { place < length ends.now }
@@ -86,7 +86,7 @@ fn cut<'k>(bytes: &'k [u8], ends: &[usize], place: usize) -> &'k [u8]
     key
 }
 
-/// Where the key at a place begins.
+/// Where the key at `place` begins.
 fn start_of(ends: &[usize], place: usize) -> usize
     requires { place < length ends.now }
     ensures { result ≡ start_of 0 ends.now place }
@@ -94,7 +94,7 @@ fn start_of(ends: &[usize], place: usize) -> usize
     if place == 0 { 0 } else { ends[place - 1] }
 }
 
-/// Appends a key and its end. Refused for want of memory alone. A refusal leaves both as they were.
+/// Appends a key and its end. The only fault is Memory, which leaves both unchanged.
 fn append(bytes: &mut Vec<u8>, ends: &mut Vec<usize>, key: &[u8]) -> Result<(), Fault>
     ensures bytes { OnOk result (bytes.new.items ≡ bytes.old.items ++ key.now) }
     ensures ends { OnOk result (ends.new.items ≡ ends.old.items ++ (length bytes.old.items + length key.now) ∷ []) }

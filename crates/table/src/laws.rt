@@ -5,16 +5,16 @@ ghost use Rattle.table.specs.ReadingBack.{ReadBackLaw};
 
 use ikey::Comparator;
 
-/// The law of data blocks: the first of a list is its shortest nonempty beginning whose block reaches the block size, else
-/// all of it, and so on with the rest; a list without entries has none. These and no others are its data blocks. A call
-/// does nothing.
+/// The law of data blocks: each list has one cutting into data blocks. The first is the shortest
+/// nonempty beginning whose block has at least the block size, or else all entries; the rest is cut
+/// in the same way. No entries give no data block. A call does nothing.
 pub fn data_blocks_law()
     ensures { DataBlocksLaw }
 {}
 
-/// The law that what is written of a list is a table of that list, which [`crate::check`] reads as the same list: of a
-/// list that has an entry, whose keys rise strictly and whose values are within their limit, with any options, where the
-/// table is within its limit of 2^30 bytes. A call does nothing.
+/// The law that the table that is written of a list reads as that list. The list has an entry, its
+/// internal keys rise strictly, and its values are within their limit. The table has at most 2^30
+/// bytes. Options may be any. A call does nothing.
 pub fn table_reads_back<C: Comparator>()
     ensures { ReadBackLaw C.cmp C.separator_of C.successor_of }
 {}

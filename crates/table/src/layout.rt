@@ -9,8 +9,23 @@
 //! footer             the handles of metaindex and index, and the magic
 //! ```
 //!
-//! A data block's key in the index is at or above its own keys, and below those of the next. The
-//! crate `block` has the layout of a block, and `frame` those of trailer, handle and footer.
+//! A data block's key in the index is at or above its own keys, and below those of the next. Why:
+//! the first index key at or above a sought key names the data block in which to look. The crate
+//! `block` has the layout of a block, and `frame` those of trailer, handle and footer.
+//!
+//! The table of `a` at 1 put `x`, 114 bytes:
+//!
+//! ```text
+//!   0   00 09 01  61 01 01 00 00 00 00 00 00  78  00 00 00 00  01 00 00 00      the data block
+//!  21   00  84 dd 88 74                                                          its trailer
+//!  26   00 00 00 00  01 00 00 00                                                 the metaindex
+//!  34   00  c0 f2 a1 b0                                                          its trailer
+//!  39   00 09 02  61 01 01 00 00 00 00 00 00  00 15  00 00 00 00  01 00 00 00   the index
+//!  61   00  36 49 25 bf                                                          its trailer
+//!  66   1a 08  27 16                                                             the two handles
+//!  70   36 bytes 00
+//! 106   57 fb 80 8b 24 75 47 db                                                  the magic
+//! ```
 
 ghost use Rattle.std.specs.Prelude.{◌≡◌, ◌≤◌, ◌^◌, ◌++◌, ◌∷◌, [], length, take, IfOk, IfErr};
 ghost use Rattle.std.specs.Prelude.{OnOk, OnErr, IsOkUnless};
@@ -27,7 +42,7 @@ use std::alloc::Global;
 
 /// Appends a block and its trailer, and answers the block's handle.
 ///
-/// Refused only for memory. A refusal leaves it as it was.
+/// The only fault is Memory, which leaves `out` unchanged.
 pub fn push_stored(out: &mut Vec<u8>, builder: &BlockBuilder) -> Result<BlockHandle, Fault>
     ensures ok { OnOk result (out.new.items
         ≡ out.old.items ++ stored (block builder.now.interval builder.now.entries)) }
@@ -42,7 +57,7 @@ pub fn push_stored(out: &mut Vec<u8>, builder: &BlockBuilder) -> Result<BlockHan
     builder.push_block(out)?;
     let trailer = Trailer::of(&out[start..]);
     if let Err(refused) = trailer.push(out) {
-        // The block goes too.
+        // The block is taken off too.
         out.truncate(start);
         return Err(refused);
     }
@@ -52,11 +67,11 @@ pub fn push_stored(out: &mut Vec<u8>, builder: &BlockBuilder) -> Result<BlockHan
     })
 }
 
-/// Appends an entry to an index block, which then has at most 2^31 bytes: a data block's key and
-/// handle.
+/// Appends an entry to an index block: a data block's key and handle. Requires that the index then
+/// has at most 2^31 bytes.
 ///
-/// What `spelling` held is gone: it lends its memory to the handle's bytes. Refused only for
-/// memory. A refusal leaves the index as it was.
+/// The bytes in `spelling` are lost: it lends its memory to the handle's bytes. The only fault is
+/// Memory, which leaves the index unchanged.
 pub fn push_index_entry(
     index: &mut BlockBuilder,
     spelling: &mut Vec<u8>,
@@ -77,9 +92,9 @@ pub fn push_index_entry(
     index.add(key, spelling)
 }
 
-/// Appends what stands after the data blocks: the metaindex, the index and the footer.
+/// Appends what comes after the data blocks: the metaindex, the index and the footer.
 ///
-/// Refused only for memory. A refusal may leave some of that after the bytes that were there.
+/// The only fault is Memory. It may leave some of that after the bytes that were there.
 pub fn push_closing(alloc: Global, out: &mut Vec<u8>, index: &BlockBuilder) -> Result<(), Fault>
     requires { index.now.interval ≡ 1 }
     ensures ok { OnOk result (out.new.items

@@ -1,9 +1,15 @@
-//! Tables: sorted lists of entries in files.
+//! Tables: sorted lists of entries in files. `layout.rt` shows the format.
 //!
-//! A [`TableBuilder`] writes one, entry by entry. [`check`] reads bytes as a table and gives a
-//! [`SoundTable`], over which a [`TableCursor`] goes, and seeks, without a further test.
-//! [`push_stored`], [`push_index_entry`] and [`push_closing`] write the parts of a table, for
-//! whoever has its data blocks already; `layout.rt` shows them.
+//! 1. A [`TableBuilder`] with its [`Options`] writes a table, entry by entry.
+//! 2. [`check`] reads bytes as a table and answers a [`SoundTable`].
+//! 3. A [`TableCursor`] walks a `SoundTable`, and seeks in it, without a further test. [`Cursor`]
+//!    is what each cursor over sorted entries promises.
+//!
+//! [`push_stored`], [`push_index_entry`] and [`push_closing`] write the parts of a table, for a
+//! writer that has its data blocks already. [`data_blocks_law`], [`reads_tables`] and
+//! [`table_reads_back`] are laws of the format.
+//!
+//! No contract says how much of a table a seek reads, or how much memory a cursor takes.
 #![tactic(auto)]
 
 mod builder;

@@ -7,8 +7,8 @@ use crate::checking::stored_at;
 use block::{SoundBlock, reopen};
 use frame::{BlockHandle, reopen_contents};
 
-/// The data block whose handle this value of the index is, in a table that was checked. Nothing is tested again, and no
-/// memory is taken.
+/// The data block of whose handle `value` is the spelling, in a table that was checked. No test is
+/// made again. Takes no memory.
 pub(crate) fn block_named<'a>(bytes: &'a [u8], value: &[u8]) -> SoundBlock<'a>
     requires { IsOk (block_named bytes.now value.now) }
     ensures { block_named bytes.now value.now ≡ Ok result.entries }

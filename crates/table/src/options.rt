@@ -1,24 +1,26 @@
-//! What a writer of tables is given to keep to.
+//! The options of a writer of tables.
 
 ghost use Rattle.std.specs.Prelude.{◌≡◌, ◌↔◌, IsTrue};
 
 use crate::checking::MAX_TABLE_LEN;
 
-/// What a writer of tables is given to keep to. Each number has its limits.
+/// The options of a writer of tables. Each has its limits.
 #[derive(Clone, Copy, Debug, PartialEq, Eq)]
 pub struct Options {
     /// A data block ends with the entry that makes it at least this long: 1 to 4,194,304 bytes.
     pub block_size: u64,
-    /// In data blocks each so-manieth entry stands with its whole key, and a restart points at it: 1 to 1,024.
+    /// In a data block, each entry at a multiple of this is stored with its whole key, and a
+    /// restart points at it: 1 to 1,024.
     pub restart_interval: u64,
-    /// A file ends with the entry at which its flushed blocks are at least this long: 1 to 2^30 bytes.
+    /// The maximal file size: an output may end when its flushed blocks are at least this long. 1
+    /// to 2^30 bytes.
     pub file_size: u64,
 }
 
 impl Options {
     ghost use Rattle.table.specs.Options.{AreInLimits};
 
-    /// Whether each number is within its limits.
+    /// Whether each option is in its limits.
     pub fn are_in_limits(&self) -> bool
         ensures { IsTrue result ↔ AreInLimits self.now }
     {

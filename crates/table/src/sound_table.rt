@@ -13,8 +13,8 @@ use ikey::{Comparator, InternalKey, KeyBuf};
 use std::alloc::Global;
 use std::marker::{Model, PhantomData};
 
-/// The bytes of a table that was checked, seen as what they hold: the bytes, the one list of entries, and the user keys
-/// of the index in order.
+/// A table that was checked: its bytes, the one list of its entries, and the user keys of its index
+/// in order.
 ///
 /// Beside the bytes it keeps two keys.
 #[derive(Drop)]
@@ -41,7 +41,7 @@ impl<'a, C: Comparator> SoundTable<'a, C> {
     ghost use Rattle.table.specs.SoundTables.{IsChecked};
     ghost use Rattle.table.specs.Walking.{Indexes};
 
-    /// The bytes of the table, which read as what it holds.
+    /// The bytes of the table, which read as what contracts see of it.
     pub fn bytes(&self) -> &'a [u8]
         ensures bytes { result.now ≡ self.now.bytes }
         ensures reading { contents_reading C.cmp self.now.bytes ≡ Ok self.now }
@@ -66,7 +66,7 @@ impl<'a, C: Comparator> SoundTable<'a, C> {
 
     /// The user keys of the index, one for each data block, in the order of the index.
     ///
-    /// Refused for want of memory alone. It takes that of the keys, and of one key more.
+    /// It takes the memory of these keys and of one more. The only fault is Memory.
     pub fn index_users(&self, alloc: Global) -> Result<Vec<Vec<u8>>, Fault>
         ensures { EqualOrMemory (λ users. map (λ user. user.items) users.items) result
             (Ok self.now.index_users) }
@@ -80,9 +80,10 @@ impl<'a, C: Comparator> SoundTable<'a, C> {
         Ok(users)
     }
 
-    /// The user keys that [`SoundTable::index_users`] gives, in one buffer.
+    /// The user keys that [`SoundTable::index_users`] answers, in one buffer.
     ///
-    /// Refused for want of memory alone. It takes that of the keys' bytes, of a place for each, and of one key more.
+    /// It takes the memory of the keys' bytes, of a place for each, and of one key more. The only
+    /// fault is Memory.
     pub fn index_keys(&self, alloc: Global) -> Result<KeyList, Fault>
         ensures { EqualOrMemory (λ keys. keys) result (Ok self.now.index_users) }
     {
@@ -95,7 +96,7 @@ impl<'a, C: Comparator> SoundTable<'a, C> {
         Ok(users)
     }
 
-    /// A table of these bytes, whose index block and bounds these are.
+    /// The table of these bytes, with this index block and these bounds.
     pub(crate) fn of(bytes: &'a [u8], index: SoundBlock<'a>, bounds: Bounds) -> SoundTable<'a, C>
         requires { IsChecked C.cmp bytes.now index.entries bounds.smallest bounds.largest }
         ensures { contents_reading C.cmp bytes.now ≡ Ok result }

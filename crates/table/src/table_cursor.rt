@@ -17,9 +17,10 @@ use ikey::{Comparator, InternalKey};
 use std::alloc::Global;
 use std::marker::{Model, PhantomData};
 
-/// A place in a table, seen as the entries that are still to come.
+/// A place in a table: the entries still to come.
 ///
-/// It lends the table's bytes, and owns those of two keys: one of a data block, and one of the index.
+/// It lends the table's bytes, and owns two keys, whatever the table holds: one of a data block,
+/// and one of the index. No contract says so.
 #[derive(Drop)]
 pub struct TableCursor<'a, C: Comparator> {
     alloc: Global,
@@ -28,7 +29,7 @@ pub struct TableCursor<'a, C: Comparator> {
     index_block: SoundBlock<'a>,
     /// What is left of the data block that is being walked.
     block: BlockCursor<'a>,
-    /// The entries of the index for the data blocks behind it.
+    /// The index entries of the data blocks after it.
     index: BlockCursor<'a>,
     order: PhantomData<C>,
 }
@@ -46,9 +47,7 @@ impl<'a, C: Comparator> Model for TableCursor<'a, C> {
 }
 
 impl<'a, C: Comparator> TableCursor<'a, C> {
-    /// All entries of a table.
-    ///
-    /// Refused for want of memory alone. It takes that of two keys.
+    /// All entries of `table`. It takes the memory of two keys. The only fault is Memory.
     pub fn new(alloc: Global, table: &SoundTable<'a, C>) -> Result<TableCursor<'a, C>, Fault>
         ensures { EqualOrMemory (λ cursor. cursor) result (Ok table.now.entries) }
     {
@@ -67,10 +66,10 @@ impl<'a, C: Comparator> TableCursor<'a, C> {
         })
     }
 
-    /// The first entry at or above an internal key that the entry here is below, and those behind it.
+    /// The first entry at or above `target`, and those after it. The entry here is below it.
     ///
-    /// The first data block that may have it is the one whose index key is the first that isn't below the internal key. It
-    /// is in the next where all of that block's entries are below. Refused for want of memory alone.
+    /// It is in the first data block whose index key is at or above `target`. Or it is the first of
+    /// the next one, if all entries of that block are below. The only fault is Memory.
     fn sought(&self, target: InternalKey<'_>) -> Result<TableCursor<'a, C>, Fault>
         requires { first_is_below C.cmp target.bytes.now self.now ≡ true }
         ensures from { IfOk result (λ cursor. cursor ≡ entries_from C.cmp target.entry.bytes.now self.now) }
@@ -99,7 +98,7 @@ impl<'a, C: Comparator> Entries for TableCursor<'a, C> {
 }
 
 impl<'a, C: Comparator> Cursor<'a, C> for TableCursor<'a, C> {
-    /// Whether an entry is still to come. Takes no memory. No two entries have one internal key.
+    /// Whether an entry is still to come. No two entries have one internal key. Takes no memory.
     fn valid(&self) -> bool
         ensures some { IsTrue result ↔ (0 < length self.now) }
         ensures ordered { NeverFalls C.cmp self.now }
@@ -116,9 +115,7 @@ impl<'a, C: Comparator> Cursor<'a, C> for TableCursor<'a, C> {
         self.block.value()
     }
 
-    /// Takes the first entry off.
-    ///
-    /// Refused for want of memory alone. A refusal leaves it as it was.
+    /// Takes off the next entry. The only fault is Memory, which leaves the cursor unchanged.
     fn advance(&mut self) -> Result<(), Fault> {
         if !self.block.is_last() || !self.index.valid() {
             return self.block.advance();
@@ -129,13 +126,13 @@ impl<'a, C: Comparator> Cursor<'a, C> for TableCursor<'a, C> {
         Ok(())
     }
 
-    /// Takes off the entries below an internal key. It never goes back.
+    /// Takes off the entries below `target`. It never goes back. The only fault is Memory, which
+    /// leaves the cursor unchanged.
     ///
-    /// It picks the data block by the index keys, and in it the last restart whose key is below the internal key, and reads
-    /// on from there. It takes no memory where the first entry isn't below the internal key, and else that of a key of the
-    /// index, and of one for each data block that it looks into.
-    ///
-    /// Refused for want of memory alone. A refusal leaves it as it was.
+    /// It picks the data block by the index keys, and in it the last restart whose key is below
+    /// `target`, and reads on from there. It takes no memory if the first entry isn't below
+    /// `target`. Else it takes that of an index key, and of one key for each data block that it
+    /// looks into.
     fn seek(&mut self, target: InternalKey<'_>) -> Result<(), Fault>
         ensures ok { OnOk result (self.new ≡ entries_from C.cmp target.entry.bytes.now self.old) }
         ensures unchanged { OnErr result (self.new ≡ self.old) }

@@ -26,7 +26,7 @@ pub(crate) fn first_key<'k>(entries: &'k BlockCursor<'_>) -> InternalKey<'k>
     }
 }
 
-/// Whether the first entry, where there is one, is below an internal key.
+/// Whether the first entry, if there is one, is below `target`.
 pub(crate) fn is_below<C: Comparator>(entries: &BlockCursor<'_>, target: InternalKey<'_>) -> bool
     requires { HaveKeys entries.now }
     ensures { result ≡ first_is_below C.cmp target.entry.bytes.now entries.now }
@@ -34,7 +34,7 @@ pub(crate) fn is_below<C: Comparator>(entries: &BlockCursor<'_>, target: Interna
     entries.valid() && first_key(entries).compare::<C>(&target) == Ordering::Less
 }
 
-/// Takes off the first entries that are below an internal key. Refused for want of memory alone.
+/// Takes off the first entries that are below `target`. The only fault is Memory.
 pub(crate) fn walk_to<C: Comparator>(
     entries: &mut BlockCursor<'_>,
     target: InternalKey<'_>,
@@ -49,9 +49,10 @@ pub(crate) fn walk_to<C: Comparator>(
     Ok(())
 }
 
-/// The entries of a block from the first on that isn't below an internal key.
+/// The entries of `block` from the first one at or above `target`.
 ///
-/// It reads on from the last restart whose key is below. Refused for want of memory alone. It takes the bytes of one key.
+/// It reads on from the last restart whose key is below. It takes the memory of one key. The only
+/// fault is Memory.
 pub(crate) fn entries_from<'a, C: Comparator>(
     alloc: Global,
     block: &SoundBlock<'a>,
@@ -67,7 +68,7 @@ pub(crate) fn entries_from<'a, C: Comparator>(
     Ok(cursor)
 }
 
-/// Whether the entry at a restart, where there is one, is below an internal key.
+/// Whether the entry at a restart, if there is one, is below `target`.
 fn restart_is_below<C: Comparator>(
     block: &SoundBlock<'_>,
     restart: u64,
@@ -86,8 +87,8 @@ fn restart_is_below<C: Comparator>(
     }
 }
 
-/// The last restart whose key is below an internal key, or the first restart where there is none, found by halving. The
-/// entries before it are all below the internal key. Takes no memory.
+/// The last restart whose key is below `target`, or the first restart if there is none. The entries
+/// before it are all below `target`. It is found by halving. Takes no memory.
 fn last_below<C: Comparator>(block: &SoundBlock<'_>, target: InternalKey<'_>) -> u64
     requires keys { HaveKeys block.now.entries }
     requires rising { IsRising C.cmp block.now.entries }

@@ -5,7 +5,7 @@ use Rattle.std.specs.Option.{option_map}
 use Rattle.block.specs.Piece.{Entry}
 use Rattle.encoding.specs.Slices.{Slice}
 
--- those between a place and a later one, each of which is seen as the entries from it on
+-- the entries from one place up to a later one; a place is the entries from it on
 abbrev pub sliced : List Entry → List Entry → Slice
 sliced from to = record { entries = take (length from - length to) from; behind = to }
 

@@ -2,7 +2,7 @@
 use Rattle.std.specs.Prelude.{List}
 use Rattle.block.specs.Piece.{Entry}
 
--- consecutive entries, and what stands behind them
+-- consecutive entries, and those after them
 pub record Slice : Type 0 where
   pub entries : List Entry
   pub behind : List Entry

@@ -1,4 +1,4 @@
-//! Whole tables of pieces.
+//! Whole tables, joined of their pieces.
 
 ghost use Rattle.std.specs.Prelude.{◌≡◌, ◌≤◌, ◌^◌, length, flat_map, IfOk, IfErr, Ok};
 ghost use Rattle.std.specs.List.{AllByRecursion};
@@ -14,12 +14,12 @@ use ikey::Comparator;
 use std::alloc::Global;
 use table::push_closing;
 
-/// The table of data blocks, of at most 2^30 bytes: their pieces, one behind the other, and the
-/// metaindex, the index and the footer behind them. The pieces are those that
-/// [`crate::encode_blocks`] gives of the blocks in order, at this restart interval.
+/// The table of data blocks: their pieces, one after the other, and then the metaindex, the index
+/// and the footer. Requires that it has at most 2^30 bytes, and that `pieces` are those that
+/// [`crate::encode_blocks`] answers to `blocks`, in order, at this restart interval.
 ///
-/// The first piece becomes the table: where it has room for all of that, none of its bytes is
-/// copied. Refused for want of memory alone, and then the pieces are gone.
+/// The only fault is Memory, and then the pieces are gone. The first piece becomes the table: if it
+/// has room for all of it, none of its bytes is copied.
 pub fn assemble_table<C: Comparator>(
     alloc: Global,
     blocks: &[PlannedBlock<'_, '_>],
@@ -41,7 +41,7 @@ pub fn assemble_table<C: Comparator>(
     Ok(table)
 }
 
-/// Pieces one behind the other, in the memory of the first.
+/// Pieces, one after the other, in the memory of the first. The only fault is Memory.
 fn joined(alloc: Global, pieces: Vec<Vec<u8>>) -> Result<Vec<u8>, Fault>
     ensures all { IfOk result (λ v. v.items ≡ flat_map (λ p. p.items) pieces.items) }
     ensures memory { IfErr result (λ e. e ≡ fault Memory) }

@@ -9,13 +9,12 @@ use ikey::InternalKey;
 use keep::RangeRun;
 use std::marker::Model;
 
-/// A place among the kept entries of runs, one run behind the other, seen as the entries from there
-/// on.
+/// A place among the kept entries of runs, one run after the other: the entries from there on.
 #[derive(Drop)]
 pub struct RunsCursor<'r, 'a> {
-    /// The run of the first entry that is still to come, and those behind it.
+    /// The run of the next entry, and those after it.
     runs: &'r [RangeRun<'a>],
-    /// How many entries of that run stand before it.
+    /// The number of entries of that run before the place.
     entry: usize,
 }
 
@@ -43,7 +42,7 @@ impl<'r, 'a> RunsCursor<'r, 'a> {
         }
     }
 
-    /// The same place again. Takes no memory.
+    /// The same place. Takes no memory.
     pub fn copy(&self) -> RunsCursor<'r, 'a>
         ensures { result ≡ self.now }
     {
@@ -60,8 +59,7 @@ impl<'r, 'a> RunsCursor<'r, 'a> {
         !self.runs.is_empty()
     }
 
-    /// The internal key of the first entry that is still to come, which lies in its run. Takes no
-    /// memory.
+    /// The internal key of the next entry, which stays in its run. Takes no memory.
     pub fn key(&self) -> InternalKey<'r>
         requires { 0 < length self.now }
         ensures { option_map (λ e. e.key) (slice_get self.now 0) ≡ Some result.bytes.now }
@@ -69,8 +67,7 @@ impl<'r, 'a> RunsCursor<'r, 'a> {
         self.runs[0].key(self.entry)
     }
 
-    /// The value of the first entry that is still to come, a slice of an input's bytes. Takes no
-    /// memory.
+    /// The value of the next entry, a slice of an input's bytes. Takes no memory.
     pub fn value(&self) -> &'a [u8]
         requires { 0 < length self.now }
         ensures { option_map (λ e. e.value) (slice_get self.now 0) ≡ Some result.now }
@@ -78,7 +75,7 @@ impl<'r, 'a> RunsCursor<'r, 'a> {
         self.runs[0].value(self.entry)
     }
 
-    /// Takes the first entry off. Takes no memory.
+    /// Takes off the next entry. Takes no memory.
     pub fn advance(&mut self)
         requires { 0 < length self.old }
         ensures { self.new ≡ drop 1 self.old }
@@ -94,7 +91,7 @@ impl<'r, 'a> RunsCursor<'r, 'a> {
         }
     }
 
-    /// The place so many entries further, which is found run by run. Takes no memory.
+    /// The place `count` entries further, found run by run. Takes no memory.
     pub(crate) fn skip(&self, count: u64) -> RunsCursor<'r, 'a>
         requires { count ≤ length self.now }
         ensures { result ≡ drop count self.now }
@@ -114,7 +111,7 @@ impl<'r, 'a> RunsCursor<'r, 'a> {
     }
 }
 
-/// The runs from the first on that has a kept entry.
+/// The runs from the first one that has a kept entry.
 fn from_entry<'r, 'a>(runs: &'r [RangeRun<'a>]) -> &'r [RangeRun<'a>]
     ensures entries { kept_of result.now ≡ kept_of runs.now }
     ensures stands { StandsAt result.now 0 }

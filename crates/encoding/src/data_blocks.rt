@@ -14,9 +14,10 @@ use frame::Trailer;
 use std::alloc::Global;
 
 /// The bytes of consecutive data blocks, each with its trailer, at a restart interval from 1 to
-/// 1,024. Each block has at most 2^31 bytes. The answer has room for so many bytes from its start.
+/// 1,024. Requires that each block has at most 2^31 bytes. The memory has room for `room` bytes
+/// from the start.
 ///
-/// Refused for want of memory alone.
+/// The only fault is Memory.
 pub fn encode_blocks(
     alloc: Global,
     blocks: &[PlannedBlock<'_, '_>],

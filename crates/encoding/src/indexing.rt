@@ -16,7 +16,8 @@ use ikey::{Comparator, KeyBuf, internal_separator, internal_successor};
 use std::alloc::Global;
 use table::push_index_entry;
 
-/// The index of data blocks whose table has at most 2^30 bytes.
+/// The index of data blocks. Requires that their table has at most 2^30 bytes. The only fault is
+/// Memory.
 pub(crate) fn index_block<C: Comparator>(
     alloc: Global,
     blocks: &[PlannedBlock<'_, '_>],
@@ -45,8 +46,8 @@ pub(crate) fn index_block<C: Comparator>(
     Ok(index)
 }
 
-/// The key of a data block in the index: between its last key and the first key behind it, or above
-/// its last key.
+/// The index key of a data block: the separator of its last key and the next block's first, or for
+/// the last block the successor of its last key. The only fault is Memory.
 fn index_key<C: Comparator>(
     alloc: Global,
     blocks: &[PlannedBlock<'_, '_>],

@@ -8,8 +8,8 @@ use crate::cursor::RunsCursor;
 use ikey::InternalKey;
 use std::marker::Model;
 
-/// Consecutive entries of runs, held as the place of the first and their number, and seen as these
-/// and the entries that stand behind them.
+/// Consecutive entries of runs, held as the place of the first and their number. Contracts see
+/// these entries and those after them.
 #[derive(Drop)]
 pub struct RunsPart<'r, 'a> {
     start: RunsCursor<'r, 'a>,
@@ -28,7 +28,7 @@ impl<'r, 'a> Model for RunsPart<'r, 'a> {
 }
 
 impl<'r, 'a> RunsPart<'r, 'a> {
-    /// So many entries from a place on. Takes no memory.
+    /// The `len` entries from `start` on. Takes no memory.
     pub(crate) fn new(start: RunsCursor<'r, 'a>, len: u64) -> RunsPart<'r, 'a>
         requires { len ≤ length start }
         ensures { result ≡ record { entries = take len start.entry; behind = drop len start.entry } }
@@ -50,7 +50,7 @@ impl<'r, 'a> RunsPart<'r, 'a> {
         self.start.copy()
     }
 
-    /// The internal key of the last entry, where there is one. Takes no memory.
+    /// The internal key of the last entry; None if there is no entry. Takes no memory.
     pub fn last_key(&self) -> Option<InternalKey<'r>>
         ensures { option_map (λ key. key.bytes.now) result
             ≡ option_map (λ e. e.key) (last_or None self.now.entries) }

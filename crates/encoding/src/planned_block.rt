@@ -5,9 +5,9 @@ use crate::part::RunsPart;
 /// A data block of which no byte is written yet.
 #[derive(Drop)]
 pub struct PlannedBlock<'r, 'a> {
-    /// Its entries, where the runs have them.
+    /// Its entries, which stay in the runs.
     pub entries: RunsPart<'r, 'a>,
-    /// How many bytes the block has, those of its trailer not counted.
+    /// The length of the block in bytes, without its trailer.
     pub len: u64,
 }
 

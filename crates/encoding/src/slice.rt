@@ -10,12 +10,13 @@ use crate::part::RunsPart;
 use ikey::InternalKey;
 use std::marker::Model;
 
-/// Consecutive entries of runs, seen as these and the entries that stand behind them.
+/// Consecutive entries of runs, which grow one by one. Contracts see these entries and those after
+/// them.
 #[derive(Drop)]
 pub struct RunsSlice<'r, 'a> {
     start: RunsCursor<'r, 'a>,
     behind: RunsCursor<'r, 'a>,
-    /// How many entries there are, or 2^64 - 1 where there are more.
+    /// The number of entries; 2^64 - 1 if there are more.
     len: u64,
     last: Option<InternalKey<'r>>,
 }
@@ -35,7 +36,7 @@ impl<'r, 'a> Model for RunsSlice<'r, 'a> {
 }
 
 impl<'r, 'a> RunsSlice<'r, 'a> {
-    /// No entries, before those from a place on. Takes no memory.
+    /// No entries, before those from `cursor` on. Takes no memory.
     pub fn at(cursor: RunsCursor<'r, 'a>) -> RunsSlice<'r, 'a>
         ensures { result ≡ record { entries = []; behind = cursor.entry } }
     {
@@ -47,7 +48,7 @@ impl<'r, 'a> RunsSlice<'r, 'a> {
         }
     }
 
-    /// Takes the first entry behind in, of which this is the key. Takes no memory.
+    /// Takes in the next entry, whose key is `key`. Takes no memory.
     pub fn push(&mut self, key: InternalKey<'r>)
         requires { option_map (λ e. e.key) (slice_get self.old.behind 0) ≡ Some key.bytes.now }
         ensures { self.new ≡ record {
@@ -67,7 +68,7 @@ impl<'r, 'a> RunsSlice<'r, 'a> {
         self.len == 0
     }
 
-    /// The internal key of the last entry, where there is one. Takes no memory.
+    /// The internal key of the last entry; None if there is no entry. Takes no memory.
     pub fn last_key(&self) -> Option<InternalKey<'r>>
         ensures { option_map (λ key. key.bytes.now) result
             ≡ option_map (λ e. e.key) (last_or None self.now.entries) }
@@ -75,14 +76,14 @@ impl<'r, 'a> RunsSlice<'r, 'a> {
         self.last
     }
 
-    /// The place behind the last entry. Takes no memory.
+    /// The place after the last entry. Takes no memory.
     pub fn behind(&self) -> RunsCursor<'r, 'a>
         ensures { result ≡ self.now.behind }
     {
         self.behind.copy()
     }
 
-    /// These entries, held in few bytes, where there are at most 2^64 - 1. Takes no memory.
+    /// These entries as a part. Requires that there are at most 2^64 - 1. Takes no memory.
     pub fn part(&self) -> RunsPart<'r, 'a>
         requires { length self.now.entries ≤ 2 ^ 64 - 1 }
         ensures { result ≡ self.now }

@@ -1,4 +1,4 @@
-//! Data blocks, written straight to where they stand.
+//! Data blocks, written straight to their place.
 
 ghost use Rattle.std.specs.Prelude.{◌≡◌, ◌==◌, ◌≤◌, ◌<◌, ◌^◌, if◌then◌else◌, [], ◌∷◌, ◌++◌};
 ghost use Rattle.std.specs.Prelude.{length, OnOk, IsOkUnless};
@@ -12,10 +12,10 @@ use crate::part::RunsPart;
 use block::{next_since, push_fields, push_restarts, shared_len};
 use coding::Fault;
 
-/// Appends the block of some entries, at a restart interval from 1 to 1,024, or on a refused growth
-/// some of it. What the list of restarts had before is gone: it lends its memory alone.
+/// Appends the block of `entries`, at a restart interval from 1 to 1,024. Requires that it has at
+/// most 2^31 bytes. What `restarts` held is lost: it lends its memory.
 ///
-/// Refused for want of memory alone.
+/// The only fault is Memory, which may leave some of the block.
 pub(crate) fn push_block(
     out: &mut Vec<u8>,
     restarts: &mut Vec<u32>,
@@ -37,8 +37,8 @@ pub(crate) fn push_block(
     push_restarts(out, restarts)
 }
 
-/// Appends the entries of a block, and the restarts that point at some of them; or on a refused
-/// growth some of both.
+/// Appends the entries of a block, and their restarts to `restarts`. The only fault is Memory,
+/// which may leave some of both.
 fn push_entries(
     out: &mut Vec<u8>,
     restarts: &mut Vec<u32>,
@@ -71,8 +71,8 @@ fn push_entries(
     Ok(())
 }
 
-/// Takes in the offset of an entry, where a restart points at it: the entry is the first of an
-/// interval.
+/// Takes in the offset of an entry if a restart points at it: if the entry is the first of an
+/// interval. The only fault is Memory.
 fn push_restart(restarts: &mut Vec<u32>, since: u64, offset: usize) -> Result<(), Fault>
     requires { offset < 2 ^ 32 }
     ensures ok { OnOk result (restarts.new.items

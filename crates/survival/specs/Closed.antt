@@ -1,5 +1,5 @@
--- The inputs of a compaction of a lawful version are closed: what stays beside or above them is newer, and what lies below
--- them is older.
+-- The inputs of a compaction of a lawful version are closed: what stays beside or above them is
+-- newer, and what lies below them is older.
 use Rattle.std.specs.Prelude.{◌≡◌, ℕ, ◌+◌, ◌≤◌, ◌<◌, nat_eq, Bool, false, ◌&&◌, List, map, filter, Contains}
 use Rattle.std.specs.List.{All, list_any}
 use Rattle.std.specs.declared.cmp.Ordering.{Ordering}
@@ -18,43 +18,44 @@ use Rattle.reads.specs.Lawful.{AreNewer, IsLawful}
 abbrev pub is_input : Picked → ℕ → Bool
 is_input p number = list_any (λ (i : InputFile). nat_eq i.meta.number number) p.files
 
--- the inputs of the compaction's own level
+-- the inputs at the compaction's level
 abbrev pub upper_inputs : Picked → List FileMeta
 upper_inputs p = map (λ (i : InputFile). i.meta) (filter (λ (i : InputFile). nat_eq i.level p.level) p.files)
 
--- whether a user key lies in the range of files, from the least of their user keys to the greatest
+-- whether a user key is in the range of files, from the least of their user keys to the greatest
 abbrev pub is_within : (List ℕ → List ℕ → Ordering) → List FileMeta → List ℕ → Bool
 is_within cmp files user = begins_by cmp files user && ends_from cmp files user
 
--- of each user key of an input, a file's entries are newer than the input's
+-- of each user key, a file's entries are newer than the inputs'
 abbrev pub IsNewerThanInputs : List Numbered → Picked → NewFile → Type 0
 IsNewerThanInputs tables p f =
     All (λ (i : InputFile). AreNewer (table_entries tables f.meta.number) (table_entries tables i.meta.number)) p.files
 
--- of each user key of an input, a file's entries are older than the input's
+-- of each user key, a file's entries are older than the inputs'
 abbrev pub IsOlderThanInputs : List Numbered → Picked → NewFile → Type 0
 IsOlderThanInputs tables p f =
     All (λ (i : InputFile). AreNewer (table_entries tables i.meta.number) (table_entries tables f.meta.number)) p.files
 
--- The inputs of a compaction of a level, and what stays of the version's files:
+-- Closed inputs of a compaction of a level:
 pub record AreClosed (cmp : List ℕ → List ℕ → Ordering) (v : State) (tables : List Numbered) (p : Picked) : Type 0 where
-  -- a file of the level that stays holds, of the inputs' user keys, newer entries alone;
+  -- a file of the level that stays has, of the inputs' user keys, only newer entries;
   pub same_level : (f : NewFile) → Contains v.files f → is_input p f.meta.number ≡ false → f.level ≡ p.level
       → IsNewerThanInputs tables p f
-  -- a file of the next level that stays holds no user key in the range of the level's inputs,
+  -- a file of the next level that stays has no user key in the range of the level's inputs,
   pub next_level_apart : (f : NewFile) → Contains v.files f → is_input p f.meta.number ≡ false → f.level ≡ p.level + 1
       → All (λ (e : Entry). is_within cmp (upper_inputs p) (user_of e.key) ≡ false) (table_entries tables f.meta.number)
-  -- and only newer entries of the other inputs' user keys;
+  -- and of the other inputs' user keys only newer entries;
   pub next_level : (f : NewFile) → Contains v.files f → is_input p f.meta.number ≡ false → f.level ≡ p.level + 1
       → IsNewerThanInputs tables p f
-  -- the files of shallower levels are newer;
+  -- files of shallower levels have only newer entries of them;
   pub shallower : (f : NewFile) → Contains v.files f → f.level < p.level → IsNewerThanInputs tables p f
-  -- those of deeper levels are older, and hold no user key that none of the deeper files' ranges holds.
+  -- files of deeper levels have only older entries of them, and no user key that no deeper range
+  -- holds.
   pub deeper : (f : NewFile) → Contains v.files f → p.level + 1 < f.level → IsOlderThanInputs tables p f
   pub at_base : (f : NewFile) → Contains v.files f → p.level + 1 < f.level
       → All (λ (e : Entry). is_in_none cmp p.deeper (user_of e.key) ≡ false) (table_entries tables f.meta.number)
 
--- the inputs of each lawful version whose files stand at levels up to 6 are closed
+-- the picked inputs of each lawful version are closed, if its files are at levels up to 6
 abbrev pub ClosedInputs : (List ℕ → List ℕ → Ordering) → Type 0
 ClosedInputs cmp =
     (v : State) (tables : List Numbered) (level : ℕ) (p : Picked) →

@@ -13,7 +13,7 @@ use Rattle.request.specs.Request.{RequestView}
 use Rattle.request.specs.EditOf.{edit_of, new_file}
 use Rattle.survival.specs.GetsAfter.{staying}
 
--- the outputs as new files of the level below the compaction's
+-- the outputs as new files of the next level
 abbrev pub new_files : RequestView → List Planned → List NewFile
 new_files r plan = map (new_file (r.picked.level + 1)) plan
 
@@ -28,13 +28,13 @@ version_after v r plan = record {
   files = fold with_file (staying v r.picked) (new_files r plan);
 }
 
--- the outputs have the numbers from this one on
+-- the outputs have consecutive numbers from `number` on
 abbrev pub AreNumbered : ℕ → List Planned → Type 0
 AreNumbered number [] = Unit {0}
 AreNumbered number (p ∷ ps) = (p.number ≡ number) × AreNumbered (number + 1) ps
 
--- Where the inputs were picked from a lawful version, and the outputs are numbered from its next file on, the edit applies
--- and makes that version. Its files are those that stay, and the outputs.
+-- If the inputs were picked from a lawful version and the outputs are numbered from its next file
+-- on, the edit applies and makes that version. Its files are those that stay, and the outputs.
 pub record EditApplies (cmp : List ℕ → List ℕ → Ordering) : Type 0 where
   pub applies : (v : State) (tables : List Numbered) (level : ℕ) (r : RequestView) (plan : List Planned) →
       IsLawful cmp v tables → IsPicked cmp v level r.picked → ForSome v.next_file (λ next. next ≤ r.first_number) → AreNumbered r.first_number plan →

@@ -1,5 +1,5 @@
--- What the entries of a version have to be after a compaction, and that each get at a readable sequence then answers as
--- before.
+-- Which entries a version has to have after a compaction, so that each get at a readable sequence
+-- answers as before.
 use Rattle.std.specs.Prelude.{◌≡◌, ◌⊎◌, ℕ, ◌≤◌, true, not, List, map, filter, Contains}
 use Rattle.std.specs.List.{All}
 use Rattle.std.specs.declared.cmp.Ordering.{Ordering}
@@ -24,8 +24,8 @@ staying v p = filter (λ (f : NewFile). not (is_input p f.meta.number)) v.files
 abbrev pub entries_of_inputs : List Numbered → Picked → List (List Entry)
 entries_of_inputs tables p = map (λ (i : InputFile). table_entries tables i.meta.number) p.files
 
--- The files of the version after hold the entries of the files that stay, and those that are kept of the inputs' union, and
--- no others.
+-- The files of the version after have the entries of the files that stay, what is kept of the
+-- inputs' union, and no other entries.
 pub record HoldKept (cmp : List ℕ → List ℕ → Ordering) (v : State) (tables : List Numbered) (p : Picked) (r : Readable) (union : List Entry)
     (after : State) (tables_after : List Numbered) : Type 0 where
   pub holds_staying : (e : Entry) → Contains (all_entries tables (staying v p)) e → Contains (all_entries tables_after after.files) e
@@ -33,8 +33,9 @@ pub record HoldKept (cmp : List ℕ → List ℕ → Ordering) (v : State) (tabl
   pub only : (e : Entry) → Contains (all_entries tables_after after.files) e →
       Contains (all_entries tables (staying v p)) e ⊎ Contains (kept cmp r p.deeper union) e
 
--- Where the inputs were picked from a lawful version, whose files stand at levels up to 6, and the version after holds what
--- is kept of their union, each get at a sequence that stays readable answers as before.
+-- If the inputs were picked from a lawful version with files at levels up to 6, and the version
+-- after holds what is kept of their union, each get at a sequence that stays readable answers as
+-- before.
 abbrev pub GetsAfter : (List ℕ → List ℕ → Ordering) → Type 0
 GetsAfter cmp =
     (v : State) (tables : List Numbered) (level : ℕ) (p : Picked) (r : Readable) (union : List Entry) (after : State) (tables_after : List Numbered) →

@@ -25,20 +25,20 @@ use Rattle.request.specs.OneThread.{Answer, one_thread, table_for}
 use Rattle.survival.specs.GetsAfter.{entries_of_inputs}
 use Rattle.survival.specs.EditAfter.{AreNumbered}
 
--- the bytes of the table of an input, where the version's tables have one
+-- the bytes of an input's table, if the version's tables have one
 abbrev pub bytes_of : List Numbered → InputFile → Option (List ℕ)
 bytes_of tables i = option_map (λ (t : Contents). t.bytes) (table_of tables i.meta.number)
 
--- A request over a version with its tables: it has the bytes of the inputs' tables, in order, and numbers for its outputs
--- from the version's next file on; and the numbers of its logs are of 64 bits, as those of each version are.
+-- A request is over a version with its tables: it has the bytes of the inputs' tables in order,
+-- numbers its outputs from the version's next file on, and its log numbers are below 2 ^ 64.
 pub record IsOver (v : State) (tables : List Numbered) (r : RequestView) : Type 0 where
   pub bytes : map (bytes_of tables) r.picked.files ≡ map (λ b. Some b) r.tables
   pub numbers : ForSome v.next_file (λ next. next ≤ r.first_number)
   pub log_number : r.log_number < 2 ^ 64
   pub previous_log : r.previous_log < 2 ^ 64
 
--- The bytes are a table of entries: there is one, their internal keys rise, and the bytes are within their limit and read as
--- just these entries.
+-- The bytes are a table of these entries: there is one, their internal keys rise strictly, the
+-- bytes are at most 2 ^ 30, and they read as just these entries.
 pub record AreWritten (cmp : List ℕ → List ℕ → Ordering) (bytes : List ℕ) (entries : List Entry) : Type 0 where
   pub some : entries ≢ []
   pub keys : AllByRecursion (λ e. IsInternalKey e.key) entries
@@ -48,13 +48,13 @@ pub record AreWritten (cmp : List ℕ → List ℕ → Ordering) (bytes : List �
   pub same : (contents_in cmp bytes).bytes ≡ bytes
   pub holds : (contents_in cmp bytes).entries ≡ entries
 
--- the entries of outputs
+-- the entries of each output
 abbrev pub planned_entries : List Planned → List (List Entry)
 planned_entries plan = map (λ (p : Planned). p.entries) plan
 
--- What an answer is made of: the request passes its tests, the inputs' tables have a union, the outputs are numbered from the
--- first number on, and hold what is kept of the union, no user key in two of them; each is written as a table, and the edit
--- is that of the outputs.
+-- What an answer is made of. The request passes its tests, and the inputs' tables have a union. The
+-- outputs are numbered from the first number on and hold what is kept of the union, no user key in
+-- two of them. Each is written as a table, and the edit is that of the outputs.
 pub record HoldOutputs (cmp : List ℕ → List ℕ → Ordering) (separator_of : List ℕ → List ℕ → List ℕ) (successor_of : List ℕ → List ℕ)
     (tables : List Numbered) (r : RequestView) (answer : Answer) : Type 0 where
   pub tested : request_test cmp r ≡ Ok tt
@@ -70,7 +70,8 @@ pub record HoldOutputs (cmp : List ℕ → List ℕ → Ordering) (separator_of 
   pub answer_tables : answer.tables ≡ assembled (table_for cmp separator_of successor_of r) plan
   pub answer_edit : answer.edit ≡ edit_bytes (edit_of r plan)
 
--- so they do, where the inputs were picked from a lawful version and the request is over it
+-- each answer of one thread is made so, if the inputs were picked from a lawful version and the
+-- request is over it
 abbrev pub OutputsHold : (List ℕ → List ℕ → Ordering) → (List ℕ → List ℕ → List ℕ) → (List ℕ → List ℕ) → Type 0
 OutputsHold cmp separator_of successor_of =
     (v : State) (tables : List Numbered) (level : ℕ) (r : RequestView) (answer : Answer) →

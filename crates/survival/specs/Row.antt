@@ -1,4 +1,4 @@
--- A worked row: level 1 has a file A with the user key u at sequence 10, and a file B with it at 5.
+-- A worked row: level 1 has a file A with the user key u at sequence 10, and a file B with u at 5.
 use Rattle.std.specs.Prelude.{ℕ, List, [], ◌∷◌, None, Some}
 use Rattle.ikey.specs.Key.{internal_key}
 use Rattle.ikey.specs.declared.kind.Kind.TheVariants.{Put}
@@ -8,17 +8,19 @@ use Rattle.edit.specs.declared.meta.FileMeta.{FileMeta}
 use Rattle.pick.specs.Picked.{Picked}
 use Rattle.reads.specs.Tables.{Numbered}
 
--- the key of u at a sequence, which is the byte 117
+-- the key of u, which is the byte 117, at a sequence
 abbrev pub key_at : ℕ → List ℕ
 key_at sequence = internal_key (117 ∷ []) sequence Put
 
--- a file that has u at this sequence alone, and its table
+-- a file that has only u at this sequence
 abbrev pub file_at : ℕ → ℕ → FileMeta
 file_at number sequence = record { number = number; size = 113; smallest = key_at sequence; largest = key_at sequence }
 
+-- its entry
 abbrev pub entry_at : ℕ → Entry
 entry_at sequence = record { key = key_at sequence; value = [] }
 
+-- its table
 abbrev pub table_at : ℕ → ℕ → Numbered
 table_at number sequence = record { number = number; contents = record { bytes = []; entries = entry_at sequence ∷ []; index_users = [] } }
 
@@ -33,6 +35,7 @@ two_files = record {
   files = record { level = 1; meta = file_at 8 10 } ∷ record { level = 1; meta = file_at 9 5 } ∷ [];
 }
 
+-- the tables of A and B
 abbrev pub two_tables : List Numbered
 two_tables = table_at 8 10 ∷ table_at 9 5 ∷ []
 

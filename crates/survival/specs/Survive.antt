@@ -1,4 +1,5 @@
--- Reads survive: the version after a compaction is lawful, and answers at each readable sequence as before.
+-- Reads survive: the version after a compaction is lawful, and answers as before at each readable
+-- sequence.
 use Rattle.std.specs.Prelude.{◌≡◌, ℕ, ◌≤◌, true, not, List, ◌++◌, map, filter, Some, Ok}
 use Rattle.std.specs.List.{All}
 use Rattle.std.specs.declared.cmp.Ordering.{Ordering}
@@ -22,14 +23,14 @@ use Rattle.survival.specs.Over.{IsOver, HoldOutputs}
 abbrev pub output_table : (List ℕ → List ℕ → Ordering) → ℕ × List ℕ → Numbered
 output_table cmp output = record { number = output.0; contents = contents_in cmp output.1 }
 
--- the tables after a compaction: the outputs, and the others but those of the inputs
+-- the tables after a compaction: the outputs, and the old tables less those of the inputs
 abbrev pub tables_after : (List ℕ → List ℕ → Ordering) → Picked → Answer → List Numbered → List Numbered
 tables_after cmp p answer tables =
     map (output_table cmp) answer.tables ++ filter (λ (t : Numbered). not (is_input p t.number)) tables
 
--- Where the inputs were picked from a lawful version, whose files stand at levels up to 6, and an answer's outputs hold what
--- they should, the version after is lawful with the tables after, and its files hold the entries of the files that stay and
--- what is kept of the inputs' union.
+-- If the inputs were picked from a lawful version with files at levels up to 6, and an answer's
+-- outputs hold what they should, the version after is lawful with the tables after. Its files hold
+-- the entries of the files that stay and what is kept of the inputs' union.
 pub record StandsAfter (cmp : List ℕ → List ℕ → Ordering) (separator_of : List ℕ → List ℕ → List ℕ) (successor_of : List ℕ → List ℕ) : Type 0 where
   pub lawful : (v : State) (tables : List Numbered) (level : ℕ) (r : RequestView) (answer : Answer) →
       IsLawful cmp v tables → All (λ (f : NewFile). f.level ≤ 6) v.files → IsPicked cmp v level r.picked → IsOver v tables r →
@@ -41,7 +42,8 @@ pub record StandsAfter (cmp : List ℕ → List ℕ → Ordering) (separator_of 
       HoldKept cmp v tables r.picked (readable_of r.snapshots r.last_sequence) held.union
       (version_after v r held.plan) (tables_after cmp r.picked answer tables)
 
--- The version after the edit is there and lawful, and each get at a sequence that stays readable answers as before.
+-- The edit applies, the version after is lawful, and each get at a sequence that stays readable
+-- answers as before.
 pub record Survives (cmp : List ℕ → List ℕ → Ordering) (v : State) (tables : List Numbered)
     (r : RequestView) (answer : Answer) (e : Edit) : Type 0 where
   pub after : State
@@ -50,8 +52,9 @@ pub record Survives (cmp : List ℕ → List ℕ → Ordering) (v : State) (tabl
   pub gets_after : (user : List ℕ) (at : ℕ) → is_read (readable_of r.snapshots r.last_sequence) at ≡ true →
       get_of after (tables_after cmp r.picked answer tables) user at ≡ get_of v tables user at
 
--- What an answer leaves of each lawful version, whose files stand at levels up to 6, from which the request's inputs were
--- picked: the bytes of the edit read as an edit, and each that they read as leaves a version that reads survive in.
+-- What an answer leaves of each lawful version with files at levels up to 6 from which the
+-- request's inputs were picked: the bytes of the edit read as an edit, and in the version that any
+-- such edit makes reads survive.
 pub record LeavesReads (cmp : List ℕ → List ℕ → Ordering) (r : RequestView) (answer : Answer) : Type 0 where
   pub reads : (v : State) (tables : List Numbered) (level : ℕ) →
       IsLawful cmp v tables → All (λ (f : NewFile). f.level ≤ 6) v.files → IsPicked cmp v level r.picked → IsOver v tables r →
@@ -60,7 +63,7 @@ pub record LeavesReads (cmp : List ℕ → List ℕ → Ordering) (r : RequestVi
       IsLawful cmp v tables → All (λ (f : NewFile). f.level ≤ 6) v.files → IsPicked cmp v level r.picked → IsOver v tables r →
       IsEdit answer.edit e → Survives cmp v tables r answer e
 
--- so each answer of one thread does
+-- each answer of one thread leaves reads so
 abbrev pub ReadsSurvive : (List ℕ → List ℕ → Ordering) → (List ℕ → List ℕ → List ℕ) → (List ℕ → List ℕ) → Type 0
 ReadsSurvive cmp separator_of successor_of =
     (r : RequestView) (answer : Answer) → one_thread cmp separator_of successor_of r ≡ Ok answer → LeavesReads cmp r answer

@@ -1,4 +1,5 @@
--- Among the entries of a user key in a lawful version, those of the inputs of a compaction stand together.
+-- Of the entries of a user key in a lawful version, those of the inputs of a compaction are
+-- together.
 use Rattle.std.specs.Prelude.{◌≡◌, ℕ, zero, suc, ◌+◌, ◌-◌, ◌≤◌, true, not, List, [], ◌++◌, filter, fold}
 use Rattle.std.specs.List.{All, flat_map}
 use Rattle.std.specs.Ordering.{nat_cmp}
@@ -24,12 +25,13 @@ use Rattle.survival.specs.Closed.{is_input}
 abbrev pub newer_number : FileMeta → FileMeta → Ordering
 newer_number a b = nat_cmp b.number a.number
 
--- the files of a level as they are read: those of level 0 by falling number, those of each other level in version order
+-- the files of a level in the order of reading: those of level 0 by falling number, those of each
+-- other level in version order
 abbrev pub level_read : (List ℕ → List ℕ → Ordering) → State → ℕ → List FileMeta
 level_read cmp v zero = fold (insert_key newer_number) [] (files_at v.files 0)
 level_read cmp v (suc n) = level_files cmp v (suc n)
 
--- the files of n levels from this one on, read level by level
+-- the files of n levels from this one on, level by level
 unfoldable pub files_read : (List ℕ → List ℕ → Ordering) → State → ℕ → ℕ → List FileMeta
 files_read cmp v level zero = []
 files_read cmp v level (suc n) = level_read cmp v level ++ files_read cmp v (level + 1) n
@@ -39,13 +41,15 @@ abbrev pub entries_read : List Numbered → List ℕ → List FileMeta → List 
 entries_read tables user files =
     filter (λ e. bytes_eq (user_of e.key) user) (flat_map (λ f. table_entries tables f.number) files)
 
--- the files down to the inputs' lower level that stay, those of them that are inputs, and all files of deeper levels
+-- the files above the inputs: those of the levels down to the inputs' lower one that stay
 abbrev pub files_above : (List ℕ → List ℕ → Ordering) → State → Picked → List FileMeta
 files_above cmp v p = filter (λ f. not (is_input p f.number)) (files_read cmp v 0 (p.level + 2))
 
+-- the inputs, as they are read
 abbrev pub files_taken : (List ℕ → List ℕ → Ordering) → State → Picked → List FileMeta
 files_taken cmp v p = filter (λ f. is_input p f.number) (files_read cmp v 0 (p.level + 2))
 
+-- the files below the inputs: all of deeper levels
 abbrev pub files_below : (List ℕ → List ℕ → Ordering) → State → Picked → List FileMeta
 files_below cmp v p = files_read cmp v (p.level + 2) (5 - p.level)
 
@@ -56,16 +60,17 @@ pub record StandTogether (cmp : List ℕ → List ℕ → Ordering) (v : State) 
   pub read : entries_read tables user (files_read cmp v 0 7) ≡ above ++ (inputs ++ below)
   -- their sequences fall;
   pub falls : SequencesFall (above ++ (inputs ++ below))
-  -- those of the inputs are all that the inputs hold of the user key, and the others all that the files hold that stay;
+  -- those of the inputs are all that the inputs have of the user key, and the others all that the
+  -- files have that stay;
   pub of_inputs : AreThoseOf user (flat_map (λ (i : InputFile). table_entries tables i.meta.number) p.files) inputs
   pub of_user : AreOf user inputs
   pub of_others : AreThoseOf user (all_entries tables (filter (λ f. not (is_input p f.meta.number)) v.files)) (above ++ below)
-  -- there are none below where no deeper file's range holds the user key;
+  -- there are none below if no deeper file's range holds the user key;
   pub at_base : is_in_none cmp p.deeper user ≡ true → below ≡ []
   -- and what the version answers of the user key is what they answer, the newest first.
   pub answers : (at : ℕ) → get_of v tables user at ≡ answer_at at (above ++ (inputs ++ below))
 
--- so they stand in each lawful version whose files stand at levels up to 6
+-- so they are in each lawful version with files at levels up to 6 and picked inputs
 abbrev pub InputsStandTogether : (List ℕ → List ℕ → Ordering) → Type 0
 InputsStandTogether cmp =
     (v : State) (tables : List Numbered) (level : ℕ) (p : Picked) (user : List ℕ) →

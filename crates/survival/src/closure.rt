@@ -1,4 +1,7 @@
 //! The laws of closed inputs.
+//!
+//! Premises of the first two: the version is lawful, its files are at levels up to 6, and the
+//! inputs were picked from it.
 
 ghost use Rattle.survival.specs.Closed.{AreClosed, ClosedInputs};
 ghost use Rattle.survival.specs.Row.{first_alone, two_files, two_tables};
@@ -7,18 +10,21 @@ ghost use Rattle.survival.specs.Together.{InputsStandTogether};
 use ikey::Comparator;
 
 /// The law that the inputs of a lawful version are closed. A call does nothing.
+///
+/// Of the inputs' user keys, these have newer entries only: files of the level that stay, files of
+/// the next level that stay, and files of shallower levels. Deeper files have older entries only.
 pub fn closed_inputs<C: Comparator>()
     ensures { ClosedInputs C.cmp }
 {}
 
-/// The law that the entries of the inputs stand together among those of a user key. A call does
-/// nothing.
+/// The law that the entries of a user key in a lawful version are, the newest first, those above
+/// the inputs, those of the inputs, and those below. A call does nothing.
 pub fn inputs_stand_together<C: Comparator>()
     ensures { InputsStandTogether C.cmp }
 {}
 
-/// That "closed inputs" rules something out: if a level has `u@10 put` in one file and `u@5 put` in
-/// another, the first file alone isn't closed. A call does nothing.
+/// A check that "closed inputs" rules something out. If a level has one file with `u@10 put` and
+/// one with `u@5 put`, the first file alone isn't closed. A call does nothing.
 pub fn first_alone_is_not_closed<C: Comparator>()
     ensures { AreClosed C.cmp two_files two_tables first_alone → ⊥ }
 {}

@@ -1,4 +1,4 @@
--- What a call of the code stands for, what became of it, and what that makes of files.
+-- A call of the code as a step, and what the step makes of files.
 use Rattle.std.specs.Prelude.{◌≡◌, ◌⊎◌, ℕ, Bool, if◌then◌else◌, List, Option, Some, None}
 use Rattle.folder.specs.Calls.{Call, Created, Done, Files, FolderSynced, Renamed, Step, Synced, Tried, moved, put}
 use Rattle.folder.specs.declared.trail.Attempt.{Attempt}
@@ -14,7 +14,8 @@ call_in SyncFolder = FolderSynced
 abbrev pub step_in : Attempt → Step
 step_in attempt = if attempt.is_done then Done (call_in attempt.call) else Tried (call_in attempt.call)
 
--- What a step makes of files, and a call that failed may have made a file of any bytes or none, or renamed one or not.
+-- What a step makes of files. A call that failed may have made a file of any bytes or none, or
+-- renamed one or not.
 abbrev pub Alters : Step → Files → Files → Type 0
 Alters (Done (Created name bytes)) old new = new ≡ put old name (Some bytes)
 Alters (Tried (Created name bytes)) old new = (new ≡ old) ⊎ ((held : Option (List ℕ)) × (new ≡ put old name held))
@@ -25,6 +26,6 @@ Alters (Tried (Synced name)) old new = new ≡ old
 Alters (Done FolderSynced) old new = new ≡ old
 Alters (Tried FolderSynced) old new = new ≡ old
 
--- a call that was done, or that failed
+-- a call that failed, or that was done
 abbrev pub tried_if : Bool → Call → Step
 tried_if failed call = if failed then Tried call else Done call

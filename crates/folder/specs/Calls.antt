@@ -3,36 +3,37 @@ use Rattle.std.specs.Prelude.{◌≡◌, ◌⊎◌, ◌↔◌, ℕ, Bool, true, 
 use Rattle.std.specs.Str.{bytes_eq}
 use Rattle.folder.specs.declared.folder.FolderFault.{FolderFault}
 
--- a call that writes: a file is made of these bytes, a file is synced, a file gets another name, the folder is synced
+-- a call that writes: a file is made of these bytes, a file is synced, a file is renamed, the
+-- folder is synced
 pub data Call : Type 0 where
   Created : List ℕ → List ℕ → Call
   Synced : List ℕ → Call
   Renamed : List ℕ → List ℕ → Call
   FolderSynced : Call
 
--- a call that was done, and one that failed or was under way when a crash came
+-- a call that was done, or one that failed or was under way when a crash came
 pub data Step : Type 0 where
   Done : Call → Step
   Tried : Call → Step
 
--- what becomes of a call by what it answers
+-- the step of a call, by its answer
 abbrev pub step_of : {T : Type 0} → Call → Result T FolderFault → Step
 step_of call (Ok _) = Done call
 step_of call (Err _) = Tried call
 
--- what is held under each name
+-- the bytes under each name, None for no file
 abbrev pub Files : Type 0
 Files = List ℕ → Option (List ℕ)
 
--- the same but for one name
+-- the same, but x at this name
 abbrev pub put : {A : Type 0} → (List ℕ → A) → List ℕ → A → List ℕ → A
 put of name x other = if bytes_eq other name then x else of other
 
--- what stood at one name stands at another, and nothing at the first
+-- what was at the first name is at the second, and nothing is left at the first
 abbrev pub moved : {A : Type 0} → A → (List ℕ → A) → List ℕ → List ℕ → List ℕ → A
 moved nothing of from to = put (put of from nothing) to (of from)
 
--- a folder as it is read: what it holds, and which names were synced since they got what they hold
+-- a folder as it is read: its files, and which names were synced since they got their bytes
 pub record Shown : Type 0 where
   pub files : Files
   pub synced : List ℕ → Bool
@@ -46,8 +47,8 @@ with_synced s name = record { files = s.files; synced = put s.synced name true }
 abbrev pub renamed : Shown → List ℕ → List ℕ → Shown
 renamed s from to = record { files = moved None s.files from to; synced = moved false s.synced from to }
 
--- What a step changes where no crash comes: a call that failed may have made a file of any bytes or none, or renamed one
--- or not.
+-- What a step changes if no crash comes. A call that failed may have made a file of any bytes or
+-- none, or renamed one or not.
 abbrev pub Shows : Step → Shown → Shown → Type 0
 Shows (Done (Created name bytes)) s next = next ≡ with_file s name (Some bytes)
 Shows (Tried (Created name bytes)) s next = (held : Option (List ℕ)) × (next ≡ with_file s name held)
@@ -58,10 +59,10 @@ Shows (Tried (Synced name)) s next = next ≡ s
 Shows (Done FolderSynced) s next = next ≡ s
 Shows (Tried FolderSynced) s next = next ≡ s
 
--- just this may be read
+-- a folder tells just these files
 abbrev pub Tells : (List ℕ → Option (List ℕ) → Type 0) → Files → Type 0
 Tells tells files = (name : List ℕ) (held : Option (List ℕ)) → tells name held ↔ (files name ≡ held)
 
--- What a step changes of what may be read. Of a folder that lets more than one thing be read, nothing is said.
+-- What a step changes of what a folder tells. Nothing is said of a folder that tells no files.
 abbrev pub TellsAfter : Step → (List ℕ → Option (List ℕ) → Type 0) → (List ℕ → Option (List ℕ) → Type 0) → Type 0
 TellsAfter step old new = (s : Shown) → Tells old s.files → (next : Shown) × Shows step s next × Tells new next.files

@@ -1,4 +1,4 @@
--- Names that a version has no use for.
+-- Names that a version doesn't use.
 use Rattle.std.specs.Prelude.{◌≡◌, ◌≢◌, ◌<◌, ◌^◌, ℕ, true, List, codes}
 use Rattle.std.specs.declared.cmp.Ordering.{Ordering}
 use Rattle.edit.specs.Version.{State}
@@ -7,7 +7,7 @@ use Rattle.folder.specs.Manifest.{is_complete}
 use Rattle.folder.specs.Names.{manifest_name, old_table_name, table_name}
 use Rattle.folder.specs.ReadsAs.{IsOneOf}
 
--- it is neither CURRENT, nor a manifest of the version, nor one of its tables
+-- the name is not CURRENT, not a manifest's of the version, and not one of its tables'
 pub record IsFree (cmp : List ℕ → List ℕ → Ordering) (v : State) (name : List ℕ) : Type 0 where
   pub current : name ≢ codes "CURRENT"
   pub manifest : (number : ℕ) → number < 2 ^ 64 → is_complete number v ≡ true → name ≢ manifest_name number

@@ -6,8 +6,8 @@ use Rattle.coding.specs.declared.fault.Fault.{Fault}
 use Rattle.coding.specs.declared.fault.FaultName.TheVariants.{Missing}
 use Rattle.folder.specs.Names.{old_table_name, table_name}
 
--- The bytes of the table of a number: those under its name, and where it has none those under its older name. Missing
--- where it has neither.
+-- The bytes of the table of a number: those under its name, or if that is missing those under its
+-- older name. Missing if both are.
 abbrev pub IsTableAnswer : (List ℕ → Option (List ℕ) → Type 0) → ℕ → Result (List ℕ) Fault → Type 0
 IsTableAnswer tells number (Ok bytes) =
     tells (table_name number) (Some bytes) ⊎ (tells (table_name number) None × tells (old_table_name number) (Some bytes))
@@ -17,7 +17,7 @@ IsTableAnswer tells number (Err e) = tells (table_name number) None × tells (ol
 abbrev pub IsTableOf : (List ℕ → Option (List ℕ) → Type 0) → ℕ → ℕ × List ℕ → Type 0
 IsTableOf tells number table = (table.0 ≡ number) × IsTableAnswer tells number (Ok table.1)
 
--- the first of the numbers whose table isn't there
+-- the refusal of the first number whose table is missing
 pub record IsFirstMissing (tells : List ℕ → Option (List ℕ) → Type 0) (numbers : List ℕ) (e : Fault) : Type 0 where
   pub before : List ℕ
   pub tables : List (ℕ × List ℕ)
@@ -27,7 +27,7 @@ pub record IsFirstMissing (tells : List ℕ → Option (List ℕ) → Type 0) (n
   pub read : AllZip (IsTableOf tells) before tables
   pub missing : IsTableAnswer tells number (Err e)
 
--- the tables of these numbers in order, or Missing at the first that isn't there
+-- the tables of these numbers in order, or Missing at the first that is missing
 abbrev pub IsLoaded : (List ℕ → Option (List ℕ) → Type 0) → List ℕ → Result (List (ℕ × List ℕ)) Fault → Type 0
 IsLoaded tells numbers (Ok tables) = AllZip (IsTableOf tells) numbers tables
 IsLoaded tells numbers (Err e) = IsFirstMissing tells numbers e

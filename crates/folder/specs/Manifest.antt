@@ -1,4 +1,4 @@
--- What the bytes of a manifest say: they are the log of version edits, which give a version.
+-- What the bytes of a manifest say: a log of edits, which give a version.
 use Rattle.std.specs.Prelude.{◌≡◌, ℕ, nat_lt, Bool, ◌&&◌, false, if◌then◌else◌, List, [], ◌∷◌, ◌++◌, Option, None, is_some, Result, Ok, Err}
 use Rattle.std.specs.List.{AllZip}
 use Rattle.std.specs.Option.{option_map_or, option_or}
@@ -18,7 +18,7 @@ use Rattle.folder.specs.declared.order.Order.TheVariants.{Bytewise, Shortlex}
 abbrev pub AreEdits : List (List ℕ) → List Edit → Type 0
 AreEdits records edits = AllZip IsEdit records edits
 
--- behind some records that read as edits there is one that is refused
+-- the refusal of a record, after some records that read as edits
 pub record IsFirstRefused (records : List (List ℕ)) (e : Fault) : Type 0 where
   pub before : List (List ℕ)
   pub edits : List Edit
@@ -28,48 +28,49 @@ pub record IsFirstRefused (records : List (List ℕ)) (e : Fault) : Type 0 where
   pub read : AreEdits before edits
   pub refused : IsRefused bytes e
 
--- the edits that records read as, or the refusal of the first that reads as none
+-- the edits that records read as, or the refusal of the first that is no edit
 abbrev pub IsEditsAnswer : List (List ℕ) → Result (List Edit) Fault → Type 0
 IsEditsAnswer records (Ok edits) = AreEdits records edits
 IsEditsAnswer records (Err e) = IsFirstRefused records e
 
--- the first comparator's name that an edit states
+-- the first comparator's name in the edits
 abbrev pub first_name : List Edit → Option (List ℕ)
 first_name [] = None
 first_name (e ∷ edits) = option_or e.comparator (first_name edits)
 
--- the name of an order
+-- the comparator's name of an order
 abbrev pub order_name : Order → List ℕ
 order_name Bytewise = bytewise_name
 order_name Shortlex = shortlex_name
 
--- the order of a name, which has to be one of the two
+-- the order of a comparator's name, or Comparator if it is neither of the two
 abbrev pub order_named : List ℕ → Result Order Fault
 order_named text =
     if bytes_eq text bytewise_name then Ok Bytewise else if bytes_eq text shortlex_name then Ok Shortlex else Err (fault name.Comparator)
 
--- the order that the first name states, which has to be there
+-- the order of the first name, or Comparator if no edit has one
 abbrev pub order_of : List Edit → Result Order Fault
 order_of edits = option_map_or order_named (first_name edits) (Err (fault name.Comparator))
 
--- the version after edits, one after the other, by the comparator of this name
+-- the version after all edits, applied one after the other by the comparator of this name
 abbrev pub version_after : List ℕ → State → List Edit → Result State Fault
 version_after text v [] = Ok v
 version_after text v (e ∷ edits) = applied_by text v e >>= λ w. version_after text w edits
 
--- whether the numbers of a version were set that a manifest of this number has to set, and its number is below next file
+-- whether log number, last sequence and next file were set, and this number is below next file
 abbrev pub is_complete : ℕ → State → Bool
 is_complete number v = is_some v.log_number && is_some v.last_sequence && option_map_or (nat_lt number) v.next_file false
 
--- the order and the version that the edits of a manifest of this number give
+-- the order and the version that the edits of the manifest of this number give, or Apply if the
+-- version isn't complete
 abbrev pub version_from : ℕ → List Edit → Result (Order × State) Fault
 version_from number edits = do
   order ← order_of edits
   v ← version_after (order_name order) empty_state edits
   if is_complete number v then Ok (order, v) else Err (fault name.Apply)
 
--- What the manifest of a number answers by its bytes: its log is read, then each record, and then the edits give a
--- version.
+-- What the bytes of the manifest of a number answer: they are read as a log, then each record as an
+-- edit, then the edits give a version.
 abbrev pub IsManifestAnswer : ℕ → List ℕ → Result (Order × State) Fault → Type 0
 IsManifestAnswer number bytes =
     IsThen (λ records. records ≡ records_of bytes) (λ records.

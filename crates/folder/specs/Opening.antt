@@ -1,4 +1,4 @@
--- Opening a folder: what it tells of CURRENT, of the manifest and of the tables, and what comes of that.
+-- Opening a folder: what is read in which order, and how failures of the device are answered.
 use Rattle.std.specs.Prelude.{◌≡◌, ◌⊎◌, ℕ, ◌<◌, List, codes, Option, Some, None, Result, Ok, Err, IsErrOf}
 use Rattle.coding.specs.Answers.{UnlessMemory, fault, IsThen}
 use Rattle.coding.specs.declared.fault.Fault.{Fault}
@@ -10,37 +10,38 @@ use Rattle.folder.specs.Manifest.{IsManifestAnswer}
 use Rattle.folder.specs.Names.{IsNumberAnswer, manifest_name}
 use Rattle.folder.specs.declared.order.Order.{Order}
 
--- the device failed in between, and that is the answer
+-- the device failed during the call, and Device is the answer
 abbrev pub IsStopped : ℕ → ℕ → Fault → Type 0
 IsStopped before now e = (e ≡ fault Device) × DeviceFailed before now
 
--- Device is answered only where the device failed in between.
+-- Device is answered only if the device failed during the call.
 abbrev pub HasDeviceFailed : ℕ → ℕ → Fault → Type 0
 HasDeviceFailed before now e = e.name ≡ Device → DeviceFailed before now
 
--- Where the count of failures rises, Device is the answer.
+-- If the count of failures rose during the call, Device is the answer.
 abbrev pub StopsAtDevice : {X : Type 0} → ℕ → ℕ → Result X Fault → Type 0
 StopsAtDevice before now result = before < now → IsErrOf result (fault Device)
 
--- What a call on a folder answers, seen by view, is such an answer, or the device failed; want of memory aside. The
--- count of failures was the one before, and is the other now.
+-- A call on a folder has this answer, seen by view, or Device if the device failed during the call.
+-- Memory aside. The count of failures was `before`, and is `now` after the call.
 abbrev pub FolderAnswers : {X Y : Type 0} → (X → Y) → ℕ → ℕ → Result X Fault → (Result Y Fault → Type 0) → Type 0
 FolderAnswers view before now (Ok x) IsAnswer = IsAnswer (Ok (view x))
 FolderAnswers view before now (Err e) IsAnswer = UnlessMemory e (IsStopped before now e ⊎ IsAnswer (Err e))
 
--- what is held under a name, or Missing where nothing is
+-- the bytes under a name, or Missing if there is no file
 abbrev pub IsHeld : (List ℕ → Option (List ℕ) → Type 0) → List ℕ → Result (List ℕ) Fault → Type 0
 IsHeld tells name (Ok bytes) = tells name (Some bytes)
 IsHeld tells name (Err e) = tells name None × (e ≡ fault Missing)
 
--- What opening answers: CURRENT is read, then its form, then the manifest that it names, and then the manifest's bytes.
+-- What opening answers: CURRENT is read, then its form is tested, then the manifest that it names
+-- is read, then the manifest's bytes.
 abbrev pub IsOpened : (List ℕ → Option (List ℕ) → Type 0) → Result (Order × State) Fault → Type 0
 IsOpened tells =
     IsThen (IsHeld tells (codes "CURRENT")) (λ current.
     IsThen (IsNumberAnswer current) (λ number.
     IsThen (IsHeld tells (manifest_name number)) (IsManifestAnswer number)))
 
--- the refusals that come of what a folder holds: neither Device nor Memory is one
+-- the refusals that come of what a folder holds; Device and Memory are not among them
 abbrev pub IsOfContents : FaultName → Type 0
 IsOfContents Missing = Unit {0}
 IsOfContents LogShape = Unit {0}

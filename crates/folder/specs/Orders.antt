@@ -6,17 +6,17 @@ use Rattle.ikey.specs.Shortlex.{shortlex_cmp, shortlex_separator, shortlex_succe
 use Rattle.folder.specs.declared.order.Order.{Order}
 use Rattle.folder.specs.declared.order.Order.TheVariants.{Bytewise, Shortlex}
 
--- how it compares two
+-- the comparison of two user keys
 abbrev pub order_cmp : Order → List ℕ → List ℕ → Ordering
 order_cmp Bytewise = bytewise_cmp
 order_cmp Shortlex = shortlex_cmp
 
--- its short key between two
+-- the short key between two user keys
 abbrev pub order_separator : Order → List ℕ → List ℕ → List ℕ
 order_separator Bytewise = bytewise_separator
 order_separator Shortlex = shortlex_separator
 
--- its short key behind one
+-- the short key after a user key
 abbrev pub order_successor : Order → List ℕ → List ℕ
 order_successor Bytewise = bytewise_successor
 order_successor Shortlex = shortlex_successor

@@ -10,36 +10,36 @@ use Rattle.folder.specs.Names.{current_text, manifest_name, old_table_name, tabl
 use Rattle.folder.specs.Opening.{IsOpened}
 use Rattle.folder.specs.declared.order.Order.{Order}
 
--- what is held under a name of these files
+-- the bytes under a name of these files
 abbrev pub IsHeldIn : Files → List ℕ → Option (List ℕ) → Type 0
 IsHeldIn files name held = files name ≡ held
 
--- The files read as a version of this order and its tables: CURRENT names a manifest that gives the version, and each of
--- the version's files has its table, in the order in which tables are loaded. The comparison of user keys says that order
--- alone, so nothing ties it to the version's own.
+-- The files read as a version of this order, and its tables. CURRENT names a manifest that gives
+-- the version, and each of the version's files has its table. cmp only orders the tables as they
+-- are loaded: nothing ties it to the version's order.
 pub record ReadsAs (cmp : List ℕ → List ℕ → Ordering) (order : Order) (v : State) (tables : List (ℕ × List ℕ)) (files : Files) : Type 0 where
   pub opened : IsOpened (IsHeldIn files) (Ok (order, v))
   pub loaded : IsLoaded (IsHeldIn files) (file_numbers cmp v) (Ok tables)
 
--- one of the numbers
+-- n is one of the numbers
 abbrev pub IsOneOf : List ℕ → ℕ → Type 0
 IsOneOf [] n = ⊥
 IsOneOf (m ∷ numbers) n = (n ≡ m) ⊎ IsOneOf numbers n
 
--- What is read there rests on a name: CURRENT, the manifest that it names, and of each table its name, and where there is
--- none its older name.
+-- The names on which that reading rests: CURRENT, the manifest that it names, and of each table its
+-- name, and its older name if there is no file under the first.
 pub data RestsOn (cmp : List ℕ → List ℕ → Ordering) (v : State) (files : Files) : List ℕ → Type 0 where
   Current : RestsOn cmp v files (codes "CURRENT")
   Manifest : (number : ℕ) → number < 2 ^ 64 → files (codes "CURRENT") ≡ Some (current_text number) → RestsOn cmp v files (manifest_name number)
   Table : (number : ℕ) → IsOneOf (file_numbers cmp v) number → RestsOn cmp v files (table_name number)
   OldTable : (number : ℕ) → IsOneOf (file_numbers cmp v) number → files (table_name number) ≡ None → RestsOn cmp v files (old_table_name number)
 
--- a crash now leaves what is read under the name, and a sync of the folder keeps it
+-- a crash now leaves under the name what is read there, and a sync of the folder keeps it
 pub record IsSettled (w : World) (name : List ℕ) : Type 0 where
   pub kept : IsKept w.shown name
   pub left : w.left name ≡ w.shown.files name
 
--- The folder reads as the version and its tables, and all that this rests on is settled.
+-- The folder reads as the version and its tables, and each name on which that rests is settled.
 pub record StandsAs (cmp : List ℕ → List ℕ → Ordering) (order : Order) (v : State) (tables : List (ℕ × List ℕ)) (w : World) : Type 0 where
   pub reads : ReadsAs cmp order v tables w.shown.files
   pub settled : (name : List ℕ) → RestsOn cmp v w.shown.files name → IsSettled w name

@@ -1,18 +1,18 @@
--- What the calls on a folder have in common: what they report of the device, and what those leave that only read.
+-- What calls on a folder report of the device, and what a call leaves that only reads.
 use Rattle.std.specs.Prelude.{◌≡◌, ◌≤◌, Result, IfErr}
 use Rattle.coding.specs.declared.fault.Fault.{Fault}
 use Rattle.folder.specs.Folder.{TellsSame}
 use Rattle.folder.specs.Opening.{HasDeviceFailed, StopsAtDevice}
 use Rattle.folder.specs.declared.folder.Folder.{Ghosts}
 
--- Device is answered only if the device failed during the call. If the count of failures rose, Device is the answer. It never
--- falls.
+-- Device is answered only if the device failed during the call. If the count of failures rose,
+-- Device is the answer. The count never falls.
 pub record ReportsDevice {F X : Type 0} (g : Ghosts F) (old new : F) (result : Result X Fault) : Type 0 where
   pub device : IfErr result (HasDeviceFailed (g.failed old) (g.failed new))
   pub at_once : StopsAtDevice (g.failed old) (g.failed new) result
   pub later : g.failed old ≤ g.failed new
 
--- What may be read stays the same under each name, and no call that writes was made.
+-- The folder tells the same as before, and no call that writes was made.
 pub record OnlyReads {F : Type 0} (g : Ghosts F) (old new : F) : Type 0 where
   pub same : TellsSame (g.tells old) (g.tells new)
   pub calls : g.calls new ≡ g.calls old

@@ -2,26 +2,27 @@
 use Rattle.std.specs.Prelude.{◌≡◌, ◌⊎◌, ℕ, List, [], ◌∷◌, ◌++◌, map, Option, Result, Ok, Err}
 use Rattle.folder.specs.Calls.{Call, Done, Shown, Shows, Step, Tells, Tried}
 
--- The steps of these calls, in their order, up to one that failed.
+-- The steps of these calls in their order, up to one that failed, or ended earlier without one.
 abbrev pub AreMade : List Call → List Step → Type 0
 AreMade [] steps = steps ≡ []
 AreMade (call ∷ calls) steps = (steps ≡ []) ⊎ ((steps ≡ Tried call ∷ []) ⊎ ((rest : List Step) × (steps ≡ Done call ∷ rest) × AreMade calls rest))
 
--- The steps of the calls of a function that answers so: all of them are done at Ok.
+-- The steps of these calls under a function's answer: at Ok all of them were done.
 abbrev pub AreMadeBy : {T E : Type 0} → List Call → List Step → Result T E → Type 0
 AreMadeBy calls steps (Ok _) = steps ≡ map Done calls
 AreMadeBy calls steps (Err _) = AreMade calls steps
 
--- steps, one after the other, where no crash comes
+-- what is read after steps, if no crash comes
 abbrev pub ShowsAll : List Step → Shown → Shown → Type 0
 ShowsAll [] s last = last ≡ s
 ShowsAll (step ∷ steps) s last = (next : Shown) × Shows step s next × ShowsAll steps next last
 
--- what steps change of what may be read
+-- what steps change of what a folder tells
 abbrev pub TellsThrough : List Step → (List ℕ → Option (List ℕ) → Type 0) → (List ℕ → Option (List ℕ) → Type 0) → Type 0
 TellsThrough steps old new = (s : Shown) → Tells old s.files → (last : Shown) × ShowsAll steps s last × Tells new last.files
 
--- A function makes these calls in their order, each once and no others, up to one that fails.
+-- A function makes these calls in their order, each once and no others, up to one that fails. At Ok
+-- all were done.
 pub record Runs {T E : Type 0} (calls : List Call) (before after : List Step)
     (old new : List ℕ → Option (List ℕ) → Type 0) (result : Result T E) : Type 0 where
   pub steps : List Step

@@ -1,4 +1,4 @@
--- A folder in memory: its files at first, and the calls that wrote since.
+-- A folder in memory: its files at first, and the calls since that write.
 use Rattle.std.specs.Prelude.{ℕ, if◌then◌else◌, List, [], ◌∷◌, Some, None, string_bytes}
 use Rattle.std.specs.Map.{lookup}
 use Rattle.std.specs.Str.{bytes_eq}
@@ -7,38 +7,38 @@ use Rattle.folder.specs.declared.shelf_step.ShelfCall.{ShelfCall}
 use Rattle.folder.specs.declared.shelf_step.ShelfCall.TheVariants.{Create, Rename, Sync, SyncFolder}
 use Rattle.folder.specs.declared.shelf_step.ShelfStep.{ShelfStep}
 
--- what is held under each name by files, of which the first of a name counts
+-- the bytes under each name; of several files of one name the first counts
 abbrev pub files_in : List (List ℕ × List ℕ) → Files
 files_in files name = lookup (bytes_eq name) files
 
--- what a call makes of files
+-- the files after a call
 abbrev pub made_by : ShelfCall → Files → Files
 made_by (Create name bytes) files = put files (string_bytes name) (Some bytes.items)
 made_by (Rename from to) files = moved None files (string_bytes from) (string_bytes to)
 made_by (Sync name) files = files
 made_by SyncFolder files = files
 
--- files after a step
+-- the files after a step
 abbrev pub after_step : ShelfStep → Files → Files
 after_step step files = if step.is_shown then made_by step.call files else files
 
--- files after steps, of which the newest is first
+-- the files after all steps, of which the newest is first
 abbrev pub after_steps : List ShelfStep → Files → Files
 after_steps [] files = files
 after_steps (step ∷ steps) files = after_step step (after_steps steps files)
 
 -- a folder in memory, as contracts see it
 pub record Shelved : Type 0 where
-  -- the files that were lent to it, of which the first of a name counts
+  -- the files that were lent to it; of several files of one name the first counts
   pub start : List (List ℕ × List ℕ)
-  -- the calls that wrote, the newest first, but for those of which a growth was refused
+  -- the calls that write, the newest first, without those that ran out of memory
   pub steps : List ShelfStep
-  -- all calls that wrote, in their order
+  -- all calls that write, in their order
   pub trail : List Step
   -- how many calls were made and how often the device failed, each up to 2^64 - 1
   pub calls : ℕ
   pub failures : ℕ
 
--- what it holds under each name
+-- the bytes under each name
 abbrev pub held_by : Shelved → Files
 held_by shelf = after_steps shelf.steps (files_in shelf.start)

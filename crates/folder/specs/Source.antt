@@ -1,10 +1,10 @@
--- Where what is held under a name comes from.
+-- Where the bytes under a name come from.
 use Rattle.std.specs.Prelude.{ℕ, List, Option, Some, None}
 use Rattle.folder.specs.Calls.{Files}
 use Rattle.folder.specs.declared.shelf_step.Source.{Source}
 use Rattle.folder.specs.declared.shelf_step.Source.TheVariants.{Bytes, Nothing, Name}
 
--- what the source gives of the files before
+-- the bytes that the source gives, if these were the files before
 abbrev pub from_source : Files → Source → Option (List ℕ)
 from_source files (Bytes bytes) = Some bytes.now
 from_source files Nothing = None

@@ -20,14 +20,14 @@ use std::thread::Threads;
 
 /// A folder of the system, at a path. It tells contracts nothing of what it holds.
 ///
-/// Names are taken as they are, so none may have a slash.
+/// Names are taken as they are, so they must not have a slash.
 #[derive(Drop)]
 pub struct Disk<'r, R> {
     rt: &'r R,
     path: &'r str,
     failures: u64,
     trail: Trail,
-    /// Tables that were read before they are asked for. The one that is asked for next is last.
+    /// Tables that were read before they are asked for. The next one asked for is last.
     ahead: Vec<Ahead>,
 }
 
@@ -40,7 +40,7 @@ impl<'r, R> Model for Disk<'r, R> {
 }
 
 impl<'r, R: Files + AllocGlobal> Disk<'r, R> {
-    /// The folder at this path, of which no call has failed yet. Nothing is read.
+    /// The folder at `path`. No call of it has failed yet, and nothing is read.
     pub fn new(rt: &'r R, path: &'r str) -> Disk<'r, R>
         ensures failed { ⟦<Disk<'r, R> as Folder>⟧.failed result ≡ 0 }
         ensures calls { ⟦<Disk<'r, R> as Folder>⟧.calls result ≡ [] }
@@ -56,8 +56,11 @@ impl<'r, R: Files + AllocGlobal> Disk<'r, R> {
 }
 
 impl<'r, R: Files + AllocGlobal + WholeFiles + Threads> Disk<'r, R> {
-    /// Reads the tables of a version by several threads, before [`load`](crate::load) asks for them in its order. One that can't
-    /// be read now, for whatever reason, is read when it is asked for, and so are all once a file was made or renamed.
+    /// Reads the tables of `version` by several threads, before [`load`](crate::load) asks for them
+    /// in `order`.
+    ///
+    /// A table that can't be read now, for whatever reason, is read when it is asked for. After a
+    /// file was made or renamed, all of them are.
     pub fn read_ahead(&mut self, order: Order, version: &Version)
         ensures failed { ⟦<Disk<'r, R> as Folder>⟧.failed self.new ≡ ⟦<Disk<'r, R> as Folder>⟧.failed self.old }
         ensures calls { ⟦<Disk<'r, R> as Folder>⟧.calls self.new ≡ ⟦<Disk<'r, R> as Folder>⟧.calls self.old }
@@ -109,7 +112,7 @@ impl<'r, R: Files + AllocGlobal> Folder for Disk<'r, R> {
 }
 
 impl<'r, R: Files + AllocGlobal> Disk<'r, R> {
-    /// What was read ahead of a table. Of a file of another name nothing was.
+    /// The bytes of a table that were read ahead. None of any other file.
     fn taken_ahead(&mut self, name: &str) -> Option<Vec<u8>>
         ensures failures { self.new.failures ≡ self.old.failures }
         ensures trail { self.new.trail ≡ self.old.trail }
@@ -121,7 +124,8 @@ impl<'r, R: Files + AllocGlobal> Disk<'r, R> {
         }
     }
 
-    /// What a call of the system answered. A failure that isn't want of memory is the device's, and is counted.
+    /// What a call of the system answered. A failure other than out of memory is `Device`, and is
+    /// counted.
     fn counted<T>(&mut self, answer: io::Result<T>) -> Result<T, FolderFault>
         ensures failures { self.new.failures ≡ failures_after self.old.failures result }
         ensures trail { self.new.trail ≡ self.old.trail }

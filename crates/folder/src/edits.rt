@@ -14,12 +14,18 @@ use edit::{Version, VersionEdit};
 use ikey::{Bytewise, Comparator, Shortlex};
 use std::alloc::Global;
 
-/// The order and the version that the bytes of the manifest of this number give.
+/// The order and the version that the `bytes` of the manifest of this `number` give.
 ///
-/// Refused by the first that applies: LogShape or LogChecksum where the bytes are no log; EditTag or EditField of the
-/// first record that reads as no edit; Comparator where no record names one, or the first name is neither order's;
-/// Comparator or Apply of the first edit that doesn't fit what the earlier ones made; Apply where log number, next file
-/// or last sequence was never set, or the manifest's number isn't below next file.
+/// The first that applies:
+///
+/// - LogShape or LogChecksum: the bytes are no log.
+/// - EditTag or EditField: of the first record that is no edit.
+/// - Comparator: no record names one, or the first name is neither order's.
+/// - Comparator or Apply: of the first edit that doesn't fit what the earlier ones made.
+/// - Apply: log number, next file or last sequence was never set, or `number` isn't below next
+///   file.
+///
+/// Memory may come at any point.
 pub(crate) fn version_in(
     alloc: Global,
     number: u64,
@@ -32,7 +38,7 @@ pub(crate) fn version_in(
     version_from(alloc, number, edits)
 }
 
-/// The edits that the records read as.
+/// The edits that `records` read as, or the refusal of the first that is no edit.
 fn edits_in(alloc: Global, records: &[Vec<u8>]) -> Result<Vec<VersionEdit>, Fault>
     ensures answer { HoldsOrMemory (λ v. map edit_in v.items) result (IsEditsAnswer (lists records.now)) }
     ensures levels { IfOk result (λ v. All (λ e. HasLevels (edit_in e)) v.items) }
@@ -44,7 +50,8 @@ fn edits_in(alloc: Global, records: &[Vec<u8>]) -> Result<Vec<VersionEdit>, Faul
     Ok(edits)
 }
 
-/// The order that the first name of a comparator states.
+/// The order of the first comparator's name. Comparator if no edit has one, or if it is neither
+/// order's.
 fn order_in(edits: &[VersionEdit]) -> Result<Order, Fault>
     ensures { result ≡ order_of (map edit_in edits.now) }
 {
@@ -56,7 +63,7 @@ fn order_in(edits: &[VersionEdit]) -> Result<Order, Fault>
     Err(Fault::of(FaultName::Comparator))
 }
 
-/// The order and the version that the edits of the manifest of this number give.
+/// The order and the version that the edits of the manifest of this `number` give.
 fn version_from(
     alloc: Global,
     number: u64,
@@ -74,7 +81,7 @@ fn version_from(
     }
 }
 
-/// The version after the edits by the comparator of this order.
+/// The version after all `edits`, by the comparator of `order`.
 fn version_by(alloc: Global, order: Order, edits: Vec<VersionEdit>) -> Result<Version, Fault>
     requires { All (λ e. HasLevels (edit_in e)) edits.items }
     ensures { EqualOrMemory (λ v. v) result (version_after (order_name order) empty_state (map edit_in edits.items)) }
@@ -85,7 +92,7 @@ fn version_by(alloc: Global, order: Order, edits: Vec<VersionEdit>) -> Result<Ve
     }
 }
 
-/// The version after the edits, one after the other.
+/// The version after all `edits`, applied one after the other.
 fn version_after<C: Comparator>(alloc: Global, edits: Vec<VersionEdit>) -> Result<Version, Fault>
     requires { All (λ e. HasLevels (edit_in e)) edits.items }
     ensures { EqualOrMemory (λ v. v) result (version_after C.name_bytes empty_state (map edit_in edits.items)) }
@@ -97,7 +104,7 @@ fn version_after<C: Comparator>(alloc: Global, edits: Vec<VersionEdit>) -> Resul
     Ok(version)
 }
 
-/// Whether the numbers were set that a manifest of this number has to set, and its number is below next file.
+/// Whether log number, last sequence and next file were set, and `number` is below next file.
 fn is_complete(number: u64, version: &Version) -> bool
     ensures { result ≡ is_complete number version.now }
 {

@@ -1,4 +1,4 @@
-//! A folder as the calls on a database see it: files by name, each read and made whole.
+//! A folder as the calls on a database see it: files by name, each read and made as a whole.
 
 ghost use Rattle.std.specs.Prelude.{◌≡◌};
 ghost use Rattle.coding.specs.Answers.{fault};
@@ -47,7 +47,7 @@ impl<T: Drop> From<AllocFailed<T>> for FolderFault {
     }
 }
 
-/// A folder of files, by their names.
+/// A folder of files by their names.
 ///
 /// A call that fails may be done all the same, wholly or in part.
 pub trait Folder {
@@ -56,24 +56,25 @@ pub trait Folder {
     ghost use Rattle.folder.specs.Calls.{Step, step_of, Created, Synced, Renamed, FolderSynced, TellsAfter};
     ghost use Rattle.folder.specs.Folder.{TellsSame, failures_after};
 
-    /// What it tells of what it holds: which bytes, or that there is no file, may be read under a name. A folder that
-    /// tells nothing lets each of these be read.
+    /// What the folder tells: whether a read of a name may give these bytes, or None. A folder that
+    /// tells nothing allows every answer.
     ghost tells: { Self → List ℕ → Option (List ℕ) → Type 0 };
 
-    /// The calls that wrote to it, in their order, with those that failed.
+    /// The calls that write, in their order, those that failed too.
     ghost calls: { Self → List Step };
 
-    /// How often the device has failed, up to 2^64 - 1. Each answer `Device` is one more, and no other answer is.
+    /// How often the device has failed, up to 2^64 - 1. Each answer `Device` adds one, and no other
+    /// answer does.
     ghost failed: { Self → ℕ };
 
-    /// The bytes of a file, and None where there is no file of that name.
+    /// The bytes of a file. None if no file has this name.
     fn read(&mut self, name: &str) -> Result<Option<Vec<u8>>, FolderFault>
         ensures held { IfOk result (λ held. tells self.old name.now (option_map (λ bytes. bytes.items) held)) }
         ensures same { TellsSame (tells self.old) (tells self.new) }
         ensures calls { calls self.new ≡ calls self.old }
         ensures failures { failed self.new ≡ failures_after (failed self.old) result };
 
-    /// Makes a file of these bytes, in place of what a file of that name held.
+    /// Makes a file of these bytes. It replaces a file of that name.
     fn create(&mut self, name: &str, bytes: &[u8]) -> Result<(), FolderFault>
         ensures calls { calls self.new ≡ calls self.old ++ step_of (Created name.now bytes.now) result ∷ [] }
         ensures change { TellsAfter (step_of (Created name.now bytes.now) result) (tells self.old) (tells self.new) }
@@ -85,7 +86,7 @@ pub trait Folder {
         ensures change { TellsAfter (step_of (Synced name.now) result) (tells self.old) (tells self.new) }
         ensures failures { failed self.new ≡ failures_after (failed self.old) result };
 
-    /// Gives a file another name, in place of the file that had it.
+    /// Renames a file. It replaces a file that has the name `to`.
     fn rename(&mut self, from: &str, to: &str) -> Result<(), FolderFault>
         ensures calls { calls self.new ≡ calls self.old ++ step_of (Renamed from.now to.now) result ∷ [] }
         ensures change { TellsAfter (step_of (Renamed from.now to.now) result) (tells self.old) (tells self.new) }
@@ -97,7 +98,7 @@ pub trait Folder {
         ensures change { TellsAfter (step_of FolderSynced result) (tells self.old) (tells self.new) }
         ensures failures { failed self.new ≡ failures_after (failed self.old) result };
 
-    /// How often the device has failed, up to 2^64 - 1, where the count stays.
+    /// How often the device has failed. The count stays at 2^64 - 1.
     fn failures(&self) -> u64
         ensures { result ≡ failed self.now };
 }

@@ -17,16 +17,21 @@ ghost use Rattle.folder.specs.declared.order.Order.{Order};
 
 use crate::folder::Folder;
 
-/// What a folder tells is refused as Missing, LogShape, LogChecksum, EditTag, EditField, Comparator or Apply where it is
-/// opened, and as Missing where tables are loaded. So Device and Memory never come of it. A call does nothing.
+/// Which refusals come of what a folder tells:
+///
+/// - opening: Missing, LogShape, LogChecksum, EditTag, EditField, Comparator or Apply;
+/// - loading: Missing.
+///
+/// So Device and Memory never come of it. A call does nothing.
 pub fn folder_laws<F: Folder>(_folder: &F)
     ensures opening { (e : Fault) → IsOpened (F.tells _folder.now) (Err e) → IsOfContents e.name }
     ensures loading { (numbers : List ℕ) (e : Fault) → IsLoaded (F.tells _folder.now) numbers (Err e) → e ≡ fault Missing }
 {}
 
-/// Where a folder tells files that read as a version and its tables, opening answers that version and loading those
-/// tables, want of memory and failures of the device aside. What opening and loading answer is what the files read as: so
-/// where they read as no version, opening is refused, or else loading. A call does nothing.
+/// If a folder tells files that read as a version and its tables, opening answers that version and
+/// loading those tables, out of memory and failures of the device aside. What opening and loading
+/// answer is what the files read as: if they read as no version, opening is refused, or else
+/// loading. A call does nothing.
 pub fn reading_laws<F: Folder>(_folder: &F)
     ensures opened { (cmp : List ℕ → List ℕ → Ordering) (order : Order) (v : State) (tables : List (ℕ × List ℕ)) (files : Files)
         → Tells (F.tells _folder.now) files → ReadsAs cmp order v tables files
@@ -40,8 +45,8 @@ pub fn reading_laws<F: Folder>(_folder: &F)
         → ReadsAs cmp order v tables files }
 {}
 
-/// What may be read after some calls is one of the folders that a crash then may leave; and where a folder stands for a
-/// version, what a crash leaves reads as that version. A call does nothing.
+/// What may be read after some calls is one of the folders that a crash then may leave. If a folder
+/// stands for a version, what a crash leaves reads as that version. A call does nothing.
 pub fn crash_laws()
     ensures shown { (steps : List Step) (s last : Shown) → ShowsAll steps s last → MayLeave (open_world s) steps last.files }
     ensures left { (cmp : List ℕ → List ℕ → Ordering) (order : Order) (v : State) (tables : List (ℕ × List ℕ)) (w : World)

@@ -1,5 +1,24 @@
-//! The folder of a database: its files by name, its order of user keys, the version that its manifest gives and that
-//! version's tables.
+//! The folder of a database: its files by name, its order of user keys, the version that its
+//! manifest gives, and that version's tables.
+//!
+//! 1. [`Disk`] is a folder of the system, [`Shelf`] one in memory, for tests. Both are a
+//!    [`Folder`].
+//! 2. [`open`] gives the order and the version: CURRENT, then the manifest that it names.
+//! 3. [`load`] gives the tables of a version.
+//! 4. [`table_name`] and its neighbours give the names of files.
+//!
+//! `Disk`: create is `fs::write`, sync is `sync_all` of the file, rename is `fs::rename`,
+//! sync_folder is `sync_all` of the folder. A `Disk` tells contracts nothing of what it holds.
+//!
+//! The crash model (`specs/Calls.antt`, `specs/Crash.antt`). That a device keeps to it is a
+//! premise:
+//!
+//! - A synced file, in a folder that was synced after that, keeps its bytes until it is made anew
+//!   or a rename replaces it. A renamed file is as synced as it was.
+//! - A name without a file at a sync of the folder has none until one is made or renamed to it.
+//! - Any other file may hold any bytes after a crash, or be missing.
+//! - A rename after which the folder was not synced is wholly there or wholly not.
+//! - A call that failed or was under way may be done as far as these say.
 #![tactic(auto)]
 
 mod disk;

@@ -18,10 +18,14 @@ use edit::{FileMeta, Version};
 use ikey::{Bytewise, Comparator, Shortlex};
 use std::alloc::Global;
 
-/// The tables of a version's files with their numbers, by level, and each level's in version order.
+/// The tables of a version's files with their numbers: by level, and in each level in version
+/// order.
 ///
-/// A table is the file `%06d.ldb`, and where there is none `%06d.sst`. Missing at the first table of which there is
-/// neither. A call that the device fails is Device at once, and want of memory Memory. Only reads.
+/// A table is the file `%06d.ldb`, or `%06d.sst` if there is no such file. It only reads.
+///
+/// - Missing: at the first table that has neither file.
+/// - Device: a call failed. It makes no further call.
+/// - Memory: out of memory.
 pub fn load<C: Comparator, F: Folder>(
     alloc: Global,
     folder: &mut F,
@@ -36,7 +40,8 @@ pub fn load<C: Comparator, F: Folder>(
     tables(alloc, folder, &numbers)
 }
 
-/// The tables of a version's files, by the names under which [`load`] asks for them first, the last one first. None was read.
+/// The tables of a version's files by their first names, in the reverse of the order in which
+/// [`load`] asks for them. None is read yet.
 pub(crate) fn tables_ahead(
     alloc: Global,
     order: Order,
@@ -54,7 +59,7 @@ pub(crate) fn tables_ahead(
     Ok(files)
 }
 
-/// The tables of these numbers, in order.
+/// The tables of these `numbers`, in order.
 fn tables<F: Folder>(
     alloc: Global,
     folder: &mut F,
@@ -73,7 +78,7 @@ fn tables<F: Folder>(
     Ok(tables)
 }
 
-/// The bytes of the table of a number.
+/// The bytes of the table of a `number`.
 fn table<F: Folder>(alloc: Global, folder: &mut F, number: u64) -> Result<Vec<u8>, Fault>
     ensures answer { FolderAnswers (λ v. v.items) (F.failed folder.old) (F.failed folder.new) result (IsTableAnswer (F.tells folder.old) number) }
     ensures device { ReportsDevice F.Folder folder.old folder.new result }
@@ -87,7 +92,7 @@ fn table<F: Folder>(alloc: Global, folder: &mut F, number: u64) -> Result<Vec<u8
     }
 }
 
-/// The numbers of a version's files, by level, and each level's in version order.
+/// The numbers of a version's files: by level, and in each level in version order.
 fn file_numbers<C: Comparator>(alloc: Global, version: &Version) -> Result<Vec<u64>, Fault>
     ensures { EqualOrMemory (λ v. v.items) result (Ok (file_numbers C.cmp version.now)) }
 {

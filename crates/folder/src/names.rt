@@ -14,47 +14,48 @@ pub const CURRENT: &str = "CURRENT";
 /// What the name of each manifest begins with.
 const MANIFEST: &[u8] = b"MANIFEST-";
 
-/// The name of the manifest of this number: its decimal digits, at least six, behind `MANIFEST-`. Refused for want of memory
-/// alone.
+/// The name of the manifest of this `number`: `MANIFEST-` and its decimal digits, at least six. The
+/// only fault is Memory.
 pub fn manifest_name(alloc: Global, number: u64) -> Result<String, Fault>
     ensures { EqualOrMemory string_bytes result (Ok (manifest_name number)) }
 {
     Ok(format!(in alloc; "MANIFEST-{number:06}")?)
 }
 
-/// The name of the table of this number. Refused for want of memory alone.
+/// The name of the table of this `number`: `%06d.ldb`. The only fault is Memory.
 pub fn table_name(alloc: Global, number: u64) -> Result<String, Fault>
     ensures { EqualOrMemory string_bytes result (Ok (table_name number)) }
 {
     Ok(format!(in alloc; "{number:06}.ldb")?)
 }
 
-/// The older name of the table of this number. Refused for want of memory alone.
+/// The older name of the table of this `number`: `%06d.sst`. The only fault is Memory.
 pub fn old_table_name(alloc: Global, number: u64) -> Result<String, Fault>
     ensures { EqualOrMemory string_bytes result (Ok (old_table_name number)) }
 {
     Ok(format!(in alloc; "{number:06}.sst")?)
 }
 
-/// The name under which what CURRENT is to hold is written first, with the number of the manifest that it names.
-/// Refused for want of memory alone.
+/// The name under which CURRENT's text is written first: `%06d.dbtmp`, with the `number` of the
+/// manifest that it names. The only fault is Memory.
 pub fn temporary_name(alloc: Global, number: u64) -> Result<String, Fault>
     ensures { EqualOrMemory string_bytes result (Ok (temporary_name number)) }
 {
     Ok(format!(in alloc; "{number:06}.dbtmp")?)
 }
 
-/// What CURRENT holds where it names the manifest of this number. Refused for want of memory alone.
+/// The text of CURRENT that names the manifest of this `number`: its name and a newline. The only
+/// fault is Memory.
 pub fn current_text(alloc: Global, number: u64) -> Result<String, Fault>
     ensures { EqualOrMemory string_bytes result (Ok (current_text number)) }
 {
     Ok(format!(in alloc; "MANIFEST-{number:06}\n")?)
 }
 
-/// The number of the manifest that CURRENT names by these bytes.
+/// The number of the manifest that CURRENT names by these `bytes`.
 ///
-/// Refused as Apply where they aren't a manifest's name, exactly as it is written, and one newline. Else refused for
-/// want of memory alone.
+/// Apply if they aren't a manifest's name, exactly as it is written, and one newline. The only
+/// other fault is Memory.
 pub fn number_in_current(alloc: Global, bytes: &[u8]) -> Result<u64, Fault>
     ensures { HoldsOrMemory (λ n. n) result (IsNumberAnswer bytes.now) }
 {
@@ -69,7 +70,7 @@ pub fn number_in_current(alloc: Global, bytes: &[u8]) -> Result<u64, Fault>
     }
 }
 
-/// The number between what a manifest's name begins with and a newline.
+/// The number between `MANIFEST-` and a newline. None if there is none.
 fn number_between(bytes: &[u8]) -> Option<u64>
     ensures { (n : ℕ) → n < 2 ^ 64 → bytes.now ≡ current_text n → result ≡ Some n }
 {

@@ -6,17 +6,17 @@ ghost use Rattle.folder.specs.Manifest.{order_name, order_named};
 use coding::{Fault, FaultName};
 use ikey::Comparator;
 
-/// The order of a folder's user keys, by the comparator that its manifest names.
+/// The order of a folder's user keys. The comparator that its manifest names says which.
 #[derive(Clone, Copy, Debug, PartialEq, Eq)]
 pub enum Order {
     /// As unsigned bytes, a proper prefix first.
     Bytewise,
-    /// A shorter key first, and equally long ones as unsigned bytes.
+    /// A shorter key first, and keys of one length as unsigned bytes.
     Shortlex,
 }
 
 impl Order {
-    /// The order of a comparator's name. Comparator where it is another's.
+    /// The order of a comparator's `name`. Comparator if it is neither of the two.
     pub fn named(name: &str) -> Result<Order, Fault>
         ensures { result ≡ order_named name.now }
     {
@@ -29,7 +29,7 @@ impl Order {
         Err(Fault::of(FaultName::Comparator))
     }
 
-    /// The name of its comparator.
+    /// The name of the order's comparator.
     pub fn name(self) -> &'static str
         ensures { result.now ≡ order_name self }
     {

@@ -21,13 +21,14 @@ pub struct Failing {
     pub call: u64,
     /// How it fails.
     pub fault: FolderFault,
-    /// Whether it makes a file all the same, of the first half of its bytes, or gives a file its other name.
+    /// Whether the call acts all the same: it makes a file of the first half of its bytes, or
+    /// renames the file.
     pub is_half_done: bool,
 }
 
-/// A folder in memory, of lent files, of whose calls one may fail. It keeps a record of the calls that wrote.
+/// A folder in memory, of lent files. One of its calls may fail. It records the calls that write.
 ///
-/// Where a growth is refused, the call is `Memory` and changes nothing.
+/// Out of memory a call is `Memory` and changes nothing.
 #[derive(Drop)]
 pub struct Shelf<'a> {
     alloc: Global,
@@ -56,7 +57,8 @@ impl<'a> Model for Shelf<'a> {
 }
 
 impl<'a> Shelf<'a> {
-    /// The folder of these files by their names, of which the first of a name counts. None of its calls fails.
+    /// The folder of these files by their names. Of several files of one name the first counts. No
+    /// call fails.
     pub fn new(alloc: Global, files: &'a [(&'a str, &'a [u8])]) -> Shelf<'a>
         ensures tells { Tells (⟦<Shelf<'a> as Folder>⟧.tells result) (files_in (map (λ f. (f.0.now, f.1.now)) files.now)) }
         ensures calls { ⟦<Shelf<'a> as Folder>⟧.calls result ≡ [] }
@@ -74,7 +76,7 @@ impl<'a> Shelf<'a> {
         }
     }
 
-    /// The same folder, but that a call fails.
+    /// The same folder, of which this call fails.
     pub fn failing(self, failing: Failing) -> Shelf<'a>
         ensures { result ≡ self.entry }
     {
@@ -91,14 +93,14 @@ impl<'a> Shelf<'a> {
         self.calls
     }
 
-    /// The calls that wrote, the newest first, but for those of which a growth was refused.
+    /// The calls that write, the newest first. One that ran out of memory is left out.
     pub fn steps(&self) -> &[ShelfStep]
         ensures { result.now ≡ self.now.steps }
     {
         &self.steps
     }
 
-    /// What is held under a name.
+    /// The bytes under a `name`. None if no file has it.
     pub fn held<'x>(&'x self, name: &'x str) -> Option<&'x [u8]>
         ensures { ⟦<Shelf<'a> as Folder>⟧.tells self.now name.now (option_map (λ bytes. bytes.now) result) }
     {
@@ -167,7 +169,7 @@ impl<'a> Shelf<'a> {
         answer
     }
 
-    /// Adds a call that writes to the record.
+    /// Adds a call that writes to the record. It fails if it is the failing one.
     fn record(&mut self, call: WriteCall<'_>) -> Result<(), FolderFault>
         ensures change { (files : Files) →
             Alters (step_of (call_in call.entry) result) (after_steps self.old.steps files) (after_steps self.new.steps files) }
@@ -188,7 +190,7 @@ impl<'a> Shelf<'a> {
         }
     }
 
-    /// Counts a call. How it fails, where it is the one that fails.
+    /// Counts a call. Answers how it fails, if it is the one that fails.
     fn called(&mut self) -> Option<Failing>
         ensures start { self.new.start ≡ self.old.start }
         ensures steps { self.new.steps ≡ self.old.steps }
@@ -202,7 +204,7 @@ impl<'a> Shelf<'a> {
         }
     }
 
-    /// Fails, and counts what the device failed.
+    /// Fails, and counts a failure of the device.
     fn fail<T>(&mut self, fault: FolderFault) -> Result<T, FolderFault>
         ensures answer { result ≡ Err fault }
         ensures start { self.new.start ≡ self.old.start }
@@ -217,7 +219,7 @@ impl<'a> Shelf<'a> {
     }
 }
 
-/// The bytes of the first file of a name.
+/// The bytes of the first file of a `name`.
 fn file_of<'x>(files: &'x [(&'x str, &'x [u8])], name: &str) -> Option<&'x [u8]>
     ensures { option_map (λ bytes. bytes.now) result ≡ files_in (map (λ f. (f.0.now, f.1.now)) files.now) name.now }
 {
@@ -229,7 +231,7 @@ fn file_of<'x>(files: &'x [(&'x str, &'x [u8])], name: &str) -> Option<&'x [u8]>
     None
 }
 
-/// A copy of a call. Of one that is half done, a file has the first half of its bytes.
+/// A copy of a call. If it is half done, the file has the first half of its bytes.
 fn copied(alloc: Global, call: WriteCall<'_>, is_half: bool) -> Result<ShelfCall, AllocError>
     ensures { IfOk result (λ copy. (files : Files) → Alters (tried_if is_half (call_in call.entry)) files (made_by copy files)) }
 {

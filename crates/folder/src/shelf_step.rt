@@ -8,35 +8,36 @@ ghost use Rattle.folder.specs.Source.{from_source};
 /// A call that writes.
 #[derive(Drop)]
 pub enum ShelfCall {
-    /// A file was made of these bytes. Of a call that failed these are the first half of those that it was given.
+    /// A file was made of these bytes. If the call failed, these are the first half of the bytes it
+    /// was given.
     Create(String, Vec<u8>),
     Sync(String),
     Rename(String, String),
     SyncFolder,
 }
 
-/// A call that wrote, and what became of it.
+/// A call that writes, and what became of it.
 #[derive(Drop)]
 pub struct ShelfStep {
     pub call: ShelfCall,
     /// Whether it answered Ok.
     pub is_done: bool,
-    /// Whether what it writes may be read, as it may also be of a call that failed.
+    /// Whether what it writes may be read. It may be so even if the call failed.
     pub is_shown: bool,
 }
 
-/// Where what is held under a name after a step comes from.
+/// Where the bytes under a name come from, after a step.
 pub(crate) enum Source<'a> {
-    /// The step made the file of these bytes.
+    /// The step made the file, of these bytes.
     Bytes(&'a [u8]),
-    /// The step took the file away.
+    /// The step removed the file.
     Nothing,
-    /// It is what was held under this name before the step.
+    /// They are the bytes under this name before the step.
     Name(&'a str),
 }
 
 impl ShelfStep {
-    /// Where what is held under a name after this step comes from.
+    /// Where the bytes under `name` come from, after this step.
     pub(crate) fn source<'a>(&'a self, name: &'a str) -> Source<'a>
         ensures { (files : Files) → after_step self.now files name.now ≡ from_source files result }
     {

@@ -8,7 +8,7 @@ use std::io::ErrorKind;
 use std::rt::Files;
 use std::{fs, io};
 
-/// The bytes of a file, and None where there is no file of that name.
+/// The bytes of a file. None if no file has this `name`.
 pub(crate) fn read_in<R: Files>(
     rt: &R,
     alloc: Global,
@@ -23,7 +23,7 @@ pub(crate) fn read_in<R: Files>(
     }
 }
 
-/// Does a call that writes.
+/// Makes a call that writes.
 pub(crate) fn done_in<R: Files>(
     rt: &R,
     alloc: Global,

@@ -1,4 +1,4 @@
-//! The calls that wrote to a folder, as clauses read them.
+//! The calls that write to a folder, as clauses read them.
 
 ghost use Rattle.std.specs.Prelude.{◌≡◌, List, [], ◌∷◌, ◌++◌};
 ghost use Rattle.std.specs.Borrow.{ftrue};
@@ -6,7 +6,7 @@ ghost use Rattle.folder.specs.Calls.{Step};
 
 use std::marker::Model;
 
-/// The calls so far. It takes no memory, and nothing is done with it at run time.
+/// The calls so far. A proof's value: it takes no memory, and nothing is done with it at run time.
 #[derive(Drop)]
 pub struct Trail {
     pub ghost steps: { List Step },
@@ -35,14 +35,14 @@ pub struct Attempt<'a> {
 impl Trail {
     ghost use Rattle.folder.specs.Attempts.{step_in};
 
-    /// No call yet.
+    /// The trail of no call.
     pub fn new() -> Trail
         ensures { result.steps ≡ [] }
     {
         Trail {}
     }
 
-    /// These calls, and one more.
+    /// The trail with one more call.
     pub fn then(&self, _attempt: &Attempt<'_>) -> Trail
         ensures { result.steps ≡ self.now.steps ++ step_in _attempt.now ∷ [] }
     {

@@ -7,13 +7,13 @@ use std::rt::Files;
 use std::thread::Threads;
 use std::{io, thread};
 
-/// How many threads read at most. They wait for the system more than they compute.
+/// The most threads that read. Why more than processors: they mostly wait for the system.
 const READERS: usize = 16;
 
 /// Files that are read whole, through a handle that threads share.
 pub trait WholeFiles: Send + Sync {
-    /// The bytes of the file at a path, or the system's error where there is no such file, where it can't be read, or where
-    /// memory ran out.
+    /// The bytes of the file at `path`. The system's error if there is no such file, if it can't be
+    /// read, or if memory runs out.
     fn whole(&self, alloc: Global, path: &str) -> io::Result<Vec<u8>>;
 }
 
@@ -21,7 +21,7 @@ pub trait WholeFiles: Send + Sync {
 #[derive(Drop)]
 pub(crate) struct Ahead {
     pub name: String,
-    /// What it holds, once it was read.
+    /// Its bytes, after it was read.
     pub bytes: Option<Vec<u8>>,
 }
 
@@ -31,8 +31,8 @@ impl WholeFiles for HostRuntime {
     }
 }
 
-/// The bytes of the file at a path. Room is made for its length and one byte more, so that no growth follows.
-/// Fails as [`WholeFiles::whole`] does.
+/// The bytes of the file at `path`. Memory is taken for its length and one byte more, so that it
+/// need not grow. Fails as [`WholeFiles::whole`] does.
 pub(crate) fn whole<R: Files>(rt: &R, alloc: Global, path: &str) -> io::Result<Vec<u8>> {
     let mut file = File::open(rt, path)?;
     let length = file.metadata()?.len() as usize;
@@ -41,7 +41,8 @@ pub(crate) fn whole<R: Files>(rt: &R, alloc: Global, path: &str) -> io::Result<V
     Ok(bytes)
 }
 
-/// Reads the files at these paths, each by one of several threads. One that can't be read stays without bytes.
+/// Reads these files of a folder, each by one of several threads. One that can't be read stays
+/// without bytes.
 pub(crate) fn read_all<R: WholeFiles + Threads>(
     rt: &R,
     alloc: Global,
@@ -58,8 +59,9 @@ pub(crate) fn read_all<R: WholeFiles + Threads>(
     );
 }
 
-/// Takes the bytes of the file of this name out of files, which are asked for from the last one on. Those that were to be asked for
-/// before it are forgotten, since nobody will ask for them; where no file has the name, all are.
+/// Takes the bytes of the file of this `name`. Files are asked for from the last one on. Those that
+/// were due before it are dropped, since nobody will ask for them. If no file has the name, all
+/// are.
 pub(crate) fn take(files: &mut Vec<Ahead>, name: &str) -> Option<Vec<u8>> {
     for _ in 0..files.len() {
         let next = files.pop()?;
@@ -70,7 +72,7 @@ pub(crate) fn take(files: &mut Vec<Ahead>, name: &str) -> Option<Vec<u8>> {
     None
 }
 
-/// The path of a file in a folder. No folder has the empty path, so its files have no path either.
+/// The path of a file in a folder. If the folder's path is empty, so is the file's.
 pub(crate) fn path_in(alloc: Global, folder: &str, name: &str) -> Result<String, AllocError> {
     if folder.is_empty() {
         return Ok(String::new(alloc));
@@ -78,7 +80,7 @@ pub(crate) fn path_in(alloc: Global, folder: &str, name: &str) -> Result<String,
     Ok(format!(in alloc; "{folder}/{name}")?)
 }
 
-/// The bytes of the file of a name in a folder.
+/// The bytes of the file of this `name` in a folder.
 fn bytes_in<R: WholeFiles>(rt: &R, alloc: Global, folder: &str, name: &str) -> io::Result<Vec<u8>> {
     let path = path_in(alloc, folder, name)?;
     rt.whole(alloc, path.as_str())

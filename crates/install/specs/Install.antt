@@ -1,4 +1,4 @@
--- The calls of an installation, and what it makes of a version.
+-- The calls of an installation, and what they make of a version.
 use Rattle.std.specs.Prelude.{◌≡◌, ◌⊎◌, ◌<◌, ◌≤◌, ℕ, nat_eq, List, [], ◌∷◌, ◌++◌, map, unwrap_or, codes, Some, None, is_some, true, Option, Result, OnOk}
 use Rattle.std.specs.Global.{Vec}
 use Rattle.std.specs.Map.{lookup}
@@ -16,7 +16,7 @@ use Rattle.folder.specs.Names.{current_text, manifest_name, table_name, temporar
 use Rattle.folder.specs.ReadsAs.{IsOneOf, ReadsAs, StandsAs}
 use Rattle.folder.specs.declared.order.Order.{Order}
 
--- tables of the code, by their numbers and bytes
+-- tables of the code as numbers and bytes
 abbrev pub tables_in : List (ℕ × Vec ℕ) → List (ℕ × List ℕ)
 tables_in tables = map (λ (t : ℕ × Vec ℕ). (t.0, t.1.items)) tables
 
@@ -24,24 +24,24 @@ tables_in tables = map (λ (t : ℕ × Vec ℕ). (t.0, t.1.items)) tables
 abbrev pub writes : List ℕ → List ℕ → List Call
 writes name bytes = Created name bytes ∷ Synced name ∷ []
 
--- each table is written
+-- each table is made and synced
 abbrev pub table_calls : List (ℕ × List ℕ) → List Call
 table_calls [] = []
 table_calls (table ∷ tables) = writes (table_name table.0) table.1 ++ table_calls tables
 
--- the manifest that makes the edited version: the snapshot of the version before, and the edit
+-- the manifest of the edited version: a log of the snapshot of the version before, and the edit
 abbrev pub manifest_bytes : List ℕ → (List ℕ → List ℕ → Ordering) → State → List ℕ → List ℕ
 manifest_bytes name cmp v edit = log (edit_bytes (snapshot_of name cmp v) ∷ edit ∷ [])
 
--- what CURRENT is to hold is written under its temporary name, and the folder is synced
+-- CURRENT's text is made under its temporary name and synced, and the folder is synced
 abbrev pub temporary_calls : ℕ → List Call
 temporary_calls number = writes (temporary_name number) (current_text number) ++ FolderSynced ∷ []
 
--- it gets the name CURRENT, and the folder is synced
+-- the temporary name is renamed to CURRENT, and the folder is synced
 abbrev pub current_calls : ℕ → List Call
 current_calls number = Renamed (temporary_name number) (codes "CURRENT") ∷ FolderSynced ∷ []
 
--- The calls of an installation: the tables, the manifest, what CURRENT is to hold, and CURRENT.
+-- The calls of an installation: tables, manifest, CURRENT's text, CURRENT.
 abbrev pub install_calls : ℕ → List (ℕ × List ℕ) → List ℕ → List Call
 install_calls number outputs manifest =
     table_calls outputs ++ (writes (manifest_name number) manifest ++ (temporary_calls number ++ current_calls number))
@@ -50,19 +50,21 @@ install_calls number outputs manifest =
 abbrev pub numbers_of : List (ℕ × List ℕ) → List ℕ
 numbers_of tables = map (λ (t : ℕ × List ℕ). t.0) tables
 
--- the bytes of the first table of a number, and none where there is no such table: each file that is asked for has one
+-- the bytes of the first table of a number, or no bytes if there is none; each number that is asked
+-- for has one
 abbrev pub bytes_of : List (ℕ × List ℕ) → ℕ → List ℕ
 bytes_of tables number = unwrap_or (lookup (nat_eq number) tables) []
 
--- the tables of a version after outputs came to the tables before
+-- the tables of the next version: the outputs, and those of the tables before that stay
 abbrev pub tables_after : (List ℕ → List ℕ → Ordering) → State → List (ℕ × List ℕ) → List (ℕ × List ℕ) → List (ℕ × List ℕ)
 tables_after cmp next outputs tables = map (λ (n : ℕ). (n, bytes_of (outputs ++ tables) n)) (file_numbers cmp next)
 
--- The outputs and the bytes of an edit make the next version of this one, by a manifest of this number.
+-- The outputs and the bytes of an edit make the next version of this one, by a manifest of this
+-- number.
 pub record IsEditedBy (name : List ℕ) (cmp : List ℕ → List ℕ → Ordering) (order : Order) (v : State) (number : ℕ)
     (outputs : List (ℕ × List ℕ)) (bytes : List ℕ) (next : State) : Type 0 where
   pub named : order_name order ≡ name
-  -- the edit, which names no comparator and sets all numbers of a database
+  -- the edit, which names no comparator and sets all counters of a database
   pub edit : Edit
   pub read : IsEdit bytes edit
   pub no_name : edit.comparator ≡ None
@@ -72,7 +74,8 @@ pub record IsEditedBy (name : List ℕ) (cmp : List ℕ → List ℕ → Orderin
   pub edited : applied v edit ≡ Some next
   -- its new files are the outputs in their order
   pub added : map (λ (f : NewFile). f.meta.number) edit.added ≡ numbers_of outputs
-  -- the numbers of the version's files are below its next file, and those of the outputs and of the manifest are not
+  -- the numbers of the version's files are below its next file, those of the outputs and of the
+  -- manifest are not
   pub least : ℕ
   pub first_free : v.next_file ≡ Some least
   pub below : (n : ℕ) → IsOneOf (file_numbers cmp v) n → n < least
@@ -82,23 +85,23 @@ pub record IsEditedBy (name : List ℕ) (cmp : List ℕ → List ℕ → Orderin
   pub next_file : edit.next_file ≡ Some next_free
   pub manifest_below : number < next_free
 
--- files that read as the one version or the other
+-- files that read as the version before or as the next one
 abbrev pub IsBeforeOrAfter : (List ℕ → List ℕ → Ordering) → Order → State → List (ℕ × List ℕ) → State → List (ℕ × List ℕ) → Files → Type 0
 IsBeforeOrAfter cmp order v tables next tables' files = ReadsAs cmp order v tables files ⊎ ReadsAs cmp order next tables' files
 
--- Wherever these calls lead from a start, the folder stands for the version and its tables.
+-- After these calls from the start, the folder stands for the version and its tables.
 abbrev pub StandsAfter : (List ℕ → List ℕ → Ordering) → Order → State → List (ℕ × List ℕ) → World → List Step → Type 0
 StandsAfter cmp order v tables start calls = (w : World) → Leads start calls w → StandsAs cmp order v tables w
 
--- What an installation promises that makes the next version of this one, of the calls and of what may be read before it and
--- after it.
+-- What an installation of the next version guarantees, of its calls and of what the folder tells
+-- before and after them.
 pub record Survives {T E : Type 0} (cmp : List ℕ → List ℕ → Ordering) (order : Order)
     (v : State) (tables : List (ℕ × List ℕ)) (next : State) (tables' : List (ℕ × List ℕ))
     (before after : List Step) (old new : List ℕ → Option (List ℕ) → Type 0) (result : Result T E) : Type 0 where
-  -- where the folder stands for the version, a crash at any moment leaves it or the next version
+  -- if the folder stands for the version, a crash at any moment leaves it or the next version
   pub any_moment : (start : World) → StandsAfter cmp order v tables start before →
       LeavesOnly start before after (IsBeforeOrAfter cmp order v tables next tables')
-  -- and at Ok the folder stands for the next version
+  -- then at Ok the folder stands for the next version
   pub installed : (start : World) → StandsAfter cmp order v tables start before → OnOk result (StandsAfter cmp order next tables' start after)
   -- without a crash the folder reads as one of the two, and at Ok as the next version
   pub read : (files : Files) → Tells old files → ReadsAs cmp order v tables files

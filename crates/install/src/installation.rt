@@ -17,10 +17,12 @@ use folder::{Folder, manifest_name};
 use ikey::Comparator;
 use std::alloc::Global;
 
-/// Makes the edited version the folder's version: writes the outcome's tables, a manifest of this number and CURRENT.
+/// Makes the edited version the folder's version: writes the outcome's tables, a manifest of this
+/// `manifest_number`, and CURRENT.
 ///
-/// After `Device` or `Memory` the folder reads as the version before or as the edited one, and is opened again.
-/// The comparator's name has fewer than 2^32 bytes.
+/// The faults are `Device` and `Memory`. After one of them the folder reads as the version before
+/// or as the edited one, and has to be opened again. If the device fails a call, no further call is
+/// made. The comparator's name has fewer than 2^32 bytes.
 pub fn install<C: Comparator, F: Folder>(
     alloc: Global,
     folder: &mut F,
@@ -30,19 +32,20 @@ pub fn install<C: Comparator, F: Folder>(
 ) -> Result<(), Fault>
     requires { length C.name_bytes < 2 ^ 32 }
 
-    // The calls, in their order, up to one that fails.
+    // The calls in their order, up to one that fails.
     ensures runs { Runs
         (install_calls manifest_number (tables_in outcome.now.tables.items) (manifest_bytes C.name_bytes C.cmp version.now outcome.now.edit.items))
         (F.calls folder.old) (F.calls folder.new) (F.tells folder.old) (F.tells folder.new) result }
 
-    // Where the folder stands for the version, a crash at any moment leaves it or the edited version, and at Ok the folder
-    // stands for the edited one. Without a crash it reads as one of the two.
+    // If the folder stands for the version, a crash at any moment leaves it or the edited version.
+    // At Ok the folder stands for the edited one. Without a crash it reads as one of the two.
     ensures survives { (order : Order) (next : State) (tables : List (ℕ × List ℕ))
         → IsEditedBy C.name_bytes C.cmp order version.now manifest_number (tables_in outcome.now.tables.items) outcome.now.edit.items next
         → Survives C.cmp order version.now tables next (tables_after C.cmp next (tables_in outcome.now.tables.items) tables)
         (F.calls folder.old) (F.calls folder.new) (F.tells folder.old) (F.tells folder.new) result }
 
-    // Only Device and Memory are answered, Device only if the device failed, and then no further call is made.
+    // Only Device and Memory are answered, Device only if the device failed. Then no further call
+    // is made.
     ensures refused { IfErr result (λ e. UnlessMemory e (IsStopped (F.failed folder.old) (F.failed folder.new) e)) }
     ensures device { ReportsDevice F.Folder folder.old folder.new result }
 {

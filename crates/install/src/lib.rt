@@ -1,5 +1,18 @@
-//! A compaction is installed: its tables, a new manifest and CURRENT are written, so that a crash at any moment leaves the
-//! version before or the edited one.
+//! Installs the outcome of a compaction, so that a crash at any moment leaves the version before or
+//! the edited one.
+//!
+//! [`install`] makes its calls in this order, each once, up to one that fails:
+//!
+//! 1. each table is made and synced;
+//! 2. the manifest is made and synced;
+//! 3. CURRENT's text is made under a temporary name and synced, and the folder is synced;
+//! 4. the temporary name is renamed to CURRENT, and the folder is synced.
+//!
+//! Why: CURRENT never names a manifest that a crash could take away.
+//!
+//! Premises of what is said of a crash: nobody else writes the folder; it stands for the version
+//! (`StandsAs`); the outcome makes the edited version of it (`IsEditedBy`); and the crash model of
+//! `folder`.
 #![tactic(auto)]
 
 mod installation;

@@ -13,7 +13,8 @@ use edit::Version;
 use ikey::Comparator;
 use std::alloc::Global;
 
-/// The log of two records: the snapshot of a version, and an edit's bytes. Refused for want of memory alone.
+/// The manifest's log of two records: the snapshot of `version`, and the bytes of `edit`. The only
+/// fault is Memory.
 ///
 /// The comparator's name has fewer than 2^32 bytes.
 pub(crate) fn manifest_bytes<C: Comparator>(

@@ -23,11 +23,11 @@ use std::alloc::Global;
 /// Makes a file and syncs it.
 pub(crate) fn write<F: Folder>(folder: &mut F, name: &str, bytes: &[u8]) -> Result<(), FolderFault>
     ensures runs { Runs (writes name.now bytes.now) (F.calls folder.old) (F.calls folder.new) (F.tells folder.old) (F.tells folder.new) result }
-    // Under a free name a crash at any moment leaves the version before.
+    // If the name is free, a crash at any moment leaves the version before.
     ensures before { (cmp : List ℕ → List ℕ → Ordering) (order : Order) (v : State) (tables : List (ℕ × List ℕ)) → IsFree cmp v name.now
         → (start : World) → StandsAfter cmp order v tables start (F.calls folder.old)
         → LeavesOnly start (F.calls folder.old) (F.calls folder.new) (ReadsAs cmp order v tables) }
-    // At Ok that version stands, and the file is written.
+    // At Ok the folder stands for that version, and the file is written.
     ensures written { (cmp : List ℕ → List ℕ → Ordering) (order : Order) (v : State) (tables : List (ℕ × List ℕ)) → IsFree cmp v name.now
         → (start : World) → StandsAfter cmp order v tables start (F.calls folder.old)
         → OnOk result ((w : World) → Leads start (F.calls folder.new) w → StandsAs cmp order v tables w × IsWritten w (name.now, bytes.now)) }
@@ -36,7 +36,7 @@ pub(crate) fn write<F: Folder>(folder: &mut F, name: &str, bytes: &[u8]) -> Resu
     make_file(folder, name, bytes)
 }
 
-/// Writes the tables, each under the name of its number.
+/// Makes and syncs each table under the name of its number.
 pub(crate) fn write_tables<F: Folder>(
     alloc: Global,
     folder: &mut F,
@@ -55,7 +55,7 @@ pub(crate) fn write_tables<F: Folder>(
     Ok(())
 }
 
-/// Writes what CURRENT is to hold under its temporary name, and syncs the folder.
+/// Makes and syncs CURRENT's text under its temporary name, and syncs the folder.
 pub(crate) fn write_temporary<F: Folder>(
     alloc: Global,
     folder: &mut F,
@@ -63,11 +63,11 @@ pub(crate) fn write_temporary<F: Folder>(
 ) -> Result<(), Fault>
     ensures runs { Runs (temporary_calls number)
         (F.calls folder.old) (F.calls folder.new) (F.tells folder.old) (F.tells folder.new) result }
-    // Where the name is free, a crash at any moment leaves the version before.
+    // If the name is free, a crash at any moment leaves the version before.
     ensures before { (cmp : List ℕ → List ℕ → Ordering) (order : Order) (v : State) (tables : List (ℕ × List ℕ))
         → IsFree cmp v (temporary_name number) → (start : World) → StandsAfter cmp order v tables start (F.calls folder.old)
         → LeavesOnly start (F.calls folder.old) (F.calls folder.new) (ReadsAs cmp order v tables) }
-    // At Ok that version stands, and the file is written and settled.
+    // At Ok the folder stands for that version, and the file is written and settled.
     ensures written { (cmp : List ℕ → List ℕ → Ordering) (order : Order) (v : State) (tables : List (ℕ × List ℕ))
         → IsFree cmp v (temporary_name number) → (start : World) → StandsAfter cmp order v tables start (F.calls folder.old)
         → OnOk result ((w : World) → Leads start (F.calls folder.new) w
@@ -80,7 +80,7 @@ pub(crate) fn write_temporary<F: Folder>(
     make_temporary(alloc, folder, number)
 }
 
-/// Gives what has the temporary name the name CURRENT, and syncs the folder.
+/// Renames the file of the temporary name to CURRENT, and syncs the folder.
 pub(crate) fn name_current<F: Folder>(
     alloc: Global,
     folder: &mut F,
@@ -95,11 +95,11 @@ pub(crate) fn name_current<F: Folder>(
     Ok(make_current(folder, &name)?)
 }
 
-/// Gives what has this name the name CURRENT, and syncs the folder.
+/// Renames the file of this `name` to CURRENT, and syncs the folder.
 fn make_current<F: Folder>(folder: &mut F, name: &String) -> Result<(), FolderFault>
     ensures runs { Runs (Renamed (string_bytes name.now) (codes "CURRENT") ∷ FolderSynced ∷ [])
         (F.calls folder.old) (F.calls folder.new) (F.tells folder.old) (F.tells folder.new) result }
-    // At Ok both calls were made, and no other.
+    // At Ok both calls were made, and no others.
     ensures both { OnOk result (F.calls folder.new ≡ F.calls folder.old ++ Done (Renamed (string_bytes name.now) (codes "CURRENT")) ∷ Done FolderSynced ∷ []) }
     ensures failures { F.failed folder.new ≡ failures_after (F.failed folder.old) result }
 {
@@ -116,7 +116,7 @@ fn make_file<F: Folder>(folder: &mut F, name: &str, bytes: &[u8]) -> Result<(), 
     folder.sync(name)
 }
 
-/// Writes what CURRENT is to hold under its temporary name, and syncs the folder.
+/// Makes and syncs CURRENT's text under its temporary name, and syncs the folder.
 fn make_temporary<F: Folder>(alloc: Global, folder: &mut F, number: u64) -> Result<(), Fault>
     ensures runs { Runs (temporary_calls number)
         (F.calls folder.old) (F.calls folder.new) (F.tells folder.old) (F.tells folder.new) result }

@@ -1,4 +1,4 @@
--- What the compaction of a folder answers, by the files that the folder holds.
+-- What the compaction of a folder answers, if the folder holds these files.
 use Rattle.std.specs.Prelude.{◌≡◌, ℕ, List, Result, Ok}
 use Rattle.std.specs.declared.cmp.Ordering.{Ordering}
 use Rattle.coding.specs.Answers.{IsThen, ◌>>=◌}
@@ -21,8 +21,8 @@ use Rattle.store.specs.declared.settings.Settings.{Settings}
 abbrev pub lines_of : State → Picked → Result Answer Fault → Result (List ℕ) Fault
 lines_of v p answer = answer >>= λ (a : Answer). Ok (compaction_lines a.tables p.files (manifest_of v))
 
--- The answer on a version with the bytes of its tables, by the first refusal: of a table, of the version, which has to be
--- lawful, of the level, which has to have inputs, and of their compaction; then the lines.
+-- The answer on a version with the bytes of its tables. The first refusal counts: of a table; of a
+-- version that isn't lawful; of a level without inputs; of their compaction. Else the lines.
 abbrev pub IsLoadedCompacted : (List ℕ → List ℕ → Ordering) → (List ℕ → List ℕ → List ℕ) → (List ℕ → List ℕ)
     → State → List (ℕ × List ℕ) → ℕ → Settings → Result (List ℕ) Fault → Type 0
 IsLoadedCompacted cmp separator_of successor_of v loaded level s =
@@ -30,13 +30,13 @@ IsLoadedCompacted cmp separator_of successor_of v loaded level s =
     IsThen (IsInputsAnswer cmp v level) (λ p answer.
     answer ≡ lines_of v p (compaction_of cmp separator_of successor_of v loaded p s)))
 
--- the same, where the tables are in a folder: all of them are read first, by level and in version order
+-- the same with tables in a folder: first all of them are read, by level and in version order
 abbrev pub IsVersionCompacted : (List ℕ → List ℕ → Ordering) → (List ℕ → List ℕ → List ℕ) → (List ℕ → List ℕ)
     → Files → State → ℕ → Settings → Result (List ℕ) Fault → Type 0
 IsVersionCompacted cmp separator_of successor_of files v level s =
     IsThen (IsLoaded (IsHeldIn files) (file_numbers cmp v)) (λ loaded. IsLoadedCompacted cmp separator_of successor_of v loaded level s)
 
--- the same of the version that the folder opens as, in the order of its user keys
+-- the same of the version that the folder opens as, by the order of its user keys
 abbrev pub IsFolderCompacted : Files → ℕ → Settings → Result (List ℕ) Fault → Type 0
 IsFolderCompacted files level s =
     IsThen (IsOpened (IsHeldIn files)) (λ opened.

@@ -1,4 +1,4 @@
--- What is asked of a compaction, by the version and the tables that a folder holds.
+-- What is asked of a compaction, if a folder holds this version and these tables.
 use Rattle.std.specs.Prelude.{ℕ, ◌+◌, ◌-◌, ◌^◌, nat_le, nat_lt, ◌&&◌, List, map, unwrap_or, Result, Ok}
 use Rattle.std.specs.declared.cmp.Ordering.{Ordering}
 use Rattle.coding.specs.Answers.{◌>>=◌}
@@ -13,7 +13,8 @@ use Rattle.request.specs.OneThread.{Answer, compacted}
 use Rattle.request.specs.Request.{RequestView}
 use Rattle.store.specs.declared.settings.Settings.{Settings}
 
--- the number of the new manifest: the version's next file, which each version has that a folder opens as
+-- The number of the new manifest: the version's next file. Each version that a folder opens as has
+-- one.
 abbrev pub manifest_of : State → ℕ
 manifest_of v = unwrap_or v.next_file 0
 
@@ -21,8 +22,8 @@ manifest_of v = unwrap_or v.next_file 0
 abbrev pub last_of : State → ℕ
 last_of v = unwrap_or v.last_sequence 0
 
--- The request for these inputs: the bytes that were loaded of each, the version's counters, and numbers for the outputs behind
--- the manifest's. A previous log number that was never set is 0.
+-- The request for these inputs: the bytes loaded of each, the version's counters, and for the
+-- outputs the numbers after the manifest's. A previous log number that was never set is 0.
 abbrev pub request_of : State → List (ℕ × List ℕ) → Picked → Settings → RequestView
 request_of v loaded p s = record {
   picked = p;
@@ -35,12 +36,12 @@ request_of v loaded p s = record {
   options = s.options;
 }
 
--- that request, or Numbers where there is no number behind the manifest's
+-- that request, or Numbers if no number is left after the manifest's
 abbrev pub numbered_request : State → List (ℕ × List ℕ) → Picked → Settings → Result RequestView Fault
 numbered_request v loaded p s = pass (nat_lt (manifest_of v) (2 ^ 64 - 1)) Numbers >>= λ _. Ok (request_of v loaded p s)
 
--- What a compaction of these inputs answers: SplitCount where the ranges are not from 1 to 4,096, then Numbers where there is
--- no number behind the manifest's, and then what the request for them answers.
+-- What a compaction of these inputs answers: SplitCount if the ranges are outside 1 to 4,096, then
+-- Numbers if no number is left after the manifest's, then what the request for them answers.
 abbrev pub compaction_of : (List ℕ → List ℕ → Ordering) → (List ℕ → List ℕ → List ℕ) → (List ℕ → List ℕ)
     → State → List (ℕ × List ℕ) → Picked → Settings → Result Answer Fault
 compaction_of cmp separator_of successor_of v loaded p s = do

@@ -24,9 +24,9 @@ use Rattle.store.specs.Lines.{compaction_lines}
 use Rattle.folder.specs.Orders.{order_cmp, order_separator, order_successor}
 use Rattle.store.specs.declared.settings.Settings.{Settings}
 
--- The edited version of a compaction's answer: the answer's edit makes it of the version, by the manifest of the next file's
--- number. With the tables that an installation leaves it is lawful, and each get at a sequence that stays readable answers as
--- before.
+-- The edited version of a compaction's answer: the answer's edit makes it of the version, by a
+-- manifest whose number is next file. With the tables that an installation leaves it is lawful, and
+-- each get at a readable sequence answers as before.
 pub record Edited (order : Order) (cmp : List ℕ → List ℕ → Ordering) (v : State) (loaded : List (ℕ × List ℕ))
     (tables : List Numbered) (s : Settings) (answer : Answer) : Type 0 where
   pub next : State
@@ -36,8 +36,8 @@ pub record Edited (order : Order) (cmp : List ℕ → List ℕ → Ordering) (v 
   pub gets : (user : List ℕ) (at : ℕ) → is_read (readable_of s.snapshots (last_of v)) at ≡ true →
       get_of next tables_next user at ≡ get_of v tables user at
 
--- A compaction of a level of a version with the bytes of its tables: the version is lawful, the inputs are picked, and this is
--- what their compaction answers, what it makes, and the lines that tell of it.
+-- A compaction of a level of a version with the bytes of its tables. The version is lawful, the
+-- inputs are picked, and these are the answer, what it makes, and its lines.
 pub record Compacted (order : Order) (cmp : List ℕ → List ℕ → Ordering) (separator_of : List ℕ → List ℕ → List ℕ) (successor_of : List ℕ → List ℕ)
     (v : State) (loaded : List (ℕ × List ℕ)) (level : ℕ) (s : Settings) (answer : Answer) (lines : List ℕ) : Type 0 where
   pub tables : List Numbered
@@ -48,7 +48,7 @@ pub record Compacted (order : Order) (cmp : List ℕ → List ℕ → Ordering) 
   pub edited : Edited order cmp v loaded tables s answer
   pub told : lines ≡ compaction_lines answer.tables picked.files (manifest_of v)
 
--- A compaction of a level of the version that files read as.
+-- a compaction of a level of the version that files read as
 pub record Compaction (order : Order) (cmp : List ℕ → List ℕ → Ordering) (separator_of : List ℕ → List ℕ → List ℕ) (successor_of : List ℕ → List ℕ)
     (files : Files) (level : ℕ) (s : Settings) : Type 0 where
   pub version : State
@@ -63,13 +63,13 @@ abbrev pub next_of : {order : Order} {cmp : List ℕ → List ℕ → Ordering} 
     {files : Files} {level : ℕ} {s : Settings} → Compaction order cmp separator_of successor_of files level s → State
 next_of c = c.compacted.edited.next
 
--- Nothing that writes was called, and the folder holds what it held.
+-- No call that writes was made, and the folder holds what it held.
 pub record IsUnchanged {T : Type 0} (before after : List Step) (old new : List ℕ → Option (List ℕ) → Type 0) (result : Result T Fault) : Type 0 where
   pub calls : after ≡ before
   pub same : TellsSame old new
   pub refused : OnOk result ⊥
 
--- No more was called that writes than a sync of the folder, and it holds what it held.
+-- The only call that writes was a sync of the folder, and it holds what it held.
 pub record IsSynced {T : Type 0} (before after : List Step) (old new : List ℕ → Option (List ℕ) → Type 0) (result : Result T Fault) : Type 0 where
   pub step : Step
   pub call : call_of step ≡ FolderSynced
@@ -77,8 +77,9 @@ pub record IsSynced {T : Type 0} (before after : List Step) (old new : List ℕ 
   pub same : (files : Files) → Tells old files → Tells new files
   pub refused : OnOk result ⊥
 
--- A compaction was installed, from these calls on: a crash at any moment leaves the version before or the edited one. At Ok it
--- is the edited one, and its lines are the answer. Nothing else is answered but Device and Memory.
+-- A compaction was installed, from these calls on. A crash at any moment leaves the version before
+-- or the edited one. At Ok it is the edited one, and the answer is its lines. The only faults are
+-- Device and Memory.
 pub record IsInstalled (order : Order) (cmp : List ℕ → List ℕ → Ordering)
     (separator_of : List ℕ → List ℕ → List ℕ) (successor_of : List ℕ → List ℕ)
     (files : Files) (level : ℕ) (s : Settings) (before after : List Step)
@@ -89,14 +90,15 @@ pub record IsInstalled (order : Order) (cmp : List ℕ → List ℕ → Ordering
   pub printed : IfOk result (λ text. text.items ≡ compaction.lines)
   pub refused : IfErr result (λ e. UnlessMemory e (e ≡ fault Device))
 
--- what is left of a folder whose version has this order: it is unchanged, or a compaction was installed
+-- what is left of a folder whose version has this order: it is unchanged, or a compaction was
+-- installed
 abbrev pub IsVersionLeft : Order → (List ℕ → List ℕ → Ordering) → (List ℕ → List ℕ → List ℕ) → (List ℕ → List ℕ) → Files → ℕ → Settings
     → List Step → List Step → (List ℕ → Option (List ℕ) → Type 0) → (List ℕ → Option (List ℕ) → Type 0) → Result (Vec ℕ) Fault → Type 0
 IsVersionLeft order cmp separator_of successor_of files level s before after old new result =
     IsUnchanged before after old new result ⊎ IsInstalled order cmp separator_of successor_of files level s before after old new result
 
--- What is left of a folder that held these files: it holds what it held, or behind a sync of the folder a compaction was
--- installed.
+-- What is left of a folder that held these files: it holds what it held, or after a sync of the
+-- folder a compaction was installed.
 abbrev pub IsLeft : Files → ℕ → Settings
     → List Step → List Step → (List ℕ → Option (List ℕ) → Type 0) → (List ℕ → Option (List ℕ) → Type 0) → Result (Vec ℕ) Fault → Type 0
 IsLeft files level s before after old new result =
@@ -104,8 +106,8 @@ IsLeft files level s before after old new result =
     ⊎ ((order : Order) × IsInstalled order (order_cmp order) (order_separator order) (order_successor order) files level s
     (before ++ Done FolderSynced ∷ []) after old new result)
 
--- Where what a version rests on is kept by a sync of the folder, as each file is that was synced and each that is missing, the
--- folder stands for the version behind it.
+-- If a sync of the folder keeps each name on which a version rests, the folder stands for the
+-- version after it. It keeps each file that was synced, and each name without a file.
 abbrev pub SyncLaw : Type 0
 SyncLaw =
     (cmp : List ℕ → List ℕ → Ordering) (order : Order) (v : State) (tables : List (ℕ × List ℕ)) (start : World) (calls : List Step) →

@@ -1,4 +1,4 @@
--- The joint of compaction and installation: what one answers is what the other installs.
+-- How compaction and installation fit: what the one answers is what the other asks for.
 use Rattle.std.specs.Prelude.{◌≡◌, ℕ, ◌<◌, ◌≤◌, ◌^◌, List, Ok}
 use Rattle.std.specs.List.{All}
 use Rattle.std.specs.declared.cmp.Ordering.{Ordering}
@@ -17,8 +17,9 @@ use Rattle.store.specs.Compaction.{Edited}
 use Rattle.store.specs.Taking.{AreLoaded, HaveTables}
 use Rattle.store.specs.declared.settings.Settings.{Settings}
 
--- Where inputs are picked from a lawful version, whose log numbers are of 64 bits, the request for them is one over the
--- version: the bytes that were loaded of each input are those of its table, and its outputs' numbers are free.
+-- If inputs are picked from a lawful version, and its log numbers are below 2^64, the request for
+-- them is one over the version: the bytes loaded of each input are those of its table, and the
+-- numbers of its outputs are free.
 abbrev pub OverLaw : (List ℕ → List ℕ → Ordering) → Type 0
 OverLaw cmp =
     (v : State) (loaded : List (ℕ × List ℕ)) (tables : List Numbered) (level : ℕ) (p : Picked) (s : Settings) →
@@ -26,16 +27,18 @@ OverLaw cmp =
     (request_of v loaded p s).log_number < 2 ^ 64 → (request_of v loaded p s).previous_log < 2 ^ 64 →
     IsOver v tables (request_of v loaded p s)
 
--- Where they are, each input has its table under a number of its own, of the bytes that were loaded.
+-- If inputs are picked from a lawful version, each has its table under a number of its own, with
+-- the bytes that were loaded.
 abbrev pub InputsReadLaw : (List ℕ → List ℕ → Ordering) → Type 0
 InputsReadLaw cmp =
     (v : State) (loaded : List (ℕ × List ℕ)) (tables : List Numbered) (level : ℕ) (p : Picked) →
     IsLawfulTables cmp v loaded (Ok tables) → IsPicked cmp v level p →
     HaveTables cmp tables p.files × AreLoaded loaded tables p.files
 
--- Where moreover the files stand at levels up to 6, what one thread answers to that request makes an edited version by a
--- manifest of the version's next file. The tables that its installation leaves are read as such that the edited version is
--- lawful with, and each get at a sequence that stays readable answers as before.
+-- If moreover all files are at levels up to 6, what one thread answers to that request makes an
+-- edited version, by a manifest whose number is the version's next file. The tables that its
+-- installation leaves are read, the edited version is lawful with them, and each get at a readable
+-- sequence answers as before.
 abbrev pub JointLaw : (List ℕ → List ℕ → Ordering) → (List ℕ → List ℕ → List ℕ) → (List ℕ → List ℕ) → Type 0
 JointLaw cmp separator_of successor_of =
     (order : Order) (v : State) (loaded : List (ℕ × List ℕ)) (tables : List Numbered) (level : ℕ) (p : Picked) (s : Settings) (answer : Answer) →

@@ -18,7 +18,7 @@ deleted_line d = codes "deleted " ++ decimal d.level ++ codes " " ++ decimal d.n
 abbrev pub installed_line : ℕ → List ℕ
 installed_line number = codes "installed " ++ manifest_name number ++ codes "\n"
 
--- the outputs in order, then the inputs by level and number, each once, and then the manifest's name
+-- the outputs in order, then the inputs by level and number, each once, then the manifest's name
 abbrev pub compaction_lines : List (ℕ × List ℕ) → List InputFile → ℕ → List ℕ
 compaction_lines outputs inputs number =
     flat_map output_line outputs ++ flat_map deleted_line (deletions_of inputs) ++ installed_line number

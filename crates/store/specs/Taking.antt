@@ -1,4 +1,4 @@
--- The tables of inputs, among the tables of a version.
+-- The tables of inputs among the tables of a version.
 use Rattle.std.specs.Prelude.{◌≡◌, ◌≢◌, ℕ, List, Some, AllPairs}
 use Rattle.std.specs.List.{All}
 use Rattle.std.specs.Map.{lookup}
@@ -12,16 +12,16 @@ use Rattle.reads.specs.Lawful.{IsFileOf}
 use Rattle.reads.specs.Tables.{Numbered, table_of}
 use Rattle.install.specs.Install.{bytes_of}
 
--- under each number stands the first table of it
+-- under each number there is the first table of that number
 abbrev pub AreNumbered : List Numbered → List (ℕ × Contents) → Type 0
 AreNumbered tables numbered = (number : ℕ) → lookup (is_at (nat_cmp number)) numbered ≡ table_of tables number
 
--- each of the inputs has its table, which is what the version states of it, and no two of them have one number
+-- each input has its table, which is as the version states, and no two inputs have the same number
 pub record HaveTables (cmp : List ℕ → List ℕ → Ordering) (tables : List Numbered) (inputs : List InputFile) : Type 0 where
   pub files : All (λ (i : InputFile). IsFileOf cmp tables i.meta) inputs
   pub apart : AllPairs (λ (i j : InputFile). i.meta.number ≢ j.meta.number) inputs
 
--- the table of each of the inputs is of the bytes that were loaded under its number
+-- the table of each input has the bytes that were loaded under its number
 abbrev pub AreLoaded : List (ℕ × List ℕ) → List Numbered → List InputFile → Type 0
 AreLoaded loaded tables inputs =
     All (λ (i : InputFile). option_map (λ t. t.bytes) (table_of tables i.meta.number) ≡ Some (bytes_of loaded i.meta.number)) inputs

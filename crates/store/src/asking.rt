@@ -13,15 +13,15 @@ use edit::Version;
 use pick::Inputs;
 use request::Request;
 
-/// The number of the new manifest, the version's next file.
+/// The number of the new manifest: the version's next file.
 pub(crate) fn manifest_of(version: &Version) -> u64
     ensures { result ≡ manifest_of version.now }
 {
     version.next_file().unwrap_or(0)
 }
 
-/// The request for inputs of a version, of which these are the tables. `Numbers` where no number is left behind the
-/// manifest's. Takes no memory.
+/// The request for the `picked` inputs of `version`, whose tables these are. `Numbers` if next file
+/// is 2^64 - 1, so that no number is left after the manifest's. It takes no memory.
 pub(crate) fn request_of<'a>(
     version: &Version,
     picked: &'a Inputs,

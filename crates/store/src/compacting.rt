@@ -30,20 +30,21 @@ use std::alloc::Global;
 use std::thread::Threads;
 use table::SoundTable;
 
-/// How many workers check the tables of a folder.
+/// The workers that check the tables of a folder.
 const CHECKERS: u64 = 4;
 
-/// What is ready to be installed: the outcome of a compaction, and the lines that tell of it.
+/// What is ready to be installed: the outcome of a compaction, and its lines.
 #[derive(Drop)]
 pub(crate) struct Ready {
     pub lines: Vec<u8>,
     pub outcome: Outcome,
 }
 
-/// Tests a version with the bytes of its tables, and compacts a level of it.
+/// Checks a version with the bytes of its tables, and compacts a `level` of it.
 ///
-/// Refused by the first table that is none; then where the version isn't lawful; then where the level is above 5 or has no
-/// file; and then as the compaction of its inputs is.
+/// The first that applies: the refusal of the first invalid table; then Lawless; then Level if the
+/// level is above 5, or NoInput if it has no file; then what the compaction of its inputs is
+/// refused as.
 pub(crate) fn compact_loaded<C: SharedComparator + 'static, W: Watch + Sync, R: Threads + Sync>(
     rt: &R,
     alloc: Global,
@@ -69,7 +70,8 @@ pub(crate) fn compact_loaded<C: SharedComparator + 'static, W: Watch + Sync, R: 
     Ok(Ready { lines, outcome })
 }
 
-/// The outcome of the compaction of picked inputs, whose tables are taken out of those of the version. None is checked again.
+/// The outcome of the compaction of `picked` inputs. Their tables are taken out of those of the
+/// version, and none is checked again.
 fn compact_picked<'t, C: SharedComparator + 'static, W: Watch + Sync, R: Threads + Sync>(
     rt: &R,
     alloc: Global,
@@ -92,8 +94,8 @@ fn compact_picked<'t, C: SharedComparator + 'static, W: Watch + Sync, R: Threads
     compact_tables::<C, W, R>(rt, alloc, &request, &taken, &split, settings.workers, watch)
 }
 
-/// The split of the keys of these tables into at most so many ranges. `SplitCount` where these are not from 1 to 4,096, else
-/// refused for want of memory alone.
+/// The split of the keys of these tables into at most `ranges` ranges. `SplitCount` if `ranges` is
+/// outside 1 to 4,096. The only other fault is Memory.
 fn split_of<C: Comparator>(
     alloc: Global,
     tables: &[SoundTable<'_, C>],

@@ -23,23 +23,33 @@ use install::install;
 use std::alloc::Global;
 use std::thread::Threads;
 
-/// Compacts a level of the version that a folder holds, and installs the outcome. Answers its
-/// lines, each with its newline: `output NUMBER SIZE` of each new table in order, `deleted LEVEL
-/// NUMBER` of each input by level and number, and `installed MANIFEST-NNNNNN`.
+/// Compacts a `level` of the version that a folder holds, and installs the outcome. The answer is
+/// its lines, each with its newline:
 ///
-/// The folder is synced first, so that what is opened outlives a crash. Then it is opened, and what
-/// is read is compacted as [`compact_opened`] does it.
+/// - `output NUMBER SIZE` of each new table in order;
+/// - `deleted LEVEL NUMBER` of each input by level and number;
+/// - `installed MANIFEST-NNNNNN`.
 ///
-/// Refused as opening the folder is; then Missing at the first table that isn't there, by level and
-/// in version order; then by the first table whose bytes are refused, as `table::check` refuses
-/// them; then Lawless if the version isn't lawful; then Level if the level is above 5, and NoInput
-/// if it has no file; then SplitCount if the ranges are not from 1 to 4,096; then Numbers if next
-/// file is 2^64 - 1; and then as `compact::compact` is, Workers first. If the device fails a call,
-/// the answer is Device and no further call is made; if memory runs out, it is Memory. If it is
-/// refused by anything else than Device or Memory, the folder holds what it held; after these two
-/// it reads as the version before or as the edited one, and is opened again.
+/// The folder is synced first, so that what is opened outlives a crash. What is said of a crash
+/// begins after this sync, and asks that what the version rests on was synced or is missing
+/// (`sync_stands`). Then the folder is opened, and [`compact_opened`] compacts what was read.
 ///
-/// The work is told to `watch`, which is `&Open` if nobody watches. What is answered is the same.
+/// The first that applies:
+///
+/// - what opening the folder is refused as;
+/// - Missing: at the first missing table, by level and in version order;
+/// - the first invalid table, as `table::check` refuses it;
+/// - Lawless: the version isn't lawful;
+/// - Level: the level is above 5; NoInput: it has no file;
+/// - SplitCount: `settings.ranges` is outside 1 to 4,096;
+/// - Numbers: next file is 2^64 - 1;
+/// - what `compact::compact` is refused as, Workers first.
+///
+/// If the device fails a call, the answer is Device and no further call is made. If memory runs
+/// out, it is Memory. After these two the folder reads as the version before or as the edited one,
+/// and has to be opened again. After any other refusal it holds what it held.
+///
+/// The work is told to `watch`, which is `&Open` if nobody watches. It doesn't change the answer.
 pub fn compact_dir<F: Folder, W: Watch + Sync, R: Threads + Sync>(
     rt: &R,
     alloc: Global,
@@ -48,12 +58,12 @@ pub fn compact_dir<F: Folder, W: Watch + Sync, R: Threads + Sync>(
     settings: &Settings<'_>,
     watch: &W,
 ) -> Result<Vec<u8>, Fault>
-    // Over a folder that tells these files: the lines, or the first refusal in this order.
+    // If the folder tells these files: the lines, or the first refusal in this order.
     ensures answer { (files : Files) → Tells (F.tells folder.old) files →
         FolderAnswers (λ v. v.items) (F.failed folder.old) (F.failed folder.new) result
         (IsFolderCompacted files level settings.now) }
-    // What is left of it: what it held, or the edited version, which is lawful and answers each
-    // readable get as before.
+    // What is left of the folder: what it held, or the edited version, which is lawful and answers
+    // each readable get as before.
     ensures left { (files : Files) → Tells (F.tells folder.old) files →
         IsLeft files level settings.now (F.calls folder.old) (F.calls folder.new)
         (F.tells folder.old) (F.tells folder.new) result }
@@ -64,9 +74,9 @@ pub fn compact_dir<F: Folder, W: Watch + Sync, R: Threads + Sync>(
     compact_opened(rt, alloc, folder, order, &version, level, settings, watch)
 }
 
-/// Compacts a level of a version that a folder was opened as, in its order, and installs the
-/// outcome: what [`compact_dir`] does with a folder that was synced and opened already. The
-/// manifest has the version's next file as its number, the outputs have the numbers after it.
+/// Compacts a `level` of the `version` and the `order` that a folder was opened as, and installs
+/// the outcome: what [`compact_dir`] does after the folder was synced and opened. The number of the
+/// manifest is the version's next file; the outputs have the numbers after it.
 pub fn compact_opened<F: Folder, W: Watch + Sync, R: Threads + Sync>(
     rt: &R,
     alloc: Global,
@@ -81,7 +91,7 @@ pub fn compact_opened<F: Folder, W: Watch + Sync, R: Threads + Sync>(
         FolderAnswers (λ v. v.items) (F.failed folder.old) (F.failed folder.new) result
         (IsVersionCompacted (order_cmp order) (order_separator order) (order_successor order)
         files version.now level settings.now) }
-    // Over files that open as this version in this order.
+    // If the folder's files open as this version in this order.
     ensures left { (files : Files) → Tells (F.tells folder.old) files →
         IsOpened (IsHeldIn files) (Ok (order, version.now)) →
         IsVersionLeft order (order_cmp order) (order_separator order) (order_successor order)
@@ -99,7 +109,7 @@ pub fn compact_opened<F: Folder, W: Watch + Sync, R: Threads + Sync>(
     }
 }
 
-/// Compacts a level of a version, and installs the outcome. The comparator's name has fewer than
+/// Compacts a `level` of a version, and installs the outcome. The comparator's name has fewer than
 /// 2^32 bytes.
 fn compact_version<C: SharedComparator + 'static, F: Folder, W: Watch + Sync, R: Threads + Sync>(
     rt: &R,

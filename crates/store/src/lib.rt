@@ -1,5 +1,14 @@
-//! One compaction of a database folder: it is opened, its tables are checked, inputs are chosen and compacted, and the outcome
-//! is installed.
+//! One compaction of a database folder: it is synced and opened, its tables are checked, inputs are
+//! picked and compacted, and the outcome is installed.
+//!
+//! 1. [`Settings`] says which workers, ranges, snapshots and options.
+//! 2. [`compact_dir`] does all of it; [`compact_opened`] does it with a folder that is synced and
+//!    opened already.
+//! 3. Both tell a [`Watch`] of the work; [`Open`] is the one that does nothing.
+//!
+//! The laws tie a compaction to its installation. That a synced folder stands for its version is
+//! the law [`sync_stands`], which has a premise: what the version rests on was synced or is
+//! missing.
 #![tactic(auto)]
 
 mod asking;

@@ -15,8 +15,13 @@ use request::deletions_of;
 use std::alloc::Global;
 use std::collections::BTreeSet;
 
-/// The lines of an outcome, each with its newline: `output NUMBER SIZE` of each table in order, `deleted LEVEL NUMBER` of each
-/// input by level and number, and `installed MANIFEST-NNNNNN`. Refused for want of memory alone.
+/// The lines of an outcome, each with its newline:
+///
+/// - `output NUMBER SIZE` of each table in order;
+/// - `deleted LEVEL NUMBER` of each input by level and number;
+/// - `installed MANIFEST-NNNNNN`.
+///
+/// The only fault is Memory.
 pub(crate) fn compaction_lines(
     alloc: Global,
     outcome: &Outcome,

@@ -1,23 +1,24 @@
-//! What a compaction of a folder keeps to.
+//! What a compaction of a folder is asked to keep to.
 
 use keep::Snapshots;
 use table::Options;
 
-/// What a compaction of a folder keeps to.
+/// What a compaction of a folder is asked to keep to.
 #[derive(Clone, Copy)]
 pub struct Settings<'s> {
-    /// How many workers carry it out: 1 to 64.
+    /// Its workers: 1 to 64.
     pub workers: u64,
-    /// Into at most how many ranges of user keys it is split: 1 to 4,096.
+    /// The most ranges of user keys into which it is split: 1 to 4,096.
     pub ranges: u64,
-    /// Which sequences stay readable. With an empty list these are the version's last sequence and every later one.
+    /// Which sequences stay readable. If it is an empty list, these are the version's last sequence
+    /// and all later ones.
     pub snapshots: Snapshots<'s>,
-    /// What the outputs keep to.
+    /// The options of the outputs.
     pub options: Options,
 }
 
 impl<'s> Default for Settings<'s> {
-    /// Four workers, eight ranges, the version's last sequence, and the options' own defaults.
+    /// Four workers, eight ranges, an empty list of snapshots, and the defaults of the options.
     fn default() -> Self {
         Settings {
             workers: 4,

@@ -14,8 +14,8 @@ use std::alloc::Global;
 use std::collections::BTreeMap;
 use table::SoundTable;
 
-/// Takes the tables of inputs out of tables, in the order of the inputs. There is one for each of them, and no two have one
-/// number. Refused for want of memory alone.
+/// Takes the tables of `inputs` out of `tables`, in the order of the inputs. Each input has one,
+/// and no two inputs have the same number. The only fault is Memory.
 pub(crate) fn take_tables<'t, C: Comparator>(
     alloc: Global,
     tables: Vec<NumberedTable<'t, C>>,
@@ -36,7 +36,7 @@ pub(crate) fn take_tables<'t, C: Comparator>(
     Ok(taken)
 }
 
-/// The bytes of tables, in their order. Refused for want of memory alone.
+/// The bytes of tables in their order. The only fault is Memory.
 pub(crate) fn bytes_of<'t, C: Comparator>(
     alloc: Global,
     tables: &[SoundTable<'t, C>],
@@ -50,7 +50,8 @@ pub(crate) fn bytes_of<'t, C: Comparator>(
     Ok(all)
 }
 
-/// Tables under the numbers of their files: of those of one number the first. Refused for want of memory alone.
+/// Tables by the numbers of their files. Of several of one number the first counts. The only fault
+/// is Memory.
 fn by_numbers<'t, C: Comparator>(
     alloc: Global,
     mut tables: Vec<NumberedTable<'t, C>>,

@@ -1,10 +1,10 @@
--- Which levels a compaction of all levels moves down.
+-- Which levels `--all` compacts.
 use Rattle.std.specs.Prelude.{◌≡◌, ◌⊎◌, ◌<◌, ◌≤◌, ℕ, length, Option, Some, None}
 use Rattle.ikey.specs.Bytewise.{bytewise_cmp}
 use Rattle.edit.specs.Version.{State}
 use Rattle.edit.specs.VersionOrder.{level_files}
 
--- how many files a level has, whatever their order is
+-- the number of a level's files, whatever their order is
 abbrev pub file_count : State → ℕ → ℕ
 file_count v level = length (level_files bytewise_cmp v level)
 
@@ -12,7 +12,7 @@ file_count v level = length (level_files bytewise_cmp v level)
 abbrev pub IsEmptyLevel : State → ℕ → Type 0
 IsEmptyLevel v level = file_count v level ≡ 0
 
--- the deepest level that has a file, but level 1 at least
+-- the deepest level that has a file, and at least level 1
 abbrev pub IsBottom : State → ℕ → Type 0
 IsBottom v bottom = (1 ≤ bottom) × (bottom ≤ 6) × ((bottom ≡ 1) ⊎ (IsEmptyLevel v bottom → ⊥))
     × ((level : ℕ) → bottom < level → level ≤ 6 → IsEmptyLevel v level)

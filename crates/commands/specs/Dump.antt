@@ -12,7 +12,7 @@ use Rattle.ikey.specs.declared.kind.Kind.TheVariants.{Delete, Put}
 use Rattle.table.specs.Reading.{table_reading}
 use Rattle.texts.specs.Text.{text_of_bytes}
 
--- what stands behind the sequence: `put VALUE` or `del`, and a newline
+-- what comes after the sequence: `put VALUE` or `del`, and a newline
 abbrev pub change_text : Kind → List ℕ → List ℕ
 change_text Put value = codes " put " ++ (text_of_bytes value ++ codes "\n")
 change_text Delete value = codes " del\n"
@@ -21,10 +21,10 @@ change_text Delete value = codes " del\n"
 abbrev pub dump_line : Entry → List ℕ
 dump_line e = text_of_bytes (user_of e.key) ++ (codes " " ++ (decimal (sequence_of e.key) ++ change_text (kind_of e.key) e.value))
 
--- a line an entry, in order
+-- one line for each entry, in order
 abbrev pub dump_lines : List Entry → List ℕ
 dump_lines entries = flat_map dump_line entries
 
--- the lines of the bytes' entries as a table in the bytewise order, or the first test that they fail
+-- the lines of the entries of a table in bytewise order, or the first test that the bytes fail
 abbrev pub dumped : List ℕ → Result (List ℕ) Fault
 dumped bytes = table_reading bytewise_cmp bytes >>= λ entries. Ok (dump_lines entries)

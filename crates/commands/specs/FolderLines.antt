@@ -14,11 +14,11 @@ use Rattle.checks.specs.LawfulTables.{IsLawfulTables}
 use Rattle.folder.specs.Orders.{order_cmp}
 use Rattle.texts.specs.Text.{text_of_bytes}
 
--- the line of the tables of a lawful version
+-- the line of the tables, if the version is lawful with them
 abbrev pub IsLineOfLoaded : (List ℕ → List ℕ → Ordering) → State → List (ℕ × List ℕ) → (List Numbered → List ℕ) → Result (List ℕ) Fault → Type 0
 IsLineOfLoaded cmp v loaded line_of = IsThen (IsLawfulTables cmp v loaded) (λ tables answer. answer ≡ Ok (line_of tables))
 
--- the same, where the tables are in a folder: all of them are read first, by level and in version order
+-- the same with tables in a folder: first all of them are read, by level and in version order
 abbrev pub IsLineOfVersion : (List ℕ → Option (List ℕ) → Type 0) → (List ℕ → List ℕ → Ordering) → State → (List Numbered → List ℕ) → Result (List ℕ) Fault → Type 0
 IsLineOfVersion tells cmp v line_of = IsThen (IsLoaded tells (file_numbers cmp v)) (λ loaded. IsLineOfLoaded cmp v loaded line_of)
 
@@ -26,7 +26,7 @@ IsLineOfVersion tells cmp v line_of = IsThen (IsLoaded tells (file_numbers cmp v
 abbrev pub IsLineOfFolder : (List ℕ → Option (List ℕ) → Type 0) → (State → List Numbered → List ℕ) → Result (List ℕ) Fault → Type 0
 IsLineOfFolder tells line_of = IsThen (IsOpened tells) (λ opened. IsLineOfVersion tells (order_cmp opened.0) opened.1 (line_of opened.1))
 
--- how many entries tables have together
+-- the number of entries in all these tables
 abbrev pub entry_count : List Numbered → ℕ
 entry_count tables = length (flat_map (λ t. t.contents.entries) tables)
 
@@ -34,16 +34,16 @@ entry_count tables = length (flat_map (λ t. t.contents.entries) tables)
 abbrev pub lawful_line : ℕ → ℕ → List ℕ
 lawful_line files entries = codes "lawful: " ++ decimal files ++ codes " files, " ++ decimal entries ++ codes " entries\n"
 
--- the same of tables, one for each file of a version
+-- that line for tables, one for each file of a version
 abbrev pub verified_line : List Numbered → List ℕ
 verified_line tables = lawful_line (length tables) (entry_count tables)
 
--- the line of a value, and of none
+-- the line of a value, or of none
 abbrev pub value_line : Option (List ℕ) → List ℕ
 value_line None = codes "none\n"
 value_line (Some value) = text_of_bytes value ++ codes "\n"
 
--- this sequence, or else the version's last one
+-- this sequence, or the version's last one if none is given
 abbrev pub sequence_at : State → Option ℕ → ℕ
 sequence_at v at = unwrap_or at (unwrap_or v.last_sequence 0)
 

@@ -16,7 +16,7 @@ use Rattle.folder.specs.Orders.{order_cmp}
 use Rattle.texts.specs.Text.{text_of_bytes}
 use Rattle.folder.specs.declared.order.Order.{Order}
 
--- the line of a number that may be unset, which then is 0
+-- the line of a counter, which is 0 if it was never set
 abbrev pub number_line : List ℕ → Option ℕ → List ℕ
 number_line word number = word ++ codes " " ++ decimal (unwrap_or number 0) ++ codes "\n"
 
@@ -24,19 +24,19 @@ number_line word number = word ++ codes " " ++ decimal (unwrap_or number 0) ++ c
 abbrev pub comparator_line : Order → List ℕ
 comparator_line order = codes "comparator " ++ order_name order ++ codes "\n"
 
--- the comparator and the numbers, a line each
+-- the lines of the comparator and the counters
 abbrev pub head_lines : Order → State → List ℕ
 head_lines order v =
     comparator_line order ++ number_line (codes "log") v.log_number ++ number_line (codes "previous") v.previous_log
     ++ number_line (codes "next") v.next_file ++ number_line (codes "last") v.last_sequence
 
--- the line of a level's compact pointer: its user key, its sequence and its type
+-- the line of a level's compact pointer: user key, sequence and type
 abbrev pub pointer_line : ℕ → List ℕ → List ℕ
 pointer_line level key =
     codes "pointer " ++ decimal level ++ codes " " ++ text_of_bytes (user_of key) ++ codes " " ++ decimal (sequence_of key) ++ codes " "
     ++ decimal (kind_number (kind_of key)) ++ codes "\n"
 
--- the line of a level's compact pointer, where it has one
+-- the line of a level's compact pointer, if it has one
 abbrev pub pointer_lines : State → ℕ → List ℕ
 pointer_lines v level = option_map_or (pointer_line level) (pointer_of v level) []
 
@@ -48,14 +48,15 @@ file_line level f = codes "file " ++ decimal level ++ codes " " ++ decimal f.num
 abbrev pub file_lines : (List ℕ → List ℕ → Ordering) → State → ℕ → List ℕ
 file_lines cmp v level = flat_map (file_line level) (level_files cmp v level)
 
--- the comparator and the numbers, then the pointers by level, and then the files by level and in this version order
+-- the comparator and the counters, then the pointers by level, then the files by level and in this
+-- version order
 abbrev pub lines_by : Order → (List ℕ → List ℕ → Ordering) → State → List ℕ
 lines_by order cmp v = head_lines order v ++ all_levels (pointer_lines v) ++ all_levels (file_lines cmp v)
 
--- the same in the order's own version order
+-- the same with files in the order's own version order
 abbrev pub version_lines : Order → State → List ℕ
 version_lines order v = lines_by order (order_cmp order) v
 
--- a folder is opened, and the lines show what that gives
+-- a folder is opened, and these are the lines of what that gives
 abbrev pub IsShown : (List ℕ → Option (List ℕ) → Type 0) → Result (List ℕ) Fault → Type 0
 IsShown tells = IsThen (IsOpened tells) (λ opened answer. answer ≡ Ok (version_lines opened.0 opened.1))

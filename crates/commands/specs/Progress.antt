@@ -1,20 +1,20 @@
--- What a line of progress says.
+-- The text of a line of progress.
 use Rattle.std.specs.Prelude.{ℕ, ◌-◌, nat_le, List, ◌++◌, codes, decimal, if◌then◌else◌}
 use Rattle.checks.specs.declared.watch.Work.{Work}
 use Rattle.checks.specs.declared.watch.Work.TheVariants.{Check, Compact}
 
--- what is done in the first part of the work
+-- the words for the first part of the work
 abbrev pub first_part : Work → List ℕ
 first_part Check = codes "tables checked"
 first_part Compact = codes "ranges merged"
 
--- what is done in its second part
+-- the words for its second part
 abbrev pub second_part : Work → List ℕ
 second_part Check = codes "ranges tested"
 second_part Compact = codes "pieces encoded"
 
--- How far the work is, by how many jobs are done in both parts together: `ranges merged: 3 of 8` in the first part, which has so
--- many jobs, and `pieces encoded: 12` in the second.
+-- How far the work is, if `done` jobs of both parts together are done. In the first part, which has
+-- `jobs` jobs: `ranges merged: 3 of 8`. In the second: `pieces encoded: 12`.
 abbrev pub progress_text : Work → ℕ → ℕ → List ℕ
 progress_text work jobs done =
     if nat_le done jobs then first_part work ++ codes ": " ++ decimal done ++ codes " of " ++ decimal jobs

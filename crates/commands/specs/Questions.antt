@@ -1,4 +1,4 @@
--- The line that answers a question to a version and its tables.
+-- The line that answers a question about a version and its tables.
 use Rattle.std.specs.Prelude.{ℕ, List}
 use Rattle.edit.specs.Version.{State}
 use Rattle.reads.specs.Tables.{Numbered}

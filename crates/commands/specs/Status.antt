@@ -3,7 +3,7 @@ use Rattle.std.specs.Prelude.{ℕ}
 use Rattle.coding.specs.declared.fault.FaultName.{FaultName}
 use Rattle.coding.specs.declared.fault.FaultName.TheVariants.{Device}
 
--- 3 where the device failed, else 1
+-- 3 for Device, else 1
 abbrev pub status_of : FaultName → ℕ
 status_of Device = 3
 status_of _ = 1

@@ -11,9 +11,9 @@ use reads::NumberedTable;
 use std::alloc::Global;
 use table::{Cursor, SoundTable, TableCursor};
 
-/// How many entries tables have together.
+/// How many entries these tables have together.
 ///
-/// Refused only for want of memory: it takes that of a cursor, one table after the other.
+/// The only fault is Memory. It holds one cursor at a time.
 pub(crate) fn entry_count<C: Comparator>(
     alloc: Global,
     tables: &[NumberedTable<'_, C>],

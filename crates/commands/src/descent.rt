@@ -1,4 +1,4 @@
-//! Which levels a compaction of all levels moves down.
+//! Which levels `--all` compacts.
 
 ghost use Rattle.std.specs.Prelude.{◌≡◌, ◌≤◌, IfOk, IfErr, Ok};
 ghost use Rattle.coding.specs.Answers.{EqualOrMemory, fault};
@@ -10,8 +10,8 @@ use edit::Version;
 use ikey::Bytewise;
 use std::alloc::Global;
 
-/// The deepest level that has a file, but level 1 at least: files of level 0 go down, since they may overlap. Refused for want
-/// of memory alone.
+/// The deepest level that has a file, and at least 1: files of level 0 go down, since they may
+/// overlap. The only fault is Memory.
 pub fn bottom(alloc: Global, version: &Version) -> Result<u64, Fault>
     ensures bottom { IfOk result (IsBottom version.now) }
     ensures memory { IfErr result (λ e. e ≡ fault Memory) }
@@ -25,8 +25,8 @@ pub fn bottom(alloc: Global, version: &Version) -> Result<u64, Fault>
     Ok(bottom)
 }
 
-/// The first level above the bottom that has a file. The bottom is 6 at most, as that of [`bottom`] is. Refused for want of
-/// memory alone.
+/// The first level above `bottom` that has a file; None if no such level has one. `bottom` is at
+/// most 6, as [`bottom`] answers it. The only fault is Memory.
 pub fn next_level(alloc: Global, version: &Version, bottom: u64) -> Result<Option<u64>, Fault>
     requires { bottom ≤ 6 }
     ensures next { IfOk result (IsNextLevel version.now bottom) }
@@ -40,7 +40,7 @@ pub fn next_level(alloc: Global, version: &Version, bottom: u64) -> Result<Optio
     Ok(None)
 }
 
-/// How many files a level has. In which order they stand makes no difference.
+/// How many files a level has. The order of files makes no difference.
 fn file_count(alloc: Global, version: &Version, level: u64) -> Result<usize, Fault>
     requires { level ≤ 6 }
     ensures { EqualOrMemory (λ count. count) result (Ok (file_count version.now level)) }

@@ -13,10 +13,11 @@ use std::fmt::Write;
 use table::{Cursor, SoundTable, TableCursor, check};
 use texts::text_of;
 
-/// The lines of a table in the bytewise order, a line an entry: `KEY SEQ put VALUE` or `KEY SEQ del`.
+/// The lines of a table in bytewise order, one for each entry: `KEY SEQ put VALUE` or `KEY SEQ
+/// del`.
 ///
-/// Keys and values are lower-case hexadecimal digits, `-` where there is no byte; a sequence is decimal. Bytes that are
-/// no table are refused by the first test that fails, as by `table::check`.
+/// Keys and values are lower-case hexadecimal digits, or `-` if empty; a sequence is decimal. An
+/// invalid table is refused by the first test that fails, as `table::check` refuses it.
 pub fn dump(alloc: Global, bytes: &[u8]) -> Result<Vec<u8>, Fault>
     ensures { EqualOrMemory (λ lines. lines.items) result (dumped bytes.now) }
 {
@@ -24,7 +25,7 @@ pub fn dump(alloc: Global, bytes: &[u8]) -> Result<Vec<u8>, Fault>
     lines_of(alloc, &table)
 }
 
-/// The lines of a table. Memory alone refuses.
+/// The lines of a table. The only fault is Memory.
 fn lines_of(alloc: Global, table: &SoundTable<'_, Bytewise>) -> Result<Vec<u8>, Fault>
     ensures { EqualOrMemory (λ lines. lines.items) result (Ok (dump_lines table.now.entries)) }
 {
@@ -33,7 +34,7 @@ fn lines_of(alloc: Global, table: &SoundTable<'_, Bytewise>) -> Result<Vec<u8>, 
     Ok(out.into_bytes())
 }
 
-/// Appends the lines of a table. Memory alone refuses.
+/// Appends the lines of a table. The only fault is Memory.
 fn push_lines(
     alloc: Global,
     out: &mut String,
@@ -49,7 +50,7 @@ fn push_lines(
     Ok(())
 }
 
-/// Appends the line of a cursor's entry, and takes the cursor on. Memory alone refuses.
+/// Appends the line of a cursor's entry, and takes the cursor on. The only fault is Memory.
 fn push_next(
     alloc: Global,
     out: &mut String,
@@ -64,7 +65,7 @@ fn push_next(
     cursor.advance()
 }
 
-/// Appends the line of an entry. Memory alone refuses.
+/// Appends the line of an entry. The only fault is Memory.
 fn push_line(
     alloc: Global,
     out: &mut String,

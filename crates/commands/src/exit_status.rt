@@ -5,7 +5,7 @@ ghost use Rattle.commands.specs.Status.{status_of};
 
 use coding::{Fault, FaultName};
 
-/// The status with which the program ends at a refusal: 3 where the device failed, else 1.
+/// The status with which the program ends after a refusal: 3 for `Device`, else 1.
 pub fn status(fault: &Fault) -> u8
     ensures { result ≡ status_of fault.now.name }
 {

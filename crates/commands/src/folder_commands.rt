@@ -1,4 +1,4 @@
-//! The commands on a database folder: what each answers of the version that the folder holds.
+//! The commands on a database folder, and what each answers of the version in it.
 
 ghost use Rattle.std.specs.Prelude.{Ok, map};
 ghost use Rattle.coding.specs.Answers.{EqualOrMemory, HoldsOrMemory};
@@ -21,12 +21,14 @@ use ikey::{Bytewise, SharedComparator, Shortlex};
 use std::alloc::Global;
 use std::thread::Threads;
 
-/// The lines that show a folder's version, each with its newline: `comparator NAME`, `log N`,
-/// `previous N`, `next N` and `last N`, then `pointer L KEY SEQ TYPE` by level, and then `file L
-/// NUMBER SIZE` by level and in version order.
+/// The lines that show a folder's version, each with its newline:
 ///
-/// A key is in hexadecimal digits, `-` where it is empty; a previous log number that was never set
-/// is 0. Refused as opening the folder is.
+/// 1. `comparator NAME`, `log N`, `previous N`, `next N`, `last N`;
+/// 2. `pointer L KEY SEQ TYPE`, by level;
+/// 3. `file L NUMBER SIZE`, by level and in version order.
+///
+/// A key is hexadecimal digits, or `-` if empty. A previous log number that was never set is 0.
+/// Refused as opening the folder is.
 pub fn manifest<F: Folder>(alloc: Global, folder: &mut F) -> Result<Vec<u8>, Fault>
     ensures answer { FolderAnswers (λ v. v.items) (F.failed folder.old) (F.failed folder.new) result
         (IsShown (F.tells folder.old)) }
@@ -37,8 +39,8 @@ pub fn manifest<F: Folder>(alloc: Global, folder: &mut F) -> Result<Vec<u8>, Fau
     manifest_lines(alloc, order, &version)
 }
 
-/// The lines of a version of an order: what [`manifest`] answers of a folder that was opened
-/// already. Refused only if memory runs out.
+/// The lines of a `version` of this `order`: what [`manifest`] answers of a folder that is opened
+/// already. The only fault is Memory.
 pub fn manifest_lines(alloc: Global, order: Order, version: &Version) -> Result<Vec<u8>, Fault>
     ensures { EqualOrMemory (λ v. v.items) result (Ok (version_lines order version.now)) }
 {
@@ -48,14 +50,18 @@ pub fn manifest_lines(alloc: Global, order: Order, version: &Version) -> Result<
     }
 }
 
-/// Tests the version that a folder holds, and answers the line `lawful: F files, E entries`: how
-/// many files the version has, and how many entries are in all their tables.
+/// Checks the version that a folder holds, and answers the line `lawful: F files, E entries`: the
+/// number of its files, and of the entries in all their tables. It only reads.
 ///
-/// Refused as opening the folder is; then Missing at the first table that isn't there, by level and
-/// in version order; then by the first table whose bytes are refused, as `table::check` refuses
-/// them; and then Lawless if the version isn't lawful. If the device fails a call, the answer is
-/// Device and no further call is made; if memory runs out, it is Memory. Only reads. Four workers
-/// check the tables, and whichever comes first, the answer is the same.
+/// The first that applies:
+///
+/// - what opening the folder is refused as;
+/// - Missing: at the first missing table, by level and in version order;
+/// - the first invalid table, as `table::check` refuses it;
+/// - Lawless: the version isn't lawful.
+///
+/// If the device fails a call, the answer is Device and no further call is made. If memory runs
+/// out, it is Memory. Four workers check the tables; the answer doesn't depend on which is first.
 ///
 /// The work is told to `watch`, which is `&Open` if nobody watches.
 pub fn verify<F: Folder, W: Watch + Sync, R: Threads + Sync>(
@@ -72,11 +78,12 @@ pub fn verify<F: Folder, W: Watch + Sync, R: Threads + Sync>(
     answered(rt, alloc, folder, Question::Lawful, watch)
 }
 
-/// The line of the value that a user key has at a sequence in the version that a folder holds, in
-/// lower-case hexadecimal digits, `-` if it is empty; `none` if the key has no value there. The
-/// sequence is of any size; if it isn't given, it is the version's last one.
+/// The line of the value of a user `key` at a sequence, in the version that a folder holds. The
+/// value is lower-case hexadecimal digits, or `-` if empty; the line is `none` if the key has no
+/// value there. It only reads.
 ///
-/// Refused as `verify` is, and told to `watch` in the same way. Only reads.
+/// The sequence `at` may be any number. If it isn't given, it is the version's last sequence.
+/// Refused as `verify` is, and told to `watch` in the same way.
 pub fn get_dir<F: Folder, W: Watch + Sync, R: Threads + Sync>(
     rt: &R,
     alloc: Global,
@@ -93,7 +100,7 @@ pub fn get_dir<F: Folder, W: Watch + Sync, R: Threads + Sync>(
     answered(rt, alloc, folder, Question::Value { key, at }, watch)
 }
 
-/// What the version that a folder holds answers.
+/// What the version that a folder holds answers to a question.
 fn answered<F: Folder, W: Watch + Sync, R: Threads + Sync>(
     rt: &R,
     alloc: Global,
@@ -110,8 +117,8 @@ fn answered<F: Folder, W: Watch + Sync, R: Threads + Sync>(
     answer_opened(rt, alloc, folder, order, &version, question, watch)
 }
 
-/// What a version of an order answers, with the tables that the folder holds: what [`verify`] and
-/// [`get_dir`] answer of a folder that was opened already. Only reads.
+/// What a `version` of this `order` answers with the tables in the folder: what [`verify`] and
+/// [`get_dir`] answer of a folder that is opened already. It only reads.
 pub fn answer_opened<F: Folder, W: Watch + Sync, R: Threads + Sync>(
     rt: &R,
     alloc: Global,
@@ -137,7 +144,7 @@ pub fn answer_opened<F: Folder, W: Watch + Sync, R: Threads + Sync>(
     }
 }
 
-/// What a version answers by a comparator, with the tables that the folder holds.
+/// What a version of this comparator answers with the tables in the folder.
 fn answered_by<C: SharedComparator + 'static, F: Folder, W: Watch + Sync, R: Threads + Sync>(
     rt: &R,
     alloc: Global,
@@ -156,7 +163,7 @@ fn answered_by<C: SharedComparator + 'static, F: Folder, W: Watch + Sync, R: Thr
     answer_loaded::<C, W, R>(rt, alloc, version, &loaded, question, watch)
 }
 
-/// What a version answers with the tables of these numbers and bytes.
+/// What a version answers with tables of these numbers and bytes.
 fn answer_loaded<C: SharedComparator + 'static, W: Watch + Sync, R: Threads + Sync>(
     rt: &R,
     alloc: Global,

@@ -15,7 +15,7 @@ use std::alloc::Global;
 use std::thread::Threads;
 use texts::text_of;
 
-/// The line of the value in a version, with the tables of these numbers and bytes.
+/// The line of the value in a version with tables of these numbers and bytes.
 pub(crate) fn got<C: SharedComparator + 'static, W: Watch + Sync, R: Threads + Sync>(
     rt: &R,
     alloc: Global,
@@ -35,7 +35,7 @@ pub(crate) fn got<C: SharedComparator + 'static, W: Watch + Sync, R: Threads + S
     value_line(alloc, value)
 }
 
-/// This sequence, or else the version's last one.
+/// The sequence `at`, or the version's last one if it isn't given.
 fn sequence_at(version: &Version, at: Option<u64>) -> u64
     ensures { result ≡ sequence_at version.now at }
 {
@@ -43,7 +43,7 @@ fn sequence_at(version: &Version, at: Option<u64>) -> u64
     at.unwrap_or(last)
 }
 
-/// The line of a value, and of none.
+/// The line of a value, or of none.
 fn value_line(alloc: Global, value: Option<&[u8]>) -> Result<Vec<u8>, Fault>
     ensures { EqualOrMemory (λ v. v.items) result (Ok (value_line (option_map (λ bytes. bytes.now) value.entry))) }
 {

@@ -1,4 +1,13 @@
-//! The calls behind the commands of the program: the lines that they answer, which level comes next, and statuses.
+//! The calls behind the commands of the program, and the lines that they answer.
+//!
+//! 1. [`manifest`], [`verify`] and [`get_dir`] open a folder and answer; [`manifest_lines`] and
+//!    [`answer_opened`] do the same for a folder that is opened already.
+//! 2. [`dump`] answers the lines of one table.
+//! 3. [`bottom`] and [`next_level`] say which levels `--all` takes.
+//! 4. [`progress_text`] is a line of progress, [`status`] the status of a refusal.
+//!
+//! No contract says which of these the program calls for a command. That `--all` makes its calls
+//! one after the other is read off the program.
 #![tactic(auto)]
 
 mod counting;

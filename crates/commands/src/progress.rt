@@ -1,4 +1,4 @@
-//! What a line of progress says.
+//! The text of a line of progress.
 
 ghost use Rattle.std.specs.Prelude.{◌≡◌, ◌++◌, ◌-◌, ◌<◌, codes, decimal, Ok, IfErr, OnOk, string_bytes};
 ghost use Rattle.coding.specs.Answers.{EqualOrMemory, fault};
@@ -9,8 +9,9 @@ use checks::Work;
 use coding::Fault;
 use std::alloc::Global;
 
-/// How far work is, of whose jobs so many are done in both parts together: `ranges merged: 3 of 8` in its first part, which has
-/// so many jobs, and `pieces encoded: 12` in the second. Refused for want of memory alone.
+/// How far the work is, if `done` jobs of both parts together are done. The first part has `jobs`
+/// jobs: `ranges merged: 3 of 8`. In the second part: `pieces encoded: 12`. The only fault is
+/// Memory.
 pub fn progress_text(alloc: Global, work: Work, jobs: u64, done: u64) -> Result<String, Fault>
     ensures { EqualOrMemory (λ text. string_bytes text) result (Ok (progress_text work jobs done)) }
 {
@@ -23,7 +24,7 @@ pub fn progress_text(alloc: Global, work: Work, jobs: u64, done: u64) -> Result<
     Ok(text)
 }
 
-/// What is done in the first part of work.
+/// The words for the first part of the work.
 fn first_part(work: Work) -> &'static str
     ensures { result.now ≡ first_part work }
 {
@@ -33,7 +34,7 @@ fn first_part(work: Work) -> &'static str
     }
 }
 
-/// What is done in its second part.
+/// The words for its second part.
 fn second_part(work: Work) -> &'static str
     ensures { result.now ≡ second_part work }
 {
@@ -43,7 +44,7 @@ fn second_part(work: Work) -> &'static str
     }
 }
 
-/// Appends how many are done of so many.
+/// Appends that `done` of `jobs` jobs are done.
 fn push_of(text: &mut String, part: &str, done: u64, jobs: u64) -> Result<(), Fault>
     ensures ok { OnOk result (string_bytes text.new
         ≡ string_bytes text.old ++ (part.now ++ codes ": " ++ decimal done ++ codes " of " ++ decimal jobs)) }
@@ -53,7 +54,7 @@ fn push_of(text: &mut String, part: &str, done: u64, jobs: u64) -> Result<(), Fa
     Ok(())
 }
 
-/// Appends how many are done.
+/// Appends that `done` jobs are done.
 fn push_count(text: &mut String, part: &str, done: u64) -> Result<(), Fault>
     ensures ok { OnOk result (string_bytes text.new
         ≡ string_bytes text.old ++ (part.now ++ codes ": " ++ decimal done)) }

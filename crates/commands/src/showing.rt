@@ -14,10 +14,11 @@ use ikey::{Comparator, KeyBuf};
 use std::alloc::Global;
 use texts::text_of;
 
-/// No line of a file has more bytes: its level has one digit, and its numbers at most 20.
+/// The most bytes that the line of a file has: its level has one digit, its numbers at most 20
+/// each.
 const MAX_FILE_LINE: usize = 49;
 
-/// The lines of a version, its files in the version order of this comparator.
+/// The lines of a version, with files in the version order of this comparator.
 pub(crate) fn version_lines<C: Comparator>(
     alloc: Global,
     order: Order,
@@ -32,7 +33,7 @@ pub(crate) fn version_lines<C: Comparator>(
     Ok(text.into_bytes())
 }
 
-/// Appends the lines of the comparator and of the numbers.
+/// Appends the lines of the comparator and the counters.
 fn push_head(text: &mut String, order: Order, version: &Version) -> Result<(), Fault>
     ensures ok { OnOk result (string_bytes text.new ≡ string_bytes text.old ++ head_lines order version.now) }
     ensures memory { IfErr result (λ e. e ≡ fault Memory) }
@@ -55,7 +56,7 @@ fn push_comparator(text: &mut String, order: Order) -> Result<(), Fault>
     Ok(())
 }
 
-/// Appends the line of a number, which is 0 where it was never set.
+/// Appends the line of a counter. One that was never set is 0.
 fn push_number(text: &mut String, word: &str, number: Option<u64>) -> Result<(), Fault>
     ensures ok { OnOk result (string_bytes text.new ≡ string_bytes text.old ++ number_line word.now number) }
     ensures memory { IfErr result (λ e. e ≡ fault Memory) }
@@ -65,7 +66,7 @@ fn push_number(text: &mut String, word: &str, number: Option<u64>) -> Result<(),
     Ok(())
 }
 
-/// Appends the line of each level's compact pointer.
+/// Appends the lines of the compact pointers, by level.
 fn push_pointers(alloc: Global, text: &mut String, version: &Version) -> Result<(), Fault>
     ensures ok { OnOk result (string_bytes text.new ≡ string_bytes text.old ++ all_levels (pointer_lines version.now)) }
     ensures memory { IfErr result (λ e. e ≡ fault Memory) }
@@ -76,7 +77,7 @@ fn push_pointers(alloc: Global, text: &mut String, version: &Version) -> Result<
     Ok(())
 }
 
-/// Appends the line of a level's compact pointer, where it has one.
+/// Appends the line of a level's compact pointer, if it has one.
 fn push_pointer_of(
     alloc: Global,
     text: &mut String,
@@ -106,7 +107,7 @@ fn push_pointer(alloc: Global, text: &mut String, level: u64, key: &KeyBuf) -> R
     Ok(())
 }
 
-/// Appends the lines of the files by level, and each level's in version order.
+/// Appends the lines of the files, by level and in version order.
 fn push_files<C: Comparator>(
     alloc: Global,
     text: &mut String,

@@ -13,10 +13,10 @@ use ikey::SharedComparator;
 use std::alloc::Global;
 use std::thread::Threads;
 
-/// How many workers check the tables of a folder.
+/// The workers that check the tables of a folder.
 pub(crate) const WORKERS: u64 = 4;
 
-/// Tests a version with the tables of these numbers and bytes.
+/// Checks a version with tables of these numbers and bytes.
 pub(crate) fn verified<C: SharedComparator + 'static, W: Watch + Sync, R: Threads + Sync>(
     rt: &R,
     alloc: Global,
@@ -33,7 +33,7 @@ pub(crate) fn verified<C: SharedComparator + 'static, W: Watch + Sync, R: Thread
     lawful_line(alloc, tables.len(), entries)
 }
 
-/// The line of a lawful version of so many files and entries.
+/// The line of a lawful version with this many `files` and `entries`.
 fn lawful_line(alloc: Global, files: usize, entries: u128) -> Result<Vec<u8>, Fault>
     ensures { EqualOrMemory (λ v. v.items) result (Ok (lawful_line files entries)) }
 {

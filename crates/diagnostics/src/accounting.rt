@@ -1,4 +1,5 @@
-//! The account of a compaction, made of what a folder holds behind it: the files that went into it are still there.
+//! The account of a compaction, read from the folder after it. The files that went into it are
+//! still there. No contract says which numbers these are.
 
 ghost use Rattle.folder.specs.Reports.{OnlyReads};
 
@@ -13,14 +14,17 @@ use split::{Range, Split};
 use std::alloc::Global;
 use table::{Cursor, SoundTable, TableCursor, check};
 
-/// The account of the compaction of a level, into at most so many ranges, by the version of the folder before it and the one
-/// after it.
+/// The account of the compaction of a `level` into at most `ranges` ranges. `before` and `after`
+/// are the folder's versions before and after it.
 ///
-/// The tables of its inputs and of its outputs are read and tested again, and all of these are held in memory. Only reads.
+/// The tables of its inputs and outputs are read and checked again, and are all held in memory. It
+/// only reads. Faults:
 ///
-/// Refused as the choice of inputs is: `Level` above 5, `NoInput` where the level has no file; `Missing` where a table isn't
-/// there any more; by the first of its tests that a table fails; `SplitCount` where the ranges are not from 1 to 4,096;
-/// `Device` at once; `Memory` where memory ran out.
+/// - `Level`: the level is above 5; `NoInput`: it has no file.
+/// - `Missing`: a table is gone.
+/// - The first test that an invalid table fails.
+/// - `SplitCount`: `ranges` is outside 1 to 4,096.
+/// - `Device`: a call failed; no further call is made. `Memory`: out of memory.
 pub fn account_of<F: Folder>(
     alloc: Global,
     folder: &mut F,
@@ -42,7 +46,7 @@ pub fn account_of<F: Folder>(
     }
 }
 
-/// The account where this comparator orders the user keys.
+/// The account, if this comparator orders the user keys.
 fn account_by<C: Comparator, F: Folder>(
     alloc: Global,
     folder: &mut F,
@@ -74,7 +78,7 @@ fn account_from<C: Comparator, F: Folder>(
     Ok(account(levels, entries, outputs))
 }
 
-/// The account of what went in, what is kept of it, and what came out.
+/// The account of the inputs, their entries, and the outputs.
 fn account(inputs: Vec<LevelInputs>, entries: Entries, outputs: Vec<Output>) -> Account {
     Account {
         inputs,
@@ -85,23 +89,23 @@ fn account(inputs: Vec<LevelInputs>, entries: Entries, outputs: Vec<Output>) -> 
     }
 }
 
-/// What the inputs of a level and of the next one are together.
+/// The sums of the inputs of `level` and of the next one.
 fn levels_of(alloc: Global, files: &[InputFile], level: u64) -> Result<Vec<LevelInputs>, Fault> {
     let upper = inputs_at(files, level);
     let lower = inputs_at(files, level.saturating_add(1));
     Ok(vec![in alloc; upper, lower]?)
 }
 
-/// The entries of a compaction.
+/// The numbers of a compaction's entries.
 #[derive(Drop)]
 struct Entries {
-    /// How many the inputs have, by range.
+    /// How many entries the inputs have, by range.
     ranges: Vec<RangeEntries>,
-    /// How many the outputs have.
+    /// How many entries the outputs have.
     kept: u64,
 }
 
-/// The entries of inputs and outputs, by the files of their tables.
+/// The numbers of entries of inputs and outputs, read from the tables of these files.
 fn entries_of<C: Comparator, F: Folder>(
     alloc: Global,
     folder: &mut F,
@@ -132,7 +136,7 @@ fn inputs_at(files: &[InputFile], level: u64) -> LevelInputs {
     inputs
 }
 
-/// The files of a version from this number on, which are those that its last edit added.
+/// The files of a version from number `first` on: those that its last edit added.
 fn outputs_of<C: Comparator>(
     alloc: Global,
     version: &Version,
@@ -145,7 +149,7 @@ fn outputs_of<C: Comparator>(
     Ok(outputs)
 }
 
-/// Appends the files from this number on.
+/// Appends the files from number `first` on.
 fn push_outputs(outputs: &mut Vec<Output>, files: &[&FileMeta], first: u64) -> Result<(), Fault> {
     for file in files {
         if file.number >= first {
@@ -176,7 +180,7 @@ fn numbers_of_outputs(alloc: Global, outputs: &[Output]) -> Result<Vec<u64>, Fau
     Ok(numbers)
 }
 
-/// The bytes of the tables of these numbers. Missing at the first that isn't there.
+/// The bytes of the tables of these `numbers`. Missing at the first that is gone.
 fn read_tables<F: Folder>(
     alloc: Global,
     folder: &mut F,
@@ -194,7 +198,7 @@ fn read_tables<F: Folder>(
     Ok(tables)
 }
 
-/// How many entries the inputs have in each of the ranges into which they are split, and how many the outputs have together.
+/// How many entries the inputs have in each range of their split, and how many all outputs have.
 fn counted<C: Comparator>(
     alloc: Global,
     taken: &[Vec<u8>],
@@ -208,13 +212,13 @@ fn counted<C: Comparator>(
     Ok(Entries { ranges, kept })
 }
 
-/// How many entries tables of these bytes have together.
+/// How many entries the tables of these bytes have together.
 fn kept_of<C: Comparator>(alloc: Global, made: &[Vec<u8>], split: &Split<C>) -> Result<u64, Fault> {
     let outputs = checked::<C>(alloc, made)?;
     Ok(sum(&entries_by_range(alloc, &outputs, split)?))
 }
 
-/// The tables that the bytes of files are.
+/// The tables that these bytes are.
 fn checked<'t, C: Comparator>(
     alloc: Global,
     files: &'t [Vec<u8>],
@@ -239,7 +243,7 @@ fn entries_by_range<C: Comparator>(
     Ok(ranges)
 }
 
-/// So many ranges, of which none has an entry.
+/// `count` ranges without entries.
 fn no_entries(alloc: Global, count: u64) -> Result<Vec<RangeEntries>, Fault> {
     let mut ranges = Vec::new(alloc);
     for before in 0..count {
@@ -251,7 +255,8 @@ fn no_entries(alloc: Global, count: u64) -> Result<Vec<RangeEntries>, Fault> {
     Ok(ranges)
 }
 
-/// Counts the entries of a table by range. Its user keys never fall, so the range of one is sought from that of the last one on.
+/// Counts the entries of a table by range. Its user keys never fall, so the range of a key is
+/// sought from the range of the key before on.
 fn add_entries<C: Comparator>(
     alloc: Global,
     table: &SoundTable<'_, C>,
@@ -270,7 +275,7 @@ fn add_entries<C: Comparator>(
     Ok(())
 }
 
-/// The first range from this number on that doesn't end at or before a user key, or this number where there is none.
+/// The first range from `number` on that ends after this user key; `number` if there is none.
 fn range_from<C: Comparator>(split: &Split<C>, number: u64, user: &[u8]) -> u64 {
     for later in number..split.len() {
         if is_before_end::<C>(user, split.range(later)) {
@@ -288,7 +293,7 @@ fn is_before_end<C: Comparator>(user: &[u8], range: Range<'_>) -> bool {
     }
 }
 
-/// How many entries ranges have together.
+/// How many entries these ranges have together.
 fn sum(ranges: &[RangeEntries]) -> u64 {
     let mut sum: u64 = 0;
     for range in ranges {

@@ -1,4 +1,5 @@
-//! Which file of a folder is refused, and whether its log has writes. Both are told where that is asked for.
+//! Which file of a folder is refused, and whether its log has writes. Both are told if that is
+//! asked for. No contract says which file or log this is.
 
 ghost use Rattle.folder.specs.Reports.{OnlyReads};
 
@@ -10,7 +11,7 @@ use reads::has_bounds;
 use std::alloc::Global;
 use table::check;
 
-/// How many levels a version has.
+/// The number of a version's levels.
 pub(crate) const LEVELS: u64 = 7;
 
 /// A file of a folder, and why it is refused.
@@ -22,12 +23,17 @@ pub struct RefusedFile {
     pub fault: Fault,
 }
 
-/// The first file of a folder that is refused: CURRENT, the manifest, or a table by level and in version order; `Bounds` of a
-/// table whose size or keys aren't those that the manifest says, where all of them are tables. None where all are taken, each
-/// by itself. Only reads.
+/// The first file of a folder that is refused; None if each file by itself is accepted. It only
+/// reads. The file is
 ///
-/// Refused for a failing device or want of memory alone: what is wrong with a file is no refusal but the answer. Where one of
-/// these two befalls the opening, or memory ran out at the test of a table, it may be answered as what is wrong with that file.
+/// - CURRENT, if it names no manifest;
+/// - the manifest, if the folder can't be opened;
+/// - the first missing table, else the first invalid one, by level and in version order;
+/// - else the first table whose size or keys aren't those of the manifest: `Bounds`.
+///
+/// The only faults are Device and Memory: what is wrong with a file is the answer. If one of these
+/// two comes while the folder is opened, or if memory runs out while a table is checked, it may be
+/// answered as what is wrong with that file.
 pub fn refused_file<F: Folder>(alloc: Global, folder: &mut F) -> Result<Option<RefusedFile>, Fault>
     ensures reads { OnlyReads F.Folder folder.old folder.new }
 {
@@ -41,7 +47,7 @@ pub fn refused_file<F: Folder>(alloc: Global, folder: &mut F) -> Result<Option<R
     }
 }
 
-/// The file at which a folder's opening is refused: the manifest, where CURRENT names one, or else CURRENT.
+/// The file at which opening is refused: the manifest, if CURRENT names one, else CURRENT.
 fn opening_file<F: Folder>(alloc: Global, folder: &mut F) -> Result<String, Fault>
     ensures reads { OnlyReads F.Folder folder.old folder.new }
 {
@@ -53,7 +59,7 @@ fn opening_file<F: Folder>(alloc: Global, folder: &mut F) -> Result<String, Faul
     Ok(String::from_str(alloc, name.unwrap_or(CURRENT))?)
 }
 
-/// The manifest that the bytes of CURRENT name.
+/// The name of the manifest that the bytes of CURRENT give.
 fn manifest_named(bytes: &[u8]) -> Option<&str> {
     let Ok(text) = str::from_utf8(bytes) else {
         return None;
@@ -76,14 +82,14 @@ fn manifest_named(bytes: &[u8]) -> Option<&str> {
     Some(name)
 }
 
-/// A table that is there, and what the manifest says of it.
+/// A table of the folder, and what the manifest says of it.
 #[derive(Drop)]
 struct ListedTable<'v> {
     meta: &'v FileMeta,
     file: TableFile,
 }
 
-/// The first table of a version that isn't there, or else the first that is refused.
+/// The first missing table of a version, or else the first that is refused.
 fn refused_table<C: Comparator, F: Folder>(
     alloc: Global,
     folder: &mut F,
@@ -102,7 +108,7 @@ fn refused_table<C: Comparator, F: Folder>(
     first_refused::<C>(alloc, &tables)
 }
 
-/// Appends the tables of files. Answers the first that isn't there, where there is one.
+/// Appends the tables of these files. Answers the first missing one, if there is one.
 fn push_tables<'v, F: Folder>(
     alloc: Global,
     folder: &mut F,
@@ -120,21 +126,21 @@ fn push_tables<'v, F: Folder>(
     Ok(None)
 }
 
-/// The table of a number, which isn't there.
+/// The answer that the table of this `number` is missing.
 fn missing(alloc: Global, number: u64) -> Result<Option<RefusedFile>, Fault> {
     let name = table_name(alloc, number)?;
     let fault = Fault::of(FaultName::Missing);
     Ok(Some(RefusedFile { name, fault }))
 }
 
-/// A table that is there.
+/// A table of the folder.
 #[derive(Drop)]
 pub(crate) struct TableFile {
     pub name: String,
     pub bytes: Vec<u8>,
 }
 
-/// The table of a number, under its name or under its older one.
+/// The table of a number, under its name or its older one.
 pub(crate) fn table_file<F: Folder>(
     alloc: Global,
     folder: &mut F,
@@ -153,7 +159,7 @@ pub(crate) fn table_file<F: Folder>(
     }
 }
 
-/// The first of tables that is none, or else the first that isn't as the manifest says.
+/// The first invalid table, or else the first that isn't as the manifest says.
 fn first_refused<C: Comparator>(
     alloc: Global,
     tables: &[ListedTable<'_>],
@@ -172,7 +178,7 @@ fn first_refused<C: Comparator>(
     }
 }
 
-/// A table that is refused, by its name.
+/// The answer that a table is refused, by its name.
 fn named(
     alloc: Global,
     table: &ListedTable<'_>,
@@ -182,13 +188,15 @@ fn named(
     Ok(Some(RefusedFile { name, fault }))
 }
 
-/// Whether a table has the size and the smallest and the largest key that the manifest says. Refused where it is none.
+/// Whether a table has the size and the smallest and largest key that the manifest says. Refused if
+/// it is invalid.
 fn is_as_stated<C: Comparator>(alloc: Global, table: &ListedTable<'_>) -> Result<bool, Fault> {
     let sound = check::<C>(alloc, &table.file.bytes)?;
     Ok(has_bounds(table.meta, sound.bytes(), sound.smallest(), sound.largest()))
 }
 
-/// The name of the log that a version names, if it is there and holds writes. Refused if the log can't be read. Only reads.
+/// The name of the log that a version names, if it is there and holds writes. Refused if the log
+/// can't be read. Only reads.
 pub fn log_with_writes<F: Folder>(
     alloc: Global,
     folder: &mut F,

@@ -2,7 +2,8 @@
 use Rattle.std.specs.Prelude.{ℕ, ◌*◌, nat_lt, List, [], ◌∷◌, max, codes, if◌then◌else◌}
 use Rattle.std.specs.List.{flat_map, range_with_len}
 
--- what stands at a place of a bar: a mark, where the place is before the amount's part of 40 places, which the most fills
+-- what is at a place of a bar: a mark if the place is below amount * 40 / most, which is 40 for
+-- `most`
 abbrev pub mark : ℕ → ℕ → ℕ → List ℕ
 mark amount most place = if nat_lt (place * most) (amount * 40) then codes "#" else codes " "
 
@@ -10,7 +11,7 @@ mark amount most place = if nat_lt (place * most) (amount * 40) then codes "#" e
 abbrev pub bar : ℕ → ℕ → List ℕ
 bar amount most = flat_map (mark amount most) (range_with_len 0 40)
 
--- the largest of numbers, 0 where there is none
+-- the largest of the numbers, 0 if there is none
 abbrev pub largest : List ℕ → ℕ
 largest [] = 0
 largest (n ∷ ns) = max n (largest ns)

@@ -7,11 +7,11 @@ use Rattle.account.specs.declared.numbers.LevelInputs.{LevelInputs}
 use Rattle.account.specs.declared.numbers.Output.{Output}
 use Rattle.account.specs.declared.numbers.RangeEntries.{RangeEntries}
 
--- what stands behind the bar of a level's inputs
+-- what comes after the bar of a level's inputs
 abbrev pub files_text : LevelInputs → List ℕ
 files_text l = codes " level " ++ decimal l.level ++ codes ": " ++ decimal l.files ++ codes " files, " ++ decimal l.bytes ++ codes " bytes\n"
 
--- the line of a level's inputs, where a level has this many bytes at most
+-- the line of a level's inputs; `most` is the largest number of bytes of a level
 abbrev pub level_line : ℕ → LevelInputs → List ℕ
 level_line most l = bar l.bytes most ++ files_text l
 
@@ -19,7 +19,7 @@ level_line most l = bar l.bytes most ++ files_text l
 abbrev pub level_lines : List LevelInputs → List ℕ
 level_lines inputs = flat_map (level_line (largest (map (λ l. l.bytes) inputs))) inputs
 
--- the line of a range, where a range has this many entries at most
+-- the line of a range; `most` is the largest number of entries of a range
 abbrev pub range_line : ℕ → RangeEntries → List ℕ
 range_line most r = bar r.entries most ++ codes " range " ++ decimal r.number ++ codes ": " ++ decimal r.entries ++ codes " entries\n"
 
@@ -27,19 +27,19 @@ range_line most r = bar r.entries most ++ codes " range " ++ decimal r.number ++
 abbrev pub range_lines : List RangeEntries → List ℕ
 range_lines ranges = flat_map (range_line (largest (map (λ r. r.entries) ranges))) ranges
 
--- the line of what was kept
+-- the line of the kept entries
 abbrev pub kept_line : ℕ → ℕ → List ℕ
 kept_line most kept = bar kept most ++ codes " kept: " ++ decimal kept ++ codes " entries\n"
 
--- the line of what was dropped
+-- the line of the dropped entries
 abbrev pub dropped_line : ℕ → ℕ → List ℕ
 dropped_line most dropped = bar dropped most ++ codes " dropped: " ++ decimal dropped ++ codes " entries\n"
 
--- both, measured by the larger
+-- both lines, measured by the larger number
 abbrev pub entry_lines : ℕ → ℕ → List ℕ
 entry_lines kept dropped = kept_line (max kept dropped) kept ++ dropped_line (max kept dropped) dropped
 
--- the line of an output, where an output has this many bytes at most
+-- the line of an output; `most` is the largest number of bytes of an output
 abbrev pub output_line : ℕ → Output → List ℕ
 output_line most o = bar o.bytes most ++ codes " output " ++ decimal o.number ++ codes ": " ++ decimal o.bytes ++ codes " bytes\n"
 

@@ -7,10 +7,11 @@ ghost use Rattle.account.specs.Bars.{bar, mark};
 use coding::Fault;
 use std::alloc::Global;
 
-/// How many places a bar has.
+/// The places of a bar.
 const PLACES: u64 = 40;
 
-/// The bar of an amount, where the largest amount of its group fills all places. Refused for want of memory alone.
+/// The bar of an `amount`. In its group `most` is the largest amount, which fills all places. The
+/// only fault is Memory.
 pub(crate) fn bar(alloc: Global, amount: u64, most: u64) -> Result<String, Fault>
     ensures { EqualOrMemory string_bytes result (Ok (bar amount most)) }
 {
@@ -21,7 +22,7 @@ pub(crate) fn bar(alloc: Global, amount: u64, most: u64) -> Result<String, Fault
     Ok(text)
 }
 
-/// What stands at a place of it.
+/// The mark or the space at a place of the bar.
 fn mark(place: u64, amount: u64, most: u64) -> &'static str
     ensures { result.now ≡ mark amount most place }
 {

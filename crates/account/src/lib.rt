@@ -1,6 +1,7 @@
 //! The account of a compaction: what went into it and what came of it, as lines with bars.
 //!
-//! An [`Account`] holds the numbers, and [`text`] makes lines of them. Where the numbers come from is no matter of this crate.
+//! An [`Account`] holds the numbers, and [`text`] makes lines of them. The numbers come from
+//! elsewhere; this crate reads no file.
 #![tactic(auto)]
 
 mod bars;

@@ -12,11 +12,12 @@ use crate::numbers::{Account, LevelInputs, Output, RangeEntries};
 use coding::Fault;
 use std::alloc::Global;
 
-/// The lines of an account, each with its newline and each with a bar of 40 places before it: the inputs by level, the ranges,
-/// what was kept and what was dropped, and the outputs.
+/// The lines of an account, each with its newline and, before it, a bar of 40 places: the inputs by
+/// level, the ranges, what was kept and what was dropped, and the outputs.
 ///
-/// Place i of a bar, from 0 on, is marked where `i * most < amount * 40`: `most` is the largest amount of the line's group. Levels and
-/// outputs are measured in bytes, ranges and what was kept and dropped in entries. Refused for want of memory alone.
+/// Place i of a bar, from 0 on, is marked if `i * most < amount * 40`, `most` being the largest
+/// amount of the line's group. Levels and outputs are measured in bytes; ranges, kept and dropped
+/// in entries. The only fault is Memory.
 pub fn text(alloc: Global, account: &Account) -> Result<String, Fault>
     ensures { EqualOrMemory string_bytes result (Ok (account_lines account.now)) }
 {
@@ -40,7 +41,7 @@ fn push_levels(alloc: Global, text: &mut String, inputs: &[LevelInputs]) -> Resu
     Ok(())
 }
 
-/// The most bytes of a level.
+/// The largest number of bytes of a level.
 fn most_bytes_in(inputs: &[LevelInputs]) -> u64
     ensures { result ≡ largest (map (λ l. l.bytes) inputs.now) }
 {
@@ -61,7 +62,7 @@ fn push_level(alloc: Global, text: &mut String, level: LevelInputs, most: u64) -
     push_files(text, level)
 }
 
-/// Appends what stands behind its bar.
+/// Appends what comes after a level's bar.
 fn push_files(text: &mut String, level: LevelInputs) -> Result<(), Fault>
     ensures ok { OnOk result (string_bytes text.new ≡ string_bytes text.old ++ files_text level) }
     ensures memory { IfErr result (λ e. e ≡ fault Memory) }
@@ -87,7 +88,7 @@ fn push_ranges(alloc: Global, text: &mut String, ranges: &[RangeEntries]) -> Res
     Ok(())
 }
 
-/// The most entries of a range.
+/// The largest number of entries of a range.
 fn most_entries_in(ranges: &[RangeEntries]) -> u64
     ensures { result ≡ largest (map (λ r. r.entries) ranges.now) }
 {
@@ -109,7 +110,7 @@ fn push_range(alloc: Global, text: &mut String, range: RangeEntries, most: u64) 
     Ok(())
 }
 
-/// Appends the lines of what was kept and of what was dropped.
+/// Appends the lines of the kept and the dropped entries.
 fn push_entries(alloc: Global, text: &mut String, kept: u64, dropped: u64) -> Result<(), Fault>
     ensures ok { OnOk result (string_bytes text.new ≡ string_bytes text.old ++ entry_lines kept dropped) }
     ensures memory { IfErr result (λ e. e ≡ fault Memory) }
@@ -119,7 +120,7 @@ fn push_entries(alloc: Global, text: &mut String, kept: u64, dropped: u64) -> Re
     push_dropped(alloc, text, dropped, most)
 }
 
-/// Appends the line of what was kept.
+/// Appends the line of the kept entries.
 fn push_kept(alloc: Global, text: &mut String, kept: u64, most: u64) -> Result<(), Fault>
     ensures ok { OnOk result (string_bytes text.new ≡ string_bytes text.old ++ kept_line most kept) }
     ensures memory { IfErr result (λ e. e ≡ fault Memory) }
@@ -129,7 +130,7 @@ fn push_kept(alloc: Global, text: &mut String, kept: u64, most: u64) -> Result<(
     Ok(())
 }
 
-/// Appends the line of what was dropped.
+/// Appends the line of the dropped entries.
 fn push_dropped(alloc: Global, text: &mut String, dropped: u64, most: u64) -> Result<(), Fault>
     ensures ok { OnOk result (string_bytes text.new ≡ string_bytes text.old ++ dropped_line most dropped) }
     ensures memory { IfErr result (λ e. e ≡ fault Memory) }
@@ -151,7 +152,7 @@ fn push_outputs(alloc: Global, text: &mut String, outputs: &[Output]) -> Result<
     Ok(())
 }
 
-/// The most bytes of an output.
+/// The largest number of bytes of an output.
 fn most_bytes_of(outputs: &[Output]) -> u64
     ensures { result ≡ largest (map (λ o. o.bytes) outputs.now) }
 {

@@ -5,18 +5,18 @@
 pub struct LevelInputs {
     /// The level.
     pub level: u64,
-    /// How many files of it were taken.
+    /// How many of its files were taken.
     pub files: u64,
-    /// How many bytes these have together.
+    /// How many bytes these files have together.
     pub bytes: u64,
 }
 
-/// The entries of the inputs that one range of user keys holds.
+/// The entries of the inputs in one range of user keys.
 #[derive(Clone, Copy, Debug)]
 pub struct RangeEntries {
     /// The number of the range.
     pub number: u64,
-    /// How many entries of the inputs are of its user keys.
+    /// How many entries of the inputs are in the range.
     pub entries: u64,
 }
 
@@ -34,7 +34,7 @@ pub struct Output {
 pub struct Account {
     /// The inputs by level.
     pub inputs: Vec<LevelInputs>,
-    /// The ranges in which they were merged.
+    /// The ranges into which they were split.
     pub ranges: Vec<RangeEntries>,
     /// How many entries the outputs have.
     pub kept: u64,

@@ -1,4 +1,4 @@
--- What the command `compact` is given, and what it asks for.
+-- What is given to the command `compact`, and what it asks for.
 use Rattle.std.specs.Prelude.{◌≡◌, ◌≢◌, ◌⊎◌, ◌==◌, ℕ, true, false, List, [], map, Option, Some, None, codes, unwrap_or}
 use Rattle.std.specs.List.{All, slice_split}
 use Rattle.std.specs.Str.Parse.{digits_value}
@@ -18,7 +18,7 @@ abbrev pub HasNumbers : CompactNumbers → List Row → Type 0
 HasNumbers numbers rows = IsNumberOf (first_of (codes "workers") rows) numbers.workers × IsNumberOf (first_of (codes "ranges") rows) numbers.ranges
     × IsNumberOf (first_of (codes "block-size") rows) numbers.block_size × IsNumberOf (first_of (codes "file-size") rows) numbers.file_size
 
--- one of the four is given a text that is no number
+-- one of the four options is given a text that is no number
 abbrev pub LacksNumbers : List Row → Type 0
 LacksNumbers rows = IsNoNumber (first_of (codes "workers") rows) ⊎ (IsNoNumber (first_of (codes "ranges") rows)
     ⊎ (IsNoNumber (first_of (codes "block-size") rows) ⊎ IsNoNumber (first_of (codes "file-size") rows)))
@@ -44,16 +44,16 @@ LacksLevels rows = IsNoNumber (first_of (codes "level") rows)
     ⊎ (((first_of (codes "level") rows ≡ None) × (is_flagged (codes "all") rows ≡ false))
     ⊎ ((first_of (codes "level") rows ≢ None) × (is_flagged (codes "all") rows ≡ true)))
 
--- the rows give this of `--verbose` and of `--explain`
+-- the rows give these flags of `--verbose` and `--explain`
 abbrev pub HasVerbosity : Verbosity → List Row → Type 0
 HasVerbosity verbosity rows = (verbosity.verbose ≡ is_flagged (codes "verbose") rows) × (verbosity.explain ≡ is_flagged (codes "explain") rows)
 
--- the rows give this of DIR, these levels, these of the options, and this of what is to be told
+-- the rows give this text of DIR, these levels, these options, and these flags
 abbrev pub HasCompact : Text → Levels → CompactNumbers → Option ℕ → Option Text → Verbosity → List Row → Type 0
 HasCompact folder levels numbers since listed verbosity rows = (first_of (codes "DIR") rows ≡ Some folder)
     × HasLevels levels rows × HasNumbers numbers rows × HasReadable since listed rows × HasVerbosity verbosity rows
 
--- the rows give no text of DIR, no levels, or no such options
+-- the rows give no text of DIR, no levels, or an invalid option
 abbrev pub LacksCompact : List Row → Type 0
 LacksCompact rows = (first_of (codes "DIR") rows ≡ None) ⊎ (LacksLevels rows
     ⊎ (LacksNumbers rows ⊎ LacksReadable rows))
@@ -62,19 +62,20 @@ LacksCompact rows = (first_of (codes "DIR") rows ≡ None) ⊎ (LacksLevels rows
 abbrev pub numerals_in : Text → List Text
 numerals_in text = slice_split (λ b. b == 44) text
 
--- texts are these numbers, in their order
+-- the texts are these numbers in their order
 abbrev pub AreNumbers : List Text → List ℕ → Type 0
 AreNumbers texts numbers = All IsNumberText texts × (numbers ≡ map (digits_value 10) texts)
 
--- a text is these numbers, with commas between them
+-- the text is these numbers, with commas between them
 abbrev pub IsNumberList : Text → List ℕ → Type 0
 IsNumberList text numbers = AreNumbers (numerals_in text) numbers
 
--- a text is no list of numbers
+-- the text is no list of numbers
 abbrev pub IsNoNumberList : Text → Type 0
 IsNoNumberList text = All IsNumberText (numerals_in text) → ⊥
 
--- the sequences that are to stay readable: a sequence and all later ones, or those of a list, which is empty where neither is given
+-- the sequences that stay readable: one and all later ones, or those of a list, which is empty if
+-- neither option is given
 abbrev pub IsReadable : Option ℕ → Option Text → Readable → Type 0
 IsReadable (Some sequence) listed (From first) = first ≡ sequence
 IsReadable (Some sequence) listed (Listed sequences) = ⊥
@@ -82,7 +83,7 @@ IsReadable None listed (From first) = ⊥
 IsReadable None None (Listed sequences) = sequences.items ≡ []
 IsReadable None (Some text) (Listed sequences) = IsNumberList text sequences.items
 
--- the settings that the options ask for, each of which has a number for where it is not given
+-- the settings that the options ask for; an option that isn't given has its default
 abbrev pub AreSettings : CompactNumbers → Option ℕ → Option Text → CompactSettings → Type 0
 AreSettings numbers since listed settings = (settings.workers ≡ unwrap_or numbers.workers 4) × (settings.ranges ≡ unwrap_or numbers.ranges 8)
     × (settings.options ≡ record { block_size = unwrap_or numbers.block_size 4096; restart_interval = 16; file_size = unwrap_or numbers.file_size 2097152 })

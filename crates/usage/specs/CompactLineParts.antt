@@ -1,4 +1,4 @@
--- What the steps of reading the command line of `compact` answer.
+-- What the steps of reading a command line of `compact` answer.
 use Rattle.std.specs.Prelude.{◌≡◌, ℕ, Option, Some, None, Result, Ok, Err}
 use Rattle.clap.specs.Words.{Text}
 use Rattle.usage.specs.CompactLine.{AreSettings, IsNoNumberList, IsReadable}
@@ -11,13 +11,13 @@ use Rattle.usage.specs.declared.requests.Verbosity.{Verbosity}
 use Rattle.usage.specs.declared.requests.Usage.{Usage}
 use Rattle.usage.specs.declared.requests.Usage.TheVariants.{Key, Snapshots, Memory, Clap}
 
--- neither option is given, or one, and the text of a list is none
+-- the option of a list is given, alone, a text that is no list of numbers
 abbrev pub IsNoList : Option ℕ → Option Text → Type 0
 IsNoList (Some sequence) listed = ⊥
 IsNoList None None = ⊥
 IsNoList None (Some text) = IsNoNumberList text
 
--- the sequences that the options ask for, or Snapshots where the text is no list of numbers
+-- the sequences that the options ask for, or Snapshots if the text is no list of numbers
 abbrev pub IsReadableAnswer : Option ℕ → Option Text → Result Readable Usage → Type 0
 IsReadableAnswer since listed (Ok readable) = IsReadable since listed readable
 IsReadableAnswer since listed (Err Snapshots) = IsNoList since listed
@@ -25,7 +25,8 @@ IsReadableAnswer since listed (Err Memory) = Unit {0}
 IsReadableAnswer since listed (Err Key) = ⊥
 IsReadableAnswer since listed (Err (Clap e)) = ⊥
 
--- the line of `compact` with these texts and numbers, or Snapshots where the text is no list of numbers
+-- the line of `compact` with these texts and numbers, or Snapshots if the text is no list of
+-- numbers
 abbrev pub CompactLine : Text → Levels → CompactNumbers → Option ℕ → Option Text → Verbosity → Result Line Usage → Type 0
 CompactLine folder levels numbers since listed verbosity (Ok (line.Compact folder' levels' settings verbosity')) =
     (folder'.now ≡ folder) × ((levels' ≡ levels) × (AreSettings numbers since listed settings × (verbosity' ≡ verbosity)))

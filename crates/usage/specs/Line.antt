@@ -15,15 +15,15 @@ use Rattle.usage.specs.declared.requests.Verbosity.{Verbosity}
 use Rattle.usage.specs.declared.requests.Usage.{Usage}
 use Rattle.usage.specs.declared.requests.Usage.TheVariants.{Key, Snapshots, Memory, Clap}
 
--- the rows of the command of this name
+-- the rows of a parse, if its command has this name
 abbrev pub rows_of_command : Text → Text × List Row → Option (List Row)
 rows_of_command name p = if bytes_eq p.0 name then Some p.1 else None
 
--- what a parse gives the command of this name, if that is the command
+-- the same of a parse that may have no command
 abbrev pub rows_under : Text → Option (Text × List Row) → Option (List Row)
 rows_under name = option_and_then (rows_of_command name)
 
--- there are rows, and they have this
+-- there are rows, and this holds of them
 abbrev pub HasRows : (List Row → Type 0) → Option (List Row) → Type 0
 HasRows Has given = (rows : List Row) × ((given ≡ Some rows) × Has rows)
 
@@ -49,20 +49,20 @@ HasPath id text rows = first_of id rows ≡ Some text
 abbrev pub LacksPath : Text → List Row → Type 0
 LacksPath id rows = first_of id rows ≡ None
 
--- the rows give this text of DIR, and this of `--verbose`
+-- the rows give this text of DIR, and this flag of `--verbose`
 abbrev pub HasFolder : Text → Bool → List Row → Type 0
 HasFolder folder verbose rows = (first_of (codes "DIR") rows ≡ Some folder) × (verbose ≡ is_flagged (codes "verbose") rows)
 
--- the rows give these texts of DIR and HEXKEY, this number of `--at`, and this of `--verbose`
+-- the rows give these texts of DIR and HEXKEY, this number of `--at`, and this flag of `--verbose`
 abbrev pub HasGet : Text → Text → Option ℕ → Bool → List Row → Type 0
 HasGet folder key at verbose rows = (first_of (codes "DIR") rows ≡ Some folder) × (first_of (codes "HEXKEY") rows ≡ Some key)
     × IsNumberOf (first_of (codes "at") rows) at × (verbose ≡ is_flagged (codes "verbose") rows)
 
--- the rows give no text of DIR or HEXKEY, or one of `--at` that is no number
+-- the rows give no text of DIR or HEXKEY, or a text of `--at` that is no number
 abbrev pub LacksGet : List Row → Type 0
 LacksGet rows = (first_of (codes "DIR") rows ≡ None) ⊎ ((first_of (codes "HEXKEY") rows ≡ None) ⊎ IsNoNumber (first_of (codes "at") rows))
 
--- what a parse gives is no command with all its texts
+-- the parse is no command with all its texts
 abbrev pub LacksAll : Option (Text × List Row) → Type 0
 LacksAll parsed = LacksRows LacksBlocks (rows_under (codes "blocks") parsed)
     × (LacksRows (LacksPath (codes "TABLE")) (rows_under (codes "dump") parsed)
@@ -75,25 +75,25 @@ LacksAll parsed = LacksRows LacksBlocks (rows_under (codes "blocks") parsed)
 abbrev pub RefusedWith : List Text → Error → Type 0
 RefusedWith words e = IsAmong (kind_of e) (fault_of program_app words) ⊎ LacksAll (subcommand_of program_app words)
 
--- `clap` takes the words, and the rows that they give the command of this name have this
+-- `clap` accepts the words, and this holds of the rows that they give the command of this name
 abbrev pub GivesRows : List Text → Text → (List Row → Type 0) → Type 0
 GivesRows words name Has = (fault_of program_app words ≡ []) × HasRows Has (rows_under name (subcommand_of program_app words))
 
--- `clap` takes the words, and they give a command this text of a key
+-- `clap` accepts the words, and they give a command this text of a key
 abbrev pub GivesKeyText : List Text → Text → Type 0
 GivesKeyText words text =
     ((a b out : Text) × GivesRows words (codes "blocks") (HasBlocks a b text out))
     ⊎ ((folder : Text) × (at : Option ℕ) × (verbose : Bool) × GivesRows words (codes "get") (HasGet folder text at verbose))
 
--- `clap` takes the words, and they give `compact` this text of a list of snapshots
+-- `clap` accepts the words, and they give `compact` this text of a list of snapshots
 abbrev pub GivesListText : List Text → Text → Type 0
 GivesListText words text =
     (folder : Text) × (levels : Levels) × (numbers : CompactNumbers) × (verbosity : Verbosity)
     × GivesRows words (codes "compact") (HasCompact folder levels numbers None (Some text) verbosity)
 
--- What a command line asks for: the texts of its command, with the text of a key or of a list read. Key is the answer exactly
--- where the one is no key's, Snapshots where the other is no list of numbers, and `clap`'s error where it refuses the words.
--- Memory comes at any words.
+-- What a command line asks for: the texts of its command, with that of a key or of a list read. Key
+-- comes exactly if the text of the key is invalid, Snapshots exactly if the other is no list of
+-- numbers, and `clap`'s error if it refuses the words. Memory may come for any words.
 abbrev pub LineGives : List Text → Result Line Usage → Type 0
 LineGives words (Ok (line.Blocks a b at out)) =
     (text : Text) × (GivesRows words (codes "blocks") (HasBlocks a.now b.now text out.now) × (bytes_of_text text ≡ Some at.items))

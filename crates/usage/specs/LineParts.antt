@@ -14,7 +14,7 @@ use Rattle.usage.specs.declared.requests.Line.TheVariants as line
 use Rattle.usage.specs.declared.requests.Usage.{Usage}
 use Rattle.usage.specs.declared.requests.Usage.TheVariants.{Key, Snapshots, Memory, Clap}
 
--- what a parse gives is a command with these texts
+-- the parse is a command with these texts
 abbrev pub GivesCommand : Option (Text × List Row) → Given → Type 0
 GivesCommand parsed (Blocks texts) = HasRows (HasBlocks texts.a.now texts.b.now texts.at.now texts.out.now) (rows_under (codes "blocks") parsed)
 GivesCommand parsed (Dump table) = HasRows (HasPath (codes "TABLE") table.now) (rows_under (codes "dump") parsed)
@@ -26,11 +26,11 @@ GivesCommand parsed (Compact texts) =
     (option_map (λ text. text.now) texts.readable.listed) texts.verbosity)
     (rows_under (codes "compact") parsed)
 
--- `clap` takes the words, and they give a command with these texts
+-- `clap` accepts the words, and they give a command with these texts
 abbrev pub GivesTexts : List Text → Given → Type 0
 GivesTexts words given = (fault_of program_app words ≡ []) × GivesCommand (subcommand_of program_app words) given
 
--- the texts that a command line gives, or `clap`'s refusal; memory comes at any words
+-- the texts that a command line gives, or `clap`'s refusal; Memory may come for any words
 abbrev pub TextsGiven : List Text → Result Given Usage → Type 0
 TextsGiven words (Ok given) = GivesTexts words given
 TextsGiven words (Err Key) = ⊥
@@ -38,7 +38,7 @@ TextsGiven words (Err Snapshots) = ⊥
 TextsGiven words (Err Memory) = Unit {0}
 TextsGiven words (Err (Clap e)) = RefusedWith words e
 
--- the user key that a text stands for, or Key where it is no key's
+-- the user key of a text, or Key if the text is invalid
 abbrev pub IsKeyAnswer : Text → Result (Vec ℕ) Usage → Type 0
 IsKeyAnswer text (Ok key) = bytes_of_text text ≡ Some key.items
 IsKeyAnswer text (Err Key) = bytes_of_text text ≡ None
@@ -46,7 +46,7 @@ IsKeyAnswer text (Err Snapshots) = ⊥
 IsKeyAnswer text (Err Memory) = Unit {0}
 IsKeyAnswer text (Err (Clap e)) = ⊥
 
--- the line of `blocks` with these texts, or Key where that of the key is no key's
+-- the line of `blocks` with these texts, or Key if that of the key is invalid
 abbrev pub BlocksLine : Text → Text → Text → Text → Result Line Usage → Type 0
 BlocksLine a b at out (Ok (line.Blocks a' b' key out')) = (a'.now ≡ a) × ((b'.now ≡ b) × ((bytes_of_text at ≡ Some key.items) × (out'.now ≡ out)))
 BlocksLine a b at out (Ok _) = ⊥
@@ -55,7 +55,7 @@ BlocksLine a b at out (Err Snapshots) = ⊥
 BlocksLine a b at out (Err Memory) = Unit {0}
 BlocksLine a b at out (Err (Clap e)) = ⊥
 
--- the line of `get` with these texts, or Key where that of the key is no key's
+-- the line of `get` with these texts, or Key if that of the key is invalid
 abbrev pub GetLine : Text → Text → Option ℕ → Bool → Result Line Usage → Type 0
 GetLine folder key at verbose (Ok (line.Get folder' key' at' verbose')) =
     (folder'.now ≡ folder) × ((bytes_of_text key ≡ Some key'.items) × ((at' ≡ at) × (verbose' ≡ verbose)))

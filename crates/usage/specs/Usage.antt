@@ -1,4 +1,4 @@
--- What an error of `clap` is to the program.
+-- What an error of `clap` becomes in the program.
 use Rattle.std.specs.Prelude.{◌≡◌, ◌≢◌}
 use Rattle.clap.specs.Words.{kind_of}
 use Rattle.clap.specs.declared.error.Error.{Error}
@@ -6,7 +6,7 @@ use Rattle.clap.specs.declared.error.kind.ErrorKind.TheVariants.{OutOfMemory}
 use Rattle.usage.specs.declared.requests.Usage.{Usage}
 use Rattle.usage.specs.declared.requests.Usage.TheVariants.{Key, Snapshots, Memory, Clap}
 
--- `clap`'s want of memory is Memory, and each other error stays what it is
+-- an error of `clap` that is out of memory is Memory; each other one stays as it is
 abbrev pub TurnsInto : Error → Usage → Type 0
 TurnsInto error Memory = kind_of error ≡ OutOfMemory
 TurnsInto error (Clap e) = (e ≡ error) × (kind_of error ≢ OutOfMemory)

@@ -1,4 +1,4 @@
-//! The texts and numbers that a command's arguments are given.
+//! The texts and numbers given to a command's arguments.
 
 ghost use Rattle.std.specs.Prelude.{◌≡◌, MatchOption, MatchResult};
 ghost use Rattle.clap.specs.Words.{first_of, found_of, rows_of};
@@ -8,7 +8,7 @@ ghost use Rattle.texts.specs.Text.{IsNoNumber, IsNumberOf};
 use clap::ArgMatches;
 use texts::number_of;
 
-/// The text that an argument is given.
+/// The text given to an argument.
 pub(crate) fn first_text<'a>(values: &ArgMatches<'a>, id: &str) -> Option<&'a str>
     ensures { let first = first_of id.now (rows_of (found_of values.now)) in
         MatchOption result (first ≡ None) (λ text. first ≡ Some text.now) }
@@ -26,11 +26,11 @@ pub(crate) fn is_flagged(values: &ArgMatches<'_>, id: &str) -> bool
     }
 }
 
-/// A text that is given for a number, and is none.
+/// A text given for a number that is not decimal digits alone, or is above 2^64 - 1.
 #[derive(Drop)]
 pub(crate) struct NotDigits;
 
-/// The number that an option is given, where it is given one.
+/// The number given to an option, if one is given.
 pub(crate) fn first_number(values: &ArgMatches<'_>, id: &str) -> Result<Option<u64>, NotDigits>
     ensures { let text = first_of id.now (rows_of (found_of values.now)) in
         MatchResult result (IsNumberOf text) (λ _. IsNoNumber text) }

@@ -1,4 +1,4 @@
-//! The command line, read.
+//! A command line, read.
 
 ghost use Rattle.std.specs.Prelude.{◌≡◌, ◌≢◌, MatchOption, codes, map};
 ghost use Rattle.clap.specs.Words.{app_of, found_of, rows_of, subcommand_rows_of};
@@ -18,24 +18,30 @@ use std::alloc::Global;
 use std::convert::AsStr;
 use texts::key_of;
 
-/// What is told where a level and all of them are given.
+/// The message if `--level` and `--all` are both given.
 const LEVEL_WITH_ALL: &str = "the argument '--level <N>' cannot be used with '--all'";
 
-/// What is told where neither is.
+/// The message if neither is given.
 const NO_LEVELS: &str =
     "the following required arguments were not provided:\n  <--level <N>|--all>";
 
-/// What is told where both options on snapshots are given.
+/// The message if both options on snapshots are given.
 const SNAPSHOT_WITH_LIST: &str =
     "the argument '--snapshot <S>' cannot be used with '--snapshots <S,S,..>'";
 
-/// What is told of a text that is no number.
+/// The message for a text that is no number.
 const NO_DIGITS: &str = "a number is written in decimal digits alone";
 
-/// What the words of a command line ask for, the first of which is the program's name.
+/// What the words of a command line ask for. The first word is the program's name.
 ///
-/// Of several faults of usage `clap`'s comes before those of options that go together or not, these before that of a number
-/// with a sign, and this before the one of a key or of a list.
+/// Of several faults of usage the first of these is answered:
+///
+/// 1. a fault that `clap` finds;
+/// 2. options that have to go together, or must not;
+/// 3. a number with a sign;
+/// 4. `Key` or `Snapshots`: a text that is no key, or no list of numbers.
+///
+/// `Memory` may come for any words.
 pub fn line<'a, S: AsStr>(alloc: Global, words: &'a [S]) -> Result<Line<'a>, Usage>
     ensures { LineGives (map S.text words.entry.now) result }
 {
@@ -55,7 +61,7 @@ pub fn line<'a, S: AsStr>(alloc: Global, words: &'a [S]) -> Result<Line<'a>, Usa
     }
 }
 
-/// The texts that a command is given.
+/// The texts given to a command.
 #[derive(Clone, Copy)]
 enum Given<'a> {
     Blocks(BlocksTexts<'a>),
@@ -66,7 +72,7 @@ enum Given<'a> {
     Compact(CompactTexts<'a>),
 }
 
-/// The texts of the arguments of `blocks`.
+/// The texts given to `blocks`.
 #[derive(Clone, Copy)]
 struct BlocksTexts<'a> {
     a: &'a str,
@@ -76,7 +82,7 @@ struct BlocksTexts<'a> {
 }
 
 impl<'a> BlocksTexts<'a> {
-    /// The texts of all four arguments.
+    /// The texts of all four arguments. None if one is missing.
     fn of(values: &ArgMatches<'a>) -> Option<BlocksTexts<'a>>
         ensures { let rows = rows_of (found_of values.now) in
             MatchOption result (LacksBlocks rows)
@@ -98,7 +104,7 @@ impl<'a> BlocksTexts<'a> {
     }
 }
 
-/// What a command on a folder alone is given.
+/// What is given to a command that takes a folder alone.
 #[derive(Clone, Copy)]
 struct FolderTexts<'a> {
     folder: &'a str,
@@ -106,7 +112,7 @@ struct FolderTexts<'a> {
 }
 
 impl<'a> FolderTexts<'a> {
-    /// The text of DIR, and whether `--verbose` is there.
+    /// The text of DIR, and whether `--verbose` is given.
     fn of(values: &ArgMatches<'a>) -> Option<FolderTexts<'a>>
         ensures { let rows = rows_of (found_of values.now) in
             MatchOption result (LacksPath (codes "DIR") rows) (λ texts. HasFolder texts.folder.now texts.verbose rows) }
@@ -119,7 +125,7 @@ impl<'a> FolderTexts<'a> {
     }
 }
 
-/// What the arguments of `get` are given.
+/// What is given to `get`.
 #[derive(Clone, Copy)]
 struct GetTexts<'a> {
     folder: &'a str,
@@ -129,7 +135,8 @@ struct GetTexts<'a> {
 }
 
 impl<'a> GetTexts<'a> {
-    /// The texts of both arguments, the number of `--at` where it is given, and whether `--verbose` is there.
+    /// The texts of both arguments, the number of `--at` if it is given, and whether `--verbose` is
+    /// given.
     fn of(values: &ArgMatches<'a>) -> Option<GetTexts<'a>>
         ensures { let rows = rows_of (found_of values.now) in
             MatchOption result (LacksGet rows) (λ texts. HasGet texts.folder.now texts.key.now texts.at texts.verbose rows) }
@@ -153,7 +160,7 @@ impl<'a> GetTexts<'a> {
     }
 }
 
-/// The texts that the words of a command line give.
+/// The texts that the words give to a command.
 fn texts_given<'a, S: AsStr>(alloc: Global, words: &'a [S]) -> Result<Given<'a>, Usage>
     ensures { TextsGiven (map S.text words.entry.now) result }
 {
@@ -161,31 +168,32 @@ fn texts_given<'a, S: AsStr>(alloc: Global, words: &'a [S]) -> Result<Given<'a>,
     texts_taken(&mut command, words)
 }
 
-/// The texts that the words give the program's command.
+/// The texts that the words give to the program's `command`.
 fn texts_taken<'a, S: AsStr>(command: &mut Command<'a>, words: &'a [S]) -> Result<Given<'a>, Usage>
     ensures { app_of command.old ≡ program_app → TextsGiven (map S.text words.entry.now) result }
 {
     let matches = command.try_get_matches_from_mut(words)?;
     match texts_in(&matches) {
         Some(given) => Ok(given),
-        // `clap` takes a number with a plus sign, and knows of no options that go together or not. It asks for all else.
+        // `clap` accepts a number with a plus sign, and knows no options that go together or not.
+        // It demands all else.
         None => Err(refusal(command, &matches)),
     }
 }
 
-/// The refusal of words that `clap` takes.
+/// The refusal of words that `clap` accepts.
 fn refusal(command: &mut Command<'_>, matches: &ArgMatches<'_>) -> Usage
     ensures { (result ≢ Key) × (result ≢ Snapshots) }
 {
     let (kind, text) = complaint(matches);
     match command.error(kind, text) {
         Ok(error) => Usage::from(error),
-        // Memory alone refuses the text.
+        // Formatting fails only if memory runs out.
         Err(_) => Usage::Memory,
     }
 }
 
-/// What is wrong with words that `clap` takes.
+/// What is wrong with words that `clap` accepts.
 fn complaint(matches: &ArgMatches<'_>) -> (ErrorKind, &'static str) {
     if let Some(values) = matches.subcommand_matches("compact") {
         let has_level = first_text(values, "level").is_some();
@@ -203,7 +211,7 @@ fn complaint(matches: &ArgMatches<'_>) -> (ErrorKind, &'static str) {
     (ErrorKind::ValueValidation, NO_DIGITS)
 }
 
-/// The texts of the command, where it is one of the program's and its texts are there.
+/// The texts of the command, if it is one of the program's and its texts are there.
 fn texts_in<'a>(matches: &ArgMatches<'a>) -> Option<Given<'a>>
     ensures { let parsed = subcommand_rows_of matches.now in
         MatchOption result (LacksAll parsed) (GivesCommand parsed) }
@@ -227,7 +235,7 @@ fn texts_in<'a>(matches: &ArgMatches<'a>) -> Option<Given<'a>>
     Some(Given::Compact(texts))
 }
 
-/// The texts of `blocks`, where that is the command and all four are there.
+/// The texts of `blocks`, if that is the command and all four are there.
 fn blocks_texts<'a>(matches: &ArgMatches<'a>) -> Option<BlocksTexts<'a>>
     ensures { let given = rows_under (codes "blocks") (subcommand_rows_of matches.now) in
         MatchOption result (LacksRows LacksBlocks given)
@@ -239,7 +247,7 @@ fn blocks_texts<'a>(matches: &ArgMatches<'a>) -> Option<BlocksTexts<'a>>
     BlocksTexts::of(values)
 }
 
-/// What `get` is given, where that is the command and its texts are there.
+/// What is given to `get`, if that is the command and its texts are there.
 fn get_texts<'a>(matches: &ArgMatches<'a>) -> Option<GetTexts<'a>>
     ensures { let given = rows_under (codes "get") (subcommand_rows_of matches.now) in
         MatchOption result (LacksRows LacksGet given)
@@ -251,7 +259,8 @@ fn get_texts<'a>(matches: &ArgMatches<'a>) -> Option<GetTexts<'a>>
     GetTexts::of(values)
 }
 
-/// What a command on a folder alone is given, where that is the command and its text is there.
+/// What is given to the command of this `name`, which takes a folder alone, if that is the command
+/// and its text is there.
 fn folder_texts<'a>(matches: &ArgMatches<'a>, name: &str) -> Option<FolderTexts<'a>>
     ensures { let given = rows_under name.now (subcommand_rows_of matches.now) in
         MatchOption result (LacksRows (LacksPath (codes "DIR")) given)
@@ -263,7 +272,8 @@ fn folder_texts<'a>(matches: &ArgMatches<'a>, name: &str) -> Option<FolderTexts<
     FolderTexts::of(values)
 }
 
-/// The text of the one argument of a command, where that is the command and the text is there.
+/// The text of the one argument of the command of this `name`, if that is the command and the text
+/// is there.
 fn path_text<'a>(matches: &ArgMatches<'a>, name: &str, id: &str) -> Option<&'a str>
     ensures { let given = rows_under name.now (subcommand_rows_of matches.now) in
         MatchOption result (LacksRows (LacksPath id.now) given) (λ text. HasRows (HasPath id.now text.now) given) }
@@ -274,7 +284,7 @@ fn path_text<'a>(matches: &ArgMatches<'a>, name: &str, id: &str) -> Option<&'a s
     first_text(values, id)
 }
 
-/// The line of `blocks`, where the text of its key is a key's.
+/// The line of `blocks`. Key if the text of its key is invalid.
 fn blocks_line<'a>(alloc: Global, texts: BlocksTexts<'a>) -> Result<Line<'a>, Usage>
     ensures { BlocksLine texts.entry.a.now texts.entry.b.now texts.entry.at.now texts.entry.out.now result }
 {
@@ -287,7 +297,7 @@ fn blocks_line<'a>(alloc: Global, texts: BlocksTexts<'a>) -> Result<Line<'a>, Us
     })
 }
 
-/// The line of `get`, where the text of its key is a key's.
+/// The line of `get`. Key if the text of its key is invalid.
 fn get_line<'a>(alloc: Global, texts: GetTexts<'a>) -> Result<Line<'a>, Usage>
     ensures { GetLine texts.entry.folder.now texts.entry.key.now texts.entry.at texts.entry.verbose result }
 {
@@ -300,14 +310,14 @@ fn get_line<'a>(alloc: Global, texts: GetTexts<'a>) -> Result<Line<'a>, Usage>
     })
 }
 
-/// The user key of a text, and Key where it is no key's.
+/// The user key of a text. Key if the text is invalid.
 fn user_key(alloc: Global, text: &str) -> Result<Vec<u8>, Usage>
     ensures { IsKeyAnswer text.now result }
 {
     match key_of(alloc, text) {
         Ok(Some(key)) => Ok(key),
         Ok(None) => Err(Usage::Key),
-        // Memory alone refuses a key.
+        // The only fault of reading a key is out of memory.
         Err(_) => Err(Usage::Memory),
     }
 }

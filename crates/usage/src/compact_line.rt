@@ -13,13 +13,13 @@ use std::alloc::{AllocError, Global};
 use table::Options;
 use texts::number_of;
 
-/// How many workers carry a compaction out, where no number is given.
+/// The workers of a compaction if no number is given.
 const WORKERS: u64 = 4;
 
-/// Into at most how many ranges of user keys it is split, where no number is given.
+/// The most ranges of user keys into which it is split if no number is given.
 const RANGES: u64 = 8;
 
-/// The line of `compact`, where the text of its snapshots is a list of numbers.
+/// The line of `compact`. Snapshots if the text of its list is no list of numbers.
 pub(crate) fn compact_line<'a>(alloc: Global, texts: CompactTexts<'a>) -> Result<Line<'a>, Usage>
     ensures { CompactLine texts.entry.folder.now texts.entry.levels texts.entry.numbers texts.entry.readable.since
         (option_map (λ text. text.now) texts.entry.readable.listed) texts.entry.verbosity result }
@@ -44,7 +44,7 @@ pub(crate) fn compact_line<'a>(alloc: Global, texts: CompactTexts<'a>) -> Result
     })
 }
 
-/// The sequences that are to stay readable.
+/// The sequences that stay readable.
 fn readable(alloc: Global, texts: ReadableTexts<'_>) -> Result<Readable, Usage>
     ensures { IsReadableAnswer texts.entry.since (option_map (λ text. text.now) texts.entry.listed) result }
 {
@@ -60,7 +60,8 @@ fn readable(alloc: Global, texts: ReadableTexts<'_>) -> Result<Readable, Usage>
     }
 }
 
-/// The numbers of a text that has commas between them. None where one of them is no number, as of the empty text.
+/// The numbers of a text, with commas between them. None if one of them is no number; the empty
+/// text is none.
 fn numbers_of(alloc: Global, text: &str) -> Result<Option<Vec<u64>>, AllocError>
     ensures { IfOk result (λ found. MatchOption found (IsNoNumberList text.now) (λ numbers. IsNumberList text.now numbers.items)) }
 {
@@ -68,7 +69,7 @@ fn numbers_of(alloc: Global, text: &str) -> Result<Option<Vec<u64>>, AllocError>
     numbers_in(alloc, &numerals)
 }
 
-/// The numbers of texts. None where one of them is no number.
+/// The numbers of these texts. None if one of them is no number.
 fn numbers_in(alloc: Global, numerals: &[&str]) -> Result<Option<Vec<u64>>, AllocError>
     ensures { IfOk result (λ found. MatchOption found (All IsNumberText (map (λ n. n.now) numerals.now) → ⊥)
         (λ numbers. AreNumbers (map (λ n. n.now) numerals.now) numbers.items)) }

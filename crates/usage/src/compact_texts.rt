@@ -1,4 +1,4 @@
-//! What the command `compact` is given, read from the command line.
+//! What is given to the command `compact`, read from the command line.
 
 ghost use Rattle.std.specs.Prelude.{◌≡◌, ◌≢◌, ◌⊎◌, None, MatchOption, codes};
 ghost use Rattle.std.specs.Option.{option_map};
@@ -10,7 +10,7 @@ use crate::arguments::{first_number, first_text, is_flagged};
 use crate::requests::{Levels, Verbosity};
 use clap::ArgMatches;
 
-/// The numbers that options are given, each where it is given one.
+/// The numbers given to four options, each if it is given.
 #[derive(Clone, Copy)]
 pub(crate) struct CompactNumbers {
     pub workers: Option<u64>,
@@ -20,7 +20,7 @@ pub(crate) struct CompactNumbers {
 }
 
 impl CompactNumbers {
-    /// The numbers of all four. None where one of them is given a text that is no number.
+    /// All four numbers. None if one option is given a text that is no number.
     fn of(values: &ArgMatches<'_>) -> Option<CompactNumbers>
         ensures { let rows = rows_of (found_of values.now) in
             MatchOption result (LacksNumbers rows) (λ numbers. HasNumbers numbers rows) }
@@ -46,7 +46,7 @@ impl CompactNumbers {
     }
 }
 
-/// What the two options on snapshots are given: at most one of them is.
+/// What is given to the two options on snapshots, at most one of which is given.
 #[derive(Clone, Copy)]
 pub(crate) struct ReadableTexts<'a> {
     pub since: Option<u64>,
@@ -54,7 +54,7 @@ pub(crate) struct ReadableTexts<'a> {
 }
 
 impl<'a> ReadableTexts<'a> {
-    /// The number or the text. None where the number is none, or both are given.
+    /// The number or the text. None if the number is invalid, or if both are given.
     fn of(values: &ArgMatches<'a>) -> Option<ReadableTexts<'a>>
         ensures { let rows = rows_of (found_of values.now) in
             MatchOption result (LacksReadable rows)
@@ -71,7 +71,7 @@ impl<'a> ReadableTexts<'a> {
     }
 }
 
-/// What the arguments and options of `compact` are given.
+/// What is given to the arguments and options of `compact`.
 #[derive(Clone, Copy)]
 pub(crate) struct CompactTexts<'a> {
     pub folder: &'a str,
@@ -82,7 +82,8 @@ pub(crate) struct CompactTexts<'a> {
 }
 
 impl<'a> CompactTexts<'a> {
-    /// The texts and numbers, where DIR and either a level or all levels are given, and no number is none.
+    /// The texts and numbers. None if DIR is missing, if not exactly one of `--level` and `--all`
+    /// is given, if both options on snapshots are given, or if a number is invalid.
     fn of(values: &ArgMatches<'a>) -> Option<CompactTexts<'a>>
         ensures { let rows = rows_of (found_of values.now) in
             MatchOption result (LacksCompact rows)
@@ -111,7 +112,7 @@ impl<'a> CompactTexts<'a> {
     }
 }
 
-/// What is to be told.
+/// What is told beside the answer.
 fn verbosity_of(values: &ArgMatches<'_>) -> Verbosity
     ensures { HasVerbosity result (rows_of (found_of values.now)) }
 {
@@ -121,7 +122,8 @@ fn verbosity_of(values: &ArgMatches<'_>) -> Verbosity
     }
 }
 
-/// The levels that are named. None where the number is none, and where a level and all of them are given, or neither.
+/// The levels that are asked for. None if the number is invalid, or if not exactly one of `--level`
+/// and `--all` is given.
 fn levels_of(values: &ArgMatches<'_>) -> Option<Levels>
     ensures { let rows = rows_of (found_of values.now) in
         MatchOption result (LacksLevels rows) (λ levels. HasLevels levels rows) }
@@ -136,7 +138,7 @@ fn levels_of(values: &ArgMatches<'_>) -> Option<Levels>
     }
 }
 
-/// What `compact` is given, where that is the command and its texts are there.
+/// What is given to `compact`, if that is the command and its texts are there.
 pub(crate) fn compact_texts<'a>(matches: &ArgMatches<'a>) -> Option<CompactTexts<'a>>
     ensures { let given = rows_under (codes "compact") (subcommand_rows_of matches.now) in
         MatchOption result (LacksRows LacksCompact given)

@@ -1,7 +1,8 @@
 //! What the words of a command line ask for.
 //!
-//! The commands are told to `clap`, and what it reads is made into a line: the command with its values, or why the words
-//! ask for nothing.
+//! [`line`] is the one call: it describes the commands to `clap`, and makes what `clap` reads a
+//! [`Line`], the command with its values, or a [`Usage`], why the words ask for nothing. What
+//! `clap` reads is stated as far as its own contracts say.
 #![tactic(auto)]
 
 mod arguments;

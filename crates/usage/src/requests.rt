@@ -1,4 +1,4 @@
-//! What a command line asks for, and why it asks for nothing.
+//! What a command line asks for, or why it asks for nothing.
 
 ghost use Rattle.std.specs.Prelude.{◌≡◌};
 ghost use Rattle.usage.specs.Usage.{TurnsInto};
@@ -11,7 +11,7 @@ use table::Options;
 /// What a command line asks for.
 #[derive(Debug, Drop)]
 pub enum Line<'a> {
-    /// Merges the blocks in two files into one over the ranges before and from a key.
+    /// Merges the blocks in two files into one, over two ranges: before a key and from it on.
     Blocks {
         /// The path of the first file.
         a: &'a str,
@@ -34,7 +34,7 @@ pub enum Line<'a> {
         /// Whether more is told on the standard error.
         verbose: bool,
     },
-    /// Tests whether the version that a database folder holds is lawful.
+    /// Checks whether the version that a database folder holds is lawful.
     Verify {
         /// The path of the folder.
         folder: &'a str,
@@ -47,18 +47,18 @@ pub enum Line<'a> {
         folder: &'a str,
         /// The user key.
         key: Vec<u8>,
-        /// The sequence, of any size. The version's last sequence where it isn't given.
+        /// The sequence, any number. Without it, the version's last sequence.
         at: Option<u64>,
         /// Whether more is told on the standard error.
         verbose: bool,
     },
-    /// Compacts the files of a level of a database folder into the next level, or those of all levels downwards.
+    /// Compacts a level of a database folder into the next one, or all levels downwards.
     Compact {
         /// The path of the folder.
         folder: &'a str,
         /// Which levels.
         levels: Levels,
-        /// What each compaction keeps to.
+        /// The settings of each compaction.
         settings: CompactSettings,
         /// What is told of it on the standard error.
         verbosity: Verbosity,
@@ -70,52 +70,53 @@ pub enum Line<'a> {
 pub struct Verbosity {
     /// Whether more is told: how long it took, and which file was refused.
     pub verbose: bool,
-    /// Whether it is told how it went: its inputs, its ranges, what was kept and dropped, and its outputs.
+    /// Whether the account of the compaction is told: inputs, ranges, kept and dropped entries,
+    /// outputs.
     pub explain: bool,
 }
 
 /// Which levels of a folder are compacted.
 #[derive(Clone, Copy, Debug)]
 pub enum Levels {
-    /// This one, once.
+    /// This level, once.
     One(u64),
-    /// Each from 0 down, until all files are at the deepest level that holds any.
+    /// Each level from 0 down, until all files are at the deepest level that has any.
     All,
 }
 
-/// What a compaction keeps to.
+/// The settings of a compaction.
 #[derive(Debug, Drop)]
 pub struct CompactSettings {
-    /// How many workers carry it out.
+    /// Its workers.
     pub workers: u64,
-    /// Into at most how many ranges of user keys it is split.
+    /// The most ranges of user keys into which it is split.
     pub ranges: u64,
     /// Which sequences stay readable.
     pub readable: Readable,
-    /// What the outputs keep to.
+    /// The options of the outputs.
     pub options: Options,
 }
 
 /// Which sequences stay readable after a compaction.
 #[derive(Debug, Drop)]
 pub enum Readable {
-    /// This sequence and every later one.
+    /// This sequence and all later ones.
     From(u64),
-    /// Each of these, the version's last sequence and every later one.
+    /// Each of these, and the version's last sequence and all later ones.
     Listed(Vec<u64>),
 }
 
 /// Why a command line asks for nothing that can be done.
 #[derive(Debug, Drop)]
 pub enum Usage {
-    /// A key is not hexadecimal.
+    /// The text of a key is no hexadecimal digits.
     Key,
-    /// A list of snapshots is not numbers.
+    /// The text of a list of snapshots is no list of numbers.
     Snapshots,
-    /// A growth of memory was refused.
+    /// Out of memory.
     Memory,
-    /// The words are not those of a command, or help or the version was asked for. The error says which, and has the
-    /// text for the user.
+    /// The words are no command, or help or the version was asked for. The error says which, and
+    /// has the text for the user.
     Clap(clap::Error),
 }
 

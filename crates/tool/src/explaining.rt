@@ -1,8 +1,8 @@
-//! What the name of a refusal says, in plain words.
+//! What the name of a refusal means, in plain words.
 
 use coding::FaultName;
 
-/// What is wrong, by the name of a refusal.
+/// What is wrong, if the refusal has this name.
 pub(crate) fn in_words(name: FaultName) -> &'static str {
     match of_work(name) {
         Some(words) => words,

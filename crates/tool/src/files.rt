@@ -6,10 +6,10 @@ use std::io::{ErrorKind, Write};
 use std::rt::Files;
 use std::{fs, io};
 
-/// How many names of temporary files are tried.
+/// The most names of temporary files that are tried.
 const ATTEMPTS: u32 = 1_000;
 
-/// The bytes of a file. A file that isn't there is Missing, and one that can't be read is Device.
+/// The bytes of a file. Missing if there is no such file, Device if it can't be read.
 pub(crate) fn read<R: Files + AllocGlobal>(rt: &R, path: &str) -> Result<Vec<u8>, Fault> {
     fs::read(rt, path).map_err(|error| match error.kind() {
         ErrorKind::NotFound => Fault::of(FaultName::Missing),
@@ -17,10 +17,10 @@ pub(crate) fn read<R: Files + AllocGlobal>(rt: &R, path: &str) -> Result<Vec<u8>
     })
 }
 
-/// Makes a file hold these bytes: the whole of them, or, where that is refused, what it held before.
+/// Replaces what a file holds by these bytes. If that is refused, the file holds what it held.
 ///
-/// They go into a temporary file in the same folder, which then takes the name. What is no file, as a terminal or a
-/// pipe, is written as it stands.
+/// The bytes go into a temporary file in the same folder, which is then renamed. Anything that is
+/// no file, as a terminal or a pipe, is written directly.
 pub(crate) fn replace<R: Files + AllocGlobal>(
     rt: &R,
     path: &str,
@@ -37,14 +37,14 @@ pub(crate) fn replace<R: Files + AllocGlobal>(
         Err(error) if error.kind() == ErrorKind::NotFound => None,
         Err(error) => return Err(failed(&error)),
     };
-    // A link stays a link, and the file that it leads to is replaced.
+    // A link stays a link: the file that it leads to is replaced.
     match fs::canonicalize(rt, path) {
         Ok(target) => swap_in(rt, target.as_str(), bytes, permissions),
         Err(_) => swap_in(rt, path, bytes, permissions),
     }
 }
 
-/// Writes a temporary file beside the path and gives it that name.
+/// Writes a temporary file beside the path, and renames it to the path.
 fn swap_in<R: Files + AllocGlobal>(
     rt: &R,
     path: &str,
@@ -56,7 +56,7 @@ fn swap_in<R: Files + AllocGlobal>(
     fill::<R>(file, bytes, permissions)
         .and_then(|()| fs::rename(rt, name, path))
         .map_err(|error| {
-            // The first failure is the one that is told.
+            // What is told is the first failure.
             let _ = fs::remove_file(rt, name);
             failed(&error)
         })
@@ -75,7 +75,7 @@ fn fill<R: Files>(
     file.sync_all()
 }
 
-/// Creates a file in the folder of this one, with a name that no file has.
+/// Creates a file in the same folder, under a name that no file has.
 fn create_beside<R: Files + AllocGlobal>(rt: &R, path: &str) -> Result<(R::File, String), Fault> {
     for attempt in 0..ATTEMPTS {
         let temporary = format!(in rt.alloc(); "{path}.{attempt}.tmp")?;
@@ -92,7 +92,7 @@ fn create_beside<R: Files + AllocGlobal>(rt: &R, path: &str) -> Result<(R::File,
     Err(Fault::of(FaultName::Device))
 }
 
-/// The fault of a call that failed: want of memory, or else the device.
+/// The fault of a call that failed: `Memory` if memory ran out, else `Device`.
 pub(crate) fn failed(error: &io::Error) -> Fault {
     match error.kind() {
         ErrorKind::OutOfMemory => Fault::of(FaultName::Memory),

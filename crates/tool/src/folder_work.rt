@@ -37,7 +37,7 @@ pub(crate) fn print_version<R: Files + Print + Eprint + Clock + AllocGlobal>(
     print_answer(rt, telling, "manifest", begun, answer)
 }
 
-/// Tests the version of a folder, and prints what it is.
+/// Checks the version of a folder, and prints the line of a lawful one.
 pub(crate) fn print_verdict<
     R: Files + WholeFiles + Print + Eprint + Clock + AllocGlobal + Threads + Sync,
 >(rt: &R, telling: Telling<'_>) -> Result<(), Fault> {
@@ -67,7 +67,7 @@ fn begin_work<R: Files + Eprint + Clock + AllocGlobal>(
     Ok(opened)
 }
 
-/// What the version of a folder answers.
+/// What the version of a folder answers to a question.
 fn answered<R: Files + WholeFiles + Eprint + Clock + AllocGlobal + Threads + Sync>(
     rt: &R,
     telling: Telling<'_>,
@@ -89,7 +89,7 @@ fn answered<R: Files + WholeFiles + Eprint + Clock + AllocGlobal + Threads + Syn
     answer
 }
 
-/// Tells how a step went that began at a time, and prints its lines.
+/// Tells how a step went that began at `begun`, and prints the lines of its answer.
 fn print_answer<R: Files + Print + Eprint + Clock + AllocGlobal>(
     rt: &R,
     telling: Telling<'_>,
@@ -101,8 +101,8 @@ fn print_answer<R: Files + Print + Eprint + Clock + AllocGlobal>(
     print_lines(rt, answer?.as_slice())
 }
 
-/// Compacts a level of a folder, or all of them one by one. The folder is synced first, so that
-/// what is read of it from then on outlives a crash.
+/// Compacts a level of a folder, or all of them one after the other. The folder is synced first, so
+/// that what is read of it outlives a crash.
 pub(crate) fn compact_folder<
     R: Files + WholeFiles + Print + Eprint + Clock + AllocGlobal + Threads + Sync,
 >(rt: &R, telling: Telling<'_>, levels: Levels, settings: &CompactSettings) -> Result<(), Fault> {
@@ -137,7 +137,7 @@ fn compact_one<R: Files + WholeFiles + Print + Eprint + Clock + AllocGlobal + Th
 }
 
 /// Compacts the first level that has a file, again and again, until all files are at the bottom.
-/// What the folder is opened as after a compaction is what the next one starts from.
+/// What the folder is opened as after a compaction is where the next one starts.
 fn compact_all<R: Files + WholeFiles + Print + Eprint + Clock + AllocGlobal + Threads + Sync>(
     rt: &R,
     telling: Telling<'_>,
@@ -155,7 +155,7 @@ fn compact_all<R: Files + WholeFiles + Print + Eprint + Clock + AllocGlobal + Th
     Ok(())
 }
 
-/// Compacts a level of a folder, and answers what the folder is opened as then.
+/// Compacts a level of a folder, and answers what the folder is opened as after it.
 fn compact_step<R: Files + WholeFiles + Print + Eprint + Clock + AllocGlobal + Threads + Sync>(
     rt: &R,
     telling: Telling<'_>,
@@ -244,8 +244,8 @@ fn compacted<R: Files + WholeFiles + Eprint + Clock + AllocGlobal + Threads + Sy
     answer
 }
 
-/// The folder at a path, its version's tables read ahead by several threads. One that can't be read
-/// ahead is read when it is asked for.
+/// The folder at a path, with its version's tables read ahead by several threads. A table that
+/// can't be read ahead is read when it is asked for.
 fn read_ahead<'r, R: Files + WholeFiles + AllocGlobal + Threads>(
     rt: &'r R,
     path: &'r str,
@@ -256,8 +256,8 @@ fn read_ahead<'r, R: Files + WholeFiles + AllocGlobal + Threads>(
     folder
 }
 
-/// Tells how the compaction of a level went, by what the folder was opened as before it and after
-/// it. That it can't be told changes nothing else.
+/// Tells the account of the compaction of a level, from what the folder was opened as before it and
+/// after it. If it can't be told, nothing else changes.
 fn explain<R: Files + Eprint + AllocGlobal>(
     rt: &R,
     folder: &str,
@@ -277,7 +277,7 @@ fn explain<R: Files + Eprint + AllocGlobal>(
     }
 }
 
-/// The lines that tell how it went.
+/// The lines of that account.
 fn explanation<R: Files + AllocGlobal>(
     rt: &R,
     folder: &str,
@@ -301,7 +301,7 @@ fn explanation<R: Files + AllocGlobal>(
     text(rt.alloc(), &account)
 }
 
-/// What a compaction keeps to, as its command line says.
+/// The settings of a compaction, as its command line gives them.
 fn kept_to(settings: &CompactSettings) -> Settings<'_> {
     Settings {
         workers: settings.workers,

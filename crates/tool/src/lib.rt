@@ -1,4 +1,9 @@
-//! What the program `sedvokt` does: its files, what it prints, and what it tells of the work on a folder.
+//! What the program `sedvokt` does: its files, what it prints, and what it tells of the work on a
+//! folder.
+//!
+//! [`run`] is the program. The other names are public calls of the crates below, under the same
+//! names. No contract says which calls `run` makes for a command, nor what `-v` and `--explain`
+//! tell.
 #![tactic(auto)]
 
 mod explaining;

@@ -15,17 +15,20 @@ use std::time::Clock;
 use std::{env, io};
 use usage::{Line, Usage, line};
 
-/// The status of work that is done, and of help or a version that was asked for.
+/// The status of work that was done, and of help or a version that was asked for.
 const DONE: u8 = 0;
 
 /// The status of a fault of usage.
 const USAGE: u8 = 2;
 
-/// Does what the words of the process ask for, and answers the status: 0 done, 1 refused, 2 usage, 3 device.
+/// Does what the words of the process ask for, and answers the status: 0 done, 1 refused, 2 a fault
+/// of usage, 3 a failing device.
 ///
-/// Results, and help and a version that were asked for, go to the standard output, all else to the standard error. That
-/// nothing can be written to the standard error changes no status. Where that is watched, as a terminal is, the work on a
-/// folder is told there as `-v` has it, and long work shows a line of progress.
+/// - Results go to the standard output, and so do help and a version that were asked for. All else
+///   goes to the standard error.
+/// - If nothing can be written to the standard error, the status is the same.
+/// - The work on a folder is told on the standard error as `-v` asks. If `is_watched`, as a
+///   terminal is, long work shows a line of progress there.
 pub fn run<R: Env + Files + WholeFiles + Print + Eprint + Clock + AllocGlobal + Threads + Sync>(
     rt: &R,
     is_watched: bool,
@@ -46,7 +49,7 @@ pub fn run<R: Env + Files + WholeFiles + Print + Eprint + Clock + AllocGlobal + 
     }
 }
 
-/// The words of the process. One that is no text is `InvalidData`.
+/// The words of the process. `InvalidData` if one is no text.
 fn words_given<R: Env + AllocGlobal>(rt: &R) -> io::Result<Vec<String>> {
     let words = env::args(rt)?.collect(rt.alloc())?;
     Ok(words)
@@ -90,7 +93,7 @@ fn carry_out<R: Files + WholeFiles + Print + Eprint + Clock + AllocGlobal + Thre
     }
 }
 
-/// What is told of the work on a folder.
+/// What is to be told of the work on a folder.
 fn telling(folder: &str, verbose: bool, is_watched: bool) -> Telling<'_> {
     Telling {
         folder,
@@ -114,7 +117,7 @@ fn merge<R: Files + Print + AllocGlobal + Threads + Sync>(
     println!(rt; "{entries} entries, {length} bytes").map_err(|error| files::failed(&error))
 }
 
-/// The block of the entries of the blocks in two files, and how many entries there are.
+/// The block of the entries of the blocks in two files, and the number of entries.
 fn merged<R: Files + AllocGlobal + Threads + Sync>(
     rt: &R,
     a: &str,

@@ -6,18 +6,18 @@ use std::sync::atomic::{AtomicBool, AtomicU64, Ordering};
 use std::time::{Clock, Instant};
 use store::{Watch, Work};
 
-/// How many milliseconds work goes on before its line is shown.
+/// The milliseconds that work takes before its line is shown.
 const PATIENCE: u64 = 200;
 
-/// How many milliseconds pass before the line is written again.
+/// The milliseconds that pass before the line is written again.
 const PAUSE: u64 = 100;
 
-/// A line that tells how far long work is: rewritten in place, and gone when the work ends. That nothing can be told changes
-/// nothing.
+/// A line that tells how far long work is. It is rewritten in place, and erased when the work ends.
+/// If it can't be written, nothing else changes.
 #[derive(Drop)]
 pub(crate) struct ProgressLine<'r, R> {
     rt: &'r R,
-    /// When the work began. None where no line is shown.
+    /// When the work began. None if no line is shown.
     begun: Option<Instant>,
     /// Whether tables are merged; else they are checked.
     is_compacting: AtomicBool,
@@ -25,14 +25,14 @@ pub(crate) struct ProgressLine<'r, R> {
     jobs: AtomicU64,
     /// How many jobs are done.
     done: AtomicU64,
-    /// At how many milliseconds the line is due.
+    /// The milliseconds after which the line is due.
     due: AtomicU64,
     /// Whether it was ever written.
     is_written: AtomicBool,
 }
 
 impl<'r, R: Eprint + Clock + AllocGlobal> ProgressLine<'r, R> {
-    /// The line of work that begins, which is shown or not.
+    /// The line of work that begins, shown or not.
     pub fn new(rt: &'r R, is_shown: bool) -> ProgressLine<'r, R> {
         ProgressLine {
             rt,
@@ -49,14 +49,14 @@ impl<'r, R: Eprint + Clock + AllocGlobal> ProgressLine<'r, R> {
         }
     }
 
-    /// Takes the line away.
+    /// Erases the line.
     pub fn erase(&self) {
         if self.is_written.load(Ordering::SeqCst) {
             let _ = self.rt.eprint("\r\x1b[K");
         }
     }
 
-    /// Writes the line where it is due. Of workers that come at once one does.
+    /// Writes the line if it is due. If several workers come at the same time, one of them writes.
     fn refresh(&self, begun: Instant) {
         let Ok(taken) = begun.elapsed(self.rt) else {
             return;
@@ -75,7 +75,7 @@ impl<'r, R: Eprint + Clock + AllocGlobal> ProgressLine<'r, R> {
         }
     }
 
-    /// Writes the line in the place where it stood.
+    /// Writes the line over the one before.
     fn write(&self) {
         let alloc = self.rt.alloc();
         let work = if self.is_compacting.load(Ordering::SeqCst) {

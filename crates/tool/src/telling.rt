@@ -1,4 +1,4 @@
-//! What is told on the standard error of the work on a folder, where that is asked for.
+//! What is told on the standard error of the work on a folder, if that is asked for.
 
 ghost use Rattle.std.specs.Prelude.{◌≡◌, true, IfSome};
 
@@ -10,21 +10,21 @@ use folder::Disk;
 use std::rt::Files;
 use std::time::{Clock, Instant};
 
-/// Tells of the work on a folder, or doesn't. That nothing can be told changes nothing.
+/// What is to be told of the work on a folder. If it can't be told, nothing else changes.
 #[derive(Clone, Copy)]
 pub struct Telling<'a> {
     /// The path of the folder.
     pub folder: &'a str,
     /// Whether anything is told.
     pub is_on: bool,
-    /// Whether somebody looks on, as at a terminal, so that a line of progress is shown.
+    /// Whether somebody watches, as at a terminal, so that a line of progress is shown.
     pub is_watched: bool,
-    /// Whether it is told how each compaction went.
+    /// Whether the account of each compaction is told.
     pub is_explaining: bool,
 }
 
 impl<'a> Telling<'a> {
-    /// The same, and it is told how each compaction went, or isn't.
+    /// The same, with the account of each compaction told or not.
     pub fn explaining(mut self, is_explaining: bool) -> Telling<'a>
         ensures asked { result.is_explaining ≡ is_explaining }
         ensures rest { (result.folder ≡ self.entry.folder) × (result.is_on ≡ self.entry.is_on) × (result.is_watched ≡ self.entry.is_watched) }
@@ -33,8 +33,7 @@ impl<'a> Telling<'a> {
         self
     }
 
-    /// The time at which a step begins, where it will be told. None where the clock can't be read,
-    /// too.
+    /// The time at which a step begins, if it will be told. None if the clock can't be read, too.
     pub fn begin<R: Clock>(self, rt: &R) -> Option<Instant>
         ensures { IfSome result (λ _. self.entry.is_on ≡ true) }
     {
@@ -45,7 +44,7 @@ impl<'a> Telling<'a> {
         }
     }
 
-    /// Tells how long a step took that is done, or else which file was refused and why.
+    /// Tells how long a step took if it was done, else which file was refused and why.
     pub fn end<R: Files + Eprint + Clock + AllocGlobal, T>(
         self,
         rt: &R,
@@ -62,7 +61,7 @@ impl<'a> Telling<'a> {
         }
     }
 
-    /// Tells of the log that the folder's version names, if it holds writes that are in no table.
+    /// Tells of the log that the folder's version names, if it has writes that are in no table.
     pub fn tell_log<R: Files + Eprint + AllocGlobal>(self, rt: &R, version: &Version) {
         if !self.is_on {
             return;

@@ -1,4 +1,4 @@
-//! The program `sedvokt`.
+//! The program `sedvokt`. It is `tool::run` over the system, and no code beside.
 #![tactic(auto)]
 
 use std::io::IsTerminal;

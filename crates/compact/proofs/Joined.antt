@@ -20,9 +20,11 @@ use Rattle.keep.specs.Runs.{Run, are_distinct, joined_run, runs_of, DistinctLaw}
 use Rattle.cut.specs.Outputs.{outputs, outputs_of, RangesCutLaw}
 use Rattle.request.specs.Request.{RequestView, below_request, request_test}
 use Rattle.request.specs.Inputs.{inputs_reading, union_reading}
-use Rattle.request.specs.OneThread.{Answer, one_thread}
+use Rattle.request.specs.OneThread.{Answer, one_thread, outputs_answer}
+use Rattle.request.specs.OutputTables.{outputs_from}
 use Rattle.compact.specs.Runs.{by_workers, runs_reading}
 use Rattle.compact.specs.Written.{written_of}
+use Rattle.compact.proofs.PlanAnswers.{outputs_planned}
 use Rattle.compact.proofs.Working.{within, within_limits}
 
 -- ---- steps
@@ -63,7 +65,7 @@ same_ok a b h = cc
 module _ (cmp : List ℕ → List ℕ → Ordering) (separator_of : List ℕ → List ℕ → List ℕ) (successor_of : List ℕ → List ℕ) (r : RequestView) where
   -- what one thread goes on with from the union of the inputs
   abbrev ending : List Entry → Result Answer Fault
-  ending union = written_of (table cmp separator_of successor_of r.options) r (outputs cmp (below_request r) r.options union)
+  ending union = outputs_answer r (outputs_from (table cmp separator_of successor_of r.options) r.first_number (outputs cmp (below_request r) r.options union))
 
   pub refused_test : (e : Fault) → request_test cmp r ≡ Err e → one_thread cmp separator_of successor_of r ≡ Err e
   refused_test e h = ap (λ (t : Result (Unit {0}) Fault). t >>= λ _. (inputs_reading cmp 0 r.picked.files r.tables >>= λ lists. (union_reading cmp lists >>= ending))) h
@@ -97,6 +99,7 @@ module _ (cmp : List ℕ → List ℕ → Ordering) (separator_of : List ℕ →
         let rising : VersionsRise cmp union = ((distinct inputs union).1 (both.1, both.0)).rising in
         let runs_is : runs_of cmp (below_request r) boundaries union ≡ runs = same_ok (runs_of cmp (below_request r) boundaries union) runs step.goes_on in
         thread_is inputs tested read ∙ ap (λ (u : Result (List Entry) Fault). u >>= ending) step.is
+        ∙ outputs_planned (table cmp separator_of successor_of r.options) r (outputs cmp (below_request r) r.options union)
         ∙ ap (λ (os : List (List Entry)). written_of (table cmp separator_of successor_of r.options) r os)
         (sym (ap (λ (rs : List Run). outputs_of r.picked.grandparents r.options (joined_run rs)) (sym runs_is) ∙ cut (below_request r) r.options boundaries union split rising))
 

@@ -3,5 +3,6 @@ pub mod InputAnswers
 pub mod RangeAnswers
 pub mod ReadInputs
 mod PieceAnswers
+mod PlanAnswers
 mod Joined
 mod NewFiles

@@ -17,7 +17,7 @@ use Rattle.cut.specs.Plan.{Planned}
 use Rattle.cut.specs.declared.output_meta.OutputMeta.{OutputMeta}
 use Rattle.pick.specs.Picked.{Picked}
 use Rattle.pick.specs.declared.picked.InputFile.{InputFile}
-use Rattle.request.specs.EditOf.{new_file}
+use Rattle.compact.specs.Written.{planned_file}
 use Rattle.request.specs.Request.{has_levels}
 
 -- ---- the bounds of an output
@@ -39,7 +39,7 @@ file_of level number size smallest largest = record { level = level; meta = reco
 
 -- what is known of an output is what a new file of it says
 pub file_is : (p : Planned) (m : OutputMeta) (level : ℕ) (smallest largest : List ℕ) → IsMetaOf p m → smallest ≡ m.smallest.bytes.now → largest ≡ m.largest.bytes.now
-    → file_of level m.number m.len smallest largest ≡ new_file level p
+    → file_of level m.number m.len smallest largest ≡ planned_file level p
 file_is p m level smallest largest is s l =
     ap (λ (n : ℕ). file_of level n m.len smallest largest) is.number
     ∙ ap (λ (n : ℕ). file_of level p.number n smallest largest) is.len
@@ -49,13 +49,13 @@ file_is p m level smallest largest is s l =
 -- ---- one output more
 
 pub one_more : (level : ℕ) (ps : List Planned) (place : ℕ) (m : OutputMeta) (file : NewFile) → place < length ps → IfSome (slice_get ps place) (λ p. IsMetaOf p m)
-    → ((p : Planned) → IsMetaOf p m → file ≡ new_file level p) → map (new_file level) (take (place + 1) ps) ≡ map (new_file level) (take place ps) ++ file ∷ []
+    → ((p : Planned) → IsMetaOf p m → file ≡ planned_file level p) → map (planned_file level) (take (place + 1) ps) ≡ map (planned_file level) (take place ps) ++ file ∷ []
 one_more level [] place m file h is same = absurd (omega (arith, h))
 one_more level (p ∷ ps) zero m file h is same = ap (λ (f : NewFile). f ∷ []) (sym (same p is))
 one_more level (p ∷ ps) (suc place) m file h is same =
     let next : suc place + 1 ≡ suc (place + 1) = omega arith in
-    ap (λ (n : ℕ). map (new_file level) (take n (p ∷ ps))) next
-    ∙ ap (λ (fs : List NewFile). new_file level p ∷ fs) (one_more level ps place m file (omega (arith, h)) is same)
+    ap (λ (n : ℕ). map (planned_file level) (take n (p ∷ ps))) next
+    ∙ ap (λ (fs : List NewFile). planned_file level p ∷ fs) (one_more level ps place m file (omega (arith, h)) is same)
 
 -- ---- the level
 
@@ -69,6 +69,6 @@ low_level p h =
     let low = low_told p.level 5 parts.0 in
     omega (arith, low)
 
-pub low_files : (level : ℕ) → level ≤ 6 → (ps : List Planned) → All (λ (f : NewFile). f.level ≤ 6) (map (new_file level) ps)
+pub low_files : (level : ℕ) → level ≤ 6 → (ps : List Planned) → All (λ (f : NewFile). f.level ≤ 6) (map (planned_file level) ps)
 low_files level low [] = All-nil (λ (f : NewFile). f.level ≤ 6)
-low_files level low (p ∷ ps) = All-cons (λ (f : NewFile). f.level ≤ 6) (new_file level p) (map (new_file level) ps) low (low_files level low ps)
+low_files level low (p ∷ ps) = All-cons (λ (f : NewFile). f.level ≤ 6) (planned_file level p) (map (planned_file level) ps) low (low_files level low ps)

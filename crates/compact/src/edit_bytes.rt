@@ -8,7 +8,8 @@ ghost use Rattle.cut.specs.OutputMeta.{IsMetaOf};
 ghost use Rattle.cut.specs.Plan.{Planned};
 ghost use Rattle.pick.specs.Picked.{picked_in};
 ghost use Rattle.request.specs.Request.{has_levels, request_in};
-ghost use Rattle.request.specs.EditOf.{edit_of, new_file};
+ghost use Rattle.request.specs.EditOf.{edit_of};
+ghost use Rattle.compact.specs.Written.{planned_file, planned_files};
 
 use coding::Fault;
 use cut::{OutputMeta, Plan};
@@ -19,7 +20,8 @@ use std::alloc::Global;
 
 /// An output as a new file of a level. Refused for want of memory alone.
 fn new_file(alloc: Global, output: OutputMeta<'_>, level: u64) -> Result<NewFile, Fault>
-    ensures ok { (p : Planned) → IsMetaOf p output.entry → IfOk result (λ file. file ≡ new_file level p) }
+    ensures ok { (p : Planned) → IsMetaOf p output.entry →
+        IfOk result (λ file. file ≡ planned_file level p) }
     ensures memory { IfErr result (λ e. e ≡ fault Memory) }
 {
     Ok(NewFile {
@@ -39,7 +41,8 @@ fn new_files<C: Comparator>(
     plan: &Plan<'_, '_, C>,
     level: u64,
 ) -> Result<Vec<NewFile>, Fault>
-    ensures { EqualOrMemory (λ files. files.items) result (Ok (map (new_file level) plan.now.outputs)) }
+    ensures { EqualOrMemory (λ files. files.items) result
+        (Ok (map (planned_file level) plan.now.outputs)) }
 {
     let mut files = Vec::with_capacity(alloc, plan.len())?;
     for place in 0..plan.len() {
@@ -57,7 +60,9 @@ pub(crate) fn edit_bytes<C: Comparator>(
 ) -> Result<Vec<u8>, Fault>
     requires fits { request.now.first_number + length plan.now.outputs < 2 ^ 64 }
     requires levels { has_levels (picked_in request.now.picked.now) ≡ true }
-    ensures { EqualOrMemory (λ v. v.items) result (Ok (edit_bytes (edit_of (request_in request.now) plan.now.outputs))) }
+    ensures { EqualOrMemory (λ v. v.items) result
+        (Ok (edit_bytes (edit_of (request_in request.now)
+        (planned_files (request_in request.now) plan.now.outputs)))) }
 {
     let files = new_files(alloc, plan, request.picked.level + 1)?;
     let edit = request.edit(alloc, files)?;

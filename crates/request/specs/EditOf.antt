@@ -8,7 +8,7 @@ use Rattle.edit.specs.Edit.{Edit, deleted_cmp}
 use Rattle.edit.specs.declared.meta.NewFile.{NewFile}
 use Rattle.edit.specs.declared.meta.DeletedFile.{DeletedFile}
 use Rattle.pick.specs.declared.picked.InputFile.{InputFile}
-use Rattle.cut.specs.Plan.{Planned}
+use Rattle.request.specs.OutputTables.{Output}
 use Rattle.request.specs.Request.{RequestView}
 
 -- the deletion of an input
@@ -19,24 +19,33 @@ deletion_of i = record { level = i.level; number = i.meta.number }
 abbrev pub deletions_of : List InputFile → List DeletedFile
 deletions_of files = fold (insert_key deleted_cmp) [] (map deletion_of files)
 
--- an output as a new file: its number, the length of its table, its first and last key
-abbrev pub new_file : ℕ → Planned → NewFile
-new_file level p = record {
+-- an output as a new file of a level
+abbrev pub new_file : ℕ → Output → NewFile
+new_file level w = record {
   level = level;
-  meta = record { number = p.number; size = p.length; smallest = first_key p.entries; largest = last_key [] p.entries };
+  meta = record {
+    number = w.number;
+    size = length w.bytes;
+    smallest = first_key w.entries;
+    largest = last_key [] w.entries;
+  };
 }
 
--- The edit of a compaction: the request's counters, as next file the number after the last
--- output's, the compact pointer of the level, the deletion of each input, and the outputs as new
--- files of the next level. It names no comparator.
-abbrev pub edit_of : RequestView → List Planned → Edit
-edit_of r plan = record {
+-- the outputs as new files of the level below the compaction's
+abbrev pub new_files : RequestView → List Output → List NewFile
+new_files r outputs = map (new_file (r.picked.level + 1)) outputs
+
+-- The edit of a compaction whose outputs are these new files: the version's counters, the next file
+-- after the outputs, the compact pointer of the level, the deletion of each input, and the new
+-- files. It names no comparator.
+abbrev pub edit_of : RequestView → List NewFile → Edit
+edit_of r files = record {
   comparator = None;
   log_number = Some r.log_number;
   previous_log = Some r.previous_log;
-  next_file = Some (r.first_number + length plan);
+  next_file = Some (r.first_number + length files);
   last_sequence = Some r.last_sequence;
   pointers = record { level = r.picked.level; key = r.picked.pointer.key } ∷ [];
   deleted = deletions_of r.picked.files;
-  added = map (new_file (r.picked.level + 1)) plan;
+  added = files;
 }

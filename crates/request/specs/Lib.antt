@@ -1,6 +1,7 @@
 -- what contracts rest on
 pub mod Request
 pub mod Inputs
+pub mod OutputTables
 pub mod EditOf
 pub mod OneThread
 pub mod Passed

@@ -9,34 +9,48 @@ use Rattle.table.specs.Table.{table}
 use Rattle.table.specs.ReadingSteps.{pass}
 use Rattle.edit.specs.Edit.{edit_bytes}
 use Rattle.cut.specs.Outputs.{outputs}
-use Rattle.cut.specs.Plan.{plan_of, assembled}
 use Rattle.request.specs.Request.{RequestView, below_request, request_test}
 use Rattle.request.specs.Inputs.{inputs_reading, union_reading}
-use Rattle.request.specs.EditOf.{edit_of}
+use Rattle.request.specs.EditOf.{edit_of, new_files}
+use Rattle.request.specs.OutputTables.{Output, numbered_tables, outputs_from, outputs_test}
 
 -- the tables with their numbers, and the bytes of the edit
 pub record Answer : Type 0 where
   pub tables : List (ℕ × List ℕ)
   pub edit : List ℕ
 
--- how the table of an output is written
-abbrev pub table_for : (List ℕ → List ℕ → Ordering) → (List ℕ → List ℕ → List ℕ) → (List ℕ → List ℕ) → RequestView → List Entry → List ℕ
+-- how an output is written
+abbrev pub table_for : (List ℕ → List ℕ → Ordering) → (List ℕ → List ℕ → List ℕ) →
+    (List ℕ → List ℕ) → RequestView → List Entry → List ℕ
 table_for cmp separator_of successor_of r = table cmp separator_of successor_of r.options
 
--- What one thread answers: the first refusal of the request, then of the inputs in order, then
--- Duplicate, then Numbers and TooLarge of the outputs. Else the table of each output with its
--- number, and the bytes of the edit. It knows neither ranges nor workers.
-abbrev pub one_thread : (List ℕ → List ℕ → Ordering) → (List ℕ → List ℕ → List ℕ) → (List ℕ → List ℕ) → RequestView → Result Answer Fault
+-- what is answered of outputs: their refusal, or their tables and the bytes of the edit that has
+-- them as new files
+abbrev pub outputs_answer : RequestView → List Output → Result Answer Fault
+outputs_answer r outputs = do
+  _ ← outputs_test r.options r.first_number outputs
+  Ok (record {
+    tables = numbered_tables outputs;
+    edit = edit_bytes (edit_of r (new_files r outputs));
+  })
+
+-- What one thread answers: the first refusal, of the request, then of the inputs in order, then
+-- Duplicate, then Numbers and TooLarge of the outputs; else the table of each output, and the bytes
+-- of the edit. It knows neither ranges nor workers.
+abbrev pub one_thread : (List ℕ → List ℕ → Ordering) → (List ℕ → List ℕ → List ℕ) →
+    (List ℕ → List ℕ) → RequestView → Result Answer Fault
 one_thread cmp separator_of successor_of r = do
   _ ← request_test cmp r
   inputs ← inputs_reading cmp 0 r.picked.files r.tables
   union ← union_reading cmp inputs
-  plan ← plan_of (table_for cmp separator_of successor_of r) r.options r.first_number (outputs cmp (below_request r) r.options union)
-  Ok (record { tables = assembled (table_for cmp separator_of successor_of r) plan; edit = edit_bytes (edit_of r plan) })
+  outputs_answer r
+      (outputs_from (table_for cmp separator_of successor_of r) r.first_number
+      (outputs cmp (below_request r) r.options union))
 
--- What a compaction by `workers` workers answers: Workers unless they are from 1 to 64, else what
+-- What a compaction by so many workers answers: Workers where they are not from 1 to 64, else what
 -- one thread answers.
-abbrev pub compacted : (List ℕ → List ℕ → Ordering) → (List ℕ → List ℕ → List ℕ) → (List ℕ → List ℕ) → ℕ → RequestView → Result Answer Fault
+abbrev pub compacted : (List ℕ → List ℕ → Ordering) → (List ℕ → List ℕ → List ℕ) →
+    (List ℕ → List ℕ) → ℕ → RequestView → Result Answer Fault
 compacted cmp separator_of successor_of workers r = do
   _ ← pass (nat_le 1 workers && nat_le workers 64) Workers
   one_thread cmp separator_of successor_of r

@@ -1,14 +1,13 @@
 //! The edit of a request's outputs.
 
-ghost use Rattle.std.specs.Prelude.{◌≡◌, ◌+◌, ◌<◌, ◌≤◌, ◌^◌, true, List, map, length, IfOk, Ok};
+ghost use Rattle.std.specs.Prelude.{◌≡◌, ◌+◌, ◌<◌, ◌≤◌, ◌^◌, true, length, IfOk, Ok};
 ghost use Rattle.std.specs.List.{All};
 ghost use Rattle.coding.specs.Answers.{EqualOrMemory};
 ghost use Rattle.edit.specs.Edit.{HasLevels, HasShortName, edit_in};
 ghost use Rattle.edit.specs.declared.meta.NewFile.{NewFile};
-ghost use Rattle.cut.specs.Plan.{Planned};
 ghost use Rattle.pick.specs.Picked.{picked_in};
 ghost use Rattle.request.specs.Request.{has_levels, request_in};
-ghost use Rattle.request.specs.EditOf.{deletions_of, edit_of, new_file};
+ghost use Rattle.request.specs.EditOf.{deletions_of, edit_of};
 
 use crate::request::Request;
 use coding::Fault;
@@ -34,8 +33,8 @@ impl<'a> Request<'a> {
     /// tests can be encoded and applied.
     pub fn edit(&self, alloc: Global, outputs: Vec<NewFile>) -> Result<VersionEdit, Fault>
         requires { self.now.first_number + length outputs.items < 2 ^ 64 }
-        ensures edit { (plan : List Planned) → outputs.items ≡ map (new_file (self.now.picked.now.level + 1)) plan →
-            EqualOrMemory edit_in result (Ok (edit_of (request_in self.now) plan)) }
+        ensures edit { EqualOrMemory edit_in result
+            (Ok (edit_of (request_in self.now) outputs.items)) }
         ensures levels { has_levels (picked_in self.now.picked.now) ≡ true → All (λ (f : NewFile). f.level ≤ 6) outputs.items →
             IfOk result (λ e. HasLevels (edit_in e)) }
         ensures name { IfOk result (λ e. HasShortName (edit_in e)) }

@@ -7,7 +7,6 @@ use Rattle.std.specs.declared.cmp.Ordering.{Ordering}
 use Rattle.std.proofs.lemmas.List.Elements.{All-contains, Contains-append_cases, Contains-get_or}
 use Rattle.std.proofs.lemmas.List.Sorted.{Contains-permutation, IsPermutation-sym}
 use Rattle.ikey.specs.Comparator.{IsExact}
-use Rattle.block.specs.Piece.{Entry}
 use Rattle.edit.specs.Version.{State}
 use Rattle.edit.specs.declared.meta.NewFile.{NewFile}
 use Rattle.folder.specs.Levels.{file_numbers}
@@ -20,14 +19,14 @@ use Rattle.survival.specs.Closed.{is_input}
 use Rattle.reads.specs.Lawful.{IsBelowNext, IsLawful}
 use Rattle.reads.specs.Tables.{Numbered}
 use Rattle.reads.proofs.Members.{first_in, from_filter, from_map}
-use Rattle.cut.specs.Plan.{Planned, assembled}
-use Rattle.request.specs.EditOf.{edit_of, new_file}
-use Rattle.request.specs.OneThread.{Answer, table_for}
+use Rattle.request.specs.OutputTables.{Output, numbered_tables}
+use Rattle.request.specs.EditOf.{edit_of, new_file, new_files}
+use Rattle.request.specs.OneThread.{Answer}
 use Rattle.request.specs.Passed.{IsPassed, PassedLaw}
 use Rattle.request.specs.Request.{RequestView}
 use Rattle.install.specs.Install.{IsEditedBy, numbers_of}
 use Rattle.install.proofs.Numbers.{in_files}
-use Rattle.survival.specs.EditAfter.{AreNumbered, EditApplies, new_files, version_after}
+use Rattle.survival.specs.EditAfter.{AreNumbered, EditApplies, version_after}
 use Rattle.survival.specs.GetsAfter.{staying}
 use Rattle.survival.specs.Over.{HoldOutputs, IsOver}
 use Rattle.survival.proofs.Surviving.{is_edit}
@@ -38,15 +37,15 @@ use Rattle.store.proofs.Over.{has_next}
 use Rattle.store.proofs.TablesAfter.{HasNumber, number_of}
 
 -- the numbers of new files are those of the outputs
-new_numbers : (level : ℕ) (written_by : List Entry → List ℕ) (plan : List Planned) → map (λ (f : NewFile). f.meta.number) (map (new_file level) plan) ≡ numbers_of (assembled written_by plan)
-new_numbers level written_by [] = refl
-new_numbers level written_by (q ∷ plan) = ap (λ (ns : List ℕ). q.number ∷ ns) (new_numbers level written_by plan)
+new_numbers : (level : ℕ) (outputs : List Output) → map (λ (f : NewFile). f.meta.number) (map (new_file level) outputs) ≡ numbers_of (numbered_tables outputs)
+new_numbers level [] = refl
+new_numbers level (q ∷ outputs) = ap (λ (ns : List ℕ). q.number ∷ ns) (new_numbers level outputs)
 
 -- and from the first number on
-numbered_above : (written_by : List Entry → List ℕ) (first : ℕ) (plan : List Planned) (n : ℕ) → AreNumbered first plan → IsOneOf (numbers_of (assembled written_by plan)) n → first ≤ n
-numbered_above written_by first [] n h m = absurd m
-numbered_above written_by first (q ∷ plan) n h (inl same) = let is : q.number ≡ first = h.0 in omega (arith, same, is)
-numbered_above written_by first (q ∷ plan) n h (inr m) = let le = numbered_above written_by (first + 1) plan n h.1 m in omega (arith, le)
+numbered_above : (first : ℕ) (outputs : List Output) (n : ℕ) → AreNumbered first outputs → IsOneOf (numbers_of (numbered_tables outputs)) n → first ≤ n
+numbered_above first [] n h m = absurd m
+numbered_above first (q ∷ outputs) n h (inl same) = let is : q.number ≡ first = h.0 in omega (arith, same, is)
+numbered_above first (q ∷ outputs) n h (inr m) = let le = numbered_above (first + 1) outputs n h.1 m in omega (arith, le)
 
 below_next : (next : Option ℕ) (m n : ℕ) → next ≡ Some m → IsBelowNext next n → n < m
 below_next next m n is h = subst (λ (o : Option ℕ). IsBelowNext o n) is h
@@ -63,7 +62,7 @@ module _ (cmp : List ℕ → List ℕ → Ordering) (total : IsTotalOrder cmp) (
   r = request_of v loaded p s
 
   abbrev pub next_version : State
-  next_version = version_after v r held.plan
+  next_version = version_after v r held.outputs
 
   passed : IsPassed cmp r
   passed = passes r held.tested
@@ -73,8 +72,8 @@ module _ (cmp : List ℕ → List ℕ → Ordering) (total : IsTotalOrder cmp) (
       let i = some_input p.files passed.some in
       has_next cmp total v loaded tables level p checked lawful picked i.0 i.1
 
-  added_numbers : map (λ (f : NewFile). f.meta.number) (new_files r held.plan) ≡ numbers_of answer.tables
-  added_numbers = new_numbers (p.level + 1) (table_for cmp separator_of successor_of r) held.plan ∙ sym (ap numbers_of held.answer_tables)
+  added_numbers : map (λ (f : NewFile). f.meta.number) (new_files r held.outputs) ≡ numbers_of answer.tables
+  added_numbers = new_numbers (p.level + 1) held.outputs ∙ sym (ap numbers_of held.answer_tables)
 
   file_below : (n : ℕ) → IsOneOf (file_numbers cmp v) n → n < manifest_of v
   file_below n m =
@@ -84,34 +83,34 @@ module _ (cmp : List ℕ → List ℕ → Ordering) (total : IsTotalOrder cmp) (
 
   output_above : (n : ℕ) → IsOneOf (numbers_of answer.tables) n → manifest_of v ≤ n
   output_above n m =
-      let le = numbered_above (table_for cmp separator_of successor_of r) (manifest_of v + 1) held.plan n held.numbered (subst (λ (ts : List (ℕ × List ℕ)). IsOneOf (numbers_of ts) n) held.answer_tables m) in
+      let le = numbered_above (manifest_of v + 1) held.outputs n held.numbered (subst (λ (ts : List (ℕ × List ℕ)). IsOneOf (numbers_of ts) n) held.answer_tables m) in
       omega (arith, le)
 
   pub edited_by : IsEditedBy (order_name order) cmp order v (manifest_of v) answer.tables answer.edit next_version
   edited_by = record {
     named = refl;
-    edit = edit_of r held.plan;
+    edit = edit_of r (new_files r held.outputs);
     read = is_edit cmp total exact separator_of successor_of v tables level r answer lawful low picked over held;
     no_name = refl;
     log_number = refl;
     previous_log = refl;
     last_sequence = refl;
-    edited = applies.applies v tables level r held.plan lawful picked over.numbers held.numbered;
+    edited = applies.applies v tables level r held.outputs lawful picked over.numbers held.numbered;
     added = added_numbers;
     least = manifest_of v;
     first_free = next_there;
     below = file_below;
     above = output_above;
     manifest_above = omega arith;
-    next_free = manifest_of v + 1 + length held.plan;
+    next_free = manifest_of v + 1 + length (new_files r held.outputs);
     next_file = refl;
     manifest_below = omega arith;
   }
 
-  level_by : (f : NewFile) → Contains (staying v p) f ⊎ Contains (new_files r held.plan) f → f.level ≤ 6
+  level_by : (f : NewFile) → Contains (staying v p) f ⊎ Contains (new_files r held.outputs) f → f.level ≤ 6
   level_by f (inl at) = let old = from_filter (λ (x : NewFile). not (is_input p x.meta.number)) v.files f at in All-contains (λ (x : NewFile). x.level ≤ 6) v.files f low old.0
   level_by f (inr at) =
-      let q = from_map (new_file (p.level + 1)) held.plan f at in
+      let q = from_map (new_file (p.level + 1)) held.outputs f at in
       let is : p.level + 1 ≡ f.level = ap (λ (x : NewFile). x.level) q.is in
       let five = passed.level in
       omega (arith, is, five)
@@ -121,6 +120,6 @@ module _ (cmp : List ℕ → List ℕ → Ordering) (total : IsTotalOrder cmp) (
   low_next k d lt =
       let at = Contains-get_or next_version.files k d lt in
       let f = get_or next_version.files k d in
-      let permutes = applies.files v tables level r held.plan lawful picked over.numbers held.numbered in
-      level_by f (Contains-append_cases (staying v p) (new_files r held.plan) f
-      (Contains-permutation next_version.files (staying v p ++ new_files r held.plan) f (IsPermutation-sym (staying v p ++ new_files r held.plan) next_version.files permutes) at))
+      let permutes = applies.files v tables level r held.outputs lawful picked over.numbers held.numbered in
+      level_by f (Contains-append_cases (staying v p) (new_files r held.outputs) f
+      (Contains-permutation next_version.files (staying v p ++ new_files r held.outputs) f (IsPermutation-sym (staying v p ++ new_files r held.outputs) next_version.files permutes) at))

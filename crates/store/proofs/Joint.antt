@@ -28,7 +28,7 @@ joint cmp total exact separator_of successor_of applies passes outputs stands ge
     let r : RequestView = request_of v loaded p s in
     let over : IsOver v tables r = is_over cmp total v loaded tables level p checked lawful picked s log previous in
     let held : HoldOutputs cmp separator_of successor_of tables r answer = outputs v tables level r answer lawful picked over answered in
-    let next : State = version_after v r held.plan in
+    let next : State = version_after v r held.outputs in
     let after : IsLawful cmp next (tables_after cmp p answer tables) = stands.lawful v tables level r answer lawful low picked over held in
     let low_after = low_next cmp total exact separator_of successor_of applies passes order v loaded tables level p s answer checked lawful low picked over held in
     let same = same_after cmp loaded tables p answer next checked low_after after in

@@ -18,12 +18,12 @@ use Rattle.pick.specs.Picked.{IsInputsAnswer, Picked}
 use Rattle.pick.specs.declared.picked.InputFile.{InputFile}
 use Rattle.keep.specs.Runs.{are_distinct}
 use Rattle.cut.specs.Outputs.{outputs}
-use Rattle.cut.specs.Plan.{plan_of}
 use Rattle.reads.specs.Tables.{Numbered}
 use Rattle.checks.proofs.LawfulLemmas.{sound_other}
 use Rattle.checks.proofs.TableRefusals.{no_device}
 use Rattle.request.specs.Inputs.{about, input_reading, inputs_reading, is_stated, union_reading}
-use Rattle.request.specs.OneThread.{one_thread, table_for}
+use Rattle.request.specs.OneThread.{one_thread, outputs_answer, table_for}
+use Rattle.request.specs.OutputTables.{Output, outputs_from, outputs_test}
 use Rattle.request.specs.Request.{RequestView, below_request, has_levels, has_options, has_snapshots, is_snapshot_list, request_test}
 use Rattle.store.specs.Answers.{IsLoadedCompacted, lines_of}
 use Rattle.store.specs.Asking.{numbered_request, compaction_of, manifest_of, request_of}
@@ -92,10 +92,11 @@ test_other cmp r =
     passes (is_snapshot_list r.snapshots r.last_sequence) SnapshotList (λ same. cc same)))))
 
 module _ (cmp : List ℕ → List ℕ → Ordering) (separator_of : List ℕ → List ℕ → List ℕ) (successor_of : List ℕ → List ℕ) where
-  plan_other : (r : RequestView) (outs : List (List Entry)) → AllOther (plan_of (table_for cmp separator_of successor_of r) r.options r.first_number outs)
-  plan_other r outs =
-      bound (pass (nat_lt (r.first_number + length outs) (2 ^ 64)) Numbers) _ (passes (nat_lt (r.first_number + length outs) (2 ^ 64)) Numbers (λ same. cc same)) (λ _.
-      bound _ _ (passes _ TooLarge (λ same. cc same)) (λ _. value _))
+  answer_other : (r : RequestView) (outs : List Output) → AllOther (outputs_answer r outs)
+  answer_other r outs =
+      bound (outputs_test r.options r.first_number outs) _
+      (bound (pass (nat_lt (r.first_number + length outs) (2 ^ 64)) Numbers) _ (passes (nat_lt (r.first_number + length outs) (2 ^ 64)) Numbers (λ same. cc same)) (λ _.
+      passes _ TooLarge (λ same. cc same))) (λ _. value _)
 
   union_other : (inputs : List (List Entry)) → AllOther (union_reading cmp inputs)
   union_other inputs = tested (are_distinct (merged cmp inputs)) _ _ (value (merged cmp inputs)) (named _ Duplicate (λ same. cc same))
@@ -105,7 +106,7 @@ module _ (cmp : List ℕ → List ℕ → Ordering) (separator_of : List ℕ →
       bound (request_test cmp r) _ (test_other cmp r) (λ _.
       bound (inputs_reading cmp 0 r.picked.files r.tables) _ (inputs_other cmp 0 r.picked.files r.tables) (λ inputs.
       bound (union_reading cmp inputs) _ (union_other inputs) (λ union.
-      bound _ _ (plan_other r (outputs cmp (below_request r) r.options union)) (λ plan. value _))))
+      answer_other r (outputs_from (table_for cmp separator_of successor_of r) r.first_number (outputs cmp (below_request r) r.options union)))))
 
   pub compaction_other : (v : State) (loaded : List (ℕ × List ℕ)) (p : Picked) (s : Settings) → AllOther (compaction_of cmp separator_of successor_of v loaded p s)
   compaction_other v loaded p s =

@@ -10,6 +10,7 @@ use Rattle.std.specs.Cmp.{IsTotalOrder}
 use Rattle.std.specs.declared.cmp.Ordering.{Ordering}
 use Rattle.std.specs.declared.cmp.Ordering.TheVariants.{Less, Equal, Greater}
 use Rattle.std.proofs.lemmas.Bool.{eqb-true, eq-eqb}
+use Rattle.std.proofs.lemmas.List.{length-map}
 use Rattle.edit.specs.Edit.{deleted_cmp}
 use Rattle.edit.specs.Version.{State, applied, place_of, is_same_place, is_deleted, kept_files, has_place, has_number, are_apart, are_new, number_cmp, with_file}
 use Rattle.edit.specs.declared.meta.FileMeta.{FileMeta}
@@ -29,11 +30,11 @@ use Rattle.reads.proofs.Members.{first_or_later, later_in, first_in, none_in, fr
 use Rattle.reads.proofs.Orders.{equal_is}
 use Rattle.survival.specs.Closed.{is_input}
 use Rattle.survival.proofs.Closing.{any_at}
-use Rattle.cut.specs.Plan.{Planned}
+use Rattle.request.specs.OutputTables.{Output}
 use Rattle.request.specs.Request.{RequestView}
-use Rattle.request.specs.EditOf.{deletion_of, deletions_of, edit_of, new_file}
+use Rattle.request.specs.EditOf.{deletion_of, deletions_of, edit_of, new_file, new_files}
 use Rattle.survival.specs.GetsAfter.{staying}
-use Rattle.survival.specs.EditAfter.{new_files, version_after, AreNumbered, EditApplies}
+use Rattle.survival.specs.EditAfter.{version_after, AreNumbered, EditApplies}
 use Rattle.survival.proofs.Inputs.{any_passes, input_file, input_of, is_one, level_of_input, below_first}
 
 -- ---- elements put in at their places, in an order in which those that tie are one
@@ -120,19 +121,19 @@ none_tests p (x ∷ xs) h = rw (h x (first_in x xs)) (none_tests p xs (λ y at. 
 
 -- ---- the numbers of the outputs
 
-pub numbered_from : (first : ℕ) (plan : List Planned) → AreNumbered first plan → (q : Planned) → Contains plan q → first ≤ q.number
+pub numbered_from : (first : ℕ) (outputs : List Output) → AreNumbered first outputs → (q : Output) → Contains outputs q → first ≤ q.number
 numbered_from first [] h q at = absurd (none_in q at)
 numbered_from first (p ∷ ps) h q at =
     elim (first_or_later p ps q at) [
-      | inl same ↦ (let is : q.number ≡ first = ap (λ (x : Planned). x.number) same ∙ h.0 in omega (arith, is))
+      | inl same ↦ (let is : q.number ≡ first = ap (λ (x : Output). x.number) same ∙ h.0 in omega (arith, is))
       | inr later ↦ (let le = numbered_from (first + 1) ps h.1 q later in omega (arith, le))
     ]
 
-pub numbered_to : (first : ℕ) (plan : List Planned) → AreNumbered first plan → (q : Planned) → Contains plan q → q.number < first + length plan
+pub numbered_to : (first : ℕ) (outputs : List Output) → AreNumbered first outputs → (q : Output) → Contains outputs q → q.number < first + length outputs
 numbered_to first [] h q at = absurd (none_in q at)
 numbered_to first (p ∷ ps) h q at =
     elim (first_or_later p ps q at) [
-      | inl same ↦ (let is : q.number ≡ first = ap (λ (x : Planned). x.number) same ∙ h.0 in omega (arith, is))
+      | inl same ↦ (let is : q.number ≡ first = ap (λ (x : Output). x.number) same ∙ h.0 in omega (arith, is))
       | inr later ↦ (let lt = numbered_to (first + 1) ps h.1 q later in omega (arith, lt))
     ]
 
@@ -143,13 +144,13 @@ not_equal m n h = by (eqb m n) refl
     by true e = absurd (h (eqb-true m n e))
     by false e = refl
 
-other_numbers : (level number : ℕ) (plan : List Planned) → ((q : Planned) → Contains plan q → q.number ≡ number → ⊥) → has_number (map (new_file level) plan) number ≡ false
-other_numbers level number plan h =
-    none_tests (λ (f : NewFile). eqb number f.meta.number) (map (new_file level) plan)
-    (λ f at. let x = from_map (new_file level) plan f at in
+other_numbers : (level number : ℕ) (outputs : List Output) → ((q : Output) → Contains outputs q → q.number ≡ number → ⊥) → has_number (map (new_file level) outputs) number ≡ false
+other_numbers level number outputs h =
+    none_tests (λ (f : NewFile). eqb number f.meta.number) (map (new_file level) outputs)
+    (λ f at. let x = from_map (new_file level) outputs f at in
     not_equal number f.meta.number (λ same. h x.source x.there (ap (λ (g : NewFile). g.meta.number) x.is ∙ sym same)))
 
-new_apart : (level first : ℕ) (plan : List Planned) → AreNumbered first plan → are_apart (map (new_file level) plan) ≡ true
+new_apart : (level first : ℕ) (outputs : List Output) → AreNumbered first outputs → are_apart (map (new_file level) outputs) ≡ true
 new_apart level first [] h = refl
 new_apart level first (p ∷ ps) h =
     let other : has_number (map (new_file level) ps) p.number ≡ false = other_numbers level p.number ps (λ q at same.
@@ -185,8 +186,8 @@ distinct_two (x ∷ xs) ys hx hy h = (
     all_two [] k = all_behind ys (λ g j. h x g (first_in x xs) j)
     all_two (z ∷ zs) k = (k.0, all_two zs k.1)
 
-module _ (cmp : List ℕ → List ℕ → Ordering) (total : IsTotalOrder cmp) (v : State) (tables : List Numbered) (level : ℕ) (r : RequestView) (plan : List Planned)
-    (lawful : IsLawful cmp v tables) (picked : IsPicked cmp v level r.picked) (high : ForSome v.next_file (λ next. next ≤ r.first_number)) (numbered : AreNumbered r.first_number plan) where
+module _ (cmp : List ℕ → List ℕ → Ordering) (total : IsTotalOrder cmp) (v : State) (tables : List Numbered) (level : ℕ) (r : RequestView) (outputs : List Output)
+    (lawful : IsLawful cmp v tables) (picked : IsPicked cmp v level r.picked) (high : ForSome v.next_file (λ next. next ≤ r.first_number)) (numbered : AreNumbered r.first_number outputs) where
   abbrev files : List InputFile
   files = r.picked.files
 
@@ -234,44 +235,46 @@ module _ (cmp : List ℕ → List ℕ → Ordering) (total : IsTotalOrder cmp) (
   kept_are = filter_same (λ (f : NewFile). not (is_deleted (deletions_of files) f)) (λ (f : NewFile). not (is_input r.picked f.meta.number)) v.files (λ f at. ap not (same_tests f at))
 
   -- no file that is there has the number of an output
-  no_clash : (f : NewFile) → Contains v.files f → has_number (new_files r plan) f.meta.number ≡ false
+  no_clash : (f : NewFile) → Contains v.files f → has_number (new_files r outputs) f.meta.number ≡ false
   no_clash f at =
       let lt = below_first cmp v tables lawful r.first_number high f at in
-      other_numbers (r.picked.level + 1) f.meta.number plan (λ q i same. let le = numbered_from r.first_number plan numbered q i in omega (arith, le, lt, same))
+      other_numbers (r.picked.level + 1) f.meta.number outputs (λ q i same. let le = numbered_from r.first_number outputs numbered q i in omega (arith, le, lt, same))
 
   stays_there : (f : NewFile) → Contains (staying v r.picked) f → Contains v.files f
   stays_there f at = (from_filter (λ (g : NewFile). not (is_input r.picked g.meta.number)) v.files f at).0
 
-  new : are_new (kept_files (deletions_of files) v.files) (new_files r plan) ≡ true
+  new : are_new (kept_files (deletions_of files) v.files) (new_files r outputs) ≡ true
   new =
-      let none : list_any (λ (f : NewFile). has_number (new_files r plan) f.meta.number) (staying v r.picked) ≡ false =
-      none_tests (λ (f : NewFile). has_number (new_files r plan) f.meta.number) (staying v r.picked) (λ f at. no_clash f (stays_there f at)) in
-      and_both (are_apart (new_files r plan)) (not (list_any (λ (f : NewFile). has_number (new_files r plan) f.meta.number) (kept_files (deletions_of files) v.files)))
-      (new_apart (r.picked.level + 1) r.first_number plan numbered) (ap (λ (l : List NewFile). not (list_any (λ (f : NewFile). has_number (new_files r plan) f.meta.number) l)) kept_are ∙ ap not none)
+      let none : list_any (λ (f : NewFile). has_number (new_files r outputs) f.meta.number) (staying v r.picked) ≡ false =
+      none_tests (λ (f : NewFile). has_number (new_files r outputs) f.meta.number) (staying v r.picked) (λ f at. no_clash f (stays_there f at)) in
+      and_both (are_apart (new_files r outputs)) (not (list_any (λ (f : NewFile). has_number (new_files r outputs) f.meta.number) (kept_files (deletions_of files) v.files)))
+      (new_apart (r.picked.level + 1) r.first_number outputs numbered) (ap (λ (l : List NewFile). not (list_any (λ (f : NewFile). has_number (new_files r outputs) f.meta.number) l)) kept_are ∙ ap not none)
 
-  edited : applied v (edit_of r plan) ≡ Some (version_after v r plan)
+  edited : applied v (edit_of r (new_files r outputs)) ≡ Some (version_after v r outputs)
   edited =
-      rw (after_is v.files (deletions_of files) (new_files r plan) there new) (ap (λ (l : List NewFile). Some (with_files (fold with_file l (new_files r plan)))) kept_are)
+      rw (after_is v.files (deletions_of files) (new_files r outputs) there new)
+      (ap (λ (l : List NewFile). Some (with_files (length (new_files r outputs)) (fold with_file l (new_files r outputs)))) kept_are
+      ∙ ap (λ (n : ℕ). Some (with_files n (fold with_file (staying v r.picked) (new_files r outputs)))) (length-map outputs (new_file (r.picked.level + 1))))
     where
-      with_files : List NewFile → State
-      with_files l = record (version_after v r plan) { files = l }
+      with_files : ℕ → List NewFile → State
+      with_files n l = record (version_after v r outputs) { next_file = Some (r.first_number + n); files = l }
 
-  pub apart_all : IsDistinct same_file (staying v r.picked ++ new_files r plan)
+  pub apart_all : IsDistinct same_file (staying v r.picked ++ new_files r outputs)
   apart_all =
-      distinct_two (staying v r.picked) (new_files r plan) (apart_distinct (staying v r.picked) (apart_filter (λ (f : NewFile). not (is_input r.picked f.meta.number)) v.files lawful.apart))
-      (apart_distinct (new_files r plan) (new_apart (r.picked.level + 1) r.first_number plan numbered))
+      distinct_two (staying v r.picked) (new_files r outputs) (apart_distinct (staying v r.picked) (apart_filter (λ (f : NewFile). not (is_input r.picked f.meta.number)) v.files lawful.apart))
+      (apart_distinct (new_files r outputs) (new_apart (r.picked.level + 1) r.first_number outputs numbered))
       (λ f g i j. not_equal f.meta.number g.meta.number (λ same.
-      let x = from_map (new_file (r.picked.level + 1)) plan g j in
+      let x = from_map (new_file (r.picked.level + 1)) outputs g j in
       let lt = below_first cmp v tables lawful r.first_number high f (stays_there f i) in
-      let le = numbered_from r.first_number plan numbered x.source x.there in
+      let le = numbered_from r.first_number outputs numbered x.source x.there in
       let is : x.source.number ≡ g.meta.number = ap (λ (h : NewFile). h.meta.number) x.is in
       omega (arith, lt, le, is, same)))
 
-  files_are : IsPermutation (staying v r.picked ++ new_files r plan) (version_after v r plan).files
-  files_are = all_permute number_cmp number_total same_file same_turned tied_same (staying v r.picked) (new_files r plan) apart_all
+  files_are : IsPermutation (staying v r.picked ++ new_files r outputs) (version_after v r outputs).files
+  files_are = all_permute number_cmp number_total same_file same_turned tied_same (staying v r.picked) (new_files r outputs) apart_all
 
 pub edit_applies : (cmp : List ℕ → List ℕ → Ordering) → IsTotalOrder cmp → EditApplies cmp
 edit_applies cmp total = record {
-  applies = λ v tables level r plan lawful picked high numbered. edited cmp total v tables level r plan lawful picked high numbered;
-  files = λ v tables level r plan lawful picked high numbered. files_are cmp total v tables level r plan lawful picked high numbered;
+  applies = λ v tables level r outputs lawful picked high numbered. edited cmp total v tables level r outputs lawful picked high numbered;
+  files = λ v tables level r outputs lawful picked high numbered. files_are cmp total v tables level r outputs lawful picked high numbered;
 }

@@ -45,13 +45,13 @@ use Rattle.survival.proofs.FileKeys.{below_upto, from_smallest, keys_total, to_l
 use Rattle.keep.specs.Keeping.{keeps, kept_behind, kept}
 use Rattle.keep.specs.Readable.{Readable, readable_of}
 use Rattle.cut.specs.Outputs.{all_of}
-use Rattle.cut.specs.Plan.{Planned, assembled}
+use Rattle.request.specs.OutputTables.{Output, numbered_tables}
 use Rattle.request.specs.Request.{RequestView}
-use Rattle.request.specs.EditOf.{new_file}
-use Rattle.request.specs.OneThread.{Answer, table_for}
+use Rattle.request.specs.EditOf.{new_file, new_files}
+use Rattle.request.specs.OneThread.{Answer}
 use Rattle.survival.specs.GetsAfter.{staying, entries_of_inputs, HoldKept}
-use Rattle.survival.specs.EditAfter.{new_files, version_after}
-use Rattle.survival.specs.Over.{IsOver, AreWritten, planned_entries, HoldOutputs}
+use Rattle.survival.specs.EditAfter.{version_after}
+use Rattle.survival.specs.Over.{IsOver, AreWritten, output_entries, HoldOutputs}
 use Rattle.survival.specs.Survive.{output_table, tables_after, StandsAfter}
 use Rattle.survival.proofs.Applying.{apart_all, edit_applies, numbered_to}
 use Rattle.survival.proofs.Gets.{kept_part, not_itself, rising_lower}
@@ -112,18 +112,15 @@ module _ (cmp : List ℕ → List ℕ → Ordering) (total : IsTotalOrder cmp) (
   abbrev p : Picked
   p = r.picked
 
-  abbrev plan : List Planned
-  plan = held.plan
-
-  abbrev written_by : List Entry → List ℕ
-  written_by = table_for cmp separator_of successor_of r
+  abbrev outputs : List Output
+  outputs = held.outputs
 
   abbrev after : State
-  after = version_after v r held.plan
+  after = version_after v r held.outputs
 
-  -- the tables after, by the plan
+  -- the tables after, by the outputs
   abbrev now : List Numbered
-  now = map (output_table cmp) (assembled (table_for cmp separator_of successor_of r) held.plan) ++ filter (λ (t : Numbered). not (is_input r.picked t.number)) tables
+  now = map (output_table cmp) (numbered_tables held.outputs) ++ filter (λ (t : Numbered). not (is_input r.picked t.number)) tables
 
   abbrev readable : Readable
   readable = readable_of r.snapshots r.last_sequence
@@ -134,33 +131,33 @@ module _ (cmp : List ℕ → List ℕ → Ordering) (total : IsTotalOrder cmp) (
   closed : AreClosed cmp v tables r.picked
   closed = closed_inputs cmp total v tables level r.picked lawful low picked
 
-  written : (q : Planned) → Contains plan q → AreWritten cmp (written_by q.entries) q.entries
-  written q at = All-contains (λ (x : Planned). AreWritten cmp (written_by x.entries) x.entries) plan q held.written at
+  written : (q : Output) → Contains outputs q → AreWritten cmp q.bytes q.entries
+  written q at = All-contains (λ (x : Output). AreWritten cmp x.bytes x.entries) outputs q held.written at
 
   -- ---- the files after
 
-  permuted : IsPermutation (staying v r.picked ++ new_files r held.plan) after.files
-  permuted = (edit_applies cmp total).files v tables level r held.plan lawful picked over.numbers held.numbered
+  permuted : IsPermutation (staying v r.picked ++ new_files r held.outputs) after.files
+  permuted = (edit_applies cmp total).files v tables level r held.outputs lawful picked over.numbers held.numbered
 
   -- a file that is an output
   abbrev IsOutput : NewFile → Type 0
-  IsOutput f = (q : Planned) × Contains held.plan q × (new_file (r.picked.level + 1) q ≡ f)
+  IsOutput f = (q : Output) × Contains held.outputs q × (new_file (r.picked.level + 1) q ≡ f)
 
   side : (f : NewFile) → Contains after.files f → Contains (staying v r.picked) f ⊎ IsOutput f
   side f at =
-      let back = Contains-permutation after.files (staying v r.picked ++ new_files r held.plan) f (IsPermutation-sym (staying v r.picked ++ new_files r held.plan) after.files permuted) at in
-      elim (Contains-append_cases (staying v r.picked) (new_files r held.plan) f back) [
+      let back = Contains-permutation after.files (staying v r.picked ++ new_files r held.outputs) f (IsPermutation-sym (staying v r.picked ++ new_files r held.outputs) after.files permuted) at in
+      elim (Contains-append_cases (staying v r.picked) (new_files r held.outputs) f back) [
         | inl i ↦ inl i
-        | inr i ↦ (let x = from_map (new_file (r.picked.level + 1)) held.plan f i in inr (x.source, x.there, x.is))
+        | inr i ↦ (let x = from_map (new_file (r.picked.level + 1)) held.outputs f i in inr (x.source, x.there, x.is))
       ]
 
   stays_after : (f : NewFile) → Contains (staying v r.picked) f → Contains after.files f
-  stays_after f at = Contains-permutation (staying v r.picked ++ new_files r held.plan) after.files f permuted (Contains-append_left (staying v r.picked) (new_files r held.plan) f at)
+  stays_after f at = Contains-permutation (staying v r.picked ++ new_files r held.outputs) after.files f permuted (Contains-append_left (staying v r.picked) (new_files r held.outputs) f at)
 
-  output_after : (q : Planned) → Contains plan q → Contains after.files (new_file (r.picked.level + 1) q)
+  output_after : (q : Output) → Contains outputs q → Contains after.files (new_file (r.picked.level + 1) q)
   output_after q at =
-      Contains-permutation (staying v r.picked ++ new_files r held.plan) after.files (new_file (r.picked.level + 1) q) permuted
-      (Contains-append_right (staying v r.picked) (new_files r held.plan) (new_file (r.picked.level + 1) q) (in_map (new_file (r.picked.level + 1)) held.plan q at))
+      Contains-permutation (staying v r.picked ++ new_files r held.outputs) after.files (new_file (r.picked.level + 1) q) permuted
+      (Contains-append_right (staying v r.picked) (new_files r held.outputs) (new_file (r.picked.level + 1) q) (in_map (new_file (r.picked.level + 1)) held.outputs q at))
 
   there : (f : NewFile) → Contains (staying v r.picked) f → Contains v.files f
   there f at = (from_filter (λ (g : NewFile). not (is_input r.picked g.meta.number)) v.files f at).0
@@ -171,16 +168,16 @@ module _ (cmp : List ℕ → List ℕ → Ordering) (total : IsTotalOrder cmp) (
   -- ---- the tables after
 
   old_table : (f : NewFile) → Contains (staying v r.picked) f → table_of now f.meta.number ≡ table_of tables f.meta.number
-  old_table f at = other_found cmp written_by r.first_number held.plan held.numbered r.picked tables f.meta.number (below_first cmp v tables lawful r.first_number over.numbers f (there f at)) (out f at)
+  old_table f at = other_found cmp r.first_number held.outputs held.numbered r.picked tables f.meta.number (below_first cmp v tables lawful r.first_number over.numbers f (there f at)) (out f at)
 
   old_entries : (f : NewFile) → Contains (staying v r.picked) f → table_entries now f.meta.number ≡ table_entries tables f.meta.number
   old_entries f at = ap (λ (o : Option Contents). option_map_or (λ (t : Contents). t.entries) o []) (old_table f at)
 
-  new_table : (q : Planned) → Contains plan q → table_of now q.number ≡ Some (contents_in cmp (written_by q.entries))
-  new_table q at = output_found cmp written_by r.first_number held.plan held.numbered q at (filter (λ (t : Numbered). not (is_input r.picked t.number)) tables)
+  new_table : (q : Output) → Contains outputs q → table_of now q.number ≡ Some (contents_in cmp q.bytes)
+  new_table q at = output_found cmp r.first_number held.outputs held.numbered q at (filter (λ (t : Numbered). not (is_input r.picked t.number)) tables)
 
-  new_entries : (q : Planned) → Contains plan q → table_entries now q.number ≡ q.entries
-  new_entries q at = entries_are now q.number (contents_in cmp (written_by q.entries)) (new_table q at) ∙ (written q at).holds
+  new_entries : (q : Output) → Contains outputs q → table_entries now q.number ≡ q.entries
+  new_entries q at = entries_are now q.number (contents_in cmp q.bytes) (new_table q at) ∙ (written q at).holds
 
   -- ---- where the entries of outputs come from
 
@@ -197,11 +194,11 @@ module _ (cmp : List ℕ → List ℕ → Ordering) (total : IsTotalOrder cmp) (
       let of = from_map (λ (x : InputFile). table_entries tables x.meta.number) r.picked.files from.source from.there in
       record { input = of.source; there_in = of.there; held_by = subst (λ (l : List Entry). Contains l e) (sym of.is) from.held }
 
-  in_all : (q : Planned) → Contains plan q → (e : Entry) → Contains q.entries e → Contains (all_of (planned_entries held.plan)) e
-  in_all q at e i = in_flat_map (λ (l : List Entry). l) (planned_entries held.plan) q.entries e (in_map (λ (x : Planned). x.entries) held.plan q at) i
+  in_all : (q : Output) → Contains outputs q → (e : Entry) → Contains q.entries e → Contains (all_of (output_entries held.outputs)) e
+  in_all q at e i = in_flat_map (λ (l : List Entry). l) (output_entries held.outputs) q.entries e (in_map (λ (x : Output). x.entries) held.outputs q at) i
 
-  from_plan : (q : Planned) → Contains plan q → (e : Entry) → Contains q.entries e → IsFromInput e
-  from_plan q at e i = from_union e (kept_part cmp readable r.picked.deeper None held.union e (subst (λ (l : List Entry). Contains l e) held.holds_kept (in_all q at e i)))
+  from_output : (q : Output) → Contains outputs q → (e : Entry) → Contains q.entries e → IsFromInput e
+  from_output q at e i = from_union e (kept_part cmp readable r.picked.deeper None held.union e (subst (λ (l : List Entry). Contains l e) held.holds_kept (in_all q at e i)))
 
   file_of_input : (i : InputFile) → Contains r.picked.files i → IsFileOf cmp tables i.meta
   file_of_input i at =
@@ -210,17 +207,17 @@ module _ (cmp : List ℕ → List ℕ → Ordering) (total : IsTotalOrder cmp) (
 
   -- ---- each file's table
 
-  of_output : (q : Planned) → Contains plan q → IsFileOf cmp now (new_file (r.picked.level + 1) q).meta
+  of_output : (q : Output) → Contains outputs q → IsFileOf cmp now (new_file (r.picked.level + 1) q).meta
   of_output q at =
       let w = written q at in
-      let contents = contents_in cmp (written_by q.entries) in
+      let contents = contents_in cmp q.bytes in
       record {
         table = contents;
         there = new_table q at;
         accepted = ap (contents_reading cmp) w.same ∙ w.reads;
         keys = All-from_recursion (λ (e : Entry). IsInternalKey e.key) contents.entries (subst (λ (es : List Entry). AllByRecursion (λ e. IsInternalKey e.key) es) (sym w.holds) w.keys);
         rising = subst (IsRising cmp) (sym w.holds) w.rising;
-        size = All-contains (λ (x : Planned). x.length ≡ length (written_by x.entries)) plan q held.lengths at ∙ ap length (sym w.same);
+        size = ap length (sym w.same);
         smallest = ap (λ (es : List Entry). option_map (λ (e : Entry). e.key) (slice_get es 0)) w.holds ∙ first_is q.entries (has_entry q.entries w.some);
         largest = ap (λ (es : List Entry). option_map (λ (e : Entry). e.key) (slice_get es (length es - 1))) w.holds ∙ last_is q.entries (has_entry q.entries w.some);
       }
@@ -250,22 +247,22 @@ module _ (cmp : List ℕ → List ℕ → Ordering) (total : IsTotalOrder cmp) (
 
   distinct_after : IsDistinct same_file after.files
   distinct_after =
-      IsDistinct-IsPermutation same_file same_turned (staying v r.picked ++ new_files r held.plan) after.files permuted (apart_all cmp total v tables level r held.plan lawful picked over.numbers held.numbered)
+      IsDistinct-IsPermutation same_file same_turned (staying v r.picked ++ new_files r held.outputs) after.files permuted (apart_all cmp total v tables level r held.outputs lawful picked over.numbers held.numbered)
 
-  below_side : (f : NewFile) → Contains (staying v r.picked) f ⊎ IsOutput f → f.meta.number < r.first_number + length plan
+  below_side : (f : NewFile) → Contains (staying v r.picked) f ⊎ IsOutput f → f.meta.number < r.first_number + length outputs
   below_side f (inl i) = let lt = below_first cmp v tables lawful r.first_number over.numbers f (there f i) in omega (arith, lt)
-  below_side f (inr x) = subst (λ (g : NewFile). g.meta.number < r.first_number + length plan) x.2 (numbered_to r.first_number held.plan held.numbered x.0 x.1)
+  below_side f (inr x) = subst (λ (g : NewFile). g.meta.number < r.first_number + length outputs) x.2 (numbered_to r.first_number held.outputs held.numbered x.0 x.1)
 
   below_after : All (λ (f : NewFile). IsBelowNext after.next_file f.meta.number) after.files
   below_after k d lt = let f = get_or after.files k d in below_side f (side f (Contains-get_or after.files k d lt))
 
   -- ---- ranges
 
-  ends : (q : Planned) → Contains plan q → HasEnds q.entries
+  ends : (q : Output) → Contains outputs q → HasEnds q.entries
   ends q at = has_ends q.entries (written q at).some
 
   -- a file that stays at the outputs' level lies before an output or behind it
-  beside : (f : NewFile) → Contains (staying v r.picked) f → f.level ≡ r.picked.level + 1 → (q : Planned) → Contains plan q
+  beside : (f : NewFile) → Contains (staying v r.picked) f → f.level ≡ r.picked.level + 1 → (q : Output) → Contains outputs q
       → (internal_cmp cmp f.meta.largest (first_key q.entries) ≡ Less) ⊎ (internal_cmp cmp (last_key [] q.entries) f.meta.smallest ≡ Less)
   beside f i own q at =
       elim (sides cmp total v tables lawful level r.picked picked f.meta (in_level cmp total v tables lawful f (there f i) (level + 1) (own ∙ ap (λ (n : ℕ). n + 1) picked.level_is)) (out f i)) [
@@ -278,29 +275,29 @@ module _ (cmp : List ℕ → List ℕ → Ordering) (total : IsTotalOrder cmp) (
 
       of_first : All (λ (x : InputFile). internal_cmp cmp f.meta.largest x.meta.smallest ≡ Less) r.picked.files → internal_cmp cmp f.meta.largest (first_key q.entries) ≡ Less
       of_first before =
-          let from = from_plan q at (ends q at).first (ends q at).first_there in
+          let from = from_output q at (ends q at).first (ends q at).first_there in
           let lt = All-contains (λ (x : InputFile). internal_cmp cmp f.meta.largest x.meta.smallest ≡ Less) r.picked.files from.input before from.there_in in
           subst (λ (k : List ℕ). internal_cmp cmp f.meta.largest k ≡ Less) (ends q at).first_key_is
           (below_upto (internal_cmp cmp) (keys_total cmp total) f.meta.largest from.input.meta.smallest (ends q at).first.key lt (from_smallest cmp total tables from.input.meta (file_of_input from.input from.there_in) (ends q at).first from.held_by))
 
       of_last : All (λ (x : InputFile). internal_cmp cmp x.meta.largest f.meta.smallest ≡ Less) r.picked.files → internal_cmp cmp (last_key [] q.entries) f.meta.smallest ≡ Less
       of_last behind =
-          let from = from_plan q at (ends q at).last (ends q at).last_there in
+          let from = from_output q at (ends q at).last (ends q at).last_there in
           let lt = All-contains (λ (x : InputFile). internal_cmp cmp x.meta.largest f.meta.smallest ≡ Less) r.picked.files from.input behind from.there_in in
           subst (λ (k : List ℕ). internal_cmp cmp k f.meta.smallest ≡ Less) (ends q at).last_key_is
           (upto_below (internal_cmp cmp) (keys_total cmp total) (ends q at).last.key from.input.meta.largest f.meta.smallest (to_largest cmp total tables from.input.meta (file_of_input from.input from.there_in) (ends q at).last from.held_by) lt)
 
   -- of two outputs one ends before the other begins
-  output_before : (q s : Planned) → Contains plan q → Contains plan s → LiesBelow cmp written_by q s → internal_cmp cmp (last_key [] q.entries) (first_key s.entries) ≡ Less
+  output_before : (q s : Output) → Contains outputs q → Contains outputs s → LiesBelow cmp q s → internal_cmp cmp (last_key [] q.entries) (first_key s.entries) ≡ Less
   output_before q s at also below =
       let users = below (ends q at).last (ends s also).first (ends q at).last_there (ends s also).first_there in
       subst (λ (k : List ℕ). internal_cmp cmp k (first_key s.entries) ≡ Less) (ends q at).last_key_is
       (subst (λ (k : List ℕ). internal_cmp cmp (ends q at).last.key k ≡ Less) (ends s also).first_key_is (users_below cmp total (ends q at).last.key (ends s also).first.key users))
 
-  apart : (q s : Planned) → Contains plan q → Contains plan s → (q.number ≡ s.number → ⊥) → LiesBelow cmp written_by q s ⊎ LiesBelow cmp written_by s q
+  apart : (q s : Output) → Contains outputs q → Contains outputs s → (q.number ≡ s.number → ⊥) → LiesBelow cmp q s ⊎ LiesBelow cmp s q
   apart q s at also differ =
-      elim (outputs_apart cmp written_by held.plan held.users q s at also) [
-        | inl same ↦ absurd (differ (ap (λ (x : Planned). x.number) same))
+      elim (outputs_apart cmp held.outputs held.users q s at also) [
+        | inl same ↦ absurd (differ (ap (λ (x : Output). x.number) same))
         | inr below ↦ below
       ]
 
@@ -323,15 +320,15 @@ module _ (cmp : List ℕ → List ℕ → Ordering) (total : IsTotalOrder cmp) (
   all_distinct : Pairs AreDistinct (flat_map (λ (f : NewFile). table_entries tables f.meta.number) v.files)
   all_distinct = pairs_from AreDistinct (flat_map (λ (f : NewFile). table_entries tables f.meta.number) v.files) lawful.sequences_once
 
-  plan_distinct : (q : Planned) → Contains plan q → Pairs AreDistinct q.entries
-  plan_distinct q at =
+  output_distinct : (q : Output) → Contains outputs q → Pairs AreDistinct q.entries
+  output_distinct q at =
       let union = weaker_pairs IsLower AreDistinct lower_distinct held.union (rising_lower cmp total exact held.union held.is_union.rising) in
-      let all : Pairs AreDistinct (flat_map (λ (l : List Entry). l) (planned_entries held.plan)) = subst (Pairs AreDistinct) (sym held.holds_kept) (kept_pairs cmp AreDistinct readable r.picked.deeper None held.union union) in
-      pairs_part AreDistinct (λ (l : List Entry). l) (planned_entries held.plan) q.entries all (in_map (λ (x : Planned). x.entries) held.plan q at)
+      let all : Pairs AreDistinct (flat_map (λ (l : List Entry). l) (output_entries held.outputs)) = subst (Pairs AreDistinct) (sym held.holds_kept) (kept_pairs cmp AreDistinct readable r.picked.deeper None held.union union) in
+      pairs_part AreDistinct (λ (l : List Entry). l) (output_entries held.outputs) q.entries all (in_map (λ (x : Output). x.entries) held.outputs q at)
 
   own_distinct : (f : NewFile) → Contains (staying v r.picked) f ⊎ IsOutput f → Pairs AreDistinct (table_entries now f.meta.number)
   own_distinct f (inl i) = subst (Pairs AreDistinct) (sym (old_entries f i)) (pairs_part AreDistinct (λ (g : NewFile). table_entries tables g.meta.number) v.files f all_distinct (there f i))
-  own_distinct f (inr x) = subst (λ (g : NewFile). Pairs AreDistinct (table_entries now g.meta.number)) x.2 (subst (Pairs AreDistinct) (sym (new_entries x.0 x.1)) (plan_distinct x.0 x.1))
+  own_distinct f (inr x) = subst (λ (g : NewFile). Pairs AreDistinct (table_entries now g.meta.number)) x.2 (subst (Pairs AreDistinct) (sym (new_entries x.0 x.1)) (output_distinct x.0 x.1))
 
   -- an entry of a file that stays, and one of an input
   stay_input : (f : NewFile) → Contains (staying v r.picked) f → (x y : Entry) → Contains (table_entries tables f.meta.number) x → IsFromInput y → AreDistinct x y
@@ -343,7 +340,7 @@ module _ (cmp : List ℕ → List ℕ → Ordering) (total : IsTotalOrder cmp) (
       one_way x y
       (pairs_of_two AreDistinct (λ (h : NewFile). table_entries tables h.meta.number) v.files f g.file x y differ all_distinct (there f i) g.there own (subst (λ (n : ℕ). Contains (table_entries tables n) y) (sym numbers) from.held_by))
 
-  in_output : (q : Planned) → Contains plan q → (h : NewFile) → new_file (r.picked.level + 1) q ≡ h → (e : Entry) → Contains (table_entries now h.meta.number) e → Contains q.entries e
+  in_output : (q : Output) → Contains outputs q → (h : NewFile) → new_file (r.picked.level + 1) q ≡ h → (e : Entry) → Contains (table_entries now h.meta.number) e → Contains q.entries e
   in_output q at h is e k = subst (λ (l : List Entry). Contains l e) (new_entries q at) (subst (λ (n : ℕ). Contains (table_entries now n) e) (sym (ap (λ (z : NewFile). z.meta.number) is)) k)
 
   cross : (f g : NewFile) → (f.meta.number ≡ g.meta.number → ⊥) → (x y : Entry) → Contains (table_entries now f.meta.number) x → Contains (table_entries now g.meta.number) y
@@ -353,9 +350,9 @@ module _ (cmp : List ℕ → List ℕ → Ordering) (total : IsTotalOrder cmp) (
       (pairs_of_two AreDistinct (λ (h : NewFile). table_entries tables h.meta.number) v.files f g x y (λ same. differ (ap (λ (h : NewFile). h.meta.number) same)) all_distinct (there f i) (there g j)
       (subst (λ (l : List Entry). Contains l x) (old_entries f i) own) (subst (λ (l : List Entry). Contains l y) (old_entries g j) also))
   cross f g differ x y own also (inl i) (inr s) =
-      stay_input f i x y (subst (λ (l : List Entry). Contains l x) (old_entries f i) own) (from_plan s.0 s.1 y (in_output s.0 s.1 g s.2 y also))
+      stay_input f i x y (subst (λ (l : List Entry). Contains l x) (old_entries f i) own) (from_output s.0 s.1 y (in_output s.0 s.1 g s.2 y also))
   cross f g differ x y own also (inr s) (inl j) =
-      turned x y (stay_input g j y x (subst (λ (l : List Entry). Contains l y) (old_entries g j) also) (from_plan s.0 s.1 x (in_output s.0 s.1 f s.2 x own)))
+      turned x y (stay_input g j y x (subst (λ (l : List Entry). Contains l y) (old_entries g j) also) (from_output s.0 s.1 x (in_output s.0 s.1 f s.2 x own)))
   cross f g differ x y own also (inr s) (inr t) = λ same. absurd (none same)
     where
       numbers : s.0.number ≡ t.0.number → ⊥
@@ -408,12 +405,12 @@ module _ (cmp : List ℕ → List ℕ → Ordering) (total : IsTotalOrder cmp) (
       let own : g.level ≡ r.picked.level + 1 = sym (ap (λ (h : NewFile). h.level) t.2) in
       let lt : f.level < r.picked.level + 1 = elim above [ inl less ↦ omega (arith, less, own) | inr both ↦ (let zero_level = both.1 in absurd (omega (arith, zero_level, own))) ] in
       newer_of (table_entries now f.meta.number) (table_entries now g.meta.number)
-      (λ x y first second same. newer_than_input f (stay_newer f i lt) x y (subst (λ (l : List Entry). Contains l x) (old_entries f i) first) (from_plan t.0 t.1 y (in_output t.0 t.1 g t.2 y second)) same)
+      (λ x y first second same. newer_than_input f (stay_newer f i lt) x y (subst (λ (l : List Entry). Contains l x) (old_entries f i) first) (from_output t.0 t.1 y (in_output t.0 t.1 g t.2 y second)) same)
   newer_sides f g above (inr s) (inl j) =
       let own : f.level ≡ r.picked.level + 1 = sym (ap (λ (h : NewFile). h.level) s.2) in
       let lt : r.picked.level + 1 < g.level = elim above [ inl less ↦ omega (arith, less, own) | inr both ↦ (let zero_level = both.0 in absurd (omega (arith, zero_level, own))) ] in
       newer_of (table_entries now f.meta.number) (table_entries now g.meta.number)
-      (λ x y first second same. older_than_input g (closed.deeper g (there g j) lt) x y (from_plan s.0 s.1 x (in_output s.0 s.1 f s.2 x first)) (subst (λ (l : List Entry). Contains l y) (old_entries g j) second) same)
+      (λ x y first second same. older_than_input g (closed.deeper g (there g j) lt) x y (from_output s.0 s.1 x (in_output s.0 s.1 f s.2 x first)) (subst (λ (l : List Entry). Contains l y) (old_entries g j) second) same)
   newer_sides f g above (inr s) (inr t) =
       let first : f.level ≡ r.picked.level + 1 = sym (ap (λ (h : NewFile). h.level) s.2) in
       let second : g.level ≡ r.picked.level + 1 = sym (ap (λ (h : NewFile). h.level) t.2) in
@@ -441,8 +438,8 @@ module _ (cmp : List ℕ → List ℕ → Ordering) (total : IsTotalOrder cmp) (
 
   hold_kept : (e : Entry) → Contains (kept cmp readable r.picked.deeper held.union) e → Contains (all_entries now after.files) e
   hold_kept e at =
-      let from = from_flat_map (λ (l : List Entry). l) (planned_entries held.plan) e (subst (λ (l : List Entry). Contains l e) (sym held.holds_kept) at) in
-      let q = from_map (λ (x : Planned). x.entries) held.plan from.source from.there in
+      let from = from_flat_map (λ (l : List Entry). l) (output_entries held.outputs) e (subst (λ (l : List Entry). Contains l e) (sym held.holds_kept) at) in
+      let q = from_map (λ (x : Output). x.entries) held.outputs from.source from.there in
       in_flat_map (λ (f : NewFile). table_entries now f.meta.number) after.files (new_file (r.picked.level + 1) q.source) e (output_after q.source q.there)
       (subst (λ (l : List Entry). Contains l e) (sym (new_entries q.source q.there)) (subst (λ (l : List Entry). Contains l e) (sym q.is) from.held))
 

@@ -16,9 +16,9 @@ use Rattle.reads.proofs.FallingEntries.{each_of}
 use Rattle.reads.proofs.Members.{first_or_later, later_in, first_in, none_in, from_map, in_flat_map, in_map}
 use Rattle.survival.specs.Closed.{is_input}
 use Rattle.cut.specs.Outputs.{all_of, UsersRise}
-use Rattle.cut.specs.Plan.{Planned, assembled}
+use Rattle.request.specs.OutputTables.{Output, numbered_tables}
 use Rattle.survival.specs.EditAfter.{AreNumbered}
-use Rattle.survival.specs.Over.{planned_entries}
+use Rattle.survival.specs.Over.{output_entries}
 use Rattle.survival.specs.Survive.{output_table}
 use Rattle.survival.proofs.Applying.{numbered_from}
 
@@ -43,23 +43,23 @@ not_equal m n h = by (eqb m n) refl
     by true e = absurd (h (eqb-true m n e))
     by false e = refl
 
-module _ (cmp : List ℕ → List ℕ → Ordering) (written_by : List Entry → List ℕ) where
+module _ (cmp : List ℕ → List ℕ → Ordering) where
   -- an output's table is found under its number
-  find_output : (number : ℕ) (plan : List Planned) → AreNumbered number plan → (q : Planned) → Contains plan q → (rest : List Numbered)
-      → find (λ (t : Numbered). eqb t.number q.number) (map (output_table cmp) (assembled written_by plan) ++ rest) ≡ Some (output_table cmp (q.number, written_by q.entries))
+  find_output : (number : ℕ) (outputs : List Output) → AreNumbered number outputs → (q : Output) → Contains outputs q → (rest : List Numbered)
+      → find (λ (t : Numbered). eqb t.number q.number) (map (output_table cmp) (numbered_tables outputs) ++ rest) ≡ Some (output_table cmp (q.number, q.bytes))
   find_output number [] numbered q at rest = absurd (none_in q at)
   find_output number (p ∷ ps) numbered q at rest = by_place (first_or_later p ps q at) (λ later. find_output (number + 1) ps numbered.1 q later rest)
     where
       tables : List Numbered
-      tables = map (output_table cmp) (assembled written_by ps) ++ rest
+      tables = map (output_table cmp) (numbered_tables ps) ++ rest
 
-      own : q ≡ p → find (λ (t : Numbered). eqb t.number q.number) (output_table cmp (p.number, written_by p.entries) ∷ tables) ≡ Some (output_table cmp (q.number, written_by q.entries))
+      own : q ≡ p → find (λ (t : Numbered). eqb t.number q.number) (output_table cmp (p.number, p.bytes) ∷ tables) ≡ Some (output_table cmp (q.number, q.bytes))
       own same =
-          let hit : eqb p.number q.number ≡ true = eq-eqb p.number q.number (ap (λ (x : Planned). x.number) (sym same)) in
-          rw hit (ap (λ (x : Planned). Some (output_table cmp (x.number, written_by x.entries))) (sym same))
+          let hit : eqb p.number q.number ≡ true = eq-eqb p.number q.number (ap (λ (x : Output). x.number) (sym same)) in
+          rw hit (ap (λ (x : Output). Some (output_table cmp (x.number, x.bytes))) (sym same))
 
-      by_place : (q ≡ p) ⊎ Contains ps q → (Contains ps q → find (λ (t : Numbered). eqb t.number q.number) tables ≡ Some (output_table cmp (q.number, written_by q.entries)))
-          → find (λ (t : Numbered). eqb t.number q.number) (output_table cmp (p.number, written_by p.entries) ∷ tables) ≡ Some (output_table cmp (q.number, written_by q.entries))
+      by_place : (q ≡ p) ⊎ Contains ps q → (Contains ps q → find (λ (t : Numbered). eqb t.number q.number) tables ≡ Some (output_table cmp (q.number, q.bytes)))
+          → find (λ (t : Numbered). eqb t.number q.number) (output_table cmp (p.number, p.bytes) ∷ tables) ≡ Some (output_table cmp (q.number, q.bytes))
       by_place (inl same) later_found = own same
       by_place (inr later) later_found =
           let le = numbered_from (number + 1) ps numbered.1 q later in
@@ -67,23 +67,23 @@ module _ (cmp : List ℕ → List ℕ → Ordering) (written_by : List Entry →
           let miss : eqb p.number q.number ≡ false = not_equal p.number q.number (λ same. omega (arith, le, is, same)) in
           rw miss (later_found later)
 
-  pub output_found : (number : ℕ) (plan : List Planned) → AreNumbered number plan → (q : Planned) → Contains plan q → (rest : List Numbered)
-      → table_of (map (output_table cmp) (assembled written_by plan) ++ rest) q.number ≡ Some (contents_in cmp (written_by q.entries))
-  output_found number plan numbered q at rest = ap (λ (o : Option Numbered). option_map (λ (t : Numbered). t.contents) o) (find_output number plan numbered q at rest)
+  pub output_found : (number : ℕ) (outputs : List Output) → AreNumbered number outputs → (q : Output) → Contains outputs q → (rest : List Numbered)
+      → table_of (map (output_table cmp) (numbered_tables outputs) ++ rest) q.number ≡ Some (contents_in cmp q.bytes)
+  output_found number outputs numbered q at rest = ap (λ (o : Option Numbered). option_map (λ (t : Numbered). t.contents) o) (find_output number outputs numbered q at rest)
 
   -- a table that stays is found as before
-  pub other_found : (number : ℕ) (plan : List Planned) → AreNumbered number plan → (p : Picked) (tables : List Numbered) (n : ℕ) → n < number → is_input p n ≡ false
-      → table_of (map (output_table cmp) (assembled written_by plan) ++ filter (λ (t : Numbered). not (is_input p t.number)) tables) n ≡ table_of tables n
-  other_found number plan numbered p tables n lt out =
+  pub other_found : (number : ℕ) (outputs : List Output) → AreNumbered number outputs → (p : Picked) (tables : List Numbered) (n : ℕ) → n < number → is_input p n ≡ false
+      → table_of (map (output_table cmp) (numbered_tables outputs) ++ filter (λ (t : Numbered). not (is_input p t.number)) tables) n ≡ table_of tables n
+  other_found number outputs numbered p tables n lt out =
       ap (λ (o : Option Numbered). option_map (λ (t : Numbered). t.contents) o)
-      (find_past (λ (t : Numbered). eqb t.number n) (map (output_table cmp) (assembled written_by plan)) (filter (λ (t : Numbered). not (is_input p t.number)) tables) no_output
+      (find_past (λ (t : Numbered). eqb t.number n) (map (output_table cmp) (numbered_tables outputs)) (filter (λ (t : Numbered). not (is_input p t.number)) tables) no_output
       ∙ find_kept (λ (t : Numbered). eqb t.number n) (λ (t : Numbered). not (is_input p t.number)) stays tables)
     where
-      no_output : (t : Numbered) → Contains (map (output_table cmp) (assembled written_by plan)) t → eqb t.number n ≡ false
+      no_output : (t : Numbered) → Contains (map (output_table cmp) (numbered_tables outputs)) t → eqb t.number n ≡ false
       no_output t at =
-          let x = from_map (output_table cmp) (assembled written_by plan) t at in
-          let q = from_map (λ (y : Planned). (y.number, written_by y.entries)) plan x.source x.there in
-          let le = numbered_from number plan numbered q.source q.there in
+          let x = from_map (output_table cmp) (numbered_tables outputs) t at in
+          let q = from_map (λ (y : Output). (y.number, y.bytes)) outputs x.source x.there in
+          let le = numbered_from number outputs numbered q.source q.there in
           let is : q.source.number ≡ t.number = ap (λ (y : ℕ × List ℕ). y.0) q.is ∙ ap (λ (y : Numbered). y.number) x.is in
           not_equal t.number n (λ same. omega (arith, lt, le, is, same))
 
@@ -93,20 +93,20 @@ module _ (cmp : List ℕ → List ℕ → Ordering) (written_by : List Entry →
   -- ---- outputs are apart
 
   -- the user keys of an output are below those of another
-  abbrev pub LiesBelow : Planned → Planned → Type 0
+  abbrev pub LiesBelow : Output → Output → Type 0
   LiesBelow p q = (x y : Entry) → Contains p.entries x → Contains q.entries y → cmp (user_of x.key) (user_of y.key) ≡ Less
 
-  pub outputs_apart : (plan : List Planned) → UsersRise cmp (planned_entries plan) → (p q : Planned) → Contains plan p → Contains plan q → (p ≡ q) ⊎ (LiesBelow p q ⊎ LiesBelow q p)
+  pub outputs_apart : (outputs : List Output) → UsersRise cmp (output_entries outputs) → (p q : Output) → Contains outputs p → Contains outputs q → (p ≡ q) ⊎ (LiesBelow p q ⊎ LiesBelow q p)
   outputs_apart [] rise p q i j = absurd (none_in p i)
-  outputs_apart (z ∷ plan) rise p q i j = by_places (first_or_later z plan p i) (first_or_later z plan q j) (λ k l. outputs_apart plan rise.1 p q k l)
+  outputs_apart (z ∷ outputs) rise p q i j = by_places (first_or_later z outputs p i) (first_or_later z outputs q j) (λ k l. outputs_apart outputs rise.1 p q k l)
     where
-      below : (w : Planned) → Contains plan w → (x y : Entry) → Contains z.entries x → Contains w.entries y → cmp (user_of x.key) (user_of y.key) ≡ Less
+      below : (w : Output) → Contains outputs w → (x y : Entry) → Contains z.entries x → Contains w.entries y → cmp (user_of x.key) (user_of y.key) ≡ Less
       below w at x y own other =
-          let all = in_flat_map (λ (l : List Entry). l) (planned_entries plan) w.entries y (in_map (λ (u : Planned). u.entries) plan w at) other in
-          each_of (λ (f : Entry). cmp (user_of x.key) (user_of f.key) ≡ Less) (all_of (planned_entries plan)) (each_of (λ (e : Entry). AllByRecursion (λ f. cmp (user_of e.key) (user_of f.key) ≡ Less) (all_of (planned_entries plan))) z.entries rise.0 x own) y all
+          let all = in_flat_map (λ (l : List Entry). l) (output_entries outputs) w.entries y (in_map (λ (u : Output). u.entries) outputs w at) other in
+          each_of (λ (f : Entry). cmp (user_of x.key) (user_of f.key) ≡ Less) (all_of (output_entries outputs)) (each_of (λ (e : Entry). AllByRecursion (λ f. cmp (user_of e.key) (user_of f.key) ≡ Less) (all_of (output_entries outputs))) z.entries rise.0 x own) y all
 
-      by_places : (p ≡ z) ⊎ Contains plan p → (q ≡ z) ⊎ Contains plan q → (Contains plan p → Contains plan q → (p ≡ q) ⊎ (LiesBelow p q ⊎ LiesBelow q p)) → (p ≡ q) ⊎ (LiesBelow p q ⊎ LiesBelow q p)
+      by_places : (p ≡ z) ⊎ Contains outputs p → (q ≡ z) ⊎ Contains outputs q → (Contains outputs p → Contains outputs q → (p ≡ q) ⊎ (LiesBelow p q ⊎ LiesBelow q p)) → (p ≡ q) ⊎ (LiesBelow p q ⊎ LiesBelow q p)
       by_places (inl e) (inl k) rest = inl (e ∙ sym k)
-      by_places (inl e) (inr k) rest = inr (inl (λ x y own other. below q k x y (subst (λ (w : Planned). Contains w.entries x) e own) other))
-      by_places (inr e) (inl k) rest = inr (inr (λ x y own other. below p e x y (subst (λ (w : Planned). Contains w.entries x) k own) other))
+      by_places (inl e) (inr k) rest = inr (inl (λ x y own other. below q k x y (subst (λ (w : Output). Contains w.entries x) e own) other))
+      by_places (inr e) (inl k) rest = inr (inr (λ x y own other. below p e x y (subst (λ (w : Output). Contains w.entries x) k own) other))
       by_places (inr e) (inr k) rest = rest e k

@@ -1,6 +1,6 @@
 -- What an answer is made of.
-use Rattle.std.proofs.Common.{◌≡◌, ◌≢◌, ℕ, suc, ◌+◌, ◌<◌, ◌≤◌, ◌^◌, Bool, true, false, ◌&&◌, List, [], ◌∷◌, ◌++◌, length, map, refl, sym, ap, subst, ◌∙◌, inl, inr, Some, None, Option, Result, Ok, Err, arith}
-use Rattle.std.specs.Prelude.{Contains, nat_lt, nat_le, if◌then◌else◌}
+use Rattle.std.proofs.Common.{◌≡◌, ◌≢◌, ℕ, ◌+◌, ◌<◌, ◌≤◌, ◌^◌, Bool, true, false, ◌&&◌, List, [], ◌∷◌, ◌++◌, length, map, refl, sym, ap, subst, ◌∙◌, inl, inr, Some, None, Option, Result, Ok, Err, arith}
+use Rattle.std.specs.Prelude.{All, Contains, nat_lt, nat_le, if◌then◌else◌}
 use Rattle.std.specs.List.{AllByRecursion, list_all}
 use Rattle.std.specs.Option.{option_map}
 use Rattle.std.specs.Ordering.{nat_cmp, ordering_then}
@@ -25,7 +25,6 @@ use Rattle.table.specs.ReadingCursors.{IsRising}
 use Rattle.table.specs.ReadingSteps.{pass}
 use Rattle.table.specs.ReadingTables.{IsTable}
 use Rattle.table.specs.Table.{table}
-use Rattle.table.specs.declared.options.Options.{Options}
 use Rattle.table.proofs.CheckedTables.{blocks_by, contents_are, contents_read, read_data}
 use Rattle.table.proofs.EntryTests.{all_tests, passed, passes}
 use Rattle.table.proofs.Tables.{reads_tables}
@@ -49,15 +48,15 @@ use Rattle.keep.specs.Marks.{heads}
 use Rattle.keep.specs.Runs.{are_distinct}
 use Rattle.keep.proofs.Distinct.{distinct_holds}
 use Rattle.cut.specs.Outputs.{all_of, outputs, UsersRise}
-use Rattle.cut.specs.Plan.{Planned, planned_from, plan_of, parts, assembled}
+use Rattle.request.specs.OutputTables.{Output, data_block_count, numbered_tables, outputs_from, outputs_test}
 use Rattle.cut.proofs.Apart.{whole_law}
 use Rattle.request.specs.Request.{RequestView, below_request, request_test}
 use Rattle.request.specs.Inputs.{about, input_reading, inputs_reading, is_stated, union_reading}
-use Rattle.request.specs.EditOf.{edit_of}
-use Rattle.request.specs.OneThread.{Answer, one_thread, table_for}
+use Rattle.request.specs.EditOf.{edit_of, new_files}
+use Rattle.request.specs.OneThread.{Answer, one_thread, outputs_answer, table_for}
 use Rattle.survival.specs.GetsAfter.{entries_of_inputs}
 use Rattle.survival.specs.EditAfter.{AreNumbered}
-use Rattle.survival.specs.Over.{bytes_of, IsOver, AreWritten, planned_entries, HoldOutputs, OutputsHold}
+use Rattle.survival.specs.Over.{bytes_of, IsOver, AreWritten, output_entries, HoldOutputs, OutputsHold}
 use Rattle.survival.proofs.Gets.{kept_part}
 use Rattle.survival.proofs.Inputs.{input_file}
 
@@ -148,24 +147,20 @@ inputs_are cmp tables (i ∷ files) (b ∷ given) place inputs are bytes h =
     let rest = inputs_are cmp tables files given (place + 1) second.value (λ x at. are x (later_in i files x at)) (tail_is (bytes_of tables i) (Some b) (map (bytes_of tables) files) (map (λ x. Some x) given) bytes) second.is in
     sym (ok_is (first.value ∷ second.value) inputs second.goes_on) ∙ (ap (λ (e : List Entry). e ∷ second.value) entries ∙ ap (λ (es : List (List Entry)). table_entries tables i.meta.number ∷ es) rest)
 
--- ---- the plan
+-- ---- the outputs
 
-module _ (table_of : List Entry → List ℕ) (o : Options) where
-  plan_numbered : (number : ℕ) (qs : List (List Entry)) → AreNumbered number (planned_from table_of o number qs)
-  plan_numbered number [] = tt
-  plan_numbered number (q ∷ qs) = (refl, plan_numbered (number + 1) qs)
+module _ (table_of : List Entry → List ℕ) where
+  outputs_numbered : (number : ℕ) (qs : List (List Entry)) → AreNumbered number (outputs_from table_of number qs)
+  outputs_numbered number [] = tt
+  outputs_numbered number (q ∷ qs) = (refl, outputs_numbered (number + 1) qs)
 
-  plan_entries : (number : ℕ) (qs : List (List Entry)) → planned_entries (planned_from table_of o number qs) ≡ qs
-  plan_entries number [] = refl
-  plan_entries number (q ∷ qs) = ap (λ (rest : List (List Entry)). q ∷ rest) (plan_entries (number + 1) qs)
+  entries_are_cut : (number : ℕ) (qs : List (List Entry)) → output_entries (outputs_from table_of number qs) ≡ qs
+  entries_are_cut number [] = refl
+  entries_are_cut number (q ∷ qs) = ap (λ (rest : List (List Entry)). q ∷ rest) (entries_are_cut (number + 1) qs)
 
-  plan_length : (number : ℕ) (qs : List (List Entry)) → length (planned_from table_of o number qs) ≡ length qs
-  plan_length number [] = refl
-  plan_length number (q ∷ qs) = ap suc (plan_length (number + 1) qs)
-
-  plan_lengths : (number : ℕ) (qs : List (List Entry)) → AllByRecursion (λ (p : Planned). p.length ≡ length (table_of p.entries)) (planned_from table_of o number qs)
-  plan_lengths number [] = tt
-  plan_lengths number (q ∷ qs) = (refl, plan_lengths (number + 1) qs)
+  bytes_are : (number : ℕ) (qs : List (List Entry)) → AllByRecursion (λ (w : Output). w.bytes ≡ table_of w.entries) (outputs_from table_of number qs)
+  bytes_are number [] = tt
+  bytes_are number (q ∷ qs) = (refl, bytes_are (number + 1) qs)
 
 -- ---- entries in order
 
@@ -254,22 +249,24 @@ united : (b : Bool) (u union : List Entry) → (if b then Ok u else Err (fault D
 united true u union h = (refl, ok_is u union h)
 united false u union h = absurd cc
 
--- what a plan that is there says
-record HasPlan (table_of : List Entry → List ℕ) (o : Options) (first : ℕ) (qs : List (List Entry)) (plan : List Planned) : Type 0 where
-  few : first + length qs < 2 ^ 64
-  small : (q : List Entry) → Contains qs q → length (table_of q) ≤ 2 ^ 30
-  is : planned_from table_of o first qs ≡ plan
+-- what an answer says of its outputs
+record HasOutputs (r : RequestView) (ws : List Output) (answer : Answer) : Type 0 where
+  few : r.first_number + length ws < 2 ^ 64
+  small : (w : Output) → Contains ws w → length w.bytes ≤ 2 ^ 30
+  is : record { tables = numbered_tables ws; edit = edit_bytes (edit_of r (new_files r ws)) } ≡ answer
 
-has_plan : (table_of : List Entry → List ℕ) (o : Options) (first : ℕ) (qs : List (List Entry)) (plan : List Planned) → plan_of table_of o first qs ≡ Ok plan → HasPlan table_of o first qs plan
-has_plan table_of o first qs plan h =
-    let in_limits : Bool = list_all (λ q. nat_le (length (table_of q)) (2 ^ 30)) qs && nat_le (length (parts o qs)) (2 ^ 40) in
-    let numbers = stepped (pass (nat_lt (first + length qs) (2 ^ 64)) Numbers) (λ _. pass in_limits TooLarge >>= λ _. Ok (planned_from table_of o first qs)) plan h in
-    let sizes = stepped (pass in_limits TooLarge) (λ _. Ok (planned_from table_of o first qs)) plan numbers.goes_on in
-    let each = and_first (list_all (λ q. nat_le (length (table_of q)) (2 ^ 30)) qs) (nat_le (length (parts o qs)) (2 ^ 40)) (passed in_limits TooLarge sizes.value sizes.is) in
+has_outputs : (r : RequestView) (ws : List Output) (answer : Answer) → outputs_answer r ws ≡ Ok answer → HasOutputs r ws answer
+has_outputs r ws answer h =
+    let is_short : Output → Bool = λ w. nat_le (length w.bytes) (2 ^ 30) in
+    let in_limits : Bool = list_all is_short ws && nat_le (data_block_count r.options ws) (2 ^ 40) in
+    let made : Answer = record { tables = numbered_tables ws; edit = edit_bytes (edit_of r (new_files r ws)) } in
+    let all = stepped (outputs_test r.options r.first_number ws) (λ _. Ok made) answer h in
+    let numbers = stepped (pass (nat_lt (r.first_number + length ws) (2 ^ 64)) Numbers) (λ _. pass in_limits TooLarge) all.value all.is in
+    let each = and_first (list_all is_short ws) (nat_le (data_block_count r.options ws) (2 ^ 40)) (passed in_limits TooLarge all.value numbers.goes_on) in
     record {
-      few = below_told (first + length qs) (2 ^ 64) (passed (nat_lt (first + length qs) (2 ^ 64)) Numbers numbers.value numbers.is);
-      small = λ q at. most_told (length (table_of q)) (2 ^ 30) (all_told (λ q. nat_le (length (table_of q)) (2 ^ 30)) qs each q at);
-      is = ok_is (planned_from table_of o first qs) plan sizes.goes_on;
+      few = below_told (r.first_number + length ws) (2 ^ 64) (passed (nat_lt (r.first_number + length ws) (2 ^ 64)) Numbers numbers.value numbers.is);
+      small = λ w at. most_told (length w.bytes) (2 ^ 30) (all_told is_short ws each w at);
+      is = ok_is made answer all.goes_on;
     }
 
 module _ (cmp : List ℕ → List ℕ → Ordering) (total : IsTotalOrder cmp) (exact : IsExact cmp) (separator_of : List ℕ → List ℕ → List ℕ) (successor_of : List ℕ → List ℕ) (reads_back : ReadBackLaw cmp separator_of successor_of)
@@ -281,29 +278,26 @@ module _ (cmp : List ℕ → List ℕ → Ordering) (total : IsTotalOrder cmp) (
   abbrev cut : List Entry → List (List Entry)
   cut union = outputs cmp (below_request r) r.options union
 
-  abbrev answer_of : List Planned → Answer
-  answer_of plan = record { tables = assembled written_by plan; edit = edit_bytes (edit_of r plan) }
+  abbrev outputs_by : List Entry → List Output
+  outputs_by union = outputs_from written_by r.first_number (cut union)
 
-  abbrev planned_by : List Entry → Result Answer Fault
-  planned_by union = plan_of written_by r.options r.first_number (cut union) >>= λ plan. Ok (answer_of plan)
+  abbrev answer_by : List Entry → Result Answer Fault
+  answer_by union = outputs_answer r (outputs_by union)
 
-  tested : Stepped (request_test cmp r) (λ _. inputs_reading cmp 0 r.picked.files r.tables >>= λ inputs. union_reading cmp inputs >>= planned_by) answer
-  tested = stepped (request_test cmp r) (λ _. inputs_reading cmp 0 r.picked.files r.tables >>= λ inputs. union_reading cmp inputs >>= planned_by) answer answers
+  tested : Stepped (request_test cmp r) (λ _. inputs_reading cmp 0 r.picked.files r.tables >>= λ inputs. union_reading cmp inputs >>= answer_by) answer
+  tested = stepped (request_test cmp r) (λ _. inputs_reading cmp 0 r.picked.files r.tables >>= λ inputs. union_reading cmp inputs >>= answer_by) answer answers
 
-  read : Stepped (inputs_reading cmp 0 r.picked.files r.tables) (λ inputs. union_reading cmp inputs >>= planned_by) answer
-  read = stepped (inputs_reading cmp 0 r.picked.files r.tables) (λ inputs. union_reading cmp inputs >>= planned_by) answer tested.goes_on
+  read : Stepped (inputs_reading cmp 0 r.picked.files r.tables) (λ inputs. union_reading cmp inputs >>= answer_by) answer
+  read = stepped (inputs_reading cmp 0 r.picked.files r.tables) (λ inputs. union_reading cmp inputs >>= answer_by) answer tested.goes_on
 
-  joined_up : Stepped (union_reading cmp read.value) planned_by answer
-  joined_up = stepped (union_reading cmp read.value) planned_by answer read.goes_on
+  joined_up : Stepped (union_reading cmp read.value) answer_by answer
+  joined_up = stepped (union_reading cmp read.value) answer_by answer read.goes_on
 
   abbrev union : List Entry
   union = joined_up.value
 
-  planned : Stepped (plan_of written_by r.options r.first_number (cut union)) (λ plan. Ok (answer_of plan)) answer
-  planned = stepped (plan_of written_by r.options r.first_number (cut union)) (λ plan. Ok (answer_of plan)) answer joined_up.goes_on
-
-  abbrev plan : List Planned
-  plan = planned.value
+  abbrev ws : List Output
+  ws = outputs_by union
 
   of_input : (i : InputFile) → Contains r.picked.files i → IsFileOf cmp tables i.meta
   of_input i at =
@@ -360,36 +354,38 @@ module _ (cmp : List ℕ → List ℕ → Ordering) (total : IsTotalOrder cmp) (
     rising = part_rises cmp (cut union) (subst (IsRising cmp) (sym cut_all) (kept_rises cmp readable r.picked.deeper None union (union_rises cmp union is_union.rising))) q at;
   }
 
-  of_plan : HasPlan written_by r.options r.first_number (cut union) plan
-  of_plan = has_plan written_by r.options r.first_number (cut union) plan planned.is
+  of_outputs : HasOutputs r ws answer
+  of_outputs = has_outputs r ws answer joined_up.goes_on
 
-  entries_planned : planned_entries plan ≡ cut union
-  entries_planned = sym (ap planned_entries of_plan.is) ∙ plan_entries written_by r.options r.first_number (cut union)
+  cut_entries : output_entries ws ≡ cut union
+  cut_entries = entries_are_cut written_by r.first_number (cut union)
 
-  written : (p : Planned) → Contains plan p → AreWritten cmp (written_by p.entries) p.entries
-  written p at =
-      let in_cut : Contains (cut union) p.entries = subst (λ (l : List (List Entry)). Contains l p.entries) entries_planned (in_map (λ (x : Planned). x.entries) plan p at) in
-      let small = of_plan.small p.entries in_cut in
-      table_written cmp total (written_by p.entries) p.entries (writable p.entries in_cut) small (reads_back r.options p.entries (writable p.entries in_cut) small)
+  bytes : All (λ (w : Output). w.bytes ≡ written_by w.entries) ws
+  bytes = All-from_recursion (λ (w : Output). w.bytes ≡ written_by w.entries) ws (bytes_are written_by r.first_number (cut union))
+
+  written : (w : Output) → Contains ws w → AreWritten cmp w.bytes w.entries
+  written w at =
+      let in_cut : Contains (cut union) w.entries = subst (λ (l : List (List Entry)). Contains l w.entries) cut_entries (in_map (λ (x : Output). x.entries) ws w at) in
+      let is = All-contains (λ (x : Output). x.bytes ≡ written_by x.entries) ws w bytes at in
+      let small : length (written_by w.entries) ≤ 2 ^ 30 = subst (λ (bs : List ℕ). length bs ≤ 2 ^ 30) is (of_outputs.small w at) in
+      subst (λ (bs : List ℕ). AreWritten cmp bs w.entries) (sym is)
+      (table_written cmp total (written_by w.entries) w.entries (writable w.entries in_cut) small (reads_back r.options w.entries (writable w.entries in_cut) small))
 
   pub hold_outputs : HoldOutputs cmp separator_of successor_of tables r answer
-  hold_outputs =
-      let few : r.first_number + length plan < 2 ^ 64 = subst (λ (n : ℕ). r.first_number + n < 2 ^ 64) (sym (plan_length written_by r.options r.first_number (cut union)) ∙ ap length of_plan.is) of_plan.few in
-      record {
-        tested = tested.is;
-        union = union;
-        plan = plan;
-        is_union = is_union;
-        numbered = subst (AreNumbered r.first_number) of_plan.is (plan_numbered written_by r.options r.first_number (cut union));
-        few = few;
-        holds_kept = ap all_of entries_planned ∙ cut_all;
-        users = subst (UsersRise cmp) (sym entries_planned) ((whole_law cmp total exact).users (below_request r) r.options union is_union.rising);
-        lengths = All-from_recursion (λ (p : Planned). p.length ≡ length (written_by p.entries)) plan
-            (subst (λ (l : List Planned). AllByRecursion (λ (p : Planned). p.length ≡ length (written_by p.entries)) l) of_plan.is (plan_lengths written_by r.options r.first_number (cut union)));
-        written = All-from_recursion (λ (p : Planned). AreWritten cmp (written_by p.entries) p.entries) plan (of_each (λ (p : Planned). AreWritten cmp (written_by p.entries) p.entries) plan written);
-        answer_tables = sym (ap (λ (a : Answer). a.tables) (ok_is (answer_of plan) answer planned.goes_on));
-        answer_edit = sym (ap (λ (a : Answer). a.edit) (ok_is (answer_of plan) answer planned.goes_on));
-      }
+  hold_outputs = record {
+    tested = tested.is;
+    union = union;
+    outputs = ws;
+    is_union = is_union;
+    numbered = outputs_numbered written_by r.first_number (cut union);
+    few = of_outputs.few;
+    holds_kept = ap all_of cut_entries ∙ cut_all;
+    users = subst (UsersRise cmp) (sym cut_entries) ((whole_law cmp total exact).users (below_request r) r.options union is_union.rising);
+    bytes = bytes;
+    written = All-from_recursion (λ (w : Output). AreWritten cmp w.bytes w.entries) ws (of_each (λ (w : Output). AreWritten cmp w.bytes w.entries) ws written);
+    answer_tables = sym (ap (λ (a : Answer). a.tables) of_outputs.is);
+    answer_edit = sym (ap (λ (a : Answer). a.edit) of_outputs.is);
+  }
 
 pub outputs_hold : (cmp : List ℕ → List ℕ → Ordering) → IsTotalOrder cmp → IsExact cmp → (separator_of : List ℕ → List ℕ → List ℕ) (successor_of : List ℕ → List ℕ) → ReadBackLaw cmp separator_of successor_of → OutputsHold cmp separator_of successor_of
 outputs_hold cmp total exact separator_of successor_of reads_back v tables level r answer lawful picked over answers =

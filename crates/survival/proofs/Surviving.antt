@@ -9,6 +9,7 @@ use Rattle.std.specs.declared.cmp.Ordering.{Ordering}
 use Rattle.std.proofs.lemmas.Bool.Decides.{nat_tests}
 use Rattle.std.proofs.lemmas.Cmp.{nat_cmp_total, on_total, then_total}
 use Rattle.std.proofs.lemmas.List.Elements.{All-contains}
+use Rattle.std.proofs.lemmas.List.{length-map}
 use Rattle.coding.specs.Answers.{◌>>=◌}
 use Rattle.coding.specs.declared.fault.FaultName.TheVariants.{NoInput, Level, Options, Snapshot, SnapshotList}
 use Rattle.ikey.specs.Comparator.{IsExact}
@@ -38,11 +39,11 @@ use Rattle.reads.proofs.Levels.{contains_in}
 use Rattle.reads.proofs.Members.{later_in, first_in, from_map}
 use Rattle.survival.proofs.BoundaryRanges.{HasLargest, has_largest}
 use Rattle.survival.proofs.ClosedLevels.{upper_input}
-use Rattle.cut.specs.Plan.{Planned}
+use Rattle.request.specs.OutputTables.{Output}
 use Rattle.request.specs.Request.{RequestView, has_levels, has_options, has_snapshots, is_snapshot_list, named_by, request_test}
-use Rattle.request.specs.EditOf.{deletion_of, deletions_of, edit_of, new_file}
-use Rattle.request.specs.OneThread.{Answer, table_for}
-use Rattle.survival.specs.EditAfter.{new_files, version_after}
+use Rattle.request.specs.EditOf.{deletion_of, deletions_of, edit_of, new_file, new_files}
+use Rattle.request.specs.OneThread.{Answer}
+use Rattle.survival.specs.EditAfter.{version_after}
 use Rattle.survival.specs.Over.{IsOver, AreWritten, HoldOutputs}
 use Rattle.survival.specs.Survive.{Survives, ReadsSurvive}
 use Rattle.survival.proofs.Applying.{edit_applies, from_deletions, numbered_to}
@@ -104,7 +105,7 @@ module _ (cmp : List ℕ → List ℕ → Ordering) (total : IsTotalOrder cmp) (
     (lawful : IsLawful cmp v tables) (low : All (λ (f : NewFile). f.level ≤ 6) v.files) (picked : IsPicked cmp v level r.picked) (over : IsOver v tables r)
     (held : HoldOutputs cmp separator_of successor_of tables r answer) where
   abbrev edit : Edit
-  edit = edit_of r held.plan
+  edit = edit_of r (new_files r held.outputs)
 
   is_tested : IsTested r
   is_tested = tested cmp r held.tested
@@ -135,7 +136,7 @@ module _ (cmp : List ℕ → List ℕ → Ordering) (total : IsTotalOrder cmp) (
     where
       each : (d : DeletedFile) → Contains (deletions_of r.picked.files) d → IsField (DeleteFile d)
       each d at =
-          let i = from_deletions cmp total v tables level r held.plan lawful picked over.numbers held.numbered d at in
+          let i = from_deletions cmp total v tables level r held.outputs lawful picked over.numbers held.numbered d at in
           let f = input_file cmp total v tables lawful level r.picked picked i.0 i.1 in
           let six : f.file.level ≤ 6 = All-contains (λ (x : NewFile). x.level ≤ 6) v.files f.file low f.there in
           let levels : f.file.level ≡ d.level = f.stands ∙ ap (λ (x : DeletedFile). x.level) i.2 in
@@ -144,30 +145,31 @@ module _ (cmp : List ℕ → List ℕ → Ordering) (total : IsTotalOrder cmp) (
           let limit = first_low in
           (omega (arith, six, levels), omega (arith, lt, numbers, limit))
 
-  additions : AllByRecursion IsField (map AddFile (new_files r held.plan))
-  additions = all_mapped IsField AddFile (new_files r held.plan) (λ f at. let x = from_map (new_file (r.picked.level + 1)) held.plan f at in subst (λ (g : NewFile). IsField (AddFile g)) x.is (each x.source x.there))
+  additions : AllByRecursion IsField (map AddFile (new_files r held.outputs))
+  additions = all_mapped IsField AddFile (new_files r held.outputs) (λ f at. let x = from_map (new_file (r.picked.level + 1)) held.outputs f at in subst (λ (g : NewFile). IsField (AddFile g)) x.is (each x.source x.there))
     where
-      each : (q : Planned) → Contains held.plan q → IsField (AddFile (new_file (r.picked.level + 1) q))
+      each : (q : Output) → Contains held.outputs q → IsField (AddFile (new_file (r.picked.level + 1) q))
       each q at =
-          let w = All-contains (λ (x : Planned). AreWritten cmp (table_for cmp separator_of successor_of r x.entries) x.entries) held.plan q held.written at in
+          let w = All-contains (λ (x : Output). AreWritten cmp x.bytes x.entries) held.outputs q held.written at in
           let ends = has_ends q.entries w.some in
-          let size : q.length ≡ length (table_for cmp separator_of successor_of r q.entries) = All-contains (λ (x : Planned). x.length ≡ length (table_for cmp separator_of successor_of r x.entries)) held.plan q held.lengths at in
           let small = w.small in
-          let lt = numbered_to r.first_number held.plan held.numbered q at in
+          let lt = numbered_to r.first_number held.outputs held.numbered q at in
           let few = held.few in
           let five = is_tested.level in
           let key : (e : Entry) → Contains q.entries e → IsInternalKey e.key = λ e i. each_of (λ (x : Entry). IsInternalKey x.key) q.entries w.keys e i in
-          (omega (arith, five), omega (arith, lt, few), omega (arith, size, small), subst IsInternalKey ends.first_key_is (key ends.first ends.first_there), subst IsInternalKey ends.last_key_is (key ends.last ends.last_there))
+          (omega (arith, five), omega (arith, lt, few), omega (arith, small), subst IsInternalKey ends.first_key_is (key ends.first ends.first_there), subst IsInternalKey ends.last_key_is (key ends.last ends.last_there))
 
   pub is_edit : IsEdit answer.edit edit
   is_edit =
       let five = is_tested.level in
       let low_sequence = is_tested.last_sequence in
       let sorted : IsStrictlySortedBy deleted_cmp (deletions_of r.picked.files) = sorted_all deleted_cmp deleted_total [] (map deletion_of r.picked.files) none_sorted in
-      subst (λ (bytes : List ℕ). IsEdit bytes edit) (sym held.answer_edit) (reads_back edit sorted (fields_lawful edit (over.log_number, (over.previous_log, (held.few, (omega (arith, low_sequence), tt)))) ((omega (arith, five), pointer_key), tt) deletions additions))
+      let few : r.first_number + length (new_files r held.outputs) < 2 ^ 64 =
+      subst (λ (n : ℕ). r.first_number + n < 2 ^ 64) (sym (length-map held.outputs (new_file (r.picked.level + 1)))) held.few in
+      subst (λ (bytes : List ℕ). IsEdit bytes edit) (sym held.answer_edit) (reads_back edit sorted (fields_lawful edit (over.log_number, (over.previous_log, (few, (omega (arith, low_sequence), tt)))) ((omega (arith, five), pointer_key), tt) deletions additions))
 
-  made : applied v edit ≡ Some (version_after v r held.plan)
-  made = (edit_applies cmp total).applies v tables level r held.plan lawful picked over.numbers held.numbered
+  made : applied v edit ≡ Some (version_after v r held.outputs)
+  made = (edit_applies cmp total).applies v tables level r held.outputs lawful picked over.numbers held.numbered
 
   pub edit_reads : (e : Edit) × IsEdit answer.edit e
   edit_reads = (edit, is_edit)
@@ -176,10 +178,10 @@ module _ (cmp : List ℕ → List ℕ → Ordering) (total : IsTotalOrder cmp) (
   survive e is =
       let same : edit ≡ e = one_edit answer.edit edit e is_edit is in
       record {
-        after = version_after v r held.plan;
+        after = version_after v r held.outputs;
         is_after = ap (applied v) (sym same) ∙ made;
         lawful_after = lawful_after cmp total exact separator_of successor_of v tables level r answer lawful low picked over held;
-        gets_after = gets_after cmp total exact v tables level r.picked _ held.union (version_after v r held.plan) _ lawful low picked held.is_union
+        gets_after = gets_after cmp total exact v tables level r.picked _ held.union (version_after v r held.outputs) _ lawful low picked held.is_union
             (holds_after cmp total exact separator_of successor_of v tables level r answer lawful low picked over held);
       }
 

@@ -1,44 +1,39 @@
 -- The version that the edit of a compaction makes.
-use Rattle.std.specs.Prelude.{◌≡◌, ℕ, ◌+◌, ◌≤◌, List, [], ◌∷◌, ◌++◌, length, map, fold, Some}
+use Rattle.std.specs.Prelude.{◌≡◌, ℕ, ◌+◌, ◌≤◌, List, [], ◌∷◌, ◌++◌, length, fold, Some}
 use Rattle.std.specs.List.Sorted.{IsPermutation}
 use Rattle.std.specs.Option.{ForSome}
 use Rattle.std.specs.declared.cmp.Ordering.{Ordering}
 use Rattle.edit.specs.Version.{State, applied, with_file, with_pointer}
-use Rattle.edit.specs.declared.meta.NewFile.{NewFile}
 use Rattle.pick.specs.Picked.{IsPicked}
 use Rattle.reads.specs.Lawful.{IsLawful}
 use Rattle.reads.specs.Tables.{Numbered}
-use Rattle.cut.specs.Plan.{Planned}
 use Rattle.request.specs.Request.{RequestView}
-use Rattle.request.specs.EditOf.{edit_of, new_file}
+use Rattle.request.specs.OutputTables.{Output}
+use Rattle.request.specs.EditOf.{edit_of, new_files}
 use Rattle.survival.specs.GetsAfter.{staying}
 
--- the outputs as new files of the next level
-abbrev pub new_files : RequestView → List Planned → List NewFile
-new_files r plan = map (new_file (r.picked.level + 1)) plan
-
 -- the version with the request's counters, its compact pointer, the files that stay and the outputs
-abbrev pub version_after : State → RequestView → List Planned → State
-version_after v r plan = record {
+abbrev pub version_after : State → RequestView → List Output → State
+version_after v r outputs = record {
   log_number = Some r.log_number;
   previous_log = Some r.previous_log;
-  next_file = Some (r.first_number + length plan);
+  next_file = Some (r.first_number + length outputs);
   last_sequence = Some r.last_sequence;
   pointers = with_pointer v.pointers (record { level = r.picked.level; key = r.picked.pointer.key });
-  files = fold with_file (staying v r.picked) (new_files r plan);
+  files = fold with_file (staying v r.picked) (new_files r outputs);
 }
 
--- the outputs have consecutive numbers from `number` on
-abbrev pub AreNumbered : ℕ → List Planned → Type 0
+-- the outputs have the numbers from this one on
+abbrev pub AreNumbered : ℕ → List Output → Type 0
 AreNumbered number [] = Unit {0}
-AreNumbered number (p ∷ ps) = (p.number ≡ number) × AreNumbered (number + 1) ps
+AreNumbered number (w ∷ ws) = (w.number ≡ number) × AreNumbered (number + 1) ws
 
 -- If the inputs were picked from a lawful version and the outputs are numbered from its next file
 -- on, the edit applies and makes that version. Its files are those that stay, and the outputs.
 pub record EditApplies (cmp : List ℕ → List ℕ → Ordering) : Type 0 where
-  pub applies : (v : State) (tables : List Numbered) (level : ℕ) (r : RequestView) (plan : List Planned) →
-      IsLawful cmp v tables → IsPicked cmp v level r.picked → ForSome v.next_file (λ next. next ≤ r.first_number) → AreNumbered r.first_number plan →
-      applied v (edit_of r plan) ≡ Some (version_after v r plan)
-  pub files : (v : State) (tables : List Numbered) (level : ℕ) (r : RequestView) (plan : List Planned) →
-      IsLawful cmp v tables → IsPicked cmp v level r.picked → ForSome v.next_file (λ next. next ≤ r.first_number) → AreNumbered r.first_number plan →
-      IsPermutation (staying v r.picked ++ new_files r plan) (version_after v r plan).files
+  pub applies : (v : State) (tables : List Numbered) (level : ℕ) (r : RequestView) (outputs : List Output) →
+      IsLawful cmp v tables → IsPicked cmp v level r.picked → ForSome v.next_file (λ next. next ≤ r.first_number) → AreNumbered r.first_number outputs →
+      applied v (edit_of r (new_files r outputs)) ≡ Some (version_after v r outputs)
+  pub files : (v : State) (tables : List Numbered) (level : ℕ) (r : RequestView) (outputs : List Output) →
+      IsLawful cmp v tables → IsPicked cmp v level r.picked → ForSome v.next_file (λ next. next ≤ r.first_number) → AreNumbered r.first_number outputs →
+      IsPermutation (staying v r.picked ++ new_files r outputs) (version_after v r outputs).files

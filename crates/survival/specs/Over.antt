@@ -18,9 +18,9 @@ use Rattle.reads.specs.Tables.{Numbered, table_of}
 use Rattle.keep.specs.Keeping.{kept}
 use Rattle.keep.specs.Readable.{readable_of}
 use Rattle.cut.specs.Outputs.{all_of, UsersRise}
-use Rattle.cut.specs.Plan.{Planned, assembled}
 use Rattle.request.specs.Request.{RequestView, request_test}
-use Rattle.request.specs.EditOf.{edit_of}
+use Rattle.request.specs.OutputTables.{Output, numbered_tables}
+use Rattle.request.specs.EditOf.{edit_of, new_files}
 use Rattle.request.specs.OneThread.{Answer, one_thread, table_for}
 use Rattle.survival.specs.GetsAfter.{entries_of_inputs}
 use Rattle.survival.specs.EditAfter.{AreNumbered}
@@ -48,9 +48,9 @@ pub record AreWritten (cmp : List ℕ → List ℕ → Ordering) (bytes : List �
   pub same : (contents_in cmp bytes).bytes ≡ bytes
   pub holds : (contents_in cmp bytes).entries ≡ entries
 
--- the entries of each output
-abbrev pub planned_entries : List Planned → List (List Entry)
-planned_entries plan = map (λ (p : Planned). p.entries) plan
+-- the entries of outputs
+abbrev pub output_entries : List Output → List (List Entry)
+output_entries outputs = map (λ (w : Output). w.entries) outputs
 
 -- What an answer is made of. The request passes its tests, and the inputs' tables have a union. The
 -- outputs are numbered from the first number on and hold what is kept of the union, no user key in
@@ -59,16 +59,16 @@ pub record HoldOutputs (cmp : List ℕ → List ℕ → Ordering) (separator_of 
     (tables : List Numbered) (r : RequestView) (answer : Answer) : Type 0 where
   pub tested : request_test cmp r ≡ Ok tt
   pub union : List Entry
-  pub plan : List Planned
+  pub outputs : List Output
   pub is_union : IsUnion cmp (entries_of_inputs tables r.picked) union
-  pub numbered : AreNumbered r.first_number plan
-  pub few : r.first_number + length plan < 2 ^ 64
-  pub holds_kept : all_of (planned_entries plan) ≡ kept cmp (readable_of r.snapshots r.last_sequence) r.picked.deeper union
-  pub users : UsersRise cmp (planned_entries plan)
-  pub lengths : All (λ (p : Planned). p.length ≡ length (table_for cmp separator_of successor_of r p.entries)) plan
-  pub written : All (λ (p : Planned). AreWritten cmp (table_for cmp separator_of successor_of r p.entries) p.entries) plan
-  pub answer_tables : answer.tables ≡ assembled (table_for cmp separator_of successor_of r) plan
-  pub answer_edit : answer.edit ≡ edit_bytes (edit_of r plan)
+  pub numbered : AreNumbered r.first_number outputs
+  pub few : r.first_number + length outputs < 2 ^ 64
+  pub holds_kept : all_of (output_entries outputs) ≡ kept cmp (readable_of r.snapshots r.last_sequence) r.picked.deeper union
+  pub users : UsersRise cmp (output_entries outputs)
+  pub bytes : All (λ (w : Output). w.bytes ≡ table_for cmp separator_of successor_of r w.entries) outputs
+  pub written : All (λ (w : Output). AreWritten cmp w.bytes w.entries) outputs
+  pub answer_tables : answer.tables ≡ numbered_tables outputs
+  pub answer_edit : answer.edit ≡ edit_bytes (edit_of r (new_files r outputs))
 
 -- each answer of one thread is made so, if the inputs were picked from a lawful version and the
 -- request is over it

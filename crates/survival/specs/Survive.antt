@@ -35,12 +35,12 @@ pub record StandsAfter (cmp : List ℕ → List ℕ → Ordering) (separator_of 
   pub lawful : (v : State) (tables : List Numbered) (level : ℕ) (r : RequestView) (answer : Answer) →
       IsLawful cmp v tables → All (λ (f : NewFile). f.level ≤ 6) v.files → IsPicked cmp v level r.picked → IsOver v tables r →
       (held : HoldOutputs cmp separator_of successor_of tables r answer) →
-      IsLawful cmp (version_after v r held.plan) (tables_after cmp r.picked answer tables)
+      IsLawful cmp (version_after v r held.outputs) (tables_after cmp r.picked answer tables)
   pub holds : (v : State) (tables : List Numbered) (level : ℕ) (r : RequestView) (answer : Answer) →
       IsLawful cmp v tables → All (λ (f : NewFile). f.level ≤ 6) v.files → IsPicked cmp v level r.picked → IsOver v tables r →
       (held : HoldOutputs cmp separator_of successor_of tables r answer) →
       HoldKept cmp v tables r.picked (readable_of r.snapshots r.last_sequence) held.union
-      (version_after v r held.plan) (tables_after cmp r.picked answer tables)
+      (version_after v r held.outputs) (tables_after cmp r.picked answer tables)
 
 -- The edit applies, the version after is lawful, and each get at a sequence that stays readable
 -- answers as before.

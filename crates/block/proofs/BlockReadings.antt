@@ -1,4 +1,4 @@
--- What is read of bytes as a block is the list that they are a block of.
+-- Bytes read as a list of entries exactly if they are a block of it.
 use Rattle.std.proofs.Common.{◌≡◌, ℕ, zero, suc, ◌+◌, ◌*◌, ◌^◌, ◌<◌, ◌≤◌, Bool, true, false, cond, not, ◌&&◌, ◌||◌, nat_le, nat_lt, nat_eq, List, [], ◌∷◌, ◌++◌, length, take, drop, Result, Ok, Err, refl, sym, ap, subst, ◌∙◌, arith}
 use Rattle.std.specs.List.{flat_map, AllByRecursion, list_all}
 use Rattle.std.specs.Str.{bytes_eq}

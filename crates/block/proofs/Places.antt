@@ -1,4 +1,4 @@
--- The places among the entries at which restarts point, and what stands from there on.
+-- The places among the entries at which restarts point, and the entries from there on.
 use Rattle.std.proofs.Common.{◌≡◌, ℕ, zero, suc, ◌+◌, ◌*◌, ◌^◌, ◌<◌, ◌≤◌, Bool, true, false, cond, List, [], ◌∷◌, ◌++◌, map, length, take, drop, get_or, Some, refl, sym, ap, subst, ◌∙◌, append_assoc, arith}
 use Rattle.std.specs.List.{flat_map, All, AllByRecursion, slice_get}
 use Rattle.std.specs.List.Sorted.{IsStrictlyIncreasing}

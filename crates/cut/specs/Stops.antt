@@ -24,9 +24,9 @@ stops_behind grandparents file_size since (m ∷ ms) =
     else stops_behind grandparents file_size since ms
 
 -- The stops of a compaction, each by the number of kept entries before it. A stop is asked at the
--- first entry of each user key, kept or dropped. From the first entry of all, and then from each
--- stop, the next stop is the first mark at which the grandparents passed since have more than 10
--- times the maximal file size together.
+-- first entry of each user key, kept or dropped. The count begins at the first entry of all, and
+-- anew at each stop. The next stop is the first mark at which the grandparents passed since then
+-- have more than 10 times the maximal file size together.
 abbrev pub stops : List FileMeta → ℕ → List Mark → List ℕ
 stops grandparents file_size [] = []
 stops grandparents file_size (m ∷ ms) = stops_behind grandparents file_size m.below ms

@@ -30,8 +30,8 @@ pub fn segments_law<C: Comparator>()
     ensures { SegmentsLaw C.cmp }
 {}
 
-/// The law that outputs are the kept entries, cut into parts of which none is empty, and that the
-/// user keys of an output are below those of all later ones. A call does nothing.
+/// The law that outputs are the kept entries, cut into parts of which none is empty. The user keys
+/// of an output are below those of all later ones. A call does nothing.
 pub fn whole_law<C: Comparator>()
     ensures { WholeLaw C.cmp }
 {}

@@ -1,4 +1,4 @@
--- The last key of entries, where there is one.
+-- The last key of entries, if there is one.
 use Rattle.std.proofs.Common.{◌≡◌, ℕ, List, [], ◌∷◌, refl, sym, ◌∙◌}
 use Rattle.std.specs.Prelude.{Some, None}
 use Rattle.std.specs.List.{last_or}

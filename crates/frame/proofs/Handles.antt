@@ -1,4 +1,4 @@
--- A handle is read exactly where its spelling begins the bytes.
+-- A handle is read exactly if its spelling begins the bytes.
 use Rattle.std.proofs.Common.{◌≡◌, ℕ, ◌^◌, ◌<◌, ◌≤◌, List, ◌++◌, length, drop, Option, Some, None, refl, sym, ap, ◌∙◌, append_assoc, arith, length-append}
 use Rattle.std.proofs.Math.Seq.{drop-append_seam}
 use Rattle.coding.specs.Varint.{varint, varint_reading}

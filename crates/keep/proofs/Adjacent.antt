@@ -1,4 +1,4 @@
--- In order, an entry that is there twice stands right behind itself.
+-- In a sorted list, an entry that is there twice comes right after itself.
 use Rattle.std.proofs.Common.{◌≡◌, ℕ, ◌≤◌, Bool, true, false, List, [], ◌∷◌, Some, None, Option, refl, sym, ap, subst, ◌∙◌, arith}
 use Rattle.std.specs.Prelude.{nat_eq, ◌&&◌, ◌||◌, not}
 use Rattle.std.specs.List.{list_any, AllByRecursion}

@@ -1,4 +1,4 @@
--- The inputs have a union exactly where they hold no user key and sequence twice.
+-- The inputs have a union exactly if no user key has one sequence twice.
 use Rattle.std.proofs.Common.{◌≡◌, ◌≢◌, ℕ, Bool, true, false, List, [], ◌∷◌, Some, None, Option, refl, sym, ap, subst, ◌∙◌}
 use Rattle.std.specs.Prelude.{nat_eq, nat_lt, ◌&&◌, ◌||◌, not, cond}
 use Rattle.std.specs.List.{list_any, AllByRecursion}

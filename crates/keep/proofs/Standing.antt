@@ -1,4 +1,5 @@
--- Where a walk over the entries of a range stands: what it holds, and the definitions of what is left, are those of all.
+-- How far a walk over the entries of a range has come. What it holds, and what the definitions
+-- say of the entries that are left, are together what they say of all.
 use Rattle.std.proofs.Common.{◌≡◌, ℕ, ◌+◌, ◌≤◌, Bool, true, false, List, [], ◌∷◌, ◌++◌, length, refl, sym, ap, ◌∙◌, append_assoc, append-nil, arith, length-append}
 use Rattle.std.specs.Prelude.{nat_eq, nat_le, ◌&&◌, not, if◌then◌else◌, Option, Some, None}
 use Rattle.std.specs.List.{AllByRecursion, list_any}

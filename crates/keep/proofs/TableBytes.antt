@@ -1,4 +1,4 @@
--- The keys of a table are bytes, as the table is, so that no sequence exceeds its limit.
+-- The keys of a table are bytes, so no sequence exceeds its limit.
 use Rattle.std.proofs.Common.{◌≡◌, ℕ, zero, suc, ◌-◌, ◌<◌, ◌^◌, List, [], ◌∷◌, ◌++◌, length, take, drop, get_or, Ok, subst, arith}
 use Rattle.std.specs.Prelude.{flat_map, slice_index}
 use Rattle.std.specs.List.{AllByRecursion}

@@ -95,9 +95,10 @@ impl<'a> RangeRun<'a> {
         self.kept.value(place)
     }
 
-    /// The marks, in order. The run of a range has one at its first entry, and one at each user key
-    /// at which the number of grandparents below differs from that of the user key before. Takes no
-    /// memory.
+    /// The marks, in order. Takes no memory.
+    ///
+    /// The run of a range has one at its first entry. It has another at each user key at which the
+    /// number of grandparents below differs from that of the user key before.
     pub fn marks(&self) -> &[Mark]
         ensures { result.now ≡ self.now.marks }
     {

@@ -1,4 +1,5 @@
--- A version is lawful exactly where each file is what it states, the files stand in turn, and their entries fall.
+-- A version is lawful exactly if each file is what it states, each comes before the next one, and
+-- the entries of each user key fall.
 use Rattle.std.proofs.Common.{◌≡◌, ℕ, zero, suc, ◌+◌, ◌<◌, ◌≤◌, Bool, true, false, List, [], ◌∷◌, length, map, get_or, refl, sym, ap, subst, ◌∙◌, inl, inr, arith, eq-or-lt_of_le}
 use Rattle.std.specs.Prelude.{◌≢◌, ◌⊎◌, Contains}
 use Rattle.std.specs.Cmp.{IsTotalOrder}

@@ -1,4 +1,4 @@
--- Files as they stand one before the other.
+-- Files in order, those with newer entries first.
 use Rattle.std.proofs.Common.{◌≡◌, ℕ, zero, suc, ◌+◌, ◌-◌, ◌<◌, Bool, true, false, cond, List, [], ◌∷◌, length, map, get_or, Option, Some, refl, sym, ap, subst, ◌∙◌, inl, inr, arith}
 use Rattle.std.specs.Prelude.{◌⊎◌, Contains, slice_get, nat_eq}
 use Rattle.std.specs.Option.{option_map}

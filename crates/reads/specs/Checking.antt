@@ -64,8 +64,9 @@ pub record IsSoundFile (cmp : List ℕ → List ℕ → Ordering) (tables : List
   pub below_next : IsBelowNext next f.number
   pub distinct : AllPairs AreDistinct (table_entries tables f.number)
 
--- Whether a file comes before another: it is at a shallower level, or at level 0 with the higher
--- number, or at one level from 1 on with a range of internal keys below that of the other.
+-- Whether a file comes before another. It is at a shallower level; or both are at level 0, and it
+-- has the higher number; or both are at one level from 1 on, and its range of internal keys is
+-- below that of the other.
 abbrev pub stands_before : (List ℕ → List ℕ → Ordering) → NewFile → NewFile → Bool
 stands_before cmp f g =
     nat_lt f.level g.level

@@ -229,9 +229,11 @@ fn are_as_stated<C: Comparator>(
     true
 }
 
-/// Whether `file` comes before `other`, so that its entries of one user key are the newer ones: it
-/// is at a shallower level, or at level 0 with the higher number, or at one level from 1 on with a
-/// range of internal keys below that of the other.
+/// Whether `file` comes before `other`, so that its entries of one user key are the newer ones:
+///
+/// - it is at a shallower level;
+/// - or both are at level 0, and it has the higher number;
+/// - or both are at one level from 1 on, and its range of internal keys is below that of `other`.
 fn stands_before<C: Comparator>(file: &LevelFile<'_>, other: &LevelFile<'_>) -> bool
     ensures { result ≡ stands_before C.cmp (file_in file.now) (file_in other.now) }
 {

@@ -19,7 +19,7 @@ deletion_of i = record { level = i.level; number = i.meta.number }
 abbrev pub deletions_of : List InputFile → List DeletedFile
 deletions_of files = fold (insert_key deleted_cmp) [] (map deletion_of files)
 
--- an output as a new file of a level
+-- an output as a new file: its number, the length of its table, its first and last key
 abbrev pub new_file : ℕ → Output → NewFile
 new_file level w = record {
   level = level;
@@ -31,13 +31,13 @@ new_file level w = record {
   };
 }
 
--- the outputs as new files of the level below the compaction's
+-- the outputs as new files of the next level
 abbrev pub new_files : RequestView → List Output → List NewFile
 new_files r outputs = map (new_file (r.picked.level + 1)) outputs
 
--- The edit of a compaction whose outputs are these new files: the version's counters, the next file
--- after the outputs, the compact pointer of the level, the deletion of each input, and the new
--- files. It names no comparator.
+-- The edit of a compaction whose outputs are these new files. It has the request's counters, as next
+-- file the number after the last output's, and the compact pointer of the level. It deletes each
+-- input, and has the new files. It names no comparator.
 abbrev pub edit_of : RequestView → List NewFile → Edit
 edit_of r files = record {
   comparator = None;

@@ -19,12 +19,12 @@ pub record Answer : Type 0 where
   pub tables : List (ℕ × List ℕ)
   pub edit : List ℕ
 
--- how an output is written
+-- how the table of an output is written
 abbrev pub table_for : (List ℕ → List ℕ → Ordering) → (List ℕ → List ℕ → List ℕ) →
     (List ℕ → List ℕ) → RequestView → List Entry → List ℕ
 table_for cmp separator_of successor_of r = table cmp separator_of successor_of r.options
 
--- what is answered of outputs: their refusal, or their tables and the bytes of the edit that has
+-- the answer with these outputs: their refusal, or their tables and the bytes of the edit that has
 -- them as new files
 abbrev pub outputs_answer : RequestView → List Output → Result Answer Fault
 outputs_answer r outputs = do
@@ -34,9 +34,9 @@ outputs_answer r outputs = do
     edit = edit_bytes (edit_of r (new_files r outputs));
   })
 
--- What one thread answers: the first refusal, of the request, then of the inputs in order, then
--- Duplicate, then Numbers and TooLarge of the outputs; else the table of each output, and the bytes
--- of the edit. It knows neither ranges nor workers.
+-- What one thread answers: the first refusal of the request, then of the inputs in order, then
+-- Duplicate, then Numbers and TooLarge of the outputs. Else the table of each output with its number,
+-- and the bytes of the edit. It knows neither ranges nor workers.
 abbrev pub one_thread : (List ℕ → List ℕ → Ordering) → (List ℕ → List ℕ → List ℕ) →
     (List ℕ → List ℕ) → RequestView → Result Answer Fault
 one_thread cmp separator_of successor_of r = do
@@ -47,7 +47,7 @@ one_thread cmp separator_of successor_of r = do
       (outputs_from (table_for cmp separator_of successor_of r) r.first_number
       (outputs cmp (below_request r) r.options union))
 
--- What a compaction by so many workers answers: Workers where they are not from 1 to 64, else what
+-- What a compaction by `workers` workers answers: Workers unless they are from 1 to 64, else what
 -- one thread answers.
 abbrev pub compacted : (List ℕ → List ℕ → Ordering) → (List ℕ → List ℕ → List ℕ) →
     (List ℕ → List ℕ) → ℕ → RequestView → Result Answer Fault

@@ -15,19 +15,19 @@ pub record Output : Type 0 where
   pub entries : List Entry
   pub bytes : List ℕ
 
--- the outputs of these lists of entries, numbered from here on, each with the table of its entries
+-- the outputs of these lists of entries, numbered from `number` on, each with its table
 abbrev pub outputs_from : (List Entry → List ℕ) → ℕ → List (List Entry) → List Output
 outputs_from table_of number [] = []
 outputs_from table_of number (q ∷ qs) =
     record { number = number; entries = q; bytes = table_of q }
     ∷ outputs_from table_of (number + 1) qs
 
--- how many data blocks outputs have together
+-- how many data blocks all outputs have
 abbrev pub data_block_count : Options → List Output → ℕ
 data_block_count o outputs = sum_by (λ (w : Output). length (data_blocks o w.entries)) outputs
 
 -- The tests of outputs that are numbered from the first number on. Numbers if the number after the
--- last exceeds 2 ^ 64 - 1; then TooLarge if a table exceeds 2 ^ 30 bytes, or if the outputs have
+-- last exceeds 2 ^ 64 - 1; else TooLarge if a table exceeds 2 ^ 30 bytes, or if the outputs have
 -- more than 2 ^ 40 data blocks together.
 abbrev pub outputs_test : Options → ℕ → List Output → Result (Unit {0}) Fault
 outputs_test o first outputs = do

@@ -1,4 +1,5 @@
--- Each get at a readable sequence answers as before, where the version after holds what is kept of the inputs' union.
+-- Each get at a readable sequence answers as before, if the version after holds what is kept of
+-- the inputs' union.
 use Rattle.std.proofs.Common.{◌≡◌, ℕ, ◌<◌, ◌≤◌, Bool, true, false, cond, List, [], ◌∷◌, ◌++◌, refl, sym, ap, subst, ◌∙◌, inl, inr, arith}
 use Rattle.std.specs.Prelude.{◌⊎◌, Contains, Option, Some, None, if◌then◌else◌}
 use Rattle.std.specs.List.{All, filter, flat_map}

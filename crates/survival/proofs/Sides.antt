@@ -1,4 +1,4 @@
--- A file of the lower level that stays lies wholly before the inputs or wholly behind them.
+-- A file of the lower level that stays is wholly before the inputs or wholly after them.
 use Rattle.std.proofs.Common.{◌≡◌, ℕ, ◌+◌, ◌<◌, Bool, true, false, not, ◌&&◌, List, [], ◌∷◌, ◌++◌, Some, Option, refl, sym, ap, subst, ◌∙◌, inl, inr, append_assoc, arith}
 use Rattle.std.specs.Prelude.{◌⊎◌, Contains}
 use Rattle.std.specs.List.{All, filter, list_any}

@@ -1,4 +1,4 @@
--- Among the entries of a user key in a lawful version, those of the inputs stand together.
+-- Among the entries of a user key in a lawful version, those of the inputs are together.
 use Rattle.std.proofs.Common.{◌≡◌, ℕ, ◌+◌, ◌-◌, ◌<◌, ◌≤◌, Bool, true, false, not, eqb, ◌||◌, List, [], ◌∷◌, ◌++◌, refl, sym, ap, subst, ◌∙◌, inl, inr, arith, zero-add, append_assoc, append-nil}
 use Rattle.std.specs.Prelude.{◌⊎◌, Contains}
 use Rattle.std.specs.List.{All, filter, flat_map, list_any}

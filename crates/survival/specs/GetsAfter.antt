@@ -33,9 +33,8 @@ pub record HoldKept (cmp : List ℕ → List ℕ → Ordering) (v : State) (tabl
   pub only : (e : Entry) → Contains (all_entries tables_after after.files) e →
       Contains (all_entries tables (staying v p)) e ⊎ Contains (kept cmp r p.deeper union) e
 
--- If the inputs were picked from a lawful version with files at levels up to 6, and the version
--- after holds what is kept of their union, each get at a sequence that stays readable answers as
--- before.
+-- Let the inputs be picked from a lawful version with files at levels up to 6. If the version after
+-- holds what is kept of their union, each get at a sequence that stays readable answers as before.
 abbrev pub GetsAfter : (List ℕ → List ℕ → Ordering) → Type 0
 GetsAfter cmp =
     (v : State) (tables : List Numbered) (level : ℕ) (p : Picked) (r : Readable) (union : List Entry) (after : State) (tables_after : List Numbered) →

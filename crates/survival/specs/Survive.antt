@@ -28,7 +28,7 @@ abbrev pub tables_after : (List ℕ → List ℕ → Ordering) → Picked → An
 tables_after cmp p answer tables =
     map (output_table cmp) answer.tables ++ filter (λ (t : Numbered). not (is_input p t.number)) tables
 
--- If the inputs were picked from a lawful version with files at levels up to 6, and an answer's
+-- Let the inputs be picked from a lawful version with files at levels up to 6. If an answer's
 -- outputs hold what they should, the version after is lawful with the tables after. Its files hold
 -- the entries of the files that stay and what is kept of the inputs' union.
 pub record StandsAfter (cmp : List ℕ → List ℕ → Ordering) (separator_of : List ℕ → List ℕ → List ℕ) (successor_of : List ℕ → List ℕ) : Type 0 where

@@ -1,4 +1,4 @@
--- The index block, and what stands behind the data blocks.
+-- The index block, and what comes after the data blocks.
 use Rattle.std.proofs.Common.{◌≡◌, ℕ, ◌+◌, ◌^◌, ◌≤◌, List, ◌++◌, length, take, drop, sym, ap, ◌∙◌, append_assoc, arith}
 use Rattle.std.proofs.lemmas.List.{length-append, map-append, take-append-drop}
 use Rattle.block.specs.Piece.{Entry}

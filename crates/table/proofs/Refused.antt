@@ -1,4 +1,4 @@
--- A refusal for want of memory alone.
+-- A refusal that is only Memory.
 use Rattle.std.proofs.Common.{◌≡◌, ℕ, ◌^◌, ◌<◌, ◌≤◌, List, length, Result, Ok, Err, refl}
 use Rattle.std.specs.Result.{OnOk}
 use Rattle.std.proofs.lemmas.Bool.{lt-leb, le-leb}

@@ -41,12 +41,11 @@ const PIECE_LEN: u64 = 1 << 22;
 /// depend on how the entries were dealt out to ranges. `grandparents` are the files that the marks
 /// of the runs count. Outputs are numbered from `first_number` on.
 ///
-/// Faults, in this order:
+/// Faults: the first of these, or Memory.
 ///
-/// - Numbers: the number after the last output's exceeds 2^64 - 1.
-/// - TooLarge: a table would have more than 2^30 bytes, or all outputs together more than 2^40 data
-///   blocks.
-/// - Memory.
+/// 1. Numbers: the number after the last output's exceeds 2^64 - 1.
+/// 2. TooLarge: a table would have more than 2^30 bytes, or all outputs together more than 2^40
+///    data blocks.
 pub fn plan<'r, 'a, C: Comparator>(
     alloc: Global,
     runs: &'r [RangeRun<'a>],

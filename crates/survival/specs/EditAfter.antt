@@ -23,7 +23,7 @@ version_after v r outputs = record {
   files = fold with_file (staying v r.picked) (new_files r outputs);
 }
 
--- the outputs have the numbers from this one on
+-- the outputs have consecutive numbers from `number` on
 abbrev pub AreNumbered : ℕ → List Output → Type 0
 AreNumbered number [] = Unit {0}
 AreNumbered number (w ∷ ws) = (w.number ≡ number) × AreNumbered (number + 1) ws

@@ -48,7 +48,7 @@ pub record AreWritten (cmp : List ℕ → List ℕ → Ordering) (bytes : List �
   pub same : (contents_in cmp bytes).bytes ≡ bytes
   pub holds : (contents_in cmp bytes).entries ≡ entries
 
--- the entries of outputs
+-- the entries of each output
 abbrev pub output_entries : List Output → List (List Entry)
 output_entries outputs = map (λ (w : Output). w.entries) outputs
 

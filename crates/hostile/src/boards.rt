@@ -4,7 +4,7 @@ ghost use Rattle.std.specs.Prelude.{◌≡◌, All, IfSome};
 
 use board::{Board, Seat, Tally};
 
-/// The last seat of a board, where one is left.
+/// The last seat of a board, if one is left.
 fn last_seat(board: &Board, seats: &mut Vec<Seat>) -> Option<Seat>
     requires { All (λ p. p.board ≡ board.now) seats.old.items }
     ensures seat { IfSome result (λ p. p.board ≡ board.now) }
@@ -13,7 +13,7 @@ fn last_seat(board: &Board, seats: &mut Vec<Seat>) -> Option<Seat>
     seats.pop()
 }
 
-/// Puts a seat behind the others, where there is room for it.
+/// Puts a seat after the others, if there is memory for it.
 fn put_back(board: &Board, seats: &mut Vec<Seat>, seat: Seat)
     requires { All (λ p. p.board ≡ board.now) seats.old.items × (seat.board ≡ board.now) }
     ensures { All (λ p. p.board ≡ board.now) seats.new.items }
@@ -22,7 +22,7 @@ fn put_back(board: &Board, seats: &mut Vec<Seat>, seat: Seat)
     let _pushed = seats.push(seat);
 }
 
-/// Draws a job and has it fail, and sees that it is of this number, and the least that failed.
+/// Draws a job and fails it. Whether it has this `number`, and is the least that failed.
 fn is_failed(board: &Board, seat: &mut Seat, number: u64) -> bool
     requires { seat.old.board ≡ board.now }
     ensures { seat.new.board ≡ board.now }
@@ -35,7 +35,8 @@ fn is_failed(board: &Board, seat: &mut Seat, number: u64) -> bool
     is_drawn && board.least_fault(seat) == Some(number)
 }
 
-/// Draws a job, and sees that it is of this number and whether it comes back of being skipped. One that does is done.
+/// Draws a job. Whether it has this `number`, and comes back from `skip` as `comes_back` says. If
+/// it does, it is done.
 fn is_drawn(board: &Board, seat: &mut Seat, number: u64, comes_back: bool) -> bool
     requires { seat.old.board ≡ board.now }
     ensures { seat.new.board ≡ board.now }
@@ -51,7 +52,7 @@ fn is_drawn(board: &Board, seat: &mut Seat, number: u64, comes_back: bool) -> bo
     is_right && comes_back
 }
 
-/// Draws jobs 4, 0, 1 and 2, of which the first is skipped.
+/// Draws jobs 4, 0, 1 and 2. The first is skipped.
 fn are_drawn(board: &Board, seat: &mut Seat) -> bool
     requires { seat.old.board ≡ board.now }
     ensures { seat.new.board ≡ board.now }
@@ -62,7 +63,7 @@ fn are_drawn(board: &Board, seat: &mut Seat) -> bool
         && is_drawn(board, seat, 2, true)
 }
 
-/// Of a board of five jobs and five seats, seat 3 fails job 3, and seat 4 then draws the others.
+/// On a board of five jobs and five seats, seat 3 fails job 3, and then seat 4 draws the others.
 pub fn are_worked(board: &Board, seats: &mut Vec<Seat>) -> bool
     requires { All (λ p. p.board ≡ board.now) seats.old.items }
     ensures { All (λ p. p.board ≡ board.now) seats.new.items }

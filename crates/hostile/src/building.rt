@@ -1,4 +1,5 @@
-//! Builders, logs and edits. What a call changes is tried again where a growth was refused, which left it as it was.
+//! Builders, logs and edits. If memory was refused, what a call changes has to be as it was, and
+//! the call is made again on it.
 
 use crate::cases::SMALLEST;
 use crate::memory::Memory;
@@ -14,10 +15,10 @@ use logrec::{append, records};
 use std::alloc::Global;
 use table::TableBuilder;
 
-/// A block of this many bytes gets no further entry.
+/// The length from which a block gets no further entry.
 const BLOCK_LEN: usize = 4_096;
 
-/// The internal keys of values of `u` at 9, 5 and 3.
+/// The internal keys of `u` put at 9, 5 and 3.
 const THREE_KEYS: [&[u8; 9]; 3] = [
     b"u\x01\x09\0\0\0\0\0\0",
     b"u\x01\x05\0\0\0\0\0\0",
@@ -54,7 +55,7 @@ pub fn block_built(alloc: Global, memory: &mut Memory) -> Result<bool, Fault> {
     Ok(builder.finish()?.as_slice() == BLOCK)
 }
 
-/// Adds an entry with the value `x` to a table, above its last one.
+/// Adds an entry of the value `x` to a table, above its last one.
 pub fn add_row(
     memory: &mut Memory,
     builder: &mut TableBuilder<Bytewise>,
@@ -84,7 +85,7 @@ pub fn table_built(alloc: Global, memory: &mut Memory) -> Result<bool, Fault> {
     Ok(builder.finish()?.as_slice() == TABLE_THREE_BLOCKS)
 }
 
-/// A log of two records, of 32,754 bytes and of `x`, over the end of a block.
+/// A log of two records, of 32,754 bytes and of `x`, across the end of a block.
 fn two_records(alloc: Global) -> Result<Vec<u8>, Fault> {
     let long = vec![in alloc; 7_u8; 32_754]?;
     let log = append(alloc, &[], &long)?;
@@ -101,12 +102,12 @@ pub fn logged(alloc: Global) -> Result<bool, Fault> {
     Ok(log.len() == 32_776 && log.ends_with(SHORT_RECORD) && read.len() == 2 && is_last)
 }
 
-/// The version of these bytes of an edit.
+/// The version that the edit of these bytes makes of an empty one.
 pub fn version_of(alloc: Global, bytes: &[u8]) -> Result<Version, Fault> {
     Version::empty(alloc).applied::<Bytewise>(VersionEdit::decode(alloc, bytes)?)
 }
 
-/// The version behind the edit that leaves one deletion.
+/// The version after the edit that leaves one deletion.
 fn version_after(alloc: Global) -> Result<Version, Fault> {
     let edit = VersionEdit::decode(alloc, DELETION_LEFT)?;
     version_of(alloc, VERSION_SEVEN)?.apply::<Bytewise>(alloc, &edit)
@@ -118,7 +119,7 @@ fn snapshot_of(alloc: Global, version: &Version) -> Result<Vec<u8>, Fault> {
     edit.encode(alloc)
 }
 
-/// An edit, applied to a version whose snapshot is then written.
+/// An edit, applied to a version, whose snapshot is then written.
 pub fn edited(alloc: Global) -> Result<bool, Fault> {
     let version = version_after(alloc)?;
     let snapshot = snapshot_of(alloc, &version)?;

@@ -1,4 +1,4 @@
-//! Compactions, and what has to come of them.
+//! Compactions and their expected answers.
 
 use crate::held::Held;
 use crate::worked::U_AT_TWO;
@@ -14,10 +14,10 @@ use std::alloc::Global;
 use std::thread::Threads;
 use table::Options;
 
-/// What is known of a file: its number, its size, and its smallest and its largest internal key.
+/// What a version states of a file: number, size, smallest and largest internal key.
 pub type Meta<'k> = (u64, u64, &'k [u8], &'k [u8]);
 
-/// A compaction, and what has to come of it.
+/// A compaction and its expected answer.
 pub struct Case {
     pub level: u64,
     pub files: &'static [Meta<'static>],
@@ -32,22 +32,22 @@ pub struct Case {
     pub want: Want,
 }
 
-/// What has to come of a compaction.
+/// The expected answer of a compaction.
 pub enum Want {
     /// Any outcome.
     Accepted,
     /// These tables with their numbers, and this edit.
     Outcome(&'static [(u64, &'static [u8])], &'static [u8]),
-    /// This refusal, of this input where it is of one.
+    /// This refusal, of this input if it is of one.
     Refused(FaultName, Option<u64>),
 }
 
-/// An internal key of these bytes.
+/// The internal key of these bytes.
 fn key_of(alloc: Global, bytes: &[u8]) -> Result<KeyBuf, Fault> {
     KeyBuf::of(alloc, InternalKey::parse(bytes)?)
 }
 
-/// What is known of a file.
+/// What a version states of a file.
 fn meta_of(alloc: Global, meta: &Meta<'_>) -> Result<FileMeta, Fault> {
     let (number, size, smallest, largest) = meta;
     Ok(FileMeta {
@@ -58,7 +58,7 @@ fn meta_of(alloc: Global, meta: &Meta<'_>) -> Result<FileMeta, Fault> {
     })
 }
 
-/// What is known of files of another level.
+/// The same of files of another level.
 fn metas(alloc: Global, files: &[Meta<'_>]) -> Result<Vec<FileMeta>, Fault> {
     let mut metas = Vec::new(alloc);
     for file in files {
@@ -81,7 +81,7 @@ fn no_inputs(alloc: Global, case: &Case) -> Result<Inputs, Fault> {
     })
 }
 
-/// Adds a file of a level to inputs.
+/// Adds a file of the inputs' level to them.
 pub fn add_file(alloc: Global, picked: &mut Inputs, file: &Meta<'_>) -> Result<(), Fault> {
     let level = picked.level;
     let meta = meta_of(alloc, file)?;
@@ -106,7 +106,7 @@ pub fn three_ranges(alloc: Global) -> Result<Split<Bytewise>, Fault> {
     Split::from_keys(keys)
 }
 
-/// Carries a case out over these inputs, tables and ranges.
+/// The outcome of a case over these inputs, tables and ranges.
 pub fn carried<'t, R: AllocGlobal + Threads + Sync>(
     rt: &R,
     case: &Case,
@@ -128,7 +128,7 @@ pub fn carried<'t, R: AllocGlobal + Threads + Sync>(
     compact::<Bytewise, Held, R>(rt, rt.alloc(), &request, split, case.workers, gate)
 }
 
-/// Carries a case out over these inputs and tables, holding no job.
+/// The outcome of a case over these inputs and tables, while no job is held.
 pub fn compacted<R: AllocGlobal + Threads + Sync>(
     rt: &R,
     case: &Case,
@@ -148,7 +148,7 @@ fn are_outputs(tables: &[(u64, Vec<u8>)], wanted: &[(u64, &[u8])]) -> bool {
     are_right
 }
 
-/// Whether an outcome is the one that has to come.
+/// Whether an outcome is the expected one.
 fn is_outcome(want: &Want, outcome: &Outcome) -> bool {
     match want {
         Want::Accepted => true,
@@ -159,7 +159,7 @@ fn is_outcome(want: &Want, outcome: &Outcome) -> bool {
     }
 }
 
-/// Whether an answer is that of the case. Another refusal is handed on.
+/// Whether an answer is the case's expected one. Any other refusal is passed on.
 pub fn is_answer(case: &Case, answer: Result<Outcome, Fault>) -> Result<bool, Fault> {
     match answer {
         Ok(outcome) => Ok(is_outcome(&case.want, &outcome)),

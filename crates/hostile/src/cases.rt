@@ -9,14 +9,14 @@ use crate::worked::{
 use coding::FaultName;
 use table::Options;
 
-/// Blocks, restarts and files as they are where nothing is said.
+/// Options: blocks, restarts and files have the default sizes.
 const WIDE: Options = Options {
     block_size: 4_096,
     restart_interval: 16,
     file_size: 2_097_152,
 };
 
-/// Options by which each entry is a block and an output.
+/// Options with which each entry is a block and an output.
 pub const SMALLEST: Options = Options {
     block_size: 1,
     restart_interval: 16,
@@ -48,7 +48,7 @@ pub const DELETION: &Case = &Case {
     want: Want::Outcome(&[(9, TABLE_U_DELETED)], DELETION_LEFT),
 };
 
-/// Outputs end where grandparents of more than ten times the file size were passed: behind `b`, and behind `f`.
+/// Outputs end at grandparents of more than ten times the file size: after `b`, and after `f`.
 pub const GRANDPARENTS: &Case = &Case {
     level: 0,
     files: &[
@@ -108,7 +108,7 @@ pub const FOUR_WORKERS: &Case = &Case {
     want: ABC,
 };
 
-/// Two inputs have another byte in their data block.
+/// Two inputs have a changed byte in their data blocks.
 pub const SPOILT: &Case = &Case {
     level: 1,
     files: &[A, C, B],

@@ -1,7 +1,12 @@
-//! Bytes that were cut off, changed, or claim more than is there, and what each call that takes bytes answers to them.
+//! Bytes that were cut off, changed, or claim more than is there, and what each call that takes
+//! bytes answers to them.
 //!
-//! [`run`] makes all calls and prints each row whose answers are right; what has to come is worked out from the formats and stands
-//! beside the bytes. [`print_claims`] makes those alone whose bytes claim more than is there, also while memory is short.
+//! [`run`] makes all calls, and prints each row whose answers are right. The expected answers are
+//! worked out from the formats, and written beside the bytes. [`print_claims`] makes only the calls
+//! over bytes that claim more than is there, also while memory is short.
+//!
+//! Which bytes are tried: each beginning of worked bytes; each byte made 0, 1, 127, 128 and 255;
+//! claims from 65,535 to 2^64 - 1; lengths at their limits.
 
 mod beginnings;
 mod call;
@@ -22,7 +27,7 @@ use row::print_rows;
 use rows::ROWS;
 use std::thread::Threads;
 
-/// Makes the calls whose bytes claim more than is there, and prints each row.
+/// Makes the calls over bytes that claim more than is there, and prints each row.
 pub fn print_claims<R: AllocGlobal + Print + Threads + Sync>(
     rt: &R,
     memory: &mut Memory,

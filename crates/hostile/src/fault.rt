@@ -1,8 +1,8 @@
-//! What is not as it has to be.
+//! The fault of an unexpected answer.
 
 use coding::{Fault, FaultName};
 
-/// Refused as Lawless where something is not as it has to be.
+/// Lawless if something is not as expected.
 pub fn wanted(is_right: bool) -> Result<(), Fault> {
     if is_right {
         Ok(())

@@ -1,4 +1,5 @@
-//! A folder in memory, opened, installed into, compacted and asked, and the calls of other commands.
+//! A folder in memory that is opened, installed into, compacted and asked, and the calls of other
+//! commands.
 
 use crate::fault::wanted;
 use crate::memory::Memory;
@@ -16,32 +17,32 @@ use std::alloc::Global;
 use std::thread::Threads;
 use store::{Open, Settings, compact_dir};
 
-/// The folder of one table, of a deletion of `u` at 4 and a value `x` at 2.
+/// A folder of one table: `u` deleted at 4 and put `x` at 2.
 const FILES: &[(&str, &[u8])] = &[
     ("CURRENT", CURRENT_FIVE),
     ("MANIFEST-000005", MANIFEST),
     ("000007.ldb", TABLE_U_TWICE),
 ];
 
-/// The lines of the compaction of level 1, of which nothing is left.
+/// The lines of the compaction of level 1, which leaves no table.
 const COMPACTED: &[u8] = b"deleted 1 7\ninstalled MANIFEST-000009\n";
 
-/// The version of the folder, as lines.
+/// The lines of the folder's version.
 const SHOWN: &[u8] =
     b"comparator leveldb.BytewiseComparator\nlog 3\nprevious 0\nnext 9\nlast 4\nfile 1 7 125\n";
 
-/// The entries of its table, as lines.
+/// The lines of its table's entries.
 const DUMPED: &[u8] = b"75 4 del\n75 2 put 78\n";
 
-/// What a folder is asked.
+/// A question to a folder.
 enum Question {
     Manifest,
     Verify,
-    /// The value of `u` at a sequence, the last one where none is given.
+    /// The value of `u` at a sequence, the last one if none is given.
     Get(Option<u64>),
 }
 
-/// What is asked of the folder, and its lines. The last sequence is 4, at which `u` is deleted.
+/// The questions to the folder, and their lines. The last sequence is 4, at which `u` is deleted.
 const QUESTIONS: &[(Question, &[u8])] = &[
     (Question::Manifest, SHOWN),
     (Question::Verify, b"lawful: 1 files, 2 entries\n"),
@@ -49,7 +50,7 @@ const QUESTIONS: &[(Question, &[u8])] = &[
     (Question::Get(None), b"none\n"),
 ];
 
-/// Whether the one table of a version is that of the folder.
+/// Whether a version has one table, that of the folder.
 fn is_loaded(alloc: Global, shelf: &mut Shelf<'_>, version: &Version) -> Result<bool, Fault> {
     let tables = load::<Bytewise, Shelf<'_>>(alloc, shelf, version)?;
     let Some((number, table)) = tables.first() else {
@@ -67,7 +68,7 @@ fn install_next(alloc: Global, shelf: &mut Shelf<'_>, version: &Version) -> Resu
     install::<Bytewise, Shelf<'_>>(alloc, shelf, version, 9, &outcome)
 }
 
-/// Loads and installs where this is the version before.
+/// Loads and installs, if this is the version before.
 fn carry_on(alloc: Global, shelf: &mut Shelf<'_>, version: &Version) -> Result<(), Fault> {
     if version.next_file() != Some(9) {
         return Ok(());
@@ -76,7 +77,7 @@ fn carry_on(alloc: Global, shelf: &mut Shelf<'_>, version: &Version) -> Result<(
     install_next(alloc, shelf, version)
 }
 
-/// Opens the folder, and loads and installs where it reads as the version before.
+/// Opens the folder. Loads and installs, if it reads as the version before.
 fn carry(alloc: Global, shelf: &mut Shelf<'_>) -> Result<(), Fault> {
     let (_order, version) = open(alloc, shelf)?;
     carry_on(alloc, shelf, &version)
@@ -88,13 +89,15 @@ fn is_edited(alloc: Global, shelf: &mut Shelf<'_>) -> Result<bool, Fault> {
     Ok(after.next_file() == Some(10) && after.files::<Bytewise>(alloc, 1)?.is_empty())
 }
 
-/// Opens the folder; installs where it reads as the version before; and tests that it then reads as the edited one.
+/// Opens the folder, and installs if it reads as the version before. Whether it then reads as the
+/// edited one.
 fn carried(alloc: Global, shelf: &mut Shelf<'_>) -> Result<bool, Fault> {
     carry(alloc, shelf)?;
     is_edited(alloc, shelf)
 }
 
-/// A folder of one table, compacted to none. Where a growth was refused, the same folder is opened again.
+/// A folder of one table, compacted to none. If memory was refused, the same folder is opened
+/// again.
 pub fn installed(alloc: Global, memory: &mut Memory) -> Result<bool, Fault> {
     let mut shelf = Shelf::new(alloc, FILES);
     let answer = carried(alloc, &mut shelf);
@@ -104,7 +107,7 @@ pub fn installed(alloc: Global, memory: &mut Memory) -> Result<bool, Fault> {
     carried(alloc, &mut shelf)
 }
 
-/// Compacts level 1 of a folder, and answers whether the lines are right.
+/// Compacts level 1 of a folder. Whether the lines are right.
 fn is_compacted<R: AllocGlobal + Threads + Sync>(
     rt: &R,
     shelf: &mut Shelf<'_>,
@@ -113,8 +116,8 @@ fn is_compacted<R: AllocGlobal + Threads + Sync>(
     Ok(lines.as_slice() == COMPACTED)
 }
 
-/// Compacts level 1 of the folder. Where a growth was refused the same folder is compacted again; if that growth was refused behind the
-/// last rename, it has been installed already, and no input is left.
+/// Compacts level 1 of the folder. If memory was refused, the same folder is compacted again. If it
+/// was refused after the last rename, the version is installed already, and no input is left.
 pub fn folder_compacted<R: AllocGlobal + Threads + Sync>(
     rt: &R,
     memory: &mut Memory,
@@ -130,7 +133,7 @@ pub fn folder_compacted<R: AllocGlobal + Threads + Sync>(
     }
 }
 
-/// The lines that a folder is answered with.
+/// The lines with which a folder answers.
 fn told<R: AllocGlobal + Threads + Sync>(
     rt: &R,
     shelf: &mut Shelf<'_>,
@@ -143,7 +146,7 @@ fn told<R: AllocGlobal + Threads + Sync>(
     }
 }
 
-/// Whether a folder answers these lines, asked again where a growth was refused.
+/// Whether a folder answers these lines. If memory was refused, it is asked again.
 fn is_told<R: AllocGlobal + Threads + Sync>(
     rt: &R,
     memory: &mut Memory,
@@ -169,7 +172,7 @@ pub fn folder_asked<R: AllocGlobal + Threads + Sync>(
     Ok(true)
 }
 
-/// A table of two entries, as lines.
+/// A table of two entries, dumped.
 pub fn table_dumped(alloc: Global) -> Result<bool, Fault> {
     Ok(dump(alloc, TABLE_U_TWICE)?.as_slice() == DUMPED)
 }

@@ -1,25 +1,27 @@
-//! A gate that holds one worker back, and tells whether there was another.
+//! A gate that holds one worker back, and says whether there was another.
 
 use board::Gate;
 use std::sync::atomic::{AtomicU64, Ordering};
 use std::thread;
 
-/// Holds job 0 until job 2 has left, as often as it comes, but for no more than so many turns of other threads.
+/// Holds job 0, as often as it comes, until job 2 has ended, but for a limited number of turns of
+/// other threads.
 #[derive(Drop)]
 pub struct Held {
     turns: u64,
     come: AtomicU64,
     gone: AtomicU64,
-    /// How often job 0 was let go before its time.
+    /// How often job 0 was let go without that.
     pub given_up: AtomicU64,
     /// The seat whose job came last.
     seat: AtomicU64,
-    /// How often a job came of another seat than the job before it, or of none.
+    /// How often a job came from another seat than the job before it, the first job counted.
     pub changes: AtomicU64,
 }
 
 impl Held {
-    /// A gate that has seen no job. With no turn it holds nothing.
+    /// A gate that has seen no job. It holds job 0 for at most `turns` turns; with 0 it holds
+    /// nothing.
     pub fn new(turns: u64) -> Held {
         Held {
             turns,

@@ -1,11 +1,22 @@
-//! The program `hostile`: bytes that lie, growths that are refused, and calls that take no memory, over each call that takes bytes or memory.
+//! The program `hostile`: bytes that lie, memory that is refused, and calls that take no memory,
+//! over each call that takes bytes or memory.
 //!
-//! Without a word it makes all calls, with memory to spare. With the word `refused` it first makes a compaction where no thread can be
-//! started, and one thread alone; then the calls that take no memory while each request for it is refused; then, while memory is short,
-//! those whose growths may be refused: nearly all is taken before each, in pieces into which nothing is written. So it then makes those
-//! with bytes that claim more than is there, with memory for little more than these bytes. With the word `claims` it makes the last alone,
-//! with memory to spare, and with `growths` those whose growths may be refused, each again where it was. A number behind that word is of
-//! pieces of memory that are taken first, so that an allocation that is refused by its number falls on another growth for each number.
+//! Without a word it makes all calls, with memory to spare. Words:
+//!
+//! - `refused`, in this order: a compaction while no thread can be started, while one can, and
+//!   while all can; the calls that take no memory, while each request for memory is refused; the
+//!   calls that take memory, while memory is short (`rows.rt`); the bytes whose lengths exceed what
+//!   is there, with memory for little more than the bytes; then, with memory to spare, all bytes
+//!   that lie, and compactions that are refused for their request.
+//! - `claims`: the bytes whose lengths exceed what is there, with memory to spare.
+//! - `growths N`: takes N pieces of memory and gives each back, then makes the calls that take
+//!   memory, each once more if it was refused. So a request for memory that is refused by its
+//!   number falls on another growth for each N.
+//!
+//! Memory is made short by taking nearly all of it, in pieces into which nothing is written. Memory
+//! for little more than the bytes is 32 bytes for each of them and 4,096. `refused` needs a machine
+//! of some 5 GB, or a limit of address space: it is refused as Lawless if 32,768 pieces don't take
+//! all memory.
 #![tactic(auto)]
 
 mod boards;
@@ -35,31 +46,33 @@ use std::env;
 use std::env::Env;
 use std::thread::Threads;
 
-/// More than a thread's stack takes, which has 8 MiB where a process is not told otherwise.
+/// More than a thread's stack takes: 8 MiB, if a process is not told otherwise.
 const STACK: usize = 9 << 20;
 
 /// Less than a thread's stack takes.
 const NO_STACK: usize = 1 << 20;
 
-/// A piece of memory of which some are left for a small compaction where no thread can be started.
+/// The bytes of a piece of memory. Some such pieces are left for a small compaction while no thread
+/// can be started.
 const PIECE: usize = 1 << 16;
 
 /// How many such pieces are left.
 const PIECES: usize = 16;
 
-/// How many bytes are not taken between calls.
+/// How many bytes are left between calls.
 const ROOM: usize = 1 << 28;
 
-/// Memory of which all is taken in pieces of more than so many bytes, but for so many other pieces of so many bytes each.
+/// Memory of which all is taken in pieces of more than `smallest` bytes, but for `count` pieces of
+/// `len` bytes each.
 fn short_of(alloc: Global, count: usize, len: usize, smallest: usize) -> Result<Memory, Fault> {
     let room = pieces(alloc, count, len)?;
     Memory::short(alloc, room, smallest)
 }
 
-/// Compacts where no thread can be started, and then where there is room for one.
+/// Compacts while no thread can be started, and then while there is memory for one.
 ///
-/// It has to come first: from a large piece that was given back the C library makes later ones too, and it keeps the stacks of threads
-/// that have ended.
+/// It has to come first. Why: the C library makes later pieces of a large one that was given back,
+/// and it keeps the stacks of threads that have ended.
 fn run_few_threads<R: AllocGlobal + Print + Threads + Sync>(rt: &R) -> Result<()> {
     let stack = pieces(rt.alloc(), 1, STACK)?;
     let mut memory = short_of(rt.alloc(), PIECES, PIECE, NO_STACK)?;
@@ -68,7 +81,7 @@ fn run_few_threads<R: AllocGlobal + Print + Threads + Sync>(rt: &R) -> Result<()
     run(rt, &mut memory, ONE_THREAD, 0)
 }
 
-/// Makes the calls that memory is short for.
+/// Makes the calls for which memory is short.
 fn run_short<R: AllocGlobal + Print + Threads + Sync>(rt: &R) -> Result<()> {
     println!(rt; "Each request for memory is refused. These calls have their answers:")?;
     let mut memory = short_of(rt.alloc(), 1, ROOM, 0)?;
@@ -77,7 +90,7 @@ fn run_short<R: AllocGlobal + Print + Threads + Sync>(rt: &R) -> Result<()> {
     Ok(())
 }
 
-/// Makes the calls that memory is short for in such memory.
+/// Makes those calls in such memory.
 fn run_in<R: AllocGlobal + Print + Threads + Sync>(rt: &R, memory: &mut Memory) -> Result<()> {
     run(rt, memory, RESTING, 0)?;
     println!(rt; "Memory is short. Each of these was refused as Memory or had its answer:")?;
@@ -86,12 +99,12 @@ fn run_in<R: AllocGlobal + Print + Threads + Sync>(rt: &R, memory: &mut Memory) 
     print_claims(rt, memory)
 }
 
-/// Makes all calls, while memory is short or refused where that is asked.
+/// Makes all calls, with memory short or refused if that is asked for.
 fn run_all<R: AllocGlobal + Print + Threads + Sync>(rt: &R, is_refused: bool) -> Result<()> {
     run_beside(rt, &mut Memory::ample(rt.alloc()), is_refused)
 }
 
-/// Makes all calls, those that memory is to spare for beside it.
+/// Makes all calls. `memory` is for those that have memory to spare.
 fn run_beside<R: AllocGlobal + Print + Threads + Sync>(
     rt: &R,
     memory: &mut Memory,
@@ -112,7 +125,8 @@ fn run_beside<R: AllocGlobal + Print + Threads + Sync>(
     run(rt, memory, REQUESTS, 0)
 }
 
-/// Makes the calls that a word names, behind so many pieces of memory that are taken and given back, and all where it names none.
+/// Makes the calls that `word` names, after `count` pieces of memory were taken and given back; all
+/// calls if it names none.
 fn run_named<R: AllocGlobal + Print + Threads + Sync>(
     rt: &R,
     word: &str,
@@ -132,7 +146,8 @@ fn run_named<R: AllocGlobal + Print + Threads + Sync>(
     run_growths(rt, &mut memory)
 }
 
-/// Reads the words, and makes the calls that they name. Want of memory for the words themselves is met by the calls that go on.
+/// Reads the words, and makes the calls that they name. If memory runs out for the words
+/// themselves, it goes on as with `growths`.
 fn main(rt: HostRuntime) -> Result<()> {
     let Ok(mut words) = env::args(&rt) else {
         return run_named(&rt, "growths", 0);

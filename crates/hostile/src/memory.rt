@@ -1,36 +1,38 @@
-//! Memory that is to spare, or all taken but for some bytes.
+//! Memory to spare, or all of it taken but for some bytes.
 
 use crate::fault::wanted;
 use coding::{Fault, FaultName};
 use std::alloc::Global;
 
-/// How many pieces are taken at most.
+/// The most pieces that are taken.
 const MOST_PIECES: usize = 32_768;
 
-/// The bytes of the largest piece that is asked for: as many as addresses of 46 bits reach.
+/// The bytes of the largest piece that is asked for: as many as 46-bit addresses reach.
 const LARGEST: usize = 1 << 46;
 
-/// From this size down each eighth byte's size is asked for: what was given back may serve a request of its own size alone.
+/// From this size down, sizes fall by 8 bytes. Why: bytes that were given back may serve a request
+/// of their own size only.
 const SMALL: usize = 4_096;
 
-/// Memory for calls. Where it is short, all of it is taken but for a room, and before a call the room too but for some bytes, in pieces
-/// into which nothing is written: they take up addresses, and hardly any memory.
+/// Memory for calls. If it is short, all of it is taken but for a room; before a call the room is
+/// taken too but for some bytes. Nothing is written into the pieces that are taken: they take
+/// addresses, and hardly any memory.
 #[derive(Drop)]
 pub struct Memory {
     pieces: Vec<Vec<u8>>,
     /// How many pieces are kept between calls.
     kept: usize,
-    /// Whether it is short.
+    /// Whether memory is short.
     pub is_short: bool,
     /// Whether the room is taken too.
     pub is_tight: bool,
-    /// How many bytes a call gets next.
+    /// How many bytes the next call gets.
     pub left: usize,
     /// Whether a call was refused.
     pub was_refused: bool,
 }
 
-/// So many pieces of so many bytes.
+/// `count` pieces of `len` bytes.
 pub fn pieces(alloc: Global, count: usize, len: usize) -> Result<Vec<Vec<u8>>, Fault> {
     let mut pieces = Vec::with_capacity(alloc, count)?;
     for _ in 0..count {
@@ -52,12 +54,12 @@ fn holding(pieces: Vec<Vec<u8>>, is_short: bool) -> Memory {
 }
 
 impl Memory {
-    /// All that there is. Takes none.
+    /// All memory that there is. It takes no piece.
     pub fn ample(alloc: Global) -> Memory {
         holding(Vec::new(alloc), false)
     }
 
-    /// All of it taken in pieces of more than so many bytes, but for a room of other pieces.
+    /// All memory taken in pieces of more than `smallest` bytes, but for `room`.
     pub fn short(alloc: Global, room: Vec<Vec<u8>>, smallest: usize) -> Result<Memory, Fault> {
         let mut memory = holding(Vec::with_capacity(alloc, MOST_PIECES)?, true);
         let is_all = memory.take(alloc, smallest);
@@ -67,7 +69,8 @@ impl Memory {
         Ok(memory)
     }
 
-    /// Takes pieces, the largest first, until none of more than so many bytes is given, and answers whether it came to that.
+    /// Takes pieces, the largest first, until none of more than `smallest` bytes is given. Whether
+    /// the pieces sufficed for that.
     fn take(&mut self, alloc: Global, smallest: usize) -> bool {
         let mut len = LARGEST;
         for _ in 0..MOST_PIECES {
@@ -85,7 +88,7 @@ impl Memory {
         false
     }
 
-    /// Takes the room too, but for so many bytes, where memory is short. Refused as Lawless where some is left.
+    /// If memory is short, takes the room too, but for `left` bytes. Lawless if more is left.
     pub fn leave(&mut self, alloc: Global, left: usize) -> Result<(), Fault> {
         if !self.is_short {
             return Ok(());
@@ -97,7 +100,7 @@ impl Memory {
         wanted(is_all)
     }
 
-    /// The same, but for an eighth more bytes than at the last time, and 32; none at first.
+    /// The same with an eighth more bytes than the last time and 32 left; with none the first time.
     pub fn tighten(&mut self, alloc: Global) -> Result<(), Fault> {
         let left = self.left;
         self.left = left.saturating_add(left / 8).saturating_add(32);
@@ -111,7 +114,7 @@ impl Memory {
         self.is_tight = false;
     }
 
-    /// Whether a call was refused for want of memory. Gives the room back where it was.
+    /// Whether a call was refused as out of memory. If so, gives the room back.
     pub fn is_refused<T>(&mut self, answer: &Result<T, Fault>) -> bool {
         let is_refused = match answer {
             Ok(_) => false,

@@ -14,7 +14,7 @@ use split::Split;
 use std::alloc::Global;
 use table::check;
 
-/// The run of a split's first range over a table, of which all from sequence 1 on stays readable.
+/// The run of a split's first range over a table, with all sequences from 1 on readable.
 fn first_run_of<'a>(
     alloc: Global,
     bytes: &'a [u8],
@@ -64,7 +64,8 @@ fn are_pieces(alloc: Global, plan: &Plan<'_, '_, Bytewise>) -> Result<bool, Faul
     Ok(plan.jobs() == 3)
 }
 
-/// Whether the plan of runs of three entries, a block and an output each, is right, and its pieces have 26 bytes.
+/// Whether the plan of runs of three entries, each a block and an output, is right, and its pieces
+/// have 26 bytes each.
 fn is_planned(alloc: Global, runs: &[RangeRun<'_>]) -> Result<bool, Fault> {
     let plan = plan::<Bytewise>(alloc, runs, &[], SMALLEST, 5)?;
     let are_pieces = are_pieces(alloc, &plan)?;
@@ -77,7 +78,7 @@ pub fn planned(alloc: Global) -> Result<bool, Fault> {
     is_planned(alloc, &runs)
 }
 
-/// Two ranges, chosen of four index keys: the boundary is the third.
+/// Two ranges, chosen from four index keys: the boundary is the third.
 pub fn chosen(alloc: Global) -> Result<bool, Fault> {
     let tables = [check::<Bytewise>(alloc, TABLE_ABCD)?];
     let split = Split::choose(alloc, &tables, 2)?;

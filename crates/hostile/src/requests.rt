@@ -1,4 +1,5 @@
-//! Compactions that are refused, by their inputs and by what is stated of them, and those beside them that are accepted.
+//! Compactions that are refused for their inputs or for what is stated of them, and accepted ones
+//! beside them.
 
 use crate::case::{Case, Meta, Want, add_file, compacted, is_answer, picked};
 use crate::damage::mend_blocks;
@@ -14,7 +15,7 @@ use std::alloc::Global;
 use std::thread::Threads;
 use table::Options;
 
-/// Blocks, restarts and files as they are where nothing is said.
+/// Options: blocks, restarts and files have the default sizes.
 const OPTIONS: Options = Options {
     block_size: 4_096,
     restart_interval: 16,
@@ -33,7 +34,7 @@ const TO_B: Meta<'static> = (3, 1, &A_AT_ONE, &B_AT_ONE);
 
 const TO_C: Meta<'static> = (3, 1, &A_AT_ONE, &C_AT_ONE);
 
-/// As many inputs as there may be, and one more; they are made.
+/// The most inputs that there may be, and one more; they are made.
 const MANY: &Case = &Case {
     level: 1,
     files: &[],
@@ -62,8 +63,8 @@ const TOO_MANY: &Case = &Case {
     want: Want::Refused(OptionsFault, None),
 };
 
-/// Two faults at once, the number of inputs, grandparents whose largest keys rise, stand and fall, and what is stated of an input lying by
-/// one.
+/// Two faults in one request, the number of inputs, grandparents whose largest keys rise, stay the
+/// same and fall, and statements of an input that are off by one.
 pub const REQUESTS: &[(Row, &str)] = &[
     (
         Row::Case(
@@ -259,7 +260,7 @@ pub const REQUESTS: &[(Row, &str)] = &[
     ),
 ];
 
-/// Makes of the worked table that of another user key of one byte, which stands at places 3 and 42.
+/// Makes the worked table that of another user key of one byte, which is at places 3 and 42.
 fn rename(table: &mut [u8], user: u8) {
     for place in [3, 42] {
         if let Some(byte) = table.get_mut(place) {
@@ -269,7 +270,7 @@ fn rename(table: &mut [u8], user: u8) {
     mend_blocks(table, BLOCK_ENDS);
 }
 
-/// The tables of so many user keys of one byte, one behind the other.
+/// The tables of `count` user keys of one byte, one after the other.
 fn many_tables(alloc: Global, count: u32) -> Result<Vec<u8>, Fault> {
     let mut bytes = Vec::new(alloc);
     for number in 0..count {
@@ -300,7 +301,8 @@ fn lent<'a>(alloc: Global, bytes: &'a [u8]) -> Result<Vec<&'a [u8]>, Fault> {
     Ok(tables)
 }
 
-/// Whether a case has its answer over these inputs, whose tables are one behind the other.
+/// Whether a case has its answer over these inputs, whose tables are in `bytes` one after the
+/// other.
 fn is_answered_over<R: AllocGlobal + Threads + Sync>(
     rt: &R,
     case: &Case,
@@ -311,7 +313,7 @@ fn is_answered_over<R: AllocGlobal + Threads + Sync>(
     is_answer(case, compacted(rt, case, picked, &tables))
 }
 
-/// Whether a case has its answer over so many inputs, each of a user key of one byte.
+/// Whether a case has its answer over `count` inputs, each of a user key of one byte.
 pub fn is_answered_of_many<R: AllocGlobal + Threads + Sync>(
     rt: &R,
     case: &Case,

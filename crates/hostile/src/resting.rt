@@ -1,4 +1,4 @@
-//! Calls that take no memory. What they are called of is made before.
+//! Calls that take no memory. Their arguments are made before.
 
 use crate::boards::{are_worked, is_closed};
 use crate::building::{add_entry, add_row, version_of};
@@ -27,8 +27,9 @@ use split::Split;
 use std::alloc::Global;
 use table::{Cursor, SoundTable, TableBuilder, TableCursor, check};
 
-/// Readings of numbers: 300 in two groups, and a number that was cut off; the known checksum of nine digits, and that of a log's empty
-/// record; what two slices share; faults, by their numbers and by what the program ends with; and the orders of user keys.
+/// Readings of numbers: 300 in two groups, and a number that was cut off. The known checksums of
+/// nine digits and of a log's empty record. What two slices share. Faults with their numbers and
+/// statuses. The orders of user keys.
 fn are_numbers() -> bool {
     read_u32_varint(b"\xac\x02x") == Some((300, 2))
         && read_u64_varint(b"\xac") == None
@@ -45,7 +46,7 @@ fn are_numbers() -> bool {
         && Shortlex::compare(b"ab", b"b").is_gt()
 }
 
-/// The parts and the order of internal keys, one that is too short, and one that has its bytes for itself.
+/// The parts and the order of internal keys, a key that is too short, and one that owns its bytes.
 fn are_keys(own: &KeyBuf) -> bool {
     let Ok(key) = InternalKey::parse(&A_AT_ONE) else {
         return false;
@@ -72,13 +73,14 @@ pub fn numbers(alloc: Global, memory: &mut Memory) -> Result<bool, Fault> {
     Ok(is_right)
 }
 
-/// The restarts of bytes that are tested, and of the same read again.
+/// The restarts of bytes that are checked, and of the same block reopened.
 fn restarts(bytes: &[u8]) -> Result<(u64, u64), Fault> {
     let block = block::check(bytes)?;
     Ok((block.copy().restarts(), block::reopen(bytes).restarts()))
 }
 
-/// A block, which is tested, copied and read again; a cursor of nothing, and that of the worked block.
+/// A block that is checked, copied and reopened; a cursor over nothing, and one over the worked
+/// block.
 fn are_blocks(alloc: Global, cursor: &BlockCursor<'_>) -> bool {
     if BlockCursor::none(alloc).valid() || !cursor.valid() {
         return false;
@@ -90,7 +92,7 @@ fn are_blocks(alloc: Global, cursor: &BlockCursor<'_>) -> bool {
         && !cursor.is_last()
 }
 
-/// Whether a table's last key is below the one of `b`, and not below that of `a`.
+/// Whether a table's last key is below that of `b`, and not below that of `a`.
 fn is_last(table: &TableBuilder<Bytewise>) -> bool {
     let Ok(above) = InternalKey::parse(&B_AT_ONE) else {
         return false;
@@ -101,7 +103,8 @@ fn is_last(table: &TableBuilder<Bytewise>) -> bool {
     table.is_above_last(&above) && !table.is_above_last(&same)
 }
 
-/// Builders of no entry, and of one entry, whose block of 21 bytes was written with five more to a table.
+/// Builders of no entry, and of one entry, whose block of 21 bytes was written with five more bytes
+/// to a table.
 fn are_builders(alloc: Global, block: &BlockBuilder, table: &TableBuilder<Bytewise>) -> bool {
     let estimate = BlockBuilder::new(alloc, 16).estimate();
     let flushed = TableBuilder::<Bytewise>::new(alloc, SMALLEST).flushed();
@@ -128,7 +131,7 @@ fn are_right(
     Ok(is_right)
 }
 
-/// The same with a table that is made before.
+/// The same, with a table that is made before.
 fn are_beside_table(
     alloc: Global,
     memory: &mut Memory,
@@ -140,7 +143,7 @@ fn are_beside_table(
     are_right(alloc, memory, cursor, block, &table)
 }
 
-/// The same with a block that is made before it.
+/// The same, with a block that is made before that.
 fn are_beside_block(
     alloc: Global,
     memory: &mut Memory,
@@ -164,7 +167,7 @@ fn is_first<'a, S: Cursor<'a, Bytewise>>(cursor: &S) -> bool {
         && cursor.value() == b"x".as_slice()
 }
 
-/// A handle and what is behind it.
+/// A handle, and the bytes after it.
 fn is_handle() -> bool {
     let Some(found) = BlockHandle::read(b"\x1a\x08x") else {
         return false;
@@ -172,7 +175,7 @@ fn is_handle() -> bool {
     found.handle.size == 8 && found.rest == b"x".as_slice()
 }
 
-/// The ends of a table, and its cursor, alone and as one of all.
+/// The smallest and largest key of a table, and its cursor, alone and merged with others.
 fn are_tables(
     table: &SoundTable<'_, Bytewise>,
     cursors: &[TableCursor<'_, Bytewise>],
@@ -204,7 +207,7 @@ fn are_walkable(
     Ok(is_right)
 }
 
-/// The same with cursors as one that are made before.
+/// The same, with a merging cursor that is made before.
 fn are_merging(
     alloc: Global,
     memory: &mut Memory,
@@ -215,7 +218,7 @@ fn are_merging(
     are_walkable(alloc, memory, table, cursors, &merging)
 }
 
-/// The same with cursors that are made before them.
+/// The same, with cursors that are made before that.
 fn are_walked(
     alloc: Global,
     memory: &mut Memory,
@@ -231,7 +234,8 @@ pub fn tables(alloc: Global, memory: &mut Memory) -> Result<bool, Fault> {
     are_walked(alloc, memory, &table)
 }
 
-/// Sequences that stay readable, orders that a request is tested for, and user keys that a deeper file, from `t0` to `v0`, may hold.
+/// Readable sequences, the orders that a request is tested for, and user keys that a deeper file
+/// from `t0` to `v0` may hold.
 pub fn rules(alloc: Global, memory: &mut Memory) -> Result<bool, Fault> {
     let inputs = picked(alloc, DELETION)?;
     memory.leave(alloc, 0)?;
@@ -247,7 +251,7 @@ pub fn rules(alloc: Global, memory: &mut Memory) -> Result<bool, Fault> {
     Ok(is_right)
 }
 
-/// Whether a range keeps the one entry, with its mark.
+/// Whether a range keeps its one entry, with its mark.
 fn is_kept(runs: &[RangeRun<'_>]) -> bool {
     let Some(run) = runs.first() else {
         return false;
@@ -260,7 +264,7 @@ fn is_kept(runs: &[RangeRun<'_>]) -> bool {
         && run.marks() == [Mark { below: 0, kept: 0 }].as_slice()
 }
 
-/// Whether ranges of user keys are one, and three.
+/// Splits of one range, and of three.
 fn are_ranges(alloc: Global, split: &Split<Bytewise>) -> bool {
     let Ok(one) = Split::<Bytewise>::from_keys(Vec::new(alloc)) else {
         return false;
@@ -272,7 +276,7 @@ fn are_ranges(alloc: Global, split: &Split<Bytewise>) -> bool {
     range.lower == Some(b"c".as_slice()) && range.upper == Some(b"f".as_slice())
 }
 
-/// Whether a plan is of one output of one block.
+/// Whether a plan has one output of one block.
 fn is_plan(plan: &Plan<'_, '_, Bytewise>) -> bool {
     if plan.is_empty() || plan.jobs() != 1 || plan.len() != 1 {
         return false;
@@ -286,7 +290,8 @@ fn is_plan(plan: &Plan<'_, '_, Bytewise>) -> bool {
         && output.largest.bytes() == A_AT_ONE.as_slice()
 }
 
-/// Whether ranges and what one keeps are right, and their plan that is made before, while each request for memory is refused.
+/// Whether splits, a range's run and their plan, made before, are right while each request for
+/// memory is refused.
 fn are_planned(
     alloc: Global,
     memory: &mut Memory,
@@ -300,15 +305,15 @@ fn are_planned(
     Ok(is_right)
 }
 
-/// What a range keeps, ranges, and a plan.
+/// What a range keeps, splits, and a plan.
 pub fn plans(alloc: Global, memory: &mut Memory) -> Result<bool, Fault> {
     let split = three_ranges(alloc)?;
     let runs = runs_of(alloc, TABLE)?;
     are_planned(alloc, memory, &split, &runs)
 }
 
-/// Whether the numbers of a version are these, and those of one of nothing none; and its compact pointer of level 1, and that of level 2,
-/// which is none.
+/// Whether the counters of a version are these, an empty version has none, and there is a compact
+/// pointer of level 1 and none of level 2.
 fn is_version(alloc: Global, version: &Version) -> bool {
     let Some(pointer) = version.pointer(1) else {
         return false;

@@ -1,4 +1,38 @@
 //! Rows of calls, each made while memory is short and then with memory to spare.
+//!
+//! Before a row nearly all memory is taken, all but 2^28 bytes. Then the row is tried 80 times.
+//! Before each try these bytes are taken too, but for none the first time, and then an eighth more
+//! and 32 each time. Each try has to be `Memory` or the expected answer, and one of them has to be
+//! `Memory`. After that the row has to have its answer with memory to spare. If a call was refused,
+//! the bytes are given back, so that at most one call of a try is refused.
+//!
+//! | Row | Calls | Compared |
+//! |---|---|---|
+//! | a block is built (1) | `BlockBuilder`: `add`, `finish` | bytes |
+//! | a table is built (1) | `TableBuilder`: `add`, `finish` | bytes |
+//! | a table is walked (2) | `check`, `new`, `advance`, `seek` | user keys left |
+//! | three tables as one (2) | the same and `Merging::take` | user keys left |
+//! | a log | `append`, `records` | length, end, records |
+//! | an edit | `decode`, `applied`, `apply`, `snapshot_edit`, `encode` | bytes, next file |
+//! | a range and a plan | `check`, `merge_range`, `plan`, `encode` | numbers, lengths |
+//! | a boundary | `check`, `Split::choose` | ranges, boundary |
+//! | a board | `Board::new` | seats, counts |
+//! | a folder, installed into (3) | `open`, `load`, `install` | table, version after |
+//! | five compactions (4) | `compact`, by two workers over three ranges | outcome, or `Trailer` at 0 |
+//! | two blocks | `blocks` | number of entries, block |
+//! | a folder is compacted (3) | `compact_dir` | lines |
+//! | a block is walked (2) | `BlockCursor`: `new`, `advance` | entries |
+//! | a folder is asked (3) | `manifest`, `verify`, `get_dir` | lines |
+//! | a table is dumped | `dump` | lines |
+//!
+//! If a call was refused, the next try makes all anew, except:
+//!
+//! 1. `add` is made again on the same builder, which has to be as it was.
+//! 2. `advance`, `seek` and `take` are made again on the same cursors. After `advance` the entry
+//!    has to be the same.
+//! 3. The calls are made again on the same folder.
+//! 4. The next try has the same inputs and split. One row has a gate that holds job 0 until job 2
+//!    has ended.
 
 use crate::building::{block_built, edited, logged, table_built};
 use crate::case::{Case, carried, is_answer, picked, three_ranges};
@@ -19,25 +53,25 @@ use split::Split;
 use std::sync::atomic::Ordering;
 use std::thread::Threads;
 
-/// How often a call is made while memory is short.
+/// How many times a call is made while memory is short.
 const STEPS: usize = 80;
 
-/// For how many turns job 0 is held at most, where it is held.
+/// The most turns for which job 0 is held.
 const TURNS: u64 = 1_000_000;
 
-/// The same while memory is short, since then there may be no second worker.
+/// The same while memory is short. It is less, since then there may be no second worker.
 const SHORT_TURNS: u64 = 1_000;
 
-/// What is asked of a compaction's workers.
+/// What is expected of a compaction's workers.
 pub enum Workers {
     Free,
-    /// Job 0 is held until job 2 has left.
+    /// Job 0 is held until job 2 has ended.
     Held,
-    /// One does all jobs.
+    /// One worker does all jobs.
     Alone,
 }
 
-/// A compaction with what it is made of.
+/// A compaction with its inputs and ranges.
 #[derive(Drop)]
 pub struct Asked<'x> {
     case: &'static Case,
@@ -58,9 +92,9 @@ pub enum Row {
     Split,
     Board,
     Install,
-    /// A compaction, whose inputs and ranges are to be made.
+    /// A compaction whose inputs and ranges have to be made.
     Case(&'static Case, Workers),
-    /// A compaction of so many inputs.
+    /// A compaction of this many inputs.
     Many(&'static Case, u32),
     Blocks,
     Folder,
@@ -76,26 +110,26 @@ pub enum Row {
     RestingBoard,
 }
 
-/// What is called, with what it is made of where that is made once.
+/// What is called, with what is made once for all tries.
 #[derive(Drop)]
 enum Tried<'x> {
     Row(&'x Row),
     Asked(&'x Asked<'x>),
 }
 
-/// The compaction for which no thread can be started.
+/// The compaction while no thread can be started.
 pub const ALONE: &[(Row, &str)] = &[(
     Row::Case(FOUR_WORKERS, Workers::Alone),
     "where no thread can be started, by one of them",
 )];
 
-/// That for which one can be started at a time.
+/// The compaction while one thread can be started at a time.
 pub const ONE_THREAD: &[(Row, &str)] = &[(
     Row::Case(FOUR_WORKERS, Workers::Free),
     "where one thread can be started at a time",
 )];
 
-/// That for which all can be started.
+/// The compaction while all threads can be started.
 pub const THREADS: &[(Row, &str)] = &[(
     Row::Case(FOUR_WORKERS, Workers::Free),
     "where threads can be started",
@@ -133,7 +167,7 @@ pub const RESTING: &[(Row, &str)] = &[
     ),
 ];
 
-/// The calls whose growths may be refused.
+/// The calls that take memory.
 pub const GROWTHS: &[(Row, &str)] = &[
     (Row::Block, "  a block is built"),
     (Row::Table, "  a table is built"),
@@ -178,7 +212,7 @@ pub const GROWTHS: &[(Row, &str)] = &[
     (Row::Dump, "  a table is dumped"),
 ];
 
-/// For how many turns job 0 is held at most.
+/// The most turns for which job 0 is held.
 fn turns_of(workers: &Workers, is_short: bool) -> u64 {
     match workers {
         Workers::Held if is_short => SHORT_TURNS,
@@ -187,7 +221,7 @@ fn turns_of(workers: &Workers, is_short: bool) -> u64 {
     }
 }
 
-/// Whether workers did what is asked of them.
+/// Whether the workers did what is expected of them.
 fn are_kept(workers: &Workers, is_short: bool, gate: &Held) -> bool {
     match workers {
         Workers::Free => true,
@@ -254,7 +288,8 @@ fn has_answer<R: AllocGlobal + Threads + Sync>(
     }
 }
 
-/// Makes a row's call while little memory is left, where it is not refused. Any answer but the row's and Memory is refused as Lawless.
+/// Makes a row's call while little memory is left. Lawless if the answer is neither the row's nor
+/// Memory.
 fn try_short<R: AllocGlobal + Threads + Sync>(
     rt: &R,
     memory: &mut Memory,
@@ -269,8 +304,8 @@ fn try_short<R: AllocGlobal + Threads + Sync>(
     wanted(answer?)
 }
 
-/// Whether a row has its answer with memory to spare. While memory is short it is made so many times before, and has to be refused once at
-/// least.
+/// Whether a row has its answer with memory to spare. While memory is short its call is made
+/// `steps` times before that, and has to be refused at least once.
 fn holds<R: AllocGlobal + Threads + Sync>(
     rt: &R,
     memory: &mut Memory,
@@ -317,7 +352,7 @@ fn is_right<R: AllocGlobal + Threads + Sync>(
     }
 }
 
-/// Tests each row, once more where a growth was refused, and prints what it is.
+/// Tests each row, once more if memory was refused, and prints its text.
 pub fn run<R: AllocGlobal + Print + Threads + Sync>(
     rt: &R,
     memory: &mut Memory,
@@ -335,7 +370,7 @@ pub fn run<R: AllocGlobal + Print + Threads + Sync>(
     Ok(())
 }
 
-/// Tests the calls whose growths may be refused, while memory is short where it is.
+/// Tests the calls that take memory, while memory is short or to spare.
 pub fn run_growths<R: AllocGlobal + Print + Threads + Sync>(
     rt: &R,
     memory: &mut Memory,

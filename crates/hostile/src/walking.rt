@@ -1,4 +1,5 @@
-//! Cursors. What a call moves is tried again where a growth was refused, which left it where it was.
+//! Cursors. If memory was refused, a cursor has to be where it was, and the call is made again on
+//! it.
 
 use crate::fault::wanted;
 use crate::memory::Memory;
@@ -10,7 +11,7 @@ use merge::Merging;
 use std::alloc::Global;
 use table::{Cursor, TableCursor, check};
 
-/// The user key of the first entry that is still to come, where there is one.
+/// The user key of a cursor's entry, if it has one.
 fn first<'a, S: Cursor<'a, Bytewise>>(cursor: &S) -> Option<u8> {
     if !cursor.valid() {
         return None;
@@ -18,7 +19,7 @@ fn first<'a, S: Cursor<'a, Bytewise>>(cursor: &S) -> Option<u8> {
     cursor.key().user().first().copied()
 }
 
-/// Takes the first entry off, where there is one.
+/// Takes a cursor past its entry, if it has one.
 fn step<'a, S: Cursor<'a, Bytewise>>(memory: &mut Memory, cursor: &mut S) -> Result<(), Fault> {
     if !cursor.valid() {
         return Ok(());
@@ -48,7 +49,7 @@ fn seek<'a, S: Cursor<'a, Bytewise>>(
     cursor.seek(InternalKey::parse(&target)?)
 }
 
-/// Whether a cursor has entries of just these user keys. It takes them off.
+/// Whether a cursor has entries of just these user keys. It takes the cursor to its end.
 fn has_users<'a, S: Cursor<'a, Bytewise>>(
     memory: &mut Memory,
     cursor: &mut S,
@@ -63,7 +64,8 @@ fn has_users<'a, S: Cursor<'a, Bytewise>>(
     Ok(first(cursor) == None)
 }
 
-/// Whether a cursor has entries of just these user keys behind a step, a seek of `c` and one back to `a`.
+/// Whether a cursor has entries of just these user keys after a step, a seek of `c` and one back to
+/// `a`.
 fn is_walked<'a, S: Cursor<'a, Bytewise>>(
     memory: &mut Memory,
     cursor: &mut S,
@@ -99,7 +101,7 @@ pub fn cursors_over<'a>(
     Ok(cursors)
 }
 
-/// The cursors as one.
+/// The cursors, merged as one.
 fn taken<'a>(
     alloc: Global,
     memory: &mut Memory,
@@ -113,19 +115,19 @@ fn taken<'a>(
     Merging::take(alloc, cursors)
 }
 
-/// Three cursors, walked as one over `a`, `a`, `b`, `c`, `c`, `d`, `e` and `f`.
+/// Three cursors, merged as one over `a`, `a`, `b`, `c`, `c`, `d`, `e` and `f`.
 pub fn merged(alloc: Global, memory: &mut Memory) -> Result<bool, Fault> {
     let mut cursors = cursors_over(alloc, &[TABLE_ACE, TABLE_BD, TABLE_ACF])?;
     let mut merging = taken(alloc, memory, &mut cursors)?;
     is_walked(memory, &mut merging, b"ccdef")
 }
 
-/// Whether a cursor's first entry is this one.
+/// Whether a cursor's entry is this one.
 fn is_at(cursor: &BlockCursor<'_>, key: &[u8; 9], value: &[u8; 1]) -> bool {
     cursor.valid() && cursor.key() == key.as_slice() && cursor.value() == value.as_slice()
 }
 
-/// Takes this entry off.
+/// Takes a cursor past this entry. Lawless if it has another or none.
 fn pass(
     memory: &mut Memory,
     cursor: &mut BlockCursor<'_>,

@@ -1,7 +1,8 @@
 //! Worked bytes, as the formats of LevelDB and their arithmetic give them.
 //!
-//! A table of one data block has it first, then the metaindex block of no entry, then the index block of one entry, and then its
-//! footer. Each block has a type and a checksum of four bytes behind it. Index keys are the last keys of their blocks.
+//! A table of one data block has it first, then a metaindex block of no entry, then an index block
+//! of one entry, and then its footer. After each block there are a type and a checksum of four
+//! bytes. Index keys are the last keys of their blocks.
 
 /// `block: a@2 put x, a@1 put y`
 pub const BLOCK: &[u8] =
@@ -24,7 +25,7 @@ pub const NO_ENTRY: &[u8] = b"\0\0\0\0\x01\0\0\0";
 /// `edit: log 3, log 4`
 pub const TWO_LOGS: &[u8] = b"\x02\x03\x02\x04";
 
-/// The internal key of a value of `a` at 1.
+/// The internal key of `a` put at 1.
 pub const A_AT_ONE: [u8; 9] = *b"a\x01\x01\0\0\0\0\0\0";
 
 /// That of `a` at 2.
@@ -48,7 +49,8 @@ pub const U_AT_ONE: [u8; 9] = *b"u\x01\x01\0\0\0\0\0\0";
 /// That of `u` at 2.
 pub const U_AT_TWO: [u8; 9] = *b"u\x01\x02\0\0\0\0\0\0";
 
-/// Where the blocks of a table of one entry end, a key of nine bytes and a value of one, with their types and checksums.
+/// Where the blocks of a table of one entry end, with their types and checksums. The key has nine
+/// bytes, the value one.
 pub const BLOCK_ENDS: &[usize] = &[26, 39, 66];
 
 /// `table: a@1 put x`
@@ -92,15 +94,15 @@ pub const TABLE_U: &[u8] = b"\
     \xb0\0\x09\x02u\x01\x01\0\0\0\0\0\0\0\x15\0\0\0\0\x01\0\0\0\0.\xfbO\x03\x1a\x08\x27\x16\0\0\0\
     \0\0\0\0\0\0\0\0\0\0\0\0\0\0\0\0\0\0\0\0\0\0\0\0\0\0\0\0\0\0\0\0\0W\xfb\x80\x8b\x24uG\xdb";
 
-/// The table of `a` at 1, whose first byte is another.
+/// The table of `a` at 1 with a changed first byte.
 pub const TABLE_SPOILT: &[u8] =
     b"\x01\x09\x01a\x01\x01\0\0\0\0\0\0x\0\0\0\0\x01\0\0\0\0\x84\xdd\x88t\0\0\0\0\x01\0\0\0\0\xc0\xf2\xa1\xb0\0\x09\x02a\x01\x01\0\0\0\0\0\0\0\x15\0\0\0\0\x01\0\0\0\06I%\xbf\x1a\x08'\x16\0\0\0\0\0\0\0\0\0\0\0\0\0\0\0\0\0\0\0\0\0\0\0\0\0\0\0\0\0\0\0\0\0\0\0\0W\xfb\x80\x8b$uG\xdb";
 
-/// The table of `b` at 1, whose first byte is another.
+/// The table of `b` at 1 with a changed first byte.
 pub const TABLE_B_SPOILT: &[u8] =
     b"\x01\x09\x01b\x01\x01\0\0\0\0\0\0x\0\0\0\0\x01\0\0\0\0\xc7Z78\0\0\0\0\x01\0\0\0\0\xc0\xf2\xa1\xb0\0\x09\x02b\x01\x01\0\0\0\0\0\0\0\x15\0\0\0\0\x01\0\0\0\0\xae\xd8\xaf\xcf\x1a\x08'\x16\0\0\0\0\0\0\0\0\0\0\0\0\0\0\0\0\0\0\0\0\0\0\0\0\0\0\0\0\0\0\0\0\0\0\0\0W\xfb\x80\x8b$uG\xdb";
 
-/// The table of `a` at 1, whose last byte is another.
+/// The table of `a` at 1 with a changed last byte.
 pub const TABLE_OF_ANOTHER_MAGIC: &[u8] =
     b"\0\x09\x01a\x01\x01\0\0\0\0\0\0x\0\0\0\0\x01\0\0\0\0\x84\xdd\x88t\0\0\0\0\x01\0\0\0\0\xc0\xf2\xa1\xb0\0\x09\x02a\x01\x01\0\0\0\0\0\0\0\x15\0\0\0\0\x01\0\0\0\06I%\xbf\x1a\x08'\x16\0\0\0\0\0\0\0\0\0\0\0\0\0\0\0\0\0\0\0\0\0\0\0\0\0\0\0\0\0\0\0\0\0\0\0\0W\xfb\x80\x8b$uG\xda";
 
@@ -140,7 +142,7 @@ pub const MANIFEST: &[u8] = b"\
     \x93\xd7h\x1c4\0\x01\x01\x1aleveldb.BytewiseComparator\x07\x01\x07\x7d\x09u\0\x04\0\0\0\0\0\0\
     \x09u\x01\x02\0\0\0\0\0\0\x3d\x24\xf8\xc5\x08\0\x01\x02\x03\x09\0\x03\x09\x04\x04";
 
-/// What CURRENT holds where the manifest is that of number 5.
+/// The text of CURRENT that names manifest 5.
 pub const CURRENT_FIVE: &[u8] = b"MANIFEST-000005\x0a";
 
 /// `table: a@1 put x | b@1 put x | c@1 put x | d@1 put x | e@1 put x`
@@ -251,7 +253,7 @@ pub const TABLE_B_AND_G: &[u8] = b"\
     \x7d\x01\x0b\x27\x084\x16\0\0\0\0\0\0\0\0\0\0\0\0\0\0\0\0\0\0\0\0\0\0\0\0\0\0\0\0\0\0\0\0\0\0\
     \0\0W\xfb\x80\x8b\x24uG\xdb";
 
-/// The table of `b` at 2, whose first byte is another.
+/// The table of `b` at 2 with a changed first byte.
 pub const TABLE_B_TWO_SPOILT: &[u8] =
     b"\x01\x09\x01b\x01\x02\0\0\0\0\0\0x\0\0\0\0\x01\0\0\0\0\x8d\x9a\xfa\xfe\0\0\0\0\x01\0\0\0\0\xc0\xf2\xa1\xb0\0\x09\x02b\x01\x02\0\0\0\0\0\0\0\x15\0\0\0\0\x01\0\0\0\0x\xb9Y\xc4\x1a\x08'\x16\0\0\0\0\0\0\0\0\0\0\0\0\0\0\0\0\0\0\0\0\0\0\0\0\0\0\0\0\0\0\0\0\0\0\0\0W\xfb\x80\x8b$uG\xdb";
 
@@ -307,5 +309,6 @@ pub const VERSION_TEN: &[u8] = b"\
     \x01\x1aleveldb.BytewiseComparator\x02\x03\x09\0\x03\x0a\x04\x04\x05\x01\x09u\x01\x02\0\0\0\0\
     \0\0";
 
-/// What the record `x` adds to a log behind a record of 32,754 bytes: an empty first fragment, and the last one.
+/// What the record `x` adds to a log after a record of 32,754 bytes: an empty first fragment, and
+/// the last one.
 pub const SHORT_RECORD: &[u8] = b"dQ\xd0\xe9\0\0\x02,t\x1b\xd8\x01\0\x04x";

@@ -1,26 +1,32 @@
-//! Each beginning of worked bytes, but for the whole.
+//! Each beginning of worked bytes, but not the whole.
 //!
-//! What has to come is told by the formats:
+//! The formats say what is expected:
 //!
-//! - An internal key has eight bytes behind its user key. Of the beginnings of a key of nine bytes, those of 0 to 7 bytes are
-//!   too short; in that of eight the kind would be the letter `a`.
-//! - A block ends with the number of its restarts, and that many restarts before it. In the worked block a number from 1 to 6
-//!   stands before three zeros at places 5, 16 and 28 alone. At 5 two restarts would not fit, at 16 the one restart would not
-//!   be 0, and at 28 it is the whole block. So none of its beginnings is a block. In the blocks of one entry such a number stands at
-//!   5 and 17: at 5 the one restart of the first would not be 0, and the two of the second would not fit; at 17 it is the whole. In
-//!   that of both it stands at 5, 18 and 30: at 5 and 18 the first restart would not be 0. In that of no entry it stands at the end.
-//! - A table of fewer than 48 bytes is Short, and one that does not end with the magic is Magic, whose first byte stands in
-//!   the worked table once: 48 and 66 of 114 beginnings. So it is with the table of two entries: 48 and 77 of 125, with that of one
-//!   deletion: 48 and 65 of 113, and with that of three blocks: 48 and 154 of 202. No byte of the magic is 0, and of eight bytes of theirs
-//!   one is, but for the magic and for the last checksum with the handles behind it, whose last byte is no magic's. A compaction over
-//!   each of these tables answers the same, of input 0.
-//! - A log may end behind each of its records. That of one empty record has one such place before its end, that of a record
-//!   of 32,754 bytes and one of 1 byte two, 0 and 32,761; a manifest of records of 52 and 8 bytes has 0 and 59. Each other
-//!   beginning ends inside a record.
-//! - An edit may end behind each of its fields: those of 23 and 47 bytes at 0, 2, 4, 6, 8 and 20, the longer one at 23 too.
-//!   Each other beginning has a tag and no whole field. One of two fields of two bytes at 0 and 2.
-//! - CURRENT ends with a newline. A manifest without a record names no comparator; one that ends behind its first record sets
-//!   no number.
+//! - **Keys.** An internal key has eight bytes after its user key. Of the beginnings of a key of
+//!   nine bytes, those of 0 to 7 bytes are too short; in that of eight the kind would be the letter
+//!   `a`.
+//! - **Blocks.** A block ends with the number of its restarts, and that many restarts before it. In
+//!   the worked block a number from 1 to 6 before three zeros is only at 5, 16 and 28. At 5 two
+//!   restarts would not fit, at 16 the one restart would not be 0, and 28 ends the whole block. So
+//!   none of its beginnings is a block. In the blocks of one entry such a number is at 5 and 17: at
+//!   5 the one restart of the first would not be 0, and the two of the second would not fit; 17
+//!   ends the whole. In that of both entries it is at 5, 18 and 30: at 5 and 18 the first restart
+//!   would not be 0. In that of no entry it ends the whole.
+//! - **Tables.** A table of fewer than 48 bytes is Short. One that does not end with the magic is
+//!   Magic; the magic's first byte is in the worked table once. So 48 and 66 of 114 beginnings; of
+//!   the table of two entries 48 and 77 of 125; of that of one deletion 48 and 65 of 113; of that
+//!   of three blocks 48 and 154 of 202. No byte of the magic is 0, and each eight bytes of these
+//!   tables have a 0, but for the magic, and for the last checksum with the handles after it, whose
+//!   last byte is not the magic's. A compaction over each of these tables answers the same, of
+//!   input 0.
+//! - **Logs.** A log may end after each of its records. That of one empty record has one such place
+//!   before its end. That of a record of 32,754 bytes and one of 1 byte has two, 0 and 32,761. A
+//!   manifest of records of 52 and 8 bytes has 0 and 59. Each other beginning ends inside a record.
+//! - **Edits.** An edit may end after each of its fields: those of 23 and 47 bytes at 0, 2, 4, 6, 8
+//!   and 20, the longer one at 23 too. Each other beginning ends inside a field. One of two fields
+//!   of two bytes may end at 0 and 2.
+//! - **Folders.** CURRENT ends with a newline. A manifest without a record names no comparator. One
+//!   that ends after its first record sets no counter.
 
 use crate::damage::call::Call;
 use crate::damage::row::Expected::{Each, Only};
@@ -34,7 +40,7 @@ use crate::worked::{
 };
 use coding::FaultName::{Apply, Block, Comparator, EditField, Key, LogShape, Magic, Short};
 
-/// Each beginning of worked bytes, but for the whole.
+/// Each beginning of worked bytes, but not the whole.
 pub const BEGINNINGS: &[Row] = &[
     Row {
         line: "key: beginnings 9: Key 9",

@@ -20,21 +20,23 @@ pub enum Call {
     Block,
     /// `table::check`.
     Table,
-    /// The same, where what is accepted has to be a table of `a` at 1 with the value `x` alone: Lawless else.
+    /// The same, but accepted bytes have to be a table of only `a` at 1 with the value `x`, else
+    /// Lawless.
     List,
-    /// `compact`, of one input whose table the bytes are, and of which is stated that it holds `a` at 1.
+    /// `compact`, of one input whose table these bytes are. The version states that it holds `a` at
+    /// 1.
     Compact,
     /// `logrec::records`.
     Records,
     /// `VersionEdit::decode`.
     Decode,
-    /// `open` of a folder whose CURRENT holds the bytes, with no manifest.
+    /// `open` of a folder whose CURRENT holds the bytes, and that has no manifest.
     Current,
     /// `open` of a folder whose manifest holds the bytes.
     Manifest,
 }
 
-/// What a call answers: none where it accepts, else the name of its refusal.
+/// What a call answers: None if it accepts, else the name of its refusal.
 pub type Answer = Option<FaultName>;
 
 /// The compaction of one input of `a` at 1.
@@ -56,7 +58,7 @@ const ONE_INPUT: Case = Case {
     want: Want::Accepted,
 };
 
-/// What is answered: none where it was accepted.
+/// The answer: None if the bytes were accepted.
 fn refusal<T: Drop>(answer: Result<T, Fault>) -> Answer {
     match answer {
         Ok(_) => None,
@@ -64,7 +66,7 @@ fn refusal<T: Drop>(answer: Result<T, Fault>) -> Answer {
     }
 }
 
-/// Whether a cursor stands at an entry with the value `x`.
+/// Whether a cursor has an entry, and its value is `x`.
 fn is_x(cursor: &TableCursor<'_, Bytewise>) -> bool {
     cursor.valid() && cursor.value() == b"x".as_slice()
 }
@@ -75,14 +77,14 @@ fn has_x(alloc: Global, table: &SoundTable<'_, Bytewise>) -> Result<bool, Fault>
     Ok(is_x(&cursor))
 }
 
-/// Whether the smallest key of a table is `a` at 1, and the largest too.
+/// Whether the smallest and the largest key of a table are both `a` at 1.
 fn is_a_alone(table: &SoundTable<'_, Bytewise>) -> bool {
     table.smallest().bytes() == A_AT_ONE.as_slice()
         && table.largest().bytes() == A_AT_ONE.as_slice()
 }
 
-/// Tests that bytes are a table of `a` at 1 with the value `x` alone. Keys rise strictly, so that there is one entry where the smallest is
-/// the largest.
+/// Checks that bytes are a table of only `a` at 1 with the value `x`. Since keys rise strictly,
+/// there is one entry if the smallest key is the largest.
 fn listed(alloc: Global, bytes: &[u8]) -> Result<(), Fault> {
     let table = table::check::<Bytewise>(alloc, bytes)?;
     let is_value = has_x(alloc, &table)?;

@@ -1,30 +1,37 @@
-//! Each single byte of small worked bytes changed to 0, 1, 127, 128 and 255, but for the value that it has.
+//! Each byte of small worked bytes, changed to 0, 1, 127, 128 and 255, but not to its own value.
 //!
-//! What has to come is told by the formats, counted place by place:
+//! The formats say what is expected, counted byte by byte:
 //!
-//! - In the key, the user key and the sequence may be any: of the nine bytes only the kind's is refused, but for 0 and 1.
-//! - In the block, the key's and the values' bytes may be any, 76 changes, and the second entry may share 0 or 1 bytes. Each other length
-//!   makes its entries not end where the restarts begin, and each other restart or number of restarts is refused.
-//! - A checksum finds each change of one byte, so all that a checksum is written over, or that is one, is Trailer in a table
-//!   and LogChecksum in a log. Each handle of a footer that is changed leads to another checksum, behind the blocks, or has no reading.
-//!   What stands behind the handles up to the magic is free; in the magic each change is Magic.
-//! - In a table whose checksums are mended, lengths, restarts and their numbers are Block, types Compressed or BlockType. The data
-//!   block's key may have a lower user key or a higher sequence, so that it stays before the index key, and the index key a higher user
-//!   key, a lower sequence or the kind of a deletion; else they are Index or, by their kinds, Key. The handle in the index is as those of
-//!   the footer. The value is free, and so are the checksums, which are written over. A compaction answers the same, but for Bounds where
-//!   the entry is another.
-//! - None of the five bytes stands in a manifest's name.
-//! - The length of a log's only fragment, which is 0, is made to pass the end by each change: LogShape. So is, once the
-//!   checksum is mended, another type than FULL. So it is with the lengths of a manifest's fragments, of which one alone, 14 changes,
-//!   passes the end before its checksum is tested.
-//! - Of a manifest's fields, once their checksum is mended: a tag becomes another one, EditTag, or that of a field that does not end
-//!   there, EditField. A length, a level and a kind become EditField. A number that is made to go on takes its neighbour in, so that what
-//!   stands behind it has no reading. A name of 26 bytes becomes another comparator's by the three lowest values, and no text by the two
-//!   others. A next file of 0 or 1 is not above the manifest's number: Apply. So it is with edits by themselves, where a name and a next
-//!   file are as any other.
+//! - **Key.** The user key and the sequence may be anything: of the nine bytes only the kind's is
+//!   refused, unless it is 0 or 1.
+//! - **Block.** The bytes of keys and values may be anything, 76 changes, and the second entry may
+//!   share 0 or 1 bytes. Each other length makes its entries not end where the restarts begin. Each
+//!   other restart or number of restarts is refused.
+//! - **Checksums.** A checksum finds each change of one byte. So each byte under a checksum, or of
+//!   one, is Trailer in a table and LogChecksum in a log. Each changed handle of a footer leads to
+//!   another checksum, to bytes after the blocks, or is invalid. The bytes between the handles and
+//!   the magic are free; each change of the magic is Magic.
+//! - **Table with mended checksums.** Lengths, restarts and their numbers are Block; types are
+//!   Compressed or BlockType. The data block's key may have a lower user key or a higher sequence,
+//!   so that it stays before the index key. The index key may have a higher user key, a lower
+//!   sequence or the kind of a deletion. Else they are Index or, for their kinds, Key. The handle
+//!   in the index is as those of the footer. The value is free, and so are the checksums, which are
+//!   written anew. A compaction answers the same, but Bounds if the entry is another.
+//! - **CURRENT.** None of the five bytes may be in a manifest's name.
+//! - **Log.** The length of its only fragment is 0, and each change makes it exceed the end:
+//!   LogShape. So does, with a mended checksum, any type but FULL. The same holds of the lengths of
+//!   a manifest's fragments: 14 changes of one of them exceed the end before its checksum is
+//!   tested.
+//! - **Fields of a manifest with a mended checksum, and edits by themselves.** A tag becomes
+//!   another one, EditTag, or that of a field that does not end there, EditField. A length, a level
+//!   and a kind become EditField. A number that is made to go on takes in its neighbour, so that
+//!   the bytes after it are invalid. A name of 26 bytes becomes another comparator's by the three
+//!   lowest values, and no text by the two others. A next file of 0 or 1 is not above the
+//!   manifest's number: Apply. In an edit by itself a name and a next file may be anything.
 //!
-//! Its first fragment has 59 bytes, and its second 15. Each begins with its checksum of four bytes. Behind the second's stand
-//! 08 00 01 02 03 09 00 03 09 04 04: eleven bytes, of which three have one of the five values, so that they are changed 52 times.
+//! The manifest's first fragment has 59 bytes, its second 15. Each begins with its checksum of four
+//! bytes. After the second's there are 08 00 01 02 03 09 00 03 09 04 04: eleven bytes, three of
+//! which have one of the five values, so that there are 52 changes.
 
 use crate::damage::call::Call;
 use crate::damage::row::Expected::{Each, Only};

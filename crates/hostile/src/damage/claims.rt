@@ -1,4 +1,4 @@
-//! Lengths that are claimed and not there.
+//! Lengths that exceed what is there.
 
 use crate::damage::call::Call;
 use crate::damage::row::Expected::Only;
@@ -12,7 +12,7 @@ const FOUR_BYTES: usize = u32::MAX as usize;
 /// The greatest that two bytes hold.
 const TWO_BYTES: usize = u16::MAX as usize;
 
-/// Few bytes that claim many.
+/// Few bytes that claim many more.
 pub const CLAIMS: &[Row] = &[
     Row {
         line: "block with a value of 2^32 - 1 bytes: Block",

@@ -1,4 +1,4 @@
-//! Lengths at their limits, and a manifest that sets no number.
+//! Lengths at their limits, and a manifest that sets no counter.
 
 use crate::damage::call::Call;
 use crate::damage::row::Expected::Only;

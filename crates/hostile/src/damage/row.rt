@@ -1,4 +1,4 @@
-//! Rows of bytes, each with its answers.
+//! Rows of bytes and their expected answers.
 
 use crate::damage::call::{Answer, Call, answer};
 use crate::fault::wanted;
@@ -10,64 +10,65 @@ use std::thread::Threads;
 
 /// A part of a row's bytes.
 pub enum Part {
-    /// These.
+    /// These bytes.
     Bytes(&'static [u8]),
-    /// One byte, so often.
+    /// This byte, this many times.
     Fill(u8, usize),
 }
 
 /// The bytes of a row.
 pub enum Source {
-    /// These.
+    /// These bytes.
     Plain(&'static [u8]),
-    /// Those of these parts, one behind the other.
+    /// These parts, one after the other.
     Joined(&'static [Part]),
 }
 
-/// How often each answer of a row has to come.
+/// How often each answer of a row is expected.
 pub enum Expected {
-    /// This one so often, and no other.
+    /// This answer this many times, and no other.
     Only(Answer, usize),
-    /// Each of these so often, and no other.
+    /// Each of these answers this many times, and no other.
     Each(&'static [(Answer, usize)]),
 }
 
-/// What of a row's bytes a call gets, one after the other.
+/// What a call gets of a row's bytes, one after the other.
 pub enum Way {
-    /// All of them.
+    /// All of the bytes.
     Whole,
     /// Each beginning.
     Beginnings,
-    /// All of them, with the byte at each place from this one on changed to each of the five values that it has not, and with checksums
-    /// written anew.
+    /// All of them, with each byte from this place on changed to each of the five values but its
+    /// own, and with checksums written anew.
     Changes(usize, Mend),
 }
 
-/// Which checksums are written anew behind a change.
+/// Which checksums are written anew after a change.
 pub enum Mend {
     No,
-    /// Those of a table's blocks: the four bytes before each of these places, of what stands from the one before on.
+    /// Those of a table's blocks. At each of these places a block's checksum ends: the four bytes
+    /// before it, over the bytes since the place before.
     Blocks(&'static [usize]),
-    /// That of a log's fragment that starts at this place.
+    /// That of the log's fragment that begins at this place.
     Fragment(usize),
 }
 
 /// A row of calls.
 pub struct Row {
-    /// What is printed where the answers are right.
+    /// What is printed if the answers are right.
     pub line: &'static str,
     pub call: Call,
     pub source: Source,
     pub way: Way,
-    /// How many byte strings the call gets, those of a change to what is there counted too.
+    /// How many byte strings the call gets. Changes of a byte to its own value are counted too.
     pub steps: usize,
     /// How many bytes are claimed.
     pub claimed: usize,
-    /// How often each answer has to come.
+    /// How often each answer is expected.
     pub want: Expected,
 }
 
-/// What a byte is changed to.
+/// The values to which a byte is changed.
 const VALUES: [u8; 5] = [0, 1, 127, 128, 255];
 
 /// The bytes of parts.
@@ -93,7 +94,7 @@ fn whole(alloc: Global, source: &Source) -> Result<Vec<u8>, Fault> {
     }
 }
 
-/// Writes the checksum behind the contents and the type of a block anew.
+/// Writes anew the checksum after the contents and the type of a block.
 pub fn mend_block(bytes: &mut [u8], start: usize, end: usize) {
     if start <= end && end <= bytes.len() {
         if let Some((summed, checksum)) = bytes[start..end].split_last_chunk_mut::<4>() {
@@ -102,7 +103,7 @@ pub fn mend_block(bytes: &mut [u8], start: usize, end: usize) {
     }
 }
 
-/// Writes the checksums of a table's blocks anew.
+/// Writes anew the checksums of a table's blocks.
 pub fn mend_blocks(bytes: &mut [u8], ends: &[usize]) {
     let mut start = 0;
     for end in ends {
@@ -111,7 +112,8 @@ pub fn mend_blocks(bytes: &mut [u8], ends: &[usize]) {
     }
 }
 
-/// Writes the checksum of the fragment that begins these bytes anew, as far as its length lies within them.
+/// Writes anew the checksum of the fragment with which these bytes begin, if its length is within
+/// them.
 fn mend_fragment(bytes: &mut [u8]) {
     if let Some((checksum, behind)) = bytes.split_first_chunk_mut::<4>() {
         if let Some((length, rest)) = behind.split_first_chunk::<2>() {
@@ -122,7 +124,7 @@ fn mend_fragment(bytes: &mut [u8]) {
     }
 }
 
-/// Changes the byte at a place to a value, and answers whether it was another.
+/// Changes the byte at `place` to `value`. Whether it was another value.
 fn change(bytes: &mut [u8], place: usize, value: u8) -> bool {
     match bytes.get_mut(place) {
         Some(byte) if *byte != value => {
@@ -133,7 +135,7 @@ fn change(bytes: &mut [u8], place: usize, value: u8) -> bool {
     }
 }
 
-/// Makes of a row's bytes those of a step, and answers whether there are such.
+/// Makes the row's bytes those of a step. Whether the step has bytes of its own.
 fn make(row: &Row, bytes: &mut Vec<u8>, step: usize) -> bool {
     let Way::Changes(start, mend) = &row.way else {
         if matches!(&row.way, Way::Beginnings) {
@@ -154,14 +156,14 @@ fn make(row: &Row, bytes: &mut Vec<u8>, step: usize) -> bool {
     is_changed
 }
 
-/// Whether there is no room for so many bytes.
+/// Whether there is no memory for `len` bytes.
 fn is_short_of(alloc: Global, len: usize) -> bool {
     let room: Result<Vec<u8>, _> = Vec::with_capacity(alloc, len);
     room.is_err()
 }
 
-/// What a call answers to bytes. Where memory is short it gets 32 bytes for each of them and 4,096, so that there is no room for as many
-/// as they claim.
+/// What a call answers to bytes. While memory is short, the call gets 32 bytes for each of them and
+/// 4,096, so that there is no memory for as many as they claim.
 fn answered<R: AllocGlobal + Threads + Sync>(
     rt: &R,
     memory: &mut Memory,
@@ -207,7 +209,7 @@ fn times(answers: &[Answer], wanted: &Answer) -> usize {
     times
 }
 
-/// Whether each of these answers came as often as it has to, and no other.
+/// Whether each of these answers came as often as expected, and no other.
 fn are_wanted(answers: &[Answer], want: &[(Answer, usize)]) -> bool {
     let mut total: usize = 0;
     for (answer, wanted) in want {
@@ -219,7 +221,7 @@ fn are_wanted(answers: &[Answer], want: &[(Answer, usize)]) -> bool {
     total == answers.len()
 }
 
-/// Whether the answers are those that are expected.
+/// Whether the answers are as expected.
 fn are_expected(answers: &[Answer], expected: &Expected) -> bool {
     match expected {
         Expected::Only(answer, wanted) => {
@@ -229,7 +231,7 @@ fn are_expected(answers: &[Answer], expected: &Expected) -> bool {
     }
 }
 
-/// Tests that a row has its answers. Lawless where it has others.
+/// Tests that a row has its expected answers, else Lawless.
 fn test_row<R: AllocGlobal + Threads + Sync>(
     rt: &R,
     memory: &mut Memory,
@@ -240,7 +242,8 @@ fn test_row<R: AllocGlobal + Threads + Sync>(
     wanted(are_expected(&answers, &row.want))
 }
 
-/// Tests the answers of each row, and prints it. Where they are not right it is Lawless, behind the last row that was printed.
+/// Tests the answers of each row, and prints its line. Lawless if they are not as expected: the row
+/// is the one after the last line.
 pub fn print_rows<R: AllocGlobal + Print + Threads + Sync>(
     rt: &R,
     memory: &mut Memory,

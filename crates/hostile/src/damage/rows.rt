@@ -1,7 +1,7 @@
-//! Changed bytes of the worked table, and few bytes, each with the answer that the format has for it.
+//! Changed bytes of the worked table, and few bytes, each with the answer that its format gives.
 //!
-//! The table is that of `a` at 1 with the value `x`: its data block at 0, its metaindex block at 26, its index block at 39 and its footer
-//! at 66. Where a change is mended, the checksum of the block in which it stands is that of the changed block.
+//! The table is that of `a` at 1 with the value `x`: data block at 0, metaindex block at 26, index
+//! block at 39, footer at 66. If a change is mended, the checksum of its block is written anew.
 
 use crate::damage::call::Call;
 use crate::damage::row::Expected::Only;

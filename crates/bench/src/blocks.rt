@@ -1,4 +1,4 @@
-//! Figures of blocks: checked and walked over.
+//! Figures of blocks: checked, and walked over.
 
 ghost use Rattle.std.specs.Prelude.{◌<◌, ◌≡◌, length};
 ghost use Rattle.block.specs.Writing.{block};
@@ -11,12 +11,12 @@ use coding::Fault;
 use std::alloc::Global;
 use std::mem;
 
-/// A block of so many bytes gets no further entry.
+/// The length from which a block gets no further entry.
 const BLOCK_LEN: usize = 4096;
-/// How many entries there are for each restart.
+/// The restart interval.
 const INTERVAL: u64 = 16;
 
-/// Takes the figures of blocks of entries whose values are these.
+/// Takes the figures of blocks whose entries have these values.
 pub fn measure(
     rt: &HostRuntime,
     values: &[[u8; VALUE_LEN]],
@@ -43,7 +43,7 @@ fn take(
     figures.take(rt, extent, &works)
 }
 
-/// Blocks of entries whose keys rise and whose values are these.
+/// Blocks of entries with rising keys and these values.
 fn written(alloc: Global, values: &[[u8; VALUE_LEN]]) -> Result<Vec<Vec<u8>>, Fault> {
     let mut blocks = Vec::new(alloc);
     let mut builder = BlockBuilder::new(alloc, INTERVAL);
@@ -54,7 +54,7 @@ fn written(alloc: Global, values: &[[u8; VALUE_LEN]]) -> Result<Vec<Vec<u8>>, Fa
     Ok(blocks)
 }
 
-/// Appends the entry of this number, to the next block where this one is full.
+/// Appends the entry of this `number`, to the next block if this one is full.
 fn put(
     alloc: Global,
     blocks: &mut Vec<Vec<u8>>,
@@ -75,7 +75,7 @@ fn taken(alloc: Global, builder: &mut BlockBuilder) -> Result<Vec<u8>, Fault>
     mem::replace(builder, BlockBuilder::new(alloc, INTERVAL)).finish()
 }
 
-/// Appends the entry of this number to a block that is not full.
+/// Appends the entry of this `number` to a block that is not full.
 #[tactic(auto, using(block::proofs::Sizes::fits_with_entry))]
 fn add(builder: &mut BlockBuilder, number: usize, value: &[u8; VALUE_LEN]) -> Result<(), Fault>
     requires { length (block builder.old.interval builder.old.entries) < BLOCK_LEN }
@@ -83,7 +83,7 @@ fn add(builder: &mut BlockBuilder, number: usize, value: &[u8; VALUE_LEN]) -> Re
     builder.add(&(FIRST_KEY + number as u128).to_be_bytes(), value)
 }
 
-/// What the checks of the blocks give.
+/// The blocks, checked.
 pub fn all_sound<'a>(alloc: Global, blocks: &'a [Vec<u8>]) -> Result<Vec<SoundBlock<'a>>, Fault> {
     let mut sound = Vec::new(alloc);
     for block in blocks {
@@ -92,7 +92,7 @@ pub fn all_sound<'a>(alloc: Global, blocks: &'a [Vec<u8>]) -> Result<Vec<SoundBl
     Ok(sound)
 }
 
-/// Walks over each block, and folds what the walks give.
+/// Walks over each block, and answers the sum of what the walks give, modulo 2^32.
 pub fn walk_all(alloc: Global, blocks: &[SoundBlock<'_>]) -> Result<u32, Fault> {
     let mut folded = 0u32;
     for block in blocks {

@@ -21,10 +21,10 @@ use table::Options;
 /// The level that is compacted into the next one.
 const LEVEL: u64 = 0;
 
-/// No sequence is listed.
+/// No listed sequence.
 const LAST_ALONE: Snapshots<'static> = Snapshots::Listed(&[]);
 
-/// The numbers of a version that a request has.
+/// The counters of a version that a request has.
 #[derive(Clone, Copy)]
 struct Numbers {
     next_file: u64,
@@ -34,7 +34,7 @@ struct Numbers {
 }
 
 impl Numbers {
-    /// Those of this version, 0 where it has none.
+    /// The counters of this version. One that was never set is 0.
     fn of(version: &Version) -> Numbers {
         Numbers {
             next_file: version.next_file().unwrap_or(0),
@@ -45,7 +45,7 @@ impl Numbers {
     }
 }
 
-/// A compaction that can be carried out again and again.
+/// A compaction that can be made again and again.
 #[derive(Drop)]
 pub struct Compaction {
     numbers: Numbers,
@@ -56,7 +56,8 @@ pub struct Compaction {
 }
 
 impl Compaction {
-    /// Reads a folder, picks the inputs of level 0, and splits their keys into at most so many ranges.
+    /// Reads a folder, picks the inputs of level 0, and splits their keys into at most `ranges`
+    /// ranges.
     pub fn of_folder(rt: &HostRuntime, path: &str, ranges: u64) -> Result<Compaction, Fault> {
         let mut disk = Disk::new(rt, path);
         let (_, version) = open(rt.alloc(), &mut disk)?;
@@ -64,7 +65,7 @@ impl Compaction {
         Compaction::of_version(rt.alloc(), &version, loaded, ranges)
     }
 
-    /// The same, where these are the version and the tables of the folder.
+    /// The same, if the folder has this version and these tables.
     fn of_version(
         alloc: Global,
         version: &Version,
@@ -82,7 +83,8 @@ impl Compaction {
         })
     }
 
-    /// The request over these tables, those of the inputs. The last sequence alone, and every later one, stays readable.
+    /// The request over `tables`, those of the inputs. The last sequence and all later ones stay
+    /// readable.
     fn request<'a>(&'a self, tables: &'a [&'a [u8]]) -> Request<'a> {
         Request {
             picked: &self.picked,
@@ -96,7 +98,7 @@ impl Compaction {
         }
     }
 
-    /// Carries the compaction out by so many workers.
+    /// Makes the compaction by this many workers.
     pub fn carried_out<R: Threads + Sync>(
         &self,
         alloc: Global,
@@ -109,7 +111,8 @@ impl Compaction {
     }
 }
 
-/// Takes the figures of the compaction of a folder over at most so many ranges, and prints how many bytes its tables have together.
+/// Takes the figures of the compaction of a folder over at most `ranges` ranges, and prints how
+/// many bytes its tables have together.
 pub fn measure<R: Threads + Sync>(
     rt: &HostRuntime,
     threads: &R,
@@ -121,7 +124,7 @@ pub fn measure<R: Threads + Sync>(
     take(rt, threads, &compaction, figures)
 }
 
-/// The same, where the folder is read.
+/// The same, after the folder was read.
 fn take<R: Threads + Sync>(
     rt: &HostRuntime,
     threads: &R,
@@ -136,7 +139,7 @@ fn take<R: Threads + Sync>(
     told(println!(rt; "compact: {} bytes", figures.given))
 }
 
-/// The tables of these inputs, in their order, taken out of those of a version.
+/// The tables of these inputs in their order, taken out of those of a version.
 fn tables_of(
     alloc: Global,
     files: &[InputFile],
@@ -149,7 +152,7 @@ fn tables_of(
     Ok(tables)
 }
 
-/// The table of this number, taken out of others.
+/// The table of this `number`, taken out of `loaded`.
 fn taken(loaded: &mut Vec<(u64, Vec<u8>)>, number: u64) -> Result<Vec<u8>, Fault> {
     for place in 0..loaded.len() {
         if loaded[place].0 == number {
@@ -160,7 +163,7 @@ fn taken(loaded: &mut Vec<(u64, Vec<u8>)>, number: u64) -> Result<Vec<u8>, Fault
     Err(Fault::of(FaultName::Missing))
 }
 
-/// The split of the user keys of these tables into at most so many ranges.
+/// The split of the user keys of these tables into at most `ranges` ranges.
 fn split_of(alloc: Global, tables: &[Vec<u8>], ranges: u64) -> Result<Split<Bytewise>, Fault> {
     let sound = sound(alloc, tables)?;
     Split::choose(alloc, &sound, ranges)

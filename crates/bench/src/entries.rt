@@ -1,23 +1,25 @@
-//! What figures are taken of: pseudo-random bytes, and tables of entries whose values these are.
+//! What the figures are of: pseudo-random bytes, and tables of entries that have them as values.
 
 use coding::{Fault, FaultName};
 use ikey::{Bytewise, InternalKey};
 use std::alloc::Global;
 use table::{Options, SoundTable, TableBuilder, check};
 
-/// The bytes of a value. Those of a user key are 16.
+/// The bytes of a value. A user key has 16.
 pub const VALUE_LEN: usize = 100;
-/// The bytes that an entry of a table takes at least, with its three lengths and a byte of its user key and its tag.
+/// The fewest bytes of an entry in a table: its three lengths, one byte of its user key, its tag,
+/// and its value.
 pub const ENTRY_LEN: usize = VALUE_LEN + 12;
-/// The first user key: eight bytes that are the same in all, and a number, the highest byte first.
+/// The first user key: eight bytes that all user keys have, and a number, its highest byte first.
 pub const FIRST_KEY: u128 = 0x6265_6e63_682d_6b65 << 64;
-/// A value at sequence 1, as the last eight bytes of an internal key.
+/// The last eight bytes of an internal key: put at sequence 1.
 pub const TAG: [u8; 8] = [1, 1, 0, 0, 0, 0, 0, 0];
-/// The first state of the generator; any number but 0.
+/// The first state of the generator: any number but 0.
 const SEED: u64 = 0x9e37_79b9_7f4a_7c15;
 
-/// How entries are dealt out to tables: by the first bytes of their values to those above, which all overlap. Where there are
-/// tables below, half of the entries go to these, one table behind the other.
+/// How entries are dealt out to tables. Those above get them by the first bytes of their values, so
+/// they all overlap. If there are tables below, these get half of the entries, one table after the
+/// other.
 #[derive(Clone, Copy)]
 pub struct Deal {
     pub above: usize,
@@ -25,7 +27,8 @@ pub struct Deal {
 }
 
 impl Deal {
-    /// The place of the table of an entry, by its number among so many and the first byte of its value.
+    /// The place of the table of an entry: `number` is the entry's among `count`, `byte` the first
+    /// of its value.
     fn place_of(self, number: usize, byte: u8, count: usize) -> usize {
         let halves = if self.below == 0 { 1 } else { 2 };
         let dealt = usize::from(byte) % self.above.saturating_mul(halves).max(1);
@@ -37,7 +40,7 @@ impl Deal {
     }
 }
 
-/// So many pseudo-random bytes, rounded down to whole words of eight, by Marsaglia's xorshift of 64 bits.
+/// `len` pseudo-random bytes, rounded down to whole words of eight, by Marsaglia's 64-bit xorshift.
 pub fn random(alloc: Global, len: usize) -> Result<Vec<u8>, Fault> {
     let mut bytes = Vec::with_capacity(alloc, len)?;
     let mut state = SEED;
@@ -50,7 +53,7 @@ pub fn random(alloc: Global, len: usize) -> Result<Vec<u8>, Fault> {
     Ok(bytes)
 }
 
-/// The values of entries that take so many bytes each, together about as many as these.
+/// The values of as many entries of `entry_len` bytes as these bytes have room for.
 pub fn values_of(bytes: &[u8], entry_len: usize) -> &[[u8; VALUE_LEN]] {
     let count = bytes.len() / entry_len.max(1);
     let (part, _) = bytes.split_at((count.saturating_mul(VALUE_LEN)).min(bytes.len()));
@@ -58,7 +61,7 @@ pub fn values_of(bytes: &[u8], entry_len: usize) -> &[[u8; VALUE_LEN]] {
     values
 }
 
-/// The tables of entries that have rising keys and these values. A table that is dealt no entry is left out.
+/// The tables of entries with rising keys and these values. A table without an entry is left out.
 pub fn dealt(alloc: Global, values: &[[u8; VALUE_LEN]], deal: Deal) -> Result<Vec<Vec<u8>>, Fault> {
     let mut tables = Vec::new(alloc);
     for place in 0..deal.above.saturating_add(deal.below) {
@@ -67,7 +70,7 @@ pub fn dealt(alloc: Global, values: &[[u8; VALUE_LEN]], deal: Deal) -> Result<Ve
     Ok(tables)
 }
 
-/// Appends the table at a place, where an entry is dealt to it.
+/// Appends the table at a place, if an entry is dealt to it.
 fn push_dealt(
     alloc: Global,
     tables: &mut Vec<Vec<u8>>,
@@ -82,7 +85,7 @@ fn push_dealt(
     Ok(())
 }
 
-/// Appends the entries that are dealt to the table at a place, and tells whether there is one.
+/// Appends the entries that are dealt to the table at a place. Whether there is one.
 fn fill(
     builder: &mut TableBuilder<Bytewise>,
     values: &[[u8; VALUE_LEN]],
@@ -99,7 +102,7 @@ fn fill(
     Ok(has_entries)
 }
 
-/// A table without entries, which may become as long as the file size.
+/// A table without entries, which may become as long as `file_size`.
 pub fn begun(alloc: Global, file_size: u64) -> Result<TableBuilder<Bytewise>, Fault> {
     let options = Options {
         file_size,
@@ -112,7 +115,7 @@ pub fn begun(alloc: Global, file_size: u64) -> Result<TableBuilder<Bytewise>, Fa
     }
 }
 
-/// Appends the entry of this number.
+/// Appends the entry of this `number`.
 pub fn add(
     builder: &mut TableBuilder<Bytewise>,
     number: usize,
@@ -126,7 +129,7 @@ pub fn add(
     builder.add(key, value)
 }
 
-/// The internal key of the entry of this number.
+/// The internal key of the entry of this `number`.
 pub fn internal_key(number: u64) -> [u8; 24] {
     let mut bytes = [0; 24];
     bytes[..16].copy_from_slice(&(FIRST_KEY + u128::from(number)).to_be_bytes());
@@ -134,7 +137,7 @@ pub fn internal_key(number: u64) -> [u8; 24] {
     bytes
 }
 
-/// Appends what was made, where it was not refused.
+/// Appends what was made, if it was not refused.
 pub fn push<T: Drop>(list: &mut Vec<T>, made: Result<T, Fault>) -> Result<(), Fault> {
     list.push(made?)?;
     Ok(())
@@ -152,7 +155,7 @@ pub fn sound<'a>(
     Ok(tables)
 }
 
-/// The last of some bytes; 0 where there is none.
+/// The last of these bytes; 0 if there is none.
 pub fn last_of(bytes: &[u8]) -> u32 {
     match bytes.last() {
         Some(byte) => u32::from(*byte),
@@ -165,7 +168,7 @@ pub fn low_bits(number: usize) -> u32 {
     (number % (1 << 32)) as u32
 }
 
-/// How many bytes there are in all of these.
+/// How many bytes all of these have together.
 pub fn len_of(parts: &[Vec<u8>]) -> usize {
     let mut len = 0usize;
     for part in parts {

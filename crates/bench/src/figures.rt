@@ -1,4 +1,4 @@
-//! Figures: the time of what is done in rounds, and a line for the fastest.
+//! Figures: the times of work in rounds, and a line for the fastest.
 
 ghost use Rattle.std.specs.Prelude.{◌<◌};
 
@@ -10,13 +10,13 @@ use std::time::Duration;
 /// How much some work is.
 #[derive(Clone, Copy)]
 pub struct Extent {
-    /// The bytes that are read or written; 0 where none are counted.
+    /// The bytes that are read or written; 0 if none are counted.
     pub bytes: usize,
-    /// The entries among them, or the jobs; 0 where there are none.
+    /// The entries among them, or the jobs; 0 if there are none.
     pub entries: usize,
 }
 
-/// The fastest times of works that are done in turn.
+/// The fastest times of up to three works that are done in turn.
 pub type Times = [Duration; 3];
 
 /// No time so far.
@@ -29,18 +29,18 @@ pub struct Figures {
     pub rounds: u32,
     /// Whether a line is printed for each.
     pub are_printed: bool,
-    /// What bytes are copied over.
+    /// Where bytes are copied to.
     pub target: Vec<u8>,
-    /// What all rounds gave, folded: what is used can't be left out by a compiler.
+    /// A number folded from what all rounds gave. Why: a compiler can't leave out what is used.
     pub folded: u32,
     /// What the last work gave.
     pub given: u32,
-    /// Whether more workers gave something else.
+    /// Whether more workers gave another result.
     pub differ: bool,
 }
 
 impl Figures {
-    /// No figures so far, of one round, which are not printed. Takes no memory.
+    /// No figures so far, of one round, and not printed. It takes no memory.
     pub fn new(alloc: Global) -> Figures {
         Figures {
             rounds: 1,
@@ -52,10 +52,11 @@ impl Figures {
         }
     }
 
-    /// Takes the figures of at most three works over as much: a round does each of them once, so that a machine which changes its
-    /// speed changes it for all, and the fastest round of each counts. There are four times as many rounds where the first is short.
+    /// Takes the figures of at most three works of the same extent. A round does each of them once,
+    /// so that a machine that changes its speed changes it for all. The fastest round of each
+    /// counts. There are four times as many rounds if the first work is short.
     ///
-    /// Refused where a work, the clock or a growth of memory is.
+    /// Refused if a work, the clock or a request for memory is.
     pub fn take(
         &mut self,
         rt: &HostRuntime,
@@ -83,14 +84,15 @@ impl Figures {
         self.take(rt, extent, &[work])
     }
 
-    /// Does some work once, and gives how long it took.
+    /// Does some work once, and gives the time that it took.
     fn once(&mut self, rt: &HostRuntime, work: &Work<'_>) -> Result<Duration, Fault> {
         let (given, time) = timed(rt, work, &mut self.target)?;
         self.note(given, false);
         Ok(time)
     }
 
-    /// Notes what some work gave, and whether that is what the work before it gave, if it has to be.
+    /// Notes what some work gave. If it has to be the same as the work before gave, notes if it
+    /// differs.
     pub fn note(&mut self, given: u32, is_the_same: bool) {
         if is_the_same && given != self.given {
             self.differ = true;
@@ -113,7 +115,8 @@ impl Figures {
         Ok(())
     }
 
-    /// Prints the speed of work that took so many nanoseconds, and the time of an entry, or of all of it where there are none.
+    /// Prints the speed of work that took this many nanoseconds, and the time of an entry; the time
+    /// of all, if there are no entries.
     pub fn print(
         &self,
         rt: &HostRuntime,
@@ -133,7 +136,7 @@ impl Figures {
     }
 }
 
-/// How many steps a round of these works has: one for each, and four where they are short.
+/// The works that a round does: each once, or four times if they are short.
 fn steps_of_round(works: &[Work<'_>]) -> u64 {
     let times = match works.first() {
         Some(work) if work.is_short() => 4,
@@ -142,7 +145,7 @@ fn steps_of_round(works: &[Work<'_>]) -> u64 {
     (works.len() as u64).saturating_mul(times)
 }
 
-/// Keeps the lesser of the time at a place and another one.
+/// Keeps the lesser of the time at a place and `other`.
 pub fn lessen(times: &mut Times, place: usize, other: Duration) {
     if let Some(time) = times.get_mut(place) {
         *time = (*time).min(other);

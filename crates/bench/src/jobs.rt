@@ -1,4 +1,5 @@
-//! Figures of the board: runs of jobs that do nothing, and a loop of atomic additions to hold them against.
+//! Figures of the board: runs of jobs that do nothing, and a loop of atomic additions to compare
+//! them with.
 
 use crate::entries::low_bits;
 use crate::figures::{Extent, Figures};
@@ -30,7 +31,7 @@ impl Labour for Numbers {
     }
 }
 
-/// Takes the figures of so many jobs, and of as many additions.
+/// Takes the figures of this many jobs, and of as many additions.
 pub fn measure<R: Threads + Sync>(
     rt: &HostRuntime,
     threads: &R,
@@ -45,7 +46,7 @@ pub fn measure<R: Threads + Sync>(
     workers::take(rt, threads, extent, Task::Jobs(jobs), figures)
 }
 
-/// Adds one so often, each time in one atomic step, and gives the number of steps.
+/// Adds one this many times, each time in one atomic step, and gives the number of steps.
 pub fn added(times: u32) -> u32 {
     let sum = AtomicU64::new(0);
     for _step in 0..times {
@@ -54,7 +55,7 @@ pub fn added(times: u32) -> u32 {
     times
 }
 
-/// Runs so many jobs by so many workers, and gives the number of their answers.
+/// Runs this many jobs by this many workers, and gives the number of their results.
 pub fn ran<R: Threads + Sync>(
     alloc: Global,
     threads: &R,

@@ -1,9 +1,11 @@
 //! The program `bench`: how fast the hot paths are.
 //!
-//! With the word `full` it times them over 64 MiB and prints a table. `bench compact DIR ROUNDS RANGES` reads the tables of a
-//! database folder once, picks the inputs of level 0, and times the call `compact` alone by one, two and four workers in turn, over
-//! at most so many ranges; nothing is written to the folder. Without words, it makes the same calls over a few blocks and a small
-//! folder, and prints what is the same on each machine.
+//! - `bench full` times them over 64 MiB and prints a table.
+//! - `bench compact DIR ROUNDS RANGES` reads the tables of a database folder once and picks the
+//!   inputs of level 0. Then it times the call `compact` alone by one, two and four workers in
+//!   turn, over at most RANGES ranges. It writes nothing to the folder.
+//! - Without words it makes the same calls over a few blocks and a small folder, and prints what is
+//!   the same on each machine.
 #![tactic(auto)]
 
 mod blocks;
@@ -29,7 +31,7 @@ use sums::over;
 use tables::Group;
 use work::{Work, told};
 
-/// What figures are taken of.
+/// What the figures are of.
 #[derive(Clone, Copy)]
 enum Part {
     Copy,
@@ -64,7 +66,7 @@ struct Extent {
     bytes: usize,
     /// How many jobs a run of the board has.
     jobs: u32,
-    /// The rounds, of which the fastest counts.
+    /// The number of rounds. The fastest counts.
     rounds: u32,
 }
 
@@ -89,7 +91,7 @@ enum Words {
     Folder(Folder),
 }
 
-/// A folder whose compaction is timed in so many rounds over at most so many ranges.
+/// A folder whose compaction is timed in this many rounds over at most this many ranges.
 #[derive(Drop)]
 struct Folder {
     path: String,
@@ -116,7 +118,7 @@ fn read_words(rt: &HostRuntime) -> Result<Words, Fault> {
     }))
 }
 
-/// Whether a word is there, and is this one.
+/// Whether a word is given, and is `this`.
 fn is_word(word: Option<String>, this: &str) -> bool {
     match word {
         Some(word) => word.as_str() == this,
@@ -124,7 +126,7 @@ fn is_word(word: Option<String>, this: &str) -> bool {
     }
 }
 
-/// The number of a word, or another one where there is none.
+/// The number of a word, or `otherwise` if it is no number or isn't given.
 fn number(word: Option<String>, otherwise: u64) -> u64 {
     match word {
         Some(word) => word.parse().unwrap_or(otherwise),
@@ -132,7 +134,7 @@ fn number(word: Option<String>, otherwise: u64) -> u64 {
     }
 }
 
-/// Takes the figures of a run that does so much, but those of workers.
+/// Takes the figures of a run of this extent, but not those of workers.
 fn measure(rt: &HostRuntime, extent: &Extent, figures: &mut Figures) -> Result<(), Fault> {
     let bytes = entries::random(rt.alloc(), extent.bytes)?;
     for part in PARTS {
@@ -201,7 +203,8 @@ fn run_folder<R: Threads + Sync>(
     compaction::measure(rt, threads, folder.path.as_str(), folder.ranges, figures)
 }
 
-/// The run that the words ask for. The runtime is handed on twice: as what has a clock and files, and as what has threads.
+/// The run that the words ask for. The runtime is passed twice: as what has a clock and files, and
+/// as what has threads.
 fn run<R: Threads + Sync>(
     rt: &HostRuntime,
     threads: &R,

@@ -1,4 +1,4 @@
-//! Figures of merging in a range, and of its outputs: planned, encoded and assembled.
+//! Figures of merging a range, and of its outputs: planned, encoded and assembled.
 
 ghost use Rattle.std.specs.Prelude.{◌≡◌, map, IfOk};
 ghost use Rattle.cut.specs.Plan.{encoded};
@@ -18,8 +18,8 @@ use std::alloc::Global;
 use std::time::Duration;
 use table::{Options, SoundTable};
 
-/// Takes the figures of the outputs that are made of so many entries of tables, merged in the one range of all keys, where all of
-/// them stay, with the options that a folder has where nothing else is said.
+/// Takes the figures of the outputs of these tables, merged in the one range of all keys. They have
+/// this many entries, and all are kept. The options are the default ones.
 pub fn take(
     rt: &HostRuntime,
     tables: &[SoundTable<'_, Bytewise>],
@@ -30,7 +30,7 @@ pub fn take(
     take_outputs(rt, &[run], entries, figures)
 }
 
-/// The same, where these runs keep the entries.
+/// The same, if these runs keep the entries.
 fn take_outputs(
     rt: &HostRuntime,
     runs: &[RangeRun<'_>],
@@ -42,7 +42,7 @@ fn take_outputs(
     take_planned(rt, Extent { bytes, entries }, runs, &plan, figures)
 }
 
-/// The same, where this is their plan.
+/// The same, if this is their plan.
 fn take_planned<'w>(
     rt: &HostRuntime,
     extent: Extent,
@@ -54,7 +54,7 @@ fn take_planned<'w>(
     figures.take(rt, extent, &works)
 }
 
-/// Inputs that have no files beside or below them.
+/// Inputs without files beside or below them.
 fn no_files(alloc: Global) -> Result<Inputs, Fault> {
     let key = KeyBuf::new(alloc, &[], MAX_SEQUENCE, ikey::Kind::Put)?;
     Ok(Inputs {
@@ -66,7 +66,7 @@ fn no_files(alloc: Global) -> Result<Inputs, Fault> {
     })
 }
 
-/// The run of the one range of all keys, over cursors of these tables, beside no other files.
+/// The run of the one range of all keys over these tables, without other files.
 pub fn merged_range<'a>(
     alloc: Global,
     tables: &[SoundTable<'a, Bytewise>],

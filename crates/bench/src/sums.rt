@@ -5,7 +5,7 @@ use crate::figures::{Extent, Figures};
 use crate::work::Work;
 use coding::Fault;
 
-/// All of these bytes, in which there are no entries.
+/// The extent of these bytes, without entries.
 pub fn over(bytes: &[u8]) -> Extent {
     Extent {
         bytes: bytes.len(),
@@ -19,7 +19,7 @@ pub fn measure_copy(rt: &HostRuntime, bytes: &[u8], figures: &mut Figures) -> Re
     figures.take_one(rt, over(bytes), Work::Copy(bytes))
 }
 
-/// Copies the source over a target of its length, and gives the last byte that was copied.
+/// Copies `source` over a `target` of its length, and gives the last byte that was copied.
 pub fn copied_over(target: &mut [u8], source: &[u8]) -> u32 {
     if target.len() == source.len() {
         target.copy_from_slice(source);

@@ -1,4 +1,4 @@
-//! Figures of tables: checked, walked over and written, and of cursors that are walked as one.
+//! Figures of tables: checked, walked over and written, and of cursors merged as one.
 
 use crate::entries::{
     Deal, ENTRY_LEN, VALUE_LEN, add, begun, dealt, internal_key, last_of, len_of, push, sound,
@@ -17,7 +17,7 @@ use table::{Cursor, SoundTable, TableBuilder, TableCursor};
 /// The most keys that are sought.
 const SEEKS: usize = 10_000;
 
-/// How long a file becomes, 2 MiB.
+/// The size at which a file ends: 2 MiB.
 const FILE_LEN: u64 = 2 << 20;
 
 /// What is timed over checked tables, to which entries are dealt out.
@@ -25,13 +25,13 @@ const FILE_LEN: u64 = 2 << 20;
 pub enum Group {
     /// One table, checked and walked over, and its entries written as files.
     Whole,
-    /// Keys sought in one table.
+    /// Seeks in one table.
     Seeks,
     /// One table written.
     Builder,
-    /// Cursors over so many tables of fewer entries, which are walked as one.
+    /// Cursors over this many tables of fewer entries, merged as one.
     Cursors(usize),
-    /// Tables that are merged in a range.
+    /// Tables merged in a range.
     Range,
     /// The outputs of such a range.
     Outputs,
@@ -40,7 +40,7 @@ pub enum Group {
 }
 
 impl Group {
-    /// How the entries are dealt out, and of how many bytes there is an entry.
+    /// How the entries are dealt out, and the bytes for each entry.
     fn shape(self) -> (Deal, usize) {
         match self {
             Group::Whole | Group::Seeks | Group::Builder => (
@@ -54,7 +54,7 @@ impl Group {
     }
 }
 
-/// Takes the figures of a group, of entries whose values are these bytes.
+/// Takes the figures of a group, with entries whose values are these bytes.
 pub fn measure(
     rt: &HostRuntime,
     bytes: &[u8],
@@ -68,7 +68,7 @@ pub fn measure(
     take(rt, group, values, &written, &tables, figures)
 }
 
-/// Takes the figures of a group, of entries that were dealt out to these tables.
+/// Takes the figures of a group, with entries dealt out to these tables.
 fn take(
     rt: &HostRuntime,
     group: Group,
@@ -115,7 +115,7 @@ fn take_whole(
     figures.take(rt, extent, &works)
 }
 
-/// The table of entries whose keys rise and whose values are these.
+/// The table of entries with rising keys and these values.
 pub fn written(alloc: Global, values: &[[u8; VALUE_LEN]]) -> Result<Vec<u8>, Fault> {
     let mut builder = begun(alloc, (values.len() * ENTRY_LEN) as u64)?;
     for (i, value) in values.iter().enumerate() {
@@ -124,7 +124,8 @@ pub fn written(alloc: Global, values: &[[u8; VALUE_LEN]]) -> Result<Vec<u8>, Fau
     builder.finish()
 }
 
-/// Writes the same entries as tables that end where files do, and gives the sum of the tables' last bytes, modulo 2^32.
+/// Writes the same entries as tables that end as files do, and gives the sum of the tables' last
+/// bytes, modulo 2^32.
 pub fn write_files(alloc: Global, values: &[[u8; VALUE_LEN]]) -> Result<u32, Fault> {
     let mut folded = 0u32;
     let mut builder = begun(alloc, FILE_LEN)?;
@@ -134,8 +135,8 @@ pub fn write_files(alloc: Global, values: &[[u8; VALUE_LEN]]) -> Result<u32, Fau
     Ok(folded.wrapping_add(last_of(&builder.finish()?)))
 }
 
-/// Appends the entry of this number, to the next table where this one is as long as a file, and gives the last byte of the one that
-/// ended; 0 where none did.
+/// Appends the entry of this `number`, to the next table if this one is as long as a file. Gives
+/// the last byte of the table that ended; 0 if none did.
 fn put(
     alloc: Global,
     builder: &mut TableBuilder<Bytewise>,
@@ -163,7 +164,8 @@ pub fn cursors<'a>(
     Ok(cursors)
 }
 
-/// The sum of the last bytes of the first entry's key and value, modulo 2^32. It takes the entry off, where there is one.
+/// The sum of the last bytes of the key and the value of a cursor's entry, modulo 2^32. The cursor
+/// is taken past the entry, if it has one.
 fn taken<'a, S: Cursor<'a, Bytewise>>(cursor: &mut S) -> Result<u32, Fault> {
     if !cursor.valid() {
         return Ok(0);
@@ -173,7 +175,7 @@ fn taken<'a, S: Cursor<'a, Bytewise>>(cursor: &mut S) -> Result<u32, Fault> {
     Ok(folded)
 }
 
-/// The sum of what the first so many entries of a cursor hold last.
+/// The sum of those of a cursor's next `entries` entries, modulo 2^32.
 fn walked<'a, S: Cursor<'a, Bytewise>>(cursor: &mut S, entries: usize) -> Result<u32, Fault> {
     let mut folded = 0u32;
     for _entry in 0..entries {
@@ -182,7 +184,7 @@ fn walked<'a, S: Cursor<'a, Bytewise>>(cursor: &mut S, entries: usize) -> Result
     Ok(folded)
 }
 
-/// The sum of what so many entries of the first table hold last.
+/// The sum of those of the first `entries` entries of the first table, modulo 2^32.
 pub fn walked_first(
     alloc: Global,
     tables: &[SoundTable<'_, Bytewise>],
@@ -194,8 +196,8 @@ pub fn walked_first(
     }
 }
 
-/// The sum of the last bytes of the user keys that seeks in the first table come to. The keys of some of its so many entries are
-/// sought, in equal steps.
+/// The sum of the last bytes of the user keys found by seeks in the first table. Some of the keys
+/// of its `entries` entries are sought, in equal steps.
 pub fn sought_first(
     alloc: Global,
     tables: &[SoundTable<'_, Bytewise>],
@@ -218,7 +220,8 @@ fn sought(cursor: &mut TableCursor<'_, Bytewise>, entries: usize) -> Result<u32,
     Ok(folded)
 }
 
-/// Seeks an internal key, and gives the last byte of the user key that the cursor comes to; 0 where there is none.
+/// Seeks an internal key, and gives the last byte of the user key of the cursor's entry; 0 if it
+/// has none.
 fn last_sought(cursor: &mut TableCursor<'_, Bytewise>, key: &[u8; 24]) -> Result<u32, Fault> {
     cursor.seek(InternalKey::parse(key)?)?;
     if !cursor.valid() {
@@ -227,7 +230,7 @@ fn last_sought(cursor: &mut TableCursor<'_, Bytewise>, key: &[u8; 24]) -> Result
     Ok(last_of(cursor.key().user()))
 }
 
-/// The sum of what the first so many entries of all tables hold last, walked by a tournament.
+/// The sum of those of the first `entries` entries of all tables, merged by a tournament.
 pub fn merged(
     alloc: Global,
     tables: &[SoundTable<'_, Bytewise>],

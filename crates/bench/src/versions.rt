@@ -1,4 +1,4 @@
-//! The figure of a version's tables: whether they are lawful.
+//! The figure of a version's tables: whether the version is lawful.
 
 ghost use Rattle.std.specs.Prelude.{◌<◌, ◌^◌, length};
 
@@ -12,7 +12,7 @@ use reads::{NumberedTable, lawful};
 use std::alloc::Global;
 use table::{SoundTable, check};
 
-/// The tables at level 0, and those at level 1.
+/// How many tables there are at level 0, and at level 1.
 pub const TABLES: Deal = Deal {
     above: 9,
     below: 15,
@@ -22,7 +22,7 @@ const NEXT_FILE: [u8; 2] = [3, 25];
 /// The tag of a new file.
 const NEW_FILE: u64 = 7;
 
-/// Takes the figure of whether these tables are a lawful version.
+/// Takes the figure of the test whether the version of these tables is lawful.
 pub fn take(
     rt: &HostRuntime,
     extent: Extent,
@@ -48,7 +48,7 @@ fn numbered<'a>(
     Ok(tables)
 }
 
-/// The version of the same tables, the first of which are those of level 0.
+/// The version of these tables, of which the first are those of level 0.
 fn version_of(alloc: Global, tables: &[SoundTable<'_, Bytewise>]) -> Result<Version, Fault> {
     let edit = VersionEdit::decode(alloc, &fields_of(alloc, tables)?)?;
     Version::empty(alloc).applied::<Bytewise>(edit)
@@ -70,7 +70,7 @@ fn fields_of(alloc: Global, tables: &[SoundTable<'_, Bytewise>]) -> Result<Vec<u
     Ok(fields)
 }
 
-/// One where the version is lawful, and else refused.
+/// 1 if the version is lawful, else its refusal.
 pub fn tested(
     alloc: Global,
     version: &Version,
@@ -80,7 +80,8 @@ pub fn tested(
     Ok(1)
 }
 
-/// Appends a new-file field: the level, the number and the length of a table, and its smallest and its largest key.
+/// Appends the field of a new file: level, number and length of a table, its smallest and largest
+/// key.
 fn push_file(
     fields: &mut Vec<u8>,
     numbers: [u64; 3],

@@ -1,4 +1,4 @@
-//! What is timed: each work by its name, and one call that does it.
+//! What is timed: each work with its name, and one call that does it.
 
 use crate::blocks::{all_sound, walk_all};
 use crate::entries::{low_bits, sound};
@@ -40,7 +40,7 @@ pub enum Work<'a> {
 }
 
 impl Work<'_> {
-    /// How its line begins.
+    /// The first words of its line.
     pub fn label(&self) -> &'static str {
         match *self {
             Work::Copy(_) => "copy",
@@ -67,7 +67,8 @@ impl Work<'_> {
         }
     }
 
-    /// Whether a round does it four times: short work, or such as makes or gives back much memory outside the clock.
+    /// Whether a round does it four times: it is short, or takes or gives back much memory outside
+    /// the time that is measured.
     pub fn is_short(&self) -> bool {
         matches!(
             *self,
@@ -80,7 +81,8 @@ impl Work<'_> {
     }
 }
 
-/// Does some work once. It gives a number that depends on all of it, and how long it took. Bytes are copied over the target.
+/// Does some work once. Gives a number that depends on all of it, and the time that it took. Bytes
+/// are copied to `target`.
 pub fn timed(
     rt: &HostRuntime,
     work: &Work<'_>,
@@ -118,7 +120,7 @@ pub fn since(rt: &HostRuntime, start: Instant) -> Result<Duration, Fault> {
     told(start.elapsed(rt))
 }
 
-/// What the system answers, refused as Device.
+/// What the system answers; Device if it fails.
 pub fn told<T: Drop, E: Drop>(answer: Result<T, E>) -> Result<T, Fault> {
     match answer {
         Ok(value) => Ok(value),
@@ -126,7 +128,8 @@ pub fn told<T: Drop, E: Drop>(answer: Result<T, E>) -> Result<T, Fault> {
     }
 }
 
-/// The number that depends on what some work made, and the time since its start. What was made is given back when the time is taken.
+/// The number that depends on what some work made, and the time since its start. What was made is
+/// given back after the time was taken.
 pub fn ended<M: Made + Drop>(
     rt: &HostRuntime,
     start: Instant,

@@ -11,14 +11,14 @@ use std::time::Duration;
 /// What workers do.
 #[derive(Clone, Copy)]
 pub enum Task<'a> {
-    /// So many jobs that give their numbers.
+    /// This many jobs that give their numbers.
     Jobs(u32),
     /// A compaction.
     Compact(&'a Compaction),
 }
 
 impl Task<'_> {
-    /// How the lines of one, two and four workers begin.
+    /// The first words of the lines of one, two and four workers.
     fn labels(self) -> [&'static str; 3] {
         match self {
             Task::Jobs(_) => ["jobs, 1 worker", "jobs, 2 workers", "jobs, 4 workers"],
@@ -31,7 +31,8 @@ impl Task<'_> {
     }
 }
 
-/// Takes the figures of a task that is done by one, two and four workers in turn, which have to give the same number.
+/// Takes the figures of a task by one, two and four workers in turn. All have to give the same
+/// number.
 pub fn take<R: Threads + Sync>(
     rt: &HostRuntime,
     threads: &R,
@@ -63,7 +64,8 @@ fn print(
     figures.print(rt, four, extent, time_at(times, 2))
 }
 
-/// Does a task once by so many workers. It gives a number that depends on all of it, and how long it took.
+/// Does a task once by this many workers. Gives a number that depends on all of it, and the time
+/// that it took.
 fn timed<R: Threads + Sync>(
     rt: &HostRuntime,
     threads: &R,

@@ -6,7 +6,7 @@ use std::alloc::Global;
 use std::process::Abort;
 use std::test::*;
 
-/// `a` at 2, put: the user key, then the kind and the number in eight bytes, the lowest first.
+/// `a` at 2, put: the user key, then type and sequence in eight bytes, the lowest first.
 const FIRST_KEY: [u8; 9] = *b"a\x01\x02\0\0\0\0\0\0";
 /// `a` at 1, put.
 const SECOND_KEY: [u8; 9] = *b"a\x01\x01\0\0\0\0\0\0";
@@ -16,14 +16,14 @@ const SECOND_KEY: [u8; 9] = *b"a\x01\x01\0\0\0\0\0\0";
 const SHARING: &[u8] =
     b"\0\x09\x01a\x01\x02\0\0\0\0\0\0x\x02\x07\x01\x01\0\0\0\0\0\0y\0\0\0\0\x01\0\0\0";
 
-/// The same entries at interval 1: both keys stand whole, with a restart each.
+/// The same entries at interval 1: both keys are whole, with a restart each.
 const WHOLE: &[u8] =
     b"\0\x09\x01a\x01\x02\0\0\0\0\0\0x\0\x09\x01a\x01\x01\0\0\0\0\0\0y\0\0\0\0\x0d\0\0\0\x02\0\0\0";
 
-/// The block of no entries, which has the one restart 0 too.
+/// The block of no entries, which has one restart, 0.
 const NOTHING: &[u8] = b"\0\0\0\0\x01\0\0\0";
 
-/// Adds an entry to a builder of a block that has so many bytes by now.
+/// Adds an entry to a builder of a block that has `estimate` bytes.
 #[tactic(auto, using(block::proofs::Sizes::fits_with_entry))]
 fn add(
     rt: &impl Abort,
@@ -36,7 +36,7 @@ fn add(
     builder.add(key, value)
 }
 
-/// Adds both entries to a builder that is empty.
+/// Adds both entries to an empty builder.
 fn add_both(rt: &impl Abort, builder: &mut BlockBuilder) -> Result<(), Fault> {
     assert!(rt; builder.is_empty() && builder.last_key().is_empty());
     add(rt, builder, 8, &FIRST_KEY, b"x")?;
@@ -44,8 +44,8 @@ fn add_both(rt: &impl Abort, builder: &mut BlockBuilder) -> Result<(), Fault> {
     add(rt, builder, 21, &SECOND_KEY, b"y")
 }
 
-/// The block of both entries, written by a builder that had them before and was emptied. What it is while it has none is
-/// appended to other bytes.
+/// The block of both entries, written by a builder that had them before and was cleared. Its block
+/// of no entries is appended to `nothing`.
 fn written(
     rt: &(impl Abort + AllocGlobal),
     interval: u64,
@@ -62,7 +62,7 @@ fn written(
     builder.finish()
 }
 
-/// Whether both entries are written so at an interval.
+/// Whether both entries are written as these bytes at this interval.
 fn is_written(rt: &(impl Abort + AllocGlobal), interval: u64, wanted: &[u8]) -> Result<bool, Fault>
     requires positive { 1 ≤ interval }
     requires limited { interval ≤ 1024 }
@@ -84,7 +84,7 @@ struct Row {
     entries: &'static [Entry],
     /// How many restarts it has.
     restarts: u64,
-    /// The key of the entry at the last of them.
+    /// The key of the entry at the last restart.
     last_key: Option<&'static [u8]>,
     /// The entries from there on.
     from_last: &'static [Entry],
@@ -125,7 +125,7 @@ const ROWS: &[Row] = &[
     },
 ];
 
-/// Takes the first entry off, and answers whether it is this one.
+/// Takes a cursor past its entry. Whether that is this one.
 fn goes(cursor: &mut BlockCursor<'_>, entry: &Entry) -> Result<bool, Fault> {
     if !cursor.valid() {
         return Ok(false);
@@ -137,7 +137,7 @@ fn goes(cursor: &mut BlockCursor<'_>, entry: &Entry) -> Result<bool, Fault> {
     Ok(is_this)
 }
 
-/// Whether a cursor has these entries and no more. It takes them off.
+/// Whether a cursor has these entries and no more. It ends after them.
 fn has(cursor: &mut BlockCursor<'_>, entries: &[Entry]) -> Result<bool, Fault> {
     for entry in entries {
         if !goes(cursor, entry)? {
@@ -160,7 +160,7 @@ fn is_read_from_last(alloc: Global, row: &Row) -> Result<bool, Fault> {
     has(&mut BlockCursor::at(alloc, &block, last)?, row.from_last)
 }
 
-/// Whether a block is read again as its entries, and a cursor goes to them from others.
+/// Whether a block reopened has its entries, and a cursor over others moves to them.
 fn is_read_again(alloc: Global, row: &Row) -> Result<bool, Fault> {
     let sound = check(row.bytes)?;
     let block = reopen(row.bytes);
@@ -172,7 +172,7 @@ fn is_read_again(alloc: Global, row: &Row) -> Result<bool, Fault> {
     has(&mut cursor, row.entries)
 }
 
-/// Takes the first entry of bytes that are tested on the way off, and answers whether it is this one.
+/// Takes a checking cursor past its entry. Whether that is this one.
 fn tests(cursor: &mut CheckingCursor<'_>, entry: &Entry) -> Result<bool, Fault> {
     if !cursor.valid() {
         return Ok(false);
@@ -182,7 +182,7 @@ fn tests(cursor: &mut CheckingCursor<'_>, entry: &Entry) -> Result<bool, Fault> 
     Ok(is_this)
 }
 
-/// Whether bytes are tested on the way as these entries and no more.
+/// Whether a checking cursor finds these entries and no more.
 fn is_tested(cursor: &mut CheckingCursor<'static>, row: &Row) -> Result<bool, Fault> {
     cursor.enter(row.bytes)?;
     for entry in row.entries {
@@ -215,7 +215,7 @@ fn all(rt: &(impl Abort + AllocGlobal)) -> Result<(), Fault> {
     are_read(rt)
 }
 
-/// Whether a call was refused for want of memory.
+/// Whether a call was refused as out of memory.
 fn is_memory(answer: &Result<(), Fault>) -> bool {
     match answer {
         Ok(()) => false,
@@ -223,7 +223,8 @@ fn is_memory(answer: &Result<(), Fault>) -> bool {
     }
 }
 
-// With `rt try --test --fail-alloc N` the Nth growth is refused, and all is tested once more; without it, none is.
+// With `rt try --test --fail-alloc N` the Nth request for memory is refused, and all is tested once
+// more. Without it none is.
 #[test]
 fn blocks_are_written_and_read(rt: HostRuntime) -> Result<(), Fault> {
     let answer = all(&rt);
@@ -233,7 +234,7 @@ fn blocks_are_written_and_read(rt: HostRuntime) -> Result<(), Fault> {
     answer
 }
 
-/// Bytes that are no block, and why not.
+/// Invalid blocks, and why they are.
 const NO_BLOCKS: &[(&str, &[u8])] = &[
     ("no bytes", b""),
     ("no restart", b"\0\0\0\0"),
@@ -283,7 +284,7 @@ const NO_BLOCKS: &[(&str, &[u8])] = &[
     ("two restarts of no entry", b"\0\0\0\0\0\0\0\0\x02\0\0\0"),
 ];
 
-/// Whether bytes are refused as no block.
+/// Whether bytes are refused as an invalid block.
 fn is_refused(bytes: &[u8]) -> bool {
     match check(bytes) {
         Ok(_) => false,

@@ -2,10 +2,10 @@ use coding::*;
 use std::alloc::Global;
 use std::test::*;
 
-/// A number and how many bytes it is spelt in, where bytes begin with one.
+/// A number and its length in bytes; None if the bytes don't begin with one.
 type Found<T> = Option<(T, usize)>;
 
-/// Bytes, and the numbers of 64 and of 32 bits that they begin with.
+/// Bytes, and the 64-bit and 32-bit numbers with which they begin.
 const NUMBERS: &[(&[u8], Found<u64>, Found<u32>)] = &[
     (b"\0", Some((0, 1)), Some((0, 1))),
     (b"\xac\x02", Some((300, 2)), Some((300, 2))),
@@ -23,13 +23,13 @@ const NUMBERS: &[(&[u8], Found<u64>, Found<u32>)] = &[
         None,
     ),
     (b"\xff\xff\xff\xff\xff\xff\xff\xff\xff\x02", None, None),
-    // Longer than need be, and without an end.
+    // Longer than needed, and without an end.
     (b"\x80\0", None, None),
     (b"\x80", None, None),
     (b"", None, None),
 ];
 
-/// Whether numbers and a slice are spelt so, one behind the other.
+/// Whether numbers and a slice are written so, one after the other.
 fn are_spelt(alloc: Global) -> bool {
     let mut out = Vec::new(alloc);
     let is_pushed = push_varint(&mut out, 0).is_ok()
@@ -49,7 +49,7 @@ fn numbers_are_spelt_and_read(rt: HostRuntime) {
     }
 }
 
-/// Two slices, and how many bytes they begin with that are the same, within words of eight bytes and behind them.
+/// Two slices, and the length of what they share, within words of eight bytes and after them.
 const BEGINNINGS: &[(&[u8], &[u8], usize)] = &[
     (b"", b"abc", 0),
     (b"abc", b"abd", 2),
@@ -82,8 +82,8 @@ fn faults_have_numbers(rt: HostRuntime) {
     }
 }
 
-/// Bytes, their CRC, and how formats store it: the check value of the catalogues of CRCs, three of RFC 3720, appendix B.4, and
-/// short ones as other programs give them.
+/// Bytes, their CRC, and how formats store it: the check value of the catalogues of CRCs, three of
+/// RFC 3720, appendix B.4, and short ones as other programs give them.
 const VECTORS: &[(&[u8], u32, u32)] = &[
     (b"123456789", 0xe306_9283, 0xc78a_b0e5),
     (&[0; 32], 0x8a91_36aa, 0x0fd7_fffa),

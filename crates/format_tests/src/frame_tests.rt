@@ -27,7 +27,7 @@ const ONE_ENTRY: Footer = Footer {
 const FOOTER: &[u8; FOOTER_LEN] =
     b"\x1a\x08\x27\x16\0\0\0\0\0\0\0\0\0\0\0\0\0\0\0\0\0\0\0\0\0\0\0\0\0\0\0\0\0\0\0\0\0\0\0\0\x57\xfb\x80\x8b\x24\x75\x47\xdb";
 
-/// Whether the block's trailer and the footer are spelt so, one behind the other.
+/// Whether the block's trailer and the footer are written so, one after the other.
 fn are_spelt(alloc: Global) -> bool {
     let mut out = Vec::new(alloc);
     Trailer::of(EMPTY_BLOCK).push(&mut out).is_ok()

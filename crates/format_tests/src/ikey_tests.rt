@@ -5,12 +5,12 @@ use std::cmp::Ordering;
 use std::process::Abort;
 use std::test::*;
 
-/// Tests that what is told of a row is true.
+/// Tests that what a row states is true.
 fn holds(rt: &impl Abort, is_told: bool, row: &[u8]) {
     assert!(rt; is_told, "{row:?}");
 }
 
-/// Whether a user key was answered, and it is this one.
+/// Whether the answer is this user key.
 fn is_user_key(answer: Result<Vec<u8>, Fault>, wanted: &[u8]) -> bool {
     match answer {
         Ok(key) => key.as_slice() == wanted,
@@ -41,7 +41,8 @@ fn are_short<C: Comparator>(alloc: Global, shorts: Shorts) -> bool {
         && is_user_key(C::successor(alloc, start), successor)
 }
 
-/// Whether a comparator that threads may share has this name, and the first of two user keys is the lesser.
+/// Whether a comparator that threads may share has this name, and the first of two user keys is the
+/// lesser.
 fn is_order<C: SharedComparator>(name: &str, lesser: &[u8], greater: &[u8]) -> bool {
     C::name() == name
         && C::compare(lesser, greater) == Ordering::Less
@@ -63,18 +64,18 @@ fn comparators_of_user_keys(rt: HostRuntime) {
     }
 }
 
-/// An internal key, and what is told of it.
+/// An internal key, and what is stated of it.
 struct Row {
     user: &'static [u8],
     sequence: u8,
     kind: Kind,
-    /// How it is spelt.
+    /// Its bytes.
     bytes: &'static [u8],
     /// A greater key.
     greater: &'static [u8],
-    /// The short key of it or above it, and below the greater one: itself where its user key can't be made shorter.
+    /// Its short key, below the greater one: the key itself if its user key can't be made shorter.
     separator: &'static [u8],
-    /// The short key of it or above it.
+    /// Its short key without a limit.
     successor: &'static [u8],
 }
 
@@ -109,7 +110,7 @@ const ROWS: &[Row] = &[
     },
 ];
 
-/// Whether a key was answered, and it is this one.
+/// Whether the answer is this key.
 fn is_key(answer: Result<KeyBuf, Fault>, wanted: &[u8]) -> bool {
     match answer {
         Ok(key) => key.as_key().bytes() == wanted,
@@ -117,7 +118,7 @@ fn is_key(answer: Result<KeyBuf, Fault>, wanted: &[u8]) -> bool {
     }
 }
 
-/// Whether a key was answered, and gives way to this one.
+/// Whether the answer is a key, and this one takes its place.
 fn gives_way(answer: Result<KeyBuf, Fault>, other: InternalKey) -> bool {
     match answer {
         Ok(mut key) => key.set(other).is_ok() && key.as_key().bytes() == other.bytes(),
@@ -125,7 +126,7 @@ fn gives_way(answer: Result<KeyBuf, Fault>, other: InternalKey) -> bool {
     }
 }
 
-/// Whether a key has the parts of a row, and its parts make its spelling.
+/// Whether a key has the parts of a row, and the parts give its bytes.
 fn has_parts(alloc: Global, key: InternalKey, row: &Row) -> bool {
     let sequence = u64::from(row.sequence);
     row.user.len() <= MAX_USER_KEY
@@ -135,7 +136,7 @@ fn has_parts(alloc: Global, key: InternalKey, row: &Row) -> bool {
         && is_key(KeyBuf::new(alloc, row.user, sequence, row.kind), row.bytes)
 }
 
-/// Whether a key and a greater one are as a row tells.
+/// Whether a key and a greater one are as a row states.
 fn are_as_told(alloc: Global, key: InternalKey, greater: InternalKey, row: &Row) -> bool {
     key.compare::<Bytewise>(&greater) == Ordering::Less
         && is_key(
@@ -146,7 +147,7 @@ fn are_as_told(alloc: Global, key: InternalKey, greater: InternalKey, row: &Row)
         && gives_way(KeyBuf::of(alloc, key), greater)
 }
 
-/// Whether all that is told of a row is true.
+/// Whether all that a row states is true.
 fn is_row(alloc: Global, row: &Row) -> bool {
     match (
         InternalKey::parse(row.bytes),

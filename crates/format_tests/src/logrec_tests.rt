@@ -3,10 +3,11 @@ use logrec::*;
 use std::alloc::Global;
 use std::test::*;
 
-/// A record of so many bytes 7 and one behind it: how many bytes their log has, and how it ends.
+/// The number of bytes 7 in a record, the record after it, the length of their log, and how it
+/// ends.
 type Row = (usize, &'static [u8], usize, &'static [u8]);
 
-/// Records within a block, at its end and over several blocks.
+/// Records within a block, at its end, and over several blocks.
 const ROWS: &[Row] = &[
     // Two empty records.
     (
@@ -21,14 +22,14 @@ const ROWS: &[Row] = &[
         17,
         b"\x05\x2b\x28\x43\0\0\x01\xf2\x70\xe8\x9d\x03\0\x01abc",
     ),
-    // An empty FIRST and a LAST where seven bytes of a block are left.
+    // An empty FIRST and a LAST, if seven bytes of a block are left.
     (
         32_754,
         b"x",
         32_776,
         b"\x07\x64\x51\xd0\xe9\0\0\x02\x2c\x74\x1b\xd8\x01\0\x04x",
     ),
-    // Zeros where six are left.
+    // Zeros, if six are left.
     (
         32_755,
         b"",
@@ -49,7 +50,7 @@ fn are_records(read: &[Vec<u8>], first: &[u8], second: &[u8]) -> bool {
     }
 }
 
-/// Whether the log of a row's records is as the row says, and is read as they are.
+/// Whether the log of a row's records is as the row says, and is read as them.
 fn is_log(alloc: Global, (len, second, log_len, end): Row) -> Result<bool, Fault> {
     let first = vec![in alloc; 7u8; len]?;
     let log = append(alloc, &append(alloc, &[], &first)?, second)?;

@@ -1,5 +1,5 @@
-//! Tables that are written, and tables that are read, walked and sought. The bytes are those of the texts above them, one table
-//! of LevelDB's aside.
+//! Tables that are written, read, walked and sought. The bytes are made from the texts above them,
+//! except those of one table that LevelDB wrote.
 
 use coding::Fault;
 use ikey::{Bytewise, InternalKey};
@@ -32,11 +32,11 @@ const TWO_BLOCKS: &[u8] = b"\
     \x18\0\0\0\0\x10\0\0\0\x02\0\0\0\0\x7f6J4\x3a\x08G\x2a\0\0\0\0\0\0\0\0\0\0\0\0\0\0\0\0\0\0\0\
     \0\0\0\0\0\0\0\0\0\0\0\0\0\0\0\0\0W\xfb\x80\x8b\x24uG\xdb";
 
-/// The internal key and the value of an entry, and the bytes of the blocks that are flushed behind it; none where its key
-/// isn't above the last one.
+/// The internal key and the value of an entry, and the bytes of the flushed blocks after it; None
+/// if its key isn't above the last one.
 type Row = (&'static [u8], &'static [u8], Option<u64>);
 
-/// The bytes at which a block ends, the entries of a table, and its bytes.
+/// The block size, the entries of a table, and its bytes.
 type Written = (u64, &'static [Row], &'static [u8]);
 
 const WRITTEN: &[Written] = &[
@@ -54,7 +54,7 @@ const WRITTEN: &[Written] = &[
         ],
         TWO_ENTRIES,
     ),
-    // Each entry has a block for itself.
+    // Each entry has its own block.
     (
         1,
         &[
@@ -65,8 +65,8 @@ const WRITTEN: &[Written] = &[
     ),
 ];
 
-/// Adds an entry to a table, and answers the bytes of the blocks that are flushed then. None where its key isn't above the
-/// last one, and nothing is added.
+/// Adds an entry to a table, and answers the bytes of the flushed blocks. None if its key isn't
+/// above the last one; then nothing is added.
 fn added(
     table: &mut TableBuilder<Bytewise>,
     key: &[u8],
@@ -146,7 +146,7 @@ const FORTY: &[u8] = b"\
     \x17\0\0\0\0\0\0\0\0\0\0\0\0\0\0\0\0\0\0\0\0\0\0\0\0\0\0\0\0\0\0\0\0\0\0W\xfb\x80\x8b\x24uG\
     \xdb";
 
-/// A table, internal keys that are sought one after the other, and the user keys that are left.
+/// A table, internal keys sought one after the other, and the user keys left.
 type Sought = (&'static [u8], &'static [&'static [u8]], &'static [u8]);
 
 const SOUGHT: &[Sought] = &[
@@ -189,7 +189,8 @@ fn seek_all(cursor: &mut TableCursor<'_, Bytewise>, targets: &[&[u8]]) -> Result
     Ok(())
 }
 
-/// Whether the entries that are still to come are these user keys, each put at sequence 1 with the value `v`. Takes them off.
+/// Whether the entries left are of these user keys, each put at 1 with the value `v`. The cursor
+/// ends after them.
 fn has_users(cursor: &mut TableCursor<'_, Bytewise>, users: &[u8]) -> Result<bool, Fault> {
     for user in users {
         let key = [*user, 1, 1, 0, 0, 0, 0, 0, 0];
@@ -204,7 +205,7 @@ fn has_users(cursor: &mut TableCursor<'_, Bytewise>, users: &[u8]) -> Result<boo
     Ok(!cursor.valid())
 }
 
-/// Whether these are left of a table.
+/// Whether these user keys are left of a table.
 fn are_left(alloc: Global, wanted: &Sought) -> Result<bool, Fault> {
     let mut cursor = cursor_over(alloc, wanted.0)?;
     seek_all(&mut cursor, wanted.1)?;
@@ -231,7 +232,7 @@ fn are_keys(keys: &KeyList) -> bool {
     !keys.is_empty() && keys.len() == 5 && keys.get(4) == b"e".as_slice()
 }
 
-/// Whether the table of five entries is read as it stands, with the user keys of its index.
+/// Whether the table of five entries is read as it is, with the user keys of its index.
 fn is_read(alloc: Global) -> Result<bool, Fault> {
     let table = check::<Bytewise>(alloc, FIVE)?;
     Ok(
@@ -249,7 +250,8 @@ fn tables_are_read_and_sought(rt: HostRuntime) {
     }
 }
 
-/// A table of 160 entries that LevelDB 1.23 wrote, with blocks of 1,024 bytes and a restart at each entry.
+/// A table of 160 entries that LevelDB 1.23 wrote, with blocks of 1,024 bytes and a restart at each
+/// entry.
 const OF_LEVELDB: &[u8] = b"\
     \0\x0d\0r0000\x01\x01\0\0\0\0\0\0\0\x0d\x01r0003\x01\x02\0\0\0\0\0\0z\0\x0d\x02r0006\x01\x03\
     \0\0\0\0\0\0zz\0\x0d\x03r0009\x01\x04\0\0\0\0\0\0zzz\0\x0d\0r0012\0\x05\0\0\0\0\0\0\0\x0d\
@@ -348,7 +350,8 @@ const OPTIONS: Options = Options {
 /// How many entries it has.
 const ENTRIES: usize = 160;
 
-/// Takes the first entry off a cursor and adds it to a table. Answers whether there was one, and it could be added.
+/// Takes a cursor past its entry, and adds that to a table. Whether there was one, and it could be
+/// added.
 fn is_moved(
     table: &mut TableBuilder<Bytewise>,
     cursor: &mut TableCursor<'_, Bytewise>,

@@ -5,7 +5,7 @@ use std::alloc::Global;
 use std::process::Abort;
 use std::test::*;
 
-// Records of the manifests of two databases that LevelDB 1.23 wrote, as they stand in its files.
+// Records of the manifests of two databases that LevelDB 1.23 wrote, as its files have them.
 
 /// `edit: comparator leveldb.BytewiseComparator, pointer 0 k00399@48 del, file 1 15 11485
 /// k00000@810 put .. k00398@836 put`
@@ -39,7 +39,7 @@ const REPLACING: &[u8] = b"\
     \x02\x03\x09\0\x03\x0a\x04\x04\x05\x01\x09u\x01\x02\0\0\0\0\0\0\x06\x01\x07\x07\x02\x09q\x09u\
     \0\x04\0\0\0\0\0\0\x09u\0\x04\0\0\0\0\0\0";
 
-/// Edits, and the bytes that each is written as when it was read.
+/// Edits, and the bytes as which each is written after it was read.
 const EDITS: &[(&[u8], &[u8])] = &[
     (b"", b""),
     (COMPACTED, COMPACTED),
@@ -47,21 +47,21 @@ const EDITS: &[(&[u8], &[u8])] = &[
     (MIXED_NEXT, MIXED_NEXT),
     (DELETING, DELETING),
     (REPLACING, REPLACING),
-    // Of log number 3 and log number 4 the later counts.
+    // Of log numbers 3 and 4 the later counts.
     (b"\x02\x03\x02\x04", b"\x02\x04"),
-    // Deleted files are a set, which is written by level and number.
+    // Deleted files are a set, written by level and number.
     (
         b"\x06\x01\x02\x06\0\x05\x06\x01\x02",
         b"\x06\0\x05\x06\x01\x02",
     ),
 ];
 
-/// What the edit of these bytes is written as.
+/// The edit of these bytes, written again.
 fn written_again(alloc: Global, bytes: &[u8]) -> Result<Vec<u8>, Fault> {
     VersionEdit::decode(alloc, bytes)?.encode(alloc)
 }
 
-/// Whether that is these bytes.
+/// Whether it is written as these bytes.
 fn is_written(alloc: Global, bytes: &[u8], wanted: &[u8]) -> bool {
     match written_again(alloc, bytes) {
         Ok(written) => written.as_slice() == wanted,
@@ -112,7 +112,7 @@ const EIGHT_TWICE: &[u8] = b"\
 /// `edit: pointer 3 a@1 put, pointer 3 b@1 put`
 const TWO_POINTERS: &[u8] = b"\x05\x03\x09a\x01\x01\0\0\0\0\0\0\x05\x03\x09b\x01\x01\0\0\0\0\0\0";
 
-/// Two edits, and the snapshot of the version that they make of the empty one, one after the other, or how they are refused.
+/// Two edits, and the snapshot of the version that both make of the empty one, or their refusal.
 type Row = (
     &'static [u8],
     &'static [u8],
@@ -138,16 +138,17 @@ const VERSIONS: &[Row] = &[
         b"",
         Ok(b"\x01\x1aleveldb.BytewiseComparator\x05\x03\x09b\x01\x01\0\0\0\0\0\0"),
     ),
-    // A file that isn't there, or not at that level.
+    // A file that is missing, or is at another level.
     (TWO_FILES, b"\x06\x01\x08", Err(FaultName::Apply)),
     (TWO_FILES, b"\x06\x02\x07", Err(FaultName::Apply)),
-    // Another order of keys, which comes before a file that isn't there.
+    // Another comparator, which is tested before a missing file.
     (
         TWO_FILES,
         b"\x01\x01x\x06\x01\x08",
         Err(FaultName::Comparator),
     ),
-    // A number that is there, though at another level; it is free once its file is deleted, which is done first.
+    // A number that is there, though at another level. It is free if its file is deleted, since
+    // deletions come first.
     (TWO_FILES, SEVEN_BELOW, Err(FaultName::Apply)),
     (TWO_FILES, SEVEN_MOVED, Ok(MOVED)),
     (TWO_FILES, EIGHT_TWICE, Err(FaultName::Apply)),
@@ -166,7 +167,7 @@ fn snapshot_of_two(alloc: Global, first: &[u8], second: &[u8]) -> Result<Vec<u8>
     version.snapshot_edit::<Bytewise>(alloc)?.encode(alloc)
 }
 
-/// Whether that is what comes of two edits.
+/// Whether two edits have the answer of their row.
 fn is_answered(alloc: Global, row: &Row) -> bool {
     match (snapshot_of_two(alloc, row.0, row.1), row.2) {
         (Ok(snapshot), Ok(wanted)) => snapshot.as_slice() == wanted,
@@ -178,7 +179,8 @@ fn is_answered(alloc: Global, row: &Row) -> bool {
 /// Log number, previous log number, next file and last sequence of the second database.
 const NUMBERS: [Option<u64>; 4] = [Some(26), Some(0), Some(27), Some(1200)];
 
-/// Whether a version has these numbers, and a compact pointer at level 0 alone of the two levels that have files there.
+/// Whether a version has these counters, and of the two levels with files only level 0 has a
+/// compact pointer.
 fn has_numbers(version: &Version) -> bool {
     let numbers = [
         version.log_number(),
@@ -193,7 +195,7 @@ fn has_numbers(version: &Version) -> bool {
     numbers == NUMBERS && is_pointed && version.pointer(1).is_none()
 }
 
-/// Whether a file is its first one of level 0 in version order.
+/// Whether a file is the version's first of level 0 in version order.
 fn is_first(file: &FileMeta) -> bool {
     file.number == 25
         && file.size == 3308
@@ -201,7 +203,7 @@ fn is_first(file: &FileMeta) -> bool {
         && file.largest.as_key().user() == b"k00389".as_slice()
 }
 
-/// Whether a version has three files at level 0, the first of which a copy tells to be that one.
+/// Whether a version has three files at level 0, and a copy of the first is that file.
 fn has_files(alloc: Global, version: &Version) -> Result<bool, Fault> {
     let files = version.files::<Bytewise>(alloc, 0)?;
     match files.first() {

@@ -1,5 +1,5 @@
-//! The tests of `edit`, `pick` and `reads`: edits and the versions after them, what a compaction takes, and what a version
-//! answers.
+//! The tests of `edit`, `pick` and `reads`: edits and the versions after them, the inputs of a
+//! compaction, and what a version answers.
 #![tactic(auto)]
 
 #[cfg(test)]

@@ -6,8 +6,8 @@ use std::alloc::Global;
 use std::process::Abort;
 use std::test::*;
 
-// Edits that make the versions, as their bytes: a file has a level, a number, a size, and the internal keys of its first and
-// its last entry.
+// The bytes of edits that make the versions. A file has a level, a number, a size, and the internal
+// keys of its first and last entry.
 
 /// Three files of level 0 that overlap one after the other, and one apart.
 /// `edit: file 0 7 100 c@4 put .. e@4 put, file 0 5 100 e@2 put .. g@2 put, file 0 4 100 a@1 put
@@ -17,17 +17,16 @@ const OVERLAPPING: &[u8] = b"\
     \0\0\x09g\x01\x02\0\0\0\0\0\0\x07\0\x04d\x09a\x01\x01\0\0\0\0\0\0\x09c\x01\x01\0\0\0\0\0\0\x07\
     \0\x06d\x09x\x01\x03\0\0\0\0\0\0\x09z\x01\x03\0\0\0\0\0\0";
 
-/// Two files of one user key, and one behind it.
-/// `edit: file 1 8 100 u@10 put .. u@10 put, file 1 9 100 u@5 put .. u@5 put, file 1 3 100 v@4 put
-/// .. w@4 put`
+/// Two files of one user key, and one after it. `edit: file 1 8 100 u@10 put .. u@10 put, file 1 9
+/// 100 u@5 put .. u@5 put, file 1 3 100 v@4 put .. w@4 put`
 const OF_ONE_KEY: &[u8] = b"\
     \x07\x01\x08d\x09u\x01\x0a\0\0\0\0\0\0\x09u\x01\x0a\0\0\0\0\0\0\x07\x01\x09d\x09u\x01\x05\0\0\
     \0\0\0\0\x09u\x01\x05\0\0\0\0\0\0\x07\x01\x03d\x09v\x01\x04\0\0\0\0\0\0\x09w\x01\x04\0\0\0\0\0\
     \0";
 
-/// Three files of which each shares a user key with the next, and one behind them.
-/// `edit: file 1 8 100 a@10 put .. u@10 put, file 1 2 100 u@5 put .. v@7 put, file 1 3 100 v@4 put
-/// .. v@2 put, file 1 4 100 w@4 put .. w@2 put`
+/// Three files each of which shares a user key with the next, and one after them. `edit: file 1 8
+/// 100 a@10 put .. u@10 put, file 1 2 100 u@5 put .. v@7 put, file 1 3 100 v@4 put .. v@2 put, file
+/// 1 4 100 w@4 put .. w@2 put`
 const CHAINED: &[u8] = b"\
     \x07\x01\x08d\x09a\x01\x0a\0\0\0\0\0\0\x09u\x01\x0a\0\0\0\0\0\0\x07\x01\x02d\x09u\x01\x05\0\0\
     \0\0\0\0\x09v\x01\x07\0\0\0\0\0\0\x07\x01\x03d\x09v\x01\x04\0\0\0\0\0\0\x09v\x01\x02\0\0\0\0\0\
@@ -59,17 +58,17 @@ const LEVELS: &[u8] = b"\
     \x03\0\0\0\0\0\0\x09z\x01\x03\0\0\0\0\0\0\x07\x06\x0dd\x09r\x01\x02\0\0\0\0\0\0\x09s\x01\x02\0\
     \0\0\0\0\0";
 
-/// The version that an edit makes of nothing.
+/// The version that an edit makes of the empty one.
 fn version_of(alloc: Global, edit: &[u8]) -> Result<Version, Fault> {
     Version::empty(alloc).applied::<Bytewise>(VersionEdit::decode(alloc, edit)?)
 }
 
-/// What a compaction of a level takes of that version.
+/// The inputs of a compaction of a level of that version.
 fn chosen(alloc: Global, edit: &[u8], level: u64) -> Result<Inputs, Fault> {
     inputs::<Bytewise>(alloc, &version_of(alloc, edit)?, level)
 }
 
-/// What a compaction takes.
+/// The inputs of a compaction.
 struct Taken {
     /// The levels and the numbers of its files.
     files: &'static [(u64, u64)],
@@ -80,7 +79,7 @@ struct Taken {
     deeper: &'static [u64],
 }
 
-/// A version, a level, and what its compaction takes or is refused by.
+/// A version, a level, and the inputs of its compaction, or their refusal.
 type Row = (&'static [u8], u64, Result<Taken, FaultName>);
 
 const ROWS: &[Row] = &[
@@ -134,7 +133,7 @@ const ROWS: &[Row] = &[
             deeper: &[9, 10, 11, 12, 13],
         }),
     ),
-    // Nothing lies below the last level.
+    // There is nothing below the last level.
     (
         LEVELS,
         5,
@@ -174,7 +173,7 @@ fn are_numbered(found: &[FileMeta], wanted: &[u64]) -> bool {
     found.len() == wanted.len()
 }
 
-/// Whether inputs are these, of a compaction of a level.
+/// Whether inputs are these, of a compaction of this level.
 fn are_taken(found: &Inputs, level: u64, wanted: &Taken) -> bool {
     found.level == level
         && found.pointer.level == level
@@ -184,7 +183,7 @@ fn are_taken(found: &Inputs, level: u64, wanted: &Taken) -> bool {
         && are_numbered(&found.deeper, wanted.deeper)
 }
 
-/// Whether a compaction takes what it has to, or is refused so.
+/// Whether a compaction has the inputs of its row, or its refusal.
 fn is_answered(alloc: Global, row: &Row) -> bool {
     match (chosen(alloc, row.0, row.1), &row.2) {
         (Ok(found), Ok(wanted)) => are_taken(&found, row.1, wanted),
@@ -193,7 +192,7 @@ fn is_answered(alloc: Global, row: &Row) -> bool {
     }
 }
 
-/// Whether no deeper file has one of these user keys of one byte, or each of them has one.
+/// Whether each of these user keys of one byte is at its base, or none is.
 fn are_base(found: &Inputs, users: &[u8], wanted: bool) -> bool {
     for user in users {
         if is_base::<Bytewise>(found, &[*user]) != wanted {
@@ -203,7 +202,8 @@ fn are_base(found: &Inputs, users: &[u8], wanted: bool) -> bool {
     true
 }
 
-/// Whether some deeper file has each of `h`, `x`, `y`, `z`, `r` and `s`, and none has `g`, `j`, `w`, `t` or `q`.
+/// Whether some deeper file's range has each of `h`, `x`, `y`, `z`, `r` and `s`, and none has `g`,
+/// `j`, `w`, `t` or `q`.
 fn are_told(alloc: Global) -> Result<bool, Fault> {
     let found = chosen(alloc, LEVELS, 1)?;
     Ok(are_base(&found, b"hxyzrs", false) && are_base(&found, b"gjwtq", true))

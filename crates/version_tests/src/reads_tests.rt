@@ -1,4 +1,5 @@
-//! Which versions are lawful, how their tables stand, what they answer, and where entries fall.
+//! Which versions are lawful, the order of their tables, what they answer, and whether entries
+//! fall.
 
 use coding::{Fault, FaultName};
 use edit::{Version, VersionEdit};
@@ -10,7 +11,7 @@ use std::process::Abort;
 use std::test::*;
 use table::{SoundTable, TableCursor, check};
 
-// Tables and edits as the formats of LevelDB have them, a line for each block, footer or file.
+// Tables and edits in LevelDB's formats, one line for each block, footer or file.
 
 /// `table: u@10 put a`
 const U_AT_TEN: &[u8] = b"\
@@ -76,18 +77,18 @@ const ONE: &[u8] = b"\x03\x09\x07\x01\x07\x7d\x09u\x01\x05\0\0\0\0\0\0\x09u\0\x0
 /// A file's number and its table.
 type Given = (u64, &'static [u8]);
 
-/// A sequence, and the value of `u` there; none where a table is missing.
+/// A sequence, and the value of `u` there; None if a table is missing.
 type Get = (u64, Option<Option<&'static [u8]>>);
 
-/// A version, the tables that are given, and what is answered of them.
+/// A version, the tables that are given, and the answers.
 struct Row {
     /// The edit that makes it of the empty version.
     edit: &'static [u8],
     first: Given,
     second: Given,
-    /// How it is refused, where it isn't lawful.
+    /// How it is refused, if it isn't lawful.
     lawless: Option<FaultName>,
-    /// The sequences of the tables as they stand; none where that is refused.
+    /// The sequences of the tables in their order; none if that is refused.
     standing: &'static [u64],
     gets: &'static [Get],
 }
@@ -122,7 +123,7 @@ const ROWS: &[Row] = &[
         standing: &[],
         gets: &[(7, None)],
     },
-    // Older entries stand before newer ones, which is not asked of how tables stand.
+    // Older entries are before newer ones, which the order of tables does not test.
     Row {
         edit: NEWER_FIRST,
         first: (7, U_AT_TEN),
@@ -139,7 +140,7 @@ const ROWS: &[Row] = &[
         standing: &[5, 10],
         gets: &[],
     },
-    // One sequence of a user key stands twice in a table. Of two tables of one number the first counts.
+    // A user key has one sequence twice in a table. Of two tables of one number the first counts.
     Row {
         edit: ONE,
         first: (7, U_TWICE),
@@ -148,7 +149,7 @@ const ROWS: &[Row] = &[
         standing: &[5],
         gets: &[],
     },
-    // What is stated of a file isn't so: its size, its keys, and that its number is below the next one.
+    // What is stated of a file is wrong: its size, its keys, or that its number is below next file.
     Row {
         edit: LONGER,
         first: (8, U_AT_TEN),
@@ -214,7 +215,7 @@ fn are_sequences(tables: &[&SoundTable<'_, Bytewise>], wanted: &[u64]) -> bool {
     tables.len() == wanted.len()
 }
 
-/// Whether a version's tables stand as a row says, or that is refused so.
+/// Whether a version's tables have the order of a row, or its refusal.
 fn stand(
     alloc: Global,
     version: &Version,
@@ -227,7 +228,7 @@ fn stand(
     }
 }
 
-/// Whether each of these gets is answered so.
+/// Whether each of these gets has its answer.
 fn are_got(
     alloc: Global,
     version: &Version,
@@ -246,7 +247,7 @@ fn are_got(
     true
 }
 
-/// Whether a version with tables is answered as a row says.
+/// Whether a version with these tables has the answers of a row.
 fn is_row(
     alloc: Global,
     version: &Version,
@@ -258,7 +259,7 @@ fn is_row(
         && are_got(alloc, version, tables, row.gets)
 }
 
-/// Whether a version is, with the tables of the row.
+/// Whether a version has them with the tables of the row.
 fn is_answered_with(alloc: Global, version: &Version, row: &Row) -> Result<bool, Fault> {
     let first = table_of(alloc, row.first)?;
     let is_first = is_given(&first, row.first);
@@ -266,7 +267,7 @@ fn is_answered_with(alloc: Global, version: &Version, row: &Row) -> Result<bool,
     Ok(is_first && is_row(alloc, version, &tables, row))
 }
 
-/// Whether the version of a row is.
+/// Whether the version of a row has them.
 fn is_answered(alloc: Global, row: &Row) -> Result<bool, Fault> {
     is_answered_with(alloc, &version_of(alloc, row.edit)?, row)
 }
@@ -280,7 +281,8 @@ fn versions_and_what_they_answer(rt: HostRuntime) -> Result<(), Fault> {
     Ok(())
 }
 
-/// Tables that stand one before the other, a range of user keys, and whether the entries fall there.
+/// Tables in their order, a range of user keys, and whether the entries of each user key fall
+/// there.
 type Falling = (
     &'static [&'static [u8]],
     Option<&'static [u8]>,
@@ -305,7 +307,7 @@ fn cursor(alloc: Global, bytes: &'static [u8]) -> Result<TableCursor<'static, By
     TableCursor::new(alloc, &table)
 }
 
-/// Whether the entries of tables that stand one before the other fall in a range.
+/// Whether the entries of tables, read one after the other, fall in a range.
 fn fall(alloc: Global, row: &Falling) -> Result<bool, Fault> {
     let mut cursors = Vec::new(alloc);
     for bytes in row.0 {

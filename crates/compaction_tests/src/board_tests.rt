@@ -9,12 +9,13 @@ use std::test::*;
 use std::thread;
 use std::thread::Threads;
 
-// What no clause says: which seat draws what, that two threads run, that calls succeed, and the rows of the rules.
+// What no clause says: which seat draws what, that two threads run, that calls succeed; and the
+// rows of the rules.
 
 /// How often a thread looks whether another has come.
 const TURNS: u64 = 1_000_000;
 
-/// The last seat, where one is left.
+/// The last seat, if one is left.
 fn take_last(board: &Board, seats: &mut Vec<Seat>) -> Option<Seat>
     requires { All (λ p. p.board ≡ board.now) seats.old.items }
     ensures seat { IfSome result (λ p. p.board ≡ board.now) }
@@ -23,7 +24,7 @@ fn take_last(board: &Board, seats: &mut Vec<Seat>) -> Option<Seat>
     seats.pop()
 }
 
-/// Puts a seat behind the others, where there is room for it.
+/// Puts a seat after the others, if there is memory for it.
 fn put_back(board: &Board, seats: &mut Vec<Seat>, seat: Seat)
     requires { All (λ p. p.board ≡ board.now) seats.old.items × (seat.board ≡ board.now) }
     ensures { All (λ p. p.board ≡ board.now) seats.new.items }
@@ -53,7 +54,7 @@ fn draws(board: &Board, mut seat: Seat, numbers: &[u64]) -> bool
     false
 }
 
-/// Whether the seat of a number does. The seats stand in the order of their numbers, so that as many are before it.
+/// Whether the seat `at` does. The seats are in the order of their numbers.
 fn draws_at(board: &Board, mut made: Vec<Seat>, at: u64, numbers: &[u64]) -> bool
     requires { All (λ p. p.board ≡ board.now) made.items }
 {
@@ -115,7 +116,7 @@ const DRAWN: &[Drawn] = &[
     },
 ];
 
-/// Whether a seat draws so, where no other does.
+/// Whether a seat draws so if no other draws.
 fn draws_alone(alloc: Global, row: &Drawn) -> bool {
     match Board::new(alloc, u64::from(row.jobs), row.seats) {
         Ok((board, made)) => draws_at(&board, made, row.at, row.numbers),
@@ -123,7 +124,7 @@ fn draws_alone(alloc: Global, row: &Drawn) -> bool {
     }
 }
 
-/// Whether a seat draws job 3 and fails it, which another one sees too.
+/// Whether a seat draws job 3 and fails it, and another one sees that too.
 fn is_seen(board: &Board, seat: &mut Seat, other: &mut Seat) -> bool
     requires { (seat.old.board ≡ board.now) × (other.old.board ≡ board.now) }
 {
@@ -151,7 +152,7 @@ fn is_seen_by_last(board: &Board, seats: &mut Vec<Seat>) -> bool
     is_seen(board, &mut before, &mut last)
 }
 
-/// Whether the last of five seats sees so. Job 3 is the share of the one before it.
+/// Whether the last of five seats sees it. Job 3 is in the share of the one before it.
 fn is_failure_seen(alloc: Global) -> bool {
     match Board::new(alloc, 5, 5) {
         Ok((board, mut seats)) => is_seen_by_last(&board, &mut seats),
@@ -159,7 +160,7 @@ fn is_failure_seen(alloc: Global) -> bool {
     }
 }
 
-/// Draws and spends until there is no job.
+/// Draws and spends jobs until there is none.
 fn spend_all(board: &Board, mut seat: Seat) -> Seat
     requires { seat.board ≡ board.now }
     ensures { result.board ≡ board.now }
@@ -204,7 +205,7 @@ fn spend_at_two<R: Threads>(rt: &R, board: &Board, seats: &mut Vec<Seat>)
     put_back(board, seats, second);
 }
 
-/// What was done where each of ten thousand jobs was spent.
+/// The counts after each of ten thousand jobs was spent.
 const SPENT: Tally = Tally {
     done: 10_000,
     failed: 0,
@@ -232,7 +233,8 @@ fn seats_draw_each_job_once(rt: HostRuntime) {
     assert!(rt; are_spent(&rt, rt.alloc()));
 }
 
-/// Jobs that are held until others have come and others have left. Each of eight jobs has a byte in each number.
+/// Jobs that are held until others have come and others have ended. Each number has a byte for each
+/// of eight jobs.
 #[derive(Clone, Copy)]
 struct Held {
     jobs: u64,
@@ -254,7 +256,7 @@ const MEETING: Held = Held {
     left: 0,
 };
 
-/// Counts how often each of eight jobs comes and leaves, in a byte each, and holds some of them.
+/// Counts how often each of eight jobs comes and ends, in a byte each, and holds some of them.
 #[derive(Drop)]
 struct Watch {
     come: AtomicU64,
@@ -278,14 +280,14 @@ impl Watch {
         }
     }
 
-    /// Whether those have come and left for which jobs are held.
+    /// Whether the jobs have come and ended for which jobs are held.
     fn is_free(&self) -> bool {
         let come = self.come.load(Ordering::SeqCst);
         let left = self.left.load(Ordering::SeqCst);
         come & self.held.come == self.held.come && left & self.held.left == self.held.left
     }
 
-    /// Holds a job, where it is one that is held.
+    /// Holds a job, if it is one of those.
     fn hold(&self, job: u64) {
         self.come.fetch_add(byte_of(job), Ordering::SeqCst);
         if self.held.jobs & byte_of(job) == 0 {
@@ -300,7 +302,7 @@ impl Watch {
         self.given_up.fetch_add(1, Ordering::SeqCst);
     }
 
-    /// Whether no hold was given up, and jobs came and left so often.
+    /// Whether no hold was given up, and jobs came and ended this often.
     fn has_counted(&self, come: u64, left: u64) -> bool {
         self.given_up.load(Ordering::SeqCst) == 0
             && self.come.load(Ordering::SeqCst) == come
@@ -335,7 +337,7 @@ impl Labour for Watch {
     }
 }
 
-/// Refuses one job by name, and one for want of memory.
+/// Refuses one job by name, and one as out of memory.
 #[derive(Clone, Copy)]
 struct Refusing {
     by_name: u64,
@@ -378,13 +380,13 @@ const FIRST: Refusing = Refusing {
     for_memory: u64::MAX,
 };
 
-/// Refuses job 2 by name, and the first for want of memory.
+/// Refuses job 2 by name, and the first as out of memory.
 const FIRST_FOR_MEMORY: Refusing = Refusing {
     by_name: 2,
     for_memory: 0,
 };
 
-/// Refuses job 2 by name, and job 5 for want of memory.
+/// Refuses job 2 by name, and job 5 as out of memory.
 const THIRD_BY_NAME: Refusing = Refusing {
     by_name: 2,
     for_memory: 5,
@@ -396,13 +398,13 @@ const NAMED: Fault = Fault {
     input: None,
 };
 
-/// That of one that is refused for want of memory.
+/// The fault of one that is refused as out of memory.
 const MEMORY: Fault = Fault {
     name: FaultName::Memory,
     input: None,
 };
 
-/// Jobs that workers do, which of them are held, how often each job comes and leaves, and the answer.
+/// Jobs of workers, which of them are held, how often each job comes and ends, and the answer.
 struct Row {
     name: &'static str,
     labour: Refusing,
@@ -530,7 +532,7 @@ fn is_answer(
     }
 }
 
-/// Whether workers answer so, and each job comes and leaves so often.
+/// Whether workers answer so, and each job comes and ends this often.
 fn is_done<R: Threads + Sync>(rt: &R, alloc: Global, row: &Row) -> bool {
     let gate = Watch::new(row.held);
     let jobs = u64::from(row.jobs);

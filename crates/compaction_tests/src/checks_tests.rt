@@ -49,13 +49,13 @@ const TWO_FILES: &[u8] = b"\
 /// The number of a table, and its bytes.
 type Given = (u64, &'static [u8]);
 
-/// The number of each table that is answered with the sequence of its first key, or the refusal.
+/// The number of each table in the answer and the sequence of its first key, or the refusal.
 type Told = Result<&'static [(u64, u64)], FaultName>;
 
-/// What is told of tables.
+/// Tables and what is answered of them.
 struct Row {
     name: &'static str,
-    /// The edit that gives the version which is asked for, where one is.
+    /// The edit that gives the version whose tables these have to be, if one is given.
     edit: Option<&'static [u8]>,
     tables: &'static [Given],
     told: Told,
@@ -138,7 +138,7 @@ fn are_tables(tables: &[NumberedTable<'_, Bytewise>], wanted: &[(u64, u64)]) -> 
     tables.len() == wanted.len()
 }
 
-/// Whether an answer is as it is told.
+/// Whether an answer is the expected one.
 fn is_told(answer: Result<Vec<NumberedTable<'_, Bytewise>>, Fault>, told: Told) -> bool {
     match (answer, told) {
         (Ok(tables), Ok(wanted)) => are_tables(&tables, wanted),
@@ -153,7 +153,7 @@ fn version_after(alloc: Global, edit: &[u8]) -> Result<Version, Fault> {
     Version::empty(alloc).applied::<Bytewise>(edit)
 }
 
-/// Whether four workers tell this of the tables of the version after an edit.
+/// Whether four workers answer this of the tables of the version after an edit.
 fn tell_of(
     rt: &(impl Threads + Sync + AllocGlobal),
     edit: &[u8],
@@ -165,7 +165,7 @@ fn tell_of(
     Ok(is_told(answer, told))
 }
 
-/// Whether four workers tell what a row says.
+/// Whether four workers answer what a row says.
 fn tell(rt: &(impl Threads + Sync + AllocGlobal), row: &Row) -> Result<bool, Fault> {
     let loaded = loaded(rt.alloc(), row.tables)?;
     match row.edit {

@@ -1,4 +1,4 @@
-//! Blocks that are planned, encoded and put together over runs, and the entries of runs as one list.
+//! Blocks of runs that are planned, encoded and joined, and the entries of runs as one list.
 
 ghost use Rattle.std.specs.Prelude.{◌≡◌, ◌≤◌, ◌^◌, [], ◌++◌, length, flat_map, IfOk};
 ghost use Rattle.std.specs.List.{AllByRecursion};
@@ -33,7 +33,7 @@ const FIRST: &[u8] = b"abcz";
 
 const LAST: &[u8] = b"abfa\x01\x08\0\0\0\0\0\0";
 
-/// Ranges that hold all user keys. The first, the third and the last hold none of the table's.
+/// Ranges that have all user keys. The first, the third and the last have none of the table's.
 const RANGES: &[Range<'static>] = &[
     Range {
         lower: None,
@@ -57,7 +57,7 @@ const RANGES: &[Range<'static>] = &[
     },
 ];
 
-/// Inputs that tell of no file below.
+/// Inputs without deeper files.
 fn inputs(alloc: Global) -> Result<Inputs, Fault> {
     let key = KeyBuf::new(alloc, b"b", 1, Kind::Put)?;
     Ok(Inputs {
@@ -109,7 +109,7 @@ fn len_of(alloc: Global, key: &[u8], value: &[u8]) -> Result<u64, Fault>
     Ok(builder.estimate() as u64)
 }
 
-/// The data block of one entry, that at a place, which is a short one.
+/// The data block of the one entry at a cursor's place. It is short.
 fn block_at<'r, 'a>(
     alloc: Global,
     cursor: &RunsCursor<'r, 'a>,
@@ -155,7 +155,7 @@ fn pieces_of(
     Ok(pieces)
 }
 
-/// The table of two blocks, each of which is a piece.
+/// The table of two blocks, each one piece.
 fn assembled(
     alloc: Global,
     first: PlannedBlock<'_, '_>,
@@ -174,7 +174,7 @@ fn assembled(
     assemble_table::<Bytewise>(alloc, &blocks, 16, pieces)
 }
 
-/// Whether the blocks of the first two entries, each a piece, make the table again.
+/// Whether the blocks of the first two entries, each one piece, make the table again.
 fn make_the_table(alloc: Global, runs: &[RangeRun<'_>]) -> Result<bool, Fault> {
     let mut cursor = RunsCursor::new(runs);
     let first = block_at(alloc, &cursor)?;
@@ -204,7 +204,7 @@ fn is_part(part: &RunsPart<'_, '_>) -> bool {
         && first.value() == b"x".as_slice()
 }
 
-/// Whether a slice from a place on is one of no entry, and then of both.
+/// Whether a slice from a place on first has no entry, and then both.
 fn is_slice(first: &RunsCursor<'_, '_>) -> bool {
     let mut slice = RunsSlice::at(first.copy());
     let is_none = slice.is_empty() && slice.last_key().is_none();

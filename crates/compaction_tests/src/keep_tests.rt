@@ -1,4 +1,4 @@
-//! Which entries stay in a range.
+//! Which entries of a range are kept.
 
 use coding::{Fault, FaultName};
 use edit::{Version, VersionEdit};
@@ -14,7 +14,7 @@ use std::process::Abort;
 use std::test::*;
 use table::{Cursor, TableCursor, check};
 
-// Tables and edits as the formats of LevelDB have them, a line for each block, footer or file.
+// Tables and edits in LevelDB's formats, one line for each block, footer or file.
 
 /// `table: u@9 put x, u@5 put x, u@3 put x`
 const NINE_FIVE_THREE: &[u8] = b"\
@@ -85,12 +85,12 @@ const OVER_V_TO_W: &[u8] = b"\
     \x07\x01\x07r\x09a\x01\x01\0\0\0\0\0\0\x09z\x01\x02\0\0\0\0\0\0\x07\x03\x03r\x09v\x01\x01\0\0\
     \0\0\0\0\x09w\x01\x01\0\0\0\0\0\0";
 
-/// A range, whether cursors seek it before it is merged, the sequences that it keeps or none where one stands twice, and how many
-/// grandparents lie below its first entry.
+/// A range, whether cursors seek it before it is merged, the sequences that it keeps (None if one
+/// comes twice), and how many grandparents lie below its first entry.
 type Part = (Range<'static>, bool, Option<&'static [u64]>, usize);
 
-/// Tables, the edit of a version whose level 1 is compacted, which sequences stay readable, the last sequence, and parts that are
-/// merged one behind the other.
+/// Tables, the edit of a version whose level 1 is compacted, the readable sequences, the last
+/// sequence, and parts that are merged one after the other.
 type Row = (
     &'static [&'static [u8]],
     &'static [u8],
@@ -181,7 +181,8 @@ const ROWS: &[Row] = &[
         9,
         &[(ALL, false, Some(&[12, 9]), 0)],
     ),
-    // A deletion and what it deletes, over no deeper file, one that may hold its user key, and one that may not.
+    // A deletion and what it deletes, over no deeper file, over one that may have its user key, and
+    // over one that may not.
     (
         &[DELETED],
         ALONE,
@@ -236,7 +237,7 @@ const ROWS: &[Row] = &[
         9,
         &[(FROM_U, true, Some(&[9]), 0)],
     ),
-    // A user key and sequence twice.
+    // A user key with one sequence twice.
     (
         &[TWICE],
         ALONE,
@@ -246,7 +247,7 @@ const ROWS: &[Row] = &[
     ),
 ];
 
-/// What a compaction of level 1 takes of the version that an edit makes of the empty one.
+/// The inputs of a compaction of level 1 of the version that an edit makes of the empty one.
 fn inputs_of(alloc: Global, edit: &[u8]) -> Result<Inputs, Fault> {
     let edit = VersionEdit::decode(alloc, edit)?;
     let version = Version::empty(alloc).applied::<Bytewise>(edit)?;
@@ -270,7 +271,7 @@ fn cursors_of(
     Ok(cursors)
 }
 
-/// Whether a cursor seeks a range, and stands at its lower bound then.
+/// Whether a cursor seeks a range, and is at its lower bound after that.
 fn seeks(
     alloc: Global,
     cursor: &mut TableCursor<'static, Bytewise>,
@@ -310,8 +311,8 @@ fn merged(
     merge_range::<Bytewise, _>(alloc, cursors, range, listed, row.2.floor(row.3), inputs)
 }
 
-/// Whether the entries of a run have these sequences, where values are `x` and deletions have none, and whether it has one mark, at its
-/// first entry, over so many grandparents.
+/// Whether the entries of a run have these sequences (values are `x`, deletions have none), and
+/// whether it has one mark, at its first entry, over `below` grandparents.
 fn are_kept(run: &RangeRun<'_>, kept: &[u64], below: usize) -> bool {
     for place in 0..run.len() {
         let key = run.key(place);
@@ -346,7 +347,7 @@ fn is_merged(
     }
 }
 
-/// Whether the parts of a row are, one behind the other by the same cursors.
+/// Whether the parts of a row are, one after the other by the same cursors.
 fn are_merged(
     alloc: Global,
     cursors: &mut Vec<TableCursor<'static, Bytewise>>,

@@ -1,5 +1,6 @@
-//! The tests of a compaction, from who draws which job and what a worker keeps to the whole and to a folder: `board`, `split`,
-//! `merge`, `keep`, `pieces`, `cut`, `request`, `compact`, `checks` and `store`.
+//! The tests of a compaction, from who draws which job and what a worker keeps to the whole and to
+//! a folder: `board`, `split`, `merge`, `keep`, `encoding`, `cut`, `request`, `compact`, `checks`
+//! and `store`.
 #![tactic(auto)]
 
 #[cfg(test)]

@@ -91,7 +91,7 @@ fn are(user: &[u8], value: &[u8], pair: &[u8; 2]) -> bool {
     user == [pair[0]].as_slice() && value == [pair[1]].as_slice()
 }
 
-/// Takes the first entry off, and says whether it has this user key and value.
+/// Takes a cursor past its entry. Whether that has this user key and value.
 fn goes<'a, S: Cursor<'a, Bytewise>>(cursor: &mut S, pair: &[u8; 2]) -> Result<bool, Fault> {
     if !cursor.valid() {
         return Ok(false);
@@ -101,7 +101,8 @@ fn goes<'a, S: Cursor<'a, Bytewise>>(cursor: &mut S, pair: &[u8; 2]) -> Result<b
     Ok(is_this)
 }
 
-/// Whether a cursor has these user keys and values first, each key before its value. It takes them off.
+/// Whether a cursor begins with these user keys and values, each key before its value. It is taken
+/// past them.
 fn begins<'a, S: Cursor<'a, Bytewise>>(cursor: &mut S, walked: &[u8]) -> Result<bool, Fault> {
     let (pairs, _) = walked.as_chunks::<2>();
     for pair in pairs {
@@ -112,8 +113,8 @@ fn begins<'a, S: Cursor<'a, Bytewise>>(cursor: &mut S, walked: &[u8]) -> Result<
     Ok(true)
 }
 
-/// Lists of tables, what is walked over all of them first, and the place of the cursor that comes next, where one has an entry
-/// left.
+/// Lists of tables, the entries with which all of them together begin, and the place of the cursor
+/// that comes next, if one has an entry left.
 struct Row {
     name: &'static str,
     lists: &'static [&'static [&'static [u8]]],
@@ -154,7 +155,7 @@ const ROWS: &[Row] = &[
     },
 ];
 
-/// Whether tables are walked so as one.
+/// Whether tables merged as one are walked so.
 fn is_walked(alloc: Global, row: &Row) -> Result<bool, Fault> {
     let mut merging = Merging::new(alloc, cursors(alloc, row.lists)?)?;
     let is_begun = begins(&mut merging, row.walked)?;

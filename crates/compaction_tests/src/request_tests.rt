@@ -13,7 +13,7 @@ const INPUT: &[u8] = b"\x07\x01\x07\x7d\x09u\0\x04\0\0\0\0\0\0\x09u\x01\x02\0\0\
 /// The first sequence that no snapshot may have, 2^56 - 1.
 const TOO_HIGH: u64 = 72_057_594_037_927_935;
 
-/// A request over the input or over none, and how it is refused.
+/// A request over the input or over none, and its refusal.
 #[derive(Clone, Copy)]
 struct Row {
     name: &'static str,
@@ -26,7 +26,7 @@ struct Row {
     refused: Option<FaultName>,
 }
 
-/// What is asked of the input and its table.
+/// A valid request over the input and its table.
 const ACCEPTED: Row = Row {
     name: "accepted",
     level: 1,
@@ -38,7 +38,7 @@ const ACCEPTED: Row = Row {
     refused: None,
 };
 
-/// Everything is wrong, and then what is refused first is mended, row by row.
+/// Everything is wrong. Row by row, what is refused first is then corrected.
 const NO_INPUT: Row = Row {
     name: "no input",
     level: 6,
@@ -158,15 +158,15 @@ fn asked<'x>(row: &Row, picked: &'x Inputs) -> Request<'x> {
     }
 }
 
-/// Whether a request is refused so.
+/// Whether a request has this refusal.
 fn is_refused(alloc: Global, row: &Row) -> Result<bool, Fault> {
     let picked = picked(alloc, row)?;
     let refused = asked(row, &picked).check::<Bytewise>().err();
     Ok(refused == row.refused.map(Fault::of))
 }
 
-/// Whether an edit has the numbers of the request with next file 9, the compact pointer of level 1 at `u` at 2, takes file 7 of
-/// level 1 out, and puts none in.
+/// Whether an edit has the counters of the request with next file 9, the compact pointer of level 1
+/// at `u` at 2, deletes file 7 of level 1, and adds no file.
 fn is_edit(edit: &VersionEdit) -> bool {
     let numbers = [
         edit.log_number,

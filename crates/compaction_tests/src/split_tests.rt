@@ -22,7 +22,7 @@ const B_AND_D: &[u8] = b"\
     \x28\0\0\0\0\0\0\0\0\0\0\0\0\0\0\0\0\0\0\0\0\0\0\0\0\0\0\0\0\0\0\0\0\0\0\0\0W\xfb\x80\x8b\x24u\
     G\xdb";
 
-/// The boundaries that are chosen where the index has the user keys a, c and b, d.
+/// The boundaries that are chosen if the indexes have the user keys a, c and b, d.
 fn chosen(alloc: Global, want: u64) -> Result<Split<Bytewise>, Fault> {
     let tables = [
         check::<Bytewise>(alloc, A_AND_C)?,
@@ -57,7 +57,7 @@ fn has_boundaries(split: &Split<Bytewise>, boundaries: &[&[u8]]) -> bool {
     has_bounds(split, boundaries.len(), lower, None)
 }
 
-/// Boundaries, or how they are refused.
+/// Boundaries, or their refusal.
 type Wanted = Result<&'static [&'static [u8]], FaultName>;
 
 /// Whether an answer is the wanted one.
@@ -69,7 +69,7 @@ fn is_answer(answer: Result<Split<Bytewise>, Fault>, wanted: &Wanted) -> bool {
     }
 }
 
-/// How many ranges are wanted, and the boundaries that are chosen.
+/// How many ranges are wanted, and the boundaries chosen.
 const CHOSEN: &[(u64, Wanted)] = &[
     (0, Err(FaultName::SplitCount)),
     (1, Ok(&[])),
@@ -91,8 +91,8 @@ fn boundaries_that_are_chosen(rt: HostRuntime) {
     }
 }
 
-/// Boundaries of two bytes: the first, how far each is above the one before it, and how many there are. A second byte that is 0
-/// is left out.
+/// Boundaries of two bytes: the first, the step from one to the next, and their number. A last byte
+/// 0 is left out.
 type Parting = (u16, u16, u16);
 
 /// How many ranges there are between them.
@@ -116,13 +116,13 @@ const NOT_RISING: Fault = Fault {
     input: None,
 };
 
-/// That of too many.
+/// The refusal of too many boundaries.
 const TOO_MANY: Fault = Fault {
     name: FaultName::SplitCount,
     input: None,
 };
 
-/// Boundaries that are given, and how many ranges there are between them.
+/// Boundaries, and the number of ranges between them.
 const GIVEN: &[(&str, Parting, Result<u64, Fault>)] = &[
     ("c and m", (0x6300, 0x0a00, 2), Ok(3)),
     ("m and m", (0x6d00, 0, 2), Err(NOT_RISING)),

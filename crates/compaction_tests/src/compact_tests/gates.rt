@@ -1,4 +1,4 @@
-//! Gates at which jobs wait for each other.
+//! Gates at which jobs wait for one another.
 
 use board::Gate;
 use std::sync::atomic::{AtomicU64, Ordering};
@@ -7,19 +7,19 @@ use std::thread;
 /// How often a worker that is held looks whether it may go on.
 const TURNS: u64 = 1_000_000;
 
-/// For what jobs wait.
+/// What jobs wait for.
 #[derive(Clone, Copy)]
 pub(crate) enum Wait {
-    /// None.
+    /// Nothing.
     ForNone,
-    /// Job 0 until job 2 has left, as often as it comes.
+    /// Job 0 waits until job 2 has ended, as often as it comes.
     ForTheLast,
-    /// Each of two jobs until the other has come as often.
+    /// Each of two jobs waits until the other has come as often.
     ForEachOther,
 }
 
-/// A gate that counts how often jobs 0 and 1 came, how often job 2 left, and how often a job was let go before its time. Where none
-/// waits, none comes.
+/// A gate that counts how often jobs 0 and 1 came, how often job 2 ended, and how often a job was
+/// let go too early. If no job waits, it counts none.
 #[derive(Drop)]
 pub(crate) struct Held {
     wait: Wait,
@@ -39,7 +39,7 @@ impl Held {
         }
     }
 
-    /// Whether each of jobs 0 and 1 has come so often, where they wait, and none was let go before its time.
+    /// Whether each of jobs 0 and 1 came this often, if they wait, and none was let go too early.
     pub fn has_held(&self, often: u64) -> bool {
         self.given_up.load(Ordering::SeqCst) == 0
             && self.come[0].load(Ordering::SeqCst) == often

@@ -1,12 +1,12 @@
-//! Compactions that are asked for, and what they answer.
+//! Compactions and their answers.
 
 use crate::compact_tests::gates::Wait;
 use crate::compact_tests::tables::*;
 use coding::FaultName;
 use keep::Snapshots;
 
-/// How user keys are split: by so many keys of two bytes, from the first on and with such a step, each without its last byte
-/// where that is 0.
+/// The boundaries of a split: the first key of two bytes, the step from one to the next, and their
+/// number. A last byte 0 is left out.
 pub(crate) type Parting = (u16, u16, u16);
 
 /// Into one range.
@@ -43,22 +43,22 @@ const NO_WORKERS: &[Run] = &[(WHOLE, 0), (AT_C_AND_F, 0), (AT_MANY, 65)];
 /// What a compaction answers.
 #[derive(Clone, Copy)]
 pub(crate) enum Answer {
-    /// Tables with their numbers, and the edit; where that is not named here, any.
+    /// Tables with their numbers, and the edit; any edit if none is named.
     Tables(&'static [(u64, &'static [u8])], &'static [u8]),
     /// A refusal, and the input that it is about.
     Refused(FaultName, Option<u64>),
 }
 
-/// A compaction that is asked for, and its answer in each of these runs.
+/// A compaction, and its answer in each of these runs.
 #[derive(Clone, Copy)]
 pub(crate) struct Row {
     pub name: &'static str,
-    /// The fields of an edit that put the files of a version in, and the level of which inputs are picked.
+    /// The edit's fields that add the files of a version, and the level of the inputs.
     pub files: &'static [u8],
     pub from: u64,
-    /// The level that is asked for. It is the same but where a refusal is wanted.
+    /// The level that is asked for. It is the same, unless a refusal is expected.
     pub level: u64,
-    /// The tables of the inputs, of which as many are taken.
+    /// The tables of the inputs. As many inputs are taken.
     pub tables: &'static [&'static [u8]],
     pub snapshots: Snapshots<'static>,
     pub last_sequence: u64,
@@ -66,13 +66,13 @@ pub(crate) struct Row {
     pub block_size: u64,
     pub file_size: u64,
     pub runs: &'static [Run],
-    /// For what jobs wait, and in how many runs of a board.
+    /// What jobs wait for, and in how many runs of a board.
     pub wait: Wait,
     pub boards: u64,
     pub answer: Answer,
 }
 
-/// What rows have that say nothing else. Without tables it has no input.
+/// What rows have if they say nothing else. Without tables there is no input.
 const PLAIN: Row = Row {
     name: "",
     files: b"",
@@ -203,7 +203,7 @@ const A_U_AND_U: &[u8] = b"\
     \x07\0\x07\x7f\x09a\x01\x01\0\0\0\0\0\0\x09u\x01\x05\0\0\0\0\0\0\x07\0\x08r\x09u\x01\x09\0\0\0\
     \0\0\0\x09u\x01\x09\0\0\0\0\0\0";
 
-/// Those that have tables and an edit.
+/// Rows that have tables and an edit.
 pub(crate) const WRITTEN: &[Row] = &[
     Row {
         name: "a deletion",
@@ -348,7 +348,7 @@ pub(crate) const WRITTEN: &[Row] = &[
 /// The first sequence that no snapshot may have, 2^56 - 1.
 const TOO_HIGH: u64 = 72_057_594_037_927_935;
 
-/// Those that are refused.
+/// Rows that are refused.
 pub(crate) const REFUSED: &[Row] = &[
     Row {
         name: "no input, level 6 and a high snapshot",

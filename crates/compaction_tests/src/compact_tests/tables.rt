@@ -1,4 +1,4 @@
-//! Tables, as LevelDB's format has them. Each value is `x`, and each table but one is one block.
+//! Tables in LevelDB's format. Each value is `x`, and each table but one is one block.
 
 /// `table: a@1 put x`
 pub(crate) const A: &[u8] = b"\

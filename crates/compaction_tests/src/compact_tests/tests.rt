@@ -1,4 +1,4 @@
-//! Rows of the whole: each is one answer, whatever the ranges, the number of workers and the order in which they come.
+//! Rows of the whole: each has one answer, for all ranges, numbers of workers and orders of jobs.
 
 use crate::compact_tests::gates::Held;
 use crate::compact_tests::rows::{Answer, Parting, REFUSED, Row, Run, WRITTEN};
@@ -40,7 +40,7 @@ fn picked(alloc: Global, row: &Row) -> Result<Inputs, Fault> {
     Ok(picked)
 }
 
-/// What a row asks for, of its inputs.
+/// The request of a row over these inputs.
 fn asked<'x>(row: &Row, picked: &'x Inputs) -> Request<'x> {
     Request {
         picked,
@@ -93,7 +93,7 @@ fn is_answer(answer: &Result<Outcome, Fault>, wanted: Answer) -> bool {
     }
 }
 
-/// Whether a compaction answers in each run what it has to, and no job is let go before its time.
+/// Whether a compaction has its answer in each run, and no job is let go too early.
 fn has_answer<R: AllocGlobal + Threads + Sync>(rt: &R, row: &Row) -> bool {
     for run in row.runs {
         let gate = Held::new(row.wait);
@@ -104,7 +104,7 @@ fn has_answer<R: AllocGlobal + Threads + Sync>(rt: &R, row: &Row) -> bool {
     true
 }
 
-/// How many cursors are put over the table of `a` and `f` for the range between two user keys.
+/// How many cursors are made over the table of `a` and `f` for the range between two user keys.
 fn cursors_over(alloc: Global, lower: &[u8], upper: &[u8]) -> Result<usize, Fault> {
     let table = check::<Bytewise>(alloc, A_F)?;
     let range = Range {

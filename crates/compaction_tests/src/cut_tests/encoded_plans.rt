@@ -1,4 +1,4 @@
-//! The outputs of plans, and the tables that are made of their pieces.
+//! The outputs of plans, and the tables made of their pieces.
 
 ghost use Rattle.std.specs.Prelude.{◌≡◌, map, IfOk};
 ghost use Rattle.cut.specs.Plan.{encoded};
@@ -28,7 +28,7 @@ fn encoded(alloc: Global, plan: &Plan<'_, '_, Bytewise>) -> Result<Vec<Vec<u8>>,
     Ok(pieces)
 }
 
-/// Whether a plan tells of these outputs, of which these are the tables.
+/// Whether a plan has these outputs, whose tables these are.
 fn are_outputs(
     plan: &Plan<'_, '_, Bytewise>,
     tables: &[(u64, Vec<u8>)],
@@ -52,7 +52,7 @@ fn are_outputs(
     plan.is_empty() == outputs.is_empty()
 }
 
-/// Whether the first piece has so many bytes, with which the table of the first output begins.
+/// Whether the first piece has `len` bytes, and the table of the first output begins with them.
 fn begins(pieces: &[Vec<u8>], outputs: &[Output], len: usize) -> bool {
     match (pieces.first(), outputs.first()) {
         (Some(piece), Some(output)) => piece.len() == len && output.3.starts_with(piece),
@@ -61,7 +61,7 @@ fn begins(pieces: &[Vec<u8>], outputs: &[Output], len: usize) -> bool {
     }
 }
 
-/// Whether a plan has these outputs, of so many pieces, of which the first has so many bytes.
+/// Whether a plan has these outputs and this many pieces, the first of this many bytes.
 fn has_outputs(
     alloc: Global,
     plan: &Plan<'_, '_, Bytewise>,
@@ -84,7 +84,7 @@ fn is_plan(alloc: Global, plan: &Plan<'_, '_, Bytewise>, wanted: Answer) -> Resu
     }
 }
 
-/// Whether the plan of runs is the one that a row has to have.
+/// Whether the plan of runs is the row's.
 fn is_planned(
     alloc: Global,
     row: &Row<'_>,
@@ -98,7 +98,7 @@ fn is_planned(
     }
 }
 
-/// Whether a row's plan is the one that it has to have.
+/// Whether a row has its plan.
 fn has_answer(alloc: Global, row: &Row<'_>) -> Result<bool, Fault> {
     let inputs = picked(alloc, row.files)?;
     let runs = runs_of(alloc, row, &inputs)?;
@@ -114,7 +114,7 @@ fn long_table(alloc: Global) -> Result<Vec<u8>, Fault> {
     Ok(bytes)
 }
 
-/// Whether the plan of so many entries of 2^20 bytes each is this one.
+/// Whether the plan of `count` entries of 2^20 bytes each is this one.
 fn has_answer_repeated(alloc: Global, count: usize, answer: Answer) -> Result<bool, Fault> {
     let table = long_table(alloc)?;
     let ranges = vec![in alloc; ALL; count]?;
@@ -127,13 +127,14 @@ fn has_answer_repeated(alloc: Global, count: usize, answer: Answer) -> Result<bo
     has_answer(alloc, &row)
 }
 
-/// How many bytes an output of 1,023 entries of 2^20 bytes has.
+/// The bytes of an output of 1,023 entries of 2^20 bytes.
 ///
-/// Each entry has a data block of 2^20 + 22 bytes, with its trailer 2^20 + 27. The index has entries of 15 bytes and the spelling
-/// of the offset: one byte for the first, three for the second, four for 254 and five for 767.
+/// Each entry has a data block of 2^20 + 22 bytes, 2^20 + 27 with its trailer. The index has
+/// entries of 15 bytes and a varint of the offset: one byte for the first, three for the second,
+/// four for 254 and five for 767.
 const LONGEST: u64 = 1_072_745_231;
 
-/// Whether an output may have 1,023 such entries, and not one more: it has at most 2^30 bytes.
+/// Whether an output may have 1,023 such entries, and no more: it has at most 2^30 bytes.
 fn are_limited(alloc: Global) -> Result<bool, Fault> {
     let longest = has_answer_repeated(alloc, 1_023, Answer::Length(LONGEST))?;
     let longer = has_answer_repeated(alloc, 1_024, Answer::Refused(FaultName::TooLarge))?;

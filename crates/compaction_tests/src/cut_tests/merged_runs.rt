@@ -11,7 +11,7 @@ use split::Range;
 use std::alloc::Global;
 use table::{Options, TableCursor, check};
 
-/// The sequences that stay readable: 3, 4, 5 and all from 9 on.
+/// The readable sequences: 3, 4, 5 and all from 9 on.
 const LISTED: &[u64] = &[3, 4, 5];
 
 const FLOOR: u64 = 9;
@@ -59,7 +59,7 @@ pub(crate) fn runs_of<'a>(
     Ok(runs)
 }
 
-/// The plan of runs, of blocks and files of these sizes, with a first number.
+/// The plan of runs, with these sizes of blocks and files and this first number.
 pub(crate) fn plan_of<'r, 'a>(
     alloc: Global,
     runs: &'r [RangeRun<'a>],

@@ -1,4 +1,4 @@
-//! Plans that are asked for, and what they are.
+//! Plans and what they are.
 
 use crate::cut_tests::tables::*;
 use coding::FaultName;
@@ -10,7 +10,7 @@ pub(crate) const ALL: Range<'static> = Range {
     upper: None,
 };
 
-/// Three ranges, which part at the dropped key and at a stop.
+/// Three ranges, cut at the dropped key and at a stop.
 const AT_C_AND_F: &[Range<'static>] = &[
     Range {
         lower: None,
@@ -26,25 +26,25 @@ const AT_C_AND_F: &[Range<'static>] = &[
     },
 ];
 
-/// An output: its number, how many entries and blocks it has, and its table.
+/// An output: its number, the numbers of its entries and blocks, and its table.
 pub(crate) type Output = (u64, u64, usize, &'static [u8]);
 
 /// What a plan is.
 #[derive(Clone, Copy)]
 pub(crate) enum Answer {
-    /// These outputs, and how many pieces there are and how many bytes the first has.
+    /// These outputs, the number of pieces, and the bytes of the first.
     Outputs(&'static [Output], (usize, usize)),
-    /// One output of so many bytes.
+    /// One output of this many bytes.
     Length(u64),
     /// A refusal.
     Refused(FaultName),
 }
 
-/// A plan that is asked for, of the entries of a table, and what it is.
+/// The plan of the entries of a table.
 #[derive(Clone, Copy)]
 pub(crate) struct Row<'x> {
     pub name: &'static str,
-    /// The fields of an edit that put the file of the table and its grandparents in.
+    /// The edit's fields that add the file of the table and its grandparents.
     pub files: &'static [u8],
     pub table: &'x [u8],
     /// The ranges in which the entries are merged.
@@ -55,9 +55,8 @@ pub(crate) struct Row<'x> {
     pub answer: Answer,
 }
 
-/// File 7 of level 0, from `a` at 1 to `c` at 3. It tells which grandparents there are, which are
-/// none.
-/// `edit: file 0 7 140 a@1 put .. c@3 put`
+/// File 7 of level 0, from `a` at 1 to `c` at 3, without grandparents. `edit: file 0 7 140 a@1 put
+/// .. c@3 put`
 const ALONE: &[u8] = b"\x07\0\x07\x8c\x01\x09a\x01\x01\0\0\0\0\0\0\x09c\x01\x03\0\0\0\0\0\0";
 
 /// File 7 of level 0, from `a` at 1 to `g` at 5. Files 4, 5 and 6 of level 2: `bb`, `d` and `ff`,

@@ -1,4 +1,4 @@
-//! Tables, as LevelDB's format has them. Each value is `x`.
+//! Tables in LevelDB's format. Each value is `x`.
 
 /// `table: a@1 put x, b@2 put x, c@3 del, f@4 put x, g@5 put x`
 pub(crate) const DROPPED_TABLE: &[u8] = b"\
@@ -98,8 +98,8 @@ pub(crate) const U_APART: &[u8] = b"\
     \x03\0\0\0\0\x9dI\x84TN\x08\x5b\x3a\0\0\0\0\0\0\0\0\0\0\0\0\0\0\0\0\0\0\0\0\0\0\0\0\0\0\0\0\0\
     \0\0\0\0\0\0\0W\xfb\x80\x8b\x24uG\xdb";
 
-/// What stands before and behind the value of a table of one entry, `a` at 1 with a value of 2^20 bytes of 7. The data block has
-/// 2^20 + 22 bytes.
+/// What comes before and after the value in a table of one entry, `a` at 1 with a value of 2^20
+/// bytes of 7. The data block has 2^20 + 22 bytes.
 pub(crate) const LONG_HEAD: &[u8] = b"\0\x09\x80\x80\x40a\x01\x01\0\0\0\0\0\0";
 
 pub(crate) const LONG_TAIL: &[u8] =

@@ -1,4 +1,4 @@
-//! Folders that are compacted, and what is told and left.
+//! Folders that are compacted, with their answers and the files left.
 
 use coding::FaultName;
 use keep::Snapshots;
@@ -8,11 +8,12 @@ use table::Options;
 /// Files by their names.
 pub(crate) type Files = &'static [(&'static str, &'static [u8])];
 
-/// A folder of manifest 5 and of files 7 and 8, the compaction of a level, what it tells, and files that the folder holds behind it.
+/// A folder of manifest 5 and files 7 and 8, the compaction of a level, its answer, and files that
+/// the folder has after it.
 #[derive(Clone, Copy)]
 pub(crate) struct Row {
     pub name: &'static str,
-    /// No bytes stand for `ONE_FILE`, and for `TWO_ENTRIES` as file 7.
+    /// If it is empty, `ONE_FILE` is meant, and as file 7 `TWO_ENTRIES`.
     pub manifest: &'static [u8],
     pub seven: &'static [u8],
     pub eight: &'static [u8],
@@ -28,7 +29,7 @@ pub(crate) const CURRENT: &[u8] = b"MANIFEST-000005\n";
 /// CURRENT of manifest 9.
 const NINE: (&str, &[u8]) = ("CURRENT", b"MANIFEST-000009\n");
 
-/// What is kept to by default.
+/// The default settings.
 pub(crate) const DEFAULTS: Settings<'static> = Settings {
     workers: 4,
     ranges: 8,
@@ -36,7 +37,7 @@ pub(crate) const DEFAULTS: Settings<'static> = Settings {
     options: ORDINARY,
 };
 
-/// The options by default, and the least.
+/// The default options, and the least.
 const ORDINARY: Options = Options {
     block_size: 4_096,
     restart_interval: 16,
@@ -49,7 +50,7 @@ const LEAST: Options = Options {
     file_size: 1,
 };
 
-/// The least settings, with which each entry has a block and a table of its own.
+/// The least settings: each entry is a block and a table.
 const SMALLEST: Settings<'static> = Settings {
     workers: 1,
     ranges: 1,
@@ -148,7 +149,8 @@ const AA: &[u8] = b"\
     \x17\0\0\0\0\0\0\0\0\0\0\0\0\0\0\0\0\0\0\0\0\0\0\0\0\0\0\0\0\0\0\0\0\0\0\0\0W\xfb\x80\x8b\x24u\
     G\xdb";
 
-/// What tables and manifests are left. `tests/cases` has the settings at their limits and past them, the refusals and more.
+/// The tables and manifests that are left. `tests/cases` has the settings at their limits and past
+/// them, the refusals and more.
 pub(crate) const ROWS: &[Row] = &[
     Row {
         name: "a deletion, and its manifest",

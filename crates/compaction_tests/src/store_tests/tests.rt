@@ -10,7 +10,7 @@ use std::test::*;
 use std::thread::Threads;
 use store::{Open, Settings, compact_dir};
 
-/// Bytes, or others where there are none.
+/// These bytes, or `others` if they are empty.
 fn or(bytes: &'static [u8], others: &'static [u8]) -> &'static [u8] {
     if bytes.is_empty() { others } else { bytes }
 }
@@ -63,14 +63,14 @@ fn holds(folder: &Shelf<'_>, files: Files) -> bool {
     true
 }
 
-/// Whether the compaction of a row answers and leaves what it has to.
+/// Whether the compaction of a row has its answer and leaves its files.
 fn is_compacted<R: AllocGlobal + Threads + Sync>(rt: &R, row: &Row) -> bool {
     let files = files_of(row);
     let mut folder = Shelf::new(rt.alloc(), &files);
     answers(rt, &mut folder, row, row.answer) && holds(&folder, row.left)
 }
 
-/// Whether settings are those that are kept to by default.
+/// Whether settings are the default ones.
 fn are_defaults(settings: &Settings<'_>) -> bool {
     (settings.workers, settings.ranges) == (DEFAULTS.workers, DEFAULTS.ranges)
         && matches!(settings.snapshots, Snapshots::Listed([]))
@@ -93,11 +93,12 @@ const FAILURES: &[(FolderFault, bool, FaultName)] = &[
     (FolderFault::Memory, true, FaultName::Memory),
 ];
 
-/// The calls of the compaction of the deletion: a sync of the folder, three reads, and seven of the installation, of which the
-/// last but one renames the new CURRENT.
+/// The calls of the compaction of the deletion: a sync of the folder, three reads, and seven of the
+/// installation, the last but one of which renames the new CURRENT.
 const CALLS: u64 = 11;
 
-/// What a second compaction answers: that no input is left where CURRENT was renamed, else the lines of the first.
+/// What a second compaction answers: that no input is left if CURRENT was renamed, else the lines
+/// of the first.
 fn second(call: u64, is_half_done: bool) -> Result<&'static str, FaultName> {
     if call == CALLS || (call == CALLS - 1 && is_half_done) {
         return Err(FaultName::NoInput);
@@ -105,7 +106,8 @@ fn second(call: u64, is_half_done: bool) -> Result<&'static str, FaultName> {
     Ok(LINES)
 }
 
-/// Whether the compaction of the deletion is refused at once where a call fails, and a second one goes on from what is left.
+/// Whether the compaction of the deletion makes no further call after one that fails, and a second
+/// one goes on from what is left.
 fn ends_well<R: AllocGlobal + Threads + Sync>(
     rt: &R,
     call: u64,
@@ -124,7 +126,7 @@ fn ends_well<R: AllocGlobal + Threads + Sync>(
     is_refused && calls == call && goes_on
 }
 
-/// Whether all is well whichever way a call fails.
+/// Whether this holds for each way in which a call fails.
 fn end_well<R: AllocGlobal + Threads + Sync>(rt: &R, call: u64) -> bool {
     for failure in FAILURES {
         if !ends_well(rt, call, *failure) {

@@ -1,4 +1,4 @@
--- The answers of the jobs of a compaction's runs, each job's at its place.
+-- The answers of the jobs of a compaction's runs, each at the number of its job.
 use Rattle.std.specs.Prelude.{ℕ, ◌+◌, List, [], ◌∷◌, map, Result, Ok}
 use Rattle.std.specs.declared.cmp.Ordering.{Ordering}
 use Rattle.coding.specs.declared.fault.Fault.{Fault}
@@ -10,14 +10,14 @@ use Rattle.cut.specs.Plan.{encoded}
 use Rattle.cut.specs.Planning.{PlanSeen, lists_in}
 use Rattle.request.specs.Inputs.{about, input_reading}
 
--- the answer for each input, of which the first stands at this place
+-- the answer for each input, of which the first is at this place
 abbrev pub input_answers : (List ℕ → List ℕ → Ordering) → ℕ → List InputFile → List (List ℕ)
     → List (Result (List Entry) Fault)
 input_answers cmp place (i ∷ is) (bytes ∷ others) =
     about place (input_reading cmp i.meta bytes) ∷ input_answers cmp (place + 1) is others
 input_answers cmp place _ _ = []
 
--- the answer on each range between boundaries
+-- the answer for each range between boundaries
 abbrev pub range_answers : (List ℕ → List ℕ → Ordering) → Below → List (List ℕ) → List (List Entry)
     → List (Result Run Fault)
 range_answers cmp b boundaries inputs = map (range_run cmp b inputs) (ranges_of boundaries)
@@ -26,8 +26,8 @@ range_answers cmp b boundaries inputs = map (range_run cmp b inputs) (ranges_of 
 abbrev pub piece_answers : PlanSeen → List (Result (List ℕ) Fault)
 piece_answers p = map (λ (bytes : List ℕ). Ok bytes) (encoded p.options (lists_in p.outputs))
 
--- What the second run merges: what has to be known of the entries, the boundaries, and the
--- entries of each input.
+-- What the second run merges: what the drop rule and the marks need to know, the boundaries, and
+-- the entries of each input.
 pub record Merging : Type 0 where
   pub below : Below
   pub boundaries : List (List ℕ)

@@ -1,11 +1,12 @@
--- Tables that are checked, as those of inputs.
+-- Checked tables, as those of inputs.
 use Rattle.std.specs.Prelude.{◌≡◌, ℕ, true, List, [], ◌∷◌, Ok}
 use Rattle.std.specs.declared.cmp.Ordering.{Ordering}
 use Rattle.table.specs.Reading.{Contents, contents_reading}
 use Rattle.pick.specs.declared.picked.InputFile.{InputFile}
 use Rattle.request.specs.Inputs.{is_stated}
 
--- each table is that of the input at its place: its bytes read as it, and it is what the version states of the file
+-- each table is that of the input at its place: its bytes read as it, and it is as the version
+-- states
 abbrev pub AreInputs : (List ℕ → List ℕ → Ordering) → List InputFile → List Contents → Type 0
 AreInputs cmp [] [] = Unit {0}
 AreInputs cmp [] (t ∷ ts) = ⊥

@@ -28,12 +28,12 @@ planned_file level p = record {
 abbrev pub planned_files : RequestView → List Planned → List NewFile
 planned_files r plan = map (planned_file (r.picked.level + 1)) plan
 
--- the answer of planned outputs, each of which is written as this table
+-- the answer of planned outputs, with the table of each
 abbrev pub answer_of : (List Entry → List ℕ) → RequestView → List Planned → Answer
 answer_of table_of r plan =
     record { tables = assembled table_of plan; edit = edit_bytes (edit_of r (planned_files r plan)) }
 
--- what is answered of the entries of the outputs: the plan's refusal, or the answer of the plan
+-- the answer for the entries of the outputs: the plan's refusal, or the answer of the plan
 abbrev pub written_of : (List Entry → List ℕ) → RequestView → List (List Entry)
     → Result Answer Fault
 written_of table_of r outputs =

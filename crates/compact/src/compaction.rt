@@ -32,22 +32,26 @@ use std::thread::Threads;
 use survival::reads_survive;
 use table::SoundTable;
 
-/// Carries out a compaction by 1 to 64 workers, and answers its tables and its edit: just what one
-/// thread answers, whatever the ranges of the split, the number of workers and the order in which
-/// they come to their jobs.
+/// Compacts by 1 to 64 workers, and answers the tables and the edit: just what one thread answers,
+/// whatever the ranges of the split, the number of workers and the order of their jobs.
 ///
 /// It checks the tables of the inputs itself, and then calls [`compact_tables`]. The program calls
 /// that function, since it has checked all tables of its folder before.
 ///
-/// Reads survive: where the inputs were picked from a lawful version and the request has its
-/// tables' bytes, its counters and a first number at or above its next file, the edit applies, the
-/// version after it is lawful with the outputs, and each get at a sequence that stays readable
-/// answers as before.
+/// Reads survive (`LeavesReads`). Premises (`IsOver`): the inputs were picked from a lawful version
+/// with files at levels up to 6; the request has the bytes of their tables, log numbers below 2^64,
+/// and a first number at or above the version's next file. Then the edit applies, the version after
+/// it is lawful with the outputs, and each get at a readable sequence answers as before.
 ///
-/// `Workers` where these are not from 1 to 64. Else the first refusal of the request, as
-/// `Request::check` has it; else that of the first input that has one, with its place; else
-/// `Duplicate` where the inputs hold one user key and sequence twice; else `Numbers` or `TooLarge`
-/// of the outputs; else refused for want of memory alone.
+/// The first that applies:
+///
+/// - `Workers`: `workers` is outside 1 to 64.
+/// - What `Request::check` refuses.
+/// - The fault of the first invalid input, with its place.
+/// - `Duplicate`: the inputs have one user key and sequence twice.
+/// - `Numbers` or `TooLarge` of the outputs.
+///
+/// The only other fault is `Memory`.
 pub fn compact<'a, C: SharedComparator + 'static, G: Gate + Sync, R: Threads + Sync>(
     rt: &R,
     alloc: Global,
@@ -67,14 +71,19 @@ pub fn compact<'a, C: SharedComparator + 'static, G: Gate + Sync, R: Threads + S
     compact_tables(rt, alloc, request, &tables, split, workers, gate)
 }
 
-/// Carries out a compaction over tables that are checked already, those of the request's inputs in
-/// their order: just what [`compact`] answers. No table is checked again.
+/// Compacts tables that are checked already, those of the request's inputs in their order: just
+/// what [`compact`] answers. It checks no table again.
 ///
 /// The program's call, and the last step of [`compact`].
 ///
-/// `Workers` where these are not from 1 to 64. Else the first refusal of the request, as
-/// `Request::check` has it; else `Duplicate` where the tables hold one user key and sequence twice;
-/// else `Numbers` or `TooLarge` of the outputs; else refused for want of memory alone.
+/// The first that applies:
+///
+/// - `Workers`: `workers` is outside 1 to 64.
+/// - What `Request::check` refuses.
+/// - `Duplicate`: the tables have one user key and sequence twice.
+/// - `Numbers` or `TooLarge` of the outputs.
+///
+/// The only other fault is `Memory`.
 pub fn compact_tables<'t, C: SharedComparator + 'static, G: Gate + Sync, R: Threads + Sync>(
     rt: &R,
     alloc: Global,
@@ -153,7 +162,7 @@ fn write_runs<'r, 'a, C: SharedComparator + 'static, G: Gate + Sync, R: Threads 
     write_plan(rt, alloc, request, &plan, workers, gate)
 }
 
-/// The law that the boundaries of a split rise. A call changes nothing.
+/// The boundaries of a split rise. A call does nothing.
 fn split_law<C: Comparator>(split: &Split<C>)
     ensures { IsSplit C.cmp split.now }
 {

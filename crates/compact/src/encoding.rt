@@ -38,10 +38,10 @@ impl<'p, C: Comparator + 'static> Labour for Encodes<'p, C> {
     }
 }
 
-/// Encodes the pieces of a plan by 1 to 64 workers, a piece a job, and answers their bytes in order. There are at most 2^40
-/// pieces.
+/// Encodes the pieces of a plan by 1 to 64 workers, a piece a job, and answers their bytes in
+/// order. There are at most 2^40 pieces.
 ///
-/// `Workers` where these are not from 1 to 64; else refused for want of memory alone.
+/// `Workers` if `workers` is outside 1 to 64. The only other fault is `Memory`.
 pub(crate) fn encode_pieces<'p, C: SharedComparator + 'static, G: Gate + Sync, R: Threads + Sync>(
     rt: &R,
     alloc: Global,

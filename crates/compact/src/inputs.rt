@@ -48,12 +48,14 @@ impl<'r, 't, C: Comparator> Labour for Checks<'r, 't, C> {
 /// Checks the inputs of a compaction by 1 to 64 workers, a table a job, and answers the tables in
 /// order. There are at most 256 inputs.
 ///
-/// Of each input the bytes have to be a table, else the refusal is that of `table::check`, and the
-/// table has to have the size, the smallest and the largest key that the version states, else it is
-/// `Bounds`. The refusal is that of the first input that has one, and names its place, whichever
-/// worker came first. `Workers` where these are not from 1 to 64.
+/// The first that applies:
 ///
-/// Else refused for want of memory alone, which is about no input.
+/// - `Workers`: `workers` is outside 1 to 64.
+/// - The fault of the first input that has one, with its place, whichever worker is first. It is
+///   what `table::check` refuses of its bytes; else `Bounds`, if size, smallest or largest key
+///   isn't as the version states.
+///
+/// The only other fault is `Memory`, about no input.
 pub fn check_inputs<'t, C: SharedComparator, G: Gate + Sync, R: Threads + Sync>(
     rt: &R,
     alloc: Global,
@@ -76,7 +78,7 @@ pub fn check_inputs<'t, C: SharedComparator, G: Gate + Sync, R: Threads + Sync>(
     Ok(run(rt, alloc, &checks, jobs, workers, gate)?)
 }
 
-/// The table of the input whose place a job's number is.
+/// The table of the input whose place is the number of the job.
 fn check_at<'t, C: Comparator>(
     alloc: Global,
     files: &[InputFile],
@@ -108,7 +110,7 @@ fn check_input<'t, C: Comparator>(
     }
 }
 
-/// The fault, about the input at a place. Want of memory is about no input.
+/// The fault, about the input at a place. Memory is about no input.
 fn about(fault: Fault, place: u64) -> Fault
     ensures { (answer : Result (List Entry) _) → FailsOrMemory fault answer → FailsOrMemory result (about place answer) }
 {
@@ -121,7 +123,7 @@ fn about(fault: Fault, place: u64) -> Fault
     }
 }
 
-/// The table of an input, where its bytes are one, and the one that the version states.
+/// The table of an input, if its bytes are a table and it is as the version states.
 fn read_input<'t, C: Comparator>(
     alloc: Global,
     file: &FileMeta,
@@ -136,7 +138,7 @@ fn read_input<'t, C: Comparator>(
     Ok(table)
 }
 
-/// Whether a version states a table's length, its first and its last key.
+/// Whether a table's length, smallest and largest key are as the version states.
 fn is_stated<C: Comparator>(file: &FileMeta, table: &SoundTable<'_, C>) -> bool
     ensures { result ≡ is_stated file.now table.now }
 {

@@ -1,9 +1,11 @@
-//! Compaction of tables by workers that steal jobs, in three runs of a board.
+//! Compaction of tables by workers that steal jobs, in three runs of a board:
 //!
-//! The first run checks the inputs, a table a job ([`check_inputs`]). The second merges them, a range of user keys a job
-//! ([`merge_ranges`]). The third encodes the pieces of the outputs' plan, a piece a job. [`compact`] does all three, and
-//! [`compact_tables`] the last two, over tables that are checked already. What is answered says nothing of workers or the
-//! order in which they came to their jobs.
+//! 1. [`check_inputs`] checks the inputs, a table a job.
+//! 2. [`merge_ranges`] merges them, a range of user keys a job. Then one thread plans the outputs.
+//! 3. The pieces of the plan are encoded, a piece a job, and joined to tables.
+//!
+//! [`compact`] does all of it; [`compact_tables`] the last two runs, over tables that are checked
+//! already. The answer doesn't depend on the workers, nor on the order in which they do their jobs.
 #![tactic(auto)]
 
 mod compaction;

@@ -78,9 +78,13 @@ impl<'r, 't, C: Comparator + 't + 'static> Labour for Merges<'r, 't, C> {
 /// of the ranges in order.
 ///
 /// `listed` and `floor` say which sequences stay readable, as in `keep::merge_range`. For each
-/// range a worker makes cursors of its own over the tables that reach into it, and all share the
-/// tables. `Workers` where these are not from 1 to 64. `Duplicate` where the tables hold one user
-/// key and sequence twice, whichever range that lies in. Else refused for want of memory alone.
+/// range a worker makes its own cursors over the tables that reach into it; all workers share the
+/// tables.
+///
+/// - `Workers`: `workers` is outside 1 to 64.
+/// - `Duplicate`: the tables have one user key and sequence twice, in whichever range.
+///
+/// The only other fault is `Memory`.
 pub fn merge_ranges<'t, C: SharedComparator + 'static, G: Gate + Sync, R: Threads + Sync>(
     rt: &R,
     alloc: Global,
@@ -111,7 +115,7 @@ pub fn merge_ranges<'t, C: SharedComparator + 'static, G: Gate + Sync, R: Thread
     Ok(run(rt, alloc, &merges, split.len(), workers, gate)?)
 }
 
-/// A reference to each table. Refused if memory runs out, and for no other reason.
+/// A reference to each table. The only fault is Memory.
 fn lent_tables<'r, 't, C: Comparator>(
     alloc: Global,
     tables: &'r [SoundTable<'t, C>],

@@ -6,10 +6,10 @@ ghost use Rattle.table.specs.ReadingSteps.{pass};
 
 use coding::{Fault, FaultName};
 
-/// The most workers.
+/// The most workers of a compaction.
 const MAX_WORKERS: u64 = 64;
 
-/// Tests a number of workers: `Workers` where it is not from 1 to 64. Takes no memory.
+/// `Workers` if `workers` is outside 1 to 64. It takes no memory.
 pub(crate) fn check_workers(workers: u64) -> Result<(), Fault>
     ensures { result ≡ pass (nat_le 1 workers && nat_le workers 64) Workers }
 {

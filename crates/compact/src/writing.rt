@@ -19,9 +19,10 @@ use request::Request;
 use std::alloc::Global;
 use std::thread::Threads;
 
-/// Encodes the pieces of a plan by 1 to 64 workers, joins them to the tables of the outputs, and writes the edit.
+/// Encodes the pieces of a plan by 1 to 64 workers, joins them to the tables of the outputs, and
+/// makes the edit.
 ///
-/// Refused for want of memory alone.
+/// The only fault is `Memory`.
 pub(crate) fn write_plan<'p, C: SharedComparator + 'static, G: Gate + Sync, R: Threads + Sync>(
     rt: &R,
     alloc: Global,

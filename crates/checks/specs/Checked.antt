@@ -1,4 +1,4 @@
--- The tables of a version, each of them checked.
+-- The tables of a version, each checked.
 use Rattle.std.specs.Prelude.{ℕ, List, [], ◌∷◌, map, Result, Ok}
 use Rattle.std.specs.declared.cmp.Ordering.{Ordering}
 use Rattle.coding.specs.Answers.{◌>>=◌}
@@ -10,7 +10,7 @@ use Rattle.reads.specs.Tables.{Numbered}
 abbrev pub numbered_reading : (List ℕ → List ℕ → Ordering) → ℕ × List ℕ → Result Numbered Fault
 numbered_reading cmp table = contents_reading cmp table.1 >>= λ contents. Ok (record { number = table.0; contents = contents })
 
--- each of the tables in order, or the refusal of the first of them that is refused
+-- all tables in order, or the refusal of the first that is invalid
 abbrev pub tables_reading : (List ℕ → List ℕ → Ordering) → List (ℕ × List ℕ) → Result (List Numbered) Fault
 tables_reading cmp [] = Ok []
 tables_reading cmp (t ∷ ts) = do
@@ -18,6 +18,6 @@ tables_reading cmp (t ∷ ts) = do
   others ← tables_reading cmp ts
   Ok (first ∷ others)
 
--- what is answered of each table by itself
+-- the answer for each table by itself
 abbrev pub table_answers : (List ℕ → List ℕ → Ordering) → List (ℕ × List ℕ) → List (Result Numbered Fault)
 table_answers cmp tables = map (numbered_reading cmp) tables

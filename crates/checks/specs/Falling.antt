@@ -1,4 +1,4 @@
--- What a walk of one range of user keys tells of tables.
+-- What a walk over one range of user keys finds.
 use Rattle.std.specs.Prelude.{◌≡◌, ◌↔◌, ℕ, Bool, true, List}
 use Rattle.std.specs.declared.cmp.Ordering.{Ordering}
 use Rattle.block.specs.Piece.{Entry}
@@ -6,6 +6,6 @@ use Rattle.merge.specs.Merged.{joined}
 use Rattle.split.specs.Ranges.{range_at, IsIn}
 use Rattle.reads.specs.Standing.{AreFallingIn}
 
--- whether the entries of lists fall in the range of a number
+-- whether the entries of the lists, read one after the other, fall in the range of this number
 abbrev pub TellsRange : (List ℕ → List ℕ → Ordering) → List (List ℕ) → List (List Entry) → ℕ → Bool → Type 0
 TellsRange cmp boundaries lists number falls = (falls ≡ true) ↔ AreFallingIn (IsIn cmp (range_at boundaries number)) (joined lists)

@@ -40,9 +40,10 @@ impl<'t, C: Comparator> Labour for Checks<'t, C> {
     }
 }
 
-/// The tables of these numbers and bytes, of which there are at most 2^40, checked by 1 to 64 workers, a table a job.
+/// The tables of these numbers and bytes, checked by 1 to 64 workers, a table a job. There are at
+/// most 2^40.
 ///
-/// Refused by the first of them that is no table, by the first test that it fails.
+/// Refused as the first invalid table is, by the first test that it fails.
 pub(crate) fn check_round<'t, C: SharedComparator, G: Gate + Sync, R: Threads + Sync>(
     rt: &R,
     alloc: Global,
@@ -63,7 +64,7 @@ pub(crate) fn check_round<'t, C: SharedComparator, G: Gate + Sync, R: Threads + 
     Ok(run(rt, alloc, &checks, loaded.len() as u64, workers, gate)?)
 }
 
-/// The table whose place a job's number is.
+/// The table whose place is the number of the job.
 fn check_at<'t, C: Comparator>(
     alloc: Global,
     loaded: &'t [(u64, Vec<u8>)],
@@ -78,7 +79,7 @@ fn check_at<'t, C: Comparator>(
     check_table(alloc, *number, bytes)
 }
 
-/// The table of a number and of bytes, where these are one.
+/// The table of a number and bytes, if these are a table.
 fn check_table<'t, C: Comparator>(
     alloc: Global,
     number: u64,

@@ -19,7 +19,7 @@ use std::alloc::Global;
 use std::thread::Threads;
 use table::SoundTable;
 
-/// Tables, walked in the ranges of a split, each a job.
+/// The tables, walked in the ranges of a split, each range a job.
 #[derive(Drop)]
 struct Falls<'r, 't, C: Comparator + 'static> {
     alloc: Global,
@@ -44,11 +44,10 @@ impl<'r, 't, C: Comparator + 't + 'static> Labour for Falls<'r, 't, C> {
     }
 }
 
-/// Whether of each user key each entry is newer than those behind it, where the entries of each
-/// table stand behind those of the tables before it.
+/// Whether, for each user key, sequences strictly decrease if the tables are read one after the
+/// other.
 ///
-/// The ranges of the split are walked by 1 to 64 workers, a range a job. Refused for want of memory
-/// alone.
+/// The ranges of the split are walked by 1 to 64 workers, a range a job. The only fault is Memory.
 pub(crate) fn entries_fall<'t, C: SharedComparator + 'static, G: Gate + Sync, R: Threads + Sync>(
     rt: &R,
     alloc: Global,
@@ -87,7 +86,7 @@ fn are_all_true(found: &[bool]) -> bool
     found.iter().all(|it| *it)
 }
 
-/// Whether the entries of tables fall in the range of a number. Refused for want of memory alone.
+/// Whether the entries of the tables fall in the range of this number. The only fault is Memory.
 fn falls_at<'t, C: Comparator + 't>(
     alloc: Global,
     tables: &[&SoundTable<'t, C>],

@@ -1,8 +1,11 @@
-//! Tables that were read from a folder, checked by workers, a table a job.
+//! Tables that were read from a folder, checked by workers.
 //!
-//! [`check_tables`] checks them, and [`lawful_tables`] asks then whether a version is lawful with them. What is answered says
-//! nothing of workers or the order in which they came to their jobs. A [`Watch`] is a gate that is told which long work on a folder its
-//! jobs belong to.
+//! 1. [`check_tables`] checks them, a table a job.
+//! 2. [`lawful_tables`] does that, and then tests whether a version is lawful with them, a range of
+//!    user keys a job.
+//!
+//! The answer doesn't depend on the workers, nor on the order in which they do their jobs. A
+//! [`Watch`] is a gate that is told to which long work on a folder its jobs belong.
 #![tactic(auto)]
 
 mod checking;

@@ -1,4 +1,4 @@
-//! The check of all tables, in as many rounds as a board's number of jobs asks for.
+//! The check of all tables, in rounds: a board has at most 2^40 jobs.
 
 ghost use Rattle.std.specs.Prelude.{◌<◌, ◌≤◌, map};
 ghost use Rattle.coding.specs.Answers.{EqualOrMemory};
@@ -15,10 +15,11 @@ use std::thread::Threads;
 /// The most jobs of a board, 2^40.
 const MOST_JOBS: usize = 1_099_511_627_776;
 
-/// Checks the tables of these numbers and bytes by 1 to 64 workers, a table a job, and answers them in order.
+/// Checks the tables of these numbers and bytes by 1 to 64 workers, a table a job, and answers them
+/// in order.
 ///
-/// Refused by the first of them that is no table, by the first test of `table::check` that it fails, whichever worker came
-/// first. Else refused for want of memory alone.
+/// Refused as the first invalid table is, by the first test of `table::check` that it fails,
+/// whichever worker is first. The only other fault is Memory.
 pub fn check_tables<'t, C: SharedComparator, G: Gate + Sync, R: Threads + Sync>(
     rt: &R,
     alloc: Global,

@@ -1,4 +1,5 @@
-//! Boundaries between ranges of about one size, taken from the tables' indexes.
+//! Boundaries between ranges of about one size, taken from the tables' indexes. Which boundaries
+//! these are changes no answer, so no contract says which.
 
 ghost use Rattle.std.specs.Prelude.{◌≡◌, ◌<◌, IfErr, IsOkUnless};
 ghost use Rattle.coding.specs.Answers.{fault};
@@ -10,13 +11,13 @@ use split::Split;
 use std::alloc::Global;
 use table::SoundTable;
 
-/// How many boundaries all tables give together, or a few more.
+/// About how many boundaries all tables give together.
 const BOUNDARIES: usize = 64;
 
-/// Of how many tables boundaries are taken at most.
+/// The most tables of which boundaries are taken.
 const MOST_TABLES: usize = 1024;
 
-/// A split of the tables' user keys into ranges of about one size. Refused for want of memory alone.
+/// A split of the tables' user keys into ranges of about one size. The only fault is Memory.
 pub(crate) fn sampled_split<C: Comparator>(
     alloc: Global,
     tables: &[&SoundTable<'_, C>],
@@ -31,7 +32,7 @@ pub(crate) fn sampled_split<C: Comparator>(
     }
 }
 
-/// User keys of the tables' indexes, in no order. Refused for want of memory alone.
+/// User keys of the tables' indexes, in no order. The only fault is Memory.
 fn sampled_keys<C: Comparator>(
     alloc: Global,
     tables: &[&SoundTable<'_, C>],
@@ -49,7 +50,7 @@ fn sampled_keys<C: Comparator>(
     Ok(keys)
 }
 
-/// Appends the user key of each so manieth entry of a table's index. Refused for want of memory alone.
+/// Appends about `wanted` user keys of a table's index, in equal steps. The only fault is Memory.
 fn push_keys<C: Comparator>(
     alloc: Global,
     keys: &mut Vec<Vec<u8>>,
@@ -69,7 +70,8 @@ fn push_keys<C: Comparator>(
     Ok(())
 }
 
-/// Keys in order without those that aren't above the one before. Refused for want of memory alone.
+/// The keys, which are in order, without those that aren't above the one before. The only fault is
+/// Memory.
 fn rising<C: Comparator>(alloc: Global, keys: Vec<Vec<u8>>) -> Result<Vec<Vec<u8>>, Fault>
     ensures memory { IfErr result (λ e. e ≡ fault Memory) }
 {

@@ -17,10 +17,11 @@ use reads::{NumberedTable, standing_tables};
 use std::alloc::Global;
 use std::thread::Threads;
 
-/// The tables of these numbers and bytes, checked by 1 to 64 workers, with which a version is lawful.
+/// The tables of these numbers and bytes, checked by 1 to 64 workers, with which a version is
+/// lawful.
 ///
-/// Refused by the first of them that is no table, as `check_tables` refuses it, and then where the version isn't lawful with
-/// them, as `reads::lawful` refuses it. Else refused for want of memory alone.
+/// The first that applies: the refusal of the first invalid table, as of `check_tables`; then that
+/// of the version, as of `reads::lawful`. The only other fault is Memory.
 pub fn lawful_tables<'t, C: SharedComparator + 'static, G: Gate + Sync, R: Threads + Sync>(
     rt: &R,
     alloc: Global,
@@ -39,8 +40,8 @@ pub fn lawful_tables<'t, C: SharedComparator + 'static, G: Gate + Sync, R: Threa
     Ok(tables)
 }
 
-/// Whether a version is lawful with these tables, as `reads::lawful` has it, where the entries of one user key are walked by 1 to 64
-/// workers, a range of user keys a job.
+/// Tests whether a version is lawful with these tables, as `reads::lawful` does. The entries of
+/// each user key are walked by 1 to 64 workers, a range of user keys a job.
 fn lawful<'t, C: SharedComparator + 'static, G: Gate + Sync, R: Threads + Sync>(
     rt: &R,
     alloc: Global,

@@ -2,18 +2,19 @@
 
 use board::{Gate, Open};
 
-/// Long work in jobs, which goes on in two parts.
+/// Long work in jobs, in two parts.
 #[derive(Clone, Copy, Debug, PartialEq, Eq)]
 pub enum Work {
-    /// Tables are checked, a table a job, and then their entries are tested, a range of user keys a job.
+    /// Tables are checked, a table a job; then their entries are tested, a range of user keys a
+    /// job.
     Check,
-    /// Tables are merged, a range of user keys a job, and then the outputs are encoded, a piece a job.
+    /// Tables are merged, a range of user keys a job; then the outputs are encoded, a piece a job.
     Compact,
 }
 
-/// A gate that is told what the jobs do that pass it.
+/// A gate that is told to which work the jobs belong that pass it.
 pub trait Watch: Gate {
-    /// The jobs that pass from here on are those of this work: so many of its first part, and behind them those of its second,
+    /// The following jobs belong to `work`: `jobs` in its first part, then those of its second,
     /// whose number isn't known yet.
     fn begin(&self, work: Work, jobs: u64);
 }

@@ -13,34 +13,36 @@ use std::rt::Files;
 use std::test::Fail;
 use std::thread::Threads;
 
-/// What is tried in a folder of the system, some of whose tables somebody writes anew once they were read ahead.
+/// What is tried in a folder of the system. Some of its tables are written anew after they were
+/// read ahead.
 #[derive(Clone, Copy, Drop)]
 struct Trial {
     /// The manifest that gives the version.
     manifest: &'static [u8],
-    /// The orders in which its tables are read ahead, and are loaded then.
+    /// The orders in which its tables are read ahead, and then loaded.
     orders: (Order, Order),
     /// Whether there is a folder.
     is_there: bool,
-    /// Whether a folder stands in place of the table of number 5.
+    /// Whether a folder takes the place of the table of number 5.
     has_inner: bool,
-    /// The files that are there then.
+    /// The files of the folder.
     files: NamedFiles,
-    /// Those that somebody writes anew.
+    /// Those that are written anew after that.
     anew: NamedFiles,
-    /// A file that is read before tables are loaded, and what it holds.
+    /// A file that is read before tables are loaded, and its bytes.
     read: (&'static str, Option<&'static [u8]>),
     /// Files that are made then.
     made: NamedFiles,
-    /// The tables that are loaded, or how they are refused.
+    /// The tables that are loaded, or the refusal.
     loaded: Result<Tables, FaultName>,
-    /// Those that are loaded behind these: each is handed out once.
+    /// Those that are loaded after them: bytes that were read ahead are used once.
     later: Result<Tables, FaultName>,
     /// How often the device failed.
     failures: u64,
 }
 
-/// The tables of the three files: that of number 3 has its older name, and that of number 5 both. Two are written anew.
+/// The tables of the three files: that of number 3 has its older name, that of number 5 has both.
+/// Two are written anew.
 const THREE: Trial = Trial {
     manifest: THREE_FILES,
     orders: (Order::Bytewise, Order::Bytewise),
@@ -64,7 +66,7 @@ const THREE: Trial = Trial {
     failures: 0,
 };
 
-/// The tables that are loaded then.
+/// The tables that are loaded after them.
 const LATER: Result<Tables, FaultName> = Ok(&[
     (8, b"eight, later"),
     (3, b"three, later"),
@@ -78,7 +80,8 @@ const SHORTER_FIRST: &[u8] = b"\
     \x04\x07\x01\x04d\x0aaa\x01\x01\0\0\0\0\0\0\x0aaa\x01\x01\0\0\0\0\0\0\x07\x01\x06d\x09b\x01\
     \x01\0\0\0\0\0\0\x09b\x01\x01\0\0\0\0\0\0";
 
-/// Their tables, which are loaded in this order as they were read ahead, and then as they were written anew.
+/// Their tables. First they are loaded in this order as they were read ahead, then as they were
+/// written anew.
 const TWO: Trial = Trial {
     manifest: SHORTER_FIRST,
     orders: (Order::Shortlex, Order::Shortlex),
@@ -206,17 +209,19 @@ const NOTHING: Trial = Trial {
 };
 
 const TRIALS: &[Trial] = &[
-    // Names of other files change nothing of it. What was read ahead is handed out. What wasn't there then is looked for again.
+    // Reads of other names change nothing. What was read ahead is used. What was missing then is
+    // looked for again.
     Trial {
         loaded: Ok(&[(8, b"eight"), (3, b"three, later"), (5, b"five")]),
         ..THREE
     },
-    // A file that is made forgets what was read ahead.
+    // After a file is made, what was read ahead is not used.
     Trial {
         made: &[("CURRENT", b"text")],
         ..THREE
     },
-    // Tables that are passed over are forgotten: those before the last of them, and all before one that isn't among them.
+    // Tables that are passed over are dropped: those before the one that is asked for, and all if
+    // it isn't among them.
     Trial {
         read: ("000005.ldb", Some(b"five")),
         ..THREE
@@ -226,7 +231,7 @@ const TRIALS: &[Trial] = &[
         ..THREE
     },
     TWO,
-    // In another order the first of them is passed over.
+    // In another order the first table is passed over.
     Trial {
         orders: (Order::Bytewise, Order::Shortlex),
         loaded: Ok(&[(6, b"six"), (4, b"four, later")]),
@@ -242,7 +247,7 @@ const TRIALS: &[Trial] = &[
         failures: 2,
         ..NOTHING
     },
-    // The older name is there, but this one comes first.
+    // The older name is there, but this one is asked for first.
     Trial {
         has_inner: true,
         files: &[
@@ -255,13 +260,13 @@ const TRIALS: &[Trial] = &[
         failures: 2,
         ..NOTHING
     },
-    // What is missing before it comes first.
+    // A table before it is missing, which is the first refusal.
     Trial {
         has_inner: true,
         files: &[("000008.ldb", b"eight")],
         ..NOTHING
     },
-    // No folder. The device fails its sync, and its tables are missing.
+    // No folder: the device fails its sync, and its tables are missing.
     Trial {
         is_there: false,
         failures: 1,
@@ -269,7 +274,7 @@ const TRIALS: &[Trial] = &[
     },
 ];
 
-/// Whether these tables of a version are loaded, or refused so.
+/// Whether these tables of a version are loaded, or the refusal is this one.
 fn loads<F: Folder>(
     alloc: Global,
     disk: &mut F,
@@ -284,7 +289,7 @@ fn loads<F: Folder>(
     are_loaded(answer, wanted)
 }
 
-/// Whether a folder is answered as its trial has it. A sync of the folder forgets nothing.
+/// Whether a folder has the answers of its trial. A sync of the folder drops nothing.
 fn is_answered<F: Folder>(alloc: Global, disk: &mut F, version: &Version, trial: &Trial) -> bool {
     let (_, order) = trial.orders;
     disk.sync_folder().is_ok() == trial.is_there
@@ -295,7 +300,7 @@ fn is_answered<F: Folder>(alloc: Global, disk: &mut F, version: &Version, trial:
         && disk.failures() == trial.failures
 }
 
-/// Whether that is so once tables were read ahead. One handle reads, and another one writes.
+/// Whether it has them after tables were read ahead. One handle reads, and another one writes.
 fn is_right_ahead<R: Files + WholeFiles + Threads + AllocGlobal>(
     rt: &R,
     path: &str,
@@ -308,7 +313,7 @@ fn is_right_ahead<R: Files + WholeFiles + Threads + AllocGlobal>(
         && is_answered(rt.alloc(), &mut disk, version, trial)
 }
 
-/// The same, of the version that the trial's manifest gives.
+/// The same of the version that the trial's manifest gives.
 fn is_right_at<R: Files + WholeFiles + Threads + AllocGlobal>(
     rt: &R,
     path: &str,
@@ -320,8 +325,9 @@ fn is_right_at<R: Files + WholeFiles + Threads + AllocGlobal>(
     }
 }
 
-/// Whether that is so in a folder that is made for it, with a folder in it where there has to be one, and is taken away then.
-/// Where none has to be there, whether it is so of the empty path and of one that leads nowhere.
+/// Whether that holds in a folder that is made for it and then removed, with a folder in it if the
+/// trial has one. If the trial has no folder, whether it holds of the empty path and of one that
+/// leads nowhere.
 fn is_right_in<R: Files + WholeFiles + Threads + AllocGlobal>(
     rt: &R,
     (path, inner): (&str, &str),

@@ -13,7 +13,7 @@ pub(crate) fn new_path(rt: &HostRuntime, name: &str) -> Result<String, Fail> {
     Ok(format!(in rt.alloc(); "{base}/sedvokt-{id}-{name}")?)
 }
 
-/// Makes files, and answers whether that was done.
+/// Makes these files. Whether all were made.
 pub(crate) fn makes(disk: &mut impl Folder, files: &[(&str, &[u8])]) -> bool {
     for (name, bytes) in files {
         if disk.create(name, bytes).is_err() {
@@ -23,7 +23,7 @@ pub(crate) fn makes(disk: &mut impl Folder, files: &[(&str, &[u8])]) -> bool {
     true
 }
 
-/// Whether a file has these bytes, and None stands for no file.
+/// Whether a file has these bytes, or is missing if `wanted` is None.
 pub(crate) fn has(disk: &mut impl Folder, name: &str, wanted: Option<&[u8]>) -> bool {
     match disk.read(name) {
         Ok(Some(bytes)) => wanted == Some(bytes.as_slice()),
@@ -32,7 +32,7 @@ pub(crate) fn has(disk: &mut impl Folder, name: &str, wanted: Option<&[u8]>) -> 
     }
 }
 
-/// Whether a file is made twice and gets the name CURRENT.
+/// Whether a file is made twice and renamed to CURRENT.
 fn is_renamed(disk: &mut impl Folder) -> bool {
     makes(disk, &[("1", b"a longer text"), ("1", b"text")])
         && disk.sync("1").is_ok()
@@ -40,7 +40,7 @@ fn is_renamed(disk: &mut impl Folder) -> bool {
         && disk.sync_folder().is_ok()
 }
 
-/// Whether that file has its other name then, and that alone, and no call failed.
+/// Whether that file then has its other name, and only that, and no call failed.
 fn gets_its_name(disk: &mut impl Folder) -> bool {
     has(disk, "CURRENT", None)
         && is_renamed(disk)
@@ -49,7 +49,7 @@ fn gets_its_name(disk: &mut impl Folder) -> bool {
         && disk.failures() == 0
 }
 
-/// Whether the system refuses calls on what is no file.
+/// Whether the system refuses calls on names without a file.
 fn refuses_names(disk: &mut impl Folder) -> bool {
     disk.sync("1") == Err(FolderFault::Device)
         && disk.rename("1", "2") == Err(FolderFault::Device)
@@ -57,14 +57,15 @@ fn refuses_names(disk: &mut impl Folder) -> bool {
         && disk.read(".").is_err()
 }
 
-/// Whether the system refuses calls on a folder that isn't there, and five calls were refused by then.
+/// Whether the system refuses calls on a missing folder, and five calls were refused by then.
 fn refuses_all(disk: &mut impl Folder) -> bool {
     disk.sync_folder() == Err(FolderFault::Device)
         && disk.create("1", b"text") == Err(FolderFault::Device)
         && disk.failures() == 5
 }
 
-/// Whether all of that is so in a folder of the system that is made for it, and is taken away in the meantime.
+/// Whether all of that holds in a folder of the system that is made for it, and is removed in
+/// between.
 fn is_right(rt: &HostRuntime, path: &str) -> bool {
     let mut disk = Disk::new(rt, path);
     fs::create_dir(rt, path).is_ok()

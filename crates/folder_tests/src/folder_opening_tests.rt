@@ -27,9 +27,8 @@ const NUMBERS: &[u8] = b"\x02\x03\x09\0\x03\x09\x04\x04";
 /// `edit: log 3, next 6, last 4`
 const NO_PREVIOUS: &[u8] = b"\x02\x03\x03\x06\x04\x04";
 
-/// A new file at level 1, of number 7 and 125 bytes, from a deletion of `u` at sequence 4 to a
-/// value of it at 2.
-/// `edit: file 1 7 125 u@4 del .. u@2 put`
+/// A new file at level 1, of number 7 and 125 bytes, from a deletion of `u` at sequence 4 to a put
+/// of it at 2. `edit: file 1 7 125 u@4 del .. u@2 put`
 const SEVEN: &[u8] = b"\x07\x01\x07\x7d\x09u\0\x04\0\0\0\0\0\0\x09u\x01\x02\0\0\0\0\0\0";
 
 /// `edit: delete 1 8`
@@ -38,10 +37,10 @@ const ABSENT: &[u8] = b"\x06\x01\x08";
 /// The order of a folder, and its log number, previous log number, next file and last sequence.
 type Opened = (Order, [Option<u64>; 4]);
 
-/// The same, as a row has it, or how a folder is refused.
+/// The same in a row, or the refusal of the folder.
 type Wanted = Result<(Order, &'static [Option<u64>]), FaultName>;
 
-/// Records of a manifest, and what its folder has.
+/// Records of a manifest, and what its folder opens as.
 type Records = (&'static [&'static [u8]], Wanted);
 
 const RECORDS: &[Records] = &[
@@ -54,7 +53,7 @@ const RECORDS: &[Records] = &[
         &[SHORTLEX, NO_PREVIOUS],
         Ok((Order::Shortlex, &[Some(3), None, Some(6), Some(4)])),
     ),
-    // A tag that isn't listed, and a number without a reading; the first record decides.
+    // A tag that isn't listed, and an invalid number; the first record decides.
     (&[BYTEWISE, NUMBERS, b"\x08"], Err(FaultName::EditTag)),
     (&[BYTEWISE, NUMBERS, b"\x02\x80"], Err(FaultName::EditField)),
     (&[b"\x02\x80", b"\x08"], Err(FaultName::EditField)),
@@ -62,7 +61,7 @@ const RECORDS: &[Records] = &[
     // All records are read before a comparator is looked for, and before an edit is applied.
     (&[ANOTHER, b"\x08"], Err(FaultName::EditTag)),
     (&[BYTEWISE, ABSENT, b"\x02\x80"], Err(FaultName::EditField)),
-    // No record, no name, and another's.
+    // No record, no name, and another comparator's.
     (&[], Err(FaultName::Comparator)),
     (&[NUMBERS, SEVEN], Err(FaultName::Comparator)),
     (&[ANOTHER, NUMBERS], Err(FaultName::Comparator)),
@@ -116,7 +115,7 @@ pub(crate) fn version_of(alloc: Global, manifest: &[u8]) -> Result<Version, Faul
     Ok(version)
 }
 
-/// What a folder has whose manifest has these records.
+/// What a folder opens as if its manifest has these records.
 fn opened(alloc: Global, records: &[&[u8]]) -> Result<Opened, Fault> {
     let (order, version) = opened_of(alloc, &log_of(alloc, records)?)?;
     let numbers = [
@@ -128,7 +127,7 @@ fn opened(alloc: Global, records: &[&[u8]]) -> Result<Opened, Fault> {
     Ok((order, numbers))
 }
 
-/// Whether a folder has what it should, or is refused so.
+/// Whether a folder opens as it should, or has this refusal.
 fn is_opened(found: Result<Opened, Fault>, wanted: &Wanted) -> bool {
     match (found, wanted) {
         (Ok(found), Ok(wanted)) => found.0 == wanted.0 && found.1.as_slice() == wanted.1,
@@ -167,11 +166,11 @@ const NO_FILE: &[u8] =
 const TORN: &[u8] =
     b"\xcd\xf0\xe1\x42\x24\0\x01\x01\x1aleveldb.BytewiseComparator\x02\x03\x09\0\x03\x09\x04";
 
-/// The same with another byte for it.
+/// The same with another last byte.
 const DAMAGED: &[u8] =
     b"\xcd\xf0\xe1\x42\x24\0\x01\x01\x1aleveldb.BytewiseComparator\x02\x03\x09\0\x03\x09\x04\x05";
 
-/// A log of one record of an unknown tag, and then not all of another one.
+/// A log of one record with an unknown tag, and then a part of another record.
 const UNKNOWN_AND_TORN: &[u8] = b"\x0d\xbb\x57\x11\x01\0\x01\x08\0";
 
 const MANIFEST: (&str, &[u8]) = ("MANIFEST-000005", THREE_FILES);
@@ -184,7 +183,7 @@ const OLD_FIVE: (&str, &[u8]) = ("000005.sst", b"five, older");
 
 const OLD_THREE: (&str, &[u8]) = ("000003.sst", b"three");
 
-/// A folder with its tables: that of number 3 has its older name, and that of number 5 both.
+/// A folder with its tables: that of number 3 has its older name, that of number 5 has both.
 const ALL: NamedFiles = &[
     CURRENT_FIVE,
     MANIFEST,
@@ -195,15 +194,15 @@ const ALL: NamedFiles = &[
     OLD_THREE,
 ];
 
-/// The tables that are loaded of it, in version order.
+/// The tables that are loaded from it, in version order.
 const LOADED: Tables = &[(8, b"eight"), (3, b"three"), (5, b"five")];
 
 const DEVICE: FolderFault = FolderFault::Device;
 
 const MEMORY: FolderFault = FolderFault::Memory;
 
-/// Files of a folder, a call that fails and how; the tables that are loaded or the refusal, how often the device failed, and
-/// how many calls were made.
+/// Files of a folder, a call that fails and how; the tables that are loaded, or the refusal; how
+/// often the device failed, and how many calls were made.
 type Row = (
     NamedFiles,
     (u64, FolderFault),
@@ -212,8 +211,8 @@ type Row = (
 );
 
 const FOLDERS: &[Row] = &[
-    // Two calls open the folder. Then one is made for number 8, two are for number 3 and one for number 5. A call that isn't
-    // made doesn't fail.
+    // Two calls open the folder. Then one is made for number 8, two are for number 3 and one for
+    // number 5. A call that isn't made doesn't fail.
     (ALL, (7, DEVICE), Ok(LOADED), (0, 6)),
     (ALL, (1, DEVICE), Err(FaultName::Device), (1, 1)),
     (ALL, (2, DEVICE), Err(FaultName::Device), (1, 2)),
@@ -234,7 +233,8 @@ const FOLDERS: &[Row] = &[
         Ok(&[]),
         (0, 2),
     ),
-    // Without the table of number 8, and without that of number 3. The first that is missing comes before a later call.
+    // Without the table of number 8, and without that of number 3. The first missing table is
+    // answered before a later call fails.
     (
         &[CURRENT_FIVE, MANIFEST, FIVE, OLD_THREE],
         (5, DEVICE),
@@ -247,10 +247,10 @@ const FOLDERS: &[Row] = &[
         Err(FaultName::Missing),
         (0, 5),
     ),
-    // No CURRENT. Where a call fails, nothing is known of what is missing.
+    // No CURRENT. If a call fails, it isn't known what is missing.
     (&[MANIFEST], (2, DEVICE), Err(FaultName::Missing), (0, 1)),
     (&[], (1, DEVICE), Err(FaultName::Device), (1, 1)),
-    // No manifest of its name.
+    // No manifest of that name.
     (
         &[
             CURRENT_FIVE,
@@ -261,14 +261,14 @@ const FOLDERS: &[Row] = &[
         Err(FaultName::Missing),
         (0, 2),
     ),
-    // The form of CURRENT comes before that.
+    // The form of CURRENT is tested before that.
     (
         &[("CURRENT", b"MANIFEST-000005"), MANIFEST],
         (2, DEVICE),
         Err(FaultName::Apply),
         (0, 1),
     ),
-    // Bytes that are no log. A log comes before its records.
+    // Bytes that are no log. The log is tested before its records.
     (
         &[CURRENT_FIVE, ("MANIFEST-000005", TORN)],
         (3, DEVICE),
@@ -305,7 +305,7 @@ fn are(tables: &[(u64, Vec<u8>)], wanted: &[(u64, &[u8])]) -> bool {
     tables.len() == wanted.len()
 }
 
-/// Whether these tables are loaded, or refused so.
+/// Whether these tables are loaded, or the refusal is this one.
 pub(crate) fn are_loaded(
     answer: Result<Vec<(u64, Vec<u8>)>, Fault>,
     wanted: Result<Tables, FaultName>,
@@ -317,7 +317,7 @@ pub(crate) fn are_loaded(
     }
 }
 
-/// Whether a folder is answered as its row has it.
+/// Whether a folder has the answer of its row.
 fn is_answered(alloc: Global, (files, (call, fault), wanted, counts): Row) -> bool {
     let mut folder = Shelf::new(alloc, files).failing(Failing {
         call,

@@ -5,7 +5,8 @@ use folder::*;
 use std::alloc::Global;
 use std::process::Abort;
 
-/// Texts of CURRENT, and the numbers of the manifests that they name. None is no manifest's name and one newline.
+/// Texts of CURRENT, and the numbers of the manifests that they name; None if a text is not a
+/// manifest's name and one newline.
 const NAMES: &[(&str, Option<u64>)] = &[
     ("MANIFEST-000009\n", Some(9)),
     ("MANIFEST-000000\n", Some(0)),
@@ -28,7 +29,7 @@ const NAMES: &[(&str, Option<u64>)] = &[
     ("MANIFEST-000009/\n", None),
 ];
 
-/// Whether CURRENT names the manifest of this number by a text, or is refused as Apply.
+/// Whether CURRENT with this text names this manifest, or is refused as Apply.
 fn is_named(alloc: Global, text: &str, wanted: Option<u64>) -> bool {
     match number_in_current(alloc, text.as_bytes()) {
         Ok(number) => wanted == Some(number),
@@ -62,13 +63,13 @@ fn names_of_files(rt: HostRuntime) {
 /// Files of a folder in memory. The first of a name counts.
 const FILES: &[(&str, &[u8])] = &[("1", b"one"), ("2", b"two"), ("1", b"another")];
 
-/// Whether a folder in memory holds this under the names 1, 2 and 3.
+/// Whether a folder in memory has these bytes under the names 1, 2 and 3.
 fn holds(shelf: &Shelf<'_>, wanted: [Option<&[u8]>; 3]) -> bool {
     shelf.held("1") == wanted[0] && shelf.held("2") == wanted[1] && shelf.held("3") == wanted[2]
 }
 
-/// Whether four calls are done: a file that is made takes the name of another one, the name of a file that isn't there takes
-/// that name's file away, and a file may be empty.
+/// Whether four calls are done: a new file takes the name of another one; renaming a missing file
+/// removes the file of the new name; a file may be empty.
 fn are_done(shelf: &mut Shelf<'_>) -> bool {
     shelf.create("3", b"three").is_ok()
         && shelf.rename("3", "1").is_ok()
@@ -76,7 +77,7 @@ fn are_done(shelf: &mut Shelf<'_>) -> bool {
         && shelf.create("3", b"").is_ok()
 }
 
-/// Whether the fifth call fails, and those behind it are done.
+/// Whether the fifth call fails, and those after it are done.
 fn fifth_fails(shelf: &mut Shelf<'_>) -> bool {
     shelf.create("2", b"four") == Err(FolderFault::Device)
         && shelf.sync("1").is_ok()
@@ -85,7 +86,7 @@ fn fifth_fails(shelf: &mut Shelf<'_>) -> bool {
         && shelf.failures() == 1
 }
 
-/// Whether of seven calls the fifth was not done, and whether it shows.
+/// Whether the fifth of seven calls was not done, and whether it shows.
 fn is_fifth(steps: &[ShelfStep], is_shown: bool) -> bool {
     match steps.get(2) {
         Some(step) => steps.len() == 7 && !step.is_done && step.is_shown == is_shown,
@@ -93,7 +94,8 @@ fn is_fifth(steps: &[ShelfStep], is_shown: bool) -> bool {
     }
 }
 
-/// Whether a folder in memory holds what was written to it, and under the name 2 what is left of its fifth call, which fails.
+/// Whether a folder in memory has what was written to it, and under the name 2 what is left of its
+/// fifth call, which fails.
 fn is_written(alloc: Global, is_half_done: bool, half: Option<&[u8]>) -> bool {
     let mut shelf = Shelf::new(alloc, FILES).failing(Failing {
         call: 5,

@@ -1,4 +1,5 @@
-//! The tests of `folder` and `install`: folders that are opened and loaded, and installations that are cut short or fail.
+//! The tests of `folder` and `install`: folders that are opened and loaded, and installations that
+//! are cut short or fail.
 #![tactic(auto)]
 
 #[cfg(test)]

@@ -1,11 +1,13 @@
-//! The calls that a crash leaves of those that were made, for tests.
+//! What a crash leaves of the calls that were made, for tests.
 
 use folder::{Folder, FolderFault, Shelf, ShelfCall, ShelfStep};
 
-/// The calls of a moment, of which the newest is first. At an even moment half as many are done; at an odd one the crash comes
-/// inside the call that follows, which is then among them. None where a crash leaves what it leaves at the moment before: a
-/// call that makes a file or renames one counts from inside it on, a sync of the folder once it is done, and that of a file
-/// with the next one.
+/// The calls made by a moment, the newest first. At an even moment half as many calls are done. At
+/// an odd one the crash comes inside the next call, which is then among them.
+///
+/// None if a crash leaves the same as at the moment before. A call that makes a file or renames one
+/// counts from inside it on; a sync of the folder after it is done; a sync of a file with the next
+/// call.
 pub(crate) fn made_at(steps: &[ShelfStep], moment: usize) -> Option<&[ShelfStep]> {
     let taken = moment.saturating_add(1) / 2;
     let (_later, made) = steps.split_at(steps.len().saturating_sub(taken));
@@ -20,8 +22,8 @@ pub(crate) fn made_at(steps: &[ShelfStep], moment: usize) -> Option<&[ShelfStep]
     is_another.then_some(made)
 }
 
-/// Whether a crash leaves all of a call, behind which these were made, the newest of which is first: what it writes was synced,
-/// and the folder then.
+/// Whether a crash leaves all of a call after which the `later` ones were made, the newest first:
+/// what it writes was synced, and then the folder.
 fn is_kept(step: &ShelfStep, later: &[ShelfStep]) -> bool {
     let made = match &step.call {
         ShelfCall::Create(name, _) => name.as_str(),
@@ -39,7 +41,8 @@ fn is_kept(step: &ShelfStep, later: &[ShelfStep]) -> bool {
     false
 }
 
-/// What a file holds that nothing keeps: it is missing, empty, or has the first half, other bytes or all.
+/// What a crash leaves of a file that nothing keeps: it is missing or empty, or it has the first
+/// half, other bytes, or all.
 fn garbage(bytes: &[u8], picked: u64) -> Option<&[u8]> {
     match picked {
         0 => None,
@@ -50,12 +53,12 @@ fn garbage(bytes: &[u8], picked: u64) -> Option<&[u8]> {
     }
 }
 
-/// Makes what is left of a call, which at the last of five picks is all of it.
+/// Makes what is left of a call. At the last of five picks it is all.
 fn make(shelf: &mut Shelf<'_>, call: &ShelfCall, picked: u64) -> Result<(), FolderFault> {
     match call {
         ShelfCall::Create(name, bytes) => match garbage(bytes, picked) {
             Some(left) => shelf.create(name.as_str(), left),
-            // A name goes that a file gets which isn't there.
+            // Renaming a missing file removes the file of the new name.
             None => shelf.rename("", name.as_str()),
         },
         ShelfCall::Rename(from, to) if picked == 4 => shelf.rename(from.as_str(), to.as_str()),
@@ -63,8 +66,9 @@ fn make(shelf: &mut Shelf<'_>, call: &ShelfCall, picked: u64) -> Result<(), Fold
     }
 }
 
-/// Makes what a crash leaves of calls, of which the newest is first: those that are kept, and of each other one what the choice
-/// picks. Whether there is such a choice: as it rises, it picks all ways, and then none is left.
+/// Makes what a crash leaves of calls, the newest first: those that are kept, and of each other
+/// call what `choice` picks. Whether there is such a choice: from 0 on, choices pick every way, and
+/// then there are no more.
 pub(crate) fn make_left(
     shelf: &mut Shelf<'_>,
     steps: &[ShelfStep],

@@ -14,7 +14,8 @@ const MANIFEST: &[u8] = b"\
     \x06\x03\x09t\x01\x01\0\0\0\0\0\0\x09t\x01\x01\0\0\0\0\0\0\x07\x01\x07\x05\x09u\x01\x02\0\0\0\
     \0\0\0\x09u\x01\x02\0\0\0\0\0\0";
 
-/// The files of the version before: file 6 has its older name, and file 9 was left by an earlier failure.
+/// The files of the version before: file 6 has its older name, and file 9 was left by an earlier
+/// failure.
 const FILES: &[(&str, &[u8])] = &[
     ("CURRENT", b"MANIFEST-000005\n"),
     ("MANIFEST-000005", MANIFEST),
@@ -23,7 +24,8 @@ const FILES: &[(&str, &[u8])] = &[
     ("000009.ldb", b"left behind"),
 ];
 
-/// How many calls open that folder and load its tables. That of file 6 is looked for by both of its names.
+/// The calls that open that folder and load its tables. The table of file 6 is looked for under
+/// both names.
 const READS: u64 = 5;
 
 /// Tables by their numbers.
@@ -32,8 +34,8 @@ type Tables = &'static [(u64, &'static [u8])];
 /// The next file of the version before.
 const BEFORE: u64 = 8;
 
-/// The versions that are known, by their next file, with their tables: the one before, the edited ones, and one that is edited
-/// a second time.
+/// The known versions with their tables, by next file: the one before, the edited ones, and one
+/// that is edited a second time.
 const VERSIONS: &[(u64, Tables)] = &[
     (BEFORE, &[(6, b"six"), (7, b"seven")]),
     (9, &[(6, b"six")]),
@@ -56,13 +58,13 @@ struct Row {
     calls: u64,
     /// The next file of the edited version.
     edited: u64,
-    /// That of the version behind a second run, which begins with the edited one.
+    /// The next file of the version after a second run, which begins with the edited one.
     again: u64,
 }
 
-/// The outcomes of no output, of one and of three. Their edits set log number 3, previous log number 0, next file and last
-/// sequence 4, and delete file 7 at level 1. New at level 2 are number 9 of 4 bytes for `u`, number 10 of 3 bytes for `v` and
-/// number 11 of 6 bytes for `w`.
+/// The outcomes with no output, with one and with three. Their edits set log number 3, previous log
+/// number 0, next file and last sequence 4, and delete file 7 at level 1. New at level 2 are number
+/// 9 of 4 bytes for `u`, number 10 of 3 bytes for `v` and number 11 of 6 bytes for `w`.
 const ROWS: &[&Row] = &[
     &Row {
         manifest: BEFORE,
@@ -99,8 +101,8 @@ const ONE: &Row = &Row {
     again: 13,
 };
 
-/// The outcome of a second run over the version of one output: next file is 13, file 9 at level 2 is deleted, and number 12 of
-/// 6 bytes for `u` is new there.
+/// The outcome of a second run over the version of one output: next file is 13, file 9 at level 2
+/// is deleted, and number 12 of 6 bytes for `u` is new there.
 const SECOND: &Row = &Row {
     manifest: 10,
     edit: b"\
@@ -157,7 +159,7 @@ fn are(tables: &[(u64, Vec<u8>)], wanted: &[(u64, &[u8])]) -> bool {
     tables.len() == wanted.len()
 }
 
-/// The next file of a version that is known, with these tables, and else 0.
+/// The next file of a known version with these tables, else 0.
 fn known(order: Order, version: &Version, tables: &[(u64, Vec<u8>)]) -> u64 {
     for (next_file, wanted) in VERSIONS {
         if version.next_file() == Some(*next_file)
@@ -171,7 +173,8 @@ fn known(order: Order, version: &Version, tables: &[(u64, Vec<u8>)]) -> u64 {
     0
 }
 
-/// Opens a folder and loads its tables. Its version, and its next file where it is known, and else 0.
+/// Opens a folder and loads its tables. Its version, and its next file if that version is known,
+/// else 0.
 fn opened(alloc: Global, folder: &mut Shelf<'_>) -> Result<(Version, u64), Fault> {
     let (order, version) = version_of(alloc, folder)?;
     let tables = tables_of(alloc, folder, &version)?;
@@ -179,7 +182,7 @@ fn opened(alloc: Global, folder: &mut Shelf<'_>) -> Result<(Version, u64), Fault
     Ok((version, number))
 }
 
-/// The next file of the known version that a folder reads as, and 0 where it reads as none.
+/// The next file of the known version that a folder reads as; 0 if there is none.
 fn read_as(alloc: Global, folder: &mut Shelf<'_>) -> u64 {
     match opened(alloc, folder) {
         Ok((_version, number)) => number,
@@ -194,14 +197,15 @@ fn install_row(alloc: Global, shelf: &mut Shelf<'_>, row: &Row) -> Result<(), Fa
     installed(alloc, shelf, &version, row.manifest, &outcome)
 }
 
-/// The same, and then opens it and loads its tables again. What it reads as.
+/// The same, and then opens it and loads its tables again. The next file of what it reads as.
 fn round(alloc: Global, shelf: &mut Shelf<'_>, row: &Row) -> Result<u64, Fault> {
     install_row(alloc, shelf, row)?;
     let (_version, number) = opened(alloc, shelf)?;
     Ok(number)
 }
 
-/// What a folder reads as of which a crash leaves these calls, as the choice picks it. None where the choice is past the last.
+/// What a folder reads as after a crash leaves of these calls what `choice` picks. None if there is
+/// no such choice.
 fn read_crashed(alloc: Global, steps: &[ShelfStep], choice: u64) -> Option<u64> {
     let mut shelf = Shelf::new(alloc, FILES);
     match make_left(&mut shelf, steps, choice) {
@@ -211,8 +215,8 @@ fn read_crashed(alloc: Global, steps: &[ShelfStep], choice: u64) -> Option<u64> 
     }
 }
 
-/// Whether the older of two versions is among what crashes leave of these calls, and whether the newer one is. None where a
-/// folder is left that reads as neither.
+/// Whether crashes may leave the older of two versions after these calls, and whether the newer
+/// one. None if some crash leaves a folder that reads as neither.
 fn found(alloc: Global, steps: &[ShelfStep], (older, newer): (u64, u64)) -> Option<(bool, bool)> {
     let mut found = (false, false);
     for choice in 0..u64::MAX {
@@ -226,8 +230,9 @@ fn found(alloc: Global, steps: &[ShelfStep], (older, newer): (u64, u64)) -> Opti
     Some(found)
 }
 
-/// The first moment of these calls, from one on, at which a crash leaves what it should not: before the rename, which is the
-/// last but one, the older version; from inside it on to the end either; and behind the last the newer one.
+/// The first moment, from `first` on, at which a crash leaves what it should not. It should leave:
+/// before the rename, the last call but one, the older version; from inside it to the end either;
+/// after the last call the newer one.
 fn wrong_moment(
     alloc: Global,
     steps: &[ShelfStep],
@@ -255,8 +260,8 @@ fn wrong_crash(alloc: Global, row: &Row) -> Option<usize> {
     wrong_moment(alloc, shelf.steps(), 0, (BEFORE, row.edited))
 }
 
-/// Syncs a folder after a failure and installs again: the same outcome where it reads as the version before, and the second
-/// one over that of one output. What the folder reads as then.
+/// Syncs a folder after a failure and installs again: the same outcome if it reads as the version
+/// before, the second outcome over the version with one output. What the folder then reads as.
 fn run_again(alloc: Global, shelf: &mut Shelf<'_>, row: &Row) -> u64 {
     if shelf.sync_folder().is_err() {
         return 0;
@@ -268,7 +273,8 @@ fn run_again(alloc: Global, shelf: &mut Shelf<'_>, row: &Row) -> u64 {
     }
 }
 
-/// Whether an answer is the fault of the call that fails, none was made behind it, and the device failed where it did.
+/// Whether an answer is the fault of the call that fails, no call was made after it, and the device
+/// failed if that is the fault.
 fn is_last(shelf: &Shelf<'_>, answer: Result<(), Fault>, failing: Failing) -> bool {
     let failures = match failing.fault {
         FolderFault::Device => 1,
@@ -279,8 +285,9 @@ fn is_last(shelf: &Shelf<'_>, answer: Result<(), Fault>, failing: Failing) -> bo
         && shelf.failures() == failures
 }
 
-/// Whether an installation of which a call fails ends there; a crash then leaves the version before, or from the rename on
-/// either; the folder reads as the version before, or behind the rename as the edited one; and a second run goes on from it.
+/// Whether an installation ends at a call that fails. A crash then leaves the version before, or
+/// from the rename on either. The folder reads as the version before, or after the rename as the
+/// edited one. A second run goes on from there.
 fn ends_there(alloc: Global, shelf: &mut Shelf<'_>, row: &Row, failing: Failing) -> bool {
     let answer = install_row(alloc, shelf, row);
     let rename = READS.saturating_add(row.calls).saturating_sub(1);
@@ -299,8 +306,8 @@ fn ends_there(alloc: Global, shelf: &mut Shelf<'_>, row: &Row, failing: Failing)
         && run_again(alloc, shelf, row) == again
 }
 
-/// The first call of the reading and the installation of a row behind whose failure it is not so: by the device or by memory,
-/// half done or not at all.
+/// The first call of reading and installing a row for whose failure this is wrong: by the device or
+/// by memory, half done or not at all.
 fn wrong_failure(alloc: Global, row: &Row) -> Option<usize> {
     let calls = READS.saturating_add(row.calls);
     for way in 0..calls.saturating_mul(4) {
@@ -345,8 +352,9 @@ const LAST_SYNC: Failing = Failing {
     is_half_done: false,
 };
 
-/// The first moment at which a crash leaves what it should not, of a second run behind an installation whose last call failed.
-/// Behind its sync of the folder, the tenth call, that is never the version before.
+/// The first moment at which a crash leaves what it should not, of a second run after an
+/// installation whose last call failed. After its sync of the folder, the tenth call, that is never
+/// the version before.
 fn wrong_after_the_last_sync(alloc: Global, shelf: &mut Shelf<'_>) -> Option<usize> {
     if install_row(alloc, shelf, ONE).is_err()
         && run_again(alloc, shelf, ONE) == SECOND.edited
@@ -368,15 +376,15 @@ fn folder_not_synced_first(rt: HostRuntime) {
     );
 }
 
-/// Whether so many calls were made that write, none failed, and CURRENT names the new manifest.
+/// Whether the row's calls that write were made, none failed, and CURRENT names the new manifest.
 fn is_made(shelf: &Shelf<'_>, row: &Row) -> bool {
     shelf.steps().len() as u64 == row.calls
         && shelf.failures() == 0
         && shelf.held("CURRENT") == Some(b"MANIFEST-000008\n".as_slice())
 }
 
-/// Whether an installation makes its calls and the folder then reads as the edited version, or it is refused for want of memory
-/// and leaves one of the two. One growth alone is refused.
+/// Whether an installation makes its calls and the folder then reads as the edited version; or it
+/// is refused as Memory, and leaves one of the two. Only one request for memory is refused.
 fn ends_well(alloc: Global, shelf: &mut Shelf<'_>, row: &Row) -> bool {
     match round(alloc, shelf, row) {
         Ok(number) => number == row.edited && is_made(shelf, row),
@@ -387,7 +395,7 @@ fn ends_well(alloc: Global, shelf: &mut Shelf<'_>, row: &Row) -> bool {
     }
 }
 
-// With `rt try --test --fail-alloc N` the Nth growth is refused; without it, none is.
+// With `rt try --test --fail-alloc N` the Nth request for memory is refused; without it none is.
 #[test]
 fn a_refused_growth_is_memory(rt: HostRuntime) {
     for row in ROWS {

@@ -2,7 +2,7 @@ use account::*;
 use coding::Fault;
 use std::alloc::Global;
 
-/// What an account is made of, and its lines.
+/// The numbers of an account, and its lines.
 struct Row {
     inputs: &'static [LevelInputs],
     ranges: &'static [RangeEntries],
@@ -75,7 +75,8 @@ const ROWS: &[Row] = &[
     },
 ];
 
-/// Worked by hand: of 40 places 100 of 400 bytes take 10, one of five entries 8, and two of four entries 20.
+/// Worked out by hand: of 40 places 100 of 400 bytes take 10, one of five entries 8, and two of
+/// four entries 20.
 const TWO_LEVELS: &str = "######################################## level 0: 2 files, 400 bytes
 ##########                               level 1: 1 files, 100 bytes
 ########                                 range 1: 1 entries
@@ -85,7 +86,8 @@ const TWO_LEVELS: &str = "######################################## level 0: 2 fi
 ######################################## output 12: 301 bytes
 ";
 
-/// A part of a place is a mark, and no amount is none: 2^63 of 2^64 - 1 take a little more than 20 places.
+/// A part of a place is a mark, and 0 has no mark: 2^63 of 2^64 - 1 take a little more than 20
+/// places.
 const LARGE_OUTPUTS: &str = "                                         kept: 0 entries
                                          dropped: 0 entries
 ######################################## output 9: 18446744073709551615 bytes
@@ -95,7 +97,7 @@ const LARGE_OUTPUTS: &str = "                                         kept: 0 en
                                          output 13: 0 bytes
 ";
 
-/// The account that a row is of.
+/// The account of a row.
 fn account_of(alloc: Global, row: &Row) -> Result<Account, Fault> {
     let inputs = Vec::from_slice(alloc, row.inputs)?;
     let ranges = Vec::from_slice(alloc, row.ranges)?;
@@ -109,7 +111,7 @@ fn account_of(alloc: Global, row: &Row) -> Result<Account, Fault> {
     })
 }
 
-/// Whether an account is told by the lines of its row.
+/// Whether an account has the lines of its row.
 fn is_told(alloc: Global, row: &Row) -> Result<bool, Fault> {
     let account = account_of(alloc, row)?;
     Ok(text(alloc, &account)?.as_str() == row.lines)

@@ -2,9 +2,7 @@ use crate::folders::*;
 use account::{Account, text};
 use checks::Work;
 use coding::{Fault, FaultName};
-use commands::{
-    Open, bottom, dump, get_dir, manifest, next_level, progress_text, status, verify,
-};
+use commands::{Open, bottom, dump, get_dir, manifest, next_level, progress_text, status, verify};
 use diagnostics::{RefusedFile, account_of, log_with_writes, refused_file};
 use folder::{Failing, FolderFault, Shelf, open};
 use std::alloc::Global;
@@ -12,7 +10,7 @@ use std::test::*;
 use std::thread::Threads;
 use texts::{key_of, text_of};
 
-/// A call, and what it is asked beside the folder.
+/// A call, and its arguments beside the folder.
 enum Call {
     Manifest,
     Verify,
@@ -22,9 +20,9 @@ enum Call {
     Log,
     /// The folder before a compaction, and its level.
     Account(Place, u64),
-    /// Which level has files above the deepest one, and the bottom.
+    /// The first level with files above the deepest one, and the bottom.
     NextLevel,
-    /// How far a compaction of eight ranges is, of which so many jobs are done.
+    /// The progress of a compaction of eight ranges, with this many jobs done.
     Progress(u64),
     Dump(&'static [u8]),
     TextOf(&'static [u8]),
@@ -34,8 +32,8 @@ enum Call {
 /// The bytes of an answer, or a refusal and its status.
 type Wanted = Result<&'static str, (FaultName, u8)>;
 
-/// What a row shows, the call, its folder, which call on that fails, and the answer: its bytes, of which there are none where there is nothing
-/// to tell, or the refusal and its status.
+/// What a row shows, the call, its folder, which call on the folder fails, and the answer: its
+/// bytes, empty if there is nothing to tell, or the refusal and its status.
 type Row = (&'static str, Call, Place, u64, Wanted);
 
 /// The deepest level.
@@ -188,17 +186,17 @@ const ROWS: &[Row] = &[
     ),
 ];
 
-/// The bytes of a text that is answered.
+/// The bytes of a text.
 fn bytes_of(text: Result<String, Fault>) -> Result<Vec<u8>, Fault> {
     Ok(text?.into_bytes())
 }
 
-/// The lines of an account that is answered.
+/// The lines of an account.
 fn lines_of(alloc: Global, account: Result<Account, Fault>) -> Result<Vec<u8>, Fault> {
     bytes_of(text(alloc, &account?))
 }
 
-/// How the compaction of a level went, by the folder before it and the one behind it.
+/// The account of the compaction of a level, from the folder before it and the one after it.
 fn explained(
     alloc: Global,
     before: Files,
@@ -213,13 +211,13 @@ fn explained(
     )
 }
 
-/// The name of a file that is refused, and why.
+/// The name of a refused file, and why.
 fn refusal_of(alloc: Global, file: &RefusedFile) -> Result<Vec<u8>, Fault> {
     let (name, fault) = (&file.name, file.fault);
     Ok(format!(in alloc; "{name}: {fault}")?.into_bytes())
 }
 
-/// The same of the first file of a folder that is refused, if one is.
+/// The same of a folder's first refused file, if there is one.
 fn first_refusal(alloc: Global, folder: &mut Shelf<'_>) -> Result<Vec<u8>, Fault> {
     match refused_file(alloc, folder)? {
         Some(file) => refusal_of(alloc, &file),
@@ -236,7 +234,7 @@ fn log_name(alloc: Global, folder: &mut Shelf<'_>) -> Result<Vec<u8>, Fault> {
     }
 }
 
-/// The first level of a folder above the deepest one that has files, and the bottom.
+/// A folder's first level with files above the deepest one, and the bottom.
 fn levels_of(alloc: Global, folder: &mut Shelf<'_>) -> Result<Vec<u8>, Fault> {
     let (_order, version) = open(alloc, folder)?;
     let bottom = bottom(alloc, &version)?;
@@ -246,7 +244,7 @@ fn levels_of(alloc: Global, folder: &mut Shelf<'_>) -> Result<Vec<u8>, Fault> {
     }
 }
 
-/// The key of a text. One that is no key's is told as Key.
+/// The key of a text. Key if the text is invalid.
 fn key_in(alloc: Global, text: &str) -> Result<Vec<u8>, Fault> {
     match key_of(alloc, text)? {
         Some(key) => Ok(key),
@@ -276,7 +274,7 @@ fn answer<R: AllocGlobal + Threads + Sync>(
     }
 }
 
-/// Whether an answer is the one that is wanted.
+/// Whether an answer is the expected one.
 fn is_answer(answer: &Result<Vec<u8>, Fault>, wanted: &Wanted) -> bool {
     match (answer, wanted) {
         (Ok(found), Ok(text)) => found.as_slice() == text.as_bytes(),
@@ -285,7 +283,7 @@ fn is_answer(answer: &Result<Vec<u8>, Fault>, wanted: &Wanted) -> bool {
     }
 }
 
-/// Whether a call answers what is wanted. The call on the folder that fails is the last one.
+/// Whether a call has its answer. The call on the folder that fails is the last one made.
 fn is_answered<R: AllocGlobal + Threads + Sync>(rt: &R, row: &Row) -> bool {
     let (_shown, asked, place, call, wanted) = row;
     let mut folder = Shelf::new(rt.alloc(), files_of(*place)).failing(Failing {

@@ -1,4 +1,4 @@
-//! Folders of files that were worked out by hand from the formats, and the lines that show them.
+//! Folders of files that were worked out by hand from the formats, and their lines.
 
 /// Files by their names.
 pub(crate) type Files = &'static [(&'static str, &'static [u8])];
@@ -27,7 +27,7 @@ const CURRENT: (&str, &[u8]) = ("CURRENT", b"MANIFEST-000005\n");
 
 const ONE_MANIFEST: (&str, &[u8]) = ("MANIFEST-000005", ONE_FILE);
 
-/// File 7, and bytes that are no table in its place.
+/// File 7, and bytes that are an invalid table in its place.
 const SEVEN: (&str, &[u8]) = ("000007.ldb", TWO_ENTRIES);
 
 const DAMAGED: (&str, &[u8]) = ("000007.ldb", b"damaged");
@@ -39,10 +39,10 @@ const ONE_DAMAGED: Files = &[CURRENT, ONE_MANIFEST, DAMAGED];
 /// The folder of file 7, compacted.
 const NONE_LEFT: Files = &[CURRENT, ("MANIFEST-000005", NO_FILE), SEVEN];
 
-/// The folder of file 7 with a log, and with one of no byte.
+/// The folder of file 7 with a log, and with an empty one.
 const LOGGED: Files = &[CURRENT, ONE_MANIFEST, ("000003.log", b"x")];
 
-/// One of these folders, or one of no file.
+/// One of these folders, or an empty one.
 #[derive(Clone, Copy)]
 pub(crate) enum Place {
     One,
@@ -67,7 +67,8 @@ pub(crate) fn files_of(place: Place) -> Files {
 pub(crate) const ONE_LINES: &str =
     "comparator leveldb.BytewiseComparator\nlog 3\nprevious 0\nnext 9\nlast 4\nfile 1 7 125\n";
 
-/// Level 1 of [`Place::One`] is: the deletion goes, since nothing lies below it, and so does what it hides.
+/// The account of level 1 of [`Place::One`]: the deletion is dropped, since nothing lies below it,
+/// and so is what it hides.
 pub(crate) const LEVEL_1_EXPLAINED: &str = "\
 ######################################## level 1: 1 files, 125 bytes
                                          level 2: 0 files, 0 bytes

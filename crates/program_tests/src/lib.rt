@@ -1,5 +1,5 @@
-//! The tests of the calls behind the commands: `pairing`, `texts`, `usage`, `account`, `diagnostics` and `commands`. What the
-//! program prints and ends with is in `tests/cases`.
+//! The tests of the calls behind the commands: `pairing`, `texts`, `usage`, `account`,
+//! `diagnostics` and `commands`. What the program prints and ends with is in `tests/cases`.
 #![tactic(auto)]
 
 #[cfg(test)]

@@ -31,14 +31,14 @@ const TWICE: &[u8] =
 const RISING: &[u8] =
     b"\0\x09\0a\x01\x01\0\0\0\0\0\0\0\x09\0a\x01\x02\0\0\0\0\0\0\0\0\0\0\x01\0\0\0";
 
-/// That of one sequence as a value and as a deletion.
+/// That of one sequence, put and deleted.
 const DELETED: &[u8] =
     b"\0\x09\0a\x01\x01\0\0\0\0\0\0\0\x09\0a\0\x01\0\0\0\0\0\0\0\0\0\0\x01\0\0\0";
 
-/// How many entries there are and their block, or how the files are refused.
+/// The number of entries and their block, or the refusal.
 type Wanted = Result<(u64, &'static [u8]), FaultName>;
 
-/// Two files, where the ranges part, and the answer.
+/// Two files, the key at which ranges are cut, and the answer.
 type Row = (
     &'static str,
     &'static [u8],

@@ -2,10 +2,11 @@ use std::alloc::{AllocError, Global};
 use std::test::*;
 use usage::{Line, Usage, line};
 
-/// The words of a command line, parted by bars, and what the program makes of them: the line, or why it asks for nothing.
+/// The words of a command line, with bars between them, and what the program makes of them: the
+/// line, or why it asks for nothing.
 type Row = (&'static str, &'static str);
 
-/// The faults of usage are in `tests/cases/usage`, one of each kind aside.
+/// One of each kind. The other faults of usage are in `tests/cases/usage`.
 const ROWS: &[Row] = &[
     (
         "sedvokt|blocks|one|two|--at|62|three",
@@ -61,7 +62,7 @@ fn reason(usage: &Usage) -> &'static str {
     }
 }
 
-/// The words that bars part.
+/// The words between bars.
 fn words_of(alloc: Global, parted: &str) -> Result<Vec<&str>, AllocError> {
     let mut words = Vec::new(alloc);
     for word in parted.split('|') {
@@ -70,7 +71,7 @@ fn words_of(alloc: Global, parted: &str) -> Result<Vec<&str>, AllocError> {
     Ok(words)
 }
 
-/// Whether a line is told so.
+/// Whether a line is the expected one.
 fn is_told(alloc: Global, line: &Line<'_>, wanted: &str) -> bool {
     match format!(in alloc; "{line:?}") {
         Ok(text) => text.as_str() == wanted,
@@ -78,7 +79,7 @@ fn is_told(alloc: Global, line: &Line<'_>, wanted: &str) -> bool {
     }
 }
 
-/// Whether that is what is made of words.
+/// Whether the program makes the expected line or reason of these words.
 fn is_made_of(alloc: Global, words: &[&str], wanted: &str) -> bool {
     match line(alloc, words) {
         Ok(line) => is_told(alloc, &line, wanted),
@@ -86,7 +87,7 @@ fn is_made_of(alloc: Global, words: &[&str], wanted: &str) -> bool {
     }
 }
 
-/// Whether a row's words give what it has to.
+/// Whether a row's words give its line or reason.
 fn is_made(alloc: Global, (parted, wanted): &Row) -> bool {
     match words_of(alloc, parted) {
         Ok(words) => is_made_of(alloc, &words, wanted),

@@ -18,7 +18,7 @@
 //! | a boundary | `check`, `Split::choose` | ranges, boundary |
 //! | a board | `Board::new` | seats, counts |
 //! | a folder, installed into (3) | `open`, `load`, `install` | table, version after |
-//! | five compactions (4) | `compact`, by two workers over three ranges | outcome, or `Trailer` at 0 |
+//! | five compactions (4) | `compact`, two workers, three ranges | outcome, or `Trailer` at 0 |
 //! | two blocks | `blocks` | number of entries, block |
 //! | a folder is compacted (3) | `compact_dir` | lines |
 //! | a block is walked (2) | `BlockCursor`: `new`, `advance` | entries |

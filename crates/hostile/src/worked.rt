@@ -293,10 +293,9 @@ pub const VERSION_SEVEN: &[u8] = b"\
     \x01\x1aleveldb.BytewiseComparator\x07\x01\x07\x7d\x09u\0\x04\0\0\0\0\0\0\x09u\x01\x02\0\0\0\0\
     \0\0\x02\x03\x09\0\x03\x09\x04\x04";
 
-/// The snapshot of the version behind the edit that leaves one deletion: its compact pointer, and
-/// its new file 9 of level 2.
-/// `edit: comparator leveldb.BytewiseComparator, pointer 1 u@2 put, file 2 9 113 u@4 del .. u@4
-/// del`
+/// The snapshot of the version after the edit that leaves one deletion: its compact pointer, and
+/// its new file 9 of level 2. `edit: comparator leveldb.BytewiseComparator, pointer 1 u@2 put, file
+/// 2 9 113 u@4 del .. u@4 del`
 pub const SNAPSHOT_NINE: &[u8] = b"\
     \x01\x1aleveldb.BytewiseComparator\x05\x01\x09u\x01\x02\0\0\0\0\0\0\x07\x02\x09q\x09u\0\x04\0\
     \0\0\0\0\0\x09u\0\x04\0\0\0\0\0\0";

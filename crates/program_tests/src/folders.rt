@@ -39,7 +39,7 @@ const ONE_DAMAGED: Files = &[CURRENT, ONE_MANIFEST, DAMAGED];
 /// The folder of file 7, compacted.
 const NONE_LEFT: Files = &[CURRENT, ("MANIFEST-000005", NO_FILE), SEVEN];
 
-/// The folder of file 7 with a log, and with an empty one.
+/// The folder of file 7's version with a log that isn't empty.
 const LOGGED: Files = &[CURRENT, ONE_MANIFEST, ("000003.log", b"x")];
 
 /// One of these folders, or an empty one.

@@ -6,7 +6,7 @@ use usage::{Line, Usage, line};
 /// line, or why it asks for nothing.
 type Row = (&'static str, &'static str);
 
-/// One of each kind. The other faults of usage are in `tests/cases/usage`.
+/// Lines, and one fault of usage of each kind. The other faults are in `tests/cases/usage`.
 const ROWS: &[Row] = &[
     (
         "sedvokt|blocks|one|two|--at|62|three",

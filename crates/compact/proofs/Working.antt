@@ -1,4 +1,4 @@
--- What a run by so many workers answers.
+-- What a run by a number of workers answers.
 use Rattle.std.proofs.Common.{◌≡◌, ◌⊎◌, ℕ, ◌<◌, ◌≤◌, inl, inr, Bool, true, false, List, map, length, Result, Ok, Err, refl, sym, ap, subst, ◌∙◌, arith}
 use Rattle.std.specs.Prelude.{◌↔◌, nat_le, ◌&&◌}
 use Rattle.std.proofs.lemmas.Bool.{le-leb}

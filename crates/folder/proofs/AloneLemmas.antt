@@ -1,4 +1,5 @@
--- Files that read as a version are opened and loaded as that version alone, and what is opened and loaded they read as.
+-- Files that read as a version are opened and loaded as that version and no other. What is opened
+-- and loaded is what the files read as.
 use Rattle.std.proofs.Common.{◌≡◌, ℕ, List, [], ◌∷◌, ◌++◌, codes, Option, Some, None, Result, Ok, Err, refl, sym, ap, subst, ◌∙◌, inl, inr}
 use Rattle.std.proofs.lemmas.Option.{none-some, same_Some}
 use Rattle.std.specs.List.{AllZip}

@@ -1,4 +1,4 @@
--- Each moment at which one file is written, alone or with a sync of the folder behind it.
+-- Each moment at which one file is written, alone or with a sync of the folder after it.
 use Rattle.std.proofs.Common.{◌≡◌, ℕ, List, [], ◌∷◌, ◌++◌, map, Option, Result, Ok, Err, OnOk, sym, ap, subst, ◌∙◌, inl, inr}
 use Rattle.std.specs.declared.cmp.Ordering.{Ordering}
 use Rattle.edit.specs.Version.{State}

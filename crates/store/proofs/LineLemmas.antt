@@ -1,4 +1,4 @@
--- Lines, one behind the other.
+-- Lines, one after the other.
 use Rattle.std.proofs.Common.{◌≡◌, ℕ, List, [], ◌∷◌, ◌++◌, map, refl, ap, ◌∙◌, append_assoc}
 use Rattle.std.specs.List.{flat_map}
 

@@ -12,6 +12,6 @@ abbrev pub bar : ℕ → ℕ → List ℕ
 bar amount most = flat_map (mark amount most) (range_with_len 0 40)
 
 -- the largest of the numbers, 0 if there is none
-abbrev pub largest : List ℕ → ℕ
-largest [] = 0
-largest (n ∷ ns) = max n (largest ns)
+abbrev pub largest_number : List ℕ → ℕ
+largest_number [] = 0
+largest_number (n ∷ ns) = max n (largest_number ns)

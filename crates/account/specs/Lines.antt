@@ -1,7 +1,7 @@
 -- The lines of an account.
 use Rattle.std.specs.Prelude.{ℕ, List, ◌++◌, map, max, codes, decimal}
 use Rattle.std.specs.List.{flat_map}
-use Rattle.account.specs.Bars.{bar, largest}
+use Rattle.account.specs.Bars.{bar, largest_number}
 use Rattle.account.specs.declared.numbers.Account.{Account}
 use Rattle.account.specs.declared.numbers.LevelInputs.{LevelInputs}
 use Rattle.account.specs.declared.numbers.Output.{Output}
@@ -17,7 +17,7 @@ level_line most l = bar l.bytes most ++ files_text l
 
 -- a line for each level
 abbrev pub level_lines : List LevelInputs → List ℕ
-level_lines inputs = flat_map (level_line (largest (map (λ l. l.bytes) inputs))) inputs
+level_lines inputs = flat_map (level_line (largest_number (map (λ l. l.bytes) inputs))) inputs
 
 -- the line of a range; `most` is the largest number of entries of a range
 abbrev pub range_line : ℕ → RangeEntries → List ℕ
@@ -25,7 +25,7 @@ range_line most r = bar r.entries most ++ codes " range " ++ decimal r.number ++
 
 -- a line for each range
 abbrev pub range_lines : List RangeEntries → List ℕ
-range_lines ranges = flat_map (range_line (largest (map (λ r. r.entries) ranges))) ranges
+range_lines ranges = flat_map (range_line (largest_number (map (λ r. r.entries) ranges))) ranges
 
 -- the line of the kept entries
 abbrev pub kept_line : ℕ → ℕ → List ℕ
@@ -40,12 +40,12 @@ abbrev pub entry_lines : ℕ → ℕ → List ℕ
 entry_lines kept dropped = kept_line (max kept dropped) kept ++ dropped_line (max kept dropped) dropped
 
 -- the line of an output; `most` is the largest number of bytes of an output
-abbrev pub output_line : ℕ → Output → List ℕ
-output_line most o = bar o.bytes most ++ codes " output " ++ decimal o.number ++ codes ": " ++ decimal o.bytes ++ codes " bytes\n"
+abbrev pub output_bar_line : ℕ → Output → List ℕ
+output_bar_line most o = bar o.bytes most ++ codes " output " ++ decimal o.number ++ codes ": " ++ decimal o.bytes ++ codes " bytes\n"
 
 -- a line for each output
 abbrev pub output_lines : List Output → List ℕ
-output_lines outputs = flat_map (output_line (largest (map (λ o. o.bytes) outputs))) outputs
+output_lines outputs = flat_map (output_bar_line (largest_number (map (λ o. o.bytes) outputs))) outputs
 
 -- the inputs by level, the ranges, what was kept and dropped, and the outputs
 abbrev pub account_lines : Account → List ℕ

@@ -4,8 +4,8 @@ ghost use Rattle.std.specs.Prelude.{◌≡◌, ◌++◌, map, max, Ok, IfErr, On
 ghost use Rattle.std.specs.List.{flat_map};
 ghost use Rattle.coding.specs.Answers.{EqualOrMemory, fault};
 ghost use Rattle.coding.specs.declared.fault.FaultName.TheVariants.{Memory};
-ghost use Rattle.account.specs.Bars.{largest};
-ghost use Rattle.account.specs.Lines.{account_lines, dropped_line, entry_lines, files_text, kept_line, level_line, level_lines, output_line, output_lines, range_line, range_lines};
+ghost use Rattle.account.specs.Bars.{largest_number};
+ghost use Rattle.account.specs.Lines.{account_lines, dropped_line, entry_lines, files_text, kept_line, level_line, level_lines, output_bar_line, output_lines, range_line, range_lines};
 
 use crate::bars::bar;
 use crate::numbers::{Account, LevelInputs, Output, RangeEntries};
@@ -43,7 +43,7 @@ fn push_levels(alloc: Global, text: &mut String, inputs: &[LevelInputs]) -> Resu
 
 /// The largest number of bytes of a level.
 fn most_bytes_in(inputs: &[LevelInputs]) -> u64
-    ensures { result ≡ largest (map (λ l. l.bytes) inputs.now) }
+    ensures { result ≡ largest_number (map (λ l. l.bytes) inputs.now) }
 {
     let mut most: u64 = 0;
     for level in inputs {
@@ -90,7 +90,7 @@ fn push_ranges(alloc: Global, text: &mut String, ranges: &[RangeEntries]) -> Res
 
 /// The largest number of entries of a range.
 fn most_entries_in(ranges: &[RangeEntries]) -> u64
-    ensures { result ≡ largest (map (λ r. r.entries) ranges.now) }
+    ensures { result ≡ largest_number (map (λ r. r.entries) ranges.now) }
 {
     let mut most: u64 = 0;
     for range in ranges {
@@ -154,7 +154,7 @@ fn push_outputs(alloc: Global, text: &mut String, outputs: &[Output]) -> Result<
 
 /// The largest number of bytes of an output.
 fn most_bytes_of(outputs: &[Output]) -> u64
-    ensures { result ≡ largest (map (λ o. o.bytes) outputs.now) }
+    ensures { result ≡ largest_number (map (λ o. o.bytes) outputs.now) }
 {
     let mut most: u64 = 0;
     for output in outputs {
@@ -165,7 +165,7 @@ fn most_bytes_of(outputs: &[Output]) -> u64
 
 /// Appends the line of an output.
 fn push_output(alloc: Global, text: &mut String, output: Output, most: u64) -> Result<(), Fault>
-    ensures ok { OnOk result (string_bytes text.new ≡ string_bytes text.old ++ output_line most output) }
+    ensures ok { OnOk result (string_bytes text.new ≡ string_bytes text.old ++ output_bar_line most output) }
     ensures memory { IfErr result (λ e. e ≡ fault Memory) }
 {
     let Output { number, bytes } = output;

@@ -1,7 +1,7 @@
 //! Figures of blocks: checked, and walked over.
 
 ghost use Rattle.std.specs.Prelude.{◌<◌, ◌≡◌, length};
-ghost use Rattle.block.specs.Writing.{block};
+ghost use Rattle.block.specs.BlockFormat.{block};
 
 use crate::entries::{FIRST_KEY, VALUE_LEN, last_of, len_of, push};
 use crate::figures::{Extent, Figures};

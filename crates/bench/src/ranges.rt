@@ -1,8 +1,8 @@
 //! Figures of merging a range, and of its outputs: planned, encoded and assembled.
 
 ghost use Rattle.std.specs.Prelude.{◌≡◌, map, IfOk};
-ghost use Rattle.cut.specs.Plan.{encoded};
-ghost use Rattle.cut.specs.Planning.{lists_in};
+ghost use Rattle.cut.specs.Plan.{encoded_pieces};
+ghost use Rattle.cut.specs.OutputPlan.{lists_in};
 
 use crate::figures::{Extent, Figures};
 use crate::tables::cursors;
@@ -107,7 +107,7 @@ fn table_bytes(plan: &Plan<'_, '_, Bytewise>) -> usize {
 
 /// The pieces of a plan, in the order of their jobs.
 pub fn pieces_of(alloc: Global, plan: &Plan<'_, '_, Bytewise>) -> Result<Vec<Vec<u8>>, Fault>
-    ensures { IfOk result (λ pieces. map (λ p. p.items) pieces.items ≡ encoded plan.now.options (lists_in plan.now.outputs)) }
+    ensures { IfOk result (λ pieces. map (λ p. p.items) pieces.items ≡ encoded_pieces plan.now.options (lists_in plan.now.outputs)) }
 {
     let mut pieces = Vec::new(alloc);
     for job in 0..plan.jobs() {

@@ -6,22 +6,22 @@ use Rattle.std.proofs.lemmas.List.{take-append-drop, length-append, length_push,
 use Rattle.std.proofs.lemmas.List.Concat.{flat_map-append}
 use Rattle.std.proofs.lemmas.Nat.{mod_below}
 use Rattle.std.proofs.Math.Nat.{zero-mod, mod-add-mod, mod_self, mod-eq_of_lt}
-use Rattle.block.specs.Piece.{Entry, Piece, piece_bytes, restarts_from, restarts_of, restart_bytes}
+use Rattle.block.specs.EncodedEntry.{Entry, EncodedEntry, encoded_entry_bytes, restarts_from, restarts_of, restart_bytes}
 use Rattle.block.specs.Behind.{entries_behind}
-use Rattle.block.specs.Writing.{piece_of, pieces_from, block}
-use Rattle.block.specs.Building.{last_key, with_entry}
-use Rattle.block.specs.Kept.{IsBuilt}
+use Rattle.block.specs.BlockFormat.{encoded_entry_of, encoded_entries_from, block}
+use Rattle.block.specs.BuilderView.{last_key, with_entry}
+use Rattle.block.specs.BuilderState.{IsBlockBuilder}
 use Rattle.block.proofs.Pieces.{AreWide-of, entries_behind-pieces}
 use Rattle.block.proofs.Written.{common, take-common, piece_at_restart, entries_after-pieces_from, AreOfBlock-pieces_from, restarts_from-push, length-block}
 
 -- what is kept gives the entries back
-pub entries_behind-built : {r : ℕ} {q : List Entry} {pieces restarts last : List ℕ} {since : ℕ} → IsBuilt r q pieces restarts last since → entries_behind [] pieces ≡ q
+pub entries_behind-built : {r : ℕ} {q : List Entry} {pieces restarts last : List ℕ} {since : ℕ} → IsBlockBuilder r q pieces restarts last since → entries_behind [] pieces ≡ q
 entries_behind-built {r = r} {q = q} h =
     ap (entries_behind []) h.pieces_are
-    ∙ entries_behind-pieces [] (pieces_from r 0 [] q) (AreWide-of 0 (pieces_from r 0 [] q) (AreOfBlock-pieces_from r q h.fits).pieces)
+    ∙ entries_behind-pieces [] (encoded_entries_from r 0 [] q) (AreWide-of 0 (encoded_entries_from r 0 [] q) (AreOfBlock-pieces_from r q h.fits).pieces)
     ∙ entries_after-pieces_from r 0 [] q
 
-pub IsBuilt-nil : (r : ℕ) → 1 ≤ r → r ≤ 1024 → IsBuilt r [] [] [] [] 0
+pub IsBuilt-nil : (r : ℕ) → 1 ≤ r → r ≤ 1024 → IsBlockBuilder r [] [] [] [] 0
 IsBuilt-nil r pos le = record {
   interval_pos = pos;
   interval_le = le;
@@ -34,7 +34,7 @@ IsBuilt-nil r pos le = record {
 
 -- ---- one more entry
 
-pub pieces_from-push : (r i : ℕ) (before : List ℕ) (q : List Entry) (e : Entry) → pieces_from r i before (q ++ e ∷ []) ≡ pieces_from r i before q ++ piece_of r (i + length q) (last_key before q) e ∷ []
+pub pieces_from-push : (r i : ℕ) (before : List ℕ) (q : List Entry) (e : Entry) → encoded_entries_from r i before (q ++ e ∷ []) ≡ encoded_entries_from r i before q ++ encoded_entry_of r (i + length q) (last_key before q) e ∷ []
 pieces_from-push r i before [] e = rw (add-zero i) refl
 pieces_from-push r i before (x ∷ xs) e =
     let place : i + 1 + length xs ≡ i + suc (length xs) = omega arith in
@@ -49,7 +49,7 @@ is_restart-by true before e = refl
 is_restart-by false before e = refl
 
 -- the piece that the next entry adds
-abbrev pub next_piece : ℕ → List ℕ → List ℕ → List ℕ → Piece
+abbrev pub next_piece : ℕ → List ℕ → List ℕ → List ℕ → EncodedEntry
 next_piece since last key value = piece_at_restart (eqb since 0) last (record { key = key; value = value })
 
 -- the entries behind the last whole interval, one entry further on
@@ -65,51 +65,51 @@ next_since-mod r n pos =
     ]
 
 -- fewer than an interval are counted
-pub since_below : {r : ℕ} {q : List Entry} {pieces restarts last : List ℕ} {since : ℕ} → IsBuilt r q pieces restarts last since → since < r
+pub since_below : {r : ℕ} {q : List Entry} {pieces restarts last : List ℕ} {since : ℕ} → IsBlockBuilder r q pieces restarts last since → since < r
 since_below {r = r} {q = q} h = omega (arith, h.since_is, mod_below (length q) r h.interval_pos)
 
 -- the first piece of all begins with a restart, so the restarts of pieces are those from 0
-restarts_of-cons : (p : Piece) (ps : List Piece) → p.is_restart ≡ true → length (restarts_of (p ∷ ps)) ≡ max (length (restarts_from 0 (p ∷ ps))) 1
+restarts_of-cons : (p : EncodedEntry) (ps : List EncodedEntry) → p.is_restart ≡ true → length (restarts_of (p ∷ ps)) ≡ max (length (restarts_from 0 (p ∷ ps))) 1
 restarts_of-cons p ps first =
-    let len : length (restarts_from 0 (p ∷ ps)) ≡ length {A = ℕ} (cond p.is_restart (0 ∷ []) []) + length (restarts_from (0 + length (piece_bytes p)) ps) = length-append (cond p.is_restart (0 ∷ []) []) (restarts_from (0 + length (piece_bytes p)) ps) in
+    let len : length (restarts_from 0 (p ∷ ps)) ≡ length {A = ℕ} (cond p.is_restart (0 ∷ []) []) + length (restarts_from (0 + length (encoded_entry_bytes p)) ps) = length-append (cond p.is_restart (0 ∷ []) []) (restarts_from (0 + length (encoded_entry_bytes p)) ps) in
     let one : length {A = ℕ} (cond p.is_restart (0 ∷ []) []) ≡ 1 = rw first refl in
     omega (arith, len, one)
 
-pub length-restarts_of : (r : ℕ) (q : List Entry) → length (restarts_of (pieces_from r 0 [] q)) ≡ max (length (restarts_from 0 (pieces_from r 0 [] q))) 1
+pub length-restarts_of : (r : ℕ) (q : List Entry) → length (restarts_of (encoded_entries_from r 0 [] q)) ≡ max (length (restarts_from 0 (encoded_entries_from r 0 [] q))) 1
 length-restarts_of r [] = refl
-length-restarts_of r (e ∷ es) = restarts_of-cons (piece_of r 0 [] e) (pieces_from r (0 + 1) e.key es) (rw (zero-mod r) refl)
+length-restarts_of r (e ∷ es) = restarts_of-cons (encoded_entry_of r 0 [] e) (encoded_entries_from r (0 + 1) e.key es) (rw (zero-mod r) refl)
 
 -- how long the block is that would be made of what is kept
-pub length-built : {r : ℕ} {q : List Entry} {pieces restarts last : List ℕ} {since : ℕ} → IsBuilt r q pieces restarts last since → length (block r q) ≡ length pieces + 4 * max (length restarts) 1 + 4
+pub length-built : {r : ℕ} {q : List Entry} {pieces restarts last : List ℕ} {since : ℕ} → IsBlockBuilder r q pieces restarts last since → length (block r q) ≡ length pieces + 4 * max (length restarts) 1 + 4
 length-built {r = r} {q = q} h =
     rw (h.pieces_are, h.restarts_are) (omega (arith, length-block r q, length-restarts_of r q))
 
 -- with one more entry
-pub IsBuilt-push : {r : ℕ} {q : List Entry} {pieces restarts last : List ℕ} {since : ℕ} (key value : List ℕ) → IsBuilt r q pieces restarts last since → length (block r (with_entry q key value)) ≤ 2 ^ 31
-    → IsBuilt r (with_entry q key value) (pieces ++ piece_bytes (next_piece since last key value)) (restarts ++ cond (eqb since 0) (length pieces ∷ []) []) key (next_since r since)
+pub IsBuilt-push : {r : ℕ} {q : List Entry} {pieces restarts last : List ℕ} {since : ℕ} (key value : List ℕ) → IsBlockBuilder r q pieces restarts last since → length (block r (with_entry q key value)) ≤ 2 ^ 31
+    → IsBlockBuilder r (with_entry q key value) (pieces ++ encoded_entry_bytes (next_piece since last key value)) (restarts ++ cond (eqb since 0) (length pieces ∷ []) []) key (next_since r since)
 IsBuilt-push {r = r} {q = q} {pieces = pieces} {restarts = restarts} {last = last} {since = since} key value h fits =
     let e : Entry = record { key = key; value = value } in
     let p = next_piece since last key value in
-    let same : piece_of r (0 + length q) (last_key [] q) e ≡ p =
+    let same : encoded_entry_of r (0 + length q) (last_key [] q) e ≡ p =
     ap (λ (n : ℕ). piece_at_restart (eqb (n % r) 0) (last_key [] q) e) (zero-add (length q))
     ∙ ap (λ (n : ℕ). piece_at_restart (eqb n 0) (last_key [] q) e) (sym h.since_is)
     ∙ ap (λ (k : List ℕ). piece_at_restart (eqb since 0) k e) (sym h.last_is) in
-    let pushed : pieces_from r 0 [] (q ++ e ∷ []) ≡ pieces_from r 0 [] q ++ p ∷ [] =
-    pieces_from-push r 0 [] q e ∙ ap (λ (x : Piece). pieces_from r 0 [] q ++ x ∷ []) same in
-    let bytes : flat_map piece_bytes (pieces_from r 0 [] q ++ p ∷ []) ≡ pieces ++ piece_bytes p =
-    flat_map-append piece_bytes (pieces_from r 0 [] q) (p ∷ [])
-    ∙ ap (λ (x : List ℕ). flat_map piece_bytes (pieces_from r 0 [] q) ++ x) (append-nil (piece_bytes p))
-    ∙ ap (λ (x : List ℕ). x ++ piece_bytes p) (sym h.pieces_are) in
-    let at : 0 + length (flat_map piece_bytes (pieces_from r 0 [] q)) ≡ length pieces = zero-add _ ∙ ap length (sym h.pieces_are) in
-    let noted : restarts_from 0 (pieces_from r 0 [] q ++ p ∷ []) ≡ restarts ++ cond (eqb since 0) (length pieces ∷ []) [] =
-    restarts_from-push 0 (pieces_from r 0 [] q) p
-    ∙ ap (λ (n : ℕ). restarts_from 0 (pieces_from r 0 [] q) ++ cond p.is_restart (n ∷ []) []) at
+    let pushed : encoded_entries_from r 0 [] (q ++ e ∷ []) ≡ encoded_entries_from r 0 [] q ++ p ∷ [] =
+    pieces_from-push r 0 [] q e ∙ ap (λ (x : EncodedEntry). encoded_entries_from r 0 [] q ++ x ∷ []) same in
+    let bytes : flat_map encoded_entry_bytes (encoded_entries_from r 0 [] q ++ p ∷ []) ≡ pieces ++ encoded_entry_bytes p =
+    flat_map-append encoded_entry_bytes (encoded_entries_from r 0 [] q) (p ∷ [])
+    ∙ ap (λ (x : List ℕ). flat_map encoded_entry_bytes (encoded_entries_from r 0 [] q) ++ x) (append-nil (encoded_entry_bytes p))
+    ∙ ap (λ (x : List ℕ). x ++ encoded_entry_bytes p) (sym h.pieces_are) in
+    let at : 0 + length (flat_map encoded_entry_bytes (encoded_entries_from r 0 [] q)) ≡ length pieces = zero-add _ ∙ ap length (sym h.pieces_are) in
+    let noted : restarts_from 0 (encoded_entries_from r 0 [] q ++ p ∷ []) ≡ restarts ++ cond (eqb since 0) (length pieces ∷ []) [] =
+    restarts_from-push 0 (encoded_entries_from r 0 [] q) p
+    ∙ ap (λ (n : ℕ). restarts_from 0 (encoded_entries_from r 0 [] q) ++ cond p.is_restart (n ∷ []) []) at
     ∙ ap (λ (x : List ℕ). x ++ cond p.is_restart (length pieces ∷ []) []) (sym h.restarts_are)
     ∙ ap (λ (b : Bool). restarts ++ cond b (length pieces ∷ []) []) (is_restart-by (eqb since 0) last e) in
     record {
       interval_pos = h.interval_pos;
       interval_le = h.interval_le;
-      pieces_are = sym (ap (flat_map piece_bytes) pushed ∙ bytes);
+      pieces_are = sym (ap (flat_map encoded_entry_bytes) pushed ∙ bytes);
       restarts_are = sym (ap (restarts_from 0) pushed ∙ noted);
       last_is = sym (last_key-push [] q e);
       since_is = ap (next_since r) h.since_is ∙ next_since-mod r (length q) h.interval_pos ∙ ap (λ (n : ℕ). n % r) (sym (length_push q e));
@@ -122,12 +122,12 @@ IsBuilt-push {r = r} {q = q} {pieces = pieces} {restarts = restarts} {last = las
 abbrev pub next_shared : ℕ → List ℕ → List ℕ → ℕ
 next_shared since last key = cond (eqb since 0) 0 (common last key)
 
-bytes_by : (restart : Bool) (last key value : List ℕ) → piece_bytes (record { is_restart = false; shared = cond restart 0 (common last key); unshared = drop (cond restart 0 (common last key)) key; value = value }) ≡ piece_bytes (piece_at_restart restart last (record { key = key; value = value }))
+bytes_by : (restart : Bool) (last key value : List ℕ) → encoded_entry_bytes (record { is_restart = false; shared = cond restart 0 (common last key); unshared = drop (cond restart 0 (common last key)) key; value = value }) ≡ encoded_entry_bytes (piece_at_restart restart last (record { key = key; value = value }))
 bytes_by true last key value = refl
 bytes_by false last key value = refl
 
 pub next_piece_bytes : (since : ℕ) (last key value unshared : List ℕ) (shared : ℕ) → shared ≡ next_shared since last key → unshared ≡ drop shared key
-    → piece_bytes (record { is_restart = false; shared = shared; unshared = unshared; value = value }) ≡ piece_bytes (next_piece since last key value)
+    → encoded_entry_bytes (record { is_restart = false; shared = shared; unshared = unshared; value = value }) ≡ encoded_entry_bytes (next_piece since last key value)
 next_piece_bytes since last key value unshared shared shared_is unshared_is =
     rw (unshared_is, shared_is) (bytes_by (eqb since 0) last key value)
 
@@ -141,46 +141,46 @@ next_last since last key unshared shared shared_is unshared_is = rw (unshared_is
 
 -- what a builder keeps, by the entries that its pieces give
 pub record IsKept (r : ℕ) (q : List Entry) (pieces restarts last : List ℕ) (since : ℕ) : Type 0 where
-  pub built : IsBuilt r (entries_behind [] pieces) pieces restarts last since
+  pub built : IsBlockBuilder r (entries_behind [] pieces) pieces restarts last since
   pub entries : entries_behind [] pieces ≡ q
 
-IsKept-built : (r : ℕ) (q : List Entry) (pieces restarts last : List ℕ) (since : ℕ) → IsBuilt r q pieces restarts last since → IsKept r q pieces restarts last since
+IsKept-built : (r : ℕ) (q : List Entry) (pieces restarts last : List ℕ) (since : ℕ) → IsBlockBuilder r q pieces restarts last since → IsKept r q pieces restarts last since
 IsKept-built r q pieces restarts last since h =
     let same = entries_behind-built h in
-    record { built = subst (λ (x : List Entry). IsBuilt r x pieces restarts last since) (sym same) h; entries = same }
+    record { built = subst (λ (x : List Entry). IsBlockBuilder r x pieces restarts last since) (sym same) h; entries = same }
 
-pub IsKept-next : {r : ℕ} {q : List Entry} {pieces restarts last : List ℕ} {since : ℕ} (key value pieces' restarts' last' : List ℕ) (since' : ℕ) → IsBuilt r q pieces restarts last since → length (block r (with_entry q key value)) ≤ 2 ^ 31
-    → pieces' ≡ pieces ++ piece_bytes (next_piece since last key value) → restarts' ≡ restarts ++ cond (eqb since 0) (length pieces ∷ []) [] → last' ≡ key → since' ≡ next_since r since
+pub IsKept-next : {r : ℕ} {q : List Entry} {pieces restarts last : List ℕ} {since : ℕ} (key value pieces' restarts' last' : List ℕ) (since' : ℕ) → IsBlockBuilder r q pieces restarts last since → length (block r (with_entry q key value)) ≤ 2 ^ 31
+    → pieces' ≡ pieces ++ encoded_entry_bytes (next_piece since last key value) → restarts' ≡ restarts ++ cond (eqb since 0) (length pieces ∷ []) [] → last' ≡ key → since' ≡ next_since r since
     → IsKept r (with_entry q key value) pieces' restarts' last' since'
 IsKept-next {r = r} {q = q} {pieces = pieces} {restarts = restarts} {last = last} {since = since} key value pieces' restarts' last' since' h fits pieces_are restarts_are last_is since_is =
     rw (pieces_are, restarts_are, last_is, since_is) (IsKept-built r (with_entry q key value) _ _ _ _ (IsBuilt-push key value h fits))
 
-pub entries_behind-next : {r : ℕ} {q : List Entry} {pieces restarts last : List ℕ} {since : ℕ} (key value pieces' : List ℕ) → IsBuilt r q pieces restarts last since → length (block r (with_entry q key value)) ≤ 2 ^ 31
-    → pieces' ≡ pieces ++ piece_bytes (next_piece since last key value) → entries_behind [] pieces' ≡ with_entry q key value
+pub entries_behind-next : {r : ℕ} {q : List Entry} {pieces restarts last : List ℕ} {since : ℕ} (key value pieces' : List ℕ) → IsBlockBuilder r q pieces restarts last since → length (block r (with_entry q key value)) ≤ 2 ^ 31
+    → pieces' ≡ pieces ++ encoded_entry_bytes (next_piece since last key value) → entries_behind [] pieces' ≡ with_entry q key value
 entries_behind-next key value pieces' h fits pieces_are = ap (entries_behind []) pieces_are ∙ entries_behind-built (IsBuilt-push key value h fits)
 
 -- ---- finishing
 
 -- where no restart is kept there is no entry
-pub restarts_of-none : {r : ℕ} {q : List Entry} {pieces restarts last : List ℕ} {since : ℕ} → IsBuilt r q pieces restarts last since → restarts ≡ [] → restarts_of (pieces_from r 0 [] q) ≡ 0 ∷ []
+pub restarts_of-none : {r : ℕ} {q : List Entry} {pieces restarts last : List ℕ} {since : ℕ} → IsBlockBuilder r q pieces restarts last since → restarts ≡ [] → restarts_of (encoded_entries_from r 0 [] q) ≡ 0 ∷ []
 restarts_of-none {q = []} h none = refl
 restarts_of-none {r = r} {q = e ∷ es} h none =
-    let first : (piece_of r 0 [] e).is_restart ≡ true = rw (zero-mod r) refl in
+    let first : (encoded_entry_of r 0 [] e).is_restart ≡ true = rw (zero-mod r) refl in
     absurd (cc (none, rw first at h.restarts_are))
 
-pub restarts_of-some : {r : ℕ} {q : List Entry} {pieces restarts last : List ℕ} {since : ℕ} → IsBuilt r q pieces restarts last since → 0 < length restarts → restarts_of (pieces_from r 0 [] q) ≡ restarts
+pub restarts_of-some : {r : ℕ} {q : List Entry} {pieces restarts last : List ℕ} {since : ℕ} → IsBlockBuilder r q pieces restarts last since → 0 < length restarts → restarts_of (encoded_entries_from r 0 [] q) ≡ restarts
 restarts_of-some {q = []} h some = absurd (omega (arith, ap length h.restarts_are))
 restarts_of-some {q = e ∷ es} h some = sym h.restarts_are
 
 -- The restarts that are written of those that are kept: 0 where there is none.
-pub restarts_of-written : {r : ℕ} {q : List Entry} {pieces restarts last : List ℕ} {since : ℕ} (written : List ℕ) → IsBuilt r q pieces restarts last since → ((length restarts ≡ 0) × (written ≡ 0 ∷ [])) ⊎ ((0 < length restarts) × (written ≡ restarts)) → restarts_of (pieces_from r 0 [] q) ≡ written
+pub restarts_of-written : {r : ℕ} {q : List Entry} {pieces restarts last : List ℕ} {since : ℕ} (written : List ℕ) → IsBlockBuilder r q pieces restarts last since → ((length restarts ≡ 0) × (written ≡ 0 ∷ [])) ⊎ ((0 < length restarts) × (written ≡ restarts)) → restarts_of (encoded_entries_from r 0 [] q) ≡ written
 restarts_of-written {restarts = restarts} written h (inl (none, is)) = restarts_of-none h (nil_from_length restarts none) ∙ sym is
 restarts_of-written written h (inr (some, is)) = restarts_of-some h some ∙ sym is
 
 -- the restarts that are written of what is kept
-pub length-written : {r : ℕ} {q : List Entry} {pieces restarts last : List ℕ} {since : ℕ} (written : List ℕ) → IsBuilt r q pieces restarts last since → restarts_of (pieces_from r 0 [] q) ≡ written → length written < 2 ^ 32
+pub length-written : {r : ℕ} {q : List Entry} {pieces restarts last : List ℕ} {since : ℕ} (written : List ℕ) → IsBlockBuilder r q pieces restarts last since → restarts_of (encoded_entries_from r 0 [] q) ≡ written → length written < 2 ^ 32
 length-written {r = r} {q = q} written h same = omega (arith, ap length same, length-block r q, h.fits)
 
-pub finished : {r : ℕ} {q : List Entry} {pieces restarts last : List ℕ} {since : ℕ} (written : List ℕ) → IsBuilt r q pieces restarts last since → restarts_of (pieces_from r 0 [] q) ≡ written → pieces ++ restart_bytes written ≡ block r q
+pub finished : {r : ℕ} {q : List Entry} {pieces restarts last : List ℕ} {since : ℕ} (written : List ℕ) → IsBlockBuilder r q pieces restarts last since → restarts_of (encoded_entries_from r 0 [] q) ≡ written → pieces ++ restart_bytes written ≡ block r q
 unfolding block
 finished written h same = rw (h.pieces_are, ← same) refl

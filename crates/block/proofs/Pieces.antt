@@ -5,26 +5,26 @@ use Rattle.std.proofs.lemmas.List.{take_at, drop_at, take-append-drop, length-ap
 use Rattle.std.proofs.lemmas.Bool.{le-leb, leb-true}
 use Rattle.std.proofs.lemmas.Option.{same_Some, cond_some}
 use Rattle.coding.specs.Varint.{varint, varint_reading}
-use Rattle.block.specs.Piece.{Entry, Piece, piece_bytes, key_after, entries_after, IsPieceAfter, ArePieces}
+use Rattle.block.specs.EncodedEntry.{Entry, EncodedEntry, encoded_entry_bytes, key_after, entries_after, IsEncodedEntryAfter, AreEncodedEntries}
 use Rattle.coding.specs.Answers.{and_then}
-use Rattle.block.specs.Reading.{Field, length_at, piece_of, piece_at}
-use Rattle.block.specs.Behind.{entries_in, entries_behind}
+use Rattle.block.specs.EntryFormat.{FieldReading, length_at, entry_of_lengths, encoded_entry_at}
+use Rattle.block.specs.Behind.{entries_of_bytes, entries_behind}
 use Rattle.coding.proofs.Varints.{varint_reading-varint, varint_reading-small, reads_varint, length-varint_pos}
 
 -- a piece at which no restart points
-abbrev pub plain : Piece → Piece
+abbrev pub plain : EncodedEntry → EncodedEntry
 plain p = record { is_restart = false; shared = p.shared; unshared = p.unshared; value = p.value }
 
-abbrev found : {A : Type 0} → A → List ℕ → Option (Field A)
+abbrev found : {A : Type 0} → A → List ℕ → Option (FieldReading A)
 found x rest = Some (record { field = x; rest = rest })
 
 -- each length has its width
-pub record Widths (p : Piece) : Type 0 where
+pub record Widths (p : EncodedEntry) : Type 0 where
   pub shared : p.shared < 2 ^ 32
   pub unshared : length p.unshared < 2 ^ 32
   pub value : length p.value < 2 ^ 32
 
-pub Widths-of : (before : ℕ) (p : Piece) → IsPieceAfter before p → Widths p
+pub Widths-of : (before : ℕ) (p : EncodedEntry) → IsEncodedEntryAfter before p → Widths p
 Widths-of before p h = record { shared = h.shared_fits; unshared = h.unshared_fits; value = h.value_fits }
 
 length_at-varint : (x : ℕ) (rest : List ℕ) → x < 2 ^ 32 → length_at (varint x ++ rest) ≡ found x rest
@@ -36,26 +36,26 @@ length_at-small : (b : ℕ) (rest : List ℕ) → b < 128 → length_at (b ∷ r
 length_at-small b rest lt = rw (varint_reading-small (2 ^ 32) (b ∷ rest) (omega arith) lt (lit≤ tt)) refl
 
 -- three lengths of one byte each
-pub piece_at-small : (bytes : List ℕ) → 3 ≤ length bytes → get_or bytes 0 0 < 128 → get_or bytes 1 0 < 128 → get_or bytes 2 0 < 128 → piece_at bytes ≡ piece_of (get_or bytes 0 0) (get_or bytes 1 0) (get_or bytes 2 0) (drop 3 bytes)
-unfolding piece_at
-piece_at-small [] long a b c = absurd (omega arith)
-piece_at-small (x ∷ []) long a b c = absurd (omega arith)
-piece_at-small (x ∷ y ∷ []) long a b c = absurd (omega arith)
-piece_at-small (x ∷ y ∷ z ∷ rest) long a b c = rw (length_at-small x (y ∷ z ∷ rest) a, length_at-small y (z ∷ rest) b, length_at-small z rest c) refl
+pub front_entry_at-small : (bytes : List ℕ) → 3 ≤ length bytes → get_or bytes 0 0 < 128 → get_or bytes 1 0 < 128 → get_or bytes 2 0 < 128 → encoded_entry_at bytes ≡ entry_of_lengths (get_or bytes 0 0) (get_or bytes 1 0) (get_or bytes 2 0) (drop 3 bytes)
+unfolding encoded_entry_at
+front_entry_at-small [] long a b c = absurd (omega arith)
+front_entry_at-small (x ∷ []) long a b c = absurd (omega arith)
+front_entry_at-small (x ∷ y ∷ []) long a b c = absurd (omega arith)
+front_entry_at-small (x ∷ y ∷ z ∷ rest) long a b c = rw (length_at-small x (y ∷ z ∷ rest) a, length_at-small y (z ∷ rest) b, length_at-small z rest c) refl
 
 -- what is behind the three lengths
 tail_at : List ℕ → List ℕ → List ℕ → List ℕ
 tail_at unshared value rest = unshared ++ (value ++ rest)
 
-regrouped : (p : Piece) (rest : List ℕ) → piece_bytes p ++ rest ≡ varint p.shared ++ (varint (length p.unshared) ++ (varint (length p.value) ++ (p.unshared ++ (p.value ++ rest))))
+regrouped : (p : EncodedEntry) (rest : List ℕ) → encoded_entry_bytes p ++ rest ≡ varint p.shared ++ (varint (length p.unshared) ++ (varint (length p.value) ++ (p.unshared ++ (p.value ++ rest))))
 regrouped p rest = simp append_assoc
 
-pub piece_at-piece_bytes : (p : Piece) (rest : List ℕ) → Widths p → piece_at (piece_bytes p ++ rest) ≡ found (plain p) rest
-unfolding piece_at
-piece_at-piece_bytes p rest h =
+pub front_entry_at-piece_bytes : (p : EncodedEntry) (rest : List ℕ) → Widths p → encoded_entry_at (encoded_entry_bytes p ++ rest) ≡ found (plain p) rest
+unfolding encoded_entry_at
+front_entry_at-piece_bytes p rest h =
     let fits : leb (length p.unshared + length p.value) (length (p.unshared ++ (p.value ++ rest))) ≡ true =
     le-leb _ _ (simp length-append (omega arith)) in
-    ap piece_at (regrouped p rest)
+    ap encoded_entry_at (regrouped p rest)
     ∙ rw (length_at-varint p.shared _ h.shared, length_at-varint (length p.unshared) _ h.unshared, length_at-varint (length p.value) _ h.value, fits, ← drop-drop (length p.value) (length p.unshared) (p.unshared ++ (p.value ++ rest)), take_at p.unshared (p.value ++ rest) (length p.unshared) refl, drop_at p.unshared (p.value ++ rest) (length p.unshared) refl, take_at p.value rest (length p.value) refl, drop_at p.value rest (length p.value) refl) refl
 
 -- the value of a step that did not fail
@@ -64,24 +64,24 @@ and_then_some None f y e = absurd cc
 and_then_some (Some x) f y e = (x, refl, e)
 
 -- a length that is read is spelt at the front
-record ReadsLength (bytes : List ℕ) (x : Field ℕ) : Type 0 where
+record ReadsLength (bytes : List ℕ) (x : FieldReading ℕ) : Type 0 where
   below : x.field < 2 ^ 32
   parts : bytes ≡ varint x.field ++ x.rest
 
-reads_length : (bytes : List ℕ) (x : Field ℕ) → length_at bytes ≡ Some x → ReadsLength bytes x
+reads_length : (bytes : List ℕ) (x : FieldReading ℕ) → length_at bytes ≡ Some x → ReadsLength bytes x
 reads_length bytes x e =
     let a = and_then_some (varint_reading (2 ^ 32) bytes) (λ r. found r.0 (drop r.1 bytes)) x e in
     let r = reads_varint (2 ^ 32) bytes a.0.0 a.0.1 a.1 in
     let same : record { field = a.0.0; rest = drop a.0.1 bytes } ≡ x = same_Some _ _ a.2 in
     subst (ReadsLength bytes) same (record { below = r.below; parts = r.parts })
 
-pub record ReadsPiece (bytes : List ℕ) (p : Piece) (rest : List ℕ) : Type 0 where
+pub record ReadsPiece (bytes : List ℕ) (p : EncodedEntry) (rest : List ℕ) : Type 0 where
   pub plain : p.is_restart ≡ false
   pub widths : Widths p
-  pub parts : bytes ≡ piece_bytes p ++ rest
+  pub parts : bytes ≡ encoded_entry_bytes p ++ rest
 
 -- the piece of three lengths and what is behind them
-made : Field ℕ → Field ℕ → Field ℕ → Field Piece
+made : FieldReading ℕ → FieldReading ℕ → FieldReading ℕ → FieldReading EncodedEntry
 made shared unshared value = record {
   field = record {
     is_restart = false;
@@ -92,7 +92,7 @@ made shared unshared value = record {
   rest = drop (unshared.field + value.field) value.rest;
 }
 
-reads_made : (bytes : List ℕ) (s u v : Field ℕ) → ReadsLength bytes s → ReadsLength s.rest u → ReadsLength u.rest v → u.field + v.field ≤ length v.rest
+reads_made : (bytes : List ℕ) (s u v : FieldReading ℕ) → ReadsLength bytes s → ReadsLength s.rest u → ReadsLength u.rest v → u.field + v.field ≤ length v.rest
     → ReadsPiece bytes (made s u v).field (made s u v).rest
 unfolding made
 reads_made bytes s u v rs ru rv long =
@@ -108,48 +108,48 @@ reads_made bytes s u v rs ru rv long =
     }
 
 -- three lengths that are read, and enough bytes behind them
-pub reads_piece : (bytes : List ℕ) (x : Field Piece) → piece_at bytes ≡ Some x → ReadsPiece bytes x.field x.rest
-unfolding piece_at made
+pub reads_piece : (bytes : List ℕ) (x : FieldReading EncodedEntry) → encoded_entry_at bytes ≡ Some x → ReadsPiece bytes x.field x.rest
+unfolding encoded_entry_at made
 reads_piece bytes x e =
     let a = and_then_some (length_at bytes) _ x e in
     let b = and_then_some (length_at a.0.rest) _ x a.2 in
     let c = and_then_some (length_at b.0.rest) _ x b.2 in
     let g = cond_some _ _ _ c.2 in
-    subst (λ (y : Field Piece). ReadsPiece bytes y.field y.rest) g.1
+    subst (λ (y : FieldReading EncodedEntry). ReadsPiece bytes y.field y.rest) g.1
     (reads_made bytes a.0 b.0 c.0 (reads_length bytes a.0 a.1) (reads_length a.0.rest b.0 b.1) (reads_length b.0.rest c.0 c.1) (leb-true _ _ g.0))
 
 -- a piece at the front is read, and no other
-pub piece_at_front : (bytes : List ℕ) (p : Piece) (rest : List ℕ) → Widths p → bytes ≡ piece_bytes p ++ rest → piece_at bytes ≡ found (plain p) rest
-piece_at_front bytes p rest h e = ap piece_at e ∙ piece_at-piece_bytes p rest h
+pub piece_at_front : (bytes : List ℕ) (p : EncodedEntry) (rest : List ℕ) → Widths p → bytes ≡ encoded_entry_bytes p ++ rest → encoded_entry_at bytes ≡ found (plain p) rest
+piece_at_front bytes p rest h e = ap encoded_entry_at e ∙ front_entry_at-piece_bytes p rest h
 
-pub length-piece_bytes_pos : (p : Piece) → 0 < length (piece_bytes p)
+pub length-piece_bytes_pos : (p : EncodedEntry) → 0 < length (encoded_entry_bytes p)
 length-piece_bytes_pos p = simp length-append (omega (arith, length-varint_pos p.shared))
 
 -- each of the pieces has its widths
-abbrev pub AreWide : List Piece → Type 0
+abbrev pub AreWide : List EncodedEntry → Type 0
 AreWide [] = Unit {0}
 AreWide (p ∷ ps) = Widths p × AreWide ps
 
-pub AreWide-of : (before : ℕ) (ps : List Piece) → ArePieces before ps → AreWide ps
+pub AreWide-of : (before : ℕ) (ps : List EncodedEntry) → AreEncodedEntries before ps → AreWide ps
 AreWide-of before [] h = tt
 AreWide-of before (p ∷ ps) h = (Widths-of before p h.0, AreWide-of (p.shared + length p.unshared) ps h.1)
 
 -- no piece stands in no bytes
-pub piece_at-nil : piece_at [] ≡ None
-unfolding piece_at varint_reading varint
-piece_at-nil = refl
+pub front_entry_at-nil : encoded_entry_at [] ≡ None
+unfolding encoded_entry_at varint_reading varint
+front_entry_at-nil = refl
 
 -- pieces that were spelt are read again
-pub entries_in-pieces : (n : ℕ) (before : List ℕ) (ps : List Piece) → AreWide ps → length ps ≤ n → entries_in n before (flat_map piece_bytes ps) ≡ entries_after before ps
+pub entries_in-pieces : (n : ℕ) (before : List ℕ) (ps : List EncodedEntry) → AreWide ps → length ps ≤ n → entries_of_bytes n before (flat_map encoded_entry_bytes ps) ≡ entries_after before ps
 entries_in-pieces zero before [] h le = refl
 entries_in-pieces zero before (p ∷ ps) h le = absurd (omega arith)
-entries_in-pieces (suc n) before [] h le = rw piece_at-nil refl
+entries_in-pieces (suc n) before [] h le = rw front_entry_at-nil refl
 entries_in-pieces (suc n) before (p ∷ ps) h le =
-    rw (piece_at-piece_bytes p (flat_map piece_bytes ps) h.0) (ap (λ (es : List Entry). record { key = key_after before p; value = p.value } ∷ es) (entries_in-pieces n (key_after before p) ps h.1 (omega arith)))
+    rw (front_entry_at-piece_bytes p (flat_map encoded_entry_bytes ps) h.0) (ap (λ (es : List Entry). record { key = key_after before p; value = p.value } ∷ es) (entries_in-pieces n (key_after before p) ps h.1 (omega arith)))
 
-pub length-pieces : (ps : List Piece) → length ps ≤ length (flat_map piece_bytes ps)
+pub length-pieces : (ps : List EncodedEntry) → length ps ≤ length (flat_map encoded_entry_bytes ps)
 length-pieces [] = omega arith
-length-pieces (p ∷ ps) = omega (arith, length-append (piece_bytes p) (flat_map piece_bytes ps), length-piece_bytes_pos p, length-pieces ps)
+length-pieces (p ∷ ps) = omega (arith, length-append (encoded_entry_bytes p) (flat_map encoded_entry_bytes ps), length-piece_bytes_pos p, length-pieces ps)
 
-pub entries_behind-pieces : (before : List ℕ) (ps : List Piece) → AreWide ps → entries_behind before (flat_map piece_bytes ps) ≡ entries_after before ps
-entries_behind-pieces before ps h = entries_in-pieces (length (flat_map piece_bytes ps)) before ps h (length-pieces ps)
+pub entries_behind-pieces : (before : List ℕ) (ps : List EncodedEntry) → AreWide ps → entries_behind before (flat_map encoded_entry_bytes ps) ≡ entries_after before ps
+entries_behind-pieces before ps h = entries_in-pieces (length (flat_map encoded_entry_bytes ps)) before ps h (length-pieces ps)

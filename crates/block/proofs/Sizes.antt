@@ -3,10 +3,10 @@ use Rattle.std.proofs.Common.{◌≡◌, ℕ, ◌+◌, ◌^◌, ◌≤◌, Bool,
 use Rattle.std.specs.List.{flat_map}
 use Rattle.std.proofs.lemmas.List.{length-append, append-nil}
 use Rattle.std.proofs.lemmas.List.Concat.{flat_map-append}
-use Rattle.block.specs.Piece.{Entry, Piece, piece_bytes, restarts_from}
-use Rattle.block.specs.Writing.{piece_of, pieces_from, block}
-use Rattle.block.specs.Building.{Building, last_key, with_entry}
-use Rattle.block.proofs.Written.{length-block, length-piece_bytes_le, length-piece_bytes_ge, piece_of-holds, restarts_from-push}
+use Rattle.block.specs.EncodedEntry.{Entry, EncodedEntry, encoded_entry_bytes, restarts_from}
+use Rattle.block.specs.BlockFormat.{encoded_entry_of, encoded_entries_from, block}
+use Rattle.block.specs.BuilderView.{BlockBuilding, last_key, with_entry}
+use Rattle.block.proofs.Written.{length-block, length-piece_bytes_le, length-piece_bytes_ge, entry_of_lengths-holds, restarts_from-push}
 use Rattle.block.proofs.Built.{pieces_from-push, length-restarts_of}
 
 pub length-block-nil : (r : ℕ) → length (block r []) ≡ 8
@@ -24,15 +24,15 @@ pub record Grows (r : ℕ) (q : List Entry) (e : Entry) : Type 0 where
 
 pub block-grows : (r : ℕ) (q : List Entry) (e : Entry) → Grows r q e
 block-grows r q e =
-    let p = piece_of r (0 + length q) (last_key [] q) e in
-    let ps = pieces_from r 0 [] q in
-    let h = piece_of-holds r (0 + length q) (last_key [] q) e in
+    let p = encoded_entry_of r (0 + length q) (last_key [] q) e in
+    let ps = encoded_entries_from r 0 [] q in
+    let h = entry_of_lengths-holds r (0 + length q) (last_key [] q) e in
     let pushed = pieces_from-push r 0 [] q e in
-    let bytes : length (flat_map piece_bytes (pieces_from r 0 [] (q ++ e ∷ []))) ≡ length (flat_map piece_bytes ps) + length (piece_bytes p) =
-    ap (λ (x : List Piece). length (flat_map piece_bytes x)) pushed ∙ ap length (flat_map-append piece_bytes ps (p ∷ []) ∙ ap (λ (x : List ℕ). flat_map piece_bytes ps ++ x) (append-nil (piece_bytes p))) ∙ length-append (flat_map piece_bytes ps) (piece_bytes p) in
-    let at = 0 + length (flat_map piece_bytes ps) in
-    let restarts : length (restarts_from 0 (pieces_from r 0 [] (q ++ e ∷ []))) ≡ length (restarts_from 0 ps) + length {A = ℕ} (cond p.is_restart (at ∷ []) []) =
-    ap (λ (x : List Piece). length (restarts_from 0 x)) pushed ∙ ap length (restarts_from-push 0 ps p) ∙ length-append (restarts_from 0 ps) (cond p.is_restart (at ∷ []) []) in
+    let bytes : length (flat_map encoded_entry_bytes (encoded_entries_from r 0 [] (q ++ e ∷ []))) ≡ length (flat_map encoded_entry_bytes ps) + length (encoded_entry_bytes p) =
+    ap (λ (x : List EncodedEntry). length (flat_map encoded_entry_bytes x)) pushed ∙ ap length (flat_map-append encoded_entry_bytes ps (p ∷ []) ∙ ap (λ (x : List ℕ). flat_map encoded_entry_bytes ps ++ x) (append-nil (encoded_entry_bytes p))) ∙ length-append (flat_map encoded_entry_bytes ps) (encoded_entry_bytes p) in
+    let at = 0 + length (flat_map encoded_entry_bytes ps) in
+    let restarts : length (restarts_from 0 (encoded_entries_from r 0 [] (q ++ e ∷ []))) ≡ length (restarts_from 0 ps) + length {A = ℕ} (cond p.is_restart (at ∷ []) []) =
+    ap (λ (x : List EncodedEntry). length (restarts_from 0 x)) pushed ∙ ap length (restarts_from-push 0 ps p) ∙ length-append (restarts_from 0 ps) (cond p.is_restart (at ∷ []) []) in
     let value : length p.value ≡ length e.value = ap length h.value in
     record {
       at_least = omega (arith, length-block r q, length-block r (q ++ e ∷ []), length-restarts_of r q, length-restarts_of r (q ++ e ∷ []), bytes, restarts, value, length-piece_bytes_ge p);
@@ -48,5 +48,5 @@ length-block-append r q (e ∷ es) =
     omega (arith, one.at_least, rest)
 
 -- There is room for one more entry where the block so far leaves room for its bytes and 34 more.
-pub fits_with_entry : (b : Building) (key value : List ℕ) → length (block b.interval b.entries) + 34 + length key + length value ≤ 2 ^ 31 → length (block b.interval (with_entry b.entries key value)) ≤ 2 ^ 31
+pub fits_with_entry : (b : BlockBuilding) (key value : List ℕ) → length (block b.interval b.entries) + 34 + length key + length value ≤ 2 ^ 31 → length (block b.interval (with_entry b.entries key value)) ≤ 2 ^ 31
 fits_with_entry b key value room = omega (arith, (block-grows b.interval b.entries (record { key = key; value = value })).at_most)

@@ -4,59 +4,59 @@ use Rattle.std.specs.List.{flat_map, slice_get}
 use Rattle.std.specs.Option.{option_map}
 use Rattle.std.proofs.lemmas.List.{length-append, length-take-le, nil_from_length}
 use Rattle.std.proofs.lemmas.Option.{same_Some, none-some}
-use Rattle.block.specs.Piece.{Entry, Piece, piece_bytes, key_after, entries_after, ArePieces}
-use Rattle.block.specs.Kept.{IsArea}
-use Rattle.block.specs.Reading.{Field, piece_at}
-use Rattle.block.specs.Behind.{entries_behind, ArePiecesBehind}
-use Rattle.block.proofs.Pieces.{plain, Widths-of, piece_at_front, piece_at-nil, entries_behind-pieces, AreWide-of}
+use Rattle.block.specs.EncodedEntry.{Entry, EncodedEntry, encoded_entry_bytes, key_after, entries_after, AreEncodedEntries}
+use Rattle.block.specs.BuilderState.{IsArea}
+use Rattle.block.specs.EntryFormat.{FieldReading, encoded_entry_at}
+use Rattle.block.specs.Behind.{entries_behind, AreEncodedEntriesAfter}
+use Rattle.block.proofs.Pieces.{plain, Widths-of, piece_at_front, front_entry_at-nil, entries_behind-pieces, AreWide-of}
 
-pub length-key_after : (before : List ℕ) (p : Piece) → p.shared ≤ length before → length (key_after before p) ≡ p.shared + length p.unshared
+pub length-key_after : (before : List ℕ) (p : EncodedEntry) → p.shared ≤ length before → length (key_after before p) ≡ p.shared + length p.unshared
 length-key_after before p le = omega (arith, length-append (take p.shared before) p.unshared, length-take-le p.shared before le)
 
 -- the entry of the piece at the front, and those behind it
-pub record Steps (before rest : List ℕ) (x : Field Piece) : Type 0 where
+pub record Steps (before rest : List ℕ) (x : FieldReading EncodedEntry) : Type 0 where
   pub entries : entries_behind before rest ≡ record { key = key_after before x.field; value = x.field.value } ∷ entries_behind (key_after before x.field) x.rest
-  pub behind : ArePiecesBehind (key_after before x.field) x.rest
+  pub behind : AreEncodedEntriesAfter (key_after before x.field) x.rest
 
-front_read : (before rest : List ℕ) (p : Piece) (ps : List Piece) → ArePieces (length before) (p ∷ ps) → rest ≡ flat_map piece_bytes (p ∷ ps) → piece_at rest ≡ Some (record { field = plain p; rest = flat_map piece_bytes ps })
-front_read before rest p ps h e = piece_at_front rest p (flat_map piece_bytes ps) (Widths-of (length before) p h.0) e
+front_read : (before rest : List ℕ) (p : EncodedEntry) (ps : List EncodedEntry) → AreEncodedEntries (length before) (p ∷ ps) → rest ≡ flat_map encoded_entry_bytes (p ∷ ps) → encoded_entry_at rest ≡ Some (record { field = plain p; rest = flat_map encoded_entry_bytes ps })
+front_read before rest p ps h e = piece_at_front rest p (flat_map encoded_entry_bytes ps) (Widths-of (length before) p h.0) e
 
-behind_of : (before rest : List ℕ) (ps : List Piece) → ArePieces (length before) ps → rest ≡ flat_map piece_bytes ps → entries_behind before rest ≡ entries_after before ps
+behind_of : (before rest : List ℕ) (ps : List EncodedEntry) → AreEncodedEntries (length before) ps → rest ≡ flat_map encoded_entry_bytes ps → entries_behind before rest ≡ entries_after before ps
 behind_of before rest ps h e = ap (entries_behind before) e ∙ entries_behind-pieces before ps (AreWide-of (length before) ps h)
 
-steps_of : (before rest : List ℕ) (x : Field Piece) (ps : List Piece) → ArePieces (length before) ps → rest ≡ flat_map piece_bytes ps → piece_at rest ≡ Some x → Steps before rest x
-steps_of before rest x [] h e f = absurd (none-some x (sym piece_at-nil ∙ ap piece_at (sym e) ∙ f))
+steps_of : (before rest : List ℕ) (x : FieldReading EncodedEntry) (ps : List EncodedEntry) → AreEncodedEntries (length before) ps → rest ≡ flat_map encoded_entry_bytes ps → encoded_entry_at rest ≡ Some x → Steps before rest x
+steps_of before rest x [] h e f = absurd (none-some x (sym front_entry_at-nil ∙ ap encoded_entry_at (sym e) ∙ f))
 steps_of before rest x (p ∷ ps) h e f =
-    let pieces : ArePieces (length (key_after before p)) ps = subst (λ (n : ℕ). ArePieces n ps) (sym (length-key_after before p h.0.shared)) h.1 in
+    let pieces : AreEncodedEntries (length (key_after before p)) ps = subst (λ (n : ℕ). AreEncodedEntries n ps) (sym (length-key_after before p h.0.shared)) h.1 in
     subst (Steps before rest) (same_Some _ _ (sym (front_read before rest p ps h e) ∙ f))
     (record {
-      entries = behind_of before rest (p ∷ ps) h e ∙ ap (λ (es : List Entry). record { key = key_after before p; value = p.value } ∷ es) (sym (behind_of (key_after before p) (flat_map piece_bytes ps) ps pieces refl));
+      entries = behind_of before rest (p ∷ ps) h e ∙ ap (λ (es : List Entry). record { key = key_after before p; value = p.value } ∷ es) (sym (behind_of (key_after before p) (flat_map encoded_entry_bytes ps) ps pieces refl));
       behind = (ps, pieces, refl);
     })
 
-pub steps : (before rest : List ℕ) (x : Field Piece) → ArePiecesBehind before rest → piece_at rest ≡ Some x → Steps before rest x
+pub steps : (before rest : List ℕ) (x : FieldReading EncodedEntry) → AreEncodedEntriesAfter before rest → encoded_entry_at rest ≡ Some x → Steps before rest x
 steps before rest x b f = steps_of before rest x b.0 b.1 b.2 f
 
 -- no piece stands at the front of no pieces alone
-pub ends : (before rest : List ℕ) → ArePiecesBehind before rest → piece_at rest ≡ None → entries_behind before rest ≡ []
+pub ends : (before rest : List ℕ) → AreEncodedEntriesAfter before rest → encoded_entry_at rest ≡ None → entries_behind before rest ≡ []
 ends before rest b f = ends_of b.0 b.1 b.2
   where
-    ends_of : (ps : List Piece) → ArePieces (length before) ps → rest ≡ flat_map piece_bytes ps → entries_behind before rest ≡ []
+    ends_of : (ps : List EncodedEntry) → AreEncodedEntries (length before) ps → rest ≡ flat_map encoded_entry_bytes ps → entries_behind before rest ≡ []
     ends_of [] h e = behind_of before rest [] h e
     ends_of (p ∷ ps) h e = absurd (none-some _ (sym f ∙ front_read before rest p ps h e))
 
 -- no bytes are left where no entry stands behind
-pub none_behind : (before rest : List ℕ) → ArePiecesBehind before rest → entries_behind before rest ≡ [] → rest ≡ []
+pub none_behind : (before rest : List ℕ) → AreEncodedEntriesAfter before rest → entries_behind before rest ≡ [] → rest ≡ []
 none_behind before rest b h = of_pieces b.0 b.1 b.2
   where
-    of_pieces : (ps : List Piece) → ArePieces (length before) ps → rest ≡ flat_map piece_bytes ps → rest ≡ []
+    of_pieces : (ps : List EncodedEntry) → AreEncodedEntries (length before) ps → rest ≡ flat_map encoded_entry_bytes ps → rest ≡ []
     of_pieces [] pieces e = e
     of_pieces (p ∷ ps) pieces e =
         let no : entries_after before (p ∷ ps) ≡ [] = sym (behind_of before rest (p ∷ ps) pieces e) ∙ h in
         absurd cc
 
 -- the pieces of a block's area
-pub behind_area : (area restarts : List ℕ) → IsArea area restarts → ArePiecesBehind [] area
+pub behind_area : (area restarts : List ℕ) → IsArea area restarts → AreEncodedEntriesAfter [] area
 behind_area area restarts h = (h.0, h.1.pieces, h.2)
 
 pub entries_of_area : (area restarts : List ℕ) (h : IsArea area restarts) → entries_behind [] area ≡ entries_after [] h.0
@@ -87,11 +87,11 @@ none_shared zero own = refl
 none_shared (suc n) own = refl
 
 -- a piece that stands after no key has its whole key
-pub first_key_whole : (p : Piece) → key_after [] p ≡ p.unshared
+pub first_key_whole : (p : EncodedEntry) → key_after [] p ≡ p.unshared
 first_key_whole p = none_shared p.shared p.unshared
 
 -- the key of the entry at a place where a piece stands
-pub first_key : (es : List Entry) (place : ℕ) (rest : List ℕ) (x : Field Piece) → ArePiecesBehind [] rest → piece_at rest ≡ Some x → drop place es ≡ entries_behind [] rest
+pub first_key : (es : List Entry) (place : ℕ) (rest : List ℕ) (x : FieldReading EncodedEntry) → AreEncodedEntriesAfter [] rest → encoded_entry_at rest ≡ Some x → drop place es ≡ entries_behind [] rest
     → option_map (λ e. e.key) (slice_get es place) ≡ Some x.field.unshared
 first_key es place rest x b f same =
     ap (option_map (λ e. e.key)) (sym (slice_get-drop es place) ∙ ap (λ (t : List Entry). slice_get t 0) (same ∙ (steps [] rest x b f).entries))

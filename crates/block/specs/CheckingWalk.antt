@@ -1,15 +1,15 @@
 -- A place in bytes that may be a block: the entry there, and what is known of the bytes before it.
 use Rattle.std.specs.Prelude.{◌≡◌, ◌≢◌, ℕ, Bool, true, false, if◌then◌else◌, List, [], ◌∷◌, length}
 use Rattle.block.specs.Behind.{entries_behind}
-use Rattle.block.specs.Kept.{IsArea}
-use Rattle.block.specs.Parts.{BeginsWith, IsSplit}
-use Rattle.block.specs.Passing.{Kept}
-use Rattle.block.specs.Checking.{Checking}
+use Rattle.block.specs.BuilderState.{IsArea}
+use Rattle.block.specs.Parts.{BeginsWith, HasBlockParts}
+use Rattle.block.specs.BlockPass.{PassState}
+use Rattle.block.specs.CheckedBytes.{BlockChecking}
 use Rattle.block.specs.declared.checking_cursor.CheckingCursor.TheInside.{Inside}
 
 -- the bytes, all entries before the restarts, and those from the place on
-abbrev pub tested : Inside → Checking
-tested c = record {
+abbrev pub checking_of : Inside → BlockChecking
+checking_of c = record {
   bytes = c.bytes.now;
   all = entries_behind [] c.area.now;
   ahead = if c.valid then record { key = c.key.items; value = c.value.now } ∷ entries_behind c.key.items c.rest.now else [];
@@ -18,10 +18,10 @@ tested c = record {
 -- The bytes up to the place pass the tests. If no entry is there, all of them do.
 pub record Passes (bytes area rest pending key : List ℕ) (valid : Bool) : Type 0 where
   pub restarts : List ℕ
-  pub split : IsSplit bytes area restarts
+  pub split : HasBlockParts bytes area restarts
   pub begins : BeginsWith restarts 0
   pub some : valid ≡ true → area ≢ []
-  pub walks : valid ≡ true → Kept area restarts rest pending (length key)
+  pub walks : valid ≡ true → PassState area restarts rest pending (length key)
   pub ended : valid ≡ false → IsArea area restarts
 
 -- the bytes of a checking cursor up to its place pass the tests

@@ -1,17 +1,17 @@
 -- what contracts rest on
-pub mod Piece
-pub mod Writing
-pub mod Building
-pub mod Reading
+pub mod EncodedEntry
+pub mod BlockFormat
+pub mod BuilderView
+pub mod EntryFormat
 pub mod Sound
 pub mod ReadingBlocks
-pub mod Checking
+pub mod CheckedBytes
 -- serves proofs alone
 pub mod Behind
-pub mod Kept
+pub mod BuilderState
 pub mod Parts
 pub mod Front
-pub mod Walking
+pub mod CursorPlace
 pub mod ReadingAhead
-pub mod Passing
+pub mod BlockPass
 pub mod CheckingWalk

@@ -7,7 +7,7 @@ abbrev pub BeginsWith : List ℕ → ℕ → Type 0
 BeginsWith pending at = (others : List ℕ) × (pending ≡ little_bytes 4 at ++ others)
 
 -- The bytes are the entries, then at least one restart, then the count of restarts.
-pub record IsSplit (bytes area restarts : List ℕ) : Type 0 where
+pub record HasBlockParts (bytes area restarts : List ℕ) : Type 0 where
   pub count : ℕ
   pub some : 0 < count
   pub fits : count < 2 ^ 32

@@ -7,8 +7,8 @@ use Rattle.byteorder.specs.Endian.{little_number}
 use Rattle.coding.specs.Answers.{fault}
 use Rattle.coding.specs.declared.fault.Fault.{Fault}
 use Rattle.coding.specs.declared.fault.FaultName.TheVariants.{Block}
-use Rattle.block.specs.Piece.{Entry, Piece, piece_bytes, entries_after, restarts_of, block_bytes, IsBlock}
-use Rattle.block.specs.Reading.{piece_at}
+use Rattle.block.specs.EncodedEntry.{Entry, EncodedEntry, encoded_entry_bytes, entries_after, restarts_of, block_bytes, IsBlock}
+use Rattle.block.specs.EntryFormat.{encoded_entry_at}
 use Rattle.block.specs.Sound.{numbers_in}
 
 -- the count of restarts, in the last four bytes
@@ -32,44 +32,46 @@ is_next (restart ∷ restarts) at = nat_eq restart at
 abbrev pub restarts_behind : List ℕ → ℕ → List ℕ
 restarts_behind restarts at = if is_next restarts at then drop 1 restarts else restarts
 
--- the piece, with whether a restart points at it
-abbrev pub with_mark : Bool → Piece → Piece
+-- the encoded entry, with whether a restart points at it
+abbrev pub with_mark : Bool → EncodedEntry → EncodedEntry
 with_mark is_restart p = record { is_restart = is_restart; shared = p.shared; unshared = p.unshared; value = p.value }
 
--- at most n pieces at the front of bytes, the first of them at offset `at`, with these restarts
-abbrev pub pieces_in : ℕ → ℕ → List ℕ → List ℕ → List Piece
-pieces_in zero at restarts bytes = []
-pieces_in (suc n) at restarts bytes =
-    option_map_or (λ p. with_mark (is_next restarts at) p.field ∷ pieces_in n (at + length (piece_bytes p.field)) (restarts_behind restarts at) p.rest) (piece_at bytes) []
+-- at most n encoded entries at the front of bytes, the first of them at offset `at`, with these
+-- restarts
+abbrev pub encoded_entries_in : ℕ → ℕ → List ℕ → List ℕ → List EncodedEntry
+encoded_entries_in zero at restarts bytes = []
+encoded_entries_in (suc n) at restarts bytes =
+    option_map_or (λ p. with_mark (is_next restarts at) p.field ∷ encoded_entries_in n (at + length (encoded_entry_bytes p.field)) (restarts_behind restarts at) p.rest) (encoded_entry_at bytes) []
 
--- the pieces in the bytes, up to the first bytes that are no piece
-unfoldable pub pieces_of : List ℕ → List Piece
-pieces_of bytes = pieces_in (area_len bytes) 0 (restarts_in bytes) (take (area_len bytes) bytes)
+-- the encoded entries in the bytes, up to the first bytes that are no encoded entry
+unfoldable pub encoded_entries_of : List ℕ → List EncodedEntry
+encoded_entries_of bytes = encoded_entries_in (area_len bytes) 0 (restarts_in bytes) (take (area_len bytes) bytes)
 
--- whether a piece may come after a key of length `before`
-abbrev pub is_piece_after : ℕ → Piece → Bool
-is_piece_after before p =
+-- whether an encoded entry may come after a key of length `before`
+abbrev pub is_encoded_entry_after : ℕ → EncodedEntry → Bool
+is_encoded_entry_after before p =
     nat_le p.shared before && (not p.is_restart || nat_eq p.shared 0) && nat_lt p.shared (2 ^ 32) && nat_lt (length p.unshared) (2 ^ 32) && nat_lt (length p.value) (2 ^ 32)
 
--- whether each piece may come after the key before it, the first after a key of length `before`
-abbrev pub are_pieces : ℕ → List Piece → Bool
-are_pieces before [] = true
-are_pieces before (p ∷ ps) = is_piece_after before p && are_pieces (p.shared + length p.unshared) ps
+-- whether each encoded entry may come after the key before it, the first after a key of length
+-- `before`
+abbrev pub are_encoded_entries : ℕ → List EncodedEntry → Bool
+are_encoded_entries before [] = true
+are_encoded_entries before (p ∷ ps) = is_encoded_entry_after before p && are_encoded_entries (p.shared + length p.unshared) ps
 
--- whether a restart points at the first piece, if there is one
-abbrev pub begins_with_restart : List Piece → Bool
+-- whether a restart points at the first encoded entry, if there is one
+abbrev pub begins_with_restart : List EncodedEntry → Bool
 begins_with_restart [] = true
 begins_with_restart (p ∷ ps) = p.is_restart
 
--- whether the pieces are those of a block
-abbrev pub are_of_block : List Piece → Bool
-are_of_block ps = are_pieces 0 ps && begins_with_restart ps && list_all (λ restart. nat_lt restart (2 ^ 32)) (length (restarts_of ps) ∷ restarts_of ps)
+-- whether the encoded entries are those of a block
+abbrev pub are_of_block : List EncodedEntry → Bool
+are_of_block ps = are_encoded_entries 0 ps && begins_with_restart ps && list_all (λ restart. nat_lt restart (2 ^ 32)) (length (restarts_of ps) ∷ restarts_of ps)
 
--- The entries of the bytes as a block, or Block: the pieces in them have to be those of a block,
--- and their block has to be the bytes.
+-- The entries of the bytes as a block, or Block: the encoded entries in them have to be those of a
+-- block, and their block has to be the bytes.
 unfoldable pub block_reading : List ℕ → Result (List Entry) Fault
 block_reading bytes =
-    if are_of_block (pieces_of bytes) && bytes_eq bytes (block_bytes (pieces_of bytes)) then Ok (entries_after [] (pieces_of bytes)) else Err (fault Block)
+    if are_of_block (encoded_entries_of bytes) && bytes_eq bytes (block_bytes (encoded_entries_of bytes)) then Ok (entries_after [] (encoded_entries_of bytes)) else Err (fault Block)
 
 -- bytes read as a list of entries exactly if they are a block of it
 pub record ReadsBlocks : Type 0 where

@@ -4,9 +4,9 @@ ghost use Rattle.std.specs.Prelude.{◌≡◌, ◌^◌, ◌≤◌, ◌↔◌, []
 ghost use Rattle.std.specs.Prelude.{IfErr, OnOk, OnErr, IsOkUnless};
 ghost use Rattle.coding.specs.Answers.{fault};
 ghost use Rattle.coding.specs.declared.fault.FaultName.TheVariants.{Memory};
-ghost use Rattle.block.specs.Piece.{piece_bytes};
-ghost use Rattle.block.specs.Writing.{block};
-ghost use Rattle.block.specs.Building.{with_entry, last_key};
+ghost use Rattle.block.specs.EncodedEntry.{encoded_entry_bytes};
+ghost use Rattle.block.specs.BlockFormat.{block};
+ghost use Rattle.block.specs.BuilderView.{with_entry, last_key};
 
 use crate::layout::{next_since, push_fields, push_restarts, shared_len};
 use coding::Fault;
@@ -37,15 +37,15 @@ pub struct BlockBuilder {
 impl Model for BlockBuilder {
     ghost use Rattle.std.specs.Prelude.{[]};
     ghost use Rattle.block.specs.Behind.{entries_behind};
-    ghost use Rattle.block.specs.Building.{Building};
-    ghost use Rattle.block.specs.Kept.{IsBuilt};
+    ghost use Rattle.block.specs.BuilderView.{BlockBuilding};
+    ghost use Rattle.block.specs.BuilderState.{IsBlockBuilder};
 
-    ghost Value = { Building };
+    ghost Value = { BlockBuilding };
 
     ghost view = { λ b. record { interval = b.interval; entries = entries_behind [] b.bytes.items } };
 
     ghost invariant = { λ b.
-        IsBuilt b.interval (entries_behind [] b.bytes.items) b.bytes.items
+        IsBlockBuilder b.interval (entries_behind [] b.bytes.items) b.bytes.items
         b.restarts.items b.last.items b.since };
 }
 
@@ -83,7 +83,7 @@ impl BlockBuilder {
         self.restarts.reserve(1)?;
         self.last.reserve(key.len())?;
         let offset = self.bytes.len();
-        push_piece(&mut self.bytes, shared, &key[shared..], value)?;
+        push_encoded_entry(&mut self.bytes, shared, &key[shared..], value)?;
         if self.since == 0 {
             self.restarts.push(offset as u32)?;
         }
@@ -175,8 +175,13 @@ impl BlockBuilder {
 }
 
 /// Appends the fields of an entry. The only fault is Memory, which leaves `out` unchanged.
-fn push_piece(out: &mut Vec<u8>, shared: usize, unshared: &[u8], value: &[u8]) -> Result<(), Fault>
-    ensures ok { OnOk result (out.new.items ≡ out.old.items ++ piece_bytes (record {
+fn push_encoded_entry(
+    out: &mut Vec<u8>,
+    shared: usize,
+    unshared: &[u8],
+    value: &[u8],
+) -> Result<(), Fault>
+    ensures ok { OnOk result (out.new.items ≡ out.old.items ++ encoded_entry_bytes (record {
       is_restart = false;
       shared = shared;
       unshared = unshared.now;

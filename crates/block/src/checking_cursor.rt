@@ -6,7 +6,7 @@ ghost use Rattle.coding.specs.Answers.{FailsOrMemory};
 ghost use Rattle.block.specs.ReadingBlocks.{block_reading};
 
 use crate::cursor::replace_end;
-use crate::sound_block::{are_begun, next_piece, split};
+use crate::sound_block::{are_begun, next_entry, split};
 use coding::{Fault, FaultName};
 use std::alloc::Global;
 use std::marker::Model;
@@ -31,13 +31,13 @@ pub struct CheckingCursor<'a> {
 }
 
 impl<'a> Model for CheckingCursor<'a> {
-    ghost use Rattle.block.specs.Checking.{Checking};
+    ghost use Rattle.block.specs.CheckedBytes.{BlockChecking};
 
-    ghost Value = { Checking };
+    ghost Value = { BlockChecking };
 
-    ghost use Rattle.block.specs.CheckingWalk.{tested, IsTesting};
+    ghost use Rattle.block.specs.CheckingWalk.{checking_of, IsTesting};
 
-    ghost view = { tested };
+    ghost view = { checking_of };
 
     ghost invariant = { IsTesting };
 }
@@ -81,7 +81,7 @@ impl<'a> CheckingCursor<'a> {
             self.valid = false;
             return Ok(());
         }
-        let Some(first) = next_piece(parts.area, parts.area, parts.restarts, 0) else {
+        let Some(first) = next_entry(parts.area, parts.area, parts.restarts, 0) else {
             return Err(Fault::of(FaultName::Block));
         };
         replace_end(&mut self.key, 0, first.piece.unshared)?;
@@ -144,7 +144,7 @@ impl<'a> CheckingCursor<'a> {
             return Ok(());
         }
         let key_len = self.key.len();
-        let Some(next) = next_piece(self.area, self.rest, self.pending, key_len) else {
+        let Some(next) = next_entry(self.area, self.rest, self.pending, key_len) else {
             return Err(Fault::of(FaultName::Block));
         };
         replace_end(&mut self.key, next.piece.shared, next.piece.unshared)?;

@@ -2,11 +2,11 @@
 
 ghost use Rattle.std.specs.Prelude.{◌≡◌, ◌<◌, ◌↔◌, [], length, IsTrue, IfOk, OnOk, OnErr, IsOkUnless, IfErr, slice_get, slice_index, Some, take, drop, ◌++◌};
 ghost use Rattle.std.specs.Option.{option_map};
-ghost use Rattle.block.specs.Behind.{entries_behind, ArePiecesBehind};
+ghost use Rattle.block.specs.Behind.{entries_behind, AreEncodedEntriesAfter};
 ghost use Rattle.coding.specs.Answers.{fault};
 ghost use Rattle.coding.specs.declared.fault.FaultName.TheVariants.{Memory};
 
-use crate::piece::piece_at;
+use crate::front_entry::front_entry_at;
 use crate::read_ahead::ReadAhead;
 use crate::sound_block::SoundBlock;
 use coding::Fault;
@@ -27,13 +27,13 @@ pub struct BlockCursor<'a> {
 
 impl<'a> Model for BlockCursor<'a> {
     ghost use Rattle.std.specs.Prelude.{List};
-    ghost use Rattle.block.specs.Piece.{Entry};
+    ghost use Rattle.block.specs.EncodedEntry.{Entry};
 
     ghost Value = { List Entry };
 
-    ghost use Rattle.block.specs.Walking.{remaining, IsWalking};
+    ghost use Rattle.block.specs.CursorPlace.{remaining_entries, IsWalking};
 
-    ghost view = { remaining };
+    ghost view = { remaining_entries };
 
     ghost invariant = { IsWalking };
 }
@@ -108,7 +108,7 @@ impl<'a> BlockCursor<'a> {
         ensures err { OnErr result (self.new ≡ self.old) }
         ensures memory { IsOkUnless result (fault Memory) }
     {
-        let Some(piece) = piece_at(self.rest) else {
+        let Some(piece) = front_entry_at(self.rest) else {
             self.valid = false;
             return Ok(());
         };
@@ -126,7 +126,7 @@ impl<'a> BlockCursor<'a> {
         ensures err { OnErr result (self.new ≡ self.old) }
         ensures memory { IsOkUnless result (fault Memory) }
     {
-        let Some(first) = piece_at(block.area()) else {
+        let Some(first) = front_entry_at(block.area()) else {
             self.valid = false;
             return Ok(());
         };
@@ -140,11 +140,11 @@ impl<'a> BlockCursor<'a> {
 
     /// The entries in `pieces`, the first of which has its whole key. The only fault is Memory.
     fn over(alloc: Global, pieces: &'a [u8]) -> Result<BlockCursor<'a>, Fault>
-        requires { ArePiecesBehind [] pieces.now }
+        requires { AreEncodedEntriesAfter [] pieces.now }
         ensures all { IfOk result (λ cursor. cursor ≡ entries_behind [] pieces.now) }
         ensures memory { IfErr result (λ e. e ≡ fault Memory) }
     {
-        let Some(piece) = piece_at(pieces) else {
+        let Some(piece) = front_entry_at(pieces) else {
             return Ok(BlockCursor::none(alloc));
         };
         let mut key = Vec::new(alloc);

@@ -4,7 +4,7 @@ ghost use Rattle.std.specs.Prelude.{◌<◌, ◌^◌, length};
 
 /// An entry at the front of bytes, as it is stored, and the bytes after it.
 #[derive(Clone, Copy)]
-pub(crate) struct FrontPiece<'a> {
+pub(crate) struct FrontEntry<'a> {
     /// How many bytes of the key before it begin its key.
     pub shared: usize,
     /// The other bytes of its key.

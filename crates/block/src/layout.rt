@@ -30,7 +30,7 @@ ghost use Rattle.std.specs.List.{common_prefix_len};
 ghost use Rattle.coding.specs.Answers.{fault};
 ghost use Rattle.coding.specs.declared.fault.FaultName.TheVariants.{Memory};
 ghost use Rattle.coding.specs.Varint.{varint};
-ghost use Rattle.block.specs.Piece.{piece_bytes, restart_bytes};
+ghost use Rattle.block.specs.EncodedEntry.{encoded_entry_bytes, restart_bytes};
 
 use coding::{Fault, common_len, push_varint};
 
@@ -71,7 +71,7 @@ pub fn push_fields(
     unshared: &[u8],
     value: &[u8],
 ) -> Result<(), Fault>
-    ensures ok { OnOk result (out.new.items ≡ out.old.items ++ piece_bytes (record {
+    ensures ok { OnOk result (out.new.items ≡ out.old.items ++ encoded_entry_bytes (record {
       is_restart = false;
       shared = shared;
       unshared = unshared.now;

@@ -13,16 +13,16 @@
 #![tactic(auto)]
 
 ghost use Rattle.std.specs.Prelude.{◌^◌, ◌≤◌, length, List, ℕ};
-ghost use Rattle.block.specs.Piece.{Entry, IsBlock};
+ghost use Rattle.block.specs.EncodedEntry.{Entry, IsBlock};
 ghost use Rattle.block.specs.ReadingBlocks.{ReadsBlocks};
-ghost use Rattle.block.specs.Writing.{block};
+ghost use Rattle.block.specs.BlockFormat.{block};
 
 mod builder;
 mod checking_cursor;
 mod cursor;
 mod front;
+mod front_entry;
 mod layout;
-mod piece;
 mod read_ahead;
 mod sound_block;
 

@@ -4,18 +4,18 @@ ghost use Rattle.std.specs.Prelude.{◌≡◌, ◌≢◌, ◌<◌, ◌≤◌, �
 ghost use Rattle.std.specs.List.{All};
 ghost use Rattle.std.specs.Option.{option_map};
 ghost use Rattle.std.specs.List.Sorted.{IsStrictlyIncreasing};
-ghost use Rattle.block.specs.Piece.{Entry, IsBlock};
-ghost use Rattle.block.specs.Kept.{IsArea};
-ghost use Rattle.block.specs.Behind.{entries_behind, ArePiecesBehind};
+ghost use Rattle.block.specs.EncodedEntry.{Entry, IsBlock};
+ghost use Rattle.block.specs.BuilderState.{IsArea};
+ghost use Rattle.block.specs.Behind.{entries_behind, AreEncodedEntriesAfter};
 ghost use Rattle.block.specs.Sound.{PointsAt};
 ghost use Rattle.block.specs.Front.{front_field};
-ghost use Rattle.block.specs.Parts.{BeginsWith, IsSplit};
-ghost use Rattle.block.specs.Passing.{IsNextPiece, Kept};
+ghost use Rattle.block.specs.Parts.{BeginsWith, HasBlockParts};
+ghost use Rattle.block.specs.BlockPass.{IsNextEncodedEntry, PassState};
 ghost use Rattle.coding.specs.Answers.{fault};
 ghost use Rattle.coding.specs.declared.fault.FaultName.TheVariants.{Block};
 
-use crate::front::FrontPiece;
-use crate::piece::piece_at;
+use crate::front::FrontEntry;
+use crate::front_entry::front_entry_at;
 use byteorder::{ByteOrder, LittleEndian};
 use coding::{Fault, FaultName};
 use std::marker::Model;
@@ -34,10 +34,10 @@ pub struct SoundBlock<'a> {
 }
 
 impl<'a> Model for SoundBlock<'a> {
-    ghost use Rattle.block.specs.Kept.{IsArea, sound_in};
-    ghost use Rattle.block.specs.Sound.{Sound};
+    ghost use Rattle.block.specs.BuilderState.{IsArea, sound_in};
+    ghost use Rattle.block.specs.Sound.{BlockView};
 
-    ghost Value = { Sound };
+    ghost Value = { BlockView };
 
     ghost view = { λ b. sound_in b.area.now b.restarts.now };
 
@@ -65,7 +65,7 @@ impl<'a> SoundBlock<'a> {
         ensures { option_map (λ key. key.now) result
             ≡ option_map (λ e. e.key) (slice_get self.now.entries (slice_index self.now.restarts restart)) }
     {
-        let piece = piece_at(self.area_from(restart))?;
+        let piece = front_entry_at(self.area_from(restart))?;
         Some(piece.unshared)
     }
 
@@ -82,7 +82,7 @@ impl<'a> SoundBlock<'a> {
     /// The bytes before the restarts.
     pub(crate) fn area(&self) -> &'a [u8]
         ensures entries { entries_behind [] result.now ≡ self.now.entries }
-        ensures pieces { ArePiecesBehind [] result.now }
+        ensures pieces { AreEncodedEntriesAfter [] result.now }
     {
         self.area
     }
@@ -91,7 +91,7 @@ impl<'a> SoundBlock<'a> {
     pub(crate) fn area_from(&self, restart: u64) -> &'a [u8]
         requires { restart < length self.now.restarts }
         ensures entries { entries_behind [] result.now ≡ drop (slice_index self.now.restarts restart) self.now.entries }
-        ensures pieces { ArePiecesBehind [] result.now }
+        ensures pieces { AreEncodedEntriesAfter [] result.now }
     {
         let (_, numbers) = self.restarts.split_at(restart as usize * RESTART_LEN);
         let offset = LittleEndian::read_u32(numbers) as usize;
@@ -126,7 +126,7 @@ pub fn check(bytes: &[u8]) -> Result<SoundBlock<'_>, Fault>
     let Some(parts) = split(bytes) else {
         return Err(Fault::of(FaultName::Block));
     };
-    if !are_pieces(parts.area, parts.restarts) {
+    if !are_entries(parts.area, parts.restarts) {
         return Err(Fault::of(FaultName::Block));
     }
     Ok(SoundBlock {
@@ -164,8 +164,8 @@ pub(crate) struct Parts<'a> {
 /// The bytes before the restarts, and those of the restarts. None if the bytes have no such parts:
 /// at least one restart, and then their count.
 pub(crate) fn split(bytes: &[u8]) -> Option<Parts<'_>>
-    ensures found { IfSome result (λ parts. IsSplit bytes.now parts.area.now parts.restarts.now) }
-    ensures none { IfNone result ((area restarts : List ℕ) → IsSplit bytes.now area restarts → ⊥) }
+    ensures found { IfSome result (λ parts. HasBlockParts bytes.now parts.area.now parts.restarts.now) }
+    ensures none { IfNone result ((area restarts : List ℕ) → HasBlockParts bytes.now area restarts → ⊥) }
 {
     if bytes.len() < RESTART_LEN {
         return None;
@@ -204,46 +204,46 @@ pub(crate) fn are_begun(area: &[u8], restarts: &[u8]) -> bool
 
 /// The next entry as it is stored, and the restarts after it.
 #[derive(Clone, Copy)]
-pub(crate) struct NextPiece<'a> {
-    pub piece: FrontPiece<'a>,
+pub(crate) struct NextEntry<'a> {
+    pub piece: FrontEntry<'a>,
     pub pending: &'a [u8],
 }
 
 /// The entry at the front of `rest`, and the restarts after it. None if there is no entry, if it
 /// shares more than the key before it has, or if a restart points at it and it shares something.
 #[inline]
-pub(crate) fn next_piece<'a>(
+pub(crate) fn next_entry<'a>(
     area: &[u8],
     rest: &'a [u8],
     pending: &'a [u8],
     key_len: usize,
-) -> Option<NextPiece<'a>>
+) -> Option<NextEntry<'a>>
     requires { length rest.now ≤ length area.now }
     ensures next { IfSome result (λ next.
-        IsNextPiece area.now rest.now pending.now key_len (front_field next.piece) next.pending.now) }
-    ensures none { IfNone result ((restarts : List ℕ) → rest.now ≢ [] → Kept area.now restarts rest.now pending.now key_len
+        IsNextEncodedEntry area.now rest.now pending.now key_len (front_field next.piece) next.pending.now) }
+    ensures none { IfNone result ((restarts : List ℕ) → rest.now ≢ [] → PassState area.now restarts rest.now pending.now key_len
         → IsArea area.now restarts → ⊥) }
 {
     let at = area.len() - rest.len();
-    let Some(piece) = piece_at(rest) else {
+    let Some(piece) = front_entry_at(rest) else {
         return None;
     };
     if piece.shared > key_len {
         return None;
     }
     if !is_next(pending, at) {
-        return Some(NextPiece { piece, pending });
+        return Some(NextEntry { piece, pending });
     }
     if piece.shared != 0 {
         return None;
     }
     let (_, pending) = pending.split_at(RESTART_LEN);
-    Some(NextPiece { piece, pending })
+    Some(NextEntry { piece, pending })
 }
 
 /// Whether the bytes before the restarts are entries, and each restart is the offset of an entry
 /// that shares nothing.
-fn are_pieces(area: &[u8], restarts: &[u8]) -> bool
+fn are_entries(area: &[u8], restarts: &[u8]) -> bool
     requires { length restarts.now < 2 ^ 34 }
     ensures { IsTrue result ↔ IsArea area.now restarts.now }
 {
@@ -257,7 +257,7 @@ fn are_pieces(area: &[u8], restarts: &[u8]) -> bool
     let mut pending = restarts;
     let mut key_len = 0;
     while !rest.is_empty() {
-        let Some(next) = next_piece(area, rest, pending, key_len) else {
+        let Some(next) = next_entry(area, rest, pending, key_len) else {
             return false;
         };
         let piece = next.piece;

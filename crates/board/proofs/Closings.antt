@@ -13,9 +13,9 @@ use Rattle.board.specs.Shares.{times}
 use Rattle.board.specs.Progress.{no_fault, Layout, Progress, fault_word}
 use Rattle.board.specs.Finished.{all_drawn, all_failed, all_skipped, all_done, times_spent, HasSpentAll, IsLeastOf, IsFinished}
 use Rattle.board.specs.Words.{once_below}
-use Rattle.board.specs.Rule.{Kept, gathered, IsWhole}
+use Rattle.board.specs.Rule.{TableKeepsRule, gathered_views, IsWhole}
 use Rattle.board.specs.Seats.{layout, progress_of, IsSeated, IsCounted}
-use Rattle.board.specs.Gathering.{Gathers, most}
+use Rattle.board.specs.GatheredSeats.{Gathers, greatest_count}
 use Rattle.board.proofs.Sums.{times-append}
 use Rattle.board.proofs.Counts.{spent_few, nothing}
 use Rattle.board.proofs.Moves.{learns, learns_part, below_one}
@@ -45,11 +45,11 @@ more_times f p ps x xs ys same is =
 
 pub gathers : (b : Layout) (g g' : Gathered) (ps : List Progress) (p : Progress) (t : TableId) (number passed jobs seats : ℕ) (me : Me (Unit {0}) SeatView) (trail : List ℕ) (d f s : ℕ)
     → IsSeated number passed jobs seats me × IsCounted me.0 trail d f s → progress_of t number me.0 trail ≡ p
-    → g'.token.table_id ≡ g.token.table_id → g'.token.me.0 ≡ gathered g.token.me.0 me.0
-    → g'.done ≡ min (g.done + d) most → g'.failed ≡ min (g.failed + f) most → g'.skipped ≡ min (g.skipped + s) most
+    → g'.token.table_id ≡ g.token.table_id → g'.token.me.0 ≡ gathered_views g.token.me.0 me.0
+    → g'.done ≡ min (g.done + d) greatest_count → g'.failed ≡ min (g.failed + f) greatest_count → g'.skipped ≡ min (g.skipped + s) greatest_count
     → Gathers b g ps → Gathers b g' (p ∷ ps)
 gathers b g g' ps p t number passed jobs seats me trail d f s inv is et ev ed ef es h =
-    let now : (l : SeatView → List ℕ) (x : ℕ) → times x (l g'.token.me.0) ≡ times x (l (gathered g.token.me.0 me.0)) = (λ l x. ap (λ (v : SeatView). times x (l v)) ev) in
+    let now : (l : SeatView → List ℕ) (x : ℕ) → times x (l g'.token.me.0) ≡ times x (l (gathered_views g.token.me.0 me.0)) = (λ l x. ap (λ (v : SeatView). times x (l v)) ev) in
     let one = inv.0.one in let c = inv.1.counts in
     let pd = ap (λ (q : Progress). q.done) is in let pf = ap (λ (q : Progress). q.failed) is in let ps' = ap (λ (q : Progress). q.skipped) is in let pw = ap (λ (q : Progress). q.drawn) is in record {
       board = (λ i. layout (et i) ((ev i).jobs) ((ev i).seats)) ∙ h.board;
@@ -73,7 +73,7 @@ gathers b g g' ps p t number passed jobs seats me trail d f s inv is et ev ed ef
     }
 
 -- the last state of the table
-pub ends_part : (e : Extent) (id : ℕ) (v : SeatView) (ws : List ℕ) (xs : List (Unit {0})) → Final (Seen (Kept e) id v) ws xs → 0 < v.parts → (x : ℕ) → times x v.drawn ≤ once_below x v.jobs
+pub ends_part : (e : Extent) (id : ℕ) (v : SeatView) (ws : List ℕ) (xs : List (Unit {0})) → Final (Seen (TableKeepsRule e) id v) ws xs → 0 < v.parts → (x : ℕ) → times x v.drawn ≤ once_below x v.jobs
 ends_part e id v ws xs last sits = learns_part e id v last.0 last.1 sits
 
 found_at : (l : List ℕ) (i a : ℕ) → get_elem? l i ≡ some a → get_or l i 0 ≡ a
@@ -81,7 +81,7 @@ found_at [] i a e = absurd (some-ne-none a (sym e))
 found_at (x ∷ xs) zero a e = some-injective x a e
 found_at (x ∷ xs) (suc i) a e = found_at xs i a e
 
-pub ends_whole : (e : Extent) (id : ℕ) (v : SeatView) (ws : List ℕ) (xs : List (Unit {0})) (fault : ℕ) → Final (Seen (Kept e) id v) ws xs → get_elem? ws 64 ≡ some fault → 0 < v.parts → v.parts ≡ v.seats → IsWhole v fault
+pub ends_whole : (e : Extent) (id : ℕ) (v : SeatView) (ws : List ℕ) (xs : List (Unit {0})) (fault : ℕ) → Final (Seen (TableKeepsRule e) id v) ws xs → get_elem? ws 64 ≡ some fault → 0 < v.parts → v.parts ≡ v.seats → IsWhole v fault
 ends_whole e id v ws xs fault last at sits whole =
     subst (IsWhole v) (ap (λ (l : List ℕ). get_or l 64 0) last.2 ∙ found_at ws 64 fault at) (learns e id v last.0 last.1 sits whole)
 

@@ -6,7 +6,7 @@ use Rattle.atomic_table.specs.Seated.{TableId}
 use Rattle.board.specs.declared.rule.SeatView.{SeatView}
 use Rattle.board.specs.Shares.{times, one_if_same}
 use Rattle.board.specs.Progress.{no_fault, IsUnspent, fault_word}
-use Rattle.board.specs.Rule.{drew, saw_empty, has_failed, has_looked, has_skipped, has_looked_for, IsLeastFound}
+use Rattle.board.specs.Rule.{view_after_draw, saw_empty, has_failed, has_looked, has_skipped, has_looked_for, IsLeastFound}
 use Rattle.board.specs.Seats.{progress_of, IsSeated, IsCounted}
 use Rattle.board.proofs.Sums.{times-snoc, same_tells, same_one, other_zero}
 
@@ -116,7 +116,7 @@ module _ (v : SeatView) (done : List ℕ) (d f s : ℕ) (h : IsCounted v done d 
   pub counted_pass : (u : SeatView) (k : ℕ) → u ≡ saw_empty v k → IsCounted u done d f s
   counted_pass u k is = subst (λ (z : SeatView). IsCounted z done d f s) (sym is) record { within = h.within; once = h.once; spent = h.spent; counts = h.counts }
 
-  pub counted_draw : (u : SeatView) (x : ℕ) → u ≡ drew v x → x < v.jobs → times x v.drawn ≡ 0 → IsCounted u done d f s
+  pub counted_draw : (u : SeatView) (x : ℕ) → u ≡ view_after_draw v x → x < v.jobs → times x v.drawn ≡ 0 → IsCounted u done d f s
   counted_draw u x is below new = subst (λ (z : SeatView). IsCounted z done d f s) (sym is) record {
     within = λ y any.
         let e = times-snoc y v.drawn x in
@@ -129,7 +129,7 @@ module _ (v : SeatView) (done : List ℕ) (d f s : ℕ) (h : IsCounted v done d 
   }
 
   -- a number that was just drawn is open
-  pub open_new : (t : TableId) (number : ℕ) (u : SeatView) (x : ℕ) → u ≡ drew v x → times x v.drawn ≡ 0 → IsUnspent (progress_of t number u done) x
+  pub open_new : (t : TableId) (number : ℕ) (u : SeatView) (x : ℕ) → u ≡ view_after_draw v x → times x v.drawn ≡ 0 → IsUnspent (progress_of t number u done) x
   open_new t number u x is new = subst (λ (z : SeatView). IsUnspent (progress_of t number z done) x) (sym is) (let e = times-snoc x v.drawn x in let o = same_one x in let p = h.spent x in omega arith)
 
 -- the seat stays where it is

@@ -5,8 +5,8 @@ use mathlib.Core.Option.{some, some-ne-none}
 use lib.ListN.{get_elem?}
 use Rattle.board.specs.declared.rule.SeatView.{SeatView}
 use Rattle.board.specs.Shares.{times, one_if_same, start}
-use Rattle.board.specs.Words.{total, share_len, word_of, claims_of, claimed_in}
-use Rattle.board.specs.Rule.{fresh, drew, saw_empty, Fits, times_drawn, times_empty, KeepsDrawn}
+use Rattle.board.specs.Words.{total, share_len, word_of, claims_of, claim_count_in}
+use Rattle.board.specs.Rule.{fresh_view, view_after_draw, saw_empty, Fits, times_drawn, times_empty, KeepsDrawn}
 use Rattle.board.proofs.Sums.{total_set, times-snoc, same_tells, same_one, other_zero}
 use Rattle.board.proofs.Spans.{in_more, in_full, claimed_set, claimed_none, claimed_same, word_below, word_apart}
 use Rattle.board.proofs.Views.{each_set, each_snoc}
@@ -31,10 +31,10 @@ module _ (w : ℕ) (words : List ℕ) (k c : ℕ) (any : 0 < w) (few : w ≤ 64)
 -- a number is claimed, and drawn
 pub draws : (n w : ℕ) (words : List ℕ) (views : List SeatView) (id : ℕ) (v : SeatView) (k c : ℕ)
     → KeepsDrawn n w words views → get_elem? views id ≡ some v → 0 < v.parts → k < w → claims_of w words k ≡ c → c < share_len n w k
-    → KeepsDrawn n w (set words (word_of w k) (suc c)) (set views id (drew v (start n w k + c)))
+    → KeepsDrawn n w (set words (word_of w k) (suc c)) (set views id (view_after_draw v (start n w k + c)))
 draws n w words views id v k c h at sits lt is room =
     let x : ℕ = start n w k + c in
-    let u : SeatView = drew v x in
+    let u : SeatView = view_after_draw v x in
     let sat = h.seats.0 in let few = h.seats.1 in
     let in_words : word_of w k < length words = (let a = h.wide in let b = word_below w k few lt in omega arith) in
     let mine = h.each id v at in
@@ -49,9 +49,9 @@ draws n w words views id v k c h at sits lt is room =
           let s : times y (v.drawn ++ x ∷ []) ≡ times y v.drawn + one_if_same y x = times-snoc y v.drawn x in
           let d = h.drawn y in
           let t = claimed_set (start n w) (claims_of w words) (claims_of w (set words (word_of w k) (suc c))) y k w lt (λ j less. word_there w words k c sat few in_words is j) in
-          let now : claimed_in (start n w) y k (claims_of w (set words (word_of w k) (suc c)) k) ≡ claimed_in (start n w) y k (suc c) = ap (λ (m : ℕ). claimed_in (start n w) y k m) (word_here w words k c sat few in_words is k refl).1 in
-          let i : claimed_in (start n w) y k (claims_of w words k) ≡ claimed_in (start n w) y k c = ap (λ (m : ℕ). claimed_in (start n w) y k m) is in
-          let m : claimed_in (start n w) y k (suc c) ≡ claimed_in (start n w) y k c + one_if_same y x = in_more (start n w) y k c room in
+          let now : claim_count_in (start n w) y k (claims_of w (set words (word_of w k) (suc c)) k) ≡ claim_count_in (start n w) y k (suc c) = ap (λ (m : ℕ). claim_count_in (start n w) y k m) (word_here w words k c sat few in_words is k refl).1 in
+          let i : claim_count_in (start n w) y k (claims_of w words k) ≡ claim_count_in (start n w) y k c = ap (λ (m : ℕ). claim_count_in (start n w) y k m) is in
+          let m : claim_count_in (start n w) y k (suc c) ≡ claim_count_in (start n w) y k c + one_if_same y x = in_more (start n w) y k c room in
           omega arith;
       empty = λ j any. let e = seen j in let f = h.empty j (omega arith) in let g = word_grows w words k c sat few in_words is j in (f.0, (let l = f.1 in omega arith));
       bounded = λ j less.
@@ -90,9 +90,9 @@ sees n w words views id v k c h at sits lt is full =
           let e = total_set (λ (z : SeatView). times y z.drawn) views id v u at in
           let d = h.drawn y in
           let t = claimed_set (start n w) (claims_of w words) (claims_of w (set words (word_of w k) (suc c))) y k w lt (λ j less. word_there w words k c sat few in_words is j) in
-          let now : claimed_in (start n w) y k (claims_of w (set words (word_of w k) (suc c)) k) ≡ claimed_in (start n w) y k (suc c) = ap (λ (m : ℕ). claimed_in (start n w) y k m) (word_here w words k c sat few in_words is k refl).1 in
-          let i : claimed_in (start n w) y k (claims_of w words k) ≡ claimed_in (start n w) y k c = ap (λ (m : ℕ). claimed_in (start n w) y k m) is in
-          let m : claimed_in (start n w) y k (suc c) ≡ claimed_in (start n w) y k c = in_full (start n w) y k c full in
+          let now : claim_count_in (start n w) y k (claims_of w (set words (word_of w k) (suc c)) k) ≡ claim_count_in (start n w) y k (suc c) = ap (λ (m : ℕ). claim_count_in (start n w) y k m) (word_here w words k c sat few in_words is k refl).1 in
+          let i : claim_count_in (start n w) y k (claims_of w words k) ≡ claim_count_in (start n w) y k c = ap (λ (m : ℕ). claim_count_in (start n w) y k m) is in
+          let m : claim_count_in (start n w) y k (suc c) ≡ claim_count_in (start n w) y k c = in_full (start n w) y k c full in
           omega arith;
       empty = λ j any.
           let e = seen j in
@@ -126,13 +126,13 @@ still_drawn n w words words' views views' h long claims parts each drawn empty =
 }
 
 -- the board at the start
-pub opens : (n w : ℕ) (words : List ℕ) → 0 < w → w ≤ 64 → n ≤ 2 ^ 40 → length words ≡ 65 → ((k : ℕ) → k < 64 → get_or words k 0 ≡ 0) → KeepsDrawn n w words (fresh w n w ∷ [])
+pub opens : (n w : ℕ) (words : List ℕ) → 0 < w → w ≤ 64 → n ≤ 2 ^ 40 → length words ≡ 65 → ((k : ℕ) → k < 64 → get_or words k 0 ≡ 0) → KeepsDrawn n w words (fresh_view w n w ∷ [])
 opens n w words any few small long zeros = record {
   seats = (any, few);
   jobs = small;
   wide = long;
   parts = omega arith;
-  each = each_snoc (Fits n w) [] (fresh w n w) (λ i v at. absurd (some-ne-none v (sym at))) record { same = λ _. (refl, refl); spent = λ _. (refl, refl, refl, refl, refl); once = λ k. omega arith };
+  each = each_snoc (Fits n w) [] (fresh_view w n w) (λ i v at. absurd (some-ne-none v (sym at))) record { same = λ _. (refl, refl); spent = λ _. (refl, refl, refl, refl, refl); once = λ k. omega arith };
   drawn = λ x. sym (claimed_none (start n w) (claims_of w words) x w (λ k lt. zeros (word_of w k) (word_below w k few lt)));
   empty = λ k seen. absurd (omega arith);
   bounded = λ k lt. let z = zeros (word_of w k) (word_below w k few lt) in omega arith;

@@ -6,7 +6,7 @@ use native.Mathlib.Decide.{dec_le}
 use Rattle.board.specs.declared.rule.SeatView.{SeatView}
 use Rattle.board.specs.Shares.{times, one_if_same}
 use Rattle.board.specs.Progress.{no_fault}
-use Rattle.board.specs.Rule.{fresh, has_failed, times_failed, times_looked, times_skipped, fault_of, KeepsFailed, KeepsSkipped}
+use Rattle.board.specs.Rule.{fresh_view, has_failed, times_failed, times_looked, times_skipped, fault_of, KeepsFailed, KeepsSkipped}
 use Rattle.board.proofs.Sums.{total_set, times-snoc, same_tells, same_one}
 
 -- a change that touches neither the fault word nor the lists of numbers failed and looked at
@@ -100,7 +100,7 @@ skips words views id v u j h at more past = record {
 }
 
 -- nobody failed at first
-pub no_faults : (n w : ℕ) (words : List ℕ) → fault_of words ≡ no_fault → KeepsFailed n words (fresh w n w ∷ []) × KeepsSkipped words (fresh w n w ∷ [])
+pub no_faults : (n w : ℕ) (words : List ℕ) → fault_of words ≡ no_fault → KeepsFailed n words (fresh_view w n w ∷ []) × KeepsSkipped words (fresh_view w n w ∷ [])
 no_faults n w words is = (
   record { found = inl is; least = λ x any. absurd (omega arith); looked = λ x any. absurd (omega arith) },
   record { above = λ x any. absurd (omega arith) },

@@ -12,7 +12,7 @@ use Rattle.board.specs.declared.rule.Extent.{Extent}
 use Rattle.board.specs.Shares.{times, start}
 use Rattle.board.specs.Progress.{no_fault}
 use Rattle.board.specs.Words.{total, once_below, share_len, word_of, claims_of}
-use Rattle.board.specs.Rule.{fresh, drew, saw_empty, has_failed, has_looked, has_skipped, gathered, HasNoLists, Fits, times_drawn, times_empty, times_failed, times_looked, times_skipped, KeepsDrawn, KeepsSkipped, BoardRule, Kept, Claims, Claimed, Looked, Settled, Skipped, has_looked_for, IsLeastFound, IsWhole, fault_of, opening_words}
+use Rattle.board.specs.Rule.{fresh_view, view_after_draw, saw_empty, has_failed, has_looked, has_skipped, gathered_views, HasNoLists, Fits, times_drawn, times_empty, times_failed, times_looked, times_skipped, KeepsDrawn, KeepsSkipped, BoardRule, TableKeepsRule, Claims, StepClaims, StepLooks, StepSettles, StepSkips, has_looked_for, IsLeastFound, IsWhole, fault_of, opening_words}
 use Rattle.board.proofs.Sums.{total_set, total-snoc, le-total, total_le, total_only, times-append, times-snoc, same_one}
 use Rattle.board.proofs.Spans.{claimed_le, claimed_all, start_rises, start_zero, start_end, start_le, word_below, word_apart}
 use Rattle.board.proofs.Views.{each_set, each_snoc}
@@ -52,7 +52,7 @@ claim_step v words views id k h at lt once =
     elim (dec_le (suc c) (share_len n w k)) [
       | yes room ↦
           let x : ℕ = start n w k + c in
-          let u : SeatView = drew v x in
+          let u : SeatView = view_after_draw v x in
           let new = draws n w words views id v k c h.drawn at (omega arith) lt refl room in
           let most = drawn_once n w (set words i (suc c)) (set views id u) x new in
           let e = total_set (λ (z : SeatView). times x z.drawn) views id v u at in
@@ -91,7 +91,7 @@ extent_of : (n w : ℕ) (words : List ℕ) (views : List SeatView) (id : ℕ) (v
 extent_of n w words views id v h at sits = (h.each id v at).same sits
 
 pub claims : (e : Extent) (slots id : ℕ) (me : Me (Unit {0}) SeatView) (k : ℕ) → k < me.0.seats → times k me.0.empty < me.0.parts
-    → Allows (Kept e) slots id me (word_of me.0.seats k) (λ x. (x + 1) % 2 ^ 64) (Claimed (step slots (word_of me.0.seats k) 1 0 none) me)
+    → Allows (TableKeepsRule e) slots id me (word_of me.0.seats k) (λ x. (x + 1) % 2 ^ 64) (StepClaims (step slots (word_of me.0.seats k) 1 0 none) me)
 claims e slots id me k lt once s h len at small =
     let v = me.0 in
     let is = extent_of e.jobs e.seats s.words s.views id v h.drawn at (omega arith) in
@@ -103,8 +103,8 @@ claims e slots id me k lt once s h len at small =
 
 -- the same at the word's number
 pub claims_at : (e : Extent) (slots id : ℕ) (me : Me (Unit {0}) SeatView) (k word : ℕ) → word ≡ word_of me.0.seats k → k < me.0.seats → times k me.0.empty < me.0.parts
-    → Allows (Kept e) slots id me word (λ x. (x + 1) % 2 ^ 64) (Claimed (step slots word 1 0 none) me)
-claims_at e slots id me k word is lt once = subst (λ (i : ℕ). Allows (Kept e) slots id me i (λ x. (x + 1) % 2 ^ 64) (Claimed (step slots i 1 0 none) me)) (sym is) (claims e slots id me k lt once)
+    → Allows (TableKeepsRule e) slots id me word (λ x. (x + 1) % 2 ^ 64) (StepClaims (step slots word 1 0 none) me)
+claims_at e slots id me k word is lt once = subst (λ (i : ℕ). Allows (TableKeepsRule e) slots id me i (λ x. (x + 1) % 2 ^ 64) (StepClaims (step slots i 1 0 none) me)) (sym is) (claims e slots id me k lt once)
 
 -- the seats' lists are put together or apart, and the words stay
 rearranged : (n w : ℕ) (words : List ℕ) (views views' : List SeatView) → BoardRule n w words views
@@ -118,22 +118,22 @@ rearranged n w words views views' h parts each drawn empty failed looked skipped
   skipped = still_skipped words words views views' h.skipped (omega arith) skipped;
 }
 
-pub splits : (e : Extent) (id p q n w : ℕ) → 0 < p → q ≡ suc p → Splits (Kept e) id (fresh q n w) (fresh p n w) (fresh 1 n w)
+pub splits : (e : Extent) (id p q n w : ℕ) → 0 < p → q ≡ suc p → Splits (TableKeepsRule e) id (fresh_view q n w) (fresh_view p n w) (fresh_view 1 n w)
 splits e id p q n w any more s h at =
-    let v : SeatView = fresh q n w in let left : SeatView = fresh p n w in let right : SeatView = fresh 1 n w in
+    let v : SeatView = fresh_view q n w in let left : SeatView = fresh_view p n w in let right : SeatView = fresh_view 1 n w in
     let is = (h.drawn.each id v at).same (omega arith) in
     let moved : (f : SeatView → ℕ) → f left + f right ≡ f v → total f (set s.views id left ++ right ∷ []) ≡ total f s.views =
     (λ f sum. let a = total_set f s.views id v left at in let b = total-snoc f (set s.views id left) right in omega arith) in
-    let fits : (r : ℕ) → Fits e.jobs e.seats (fresh r n w) = (λ r. record { same = λ _. is; spent = λ none. (refl, refl, refl, refl, refl); once = λ k. omega arith }) in
+    let fits : (r : ℕ) → Fits e.jobs e.seats (fresh_view r n w) = (λ r. record { same = λ _. is; spent = λ none. (refl, refl, refl, refl, refl); once = λ k. omega arith }) in
     rearranged e.jobs e.seats s.words s.views (set s.views id left ++ right ∷ []) h
     (moved (λ z. z.parts) (omega arith))
     (each_snoc (Fits e.jobs e.seats) (set s.views id left) right (each_set (Fits e.jobs e.seats) s.views id left h.drawn.each (fits p)) (fits 1))
     (λ x. moved (λ z. times x z.drawn) refl) (λ x. moved (λ z. times x z.empty) refl)
     (λ x. moved (λ z. times x z.failed) refl) (λ x. moved (λ z. times x z.looked) refl) (λ x. moved (λ z. times x z.skipped) refl)
 
-pub joins : (e : Extent) (id : ℕ) (v : SeatView) (other : ℕ) (u : SeatView) → 0 < v.parts → Joins (Kept e) id v other u (gathered v u) (fresh 0 0 0)
+pub joins : (e : Extent) (id : ℕ) (v : SeatView) (other : ℕ) (u : SeatView) → 0 < v.parts → Joins (TableKeepsRule e) id v other u (gathered_views v u) (fresh_view 0 0 0)
 joins e id v other u sits s h at apart there =
-    let both : SeatView = gathered v u in let spent : SeatView = fresh 0 0 0 in
+    let both : SeatView = gathered_views v u in let spent : SeatView = fresh_view 0 0 0 in
     let old : get_elem? s.views other ≡ some u = elim (at_set s.views id other both u there) [ inl t ↦ absurd (apart t.0) | inr t ↦ t.1 ] in
     let mine = h.drawn.each id v at in let theirs = h.drawn.each other u old in
     let moved : (f : SeatView → ℕ) → f both ≡ f v + f u → f spent ≡ 0 → total f (set (set s.views id both) other spent) ≡ total f s.views =
@@ -152,7 +152,7 @@ joins e id v other u sits s h at apart there =
     (λ x. moved (λ z. times x z.skipped) (times-append x v.skipped u.skipped) refl)
 
 pub settle_step : (e : Extent) (slots id : ℕ) (me : Me (Unit {0}) SeatView) (j : ℕ) → 0 < me.0.parts → j < me.0.jobs
-    → Allows (Kept e) slots id me 64 (λ x. min x j) (Settled (step slots 64 j 0 none) me)
+    → Allows (TableKeepsRule e) slots id me 64 (λ x. min x j) (StepSettles (step slots 64 j 0 none) me)
 settle_step e slots id me j sits small s h len at range =
     let v = me.0 in let u : SeatView = has_failed v j in
     let is = extent_of e.jobs e.seats s.words s.views id v h.drawn at sits in
@@ -177,7 +177,7 @@ settle_step e slots id me j sits small s h len at range =
     )
 
 -- the view after a look, with which a job may be skipped
-look_kept : (e : Extent) (s : State (Unit {0}) SeatView) (id : ℕ) (v u : SeatView) → Kept e s → get_elem? s.views id ≡ some v → 0 < v.parts
+look_kept : (e : Extent) (s : State (Unit {0}) SeatView) (id : ℕ) (v u : SeatView) → TableKeepsRule e s → get_elem? s.views id ≡ some v → 0 < v.parts
     → u.parts ≡ v.parts → u.jobs ≡ v.jobs → u.seats ≡ v.seats → u.drawn ≡ v.drawn → u.empty ≡ v.empty → u.failed ≡ v.failed → u.looked ≡ v.looked ++ fault_of s.words ∷ []
     → KeepsSkipped s.words (set s.views id u) → BoardRule e.jobs e.seats s.words (set s.views id u)
 look_kept e s id v u h at sits parts jobs seats drawn empty failed looked skipped =
@@ -197,7 +197,7 @@ look_kept e s id v u h at sits parts jobs seats drawn empty failed looked skippe
     }
 
 -- what a look finds
-least_found : (e : Extent) (s : State (Unit {0}) SeatView) (id : ℕ) (v : SeatView) → Kept e s → get_elem? s.views id ≡ some v → 0 < v.parts → IsLeastFound v (fault_of s.words)
+least_found : (e : Extent) (s : State (Unit {0}) SeatView) (id : ℕ) (v : SeatView) → TableKeepsRule e s → get_elem? s.views id ≡ some v → 0 < v.parts → IsLeastFound v (fault_of s.words)
 least_found e s id v h at sits =
     let is = (h.drawn.each id v at).same sits in record {
       failed = λ x any. let t = le-total (λ (z : SeatView). times x z.failed) s.views id v at in let l = h.failed.least x (omega arith) in ((let a = l.0 in let b = is.0 in omega arith), l.1);
@@ -208,7 +208,7 @@ least_found e s id v h at sits =
     }
 
 pub look_step : (e : Extent) (slots id : ℕ) (me : Me (Unit {0}) SeatView) → 0 < me.0.parts
-    → Allows (Kept e) slots id me 64 (λ x. x) (Looked (step slots 64 0 0 none) me)
+    → Allows (TableKeepsRule e) slots id me 64 (λ x. x) (StepLooks (step slots 64 0 0 none) me)
 look_step e slots id me sits s h len at range =
     let v = me.0 in let r = fault_of s.words in let u : SeatView = has_looked v r in
     let same : (f : SeatView → ℕ) → f u ≡ f v → total f (set s.views id u) ≡ total f s.views = (λ f e. let q = total_set f s.views id v u at in omega arith) in (
@@ -222,7 +222,7 @@ look_step e slots id me sits s h len at range =
     )
 
 pub skip_step : (e : Extent) (slots id : ℕ) (me : Me (Unit {0}) SeatView) (x : ℕ) → 0 < me.0.parts
-    → Allows (Kept e) slots id me 64 (λ n. n) (Skipped x (step slots 64 0 0 none) me)
+    → Allows (TableKeepsRule e) slots id me 64 (λ n. n) (StepSkips x (step slots 64 0 0 none) me)
 skip_step e slots id me x sits s h len at range =
     let v = me.0 in let r = fault_of s.words in let u : SeatView = has_looked_for v x r in
     (u, keeps, tt, subst (λ (ws : List ℕ). BoardRule e.jobs e.seats ws (set s.views id u)) (sym (set-get_or s.words 64 0)) (by_test (ltb r x) refl), (refl, least_found e s id v h at sits, refl))
@@ -240,13 +240,13 @@ skip_step e slots id me x sits s h len at range =
 
 -- the board at the start
 pub begins : (e : Extent) (words : List ℕ) → 0 < e.seats → e.seats ≤ 64 → e.jobs ≤ 2 ^ 40 → length words ≡ 65 → ((k : ℕ) → k < 64 → get_or words k 0 ≡ 0) → fault_of words ≡ no_fault
-    → Kept e (opening words [] (fresh e.seats e.jobs e.seats))
+    → TableKeepsRule e (opening words [] (fresh_view e.seats e.jobs e.seats))
 begins e words any few small long zeros fault =
     let f = no_faults e.jobs e.seats words fault in
     record { drawn = opens e.jobs e.seats words any few small long zeros; failed = f.0; skipped = f.1 }
 
 -- who has all parts knows all lists
-pub learns : (e : Extent) (id : ℕ) (v : SeatView) (s : State (Unit {0}) SeatView) → Seen (Kept e) id v s → 0 < v.parts → v.parts ≡ v.seats → IsWhole v (fault_of s.words)
+pub learns : (e : Extent) (id : ℕ) (v : SeatView) (s : State (Unit {0}) SeatView) → Seen (TableKeepsRule e) id v s → 0 < v.parts → v.parts ≡ v.seats → IsWhole v (fault_of s.words)
 learns e id v s seen sits whole =
     let h = seen.0 in let at = seen.1 in
     let is = (h.drawn.each id v at).same sits in
@@ -275,15 +275,15 @@ opening_zero : (k : ℕ) → k < 64 → get_or opening_words k 0 ≡ 0
 opening_zero k lt = get_or-set_other (replicate 65 0) 64 k no_fault 0 (omega arith) ∙ get_or-replicate 65 k 0 0 (omega arith)
 
 pub begins_so : (e : Extent) (words : List ℕ) → words ≡ opening_words → 0 < e.seats → e.seats ≤ 64 → e.jobs ≤ 2 ^ 40
-    → Kept e (opening words [] (fresh e.seats e.jobs e.seats))
-begins_so e words is any few small = subst (λ (ws : List ℕ). Kept e (opening ws [] (fresh e.seats e.jobs e.seats))) (sym is) (begins e opening_words any few small refl opening_zero refl)
+    → TableKeepsRule e (opening words [] (fresh_view e.seats e.jobs e.seats))
+begins_so e words is any few small = subst (λ (ws : List ℕ). TableKeepsRule e (opening ws [] (fresh_view e.seats e.jobs e.seats))) (sym is) (begins e opening_words any few small refl opening_zero refl)
 
 -- one seat is cut off from several
-pub splits_as : (e : Extent) (id q n w : ℕ) (v : SeatView) → v ≡ fresh q n w → 1 < q → Splits (Kept e) id v (fresh (v.parts - 1) v.jobs v.seats) (fresh 1 v.jobs v.seats)
-splits_as e id q n w v is more = subst (λ (u : SeatView). Splits (Kept e) id u (fresh (u.parts - 1) u.jobs u.seats) (fresh 1 u.jobs u.seats)) (sym is) (splits e id (q - 1) q n w (omega arith) (omega arith))
+pub splits_as : (e : Extent) (id q n w : ℕ) (v : SeatView) → v ≡ fresh_view q n w → 1 < q → Splits (TableKeepsRule e) id v (fresh_view (v.parts - 1) v.jobs v.seats) (fresh_view 1 v.jobs v.seats)
+splits_as e id q n w v is more = subst (λ (u : SeatView). Splits (TableKeepsRule e) id u (fresh_view (u.parts - 1) u.jobs u.seats) (fresh_view 1 u.jobs u.seats)) (sym is) (splits e id (q - 1) q n w (omega arith) (omega arith))
 
 -- what any seat knows at the end
-pub learns_part : (e : Extent) (id : ℕ) (v : SeatView) (s : State (Unit {0}) SeatView) → Seen (Kept e) id v s → 0 < v.parts → (x : ℕ) → times x v.drawn ≤ once_below x v.jobs
+pub learns_part : (e : Extent) (id : ℕ) (v : SeatView) (s : State (Unit {0}) SeatView) → Seen (TableKeepsRule e) id v s → 0 < v.parts → (x : ℕ) → times x v.drawn ≤ once_below x v.jobs
 learns_part e id v s seen sits x =
     let h = seen.0 in let at = seen.1 in
     let is = (h.drawn.each id v at).same sits in

@@ -6,29 +6,29 @@ use native.Mathlib.Decide.{ℕ_discrete, dec_le}
 use Rattle.std.proofs.Math.Nat.{le-div_iff_mul-le, mul-div-le}
 use native.Mathlib.Nat.{zero-div}
 use Rattle.board.specs.Shares.{one_if_same, start}
-use Rattle.board.specs.Words.{once_below, word_of, claimed_in, claimed}
+use Rattle.board.specs.Words.{once_below, word_of, claim_count_in, claim_count}
 
 -- one more claim of a share that is not used up
-pub in_more : (first : ℕ → ℕ) (x k c : ℕ) → c < first (suc k) - first k → claimed_in first x k (suc c) ≡ claimed_in first x k c + one_if_same x (first k + c)
+pub in_more : (first : ℕ → ℕ) (x k c : ℕ) → c < first (suc k) - first k → claim_count_in first x k (suc c) ≡ claim_count_in first x k c + one_if_same x (first k + c)
 in_more first x k c room = grind (arith, nat_tests)
 
 -- of one that is
-pub in_full : (first : ℕ → ℕ) (x k c : ℕ) → first (suc k) - first k ≤ c → claimed_in first x k (suc c) ≡ claimed_in first x k c
+pub in_full : (first : ℕ → ℕ) (x k c : ℕ) → first (suc k) - first k ≤ c → claim_count_in first x k (suc c) ≡ claim_count_in first x k c
 in_full first x k c full = grind (arith, nat_tests)
 
 module _ (first : ℕ → ℕ) where
   -- claims of the same share, named in two ways
-  claimed_at : (claims : ℕ → ℕ) (x j k : ℕ) → j ≡ k → claimed_in first x j (claims j) ≡ claimed_in first x k (claims k)
-  claimed_at claims x j k same = ap (λ (i : ℕ). claimed_in first x i (claims i)) same
+  claimed_at : (claims : ℕ → ℕ) (x j k : ℕ) → j ≡ k → claim_count_in first x j (claims j) ≡ claim_count_in first x k (claims k)
+  claimed_at claims x j k same = ap (λ (i : ℕ). claim_count_in first x i (claims i)) same
 
-  pub claimed_same : (claims claims' : ℕ → ℕ) (x m : ℕ) → ((k : ℕ) → k < m → claims' k ≡ claims k) → claimed first claims' x m ≡ claimed first claims x m
+  pub claimed_same : (claims claims' : ℕ → ℕ) (x m : ℕ) → ((k : ℕ) → k < m → claims' k ≡ claims k) → claim_count first claims' x m ≡ claim_count first claims x m
   claimed_same claims claims' x zero same = refl
   claimed_same claims claims' x (suc m) same =
       let e = claimed_same claims claims' x m (λ k lt. same k (omega arith)) in
-      let is : claimed_in first x m (claims' m) ≡ claimed_in first x m (claims m) = ap (λ (n : ℕ). claimed_in first x m n) (same m (omega arith)) in omega arith
+      let is : claim_count_in first x m (claims' m) ≡ claim_count_in first x m (claims m) = ap (λ (n : ℕ). claim_count_in first x m n) (same m (omega arith)) in omega arith
 
   -- one share's claims change
-  pub claimed_set : (claims claims' : ℕ → ℕ) (x k m : ℕ) → k < m → ((j : ℕ) → j < m → j ≢ k → claims' j ≡ claims j) → claimed first claims' x m + claimed_in first x k (claims k) ≡ claimed first claims x m + claimed_in first x k (claims' k)
+  pub claimed_set : (claims claims' : ℕ → ℕ) (x k m : ℕ) → k < m → ((j : ℕ) → j < m → j ≢ k → claims' j ≡ claims j) → claim_count first claims' x m + claim_count_in first x k (claims k) ≡ claim_count first claims x m + claim_count_in first x k (claims' k)
   claimed_set claims claims' x k zero lt others = absurd (omega arith)
   claimed_set claims claims' x k (suc m) lt others = elim (ℕ_discrete m k) [
     | yes same ↦
@@ -36,40 +36,40 @@ module _ (first : ℕ → ℕ) where
         let was = claimed_at claims x m k same in let is = claimed_at claims' x m k same in omega arith
     | no apart ↦
         let e = claimed_set claims claims' x k m (omega arith) (λ j less. others j (omega arith)) in
-        let i : claimed_in first x m (claims' m) ≡ claimed_in first x m (claims m) = ap (λ (n : ℕ). claimed_in first x m n) (others m (omega arith) apart) in omega arith
+        let i : claim_count_in first x m (claims' m) ≡ claim_count_in first x m (claims m) = ap (λ (n : ℕ). claim_count_in first x m n) (others m (omega arith) apart) in omega arith
   ]
 
   -- at most the numbers below the end of the last share are claimed, each once
-  pub claimed_le : (claims : ℕ → ℕ) (x m : ℕ) → ((k : ℕ) → first k ≤ first (suc k)) → claimed first claims x m ≤ once_below x (first m)
+  pub claimed_le : (claims : ℕ → ℕ) (x m : ℕ) → ((k : ℕ) → first k ≤ first (suc k)) → claim_count first claims x m ≤ once_below x (first m)
   claimed_le claims x zero rises = omega arith
   claimed_le claims x (suc m) rises =
       let e = claimed_le claims x m rises in
       let up = rises m in
       let one = in_span x m (claims m) up in omega arith
     where
-      in_span : (x m c : ℕ) → first m ≤ first (suc m) → once_below x (first m) + claimed_in first x m c ≤ once_below x (first (suc m))
+      in_span : (x m c : ℕ) → first m ≤ first (suc m) → once_below x (first m) + claim_count_in first x m c ≤ once_below x (first (suc m))
       in_span x m c up = grind (arith, nat_tests)
 
   -- and all of them, where each share is used up
-  pub claimed_all : (claims : ℕ → ℕ) (x m : ℕ) → ((k : ℕ) → first k ≤ first (suc k)) → first 0 ≡ 0 → ((k : ℕ) → k < m → first (suc k) - first k ≤ claims k) → claimed first claims x m ≡ once_below x (first m)
+  pub claimed_all : (claims : ℕ → ℕ) (x m : ℕ) → ((k : ℕ) → first k ≤ first (suc k)) → first 0 ≡ 0 → ((k : ℕ) → k < m → first (suc k) - first k ≤ claims k) → claim_count first claims x m ≡ once_below x (first m)
   claimed_all claims x zero rises begins full = grind (arith, nat_tests)
   claimed_all claims x (suc m) rises begins full =
       let e = claimed_all claims x m rises begins (λ k lt. full k (omega arith)) in
       let up = rises m in
       let one = whole_span x m (claims m) up (full m (omega arith)) in omega arith
     where
-      whole_span : (x m c : ℕ) → first m ≤ first (suc m) → first (suc m) - first m ≤ c → once_below x (first m) + claimed_in first x m c ≡ once_below x (first (suc m))
+      whole_span : (x m c : ℕ) → first m ≤ first (suc m) → first (suc m) - first m ≤ c → once_below x (first m) + claim_count_in first x m c ≡ once_below x (first (suc m))
       whole_span x m c up full = grind (arith, nat_tests)
 
   -- nothing is claimed at first
-  pub claimed_none : (claims : ℕ → ℕ) (x m : ℕ) → ((k : ℕ) → k < m → claims k ≡ 0) → claimed first claims x m ≡ 0
+  pub claimed_none : (claims : ℕ → ℕ) (x m : ℕ) → ((k : ℕ) → k < m → claims k ≡ 0) → claim_count first claims x m ≡ 0
   claimed_none claims x zero zeros = refl
   claimed_none claims x (suc m) zeros =
       let e = claimed_none claims x m (λ k lt. zeros k (omega arith)) in
-      let is : claimed_in first x m (claims m) ≡ claimed_in first x m 0 = ap (λ (n : ℕ). claimed_in first x m n) (zeros m (omega arith)) in
-      let none : claimed_in first x m 0 ≡ 0 = no_span x m in omega arith
+      let is : claim_count_in first x m (claims m) ≡ claim_count_in first x m 0 = ap (λ (n : ℕ). claim_count_in first x m n) (zeros m (omega arith)) in
+      let none : claim_count_in first x m 0 ≡ 0 = no_span x m in omega arith
     where
-      no_span : (x m : ℕ) → claimed_in first x m 0 ≡ 0
+      no_span : (x m : ℕ) → claim_count_in first x m 0 ≡ 0
       no_span x m = grind (arith, nat_tests)
 
 -- the claim words in use are apart, and below the fault word

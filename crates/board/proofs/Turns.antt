@@ -9,7 +9,7 @@ use Rattle.board.specs.declared.rule.SeatView.{SeatView}
 use Rattle.board.specs.declared.share.Share.{Share}
 use Rattle.board.specs.Shares.{times, one_if_same, share_in_turn, IsInShare}
 use Rattle.board.specs.Progress.{Progress, shares_in_turn, SeesInTurn, after_draw, DrawsJob, DrawsNone}
-use Rattle.board.specs.Rule.{fresh, drew, saw_empty}
+use Rattle.board.specs.Rule.{fresh_view, view_after_draw, saw_empty}
 use Rattle.board.specs.Seats.{progress_of, IsSeated, IsCounted, IsShare}
 use Rattle.board.proofs.Sums.{times-snoc, other_zero, same_one}
 
@@ -71,7 +71,7 @@ sees_in_turn number passed jobs seats t me ds h =
 -- a number was drawn of share k, which is the next one in turn
 pub draws_job : (p : Progress) (x k number passed jobs seats : ℕ) (t t' : TableId) (me : Me (Unit {0}) SeatView) (v' : SeatView) (ds : List ℕ)
     → IsSeated number passed jobs seats me → k ≡ share_in_turn seats number passed → passed < seats → progress_of t number me.0 ds ≡ after_draw p p.drawn me.0.empty → length p.empty ≤ passed → SeesInTurn p
-    → t' ≡ t → v' ≡ drew me.0 x → IsInShare me.0.jobs me.0.seats k x → (x < me.0.jobs) × (times x me.0.drawn ≡ 0)
+    → t' ≡ t → v' ≡ view_after_draw me.0 x → IsInShare me.0.jobs me.0.seats k x → (x < me.0.jobs) × (times x me.0.drawn ≡ 0)
     → DrawsJob p x (progress_of t' number v' ds)
 draws_job p x k number passed jobs seats t t' me v' ds h next lt so more before et ev share new =
     let ej : me.0.jobs ≡ p.board.jobs = ap (λ (q : Progress). q.board.jobs) so in
@@ -109,11 +109,11 @@ own_share jobs seats number s lt is =
     let e : number + 0 ≡ number = omega arith in subst (λ (k : ℕ). IsShare jobs seats k s) (sym (ap (λ (n : ℕ). n % seats) e ∙ mod-eq_of_lt lt)) is
 
 -- a new seat
-pub seats_new : (number jobs seats : ℕ) (me : Me (Unit {0}) SeatView) → me ≡ (fresh 1 jobs seats, []) → number < seats → seats ≤ 64 → jobs ≤ 2 ^ 40 → IsSeated number 0 jobs seats me
+pub seats_new : (number jobs seats : ℕ) (me : Me (Unit {0}) SeatView) → me ≡ (fresh_view 1 jobs seats, []) → number < seats → seats ≤ 64 → jobs ≤ 2 ^ 40 → IsSeated number 0 jobs seats me
 seats_new number jobs seats me is lt few small =
     subst (IsSeated number 0 jobs seats) (sym is) record { slots = refl; one = refl; extent = (refl, refl); within = lt; few = (few, small); passes = omega arith; empty = refl }
 
-pub counts_new : (jobs seats : ℕ) (me : Me (Unit {0}) SeatView) (done : List ℕ) → me ≡ (fresh 1 jobs seats, []) → done ≡ [] → IsCounted me.0 done 0 0 0
+pub counts_new : (jobs seats : ℕ) (me : Me (Unit {0}) SeatView) (done : List ℕ) → me ≡ (fresh_view 1 jobs seats, []) → done ≡ [] → IsCounted me.0 done 0 0 0
 counts_new jobs seats me done is none =
     subst (λ (z : Me (Unit {0}) SeatView × List ℕ). IsCounted z.0.0 z.1 0 0 0) (λ i. (sym is i, sym none i)) record { within = λ x any. absurd (omega arith); once = λ x. omega arith; spent = λ x. omega arith; counts = (refl, refl, refl) }
 

@@ -5,9 +5,9 @@ use mathlib.Core.List.{map-append}
 use Rattle.coding.specs.declared.fault.Fault.{Fault}
 use Rattle.board.specs.declared.shift.Shift.{Shift}
 use Rattle.board.specs.Shares.{times}
-use Rattle.board.specs.Progress.{Layout, Progress, after_done, after_fail, after_look, after_skip, DrawsJob, DrawsNone, HasEachShare, unused, unused_seats}
-use Rattle.board.specs.Running.{IsFaultOf, IsResult}
-use Rattle.board.specs.Working.{IsLeastFailed, IsWorking}
+use Rattle.board.specs.Progress.{Layout, Progress, after_done, after_fail, after_look, after_skip, DrawsJob, DrawsNone, HasEachShare, unused_seat, unused_seats}
+use Rattle.board.specs.RunAnswer.{IsFaultOf, IsResult}
+use Rattle.board.specs.WorkerResult.{IsLeastFailed, IsWorking}
 use Rattle.board.proofs.Sums.{times-snoc, same_tells, same_one}
 
 pub all_one : {A : Type 0} (P : A → Type 0) (x : A) → P x → All P (x ∷ [])
@@ -105,10 +105,10 @@ none_all p q b none board = subst (λ (l : Layout). HasEachShare l.seats q.empty
 -- the seats of a new board are its own
 pub unused_boards : (b : Layout) (m : ℕ) → All (λ p. p.board ≡ b) (unused_seats b m)
 unused_boards b zero = All-nil (λ p. p.board ≡ b)
-unused_boards b (suc m) = All-append (λ p. p.board ≡ b) (unused_seats b m) (unused b m ∷ []) (unused_boards b m) (all_one (λ p. p.board ≡ b) (unused b m) refl)
+unused_boards b (suc m) = All-append (λ p. p.board ≡ b) (unused_seats b m) (unused_seat b m ∷ []) (unused_boards b m) (all_one (λ p. p.board ≡ b) (unused_seat b m) refl)
 
 -- the last seat is made
-pub all_made : (b : Layout) (w number : ℕ) (ps ps' : List Progress) (p : Progress) → 0 < w → number ≡ w - 1 → ps ≡ unused_seats b number → p ≡ unused b (w - 1) → ps' ≡ ps ++ p ∷ [] → ps' ≡ unused_seats b w
+pub all_made : (b : Layout) (w number : ℕ) (ps ps' : List Progress) (p : Progress) → 0 < w → number ≡ w - 1 → ps ≡ unused_seats b number → p ≡ unused_seat b (w - 1) → ps' ≡ ps ++ p ∷ [] → ps' ≡ unused_seats b w
 all_made b w number ps ps' p any last made is all =
     let n : suc number ≡ w = omega arith in
-    all ∙ (λ i. made i ++ (is ∙ ap (unused b) (sym last)) i ∷ []) ∙ ap (unused_seats b) n
+    all ∙ (λ i. made i ++ (is ∙ ap (unused_seat b) (sym last)) i ∷ []) ∙ ap (unused_seats b) n

@@ -4,9 +4,9 @@ use Rattle.coding.specs.declared.fault.Fault.{Fault}
 use Rattle.coding.specs.Answers.{◌>>=◌}
 
 -- the values of all answers in order, or the first refusal
-abbrev pub collected : {B : Type 0} → List (Result B Fault) → Result (List B) Fault
-collected [] = Ok []
-collected (answer ∷ rest) = answer >>= λ value. collected rest >>= λ values. Ok (value ∷ values)
+abbrev pub collected_results : {B : Type 0} → List (Result B Fault) → Result (List B) Fault
+collected_results [] = Ok []
+collected_results (answer ∷ rest) = answer >>= λ value. collected_results rest >>= λ values. Ok (value ∷ values)
 
 -- the fault of an answer, if it is a refusal
 abbrev pub fault_in : {B : Type 0} → Option (Result B Fault) → Option Fault

@@ -22,13 +22,13 @@ pub record Progress : Type 0 where
   pub done : List ℕ
 
 -- a seat at which nothing was done
-abbrev pub unused : Layout → ℕ → Progress
-unused board number = record { board = board; number = number; drawn = []; empty = []; failed = []; looked = []; skipped = []; done = [] }
+abbrev pub unused_seat : Layout → ℕ → Progress
+unused_seat board number = record { board = board; number = number; drawn = []; empty = []; failed = []; looked = []; skipped = []; done = [] }
 
 -- the first m seats of a board at which nothing was done
 abbrev pub unused_seats : Layout → ℕ → List Progress
 unused_seats board zero = []
-unused_seats board (suc m) = unused_seats board m ++ unused board m ∷ []
+unused_seats board (suc m) = unused_seats board m ++ unused_seat board m ∷ []
 
 -- the first m shares in turn, from that of seat s on
 abbrev pub shares_in_turn : ℕ → ℕ → ℕ → List ℕ

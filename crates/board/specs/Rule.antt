@@ -7,14 +7,14 @@ use Rattle.board.specs.declared.rule.SeatView.{SeatView}
 use Rattle.board.specs.declared.rule.Extent.{Extent}
 use Rattle.board.specs.Shares.{times, start}
 use Rattle.board.specs.Progress.{no_fault}
-use Rattle.board.specs.Words.{total, once_below, share_len, word_of, claims_of, claimed}
+use Rattle.board.specs.Words.{total, once_below, share_len, word_of, claims_of, claim_count}
 
 -- `parts` seats at which nothing was done
-abbrev pub fresh : ℕ → ℕ → ℕ → SeatView
-fresh parts jobs seats = record { parts = parts; jobs = jobs; seats = seats; drawn = []; empty = []; failed = []; looked = []; skipped = [] }
+abbrev pub fresh_view : ℕ → ℕ → ℕ → SeatView
+fresh_view parts jobs seats = record { parts = parts; jobs = jobs; seats = seats; drawn = []; empty = []; failed = []; looked = []; skipped = [] }
 
-abbrev pub drew : SeatView → ℕ → SeatView
-drew v x = record v { drawn = v.drawn ++ x ∷ [] }
+abbrev pub view_after_draw : SeatView → ℕ → SeatView
+view_after_draw v x = record v { drawn = v.drawn ++ x ∷ [] }
 
 abbrev pub saw_empty : SeatView → ℕ → SeatView
 saw_empty v k = record v { empty = v.empty ++ k ∷ [] }
@@ -29,8 +29,8 @@ abbrev pub has_skipped : SeatView → ℕ → SeatView
 has_skipped v x = record v { skipped = v.skipped ++ x ∷ [] }
 
 -- two views as one
-abbrev pub gathered : SeatView → SeatView → SeatView
-gathered v w = record {
+abbrev pub gathered_views : SeatView → SeatView → SeatView
+gathered_views v w = record {
   parts = v.parts + w.parts;
   jobs = v.jobs;
   seats = v.seats;
@@ -74,7 +74,7 @@ pub record KeepsDrawn (n w : ℕ) (words : List ℕ) (views : List SeatView) : T
   pub wide : length words ≡ 65
   pub parts : total (λ v. v.parts) views ≡ w
   pub each : (i : ℕ) (v : SeatView) → get_elem? views i ≡ some v → Fits n w v
-  pub drawn : (x : ℕ) → times_drawn x views ≡ claimed (start n w) (claims_of w words) x w
+  pub drawn : (x : ℕ) → times_drawn x views ≡ claim_count (start n w) (claims_of w words) x w
   pub empty : (k : ℕ) → 0 < times_empty k views → (k < w) × (share_len n w k ≤ claims_of w words k)
   pub bounded : (k : ℕ) → k < w → claims_of w words k ≤ share_len n w k + times_empty k views
 
@@ -103,13 +103,13 @@ pub record BoardRule (n w : ℕ) (words : List ℕ) (views : List SeatView) : Ty
   pub skipped : KeepsSkipped words views
 
 -- the rule of a board, of a table's words and views
-abbrev pub Kept : Extent → State (Unit {0}) SeatView → Type 0
-Kept e s = BoardRule e.jobs e.seats s.words s.views
+abbrev pub TableKeepsRule : Extent → State (Unit {0}) SeatView → Type 0
+TableKeepsRule e s = BoardRule e.jobs e.seats s.words s.views
 
 -- A claim of share k found c. If c is below the share's length, it drew a new number. Else it saw
 -- the share empty.
 pub record Claims (v : SeatView) (k c : ℕ) (v' : SeatView) : Type 0 where
-  pub drew : c < share_len v.jobs v.seats k → v' ≡ drew v (start v.jobs v.seats k + c)
+  pub drew : c < share_len v.jobs v.seats k → v' ≡ view_after_draw v (start v.jobs v.seats k + c)
   pub new : c < share_len v.jobs v.seats k → (start v.jobs v.seats k + c < v.jobs) × (times (start v.jobs v.seats k + c) v.drawn ≡ 0)
   pub empty : share_len v.jobs v.seats k ≤ c → v' ≡ saw_empty v k
 
@@ -119,24 +119,24 @@ pub record IsLeastFound (v : SeatView) (found : ℕ) : Type 0 where
   pub looked : (x : ℕ) → 0 < times x v.looked → (found ≤ x) × ((x ≡ no_fault) ⊎ (x < v.jobs))
 
 -- a claim of the share that has this word
-abbrev pub Claimed : Step (Unit {0}) → Me (Unit {0}) SeatView → ℕ → Me (Unit {0}) SeatView → Type 0
-Claimed st m c m' = ((k : ℕ) → k < m.0.seats → st.word ≡ word_of m.0.seats k → Claims m.0 k c m'.0) × (m'.1 ≡ m.1)
+abbrev pub StepClaims : Step (Unit {0}) → Me (Unit {0}) SeatView → ℕ → Me (Unit {0}) SeatView → Type 0
+StepClaims st m c m' = ((k : ℕ) → k < m.0.seats → st.word ≡ word_of m.0.seats k → Claims m.0 k c m'.0) × (m'.1 ≡ m.1)
 
 -- a settle: the operand failed
-abbrev pub Settled : Step (Unit {0}) → Me (Unit {0}) SeatView → ℕ → Me (Unit {0}) SeatView → Type 0
-Settled st m found m' = (m'.0 ≡ has_failed m.0 st.first) × (m'.1 ≡ m.1)
+abbrev pub StepSettles : Step (Unit {0}) → Me (Unit {0}) SeatView → ℕ → Me (Unit {0}) SeatView → Type 0
+StepSettles st m found m' = (m'.0 ≡ has_failed m.0 st.first) × (m'.1 ≡ m.1)
 
 -- a look at the fault word
-abbrev pub Looked : Step (Unit {0}) → Me (Unit {0}) SeatView → ℕ → Me (Unit {0}) SeatView → Type 0
-Looked st m found m' = (m'.0 ≡ has_looked m.0 found) × IsLeastFound m.0 found × (m'.1 ≡ m.1)
+abbrev pub StepLooks : Step (Unit {0}) → Me (Unit {0}) SeatView → ℕ → Me (Unit {0}) SeatView → Type 0
+StepLooks st m found m' = (m'.0 ≡ has_looked m.0 found) × IsLeastFound m.0 found × (m'.1 ≡ m.1)
 
 -- the view after a look for job x, which is skipped if it is above what was found
 abbrev pub has_looked_for : SeatView → ℕ → ℕ → SeatView
 has_looked_for v x found = cond (ltb found x) (has_skipped (has_looked v found) x) (has_looked v found)
 
 -- a look for job x at the fault word
-abbrev pub Skipped : ℕ → Step (Unit {0}) → Me (Unit {0}) SeatView → ℕ → Me (Unit {0}) SeatView → Type 0
-Skipped x st m found m' = (m'.0 ≡ has_looked_for m.0 x found) × IsLeastFound m.0 found × (m'.1 ≡ m.1)
+abbrev pub StepSkips : ℕ → Step (Unit {0}) → Me (Unit {0}) SeatView → ℕ → Me (Unit {0}) SeatView → Type 0
+StepSkips x st m found m' = (m'.0 ≡ has_looked_for m.0 x found) × IsLeastFound m.0 found × (m'.1 ≡ m.1)
 
 -- what holds of a view that has the lists of all seats, and of the fault word
 pub record IsWhole (v : SeatView) (fault : ℕ) : Type 0 where

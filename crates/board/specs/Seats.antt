@@ -6,7 +6,7 @@ use Rattle.board.specs.declared.rule.SeatView.{SeatView}
 use Rattle.board.specs.declared.share.Share.{Share}
 use Rattle.board.specs.Shares.{times, start}
 use Rattle.board.specs.Words.{share_len, word_of}
-use Rattle.board.specs.Progress.{Layout, Progress, shares_in_turn, unused}
+use Rattle.board.specs.Progress.{Layout, Progress, shares_in_turn, unused_seat}
 
 -- the board with this table, jobs and seats
 abbrev pub layout : TableId → ℕ → ℕ → Layout
@@ -19,7 +19,7 @@ progress_of table number v done = record { board = layout table v.jobs v.seats; 
 -- a seat of this board at which nothing was done
 pub record IsUnused (of : Layout) (p : Progress) : Type 0 where
   pub board : p.board ≡ of
-  pub unused : p ≡ unused p.board p.number
+  pub unused : p ≡ unused_seat p.board p.number
 
 -- what the fields of a seat say of its view
 pub record IsSeated (number passed jobs seats : ℕ) (me : Me (Unit {0}) SeatView) : Type 0 where

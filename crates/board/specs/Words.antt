@@ -25,11 +25,11 @@ claims_of w words k = slice_index words (word_of w k)
 
 -- The shares begin at `first`, each ends where the next begins. 1 if x is among the first c numbers
 -- of share k, else 0.
-abbrev pub claimed_in : (ℕ → ℕ) → ℕ → ℕ → ℕ → ℕ
-claimed_in first x k c = cond (leb (first k) x && ltb x (min (first k + c) (first (suc k)))) 1 0
+abbrev pub claim_count_in : (ℕ → ℕ) → ℕ → ℕ → ℕ → ℕ
+claim_count_in first x k c = cond (leb (first k) x && ltb x (min (first k + c) (first (suc k)))) 1 0
 
 -- in how many of the shares below m the number x was claimed, share k being claimed `claims k`
 -- times
-abbrev pub claimed : (ℕ → ℕ) → (ℕ → ℕ) → ℕ → ℕ → ℕ
-claimed first claims x zero = 0
-claimed first claims x (suc k) = claimed first claims x k + claimed_in first x k (claims k)
+abbrev pub claim_count : (ℕ → ℕ) → (ℕ → ℕ) → ℕ → ℕ → ℕ
+claim_count first claims x zero = 0
+claim_count first claims x (suc k) = claim_count first claims x k + claim_count_in first x k (claims k)

@@ -6,9 +6,9 @@ ghost use Rattle.board.specs.Shares.{IsInShare, times};
 ghost use Rattle.board.specs.Progress.{no_fault, Progress, unused_seats, DrawsJob, DrawsNone, IsUnspent, after_done, after_fail, after_look, after_skip, IsAtMostSeen, fault_word};
 ghost use Rattle.board.specs.Finished.{CountsOf, HasSpentAll, IsFinished, times_spent, all_drawn};
 ghost use Rattle.board.specs.Words.{once_below};
-ghost use Rattle.board.specs.Rule.{fresh, drew, saw_empty, opening_words, has_looked, IsLeastFound, IsWhole, has_looked_for};
+ghost use Rattle.board.specs.Rule.{fresh_view, view_after_draw, saw_empty, opening_words, has_looked, IsLeastFound, IsWhole, has_looked_for};
 ghost use Rattle.board.specs.Seats.{layout, IsShare};
-ghost use Rattle.board.specs.Gathering.{Gathers};
+ghost use Rattle.board.specs.GatheredSeats.{Gathers};
 
 use crate::gathered::Gathered;
 use crate::job::Job;
@@ -290,7 +290,7 @@ impl Board {
             × (times share.number token.old.me.0.empty < token.old.me.0.parts) }
         ensures token { (token.new.table_id ≡ token.old.table_id) × (token.new.me.1 ≡ token.old.me.1) }
         ensures number { IfSome result (λ x.
-            (token.new.me.0 ≡ drew token.old.me.0 x)
+            (token.new.me.0 ≡ view_after_draw token.old.me.0 x)
             × IsInShare token.old.me.0.jobs token.old.me.0.seats share.number x) }
         ensures new { IfSome result (λ x. (x < token.old.me.0.jobs) × (times x token.old.me.0.drawn ≡ 0)) }
         ensures none { IfNone result (token.new.me.0 ≡ saw_empty token.old.me.0 share.number) }
@@ -330,7 +330,7 @@ fn make_table(
     ensures { IfOk result (λ t.
         (t.0.shared.table_id.words ≡ 65) × (t.0.shared.table_id.slots ≡ 0) × (t.0.shared.key ≡ extent)
         × (t.1.table_id ≡ t.0.shared.table_id)
-        × (t.1.me ≡ (fresh extent.seats extent.jobs extent.seats, []))) }
+        × (t.1.me ≡ (fresh_view extent.seats extent.jobs extent.seats, []))) }
 {
     Table::of_words(alloc, &opening_words(), &extent)
 }

@@ -1,6 +1,6 @@
 // The seats of a closed board, taken in one after the other.
 ghost use Rattle.std.specs.Prelude.{◌∷◌, []};
-ghost use Rattle.board.specs.Gathering.{Gathers};
+ghost use Rattle.board.specs.GatheredSeats.{Gathers};
 
 use crate::rule::SeatView;
 use crate::seat::Seat;

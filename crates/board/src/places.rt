@@ -1,8 +1,8 @@
 // The results of all workers, each at the number of its job.
 ghost use Rattle.std.specs.Prelude.{◌≡◌, ◌<◌, ◌≤◌, ℕ, [], map, All, length, vec_capacity};
 ghost use Rattle.board.specs.Shares.{times};
-ghost use Rattle.board.specs.Running.{AreResults, IsResult};
-ghost use Rattle.board.specs.Working.{IsPlaced, HasPlace};
+ghost use Rattle.board.specs.RunAnswer.{AreResults, IsResult};
+ghost use Rattle.board.specs.WorkerResult.{IsPlaced, HasPlace};
 
 use crate::labour::Labour;
 

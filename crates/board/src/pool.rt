@@ -2,9 +2,9 @@
 ghost use Rattle.std.specs.Prelude.{◌≡◌, ◌⊎◌, ◌↔◌, ◌<◌, ◌≤◌, ◌^◌, ℕ, [], None, Err, IfOk, IfErr, All, replicate, vec_len, vec_capacity};
 ghost use Rattle.coding.specs.declared.fault.Fault.{Fault};
 ghost use Rattle.board.specs.declared.pool.RunFault.{RunFault};
-ghost use Rattle.board.specs.Running.{AreResults, IsRefused};
+ghost use Rattle.board.specs.RunAnswer.{AreResults, IsRefused};
 ghost use Rattle.board.specs.Seats.{IsUnused};
-ghost use Rattle.board.specs.Working.{IsShift, IsFiled};
+ghost use Rattle.board.specs.WorkerResult.{IsShift, IsFiled};
 
 use crate::board::Board;
 use crate::labour::{Gate, Labour};
@@ -74,7 +74,7 @@ where
 
 impl From<RunFault> for Fault {
     ghost use Rattle.std.specs.Prelude.{◌≡◌};
-    ghost use Rattle.board.specs.Running.{fault_of_run};
+    ghost use Rattle.board.specs.RunAnswer.{fault_of_run};
 
     ghost from_gives = { λ why e. e ≡ fault_of_run why };
 

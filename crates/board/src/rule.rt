@@ -40,38 +40,38 @@ pub struct Extent {
 pub struct ByShares;
 
 impl TableRule<(), SeatView, Extent> for ByShares {
-    ghost use Rattle.board.specs.Rule.{Kept, fresh};
+    ghost use Rattle.board.specs.Rule.{TableKeepsRule, fresh_view};
 
-    ghost holds = { Kept };
+    ghost holds = { TableKeepsRule };
 
-    ghost first = { λ e. fresh e.seats e.jobs e.seats };
+    ghost first = { λ e. fresh_view e.seats e.jobs e.seats };
 }
 
 // A claim draws the next number of a share, or sees the share empty.
 pub struct Claim;
 
 impl Play<(), SeatView> for Claim {
-    ghost use Rattle.board.specs.Rule.{Claimed};
+    ghost use Rattle.board.specs.Rule.{StepClaims};
 
-    ghost then = { Claimed };
+    ghost then = { StepClaims };
 }
 
 // A settle: a number has failed.
 pub struct Settle;
 
 impl Play<(), SeatView> for Settle {
-    ghost use Rattle.board.specs.Rule.{Settled};
+    ghost use Rattle.board.specs.Rule.{StepSettles};
 
-    ghost then = { Settled };
+    ghost then = { StepSettles };
 }
 
 // A look at the fault word.
 pub struct Look;
 
 impl Play<(), SeatView> for Look {
-    ghost use Rattle.board.specs.Rule.{Looked};
+    ghost use Rattle.board.specs.Rule.{StepLooks};
 
-    ghost then = { Looked };
+    ghost then = { StepLooks };
 }
 
 // Names the job for which a seat looks. Each call picks it.
@@ -89,9 +89,9 @@ pub struct Skip<J> {
 }
 
 impl<J: Skipping> Play<(), SeatView> for Skip<J> {
-    ghost use Rattle.board.specs.Rule.{Skipped};
+    ghost use Rattle.board.specs.Rule.{StepSkips};
 
-    ghost then = { Skipped J.job };
+    ghost then = { StepSkips J.job };
 }
 
 // A view of one seat is split from a view of several that have done nothing.
@@ -99,20 +99,20 @@ pub struct Seating;
 
 impl Split<SeatView> for Seating {
     ghost use Rattle.std.specs.Prelude.{◌-◌};
-    ghost use Rattle.board.specs.Rule.{fresh};
+    ghost use Rattle.board.specs.Rule.{fresh_view};
 
-    ghost left = { λ v. fresh (v.parts - 1) v.jobs v.seats };
+    ghost left = { λ v. fresh_view (v.parts - 1) v.jobs v.seats };
 
-    ghost right = { λ v. fresh 1 v.jobs v.seats };
+    ghost right = { λ v. fresh_view 1 v.jobs v.seats };
 }
 
 // Two views are joined, and nothing is left of the second.
 pub struct Gathering;
 
 impl Join<SeatView> for Gathering {
-    ghost use Rattle.board.specs.Rule.{gathered, fresh};
+    ghost use Rattle.board.specs.Rule.{gathered_views, fresh_view};
 
-    ghost both = { gathered };
+    ghost both = { gathered_views };
 
-    ghost spent = { fresh 0 0 0 };
+    ghost spent = { fresh_view 0 0 0 };
 }

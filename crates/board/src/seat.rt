@@ -1,6 +1,6 @@
 // A seat at a board.
 ghost use Rattle.std.specs.Prelude.{◌≡◌, ◌<◌, ◌≤◌, ◌^◌, []};
-ghost use Rattle.board.specs.Rule.{fresh};
+ghost use Rattle.board.specs.Rule.{fresh_view};
 
 use crate::rule::SeatView;
 use crate::share::Share;
@@ -40,15 +40,15 @@ impl Model for Seat {
 }
 
 impl Seat {
-    ghost use Rattle.board.specs.Progress.{unused};
+    ghost use Rattle.board.specs.Progress.{unused_seat};
     ghost use Rattle.board.specs.Seats.{layout};
 
     // The seat of this number, at which nothing was done.
     pub(crate) fn new(number: u64, jobs: u64, seats: u64, token: Token<(), SeatView>) -> Seat
-        requires view { token.me ≡ (fresh 1 jobs seats, []) }
+        requires view { token.me ≡ (fresh_view 1 jobs seats, []) }
         requires number { number < seats }
         requires few { (seats ≤ 64) × (jobs ≤ 2 ^ 40) }
-        ensures { result ≡ unused (layout token.table_id jobs seats) number }
+        ensures { result ≡ unused_seat (layout token.table_id jobs seats) number }
     {
         Seat {
             number,

@@ -1,9 +1,9 @@
 // What a worker does.
 ghost use Rattle.std.specs.Prelude.{◌≤◌, ℕ, List, ◌++◌, Option};
 ghost use Rattle.coding.specs.declared.fault.Fault.{Fault};
-ghost use Rattle.board.specs.Running.{IsFaultOf};
+ghost use Rattle.board.specs.RunAnswer.{IsFaultOf};
 ghost use Rattle.board.specs.Seats.{IsUnused};
-ghost use Rattle.board.specs.Working.{HasDrawn, HasSpent, IsShift, IsLeastFailed};
+ghost use Rattle.board.specs.WorkerResult.{HasDrawn, HasSpent, IsShift, IsLeastFailed};
 
 use crate::board::Board;
 use crate::job::Job;

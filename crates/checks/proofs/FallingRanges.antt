@@ -8,18 +8,18 @@ use Rattle.coding.specs.Answers.{fault}
 use Rattle.coding.specs.declared.fault.Fault.{Fault}
 use Rattle.coding.specs.declared.fault.FaultName.TheVariants.{Memory}
 use Rattle.coding.proofs.Refusals.{only_memory}
-use Rattle.board.specs.Running.{IsRefused, fault_of_run}
+use Rattle.board.specs.RunAnswer.{IsRefused, fault_of_run}
 use Rattle.board.specs.declared.pool.RunFault.{RunFault}
 use Rattle.ikey.specs.Key.{IsInternalKey, user_of}
-use Rattle.block.specs.Piece.{Entry}
-use Rattle.merge.specs.Merged.{joined}
+use Rattle.block.specs.EncodedEntry.{Entry}
+use Rattle.merge.specs.Merged.{entries_of_lists}
 use Rattle.split.specs.Ranges.{KeyRange, range_at, IsIn, IsCover}
 use Rattle.keep.specs.InRange.{is_in_range, entries_in, HoldsLaw}
-use Rattle.reads.specs.Standing.{IsNewer, IsNewerIn, AreFalling, AreFallingIn}
+use Rattle.reads.specs.TableOrder.{IsNewer, IsNewerIn, AreFalling, AreFallingIn}
 use Rattle.reads.proofs.Members.{in_filter, from_filter}
 use Rattle.reads.proofs.Pairs.{Pairs, pairs_from, pairs_to}
 use Rattle.reads.proofs.Ranged.{fall_in}
-use Rattle.checks.specs.Falling.{TellsRange}
+use Rattle.checks.specs.RangeOrder.{TellsRange}
 
 no_both : (b : Bool) → b ≡ true → b ≡ false → ⊥
 no_both b t f = let both : true ≡ false = sym t ∙ f in absurd cc
@@ -88,13 +88,13 @@ some_false (false ∷ outs) all = (zero, omega arith, refl)
 -- what the walks of all ranges tell
 module _ (cmp : List ℕ → List ℕ → Ordering) (boundaries : List (List ℕ)) (cover : IsCover cmp boundaries) (lists : List (List Entry)) (outs : List Bool) (len : length outs ≡ length boundaries + 1)
     (each : (i : ℕ) (d : Bool) → i < length boundaries + 1 → TellsRange cmp boundaries lists i (get_or outs i d)) where
-  pub all_told : (b : Bool) → list_all (λ b. b) outs ≡ b → (b ≡ true) ↔ AreFalling (joined lists)
-  all_told true all = (λ e. fall_in_all cmp boundaries cover (joined lists) (λ i le. (each i true (omega arith)).0 (each_true outs all i true (omega (arith, len)))), λ h. refl)
+  pub all_told : (b : Bool) → list_all (λ b. b) outs ≡ b → (b ≡ true) ↔ AreFalling (entries_of_lists lists)
+  all_told true all = (λ e. fall_in_all cmp boundaries cover (entries_of_lists lists) (λ i le. (each i true (omega arith)).0 (each_true outs all i true (omega (arith, len)))), λ h. refl)
   all_told false all = (
     λ e. absurd cc,
     λ h.
         let found = some_false outs all in
-        let told : get_or outs found.0 true ≡ true = (each found.0 true (omega (arith, len, found.1))).1 (fall_in (IsIn cmp (range_at boundaries found.0)) (joined lists) h) in
+        let told : get_or outs found.0 true ≡ true = (each found.0 true (omega (arith, len, found.1))).1 (fall_in (IsIn cmp (range_at boundaries found.0)) (entries_of_lists lists) h) in
         absurd (no_both (get_or outs found.0 true) told found.2),
   )
 

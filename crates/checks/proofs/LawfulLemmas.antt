@@ -9,7 +9,7 @@ use Rattle.coding.specs.declared.fault.Fault.{Fault}
 use Rattle.coding.specs.declared.fault.FaultName.TheVariants.{Device, Lawless, Missing}
 use Rattle.edit.specs.Version.{State}
 use Rattle.reads.specs.Lawful.{IsLawful}
-use Rattle.reads.specs.Tables.{Numbered, table_of}
+use Rattle.reads.specs.Tables.{NumberedContents, table_of_number}
 use Rattle.checks.specs.Checked.{tables_reading}
 use Rattle.checks.specs.LawfulTables.{IsLawfulAnswer, IsLawfulTables}
 use Rattle.checks.proofs.TableRefusals.{no_device}
@@ -39,19 +39,19 @@ module _ (cmp : List ℕ → List ℕ → Ordering) (v : State) (loaded : List (
   not_checked e h = (Err e, (h, refl))
 
   -- the version isn't lawful
-  pub not_lawful : (tables : List Numbered) (e : Fault) → tables_reading cmp loaded ≡ Ok tables → IsLawfulAnswer cmp v tables (Err e) → IsLawfulTables cmp v loaded (Err e)
+  pub not_lawful : (tables : List NumberedContents) (e : Fault) → tables_reading cmp loaded ≡ Ok tables → IsLawfulAnswer cmp v tables (Err e) → IsLawfulTables cmp v loaded (Err e)
   not_lawful tables e h l = (Ok tables, (h, l))
 
   -- it is
-  pub sound : (tables : List Numbered) → tables_reading cmp loaded ≡ Ok tables → IsLawful cmp v tables → IsLawfulTables cmp v loaded (Ok tables)
+  pub sound : (tables : List NumberedContents) → tables_reading cmp loaded ≡ Ok tables → IsLawful cmp v tables → IsLawfulTables cmp v loaded (Ok tables)
   sound tables h l = (Ok tables, (h, (refl, l)))
 
-  pub sound_lawful : (tables : List Numbered) → IsLawfulTables cmp v loaded (Ok tables) → IsLawful cmp v tables
+  pub sound_lawful : (tables : List NumberedContents) → IsLawfulTables cmp v loaded (Ok tables) → IsLawful cmp v tables
   sound_lawful tables (Ok first, h) = subst (IsLawful cmp v) (sym h.1.0) h.1.1
   sound_lawful tables (Err e, h) = absurd (no_refusal tables e h.1)
 
-  pub sound_checked : (tables : List Numbered) → IsLawfulTables cmp v loaded (Ok tables) → tables_reading cmp loaded ≡ Ok tables
-  sound_checked tables (Ok first, h) = h.0 ∙ ap (λ (ts : List Numbered). answer ts) (sym h.1.0)
+  pub sound_checked : (tables : List NumberedContents) → IsLawfulTables cmp v loaded (Ok tables) → tables_reading cmp loaded ≡ Ok tables
+  sound_checked tables (Ok first, h) = h.0 ∙ ap (λ (ts : List NumberedContents). answer ts) (sym h.1.0)
   sound_checked tables (Err e, h) = absurd (no_refusal tables e h.1)
 
   missing_other : (b : Bool) (u : Unit {0}) (e : Fault) → (if b then answer u else Err (fault Missing)) ≡ refusal e → e.name ≢ Device
@@ -64,7 +64,7 @@ module _ (cmp : List ℕ → List ℕ → Ordering) (v : State) (loaded : List (
   -- no refusal is Device
   pub sound_other : (e : Fault) → IsLawfulTables cmp v loaded (Err e) → e.name ≢ Device
   sound_other e (Ok tables, h) = elim h.1 [
-    | inl missing ↦ missing_other (list_all (λ f. is_some (table_of tables f.meta.number)) v.files) tt e missing
+    | inl missing ↦ missing_other (list_all (λ f. is_some (table_of_number tables f.meta.number)) v.files) tt e missing
     | inr lawless ↦ lawless_other e lawless.1
   ]
-  sound_other e (Err d, h) = subst (λ (f : Fault). f.name ≢ Device) (sym (same_refusal {Y = List Numbered} e d h.1)) (no_device cmp loaded d h.0)
+  sound_other e (Err d, h) = subst (λ (f : Fault). f.name ≢ Device) (sym (same_refusal {Y = List NumberedContents} e d h.1)) (no_device cmp loaded d h.0)

@@ -7,17 +7,17 @@ use Rattle.coding.specs.Answers.{◌>>=◌, fault}
 use Rattle.coding.specs.declared.fault.Fault.{Fault}
 use Rattle.coding.specs.declared.fault.FaultName.{FaultName}
 use Rattle.coding.specs.declared.fault.FaultName.TheVariants.{Block, BlockType, Compressed, Device, Empty, Handle, Index, Key, Magic, Order, Range, Short, Size, TooLarge, Trailer}
-use Rattle.block.specs.Piece.{Entry}
+use Rattle.block.specs.EncodedEntry.{Entry}
 use Rattle.block.specs.ReadingBlocks.{block_reading}
 use Rattle.frame.specs.Footer.{footer_reading}
 use Rattle.frame.specs.Handle.{HandleBehind, handle_reading}
 use Rattle.frame.specs.Trailer.{stored_reading}
 use Rattle.frame.specs.declared.handle.BlockHandle.{BlockHandle}
 use Rattle.ikey.specs.Key.{internal_key_reading, tag_of}
-use Rattle.table.specs.Reading.{blocks_of, blocks_reading, contents_reading, data_reading, index_fits, index_in}
+use Rattle.table.specs.TableContents.{blocks_of, blocks_reading, contents_reading, data_reading, index_fits, index_in}
 use Rattle.table.specs.ReadingEntries.{data_test, entries_test, entry_test, is_above, is_some_list}
 use Rattle.table.specs.ReadingIndex.{IndexEntry, block_in, handle_alone, index_entry, index_reading, one_handle, stored_at}
-use Rattle.table.specs.ReadingSteps.{pass}
+use Rattle.table.specs.ReadingSteps.{test_result}
 use Rattle.checks.specs.Checked.{numbered_reading, tables_reading}
 
 -- each name but Device
@@ -46,7 +46,7 @@ tested : {A : Type 0} (b : Bool) (r s : Result A Fault) → AllOther r → AllOt
 tested true r s one two = one
 tested false r s one two = two
 
-passes : (b : Bool) (n : FaultName) → IsOther n → AllOther (pass b n)
+passes : (b : Bool) (n : FaultName) → IsOther n → AllOther (test_result b n)
 passes b n h = tested b _ _ (value tt) (named _ n h)
 
 -- a block
@@ -77,8 +77,8 @@ footer_other bytes = tested _ _ _ (named _ Magic tt) (by _)
 index_in_other : (bytes : List ℕ) → AllOther (index_in bytes)
 unfolding IsOther
 index_in_other bytes =
-    bound (pass (nat_le (length bytes) (2 ^ 30)) Size) _ (passes (nat_le (length bytes) (2 ^ 30)) Size tt) (λ a.
-    bound (pass (nat_le 48 (length bytes)) Short) _ (passes (nat_le 48 (length bytes)) Short tt) (λ b.
+    bound (test_result (nat_le (length bytes) (2 ^ 30)) Size) _ (passes (nat_le (length bytes) (2 ^ 30)) Size tt) (λ a.
+    bound (test_result (nat_le 48 (length bytes)) Short) _ (passes (nat_le 48 (length bytes)) Short tt) (λ b.
     bound (footer_reading (drop (length bytes - 48) bytes)) _ (footer_other (drop (length bytes - 48) bytes)) (λ footer.
     bound (stored_at bytes footer.metaindex) _ (at_other bytes footer.metaindex) (λ metaindex.
     bound (stored_at bytes footer.index) _ (at_other bytes footer.index) (λ index.
@@ -115,7 +115,7 @@ test_other : (cmp : List ℕ → List ℕ → Ordering) (before : Option (List �
 unfolding IsOther
 test_other cmp before e =
     bound (internal_key_reading e.key) _ (key_other e.key) (λ key.
-    bound (pass (nat_le (length e.value) 16777215) TooLarge) _ (passes (nat_le (length e.value) 16777215) TooLarge tt) (λ fits. passes (is_above cmp before e.key) Order tt))
+    bound (test_result (nat_le (length e.value) 16777215) TooLarge) _ (passes (nat_le (length e.value) 16777215) TooLarge tt) (λ fits. passes (is_above cmp before e.key) Order tt))
 
 tests_other : (cmp : List ℕ → List ℕ → Ordering) (before : Option (List ℕ)) (es : List Entry) → AllOther (entries_test cmp before es)
 tests_other cmp before [] = value tt
@@ -123,7 +123,7 @@ tests_other cmp before (e ∷ es) = bound (entry_test cmp before e) _ (test_othe
 
 data_other : (cmp : List ℕ → List ℕ → Ordering) (before : Option (List ℕ)) (es : List Entry) → AllOther (data_test cmp before es)
 unfolding IsOther
-data_other cmp before es = bound (pass (is_some_list es) Empty) _ (passes (is_some_list es) Empty tt) (λ some. tests_other cmp before es)
+data_other cmp before es = bound (test_result (is_some_list es) Empty) _ (passes (is_some_list es) Empty tt) (λ some. tests_other cmp before es)
 
 blocks_other : (cmp : List ℕ → List ℕ → Ordering) (before : Option (List ℕ)) (is : List IndexEntry) → AllOther (blocks_reading cmp before is)
 blocks_other cmp before [] = value []
@@ -135,9 +135,9 @@ blocks_other cmp before (i ∷ is) =
 reading_other : (cmp : List ℕ → List ℕ → Ordering) (is : List IndexEntry) → AllOther (data_reading cmp is)
 unfolding IsOther
 reading_other cmp is =
-    bound (pass (is_some_list is) Empty) _ (passes (is_some_list is) Empty tt) (λ some.
+    bound (test_result (is_some_list is) Empty) _ (passes (is_some_list is) Empty tt) (λ some.
     bound (blocks_reading cmp None is) _ (blocks_other cmp None is) (λ blocks.
-    bound (pass (index_fits cmp None blocks) Index) _ (passes (index_fits cmp None blocks) Index tt) (λ fits. value blocks)))
+    bound (test_result (index_fits cmp None blocks) Index) _ (passes (index_fits cmp None blocks) Index tt) (λ fits. value blocks)))
 
 blocks_of_other : (cmp : List ℕ → List ℕ → Ordering) (bytes : List ℕ) → AllOther (blocks_of cmp bytes)
 unfolding blocks_of

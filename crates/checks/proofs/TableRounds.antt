@@ -8,20 +8,20 @@ use Rattle.std.proofs.lemmas.Option.{same_Some, slice_get-get_or, slice_get-map,
 use Rattle.coding.specs.Answers.{◌>>=◌, FailsOrMemory}
 use Rattle.coding.specs.declared.fault.Fault.{Fault}
 use Rattle.coding.proofs.Refusals.{unless_from}
-use Rattle.board.specs.Collected.{collected}
-use Rattle.reads.specs.Tables.{Numbered}
+use Rattle.board.specs.Collected.{collected_results}
+use Rattle.reads.specs.Tables.{NumberedContents}
 use Rattle.checks.specs.Checked.{numbered_reading, table_answers, tables_reading}
 use Rattle.checks.proofs.Lent.{lent_table}
 
-pub same_tables : (tables : List Numbered) → map (λ t. t) tables ≡ tables
+pub same_tables : (tables : List NumberedContents) → map (λ t. t) tables ≡ tables
 same_tables [] = refl
-same_tables (t ∷ tables) = ap (λ (ts : List Numbered). t ∷ ts) (same_tables tables)
+same_tables (t ∷ tables) = ap (λ (ts : List NumberedContents). t ∷ ts) (same_tables tables)
 
 -- the answers of all tables, collected
-pub tables_collected : (cmp : List ℕ → List ℕ → Ordering) (tables : List (ℕ × List ℕ)) → collected (table_answers cmp tables) ≡ tables_reading cmp tables
+pub tables_collected : (cmp : List ℕ → List ℕ → Ordering) (tables : List (ℕ × List ℕ)) → collected_results (table_answers cmp tables) ≡ tables_reading cmp tables
 tables_collected cmp [] = refl
 tables_collected cmp (t ∷ tables) =
-    ap (λ (rest : Result (List Numbered) Fault). numbered_reading cmp t >>= λ first. rest >>= λ others. Ok (first ∷ others)) (tables_collected cmp tables)
+    ap (λ (rest : Result (List NumberedContents) Fault). numbered_reading cmp t >>= λ first. rest >>= λ others. Ok (first ∷ others)) (tables_collected cmp tables)
 
 module _ (cmp : List ℕ → List ℕ → Ordering) (loaded : List (ℕ × Vec ℕ)) where
   pub answers_length : length (table_answers cmp (map lent_table loaded)) ≡ length loaded
@@ -33,21 +33,21 @@ module _ (cmp : List ℕ → List ℕ → Ordering) (loaded : List (ℕ × Vec �
       slice_get-map (numbered_reading cmp) (map lent_table loaded) job
       ∙ ap (option_map (numbered_reading cmp)) (slice_get-map lent_table loaded job ∙ ap (option_map lent_table) (slice_get_read loaded (length loaded) job t refl lt is))
 
-  pub answer_is : (job : ℕ) (t : ℕ × Vec ℕ) (answer : Result Numbered Fault) → job < length loaded → t ≡ get_or loaded job t
+  pub answer_is : (job : ℕ) (t : ℕ × Vec ℕ) (answer : Result NumberedContents Fault) → job < length loaded → t ≡ get_or loaded job t
       → slice_get (table_answers cmp (map lent_table loaded)) job ≡ Some answer → numbered_reading cmp (lent_table t) ≡ answer
   answer_is job t answer lt is at = same_Some (numbered_reading cmp (lent_table t)) answer (sym (answer_at job t lt is) ∙ at)
 
   -- there is one for each table
-  pub some_answer : (job : ℕ) → job < length loaded → (answer : Result Numbered Fault) × (slice_get (table_answers cmp (map lent_table loaded)) job ≡ Some answer)
+  pub some_answer : (job : ℕ) → job < length loaded → (answer : Result NumberedContents Fault) × (slice_get (table_answers cmp (map lent_table loaded)) job ≡ Some answer)
   some_answer job lt =
       let answers = table_answers cmp (map lent_table loaded) in
       (get_or answers job (numbered_reading cmp (0, [])), slice_get-get_or answers job (numbered_reading cmp (0, [])) (omega (arith, answers_length)))
 
 -- the tables that are checked, and those behind them
-abbrev pub tables_after : List Numbered → Result (List Numbered) Fault → Result (List Numbered) Fault
+abbrev pub tables_after : List NumberedContents → Result (List NumberedContents) Fault → Result (List NumberedContents) Fault
 tables_after front rest = rest >>= λ others. Ok (front ++ others)
 
-value_same : (r : Result (List Numbered) Fault) → r ≡ tables_after [] r
+value_same : (r : Result (List NumberedContents) Fault) → r ≡ tables_after [] r
 value_same (Ok tables) = refl
 value_same (Err e) = refl
 
@@ -55,18 +55,18 @@ value_same (Err e) = refl
 reading_append : (cmp : List ℕ → List ℕ → Ordering) (xs ys : List (ℕ × List ℕ)) → tables_reading cmp (xs ++ ys) ≡ (tables_reading cmp xs >>= λ front. tables_after front (tables_reading cmp ys))
 reading_append cmp [] ys = value_same (tables_reading cmp ys)
 reading_append cmp (t ∷ xs) ys =
-    ap (λ (rest : Result (List Numbered) Fault). numbered_reading cmp t >>= λ first. rest >>= λ others. Ok (first ∷ others)) (reading_append cmp xs ys)
+    ap (λ (rest : Result (List NumberedContents) Fault). numbered_reading cmp t >>= λ first. rest >>= λ others. Ok (first ∷ others)) (reading_append cmp xs ys)
     ∙ regroup (numbered_reading cmp t) (tables_reading cmp xs) (tables_reading cmp ys)
   where
-    regroup : (a : Result Numbered Fault) (b c : Result (List Numbered) Fault)
+    regroup : (a : Result NumberedContents Fault) (b c : Result (List NumberedContents) Fault)
         → (a >>= λ first. (b >>= λ front. tables_after front c) >>= λ others. Ok (first ∷ others)) ≡ ((a >>= λ first. b >>= λ others. Ok (first ∷ others)) >>= λ front. tables_after front c)
     regroup (Err e) b c = refl
     regroup (Ok first) (Err e) c = refl
     regroup (Ok first) (Ok front) (Err e) = refl
     regroup (Ok first) (Ok front) (Ok others) = refl
 
-after_twice : (front more : List Numbered) (rest : Result (List Numbered) Fault) → tables_after front (tables_after more rest) ≡ tables_after (front ++ more) rest
-after_twice front more (Ok others) = ap (λ (ts : List Numbered). Ok ts) (sym (append_assoc front more others))
+after_twice : (front more : List NumberedContents) (rest : Result (List NumberedContents) Fault) → tables_after front (tables_after more rest) ≡ tables_after (front ++ more) rest
+after_twice front more (Ok others) = ap (λ (ts : List NumberedContents). Ok ts) (sym (append_assoc front more others))
 after_twice front more (Err e) = refl
 
 module _ (cmp : List ℕ → List ℕ → Ordering) (loaded round behind : List (ℕ × Vec ℕ)) (n : ℕ) (is_round : round ≡ take n loaded) (is_behind : behind ≡ drop n loaded) where
@@ -77,15 +77,15 @@ module _ (cmp : List ℕ → List ℕ → Ordering) (loaded round behind : List 
   by_round = ap (λ (l : List (ℕ × Vec ℕ)). tables_reading cmp (map lent_table l)) parts ∙ ap (tables_reading cmp) (map-append lent_table round behind) ∙ reading_append cmp (map lent_table round) (map lent_table behind)
 
   -- a round more
-  pub round_more : (front checked after : List Numbered) (total : Result (List Numbered) Fault) → tables_reading cmp (map lent_table round) ≡ Ok checked → after ≡ front ++ checked
+  pub round_more : (front checked after : List NumberedContents) (total : Result (List NumberedContents) Fault) → tables_reading cmp (map lent_table round) ≡ Ok checked → after ≡ front ++ checked
       → tables_after front (tables_reading cmp (map lent_table loaded)) ≡ total → tables_after after (tables_reading cmp (map lent_table behind)) ≡ total
   round_more front checked after total read made so_far =
-      ap (λ (ts : List Numbered). tables_after ts (tables_reading cmp (map lent_table behind))) made ∙ sym (after_twice front checked (tables_reading cmp (map lent_table behind)))
-      ∙ sym (ap (tables_after front) (by_round ∙ ap (λ (r : Result (List Numbered) Fault). r >>= λ ts. tables_after ts (tables_reading cmp (map lent_table behind))) read)) ∙ so_far
+      ap (λ (ts : List NumberedContents). tables_after ts (tables_reading cmp (map lent_table behind))) made ∙ sym (after_twice front checked (tables_reading cmp (map lent_table behind)))
+      ∙ sym (ap (tables_after front) (by_round ∙ ap (λ (r : Result (List NumberedContents) Fault). r >>= λ ts. tables_after ts (tables_reading cmp (map lent_table behind))) read)) ∙ so_far
 
   -- a round that is refused
-  pub round_refused : (front : List Numbered) (e : Fault) (total : Result (List Numbered) Fault) → tables_after front (tables_reading cmp (map lent_table loaded)) ≡ total
+  pub round_refused : (front : List NumberedContents) (e : Fault) (total : Result (List NumberedContents) Fault) → tables_after front (tables_reading cmp (map lent_table loaded)) ≡ total
       → FailsOrMemory e (tables_reading cmp (map lent_table round)) → FailsOrMemory e total
   round_refused front e total so_far failed =
       unless_from e (tables_reading cmp (map lent_table round) ≡ Err e) (total ≡ Err e)
-      (λ read. sym so_far ∙ ap (tables_after front) (by_round ∙ ap (λ (r : Result (List Numbered) Fault). r >>= λ ts. tables_after ts (tables_reading cmp (map lent_table behind))) read)) failed
+      (λ read. sym so_far ∙ ap (tables_after front) (by_round ∙ ap (λ (r : Result (List NumberedContents) Fault). r >>= λ ts. tables_after ts (tables_reading cmp (map lent_table behind))) read)) failed

@@ -2,4 +2,4 @@
 pub mod Checked
 pub mod LawfulTables
 -- serves proofs alone
-pub mod Falling
+pub mod RangeOrder

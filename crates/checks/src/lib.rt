@@ -8,13 +8,13 @@
 //! [`Watch`] is a gate that is told to which long work on a folder its jobs belong.
 #![tactic(auto)]
 
-mod checking;
-mod falling;
 mod rounds;
-mod sampling;
-mod testing;
+mod sampled_ranges;
+mod sequence_order;
+mod table_check;
+mod version_check;
 mod watch;
 
 pub use rounds::check_tables;
-pub use testing::lawful_tables;
+pub use version_check::lawful_tables;
 pub use watch::{Watch, Work};

@@ -4,7 +4,7 @@ ghost use Rattle.std.specs.Prelude.{◌<◌, ◌≤◌, map};
 ghost use Rattle.coding.specs.Answers.{EqualOrMemory};
 ghost use Rattle.checks.specs.Checked.{tables_reading};
 
-use crate::checking::check_round;
+use crate::table_check::check_round;
 use board::Gate;
 use coding::Fault;
 use ikey::SharedComparator;

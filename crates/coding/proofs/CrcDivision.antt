@@ -1,6 +1,6 @@
 -- Long division gives the remainder, and there is one remainder.
 use Rattle.std.proofs.Common.{◌≡◌, ℕ, zero, suc, ◌+◌, ◌-◌, ◌≤◌, ◌↔◌, Bool, true, false, List, [], ◌∷◌, ◌++◌, length, drop, replicate, refl, sym, ap, ◌∙◌, arith}
-use Rattle.coding.specs.Crc.{coefficient_sum, leading_sum, scaled, castagnoli, divided_once, divided, remainder, multiple, IsRemainder}
+use Rattle.coding.specs.Crc.{coefficient_sum, leading_sum, scaled_polynomial, castagnoli, division_step, division_steps, remainder, multiple, IsRemainder}
 
 -- ---- the sum
 
@@ -59,9 +59,9 @@ cancels m z t = leading_sum-turn (leading_sum m t) z t ∙ ap (λ x. leading_sum
 -- ---- the divisor below its leading coefficient
 
 unfoldable pub lower : Bool → List Bool
-lower c = drop 1 (scaled c castagnoli)
+lower c = drop 1 (scaled_polynomial c castagnoli)
 
-pub divided_once-cons : (c : Bool) (p : List Bool) → divided_once (c ∷ p) ≡ leading_sum p (lower c)
+pub divided_once-cons : (c : Bool) (p : List Bool) → division_step (c ∷ p) ≡ leading_sum p (lower c)
 unfolding lower
 divided_once-cons true p = refl
 divided_once-cons false p = refl
@@ -73,16 +73,16 @@ multiple_sum false q z = refl
 
 length-multiple : (q : List Bool) → length (multiple q) ≡ 32 + length q
 length-multiple [] = refl
-length-multiple (c ∷ q) = length-leading_sum (false ∷ multiple q) (scaled c castagnoli) ∙ ap suc (length-multiple q) ∙ omega arith
+length-multiple (c ∷ q) = length-leading_sum (false ∷ multiple q) (scaled_polynomial c castagnoli) ∙ ap suc (length-multiple q) ∙ omega arith
 
 -- ---- one remainder
 
-divided-sum : (q r : List Bool) → length r ≡ 32 → divided (length q) (leading_sum (multiple q) (replicate (length q) false ++ r)) ≡ r
+divided-sum : (q r : List Bool) → length r ≡ 32 → division_steps (length q) (leading_sum (multiple q) (replicate (length q) false ++ r)) ≡ r
 divided-sum [] r h = zeros_sum_at 32 r h
 divided-sum (c ∷ q) r h =
     let z = replicate (length q) false ++ r in
-    ap (λ p. divided (length q) (divided_once p)) (multiple_sum c q z)
-    ∙ ap (divided (length q)) (divided_once-cons c (leading_sum (leading_sum (multiple q) (lower c)) z) ∙ cancels (multiple q) z (lower c))
+    ap (λ p. division_steps (length q) (division_step p)) (multiple_sum c q z)
+    ∙ ap (division_steps (length q)) (divided_once-cons c (leading_sum (leading_sum (multiple q) (lower c)) z) ∙ cancels (multiple q) z (lower c))
     ∙ divided-sum q r h
 
 pub remainder_only : (p r : List Bool) → IsRemainder p r → remainder p ≡ r
@@ -98,9 +98,9 @@ remainder_only p r h =
 quotient_of : ℕ → List Bool → List Bool
 quotient_of zero p = []
 quotient_of (suc n) [] = []
-quotient_of (suc n) (c ∷ p) = c ∷ quotient_of n (divided_once (c ∷ p))
+quotient_of (suc n) (c ∷ p) = c ∷ quotient_of n (division_step (c ∷ p))
 
-length-divided_once : (c : Bool) (p : List Bool) → length (divided_once (c ∷ p)) ≡ length p
+length-divided_once : (c : Bool) (p : List Bool) → length (division_step (c ∷ p)) ≡ length p
 length-divided_once c p = ap length (divided_once-cons c p) ∙ length-leading_sum p (lower c)
 
 length-quotient_of : (n : ℕ) (p : List Bool) → length p ≡ 32 + n → length (quotient_of n p) ≡ n
@@ -108,24 +108,24 @@ unfolding quotient_of
 length-quotient_of zero p h = refl
 length-quotient_of (suc n) [] h = absurd (omega arith)
 length-quotient_of (suc n) (c ∷ p) h =
-    let shorter : length (divided_once (c ∷ p)) ≡ 32 + n = omega (arith, length-divided_once c p) in
-    ap suc (length-quotient_of n (divided_once (c ∷ p)) shorter)
+    let shorter : length (division_step (c ∷ p)) ≡ 32 + n = omega (arith, length-divided_once c p) in
+    ap suc (length-quotient_of n (division_step (c ∷ p)) shorter)
 
-pub length-divided : (n : ℕ) (p : List Bool) → length p ≡ 32 + n → length (divided n p) ≡ 32
+pub length-divided : (n : ℕ) (p : List Bool) → length p ≡ 32 + n → length (division_steps n p) ≡ 32
 length-divided zero p h = omega arith
 length-divided (suc n) [] h = absurd (omega arith)
 length-divided (suc n) (c ∷ p) h =
-    let shorter : length (divided_once (c ∷ p)) ≡ 32 + n = omega (arith, length-divided_once c p) in
-    length-divided n (divided_once (c ∷ p)) shorter
+    let shorter : length (division_step (c ∷ p)) ≡ 32 + n = omega (arith, length-divided_once c p) in
+    length-divided n (division_step (c ∷ p)) shorter
 
-divides : (n : ℕ) (p : List Bool) → length p ≡ 32 + n → p ≡ leading_sum (multiple (quotient_of n p)) (replicate n false ++ divided n p)
+divides : (n : ℕ) (p : List Bool) → length p ≡ 32 + n → p ≡ leading_sum (multiple (quotient_of n p)) (replicate n false ++ division_steps n p)
 unfolding quotient_of
 divides zero p h = sym (zeros_sum_at 32 p h)
 divides (suc n) [] h = absurd (omega arith)
 divides (suc n) (c ∷ p) h =
-    let next = divided_once (c ∷ p) in
+    let next = division_step (c ∷ p) in
     let shorter : length next ≡ 32 + n = omega (arith, length-divided_once c p) in
-    let z = replicate n false ++ divided n next in
+    let z = replicate n false ++ division_steps n next in
     let m = multiple (quotient_of n next) in
     let back : p ≡ leading_sum (leading_sum m (lower c)) z =
     sym (leading_sum-twice p (lower c))

@@ -2,8 +2,8 @@
 use Rattle.std.proofs.Common.{◌≡◌, ℕ, zero, suc, ◌+◌, ◌-◌, ◌*◌, ◌/◌, ◌%◌, ◌^◌, ◌<◌, Bool, true, false, not, nat_eq, if◌then◌else◌, List, [], ◌∷◌, ◌++◌, length, map, take, drop, replicate, bit_xor, refl, sym, ap, ap₂, ◌∙◌, arith, length-append, pow-suc, suc-add, mul_assoc}
 use Rattle.std.proofs.lemmas.Nat.{xor_lt, xor_shr, xor_mod, shr_split, pow_pos, mod_below}
 use lib.Bits.{xor_assoc, xor_comm, xor_zero_r, xor_shifted}
-use Rattle.coding.specs.Crc.{low_bits, number_of, bits_of, coefficient_sum, leading_sum, divided_once, divided, remainder, message, crc32c}
-use Rattle.coding.specs.CrcRegister.{after_step, after_steps, fed}
+use Rattle.coding.specs.Crc.{low_bits, number_of, bits_of, coefficient_sum, leading_sum, division_step, division_steps, remainder, message, crc32c}
+use Rattle.coding.specs.CrcRegister.{register_after_step, register_after_steps, register_after_bits}
 use Rattle.coding.proofs.CrcDivision.{lower, divided_once-cons, length-leading_sum, leading_sum-nil, zeros_sum_at, coefficient_sum-false}
 
 -- ---- exclusive or
@@ -39,52 +39,52 @@ split_at n x =
 
 -- ---- steps
 
-pub after_step-xor : (a b : ℕ) → after_step (bit_xor a b) ≡ bit_xor (after_step a) (after_step b)
-unfolding after_step
+pub after_step-xor : (a b : ℕ) → register_after_step (bit_xor a b) ≡ bit_xor (register_after_step a) (register_after_step b)
+unfolding register_after_step
 after_step-xor a b =
     let low : bit_xor a b % 2 * 0x82f63b78 ≡ bit_xor (a % 2 * 0x82f63b78) (b % 2 * 0x82f63b78) =
     ap (λ x. x * 0x82f63b78) (xor_lowest a b) ∙ bits_times (a % 2) (omega arith) (b % 2) (omega arith) in
     ap₂ bit_xor (xor_half a b) low ∙ xor_pairs (a / 2) (b / 2) (a % 2 * 0x82f63b78) (b % 2 * 0x82f63b78)
 
-pub after_steps-xor : (n a b : ℕ) → after_steps n (bit_xor a b) ≡ bit_xor (after_steps n a) (after_steps n b)
-unfolding after_steps
+pub after_steps-xor : (n a b : ℕ) → register_after_steps n (bit_xor a b) ≡ bit_xor (register_after_steps n a) (register_after_steps n b)
+unfolding register_after_steps
 after_steps-xor zero a b = refl
-after_steps-xor (suc n) a b = ap (after_steps n) (after_step-xor a b) ∙ after_steps-xor n (after_step a) (after_step b)
+after_steps-xor (suc n) a b = ap (register_after_steps n) (after_step-xor a b) ∙ after_steps-xor n (register_after_step a) (register_after_step b)
 
-pub after_steps-add : (m n c : ℕ) → after_steps (m + n) c ≡ after_steps n (after_steps m c)
-unfolding after_steps
+pub after_steps-add : (m n c : ℕ) → register_after_steps (m + n) c ≡ register_after_steps n (register_after_steps m c)
+unfolding register_after_steps
 after_steps-add zero n c =
     let same : zero + n ≡ n = omega arith in
-    ap (λ k. after_steps k c) same
-after_steps-add (suc m) n c = ap (λ k. after_steps k c) (suc-add m n) ∙ after_steps-add m n (after_step c)
+    ap (λ k. register_after_steps k c) same
+after_steps-add (suc m) n c = ap (λ k. register_after_steps k c) (suc-add m n) ∙ after_steps-add m n (register_after_step c)
 
-pub after_steps-after_steps : (m n c : ℕ) → after_steps m (after_steps n c) ≡ after_steps n (after_steps m c)
+pub after_steps-after_steps : (m n c : ℕ) → register_after_steps m (register_after_steps n c) ≡ register_after_steps n (register_after_steps m c)
 after_steps-after_steps m n c =
     let same : n + m ≡ m + n = omega arith in
-    sym (after_steps-add n m c) ∙ ap (λ k. after_steps k c) same ∙ after_steps-add m n c
+    sym (after_steps-add n m c) ∙ ap (λ k. register_after_steps k c) same ∙ after_steps-add m n c
 
-after_step-even : (x : ℕ) → after_step (x * 2) ≡ x
-unfolding after_step
+after_step-even : (x : ℕ) → register_after_step (x * 2) ≡ x
+unfolding register_after_step
 after_step-even x =
     let half : x * 2 / 2 ≡ x = omega arith in
     let low : x * 2 % 2 ≡ 0 = omega arith in
     rw (half, low) (xor_zero_r x)
 
 -- n steps of a number without its n low bits drop them
-pub after_steps-shifted : (n x : ℕ) → after_steps n (x * 2 ^ n) ≡ x
-unfolding after_steps
+pub after_steps-shifted : (n x : ℕ) → register_after_steps n (x * 2 ^ n) ≡ x
+unfolding register_after_steps
 after_steps-shifted zero x = omega arith
 after_steps-shifted (suc n) x =
     let even : x * 2 ^ suc n ≡ x * 2 ^ n * 2 = ap (λ p. x * p) (pow-suc 2 n) ∙ sym (mul_assoc x (2 ^ n) 2) in
-    ap (λ y. after_steps n (after_step y)) even ∙ ap (after_steps n) (after_step-even (x * 2 ^ n)) ∙ after_steps-shifted n x
+    ap (λ y. register_after_steps n (register_after_step y)) even ∙ ap (register_after_steps n) (after_step-even (x * 2 ^ n)) ∙ after_steps-shifted n x
 
-pub after_steps-split : (n x : ℕ) → after_steps n x ≡ bit_xor (x / 2 ^ n) (after_steps n (x % 2 ^ n))
+pub after_steps-split : (n x : ℕ) → register_after_steps n x ≡ bit_xor (x / 2 ^ n) (register_after_steps n (x % 2 ^ n))
 after_steps-split n x =
-    ap (after_steps n) (sym (split_at n x)) ∙ after_steps-xor n (x / 2 ^ n * 2 ^ n) (x % 2 ^ n)
-    ∙ ap (λ y. bit_xor y (after_steps n (x % 2 ^ n))) (after_steps-shifted n (x / 2 ^ n))
+    ap (register_after_steps n) (sym (split_at n x)) ∙ after_steps-xor n (x / 2 ^ n * 2 ^ n) (x % 2 ^ n)
+    ∙ ap (λ y. bit_xor y (register_after_steps n (x % 2 ^ n))) (after_steps-shifted n (x / 2 ^ n))
 
-after_step_fits : (c : ℕ) → c < 2 ^ 32 → after_step c < 2 ^ 32
-unfolding after_step
+after_step_fits : (c : ℕ) → c < 2 ^ 32 → register_after_step c < 2 ^ 32
+unfolding register_after_step
 after_step_fits c h =
     let high : c / 2 < 2 ^ 32 = omega arith in
     let low : c % 2 * 0x82f63b78 < 2 ^ 32 = omega arith in
@@ -102,21 +102,21 @@ digit_below : (b : Bool) → digit b < 2
 digit_below true = omega arith
 digit_below false = omega arith
 
-pub fed-append : (c : ℕ) (xs ys : List Bool) → fed c (xs ++ ys) ≡ fed (fed c xs) ys
-unfolding fed
+pub fed-append : (c : ℕ) (xs ys : List Bool) → register_after_bits c (xs ++ ys) ≡ register_after_bits (register_after_bits c xs) ys
+unfolding register_after_bits
 fed-append c [] ys = refl
-fed-append c (x ∷ xs) ys = fed-append (after_step (bit_xor c (digit x))) xs ys
+fed-append c (x ∷ xs) ys = fed-append (register_after_step (bit_xor c (digit x))) xs ys
 
-fed_fits : (c : ℕ) (bits : List Bool) → c < 2 ^ 32 → fed c bits < 2 ^ 32
-unfolding fed
+fed_fits : (c : ℕ) (bits : List Bool) → c < 2 ^ 32 → register_after_bits c bits < 2 ^ 32
+unfolding register_after_bits
 fed_fits c [] h = h
 fed_fits c (b ∷ bits) h =
     let small : digit b < 2 ^ 32 = omega (arith, digit_below b) in
-    fed_fits (after_step (bit_xor c (digit b))) bits (after_step_fits (bit_xor c (digit b)) (xor_lt 32 c (digit b) h small))
+    fed_fits (register_after_step (bit_xor c (digit b))) bits (after_step_fits (bit_xor c (digit b)) (xor_lt 32 c (digit b) h small))
 
 -- n bits may be added to the register before the n steps
-pub fed_bits : (n c x : ℕ) → x < 2 ^ n → fed c (low_bits n x) ≡ after_steps n (bit_xor c x)
-unfolding fed after_steps
+pub fed_bits : (n c x : ℕ) → x < 2 ^ n → register_after_bits c (low_bits n x) ≡ register_after_steps n (bit_xor c x)
+unfolding register_after_bits register_after_steps
 fed_bits zero c x h =
     let none : x ≡ 0 = omega arith in
     rw none (sym (xor_zero_r c))
@@ -125,11 +125,11 @@ fed_bits (suc n) c x h =
     let lowest : d ≡ x % 2 = digit_of (x % 2) (omega arith) in
     let half : x / 2 < 2 ^ n = omega (arith, pow-suc 2 n) in
     let whole : bit_xor (x % 2) (x / 2 * 2) ≡ x = xor_comm (x % 2) (x / 2 * 2) ∙ split_at 1 x in
-    let step : bit_xor (after_step (bit_xor c d)) (x / 2) ≡ after_step (bit_xor c x) =
-    ap₂ bit_xor (ap (λ e. after_step (bit_xor c e)) lowest) (sym (after_step-even (x / 2)))
+    let step : bit_xor (register_after_step (bit_xor c d)) (x / 2) ≡ register_after_step (bit_xor c x) =
+    ap₂ bit_xor (ap (λ e. register_after_step (bit_xor c e)) lowest) (sym (after_step-even (x / 2)))
     ∙ sym (after_step-xor (bit_xor c (x % 2)) (x / 2 * 2))
-    ∙ ap after_step (xor_assoc c (x % 2) (x / 2 * 2) ∙ ap (bit_xor c) whole) in
-    fed_bits n (after_step (bit_xor c d)) (x / 2) half ∙ ap (after_steps n) step
+    ∙ ap register_after_step (xor_assoc c (x % 2) (x / 2 * 2) ∙ ap (bit_xor c) whole) in
+    fed_bits n (register_after_step (bit_xor c d)) (x / 2) half ∙ ap (register_after_steps n) step
 
 -- ---- the register is the remainder
 
@@ -192,8 +192,8 @@ upper_is c true = xor_half c 1 ∙ xor_zero_r (c / 2)
 
 -- a step of long division is a step of the register
 step_is : (c : ℕ) (b : Bool) (p : List Bool) → c < 2 ^ 32
-    → divided_once (leading_sum (b ∷ p) (low_bits 32 c)) ≡ leading_sum p (low_bits 32 (after_step (bit_xor c (digit b))))
-unfolding after_step
+    → division_step (leading_sum (b ∷ p) (low_bits 32 c)) ≡ leading_sum p (low_bits 32 (register_after_step (bit_xor c (digit b))))
+unfolding register_after_step
 step_is c b p h =
     let e = coefficient_sum b (nat_eq (c % 2) 1) in
     let x = bit_xor c (digit b) in
@@ -208,13 +208,13 @@ step_is c b p h =
     ∙ ap (leading_sum p) (sym (low_bits-xor 32 (x / 2) (x % 2 * 0x82f63b78) ∙ ap₂ leading_sum upper lows))
 
 divided_is : (c : ℕ) (bits : List Bool) → c < 2 ^ 32
-    → divided (length bits) (leading_sum (bits ++ replicate 32 false) (low_bits 32 c)) ≡ low_bits 32 (fed c bits)
-unfolding fed
+    → division_steps (length bits) (leading_sum (bits ++ replicate 32 false) (low_bits 32 c)) ≡ low_bits 32 (register_after_bits c bits)
+unfolding register_after_bits
 divided_is c [] h = zeros_sum_at 32 (low_bits 32 c) (length-low_bits 32 c)
 divided_is c (b ∷ bits) h =
-    let next = after_step (bit_xor c (digit b)) in
+    let next = register_after_step (bit_xor c (digit b)) in
     let small : digit b < 2 ^ 32 = omega (arith, digit_below b) in
-    ap (divided (length bits)) (step_is c b (bits ++ replicate 32 false) h)
+    ap (division_steps (length bits)) (step_is c b (bits ++ replicate 32 false) h)
     ∙ divided_is next bits (after_step_fits (bit_xor c (digit b)) (xor_lt 32 c (digit b) h small))
 
 -- ---- the ends
@@ -237,7 +237,7 @@ number_turned_over (suc n) x h =
     omega (arith, number_turned_over n (x / 2) half, lowest, pow-suc 2 n)
 
 -- the CRC is the register after the bytes' bits, turned over
-pub crc32c_is : (bytes : List ℕ) → crc32c bytes ≡ 2 ^ 32 - 1 - fed (2 ^ 32 - 1) (bits_of bytes)
+pub crc32c_is : (bytes : List ℕ) → crc32c bytes ≡ 2 ^ 32 - 1 - register_after_bits (2 ^ 32 - 1) (bits_of bytes)
 unfolding crc32c remainder
 crc32c_is bytes =
     let bits = bits_of bytes in
@@ -248,5 +248,5 @@ crc32c_is bytes =
     let long : length (message bytes) ≡ length bits + 32 =
     ap length front ∙ length-leading_sum (bits ++ replicate 32 false) (low_bits 32 ones) ∙ length-append bits (replicate 32 false) in
     let steps : length (message bytes) - 32 ≡ length bits = omega arith in
-    ap (λ r. number_of (map not r)) (ap₂ divided steps front ∙ divided_is ones bits fits)
-    ∙ number_turned_over 32 (fed ones bits) (fed_fits ones bits fits)
+    ap (λ r. number_of (map not r)) (ap₂ division_steps steps front ∙ divided_is ones bits fits)
+    ∙ number_turned_over 32 (register_after_bits ones bits) (fed_fits ones bits fits)

@@ -1,7 +1,7 @@
 -- Each table has what its definition says, at each of the 256 bytes: shown by computing.
 use Rattle.std.proofs.Common.{◌≡◌, ℕ, zero, suc, ◌+◌, ◌<◌, Bool, true, ◌&&◌, nat_eq, get_or, List, [], ◌∷◌, length, refl, arith, ap, sym, ◌∙◌}
 use Rattle.std.proofs.lemmas.Bool.{and_parts, eqb-true}
-use Rattle.coding.specs.CrcRegister.{after_step, after_steps}
+use Rattle.coding.specs.CrcRegister.{register_after_step, register_after_steps}
 use Rattle.coding.specs.declared.crc.tables.TheConstants.{AFTER_ONE, AFTER_THIRTEEN, AFTER_FOURTEEN, AFTER_FIFTEEN, AFTER_SIXTEEN}
 
 -- the list holds f i, f (i + 1), ..
@@ -23,22 +23,22 @@ at_byte f xs h whole b small =
     let same : 0 + b ≡ b = omega arith in
     get_or-lists_from f 0 xs h b (omega arith) ∙ ap f same
 
-pub after_one : (b : ℕ) → b < 256 → get_or AFTER_ONE b 0 ≡ after_steps 8 b
-unfolding after_step after_steps
-after_one = at_byte (after_steps 8) AFTER_ONE refl refl
+pub after_one : (b : ℕ) → b < 256 → get_or AFTER_ONE b 0 ≡ register_after_steps 8 b
+unfolding register_after_step register_after_steps
+after_one = at_byte (register_after_steps 8) AFTER_ONE refl refl
 
-pub after_thirteen : (b : ℕ) → b < 256 → get_or AFTER_THIRTEEN b 0 ≡ after_steps 104 b
-unfolding after_step after_steps
-after_thirteen = at_byte (after_steps 104) AFTER_THIRTEEN refl refl
+pub after_thirteen : (b : ℕ) → b < 256 → get_or AFTER_THIRTEEN b 0 ≡ register_after_steps 104 b
+unfolding register_after_step register_after_steps
+after_thirteen = at_byte (register_after_steps 104) AFTER_THIRTEEN refl refl
 
-pub after_fourteen : (b : ℕ) → b < 256 → get_or AFTER_FOURTEEN b 0 ≡ after_steps 112 b
-unfolding after_step after_steps
-after_fourteen = at_byte (after_steps 112) AFTER_FOURTEEN refl refl
+pub after_fourteen : (b : ℕ) → b < 256 → get_or AFTER_FOURTEEN b 0 ≡ register_after_steps 112 b
+unfolding register_after_step register_after_steps
+after_fourteen = at_byte (register_after_steps 112) AFTER_FOURTEEN refl refl
 
-pub after_fifteen : (b : ℕ) → b < 256 → get_or AFTER_FIFTEEN b 0 ≡ after_steps 120 b
-unfolding after_step after_steps
-after_fifteen = at_byte (after_steps 120) AFTER_FIFTEEN refl refl
+pub after_fifteen : (b : ℕ) → b < 256 → get_or AFTER_FIFTEEN b 0 ≡ register_after_steps 120 b
+unfolding register_after_step register_after_steps
+after_fifteen = at_byte (register_after_steps 120) AFTER_FIFTEEN refl refl
 
-pub after_sixteen : (b : ℕ) → b < 256 → get_or AFTER_SIXTEEN b 0 ≡ after_steps 128 b
-unfolding after_step after_steps
-after_sixteen = at_byte (after_steps 128) AFTER_SIXTEEN refl refl
+pub after_sixteen : (b : ℕ) → b < 256 → get_or AFTER_SIXTEEN b 0 ≡ register_after_steps 128 b
+unfolding register_after_step register_after_steps
+after_sixteen = at_byte (register_after_steps 128) AFTER_SIXTEEN refl refl

@@ -32,8 +32,8 @@ leading_sum (a ∷ p) [] = a ∷ p
 leading_sum (a ∷ p) (b ∷ q) = coefficient_sum a b ∷ leading_sum p q
 
 -- a coefficient times a polynomial
-abbrev pub scaled : Bool → List Bool → List Bool
-scaled c p = if c then p else replicate (length p) false
+abbrev pub scaled_polynomial : Bool → List Bool → List Bool
+scaled_polynomial c p = if c then p else replicate (length p) false
 
 -- the divisor, of degree 32
 abbrev pub castagnoli : List Bool
@@ -41,23 +41,23 @@ castagnoli = reverse (low_bits 33 0x11edc6f41)
 
 -- a step of long division: if the leading coefficient is 1, the divisor is subtracted; the leading
 -- 0 is dropped
-abbrev pub divided_once : List Bool → List Bool
-divided_once [] = []
-divided_once (c ∷ p) = drop 1 (leading_sum (c ∷ p) (scaled c castagnoli))
+abbrev pub division_step : List Bool → List Bool
+division_step [] = []
+division_step (c ∷ p) = drop 1 (leading_sum (c ∷ p) (scaled_polynomial c castagnoli))
 
 -- n steps of long division
-abbrev pub divided : ℕ → List Bool → List Bool
-divided zero p = p
-divided (suc n) p = divided n (divided_once p)
+abbrev pub division_steps : ℕ → List Bool → List Bool
+division_steps zero p = p
+division_steps (suc n) p = division_steps n (division_step p)
 
 -- the remainder of p by the divisor, p having at least 32 coefficients
 unfoldable pub remainder : List Bool → List Bool
-remainder p = divided (length p - 32) p
+remainder p = division_steps (length p - 32) p
 
 -- q times the divisor: 32 coefficients more than q has
 abbrev pub multiple : List Bool → List Bool
 multiple [] = replicate 32 false
-multiple (c ∷ q) = leading_sum (false ∷ multiple q) (scaled c castagnoli)
+multiple (c ∷ q) = leading_sum (false ∷ multiple q) (scaled_polynomial c castagnoli)
 
 -- p is a multiple of the divisor plus r, and the degree of r is below 32
 pub record IsRemainder (p r : List Bool) : Type 0 where

@@ -11,7 +11,7 @@ mod tables;
 
 ghost use Rattle.std.specs.Prelude.{◌≡◌, ℕ, ◌+◌, ◌^◌, ◌<◌, ◌++◌, bit_xor};
 ghost use Rattle.coding.specs.Crc.{RemainderLaw, bits_of, crc32c, masked};
-ghost use Rattle.coding.specs.CrcRegister.{fed, settled, after_steps};
+ghost use Rattle.coding.specs.CrcRegister.{register_after_bits, register_of_lanes, register_after_steps};
 ghost use Rattle.std.specs.List.{concat};
 
 use tables::{AFTER_FIFTEEN, AFTER_FOURTEEN, AFTER_ONE, AFTER_SIXTEEN, AFTER_THIRTEEN};
@@ -76,7 +76,7 @@ pub fn remainder_law()
 
 /// The register after eight steps.
 fn eight_steps(mut register: u32) -> u32
-    ensures { result ≡ after_steps 8 register }
+    ensures { result ≡ register_after_steps 8 register }
 {
     for _taken in 0..8u32 {
         register = register >> 1 ^ register % 2 * CASTAGNOLI;
@@ -86,7 +86,7 @@ fn eight_steps(mut register: u32) -> u32
 
 /// The register after `bytes`.
 fn advanced(register: u32, bytes: &[u8]) -> u32
-    ensures { result ≡ fed register (bits_of bytes.now) }
+    ensures { result ≡ register_after_bits register (bits_of bytes.now) }
 {
     let (chunks, rest) = bytes.as_chunks::<16>();
     match chunks.split_first() {
@@ -100,7 +100,7 @@ fn advanced(register: u32, bytes: &[u8]) -> u32
 
 /// The register after `bytes`, taken in one by one.
 fn advanced_by_bytes(mut register: u32, bytes: &[u8]) -> u32
-    ensures { result ≡ fed register (bits_of bytes.now) }
+    ensures { result ≡ register_after_bits register (bits_of bytes.now) }
 {
     for byte in bytes {
         register = past_one(register ^ u32::from(*byte));
@@ -111,14 +111,14 @@ fn advanced_by_bytes(mut register: u32, bytes: &[u8]) -> u32
 /// `register`, advanced by one byte.
 #[inline(always)]
 fn past_one(register: u32) -> u32
-    ensures { result ≡ after_steps 8 register }
+    ensures { result ≡ register_after_steps 8 register }
 {
     register >> 8 ^ AFTER_ONE[(register % 256) as usize]
 }
 
 /// `register`, advanced by four bytes.
 fn past_four(register: u32) -> u32
-    ensures { result ≡ after_steps 32 register }
+    ensures { result ≡ register_after_steps 32 register }
 {
     past_one(past_one(past_one(past_one(register))))
 }
@@ -126,7 +126,7 @@ fn past_four(register: u32) -> u32
 /// `register`, advanced by sixteen bytes.
 #[inline(always)]
 fn past_sixteen(register: u32) -> u32
-    ensures { result ≡ after_steps 128 register }
+    ensures { result ≡ register_after_steps 128 register }
 {
     let [first, second, third, fourth] = register.to_le_bytes();
     AFTER_SIXTEEN[first as usize]
@@ -150,7 +150,7 @@ impl Lanes {
     #[inline(always)]
     fn of(chunk: &[u8; 16]) -> Lanes
         ensures { (register : ℕ) →
-            fed register (bits_of chunk.now) ≡ settled (record result { first = bit_xor register result.first }) }
+            register_after_bits register (bits_of chunk.now) ≡ register_of_lanes (record result { first = bit_xor register result.first }) }
     {
         Lanes {
             first: u32::from_le_bytes([chunk[0], chunk[1], chunk[2], chunk[3]]),
@@ -162,7 +162,7 @@ impl Lanes {
 
     /// The words of the first chunk, with `register` added.
     fn begun(register: u32, chunk: &[u8; 16]) -> Lanes
-        ensures { settled result ≡ fed register (bits_of chunk.now) }
+        ensures { register_of_lanes result ≡ register_after_bits register (bits_of chunk.now) }
     {
         let words = Lanes::of(chunk);
         Lanes {
@@ -174,7 +174,7 @@ impl Lanes {
     /// The words after one more chunk.
     #[inline(always)]
     fn with(self, chunk: &[u8; 16]) -> Lanes
-        ensures { settled result ≡ fed (settled self) (bits_of chunk.now) }
+        ensures { register_of_lanes result ≡ register_after_bits (register_of_lanes self) (bits_of chunk.now) }
     {
         let words = Lanes::of(chunk);
         Lanes {
@@ -187,7 +187,7 @@ impl Lanes {
 
     /// The words after more chunks.
     fn over(mut self, chunks: &[[u8; 16]]) -> Lanes
-        ensures { settled result ≡ fed (settled self) (bits_of (concat chunks.now)) }
+        ensures { register_of_lanes result ≡ register_after_bits (register_of_lanes self) (bits_of (concat chunks.now)) }
     {
         for chunk in chunks {
             self = self.with(chunk);
@@ -197,7 +197,7 @@ impl Lanes {
 
     /// The register after all the chunks.
     fn settled(self) -> u32
-        ensures { result ≡ settled self }
+        ensures { result ≡ register_of_lanes self }
     {
         let register = past_four(self.first);
         let register = past_four(register ^ self.second);

@@ -5,7 +5,7 @@ use Rattle.coding.proofs.Refusals.{unless_from, only_memory}
 use Rattle.coding.specs.Answers.{fault, FailsOrMemory, EqualOrMemory, HoldsOrMemory, UnlessMemory}
 use Rattle.coding.specs.declared.fault.Fault.{Fault}
 use Rattle.coding.specs.declared.fault.FaultName.TheVariants.{Memory}
-use Rattle.folder.specs.Opening.{HasDeviceFailed}
+use Rattle.folder.specs.OpenAnswer.{HasDeviceFailed}
 
 -- the lines of what references point to
 pub flat_map_fused : {A B C : Type 0} (f : A → B) (h : B → List C) (xs : List A) → flat_map (λ x. h (f x)) xs ≡ flat_map h (map f xs)

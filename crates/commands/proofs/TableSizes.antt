@@ -13,33 +13,33 @@ use Rattle.coding.specs.Crc.{crc32c, masked}
 use Rattle.coding.specs.declared.fault.FaultName.{FaultName}
 use Rattle.coding.specs.declared.fault.FaultName.TheVariants.{BlockType, Compressed, Empty, Index, Short, Size, Trailer}
 use Rattle.coding.specs.declared.fault.Fault.{Fault}
-use Rattle.block.specs.Piece.{Entry, Piece, entries_after, piece_bytes}
-use Rattle.block.specs.Reading.{Field, piece_at}
-use Rattle.block.specs.ReadingBlocks.{area_len, block_reading, is_next, pieces_in, pieces_of, restarts_behind, restarts_in, with_mark}
+use Rattle.block.specs.EncodedEntry.{Entry, EncodedEntry, entries_after, encoded_entry_bytes}
+use Rattle.block.specs.EntryFormat.{FieldReading, encoded_entry_at}
+use Rattle.block.specs.ReadingBlocks.{area_len, block_reading, is_next, encoded_entries_in, encoded_entries_of, restarts_behind, restarts_in, with_mark}
 use Rattle.frame.specs.Trailer.{stored_reading}
 use Rattle.frame.specs.declared.handle.BlockHandle.{BlockHandle}
 use Rattle.frame.specs.Footer.{footer_reading}
 use Rattle.frame.specs.Handle.{handle_reading}
 use Rattle.ikey.specs.Key.{internal_key_reading}
-use Rattle.reads.specs.Tables.{Numbered}
-use Rattle.table.specs.Reading.{Contents, DataBlock, blocks_of, blocks_reading, contents_of, contents_reading, data_reading, entries_of, index_fits, index_in}
+use Rattle.reads.specs.Tables.{NumberedContents}
+use Rattle.table.specs.TableContents.{Contents, DataBlock, blocks_of, blocks_reading, contents_of, contents_reading, data_reading, entries_of, index_fits, index_in}
 use Rattle.table.specs.ReadingEntries.{data_test, is_some_list, key_behind}
 use Rattle.table.specs.ReadingIndex.{IndexEntry, block_in, index_entry, index_reading, one_handle, stored_at}
-use Rattle.table.specs.ReadingSteps.{pass}
+use Rattle.table.specs.ReadingSteps.{test_result}
 use Rattle.checks.specs.Checked.{numbered_reading, tables_reading}
 
 -- ---- a block
 
-few_pieces : (n at : ℕ) (restarts bytes : List ℕ) → length (pieces_in n at restarts bytes) ≤ n
+few_pieces : (n at : ℕ) (restarts bytes : List ℕ) → length (encoded_entries_in n at restarts bytes) ≤ n
 few_pieces zero at restarts bytes = omega arith
-few_pieces (suc n) at restarts bytes = by (piece_at bytes) (λ p. few_pieces n (at + length (piece_bytes p.field)) (restarts_behind restarts at) p.rest)
+few_pieces (suc n) at restarts bytes = by (encoded_entry_at bytes) (λ p. few_pieces n (at + length (encoded_entry_bytes p.field)) (restarts_behind restarts at) p.rest)
   where
-    by : (p : Option (Field Piece)) → ((p : Field Piece) → length (pieces_in n (at + length (piece_bytes p.field)) (restarts_behind restarts at) p.rest) ≤ n)
-        → length (option_map_or (λ p. with_mark (is_next restarts at) p.field ∷ pieces_in n (at + length (piece_bytes p.field)) (restarts_behind restarts at) p.rest) p []) ≤ suc n
+    by : (p : Option (FieldReading EncodedEntry)) → ((p : FieldReading EncodedEntry) → length (encoded_entries_in n (at + length (encoded_entry_bytes p.field)) (restarts_behind restarts at) p.rest) ≤ n)
+        → length (option_map_or (λ p. with_mark (is_next restarts at) p.field ∷ encoded_entries_in n (at + length (encoded_entry_bytes p.field)) (restarts_behind restarts at) p.rest) p []) ≤ suc n
     by None later = omega arith
     by (Some p) later = let few = later p in omega (arith, few)
 
-entries_len : (before : List ℕ) (ps : List Piece) → length (entries_after before ps) ≡ length ps
+entries_len : (before : List ℕ) (ps : List EncodedEntry) → length (entries_after before ps) ≡ length ps
 entries_len before [] = refl
 entries_len before (p ∷ ps) = ap suc (entries_len _ ps)
 
@@ -48,8 +48,8 @@ tested : {A : Type 0} (b : Bool) (e : Fault) (x y : A) → (if b then Ok x else 
 tested true e x y h = ok_is x y h
 tested false e x y h = absurd cc
 
-few_pieces_of : (bytes : List ℕ) → length (pieces_of bytes) ≤ length bytes
-unfolding pieces_of
+few_pieces_of : (bytes : List ℕ) → length (encoded_entries_of bytes) ≤ length bytes
+unfolding encoded_entries_of
 few_pieces_of bytes =
     let few = few_pieces (area_len bytes) 0 (restarts_in bytes) (take (area_len bytes) bytes) in
     let area : area_len bytes ≤ length bytes = omega arith in
@@ -59,7 +59,7 @@ few_in_block : (bytes : List ℕ) (es : List Entry) → block_reading bytes ≡ 
 unfolding block_reading
 few_in_block bytes es h =
     let few = few_pieces_of bytes in
-    let len = entries_len [] (pieces_of bytes) in
+    let len = entries_len [] (encoded_entries_of bytes) in
     subst (λ (xs : List Entry). length xs ≤ length bytes) (tested _ _ _ es h) (omega (arith, few, len))
 
 -- ---- a stored block
@@ -158,7 +158,7 @@ few_of_blocks cmp n small before (i ∷ is) blocks within h =
     (omega (arith, first, fits, later, both, small))
 
 -- a test that was passed
-passed : (b : Bool) (name : FaultName) (u : Unit {0}) → pass b name ≡ Ok u → b ≡ true
+passed : (b : Bool) (name : FaultName) (u : Unit {0}) → test_result b name ≡ Ok u → b ≡ true
 passed true name u h = refl
 passed false name u h = absurd cc
 
@@ -169,8 +169,8 @@ record IsIndexIn (bytes : List ℕ) (es : List Entry) : Type 0 where
 
 index_in_few : (bytes : List ℕ) (es : List Entry) → index_in bytes ≡ Ok es → IsIndexIn bytes es
 index_in_few bytes es h =
-    let a = bind_ok (pass (nat_le (length bytes) (2 ^ 30)) Size) _ es h in
-    let b = bind_ok (pass (nat_le 48 (length bytes)) Short) _ es a.2 in
+    let a = bind_ok (test_result (nat_le (length bytes) (2 ^ 30)) Size) _ es h in
+    let b = bind_ok (test_result (nat_le 48 (length bytes)) Short) _ es a.2 in
     let c = bind_ok (footer_reading (drop (length bytes - 48) bytes)) _ es b.2 in
     let d = bind_ok (stored_at bytes c.0.metaindex) _ es c.2 in
     let e = bind_ok (stored_at bytes c.0.index) _ es d.2 in
@@ -183,9 +183,9 @@ index_in_few bytes es h =
 few_of_data : (cmp : List ℕ → List ℕ → Ordering) (n : ℕ) → n ≤ 1073741824 → (is : List IndexEntry) (blocks : List DataBlock) → AreWithin n is
     → data_reading cmp is ≡ Ok blocks → length (entries_of blocks) ≤ length is * 1073741824
 few_of_data cmp n small is blocks within h =
-    let a = bind_ok (pass (is_some_list is) Empty) _ blocks h in
+    let a = bind_ok (test_result (is_some_list is) Empty) _ blocks h in
     let b = bind_ok (blocks_reading cmp None is) _ blocks a.2 in
-    let c = bind_ok (pass (index_fits cmp None b.0) Index) _ blocks b.2 in
+    let c = bind_ok (test_result (index_fits cmp None b.0) Index) _ blocks b.2 in
     subst (λ (bs : List DataBlock). length (entries_of bs) ≤ length is * 1073741824) (ok_is b.0 blocks c.2) (few_of_blocks cmp n small None is b.0 within b.1)
 
 few_blocks_of : (cmp : List ℕ → List ℕ → Ordering) (bytes : List ℕ) (blocks : List DataBlock) → blocks_of cmp bytes ≡ Ok blocks → length (entries_of blocks) ≤ 2 ^ 60
@@ -205,11 +205,11 @@ few_entries cmp bytes t h =
     subst (λ (x : Contents). length x.entries ≤ 2 ^ 60) (ok_is (contents_of bytes a.0) t a.2) (few_blocks_of cmp bytes a.0 a.1)
 
 -- a table of no more entries than that
-abbrev pub IsFew : Numbered → Type 0
+abbrev pub IsFew : NumberedContents → Type 0
 IsFew t = length t.contents.entries ≤ 2 ^ 60
 
 -- and so have all tables that are checked
-pub few_in_each : (cmp : List ℕ → List ℕ → Ordering) (loaded : List (ℕ × List ℕ)) (tables : List Numbered) → tables_reading cmp loaded ≡ Ok tables → All IsFew tables
+pub few_in_each : (cmp : List ℕ → List ℕ → Ordering) (loaded : List (ℕ × List ℕ)) (tables : List NumberedContents) → tables_reading cmp loaded ≡ Ok tables → All IsFew tables
 few_in_each cmp [] tables h = subst (All IsFew) (ok_is [] tables h) (All-nil IsFew)
 few_in_each cmp (t ∷ loaded) tables h =
     let a = bind_ok (numbered_reading cmp t) _ tables h in

@@ -4,12 +4,12 @@ use Rattle.std.specs.List.{flat_map}
 use Rattle.std.specs.Fmt.{decimal}
 use Rattle.coding.specs.Answers.{◌>>=◌}
 use Rattle.coding.specs.declared.fault.Fault.{Fault}
-use Rattle.block.specs.Piece.{Entry}
+use Rattle.block.specs.EncodedEntry.{Entry}
 use Rattle.ikey.specs.Bytewise.{bytewise_cmp}
 use Rattle.ikey.specs.Key.{user_of, sequence_of, kind_of}
 use Rattle.ikey.specs.declared.kind.Kind.{Kind}
 use Rattle.ikey.specs.declared.kind.Kind.TheVariants.{Delete, Put}
-use Rattle.table.specs.Reading.{table_reading}
+use Rattle.table.specs.TableContents.{table_reading}
 use Rattle.texts.specs.Text.{text_of_bytes}
 
 -- what comes after the sequence: `put VALUE` or `del`, and a newline
@@ -26,5 +26,5 @@ abbrev pub dump_lines : List Entry → List ℕ
 dump_lines entries = flat_map dump_line entries
 
 -- the lines of the entries of a table in bytewise order, or the first test that the bytes fail
-abbrev pub dumped : List ℕ → Result (List ℕ) Fault
-dumped bytes = table_reading bytewise_cmp bytes >>= λ entries. Ok (dump_lines entries)
+abbrev pub table_dump : List ℕ → Result (List ℕ) Fault
+table_dump bytes = table_reading bytewise_cmp bytes >>= λ entries. Ok (dump_lines entries)

@@ -6,28 +6,28 @@ use Rattle.coding.specs.Answers.{IsThen}
 use Rattle.coding.specs.declared.fault.Fault.{Fault}
 use Rattle.edit.specs.Version.{State}
 use Rattle.folder.specs.Levels.{file_numbers}
-use Rattle.folder.specs.Loading.{IsLoaded}
-use Rattle.folder.specs.Opening.{IsOpened}
+use Rattle.folder.specs.LoadedTables.{IsLoaded}
+use Rattle.folder.specs.OpenAnswer.{IsOpened}
 use Rattle.reads.specs.Gets.{get_of}
-use Rattle.reads.specs.Tables.{Numbered}
+use Rattle.reads.specs.Tables.{NumberedContents}
 use Rattle.checks.specs.LawfulTables.{IsLawfulTables}
 use Rattle.folder.specs.Orders.{order_cmp}
 use Rattle.texts.specs.Text.{text_of_bytes}
 
 -- the line of the tables, if the version is lawful with them
-abbrev pub IsLineOfLoaded : (List ℕ → List ℕ → Ordering) → State → List (ℕ × List ℕ) → (List Numbered → List ℕ) → Result (List ℕ) Fault → Type 0
+abbrev pub IsLineOfLoaded : (List ℕ → List ℕ → Ordering) → State → List (ℕ × List ℕ) → (List NumberedContents → List ℕ) → Result (List ℕ) Fault → Type 0
 IsLineOfLoaded cmp v loaded line_of = IsThen (IsLawfulTables cmp v loaded) (λ tables answer. answer ≡ Ok (line_of tables))
 
 -- the same with tables in a folder: first all of them are read, by level and in version order
-abbrev pub IsLineOfVersion : (List ℕ → Option (List ℕ) → Type 0) → (List ℕ → List ℕ → Ordering) → State → (List Numbered → List ℕ) → Result (List ℕ) Fault → Type 0
+abbrev pub IsLineOfVersion : (List ℕ → Option (List ℕ) → Type 0) → (List ℕ → List ℕ → Ordering) → State → (List NumberedContents → List ℕ) → Result (List ℕ) Fault → Type 0
 IsLineOfVersion tells cmp v line_of = IsThen (IsLoaded tells (file_numbers cmp v)) (λ loaded. IsLineOfLoaded cmp v loaded line_of)
 
 -- the same of the version that a folder opens as
-abbrev pub IsLineOfFolder : (List ℕ → Option (List ℕ) → Type 0) → (State → List Numbered → List ℕ) → Result (List ℕ) Fault → Type 0
+abbrev pub IsLineOfFolder : (List ℕ → Option (List ℕ) → Type 0) → (State → List NumberedContents → List ℕ) → Result (List ℕ) Fault → Type 0
 IsLineOfFolder tells line_of = IsThen (IsOpened tells) (λ opened. IsLineOfVersion tells (order_cmp opened.0) opened.1 (line_of opened.1))
 
 -- the number of entries in all these tables
-abbrev pub entry_count : List Numbered → ℕ
+abbrev pub entry_count : List NumberedContents → ℕ
 entry_count tables = length (flat_map (λ t. t.contents.entries) tables)
 
 -- `lawful: F files, E entries`
@@ -35,7 +35,7 @@ abbrev pub lawful_line : ℕ → ℕ → List ℕ
 lawful_line files entries = codes "lawful: " ++ decimal files ++ codes " files, " ++ decimal entries ++ codes " entries\n"
 
 -- that line for tables, one for each file of a version
-abbrev pub verified_line : List Numbered → List ℕ
+abbrev pub verified_line : List NumberedContents → List ℕ
 verified_line tables = lawful_line (length tables) (entry_count tables)
 
 -- the line of a value, or of none
@@ -48,5 +48,5 @@ abbrev pub sequence_at : State → Option ℕ → ℕ
 sequence_at v at = unwrap_or at (unwrap_or v.last_sequence 0)
 
 -- the line of the value of a user key at a sequence
-abbrev pub got_line : List ℕ → Option ℕ → State → List Numbered → List ℕ
+abbrev pub got_line : List ℕ → Option ℕ → State → List NumberedContents → List ℕ
 got_line key at v tables = value_line (get_of v tables key (sequence_at v at))

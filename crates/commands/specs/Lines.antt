@@ -11,7 +11,7 @@ use Rattle.edit.specs.VersionOrder.{level_files}
 use Rattle.edit.specs.declared.meta.FileMeta.{FileMeta}
 use Rattle.folder.specs.Levels.{all_levels}
 use Rattle.folder.specs.Manifest.{order_name}
-use Rattle.folder.specs.Opening.{IsOpened}
+use Rattle.folder.specs.OpenAnswer.{IsOpened}
 use Rattle.folder.specs.Orders.{order_cmp}
 use Rattle.texts.specs.Text.{text_of_bytes}
 use Rattle.folder.specs.declared.order.Order.{Order}

@@ -2,17 +2,17 @@
 
 ghost use Rattle.std.specs.Prelude.{Ok, map};
 ghost use Rattle.coding.specs.Answers.{EqualOrMemory, HoldsOrMemory};
-ghost use Rattle.folder.specs.Opening.{FolderAnswers};
+ghost use Rattle.folder.specs.OpenAnswer.{FolderAnswers};
 ghost use Rattle.folder.specs.Orders.{order_cmp};
 ghost use Rattle.folder.specs.Reports.{OnlyReads, ReportsDevice};
 ghost use Rattle.commands.specs.FolderLines.{IsLineOfFolder, IsLineOfLoaded, IsLineOfVersion, got_line, verified_line};
 ghost use Rattle.commands.specs.Lines.{IsShown, version_lines};
 ghost use Rattle.commands.specs.Questions.{line_of};
 
-use crate::getting::got;
+use crate::folder_get::got;
 use crate::question::Question;
-use crate::showing::version_lines;
-use crate::verifying::verified;
+use crate::version_text::version_lines;
+use crate::version_verdict::verified;
 use checks::Watch;
 use coding::Fault;
 use edit::Version;

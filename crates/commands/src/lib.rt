@@ -10,21 +10,21 @@
 //! one after the other is read off the program.
 #![tactic(auto)]
 
-mod counting;
 mod descent;
-mod dumping;
+mod entry_counts;
 mod exit_status;
 mod folder_commands;
-mod getting;
+mod folder_get;
 mod progress;
 mod question;
-mod showing;
-mod verifying;
+mod table_dump;
+mod version_text;
+mod version_verdict;
 
 pub use board::Open;
 pub use descent::{bottom, next_level};
-pub use dumping::dump;
 pub use exit_status::status;
 pub use folder_commands::{answer_opened, get_dir, manifest, manifest_lines, verify};
 pub use progress::progress_text;
 pub use question::Question;
+pub use table_dump::dump;

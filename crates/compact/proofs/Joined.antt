@@ -5,13 +5,13 @@ use Rattle.std.specs.declared.cmp.Ordering.{Ordering}
 use Rattle.std.specs.List.{list_all}
 use Rattle.std.proofs.lemmas.Bool.{and_parts, leb-true, ltb-true}
 use Rattle.table.specs.declared.options.Options.{Options}
-use Rattle.cut.specs.Plan.{Planned, plan_of, planned_from, parts}
+use Rattle.cut.specs.Plan.{OutputView, plan_of, planned_from, parts}
 use Rattle.coding.specs.declared.fault.Fault.{Fault}
 use Rattle.coding.specs.declared.fault.FaultName.TheVariants.{Workers, Duplicate, Numbers, TooLarge}
 use Rattle.coding.specs.Answers.{fault, ◌>>=◌, EqualOrMemory, FailsOrMemory}
 use Rattle.coding.proofs.Refusals.{unless_from}
-use Rattle.block.specs.Piece.{Entry}
-use Rattle.table.specs.ReadingSteps.{pass}
+use Rattle.block.specs.EncodedEntry.{Entry}
+use Rattle.table.specs.ReadingSteps.{test_result}
 use Rattle.table.specs.Table.{table}
 use Rattle.merge.specs.Merged.{merged}
 use Rattle.merge.specs.Union.{VersionsRise}
@@ -22,10 +22,10 @@ use Rattle.request.specs.Request.{RequestView, below_request, request_test}
 use Rattle.request.specs.Inputs.{inputs_reading, union_reading}
 use Rattle.request.specs.OneThread.{Answer, one_thread, outputs_answer}
 use Rattle.request.specs.OutputTables.{outputs_from}
-use Rattle.compact.specs.Runs.{by_workers, runs_reading}
+use Rattle.compact.specs.RangeMerges.{by_workers, runs_reading}
 use Rattle.compact.specs.Written.{written_of}
 use Rattle.compact.proofs.PlanAnswers.{outputs_planned}
-use Rattle.compact.proofs.Working.{within, within_limits}
+use Rattle.compact.proofs.WorkerAnswers.{within, within_limits}
 
 -- ---- steps
 
@@ -110,11 +110,11 @@ module _ (cmp : List ℕ → List ℕ → Ordering) (separator_of : List ℕ →
 
 -- ---- before one thread
 
-module _ (workers : ℕ) (passes : pass (nat_le 1 workers && nat_le workers 64) Workers ≡ Ok tt) where
+module _ (workers : ℕ) (passes : test_result (nat_le 1 workers && nat_le workers 64) Workers ≡ Ok tt) where
   passed_both : (nat_le 1 workers ≡ true) × (nat_le workers 64 ≡ true)
   passed_both = and_parts (nat_le 1 workers) (nat_le workers 64) (passed (nat_le 1 workers && nat_le workers 64) passes)
     where
-      passed : (b : Bool) → pass b Workers ≡ Ok tt → b ≡ true
+      passed : (b : Bool) → test_result b Workers ≡ Ok tt → b ≡ true
       passed true h = refl
       passed false h = absurd cc
 
@@ -142,18 +142,18 @@ numbered_length : (table_of : List Entry → List ℕ) (o : Options) (number : �
 numbered_length table_of o number [] = refl
 numbered_length table_of o number (q ∷ qs) = ap suc (numbered_length table_of o (number + 1) qs)
 
-by_numbers : (b : Bool) (behind : Result (List Planned) Fault) (plan : List Planned) → (pass b Numbers >>= λ _. behind) ≡ Ok plan → (b ≡ true) × (behind ≡ Ok plan)
+by_numbers : (b : Bool) (behind : Result (List OutputView) Fault) (plan : List OutputView) → (test_result b Numbers >>= λ _. behind) ≡ Ok plan → (b ≡ true) × (behind ≡ Ok plan)
 by_numbers true behind plan h = (refl, h)
 by_numbers false behind plan h = absurd cc
 
-by_lengths : (b : Bool) (made plan : List Planned) → (pass b TooLarge >>= λ _. Ok made) ≡ Ok plan → made ≡ plan
+by_lengths : (b : Bool) (made plan : List OutputView) → (test_result b TooLarge >>= λ _. Ok made) ≡ Ok plan → made ≡ plan
 by_lengths true made plan h = cc
 by_lengths false made plan h = absurd cc
 
 -- the number behind the last output of a plan is below 2 ^ 64
-pub plan_fits : (table_of : List Entry → List ℕ) (o : Options) (first : ℕ) (outs : List (List Entry)) (plan : List Planned) → plan_of table_of o first outs ≡ Ok plan → first + length plan < 2 ^ 64
+pub plan_fits : (table_of : List Entry → List ℕ) (o : Options) (first : ℕ) (outs : List (List Entry)) (plan : List OutputView) → plan_of table_of o first outs ≡ Ok plan → first + length plan < 2 ^ 64
 plan_fits table_of o first outs plan h =
-    let n = by_numbers (nat_lt (first + length outs) (2 ^ 64)) (pass (list_all (λ q. nat_le (length (table_of q)) (2 ^ 30)) outs && nat_le (length (parts o outs)) (2 ^ 40)) TooLarge >>= λ _. Ok (planned_from table_of o first outs)) plan h in
+    let n = by_numbers (nat_lt (first + length outs) (2 ^ 64)) (test_result (list_all (λ q. nat_le (length (table_of q)) (2 ^ 30)) outs && nat_le (length (parts o outs)) (2 ^ 40)) TooLarge >>= λ _. Ok (planned_from table_of o first outs)) plan h in
     let made : planned_from table_of o first outs ≡ plan = by_lengths (list_all (λ q. nat_le (length (table_of q)) (2 ^ 30)) outs && nat_le (length (parts o outs)) (2 ^ 40)) (planned_from table_of o first outs) plan n.1 in
     let few : first + length outs < 2 ^ 64 = ltb-true (first + length outs) (2 ^ 64) n.0 in
     subst (λ (m : ℕ). first + m < 2 ^ 64) (sym (numbered_length table_of o first outs) ∙ ap length made) few

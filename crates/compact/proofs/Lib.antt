@@ -1,4 +1,4 @@
-pub mod Working
+pub mod WorkerAnswers
 pub mod InputAnswers
 pub mod RangeAnswers
 pub mod ReadInputs

@@ -7,15 +7,15 @@ use Rattle.std.proofs.lemmas.Option.{same_Some}
 use Rattle.std.proofs.lemmas.Bool.{and_parts}
 use Rattle.std.proofs.lemmas.Bool.Decides.{nat_tests}
 use Rattle.std.proofs.lemmas.List.Elements.{All-nil, All-cons}
-use Rattle.block.specs.Piece.{Entry}
-use Rattle.block.specs.Building.{last_key}
+use Rattle.block.specs.EncodedEntry.{Entry}
+use Rattle.block.specs.BuilderView.{last_key}
 use Rattle.table.specs.ReadingEntries.{first_key}
 use Rattle.edit.specs.declared.meta.NewFile.{NewFile}
-use Rattle.cut.specs.Metered.{ended}
+use Rattle.cut.specs.Metered.{last_entry_key}
 use Rattle.cut.specs.OutputMeta.{IsMetaOf}
-use Rattle.cut.specs.Plan.{Planned}
+use Rattle.cut.specs.Plan.{OutputView}
 use Rattle.cut.specs.declared.output_meta.OutputMeta.{OutputMeta}
-use Rattle.pick.specs.Picked.{Picked}
+use Rattle.pick.specs.Picked.{PickedInputs}
 use Rattle.pick.specs.declared.picked.InputFile.{InputFile}
 use Rattle.compact.specs.Written.{planned_file}
 use Rattle.request.specs.Request.{has_levels}
@@ -30,7 +30,7 @@ ended_is : (x : Entry) (xs : List Entry) → option_map (λ (e : Entry). e.key) 
 ended_is x [] = refl
 ended_is x (y ∷ ys) = ended_is y ys
 
-last_of : (es : List Entry) (key : List ℕ) → ended es ≡ Some key → key ≡ last_key [] es
+last_of : (es : List Entry) (key : List ℕ) → last_entry_key es ≡ Some key → key ≡ last_key [] es
 last_of [] key h = absurd cc
 last_of (e ∷ es) key h = sym (same_Some (last_key e.key es) key (sym (ended_is e es) ∙ h))
 
@@ -38,7 +38,7 @@ abbrev file_of : ℕ → ℕ → ℕ → List ℕ → List ℕ → NewFile
 file_of level number size smallest largest = record { level = level; meta = record { number = number; size = size; smallest = smallest; largest = largest } }
 
 -- what is known of an output is what a new file of it says
-pub file_is : (p : Planned) (m : OutputMeta) (level : ℕ) (smallest largest : List ℕ) → IsMetaOf p m → smallest ≡ m.smallest.bytes.now → largest ≡ m.largest.bytes.now
+pub file_is : (p : OutputView) (m : OutputMeta) (level : ℕ) (smallest largest : List ℕ) → IsMetaOf p m → smallest ≡ m.smallest.bytes.now → largest ≡ m.largest.bytes.now
     → file_of level m.number m.len smallest largest ≡ planned_file level p
 file_is p m level smallest largest is s l =
     ap (λ (n : ℕ). file_of level n m.len smallest largest) is.number
@@ -48,8 +48,8 @@ file_is p m level smallest largest is s l =
 
 -- ---- one output more
 
-pub one_more : (level : ℕ) (ps : List Planned) (place : ℕ) (m : OutputMeta) (file : NewFile) → place < length ps → IfSome (slice_get ps place) (λ p. IsMetaOf p m)
-    → ((p : Planned) → IsMetaOf p m → file ≡ planned_file level p) → map (planned_file level) (take (place + 1) ps) ≡ map (planned_file level) (take place ps) ++ file ∷ []
+pub one_more : (level : ℕ) (ps : List OutputView) (place : ℕ) (m : OutputMeta) (file : NewFile) → place < length ps → IfSome (slice_get ps place) (λ p. IsMetaOf p m)
+    → ((p : OutputView) → IsMetaOf p m → file ≡ planned_file level p) → map (planned_file level) (take (place + 1) ps) ≡ map (planned_file level) (take place ps) ++ file ∷ []
 one_more level [] place m file h is same = absurd (omega (arith, h))
 one_more level (p ∷ ps) zero m file h is same = ap (λ (f : NewFile). f ∷ []) (sym (same p is))
 one_more level (p ∷ ps) (suc place) m file h is same =
@@ -63,12 +63,12 @@ low_told : (m n : ℕ) → nat_le m n ≡ true → m ≤ n
 low_told m n h = grind (arith, nat_tests)
 
 -- a compaction's next level
-pub low_level : (p : Picked) → has_levels p ≡ true → p.level + 1 ≤ 6
+pub low_level : (p : PickedInputs) → has_levels p ≡ true → p.level + 1 ≤ 6
 low_level p h =
     let parts = and_parts (nat_le p.level 5) (list_all (λ (i : InputFile). eqb i.level p.level || eqb i.level (p.level + 1)) p.files) h in
     let low = low_told p.level 5 parts.0 in
     omega (arith, low)
 
-pub low_files : (level : ℕ) → level ≤ 6 → (ps : List Planned) → All (λ (f : NewFile). f.level ≤ 6) (map (planned_file level) ps)
+pub low_files : (level : ℕ) → level ≤ 6 → (ps : List OutputView) → All (λ (f : NewFile). f.level ≤ 6) (map (planned_file level) ps)
 low_files level low [] = All-nil (λ (f : NewFile). f.level ≤ 6)
 low_files level low (p ∷ ps) = All-cons (λ (f : NewFile). f.level ≤ 6) (planned_file level p) (map (planned_file level) ps) low (low_files level low ps)

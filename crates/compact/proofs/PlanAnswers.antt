@@ -7,13 +7,13 @@ use Rattle.std.proofs.lemmas.List.Sums.{sum_by-cons}
 use Rattle.coding.specs.Answers.{◌>>=◌}
 use Rattle.coding.specs.declared.fault.Fault.{Fault}
 use Rattle.coding.specs.declared.fault.FaultName.TheVariants.{Numbers, TooLarge}
-use Rattle.block.specs.Piece.{Entry}
+use Rattle.block.specs.EncodedEntry.{Entry}
 use Rattle.table.specs.DataBlocks.{data_blocks}
-use Rattle.table.specs.ReadingSteps.{pass}
+use Rattle.table.specs.ReadingSteps.{test_result}
 use Rattle.table.specs.declared.options.Options.{Options}
 use Rattle.edit.specs.Edit.{edit_bytes}
 use Rattle.edit.specs.declared.meta.NewFile.{NewFile}
-use Rattle.cut.specs.Plan.{Planned, assembled, parts, planned_from}
+use Rattle.cut.specs.Plan.{OutputView, plan_tables, parts, planned_from}
 use Rattle.request.specs.EditOf.{edit_of, new_file, new_files}
 use Rattle.request.specs.OneThread.{Answer, outputs_answer}
 use Rattle.request.specs.OutputTables.{Output, data_block_count, numbered_tables, outputs_from}
@@ -35,7 +35,7 @@ module _ (table_of : List Entry → List ℕ) (o : Options) where
       sum_by-cons (λ (w : Output). length (data_blocks o w.entries)) (record { number = number; entries = q; bytes = table_of q }) (outputs_from table_of (number + 1) qs)
       ∙ ap (λ (n : ℕ). length (data_blocks o q) + n) (count_is (number + 1) qs) ∙ sym (length-append (data_blocks o q) (parts o qs))
 
-  tables_are : (number : ℕ) (qs : List (List Entry)) → numbered_tables (outputs_from table_of number qs) ≡ assembled table_of (planned_from table_of o number qs)
+  tables_are : (number : ℕ) (qs : List (List Entry)) → numbered_tables (outputs_from table_of number qs) ≡ plan_tables table_of (planned_from table_of o number qs)
   tables_are number [] = refl
   tables_are number (q ∷ qs) = ap (λ (ts : List (ℕ × List ℕ)). (number, table_of q) ∷ ts) (tables_are (number + 1) qs)
 
@@ -47,18 +47,18 @@ module _ (table_of : List Entry → List ℕ) (r : RequestView) (qs : List (List
   abbrev ws : List Output
   ws = outputs_from table_of r.first_number qs
 
-  abbrev plan : List Planned
+  abbrev plan : List OutputView
   plan = planned_from table_of r.options r.first_number qs
 
   abbrev tests : Bool → Bool → Bool → Result (Unit {0}) Fault
-  tests few short blocks = pass few Numbers >>= λ _. pass (short && blocks) TooLarge
+  tests few short blocks = test_result few Numbers >>= λ _. test_result (short && blocks) TooLarge
 
   abbrev answer : List (ℕ × List ℕ) → List NewFile → Answer
   answer tables files = record { tables = tables; edit = edit_bytes (edit_of r files) }
 
   -- the order of the tests is one, and so is what comes after them
   steps : (few limits : Bool) (a : Answer) → answer_of table_of r plan ≡ a
-      → ((pass few Numbers >>= λ _. pass limits TooLarge) >>= λ _. Ok a) ≡ ((pass few Numbers >>= λ _. (pass limits TooLarge >>= λ _. Ok plan)) >>= λ p. Ok (answer_of table_of r p))
+      → ((test_result few Numbers >>= λ _. test_result limits TooLarge) >>= λ _. Ok a) ≡ ((test_result few Numbers >>= λ _. (test_result limits TooLarge >>= λ _. Ok plan)) >>= λ p. Ok (answer_of table_of r p))
   steps true true a h = ap (λ (x : Answer). Ok x) (sym h)
   steps true false a h = refl
   steps false limits a h = refl
@@ -66,7 +66,7 @@ module _ (table_of : List Entry → List ℕ) (r : RequestView) (qs : List (List
   -- the outputs' answer is that of their plan
   pub outputs_planned : outputs_answer r ws ≡ written_of table_of r qs
   outputs_planned =
-      ap (λ (n : ℕ). (pass (nat_lt (r.first_number + n) (2 ^ 64)) Numbers >>= λ _. pass (list_all (λ (w : Output). nat_le (length w.bytes) (2 ^ 30)) ws && nat_le (data_block_count r.options ws) (2 ^ 40)) TooLarge) >>= λ _. Ok (answer (numbered_tables ws) (new_files r ws))) (length_is table_of r.options r.first_number qs)
+      ap (λ (n : ℕ). (test_result (nat_lt (r.first_number + n) (2 ^ 64)) Numbers >>= λ _. test_result (list_all (λ (w : Output). nat_le (length w.bytes) (2 ^ 30)) ws && nat_le (data_block_count r.options ws) (2 ^ 40)) TooLarge) >>= λ _. Ok (answer (numbered_tables ws) (new_files r ws))) (length_is table_of r.options r.first_number qs)
       ∙ ap (λ (b : Bool). tests (nat_lt (r.first_number + length qs) (2 ^ 64)) b (nat_le (data_block_count r.options ws) (2 ^ 40)) >>= λ _. Ok (answer (numbered_tables ws) (new_files r ws))) (short_is table_of r.options r.first_number qs)
       ∙ ap (λ (n : ℕ). tests (nat_lt (r.first_number + length qs) (2 ^ 64)) (list_all (λ q. nat_le (length (table_of q)) (2 ^ 30)) qs) (nat_le n (2 ^ 40)) >>= λ _. Ok (answer (numbered_tables ws) (new_files r ws))) (count_is table_of r.options r.first_number qs)
       ∙ steps (nat_lt (r.first_number + length qs) (2 ^ 64)) (list_all (λ q. nat_le (length (table_of q)) (2 ^ 30)) qs && nat_le (length (parts r.options qs)) (2 ^ 40)) (answer (numbered_tables ws) (new_files r ws))

@@ -8,16 +8,16 @@ use Rattle.std.proofs.lemmas.Option.{slice_get-map}
 use Rattle.coding.specs.declared.fault.Fault.{Fault}
 use Rattle.coding.specs.declared.fault.FaultName.TheVariants.{Duplicate}
 use Rattle.coding.specs.Answers.{fault, ◌>>=◌}
-use Rattle.block.specs.Piece.{Entry}
+use Rattle.block.specs.EncodedEntry.{Entry}
 use Rattle.merge.specs.Merged.{merged}
 use Rattle.split.specs.Boundaries.{IsSplit}
 use Rattle.split.specs.Ranges.{KeyRange, range_at}
 use Rattle.keep.specs.InRange.{entries_in}
-use Rattle.keep.specs.Marks.{Below}
+use Rattle.keep.specs.Marks.{CompactionContext}
 use Rattle.keep.specs.Runs.{Run, run_of, are_distinct, range_run, ranges_from, ranges_of, runs_of, RangesCompose}
-use Rattle.board.specs.Collected.{collected}
+use Rattle.board.specs.Collected.{collected_results}
 use Rattle.compact.specs.JobAnswers.{range_answers}
-use Rattle.compact.specs.Runs.{runs_reading}
+use Rattle.compact.specs.RangeMerges.{runs_reading}
 
 abbrev unless_twice : {A : Type 0} → Bool → A → Result A Fault
 unless_twice distinct x = cond distinct (Ok x) (Err (fault Duplicate))
@@ -32,17 +32,17 @@ last_step : {A B : Type 0} (distinct : Bool) (x : A) (f : A → B) → ((unless_
 last_step true x f = refl
 last_step false x f = refl
 
-module _ (cmp : List ℕ → List ℕ → Ordering) (b : Below) (inputs : List (List Entry)) where
+module _ (cmp : List ℕ → List ℕ → Ordering) (b : CompactionContext) (inputs : List (List Entry)) where
   abbrev parts : List KeyRange → List (List Entry)
   parts ranges = map (λ range. entries_in cmp range (merged cmp inputs)) ranges
 
-  each_collected : (ranges : List KeyRange) → collected (map (range_run cmp b inputs) ranges) ≡ unless_twice (list_all are_distinct (parts ranges)) (map (run_of cmp b) (parts ranges))
+  each_collected : (ranges : List KeyRange) → collected_results (map (range_run cmp b inputs) ranges) ≡ unless_twice (list_all are_distinct (parts ranges)) (map (run_of cmp b) (parts ranges))
   each_collected [] = refl
   each_collected (range ∷ ranges) =
       ap (λ (rest : Result (List Run) Fault). range_run cmp b inputs range >>= λ run. rest >>= λ runs. Ok (run ∷ runs)) (each_collected ranges)
       ∙ step (are_distinct (entries_in cmp range (merged cmp inputs))) (list_all are_distinct (parts ranges)) (run_of cmp b (entries_in cmp range (merged cmp inputs))) (map (run_of cmp b) (parts ranges))
 
-  pub ranges_collected : (boundaries : List (List ℕ)) → IsSplit cmp boundaries → RangesCompose cmp → collected (range_answers cmp b boundaries inputs) ≡ runs_reading cmp b boundaries inputs
+  pub ranges_collected : (boundaries : List (List ℕ)) → IsSplit cmp boundaries → RangesCompose cmp → collected_results (range_answers cmp b boundaries inputs) ≡ runs_reading cmp b boundaries inputs
   ranges_collected boundaries split compose =
       each_collected (ranges_of boundaries)
       ∙ ap (λ (d : Bool). unless_twice d (runs_of cmp b boundaries (merged cmp inputs))) (compose.refused inputs boundaries split)
@@ -60,7 +60,7 @@ map_length : {A B : Type 0} (f : A → B) (xs : List A) → length (map f xs) �
 map_length f [] = refl
 map_length f (x ∷ xs) = omega (arith, map_length f xs)
 
-pub range_answers_length : (cmp : List ℕ → List ℕ → Ordering) (b : Below) (boundaries : List (List ℕ)) (inputs : List (List Entry)) → length boundaries + 1 ≡ length (range_answers cmp b boundaries inputs)
+pub range_answers_length : (cmp : List ℕ → List ℕ → Ordering) (b : CompactionContext) (boundaries : List (List ℕ)) (inputs : List (List Entry)) → length boundaries + 1 ≡ length (range_answers cmp b boundaries inputs)
 range_answers_length cmp b boundaries inputs = sym (map_length (range_run cmp b inputs) (ranges_of boundaries) ∙ ranges_length None boundaries)
 
 pub map_same : {A : Type 0} (xs : List A) → map (λ x. x) xs ≡ xs

@@ -7,13 +7,13 @@ use Rattle.std.proofs.lemmas.Bool.Decides.{Decides-eqb}
 use Rattle.std.proofs.lemmas.Slice.Eq.{bytes_eq-Decides}
 use Rattle.coding.specs.Answers.{◌>>=◌}
 use Rattle.coding.specs.declared.fault.Fault.{Fault}
-use Rattle.block.specs.Piece.{Entry}
-use Rattle.table.specs.Reading.{Contents}
+use Rattle.block.specs.EncodedEntry.{Entry}
+use Rattle.table.specs.TableContents.{Contents}
 use Rattle.edit.specs.declared.meta.FileMeta.{FileMeta}
 use Rattle.pick.specs.declared.picked.InputFile.{InputFile}
 use Rattle.reads.specs.Lawful.{IsFileOf}
-use Rattle.reads.specs.Tables.{Numbered}
-use Rattle.request.specs.Inputs.{about, is_stated, inputs_reading}
+use Rattle.reads.specs.Tables.{NumberedContents}
+use Rattle.request.specs.Inputs.{result_at_input, table_matches_metadata, inputs_reading}
 use Rattle.compact.specs.Sound.{AreInputs}
 use Rattle.compact.proofs.InputAnswers.{read_stated, stated_by}
 
@@ -23,7 +23,7 @@ read_inputs cmp place [] [] h = refl
 read_inputs cmp place [] (t ∷ ts) h = absurd h
 read_inputs cmp place (i ∷ is) [] h = absurd h
 read_inputs cmp place (i ∷ is) (t ∷ ts) h =
-    ap (λ (own : Result (List Entry) Fault). about place own >>= λ entries. inputs_reading cmp (place + 1) is (map (λ (x : Contents). x.bytes) ts) >>= λ rest. Ok (entries ∷ rest))
+    ap (λ (own : Result (List Entry) Fault). result_at_input place own >>= λ entries. inputs_reading cmp (place + 1) is (map (λ (x : Contents). x.bytes) ts) >>= λ rest. Ok (entries ∷ rest))
     (read_stated cmp i.meta t.bytes t h.0 h.1.0)
     ∙ ap (λ (rest : Result (List (List Entry)) Fault). rest >>= λ others. Ok (t.entries ∷ others)) (read_inputs cmp (place + 1) is ts h.1.1)
 
@@ -31,7 +31,7 @@ all_three : (a b c : Bool) → a ≡ true → b ≡ true → c ≡ true → (a &
 all_three a b c h k l = ap (λ x. x && (b && c)) h ∙ ap (λ x. x && c) k ∙ l
 
 -- a file of a lawful version is what the version states
-pub stated_lawful : (cmp : List ℕ → List ℕ → Ordering) (tables : List Numbered) (f : FileMeta) (h : IsFileOf cmp tables f) → is_stated f h.table ≡ true
+pub stated_lawful : (cmp : List ℕ → List ℕ → Ordering) (tables : List NumberedContents) (f : FileMeta) (h : IsFileOf cmp tables f) → table_matches_metadata f h.table ≡ true
 stated_lawful cmp tables f h =
     sym (stated_by f h.table h.table.bytes f.smallest f.largest refl (sym h.smallest) (sym h.largest))
     ∙ all_three (nat_eq f.size (length h.table.bytes)) (bytes_eq f.smallest f.smallest) (bytes_eq f.largest f.largest)

@@ -2,33 +2,33 @@
 use Rattle.std.specs.Prelude.{ℕ, ◌+◌, List, [], ◌∷◌, map, Result, Ok}
 use Rattle.std.specs.declared.cmp.Ordering.{Ordering}
 use Rattle.coding.specs.declared.fault.Fault.{Fault}
-use Rattle.block.specs.Piece.{Entry}
+use Rattle.block.specs.EncodedEntry.{Entry}
 use Rattle.pick.specs.declared.picked.InputFile.{InputFile}
-use Rattle.keep.specs.Marks.{Below}
+use Rattle.keep.specs.Marks.{CompactionContext}
 use Rattle.keep.specs.Runs.{Run, range_run, ranges_of}
-use Rattle.cut.specs.Plan.{encoded}
-use Rattle.cut.specs.Planning.{PlanSeen, lists_in}
-use Rattle.request.specs.Inputs.{about, input_reading}
+use Rattle.cut.specs.Plan.{encoded_pieces}
+use Rattle.cut.specs.OutputPlan.{PlanSeen, lists_in}
+use Rattle.request.specs.Inputs.{result_at_input, input_reading}
 
 -- the answer for each input, of which the first is at this place
 abbrev pub input_answers : (List ℕ → List ℕ → Ordering) → ℕ → List InputFile → List (List ℕ)
     → List (Result (List Entry) Fault)
 input_answers cmp place (i ∷ is) (bytes ∷ others) =
-    about place (input_reading cmp i.meta bytes) ∷ input_answers cmp (place + 1) is others
+    result_at_input place (input_reading cmp i.meta bytes) ∷ input_answers cmp (place + 1) is others
 input_answers cmp place _ _ = []
 
 -- the answer for each range between boundaries
-abbrev pub range_answers : (List ℕ → List ℕ → Ordering) → Below → List (List ℕ) → List (List Entry)
+abbrev pub range_answers : (List ℕ → List ℕ → Ordering) → CompactionContext → List (List ℕ) → List (List Entry)
     → List (Result Run Fault)
 range_answers cmp b boundaries inputs = map (range_run cmp b inputs) (ranges_of boundaries)
 
 -- the answer for each piece, its bytes
 abbrev pub piece_answers : PlanSeen → List (Result (List ℕ) Fault)
-piece_answers p = map (λ (bytes : List ℕ). Ok bytes) (encoded p.options (lists_in p.outputs))
+piece_answers p = map (λ (bytes : List ℕ). Ok bytes) (encoded_pieces p.options (lists_in p.outputs))
 
 -- What the second run merges: what the drop rule and the marks need to know, the boundaries, and
 -- the entries of each input.
-pub record Merging : Type 0 where
-  pub below : Below
+pub record RangeMerge : Type 0 where
+  pub below : CompactionContext
   pub boundaries : List (List ℕ)
   pub inputs : List (List Entry)

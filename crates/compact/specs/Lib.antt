@@ -1,5 +1,5 @@
 -- what contracts rest on
-pub mod Runs
+pub mod RangeMerges
 pub mod Answered
 -- serves proofs alone
 pub mod JobAnswers

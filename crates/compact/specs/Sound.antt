@@ -1,9 +1,9 @@
 -- Checked tables, as those of inputs.
 use Rattle.std.specs.Prelude.{◌≡◌, ℕ, true, List, [], ◌∷◌, Ok}
 use Rattle.std.specs.declared.cmp.Ordering.{Ordering}
-use Rattle.table.specs.Reading.{Contents, contents_reading}
+use Rattle.table.specs.TableContents.{Contents, contents_reading}
 use Rattle.pick.specs.declared.picked.InputFile.{InputFile}
-use Rattle.request.specs.Inputs.{is_stated}
+use Rattle.request.specs.Inputs.{table_matches_metadata}
 
 -- each table is that of the input at its place: its bytes read as it, and it is as the version
 -- states
@@ -11,4 +11,4 @@ abbrev pub AreInputs : (List ℕ → List ℕ → Ordering) → List InputFile �
 AreInputs cmp [] [] = Unit {0}
 AreInputs cmp [] (t ∷ ts) = ⊥
 AreInputs cmp (i ∷ is) [] = ⊥
-AreInputs cmp (i ∷ is) (t ∷ ts) = (contents_reading cmp t.bytes ≡ Ok t) × ((is_stated i.meta t ≡ true) × AreInputs cmp is ts)
+AreInputs cmp (i ∷ is) (t ∷ ts) = (contents_reading cmp t.bytes ≡ Ok t) × ((table_matches_metadata i.meta t ≡ true) × AreInputs cmp is ts)

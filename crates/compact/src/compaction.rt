@@ -9,16 +9,16 @@ ghost use Rattle.keep.specs.Runs.{joined_run};
 ghost use Rattle.pick.specs.Picked.{picked_in};
 ghost use Rattle.cut.specs.Outputs.{outputs_of};
 ghost use Rattle.request.specs.Inputs.{inputs_reading};
-ghost use Rattle.request.specs.OneThread.{compacted, one_thread};
+ghost use Rattle.request.specs.OneThread.{compaction_result, one_thread};
 ghost use Rattle.request.specs.Request.{has_levels, request_in, request_test};
 ghost use Rattle.survival.specs.Survive.{LeavesReads};
 ghost use Rattle.compact.specs.Answered.{answer_in};
 ghost use Rattle.compact.specs.Written.{written_of};
 
 use crate::inputs::check_inputs;
+use crate::output_writer::write_plan;
 use crate::ranges::merge_ranges;
 use crate::workers::check_workers;
-use crate::writing::write_plan;
 use board::Gate;
 use coding::Fault;
 use cut::{plan, ranges_cut};
@@ -60,7 +60,7 @@ pub fn compact<'a, C: SharedComparator + 'static, G: Gate + Sync, R: Threads + S
     workers: u64,
     gate: &G,
 ) -> Result<Outcome, Fault>
-    ensures same { EqualOrMemory answer_in result (compacted C.cmp C.separator_of C.successor_of workers (request_in request.now)) }
+    ensures same { EqualOrMemory answer_in result (compaction_result C.cmp C.separator_of C.successor_of workers (request_in request.now)) }
     ensures reads { IfOk result (λ outcome. LeavesReads C.cmp (request_in request.now) (answer_in outcome)) }
 {
     passed_law::<C>();
@@ -95,7 +95,7 @@ pub fn compact_tables<'t, C: SharedComparator + 'static, G: Gate + Sync, R: Thre
 ) -> Result<Outcome, Fault>
     requires read { inputs_reading C.cmp 0 request.now.picked.now.files.items (map (λ t. t.now) request.now.tables.now)
         ≡ Ok (map (λ t. t.entries) tables.now) }
-    ensures same { EqualOrMemory answer_in result (compacted C.cmp C.separator_of C.successor_of workers (request_in request.now)) }
+    ensures same { EqualOrMemory answer_in result (compaction_result C.cmp C.separator_of C.successor_of workers (request_in request.now)) }
     ensures reads { IfOk result (λ outcome. LeavesReads C.cmp (request_in request.now) (answer_in outcome)) }
 {
     reads_survive::<C>();

@@ -5,7 +5,7 @@ ghost use Rattle.coding.specs.Answers.{EqualOrMemory, fault};
 ghost use Rattle.coding.specs.declared.fault.FaultName.TheVariants.{Memory};
 ghost use Rattle.edit.specs.Edit.{edit_bytes};
 ghost use Rattle.cut.specs.OutputMeta.{IsMetaOf};
-ghost use Rattle.cut.specs.Plan.{Planned};
+ghost use Rattle.cut.specs.Plan.{OutputView};
 ghost use Rattle.pick.specs.Picked.{picked_in};
 ghost use Rattle.request.specs.Request.{has_levels, request_in};
 ghost use Rattle.request.specs.EditOf.{edit_of};
@@ -20,7 +20,7 @@ use std::alloc::Global;
 
 /// An output as a new file of a level. The only fault is Memory.
 fn new_file(alloc: Global, output: OutputMeta<'_>, level: u64) -> Result<NewFile, Fault>
-    ensures ok { (p : Planned) → IsMetaOf p output.entry →
+    ensures ok { (p : OutputView) → IsMetaOf p output.entry →
         IfOk result (λ file. file ≡ planned_file level p) }
     ensures memory { IfErr result (λ e. e ≡ fault Memory) }
 {

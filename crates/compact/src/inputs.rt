@@ -2,9 +2,9 @@
 
 ghost use Rattle.std.specs.Prelude.{◌≡◌, ◌<◌, ◌≤◌, List, length, map, slice_get, Some, Result};
 ghost use Rattle.coding.specs.Answers.{EqualOrMemory, FailsOrMemory};
-ghost use Rattle.block.specs.Piece.{Entry};
-ghost use Rattle.request.specs.Inputs.{about, is_stated, input_reading, inputs_reading};
-ghost use Rattle.compact.specs.Runs.{by_workers};
+ghost use Rattle.block.specs.EncodedEntry.{Entry};
+ghost use Rattle.request.specs.Inputs.{result_at_input, table_matches_metadata, input_reading, inputs_reading};
+ghost use Rattle.compact.specs.RangeMerges.{by_workers};
 ghost use Rattle.compact.specs.JobAnswers.{input_answers};
 
 use board::{Gate, Labour, run};
@@ -102,7 +102,7 @@ fn check_input<'t, C: Comparator>(
     bytes: &'t [u8],
     place: u64,
 ) -> Result<SoundTable<'t, C>, Fault>
-    ensures { EqualOrMemory (λ t. t.entries) result (about place (input_reading C.cmp input.now.meta bytes.now)) }
+    ensures { EqualOrMemory (λ t. t.entries) result (result_at_input place (input_reading C.cmp input.now.meta bytes.now)) }
 {
     match read_input::<C>(alloc, &input.meta, bytes) {
         Ok(table) => Ok(table),
@@ -112,7 +112,7 @@ fn check_input<'t, C: Comparator>(
 
 /// The fault, about the input at a place. Memory is about no input.
 fn about(fault: Fault, place: u64) -> Fault
-    ensures { (answer : Result (List Entry) _) → FailsOrMemory fault answer → FailsOrMemory result (about place answer) }
+    ensures { (answer : Result (List Entry) _) → FailsOrMemory fault answer → FailsOrMemory result (result_at_input place answer) }
 {
     if fault == Fault::of(FaultName::Memory) {
         return fault;
@@ -140,7 +140,7 @@ fn read_input<'t, C: Comparator>(
 
 /// Whether a table's length, smallest and largest key are as the version states.
 fn is_stated<C: Comparator>(file: &FileMeta, table: &SoundTable<'_, C>) -> bool
-    ensures { result ≡ is_stated file.now table.now }
+    ensures { result ≡ table_matches_metadata file.now table.now }
 {
     has_bounds(file, table.bytes(), table.smallest(), table.largest())
 }

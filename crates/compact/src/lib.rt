@@ -10,11 +10,11 @@
 
 mod compaction;
 mod edit_bytes;
-mod encoding;
 mod inputs;
+mod output_writer;
+mod piece_encoder;
 mod ranges;
 mod workers;
-mod writing;
 
 pub use compaction::{compact, compact_tables};
 pub use inputs::check_inputs;

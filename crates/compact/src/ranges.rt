@@ -5,9 +5,9 @@ ghost use Rattle.std.specs.List.Sorted.{IsStrictlyIncreasing};
 ghost use Rattle.coding.specs.Answers.{EqualOrMemory, fault};
 ghost use Rattle.coding.specs.declared.fault.FaultName.TheVariants.{Memory};
 ghost use Rattle.split.specs.Ranges.{key_range};
-ghost use Rattle.keep.specs.Marks.{below_of, LargestRise};
+ghost use Rattle.keep.specs.Marks.{context_of, LargestRise};
 ghost use Rattle.keep.specs.Runs.{range_run};
-ghost use Rattle.compact.specs.Runs.{by_workers, runs_reading};
+ghost use Rattle.compact.specs.RangeMerges.{by_workers, runs_reading};
 
 use board::{Gate, Labour, run};
 use coding::Fault;
@@ -34,13 +34,13 @@ struct Merges<'r, 't, C: Comparator + 'static> {
 impl<'r, 't, C: Comparator + 'static> Model for Merges<'r, 't, C> {
     ghost use Rattle.std.specs.Prelude.{map};
     ghost use Rattle.std.specs.List.Sorted.{IsStrictlyIncreasing};
-    ghost use Rattle.keep.specs.Marks.{below_of, LargestRise};
-    ghost use Rattle.compact.specs.JobAnswers.{Merging};
+    ghost use Rattle.keep.specs.Marks.{context_of, LargestRise};
+    ghost use Rattle.compact.specs.JobAnswers.{RangeMerge};
 
-    ghost Value = { Merging };
+    ghost Value = { RangeMerge };
 
     ghost view = { λ s. record {
-      below = below_of s.listed.now s.floor s.inputs.now;
+      below = context_of s.listed.now s.floor s.inputs.now;
       boundaries = s.split.now;
       inputs = map (λ t. t.now.entries) s.tables.now;
     } };
@@ -99,7 +99,7 @@ pub fn merge_ranges<'t, C: SharedComparator + 'static, G: Gate + Sync, R: Thread
     requires listed { IsStrictlyIncreasing listed.now }
     requires grandparents { LargestRise C.cmp inputs.now.grandparents.items }
     ensures { EqualOrMemory (λ v. v.items) result
-        (by_workers workers (runs_reading C.cmp (below_of listed.now floor inputs.now) split.now
+        (by_workers workers (runs_reading C.cmp (context_of listed.now floor inputs.now) split.now
         (map (λ t. t.entries) tables.now))) }
 {
     let tables = lent_tables(alloc, tables)?;
@@ -143,7 +143,7 @@ fn merge_tables<'t, C: Comparator + 't>(
     requires listed { IsStrictlyIncreasing listed.now }
     requires grandparents { LargestRise C.cmp inputs.now.grandparents.items }
     ensures { EqualOrMemory (λ run. run) result
-        (range_run C.cmp (below_of listed.now floor inputs.now)
+        (range_run C.cmp (context_of listed.now floor inputs.now)
         (map (λ t. t.now.entries) tables.now) (key_range range.entry)) }
 {
     let mut cursors = cursors_from(alloc, tables, range)?;

@@ -2,7 +2,7 @@
 
 ghost use Rattle.std.specs.Prelude.{◌≡◌, nat_le, ◌&&◌};
 ghost use Rattle.coding.specs.declared.fault.FaultName.TheVariants.{Workers};
-ghost use Rattle.table.specs.ReadingSteps.{pass};
+ghost use Rattle.table.specs.ReadingSteps.{test_result};
 
 use coding::{Fault, FaultName};
 
@@ -11,7 +11,7 @@ const MAX_WORKERS: u64 = 64;
 
 /// `Workers` if `workers` is outside 1 to 64. It takes no memory.
 pub(crate) fn check_workers(workers: u64) -> Result<(), Fault>
-    ensures { result ≡ pass (nat_le 1 workers && nat_le workers 64) Workers }
+    ensures { result ≡ test_result (nat_le 1 workers && nat_le workers 64) Workers }
 {
     if workers < 1 || workers > MAX_WORKERS {
         return Err(Fault::of(FaultName::Workers));

@@ -2,15 +2,15 @@
 
 ghost use Rattle.std.specs.Prelude.{◌≡◌, ◌≤◌, ◌^◌, [], ◌++◌, length, flat_map, IfOk};
 ghost use Rattle.std.specs.List.{AllByRecursion};
-ghost use Rattle.block.specs.Building.{last_key, with_entry};
-ghost use Rattle.block.specs.Writing.{block};
+ghost use Rattle.block.specs.BuilderView.{last_key, with_entry};
+ghost use Rattle.block.specs.BlockFormat.{block};
 ghost use Rattle.table.specs.Table.{stored_blocks};
 ghost use Rattle.encoding.specs.Planned.{IsPlanned, parts_of};
 
 use block::BlockBuilder;
 use coding::{Fault, FaultName};
 use edit::CompactPointer;
-use encoding::{PlannedBlock, RunsCursor, RunsPart, RunsSlice, assemble_table, encode_blocks};
+use encoding::{EntryCursor, EntryRef, EntrySpan, PlannedBlock, assemble_table, encode_blocks};
 use ikey::{Bytewise, InternalKey, KeyBuf, Kind};
 use keep::{RangeRun, is_rising, largest_rise, merge_range};
 use pick::Inputs;
@@ -112,7 +112,7 @@ fn len_of(alloc: Global, key: &[u8], value: &[u8]) -> Result<u64, Fault>
 /// The data block of the one entry at a cursor's place. It is short.
 fn block_at<'r, 'a>(
     alloc: Global,
-    cursor: &RunsCursor<'r, 'a>,
+    cursor: &EntryCursor<'r, 'a>,
 ) -> Result<PlannedBlock<'r, 'a>, Fault>
     ensures planned { IfOk result (λ b. IsPlanned 16 b) }
     ensures short { IfOk result (λ b. length (block 16 b.entries.entries) ≤ 1000) }
@@ -130,7 +130,7 @@ fn block_at<'r, 'a>(
     if len > 1000 {
         return Err(Fault::of(FaultName::TooLarge));
     }
-    let mut entries = RunsSlice::at(cursor.copy());
+    let mut entries = EntrySpan::at(cursor.copy());
     entries.push(key);
     Ok(PlannedBlock {
         entries: entries.part(),
@@ -176,7 +176,7 @@ fn assembled(
 
 /// Whether the blocks of the first two entries, each one piece, make the table again.
 fn make_the_table(alloc: Global, runs: &[RangeRun<'_>]) -> Result<bool, Fault> {
-    let mut cursor = RunsCursor::new(runs);
+    let mut cursor = EntryCursor::new(runs);
     let first = block_at(alloc, &cursor)?;
     if !cursor.valid() {
         return Ok(false);
@@ -195,7 +195,7 @@ fn is_last(key: Option<InternalKey<'_>>) -> bool {
 }
 
 /// Whether a part is both entries.
-fn is_part(part: &RunsPart<'_, '_>) -> bool {
+fn is_part(part: &EntryRef<'_, '_>) -> bool {
     let first = part.first();
     part.len() == 2
         && is_last(part.last_key())
@@ -205,8 +205,8 @@ fn is_part(part: &RunsPart<'_, '_>) -> bool {
 }
 
 /// Whether a slice from a place on first has no entry, and then both.
-fn is_slice(first: &RunsCursor<'_, '_>) -> bool {
-    let mut slice = RunsSlice::at(first.copy());
+fn is_slice(first: &EntryCursor<'_, '_>) -> bool {
+    let mut slice = EntrySpan::at(first.copy());
     let is_none = slice.is_empty() && slice.last_key().is_none();
     if !first.valid() {
         return false;
@@ -224,7 +224,7 @@ fn is_slice(first: &RunsCursor<'_, '_>) -> bool {
 #[test]
 fn two_pieces_of_runs_make_their_table(rt: HostRuntime) -> Result<(), Fault> {
     let runs = runs(rt.alloc())?;
-    assert!(rt; is_slice(&RunsCursor::new(&runs)));
+    assert!(rt; is_slice(&EntryCursor::new(&runs)));
     assert!(rt; make_the_table(rt.alloc(), &runs)?);
     Ok(())
 }

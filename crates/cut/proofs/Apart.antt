@@ -13,15 +13,15 @@ use Rattle.std.proofs.lemmas.List.{take_at, drop_at, length_push, take-append-dr
 use Rattle.std.proofs.lemmas.Slice.Eq.{bytes_eq-Decides}
 use Rattle.ikey.specs.Key.{user_of, sequence_of}
 use Rattle.ikey.specs.Comparator.{IsExact}
-use Rattle.block.specs.Piece.{Entry}
-use Rattle.block.specs.Building.{last_key}
+use Rattle.block.specs.EncodedEntry.{Entry}
+use Rattle.block.specs.BuilderView.{last_key}
 use Rattle.table.specs.declared.options.Options.{Options}
 use Rattle.table.specs.DataBlocks.{open_block, flushed}
-use Rattle.merge.specs.Union.{version_cmp, VersionsRise}
+use Rattle.merge.specs.Union.{key_version_cmp, VersionsRise}
 use Rattle.edit.specs.declared.meta.FileMeta.{FileMeta}
 use Rattle.keep.specs.declared.mark.Mark.{Mark}
-use Rattle.keep.specs.Keeping.{is_same_user, keeps, kept, kept_behind}
-use Rattle.keep.specs.Marks.{Below, grandparents_below, heads, heads_behind, is_first}
+use Rattle.keep.specs.DropRule.{is_same_user, keeps, kept, kept_behind}
+use Rattle.keep.specs.Marks.{CompactionContext, grandparents_below, heads, heads_behind, is_first}
 use Rattle.cut.specs.Stops.{is_stop, stops, stops_behind}
 use Rattle.cut.specs.Outputs.{AreBelow, UsersRise, WholeLaw, all_of, ends_before, outputs, outputs_behind, outputs_in, segments}
 use Rattle.cut.proofs.Elements.{each, both, front, behind}
@@ -67,7 +67,7 @@ module _ (cmp : List ℕ → List ℕ → Ordering) (total : IsTotalOrder cmp) (
   rising : (es : List Entry) → VersionsRise cmp es → Rises es
   rising [] h = tt
   rising (e ∷ es) h =
-      (each (λ f. version_cmp cmp e.key f.key ≡ Less) (λ f. UpTo e f) es (λ f k. first_by (cmp (user_of e.key) (user_of f.key)) (nat_cmp (sequence_of f.key) (sequence_of e.key)) k) h.0, rising es h.1)
+      (each (λ f. key_version_cmp cmp e.key f.key ≡ Less) (λ f. UpTo e f) es (λ f k. first_by (cmp (user_of e.key) (user_of f.key)) (nat_cmp (sequence_of f.key) (sequence_of e.key)) k) h.0, rising es h.1)
 
   rises_front : (xs ys : List Entry) → Rises (xs ++ ys) → Rises xs
   rises_front [] ys h = tt
@@ -166,7 +166,7 @@ module _ (cmp : List ℕ → List ℕ → Ordering) (total : IsTotalOrder cmp) (
 
     -- ---- stops stand between user keys
 
-    module _ (b : Below) where
+    module _ (b : CompactionContext) where
       abbrev gs : List FileMeta
       gs = b.grandparents
 

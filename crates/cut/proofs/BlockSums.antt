@@ -4,12 +4,12 @@ use Rattle.std.specs.Prelude.{Option, Some, None, slice_get}
 use Rattle.std.specs.List.{AllByRecursion, last_or}
 use Rattle.std.specs.Option.{option_map}
 use Rattle.std.proofs.lemmas.List.{length-append, length-map, drop_more}
-use Rattle.block.specs.Piece.{Entry}
+use Rattle.block.specs.EncodedEntry.{Entry}
 use Rattle.encoding.specs.declared.planned_block.PlannedBlock.{PlannedBlock}
-use Rattle.cut.specs.Metered.{ended}
+use Rattle.cut.specs.Metered.{last_entry_key}
 use Rattle.cut.specs.Opened.{parts_of, entries_in_blocks}
-use Rattle.cut.specs.Plan.{ends_from}
-use Rattle.cut.specs.Sizes.{saturated}
+use Rattle.cut.specs.Plan.{block_ends_from}
+use Rattle.cut.specs.Sizes.{saturated_length}
 
 -- the entries of a block and those behind it
 pub count_here : (blocks : List PlannedBlock) (i : ℕ) (b : PlannedBlock) → i < length blocks → get_or blocks i b ≡ b → length (entries_in_blocks (drop i blocks)) ≡ length b.entries.entries + length (entries_in_blocks (drop (i + 1) blocks))
@@ -17,8 +17,8 @@ count_here blocks i b lt is =
     ap (λ (bs : List PlannedBlock). length (entries_in_blocks bs)) (drop_more blocks i b lt ∙ ap (λ (x : PlannedBlock). x ∷ drop (i + 1) blocks) is)
     ∙ length-append b.entries.entries (entries_in_blocks (drop (i + 1) blocks))
 
-pub count_more : (blocks : List PlannedBlock) (i count all : ℕ) (b : PlannedBlock) → i < length blocks → get_or blocks i b ≡ b → saturated (count + length (entries_in_blocks (drop i blocks))) ≡ all
-    → saturated (min (count + length b.entries.entries) (2 ^ 64 - 1) + length (entries_in_blocks (drop (i + 1) blocks))) ≡ all
+pub count_more : (blocks : List PlannedBlock) (i count all : ℕ) (b : PlannedBlock) → i < length blocks → get_or blocks i b ≡ b → saturated_length (count + length (entries_in_blocks (drop i blocks))) ≡ all
+    → saturated_length (min (count + length b.entries.entries) (2 ^ 64 - 1) + length (entries_in_blocks (drop (i + 1) blocks))) ≡ all
 count_more blocks i count all b lt is h = omega (arith, h, count_here blocks i b lt is)
 
 first_same : (q here there : List Entry) (key : List ℕ) → q ≢ [] → option_map (λ (e : Entry). e.key) (slice_get (q ++ here) 0) ≡ Some key → option_map (λ (e : Entry). e.key) (slice_get (q ++ there) 0) ≡ Some key
@@ -36,26 +36,26 @@ last_of o [] [] some = absurd (some refl)
 last_of o [] (y ∷ ys) some = refl
 last_of o (x ∷ xs) ys some = last_of (Some x) xs ys some
 
-pub ended_append : (xs ys : List Entry) → ys ≢ [] → ended (xs ++ ys) ≡ ended ys
+pub ended_append : (xs ys : List Entry) → ys ≢ [] → last_entry_key (xs ++ ys) ≡ last_entry_key ys
 ended_append xs ys some = ap (option_map (λ (e : Entry). e.key)) (last_of None xs ys some)
 
 front_some : (xs ys : List Entry) → xs ≢ [] → xs ++ ys ≢ []
 front_some [] ys some = absurd (some refl)
 front_some (x ∷ xs) ys some = λ none. absurd (cc)
 
-pub last_block : (blocks : List PlannedBlock) (i : ℕ) (b : PlannedBlock) → i + 1 ≡ length blocks → AllByRecursion (λ (x : PlannedBlock). x.entries.entries ≢ []) blocks → get_or blocks i b ≡ b → ended (entries_in_blocks blocks) ≡ ended b.entries.entries
+pub last_block : (blocks : List PlannedBlock) (i : ℕ) (b : PlannedBlock) → i + 1 ≡ length blocks → AllByRecursion (λ (x : PlannedBlock). x.entries.entries ≢ []) blocks → get_or blocks i b ≡ b → last_entry_key (entries_in_blocks blocks) ≡ last_entry_key b.entries.entries
 last_block [] i b end some is = absurd (omega arith)
-last_block (x ∷ []) zero b end some is = ap ended (append-nil x.entries.entries) ∙ ap (λ (y : PlannedBlock). ended y.entries.entries) is
+last_block (x ∷ []) zero b end some is = ap last_entry_key (append-nil x.entries.entries) ∙ ap (λ (y : PlannedBlock). last_entry_key y.entries.entries) is
 last_block (x ∷ []) (suc i) b end some is = absurd (omega arith)
 last_block (x ∷ y ∷ ys) zero b end some is = absurd (omega arith)
 last_block (x ∷ y ∷ ys) (suc i) b end some is =
     ended_append x.entries.entries (entries_in_blocks (y ∷ ys)) (front_some y.entries.entries (entries_in_blocks ys) some.1.0) ∙ last_block (y ∷ ys) i b (omega arith) some.1 is
 
-length-ends : (at : ℕ) (ps : List (List Entry)) → length (ends_from at ps) ≡ length ps
+length-ends : (at : ℕ) (ps : List (List Entry)) → length (block_ends_from at ps) ≡ length ps
 length-ends at [] = refl
 length-ends at (p ∷ ps) = let rest = length-ends (at + length p) ps in omega (arith, rest)
 
-pub blocks_are : (blocks : List PlannedBlock) → length blocks ≡ length (ends_from 0 (parts_of blocks))
+pub blocks_are : (blocks : List PlannedBlock) → length blocks ≡ length (block_ends_from 0 (parts_of blocks))
 blocks_are blocks = sym (length-ends 0 (parts_of blocks) ∙ length-map blocks (λ (b : PlannedBlock). b.entries.entries))
 
 pub some_len : (blocks : List PlannedBlock) → blocks ≢ [] → 0 < length blocks

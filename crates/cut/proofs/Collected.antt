@@ -3,24 +3,24 @@ use Rattle.std.proofs.Common.{◌≡◌, ◌+◌, ◌≤◌, ℕ, List, [], ◌�
 use Rattle.std.specs.Prelude.{slice_get, Some}
 use Rattle.std.specs.Global.{Vec}
 use Rattle.std.proofs.lemmas.List.{map-append, length-map, take_all}
-use Rattle.block.specs.Piece.{Entry}
+use Rattle.block.specs.EncodedEntry.{Entry}
 use Rattle.merge.proofs.Leasts.{take_next}
 use Rattle.table.specs.declared.options.Options.{Options}
 use Rattle.table.specs.Table.{stored_blocks}
-use Rattle.cut.specs.Plan.{pieces, jobs, encoded}
+use Rattle.cut.specs.Plan.{pieces, jobs, encoded_pieces}
 
 -- the bytes of pieces
 abbrev pub bytes_in : List (Vec ℕ) → List (List ℕ)
 bytes_in ps = map (λ (p : Vec ℕ). p.items) ps
 
 -- one more piece is encoded
-pub one_collected : (o : Options) (qs : List (List Entry)) (ps ps' : List (Vec ℕ)) (p : Vec ℕ) (job : ℕ) → bytes_in ps ≡ take job (encoded o qs)
-    → slice_get (encoded o qs) job ≡ Some p.items → ps' ≡ ps ++ p ∷ [] → bytes_in ps' ≡ take (job + 1) (encoded o qs)
+pub one_collected : (o : Options) (qs : List (List Entry)) (ps ps' : List (Vec ℕ)) (p : Vec ℕ) (job : ℕ) → bytes_in ps ≡ take job (encoded_pieces o qs)
+    → slice_get (encoded_pieces o qs) job ≡ Some p.items → ps' ≡ ps ++ p ∷ [] → bytes_in ps' ≡ take (job + 1) (encoded_pieces o qs)
 one_collected o qs ps ps' p job so_far here more =
     ap bytes_in more ∙ map-append (λ (x : Vec ℕ). x.items) ps (p ∷ [])
     ∙ ap (λ (xs : List (List ℕ)). xs ++ p.items ∷ []) so_far
-    ∙ sym (take_next (encoded o qs) job p.items here)
+    ∙ sym (take_next (encoded_pieces o qs) job p.items here)
 
 -- all are
-pub all_collected : (o : Options) (qs : List (List Entry)) (ps : List (Vec ℕ)) (job : ℕ) → bytes_in ps ≡ take job (encoded o qs) → jobs o qs ≤ job → bytes_in ps ≡ encoded o qs
-all_collected o qs ps job so_far end = so_far ∙ take_all job (encoded o qs) (omega (arith, end, length-map (pieces o qs) (stored_blocks o.restart_interval)))
+pub all_collected : (o : Options) (qs : List (List Entry)) (ps : List (Vec ℕ)) (job : ℕ) → bytes_in ps ≡ take job (encoded_pieces o qs) → jobs o qs ≤ job → bytes_in ps ≡ encoded_pieces o qs
+all_collected o qs ps job so_far end = so_far ∙ take_all job (encoded_pieces o qs) (omega (arith, end, length-map (pieces o qs) (stored_blocks o.restart_interval)))

@@ -6,11 +6,11 @@ use Rattle.std.proofs.lemmas.Bool.{false≢true}
 use Rattle.std.proofs.lemmas.List.{drop-drop}
 use Rattle.std.proofs.Math.Seq.{take-add}
 use Rattle.coding.specs.declared.fault.Fault.{Fault}
-use Rattle.block.specs.Piece.{Entry}
+use Rattle.block.specs.EncodedEntry.{Entry}
 use Rattle.table.specs.declared.options.Options.{Options}
 use Rattle.table.specs.DataBlocks.{is_full, open_block, blocks_behind, data_blocks}
 use Rattle.encoding.specs.declared.planned_block.PlannedBlock.{PlannedBlock}
-use Rattle.cut.specs.Cutting.{Cut, outputs_left}
+use Rattle.cut.specs.OutputCuts.{OutputsInProgress, outputs_left}
 use Rattle.cut.specs.Opened.{parts_of, entries_in_blocks, HasLen, ArePlanned, ends_by}
 use Rattle.cut.specs.Outputs.{all_of, ends_before, outputs_behind, outputs_in, segments}
 
@@ -94,7 +94,7 @@ module _ (o : Options) where
   segment_last outputs from behind = ap (λ (ps : List (List Entry)). outputs ++ ps) (sym (append-nil (outputs_in o behind)))
 
 -- an output that ends before the next entry, and another one begun there, are as it was
-pub ended_then : (s : Cut) (taken : ℕ) → 0 < taken → 0 < length s.behind → ends_by s.options s.latest s.behind ≡ true → (rest : List Entry)
+pub ended_then : (s : OutputsInProgress) (taken : ℕ) → 0 < taken → 0 < length s.behind → ends_by s.options s.latest s.behind ≡ true → (rest : List Entry)
     → outputs_left (record { options = s.options; outputs = outputs_left s []; latest = []; behind = s.behind }) (take taken s.behind ++ rest) ≡ outputs_left s (take taken s.behind ++ rest)
 ended_then s taken any some ends rest = ends_first s.options s.outputs s.latest s.behind taken any some ends rest
 

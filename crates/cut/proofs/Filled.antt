@@ -5,25 +5,25 @@ use Rattle.std.specs.Option.{option_map}
 use Rattle.std.proofs.lemmas.Bool.{cases_lt, leb-false, lt-leb}
 use Rattle.std.proofs.lemmas.List.{drop-drop, length-drop}
 use Rattle.std.proofs.Math.Seq.{take-add}
-use Rattle.block.specs.Piece.{Entry}
-use Rattle.block.specs.Writing.{block}
+use Rattle.block.specs.EncodedEntry.{Entry}
+use Rattle.block.specs.BlockFormat.{block}
 use Rattle.table.specs.declared.options.Options.{Options}
 use Rattle.table.specs.DataBlocks.{is_full}
 use Rattle.encoding.proofs.Lists.{length_le_block}
 use Rattle.encoding.proofs.Places.{drop_next}
-use Rattle.cut.specs.Metered.{Metered, IsMetered, grown, ended, next_since, added_size}
-use Rattle.cut.specs.Sizes.{saturated}
+use Rattle.cut.specs.Metered.{BlockInProgress, IsMetered, block_after_entries, last_entry_key, next_since, added_size}
+use Rattle.cut.specs.Sizes.{saturated_length}
 use Rattle.cut.proofs.Metered.{few_entries, metered_push}
 
 -- so many of the entries behind are taken in, and the block was full before none of them
-pub record IsFilling (o : Options) (m : Metered) (taken : ℕ) (q behind : List Entry) (len since : ℕ) : Type 0 where
+pub record IsFilling (o : Options) (m : BlockInProgress) (taken : ℕ) (q behind : List Entry) (len since : ℕ) : Type 0 where
   pub metered : IsMetered m.interval q len since
   pub entries : q ≡ m.entries ++ take taken m.behind
   pub behind_is : behind ≡ drop taken m.behind
   pub within : taken ≤ length m.behind
-  pub part : (n : ℕ) → n < taken → is_full o (grown n m).entries ≡ false
+  pub part : (n : ℕ) → n < taken → is_full o (block_after_entries n m).entries ≡ false
 
-pub filling_first : (o : Options) (m : Metered) (q behind : List Entry) (len since : ℕ) → q ≡ m.entries → behind ≡ m.behind → IsMetered m.interval m.entries len since → IsFilling o m 0 q behind len since
+pub filling_first : (o : Options) (m : BlockInProgress) (q behind : List Entry) (len since : ℕ) → q ≡ m.entries → behind ≡ m.behind → IsMetered m.interval m.entries len since → IsFilling o m 0 q behind len since
 filling_first o m q behind len since q_is behind_is is = record {
   metered = subst (λ (xs : List Entry). IsMetered m.interval xs len since) (sym q_is) is;
   entries = q_is ∙ sym (append-nil m.entries);
@@ -35,7 +35,7 @@ filling_first o m q behind len since q_is behind_is is = record {
 not_full : (o : Options) (r : ℕ) (q : List Entry) (len since : ℕ) → IsMetered r q len since → r ≡ o.restart_interval → (q ≡ [] → ⊥) → len < o.block_size → o.block_size ≤ 4194304 → is_full o q ≡ false
 not_full o r [] len since h interval some lt le = absurd (some refl)
 not_full o r (e ∷ es) len since h interval some lt le =
-    let len_is : len ≡ saturated (length (block o.restart_interval (e ∷ es))) = h.len_is ∙ ap (λ (i : ℕ). saturated (length (block i (e ∷ es)))) interval in
+    let len_is : len ≡ saturated_length (length (block o.restart_interval (e ∷ es))) = h.len_is ∙ ap (λ (i : ℕ). saturated_length (length (block i (e ∷ es)))) interval in
     lt-leb o.block_size (length (block o.restart_interval (e ∷ es))) (omega (arith, len_is, lt, le))
 
 -- a block that is not full has room for the count of one more
@@ -49,10 +49,10 @@ some_more : (p q : List Entry) → (p ≡ [] → ⊥) → p ++ q ≡ [] → ⊥
 some_more [] q some none = some refl
 some_more (x ∷ xs) q some none = omega (arith, ap length none)
 
-pub filling_more : (o : Options) (m : Metered) (taken : ℕ) (q behind : List Entry) (len since : ℕ) (key value : List ℕ) (before : Option (List ℕ)) → IsFilling o m taken q behind len since
+pub filling_more : (o : Options) (m : BlockInProgress) (taken : ℕ) (q behind : List Entry) (len since : ℕ) (key value : List ℕ) (before : Option (List ℕ)) → IsFilling o m taken q behind len since
     → o.block_size ≤ 4194304 → m.interval ≡ o.restart_interval → (m.entries ≡ [] → ⊥) → len < o.block_size → 0 < length behind
-    → option_map (λ (e : Entry). e.key) (slice_get behind 0) ≡ Some key → option_map (λ (e : Entry). e.value) (slice_get behind 0) ≡ Some value → before ≡ ended q
-    → IsFilling o m (taken + 1) (q ++ take 1 behind) (drop 1 behind) (min (len + saturated (added_size since before key (length value))) (2 ^ 64 - 1)) (next_since m.interval since)
+    → option_map (λ (e : Entry). e.key) (slice_get behind 0) ≡ Some key → option_map (λ (e : Entry). e.value) (slice_get behind 0) ≡ Some value → before ≡ last_entry_key q
+    → IsFilling o m (taken + 1) (q ++ take 1 behind) (drop 1 behind) (min (len + saturated_length (added_size since before key (length value))) (2 ^ 64 - 1)) (next_since m.interval since)
 filling_more o m taken q behind len since key value before h le interval any lt some key_is value_is before_is =
     let part : is_full o q ≡ false = not_full o m.interval q len since h.metered interval (λ none. some_more m.entries (take taken m.behind) any (sym h.entries ∙ none)) lt le in
     let here : is_full o (m.entries ++ take taken m.behind) ≡ false = ap (is_full o) (sym h.entries) ∙ part in
@@ -72,16 +72,16 @@ filling_more o m taken q behind len since key value before h le interval any lt 
     }
 
 -- one entry, and then others, are as many in one
-pub grown_behind : (n : ℕ) (m : Metered) → grown n (grown 1 m) ≡ grown (1 + n) m
+pub grown_behind : (n : ℕ) (m : BlockInProgress) → block_after_entries n (block_after_entries 1 m) ≡ block_after_entries (1 + n) m
 grown_behind n m =
     let entries : (m.entries ++ take 1 m.behind) ++ take n (drop 1 m.behind) ≡ m.entries ++ take (1 + n) m.behind =
     append_assoc m.entries (take 1 m.behind) (take n (drop 1 m.behind)) ∙ ap (λ (xs : List Entry). m.entries ++ xs) (sym (take-add 1 n m.behind)) in
     ap (λ (xs : List Entry). record { interval = m.interval; entries = xs; behind = drop n (drop 1 m.behind) }) entries
     ∙ ap (λ (xs : List Entry). record { interval = m.interval; entries = m.entries ++ take (1 + n) m.behind; behind = xs }) (drop-drop n 1 m.behind)
 
-pub part_behind : (o : Options) (m : Metered) (count : ℕ) → ((n : ℕ) → n < count → is_full o (grown n (grown 1 m)).entries ≡ false) → (n : ℕ) → 0 < n → n < 1 + count → is_full o (grown n m).entries ≡ false
+pub part_behind : (o : Options) (m : BlockInProgress) (count : ℕ) → ((n : ℕ) → n < count → is_full o (block_after_entries n (block_after_entries 1 m)).entries ≡ false) → (n : ℕ) → 0 < n → n < 1 + count → is_full o (block_after_entries n m).entries ≡ false
 part_behind o m count part n some lt =
     let later : 1 + (n - 1) ≡ n = omega (arith, some) in
-    ap (λ (k : ℕ). is_full o (grown k m).entries) (sym later)
-    ∙ ap (λ (k : Metered). is_full o k.entries) (sym (grown_behind (n - 1) m))
+    ap (λ (k : ℕ). is_full o (block_after_entries k m).entries) (sym later)
+    ∙ ap (λ (k : BlockInProgress). is_full o k.entries) (sym (grown_behind (n - 1) m))
     ∙ part (n - 1) (omega (arith, some, lt))

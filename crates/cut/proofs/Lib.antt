@@ -1,10 +1,10 @@
 -- lemmas
 pub mod Elements
-pub mod Stopping
-pub mod Outputting
-pub mod Joining
+pub mod RepeatedMarks
+pub mod SegmentOutputs
+pub mod JoinedPieces
 pub mod Segments
-pub mod Metering
+pub mod MeteredLengths
 pub mod Whole
 pub mod Apart
 pub mod VarintLengths

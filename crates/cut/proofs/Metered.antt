@@ -8,19 +8,19 @@ use Rattle.std.proofs.lemmas.List.{length-append, length-drop, length_push}
 use Rattle.std.proofs.lemmas.Nat.{mod_below}
 use Rattle.std.proofs.Math.Nat.{zero-mod, mod-add-mod, mod_self, mod-eq_of_lt}
 use Rattle.coding.specs.Varint.{varint}
-use Rattle.block.specs.Piece.{Entry, Piece, piece_bytes}
-use Rattle.block.specs.Writing.{block}
-use Rattle.block.specs.Building.{last_key}
+use Rattle.block.specs.EncodedEntry.{Entry, EncodedEntry, encoded_entry_bytes}
+use Rattle.block.specs.BlockFormat.{block}
+use Rattle.block.specs.BuilderView.{last_key}
 use Rattle.block.proofs.Written.{common, piece_at_restart}
 use Rattle.encoding.proofs.Lists.{length_le_block}
 use Rattle.cut.specs.Lengths.{added_len}
-use Rattle.cut.specs.Sizes.{saturated, piece_size}
-use Rattle.cut.specs.Metered.{IsMetered, ended, next_since, added_size}
-use Rattle.cut.proofs.Metering.{lengths_law}
+use Rattle.cut.specs.Sizes.{saturated_length, encoded_entry_size}
+use Rattle.cut.specs.Metered.{IsMetered, last_entry_key, next_since, added_size}
+use Rattle.cut.proofs.MeteredLengths.{lengths_law}
 
 -- ---- what an entry adds
 
-pub length-piece : (p : Piece) → length (piece_bytes p) ≡ piece_size p.shared (length p.unshared) (length p.value)
+pub length-piece : (p : EncodedEntry) → length (encoded_entry_bytes p) ≡ encoded_entry_size p.shared (length p.unshared) (length p.value)
 length-piece p =
     omega (
       arith,
@@ -31,24 +31,24 @@ length-piece p =
     )
 
 -- by whether a restart points at it, where an entry stands before it
-added_by : (restart : Bool) (before : List ℕ) (e : Entry) → length (piece_bytes (piece_at_restart restart before e)) + cond restart 4 0
-    ≡ piece_size (cond restart 0 (common before e.key)) (length e.key - cond restart 0 (common before e.key)) (length e.value) + cond (restart && true) 4 0
+added_by : (restart : Bool) (before : List ℕ) (e : Entry) → length (encoded_entry_bytes (piece_at_restart restart before e)) + cond restart 4 0
+    ≡ encoded_entry_size (cond restart 0 (common before e.key)) (length e.key - cond restart 0 (common before e.key)) (length e.value) + cond (restart && true) 4 0
 added_by true before e =
     let whole : length e.key - 0 ≡ length e.key = omega arith in
-    ap (λ (n : ℕ). n + 4) (length-piece (piece_at_restart true before e) ∙ ap (λ (n : ℕ). piece_size 0 n (length e.value)) (sym whole))
+    ap (λ (n : ℕ). n + 4) (length-piece (piece_at_restart true before e) ∙ ap (λ (n : ℕ). encoded_entry_size 0 n (length e.value)) (sym whole))
 added_by false before e =
-    ap (λ (n : ℕ). n + 0) (length-piece (piece_at_restart false before e) ∙ ap (λ (n : ℕ). piece_size (common before e.key) n (length e.value)) (length-drop (common before e.key) e.key))
+    ap (λ (n : ℕ). n + 0) (length-piece (piece_at_restart false before e) ∙ ap (λ (n : ℕ). encoded_entry_size (common before e.key) n (length e.value)) (length-drop (common before e.key) e.key))
 
-added_first : (since : ℕ) (e : Entry) → since ≡ 0 → length (piece_bytes (piece_at_restart (eqb since 0) [] e)) + 0 ≡ added_size since None e.key (length e.value)
+added_first : (since : ℕ) (e : Entry) → since ≡ 0 → length (encoded_entry_bytes (piece_at_restart (eqb since 0) [] e)) + 0 ≡ added_size since None e.key (length e.value)
 added_first since e none =
     let whole : length e.key - 0 ≡ length e.key = omega arith in
-    rw none (ap (λ (n : ℕ). n + 0) (length-piece (piece_at_restart true [] e) ∙ ap (λ (n : ℕ). piece_size 0 n (length e.value)) (sym whole)))
+    rw none (ap (λ (n : ℕ). n + 0) (length-piece (piece_at_restart true [] e) ∙ ap (λ (n : ℕ). encoded_entry_size 0 n (length e.value)) (sym whole)))
 
 ended_is : (x : Entry) (xs : List Entry) → option_map (λ (e : Entry). e.key) (last_or (Some x) xs) ≡ Some (last_key x.key xs)
 ended_is x [] = refl
 ended_is x (y ∷ ys) = ended_is y ys
 
-added_is : (interval : ℕ) (q : List Entry) (e : Entry) → added_len interval q e ≡ added_size (length q % interval) (ended q) e.key (length e.value)
+added_is : (interval : ℕ) (q : List Entry) (e : Entry) → added_len interval q e ≡ added_size (length q % interval) (last_entry_key q) e.key (length e.value)
 added_is interval [] e = added_first (0 % interval) e (zero-mod interval)
 added_is interval (x ∷ xs) e =
     let since = length (x ∷ xs) % interval in
@@ -80,28 +80,28 @@ pub few_entries : (interval : ℕ) (q : List Entry) (len since : ℕ) → IsMete
 few_entries interval q len since h lt = omega (arith, h.len_is, lt, length_le_block interval q)
 
 -- both sums stop at the largest number
-sum_saturated : (whole before added : ℕ) → whole ≡ before + added → min (saturated before + saturated added) (2 ^ 64 - 1) ≡ saturated whole
+sum_saturated : (whole before added : ℕ) → whole ≡ before + added → min (saturated_length before + saturated_length added) (2 ^ 64 - 1) ≡ saturated_length whole
 sum_saturated whole before added is = omega arith
 
 pushed : (interval : ℕ) (q : List Entry) (e : Entry) (len since : ℕ) → IsMetered interval q len since → length q < 2 ^ 64 - 1
-    → IsMetered interval (q ++ e ∷ []) (min (len + saturated (added_size since (ended q) e.key (length e.value))) (2 ^ 64 - 1)) (next_since interval since)
+    → IsMetered interval (q ++ e ∷ []) (min (len + saturated_length (added_size since (last_entry_key q) e.key (length e.value))) (2 ^ 64 - 1)) (next_since interval since)
 pushed interval q e len since h few =
-    let added : added_size since (ended q) e.key (length e.value) ≡ added_len interval q e =
-    ap (λ (n : ℕ). added_size n (ended q) e.key (length e.value)) h.since_is ∙ sym (added_is interval q e) in
+    let added : added_size since (last_entry_key q) e.key (length e.value) ≡ added_len interval q e =
+    ap (λ (n : ℕ). added_size n (last_entry_key q) e.key (length e.value)) h.since_is ∙ sym (added_is interval q e) in
     record {
       positive = h.positive;
       limited = h.limited;
       len_is =
-          ap (λ (n : ℕ). min (n + saturated (added_size since (ended q) e.key (length e.value))) (2 ^ 64 - 1)) h.len_is
-          ∙ sum_saturated (length (block interval (q ++ e ∷ []))) (length (block interval q)) (added_size since (ended q) e.key (length e.value)) (lengths_law.more interval q e ∙ ap (λ (n : ℕ). length (block interval q) + n) (sym added));
+          ap (λ (n : ℕ). min (n + saturated_length (added_size since (last_entry_key q) e.key (length e.value))) (2 ^ 64 - 1)) h.len_is
+          ∙ sum_saturated (length (block interval (q ++ e ∷ []))) (length (block interval q)) (added_size since (last_entry_key q) e.key (length e.value)) (lengths_law.more interval q e ∙ ap (λ (n : ℕ). length (block interval q) + n) (sym added));
       since_is = ap (next_since interval) h.since_is ∙ next_since-mod interval (length q) h.positive ∙ ap (λ (n : ℕ). n % interval) (sym (length_push q e));
       counted = omega (arith, few, length_push q e);
     }
 
 -- the first of the entries behind is taken in, of which these are the key and the value
 pub metered_push : (interval : ℕ) (q behind : List Entry) (len since : ℕ) (key value : List ℕ) (before : Option (List ℕ)) → IsMetered interval q len since → length q < 2 ^ 64 - 1 → 0 < length behind
-    → option_map (λ (e : Entry). e.key) (slice_get behind 0) ≡ Some key → option_map (λ (e : Entry). e.value) (slice_get behind 0) ≡ Some value → before ≡ ended q
-    → IsMetered interval (q ++ take 1 behind) (min (len + saturated (added_size since before key (length value))) (2 ^ 64 - 1)) (next_since interval since)
+    → option_map (λ (e : Entry). e.key) (slice_get behind 0) ≡ Some key → option_map (λ (e : Entry). e.value) (slice_get behind 0) ≡ Some value → before ≡ last_entry_key q
+    → IsMetered interval (q ++ take 1 behind) (min (len + saturated_length (added_size since before key (length value))) (2 ^ 64 - 1)) (next_since interval since)
 metered_push interval q [] len since key value before h few some key_is value_is before_is = absurd (omega arith)
 metered_push interval q (e ∷ es) len since key value before h few some key_is value_is before_is =
     let k : e.key ≡ key = cc in

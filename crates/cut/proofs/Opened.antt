@@ -9,22 +9,22 @@ use Rattle.std.proofs.lemmas.List.{length-append}
 use Rattle.std.proofs.lemmas.List.Concat.{flat_map-append}
 use Rattle.std.proofs.lemmas.List.Sums.{sum_by-append, sum_by-cons}
 use Rattle.ikey.specs.Key.{user_of}
-use Rattle.block.specs.Piece.{Entry}
-use Rattle.block.specs.Writing.{block}
-use Rattle.block.specs.Building.{last_key}
-use Rattle.frame.specs.Trailer.{stored}
+use Rattle.block.specs.EncodedEntry.{Entry}
+use Rattle.block.specs.BlockFormat.{block}
+use Rattle.block.specs.BuilderView.{last_key}
+use Rattle.frame.specs.Trailer.{stored_block}
 use Rattle.frame.proofs.Stored.{length-stored}
 use Rattle.table.specs.declared.options.Options.{Options}
 use Rattle.table.specs.Options.{AreInLimits}
 use Rattle.table.specs.DataBlocks.{is_full, open_block, blocks_behind, data_blocks, flushed, flushed_len}
 use Rattle.table.specs.Table.{stored_blocks}
 use Rattle.encoding.specs.declared.planned_block.PlannedBlock.{PlannedBlock}
-use Rattle.cut.specs.Metered.{Metered, grown, ended}
+use Rattle.cut.specs.Metered.{BlockInProgress, block_after_entries, last_entry_key}
 use Rattle.cut.specs.Outputs.{all_of, ends_before, outputs_behind}
 use Rattle.cut.specs.Plan.{stored_len}
-use Rattle.cut.specs.Sizes.{saturated}
+use Rattle.cut.specs.Sizes.{saturated_length}
 use Rattle.cut.specs.Opened.{parts_of, entries_in_blocks, HasLen, IsFlushed, ends_by, IsOpen}
-use Rattle.cut.proofs.Metering.{lengths_law}
+use Rattle.cut.proofs.MeteredLengths.{lengths_law}
 
 -- ---- the last key
 
@@ -32,7 +32,7 @@ last_push : (o : Option Entry) (q : List Entry) (e : Entry) → last_or o (q ++ 
 last_push o [] e = refl
 last_push o (x ∷ xs) e = last_push (Some x) xs e
 
-pub ended_push : (q : List Entry) (e : Entry) → ended (q ++ e ∷ []) ≡ Some e.key
+pub ended_push : (q : List Entry) (e : Entry) → last_entry_key (q ++ e ∷ []) ≡ Some e.key
 ended_push q e = ap (option_map (λ (x : Entry). x.key)) (last_push None q e)
 
 ended_is : (x : Entry) (xs : List Entry) → option_map (λ (e : Entry). e.key) (last_or (Some x) xs) ≡ Some (last_key x.key xs)
@@ -60,7 +60,7 @@ last_behind : (a b : Option Entry) (p : List Entry) (x : Entry) (xs : List Entry
 last_behind a b [] x xs = refl
 last_behind a b (y ∷ ys) x xs = last_behind (Some y) b ys x xs
 
-pub ended_behind : (p q : List Entry) → (q ≡ [] → ⊥) → ended (p ++ q) ≡ ended q
+pub ended_behind : (p q : List Entry) → (q ≡ [] → ⊥) → last_entry_key (p ++ q) ≡ last_entry_key q
 ended_behind p [] some = absurd (some refl)
 ended_behind p (x ∷ xs) some = ap (option_map (λ (e : Entry). e.key)) (last_behind None None p x xs)
 
@@ -107,7 +107,7 @@ module _ (o : Options) where
 
   -- ---- no entry
 
-  pub open_first : (open_one : Metered) → AreInLimits o → open_one.interval ≡ o.restart_interval → open_one.entries ≡ [] → IsOpen o [] 0 None open_one
+  pub open_first : (open_one : BlockInProgress) → AreInLimits o → open_one.interval ≡ o.restart_interval → open_one.entries ≡ [] → IsOpen o [] 0 None open_one
   open_first open_one limits interval none = record {
     limits = limits;
     interval = interval;
@@ -116,58 +116,58 @@ module _ (o : Options) where
     lens = tt;
     cuts = λ rest. ap (λ (q : List Entry). blocks_behind o [] (q ++ rest)) none ∙ sym (ap (λ (q : List Entry). blocks_behind o q rest) none);
     flushed_is = refl;
-    last_is = sym (ap ended none);
+    last_is = sym (ap last_entry_key none);
   }
 
   -- ---- entries more
 
   -- before the first of them the open block is not full either
-  pub parts_by : (before : Metered) (n : ℕ) → is_full o before.entries ≡ false → ((m : ℕ) → 0 < m → m < n → is_full o (grown m before).entries ≡ false) → (m : ℕ) → m < n → is_full o (grown m before).entries ≡ false
+  pub parts_by : (before : BlockInProgress) (n : ℕ) → is_full o before.entries ≡ false → ((m : ℕ) → 0 < m → m < n → is_full o (block_after_entries m before).entries ≡ false) → (m : ℕ) → m < n → is_full o (block_after_entries m before).entries ≡ false
   parts_by before n first part zero lt = ap (is_full o) (append-nil before.entries) ∙ first
   parts_by before n first part (suc m) lt = part (suc m) (omega arith) lt
 
-  pub open_grown : (blocks : List PlannedBlock) (size : ℕ) (last key : Option (List ℕ)) (before after : Metered) (n : ℕ) → IsOpen o blocks size last before → after ≡ grown n before
-      → ((m : ℕ) → m < n → is_full o (grown m before).entries ≡ false) → is_full o after.entries ≡ false → key ≡ ended (entries_in_blocks blocks ++ after.entries) → IsOpen o blocks size key after
+  pub open_grown : (blocks : List PlannedBlock) (size : ℕ) (last key : Option (List ℕ)) (before after : BlockInProgress) (n : ℕ) → IsOpen o blocks size last before → after ≡ block_after_entries n before
+      → ((m : ℕ) → m < n → is_full o (block_after_entries m before).entries ≡ false) → is_full o after.entries ≡ false → key ≡ last_entry_key (entries_in_blocks blocks ++ after.entries) → IsOpen o blocks size key after
   open_grown blocks size last key before after n h is parts part key_is =
       record {
         limits = h.limits;
-        interval = ap (λ (m : Metered). m.interval) is ∙ h.interval;
+        interval = ap (λ (m : BlockInProgress). m.interval) is ∙ h.interval;
         part = part;
         full = h.full;
         lens = h.lens;
-        cuts = subst (Cut_by blocks) (sym (ap (λ (m : Metered). m.entries) is)) (more_by blocks n before.entries before.behind parts h.cuts);
+        cuts = subst (Cut_by blocks) (sym (ap (λ (m : BlockInProgress). m.entries) is)) (more_by blocks n before.entries before.behind parts h.cuts);
         flushed_is = h.flushed_is;
         last_is = key_is;
       }
 
   -- both sums stop at the largest number
-  sum_saturated : (whole before len : ℕ) → whole ≡ before + (len + 5) → min (min (saturated before + saturated len) (2 ^ 64 - 1) + 5) (2 ^ 64 - 1) ≡ saturated whole
+  sum_saturated : (whole before len : ℕ) → whole ≡ before + (len + 5) → min (min (saturated_length before + saturated_length len) (2 ^ 64 - 1) + 5) (2 ^ 64 - 1) ≡ saturated_length whole
   sum_saturated whole before len is = omega arith
 
-  stored_push : (blocks : List PlannedBlock) (size : ℕ) (b : PlannedBlock) → size ≡ saturated (stored_len o.restart_interval (parts_of blocks)) → HasLen o b
-      → min (min (size + b.len) (2 ^ 64 - 1) + 5) (2 ^ 64 - 1) ≡ saturated (stored_len o.restart_interval (parts_of (blocks ++ b ∷ [])))
+  stored_push : (blocks : List PlannedBlock) (size : ℕ) (b : PlannedBlock) → size ≡ saturated_length (stored_len o.restart_interval (parts_of blocks)) → HasLen o b
+      → min (min (size + b.len) (2 ^ 64 - 1) + 5) (2 ^ 64 - 1) ≡ saturated_length (stored_len o.restart_interval (parts_of (blocks ++ b ∷ [])))
   stored_push blocks size b size_is len_is =
       ap (λ (n : ℕ). min (min (n + b.len) (2 ^ 64 - 1) + 5) (2 ^ 64 - 1)) size_is
-      ∙ ap (λ (n : ℕ). min (min (saturated (stored_len o.restart_interval (parts_of blocks)) + n) (2 ^ 64 - 1) + 5) (2 ^ 64 - 1)) len_is
+      ∙ ap (λ (n : ℕ). min (min (saturated_length (stored_len o.restart_interval (parts_of blocks)) + n) (2 ^ 64 - 1) + 5) (2 ^ 64 - 1)) len_is
       ∙ sum_saturated (stored_len o.restart_interval (parts_of (blocks ++ b ∷ []))) (stored_len o.restart_interval (parts_of blocks)) (length (block o.restart_interval b.entries.entries))
       (ap (stored_len o.restart_interval) (parts_push blocks b) ∙ lengths_law.stored o.restart_interval (parts_of blocks) b.entries.entries)
 
-  pub open_flushed : (blocks : List PlannedBlock) (size : ℕ) (last key : Option (List ℕ)) (before full after : Metered) (n : ℕ) (b : PlannedBlock) → IsOpen o blocks size last before → full ≡ grown n before
-      → ((m : ℕ) → m < n → is_full o (grown m before).entries ≡ false) → is_full o full.entries ≡ true → b.entries.entries ≡ full.entries → b.len ≡ saturated (length (block full.interval full.entries))
-      → after ≡ record { interval = full.interval; entries = []; behind = full.behind } → key ≡ ended (entries_in_blocks blocks ++ full.entries)
+  pub open_flushed : (blocks : List PlannedBlock) (size : ℕ) (last key : Option (List ℕ)) (before full after : BlockInProgress) (n : ℕ) (b : PlannedBlock) → IsOpen o blocks size last before → full ≡ block_after_entries n before
+      → ((m : ℕ) → m < n → is_full o (block_after_entries m before).entries ≡ false) → is_full o full.entries ≡ true → b.entries.entries ≡ full.entries → b.len ≡ saturated_length (length (block full.interval full.entries))
+      → after ≡ record { interval = full.interval; entries = []; behind = full.behind } → key ≡ last_entry_key (entries_in_blocks blocks ++ full.entries)
       → IsOpen o (blocks ++ b ∷ []) (min (min (size + b.len) (2 ^ 64 - 1) + 5) (2 ^ 64 - 1)) key after
   open_flushed blocks size last key before full after n b h is parts reaches entries_are len after_is key_is =
       let q : List Entry = b.entries.entries in
-      let none : after.entries ≡ [] = ap (λ (m : Metered). m.entries) after_is in
-      let interval : full.interval ≡ o.restart_interval = ap (λ (m : Metered). m.interval) is ∙ h.interval in
-      let has_len : HasLen o b = len ∙ ap (λ (r : ℕ). saturated (length (block r full.entries))) interval ∙ ap (λ (es : List Entry). saturated (length (block o.restart_interval es))) (sym entries_are) in
-      let grew : Cut_by blocks q = subst (Cut_by blocks) (sym (entries_are ∙ ap (λ (m : Metered). m.entries) is)) (more_by blocks n before.entries before.behind parts h.cuts) in
+      let none : after.entries ≡ [] = ap (λ (m : BlockInProgress). m.entries) after_is in
+      let interval : full.interval ≡ o.restart_interval = ap (λ (m : BlockInProgress). m.interval) is ∙ h.interval in
+      let has_len : HasLen o b = len ∙ ap (λ (r : ℕ). saturated_length (length (block r full.entries))) interval ∙ ap (λ (es : List Entry). saturated_length (length (block o.restart_interval es))) (sym entries_are) in
+      let grew : Cut_by blocks q = subst (Cut_by blocks) (sym (entries_are ∙ ap (λ (m : BlockInProgress). m.entries) is)) (more_by blocks n before.entries before.behind parts h.cuts) in
       let entries : entries_in_blocks (blocks ++ b ∷ []) ++ after.entries ≡ entries_in_blocks blocks ++ q =
       ap (λ (xs : List Entry). entries_in_blocks (blocks ++ b ∷ []) ++ xs) none ∙ append-nil (entries_in_blocks (blocks ++ b ∷ [])) ∙ entries_push blocks b in
       let whole : is_full o q ≡ true = ap (is_full o) entries_are ∙ reaches in
       record {
         limits = h.limits;
-        interval = ap (λ (m : Metered). m.interval) after_is ∙ interval;
+        interval = ap (λ (m : BlockInProgress). m.interval) after_is ∙ interval;
         part = ap (is_full o) none;
         full = all_push (IsFlushed o) blocks b h.full whole;
         lens = all_push (HasLen o) blocks b h.lens has_len;
@@ -179,12 +179,12 @@ module _ (o : Options) where
             ∙ sym (ap (λ (ps : List (List Entry)). ps ++ blocks_behind o [] rest) (parts_push blocks b))
             ∙ sym (ap (λ (xs : List Entry). parts_of (blocks ++ b ∷ []) ++ blocks_behind o xs rest) none);
         flushed_is = stored_push blocks size b h.flushed_is has_len;
-        last_is = key_is ∙ sym (ap ended entries ∙ ap (λ (xs : List Entry). ended (entries_in_blocks blocks ++ xs)) entries_are);
+        last_is = key_is ∙ sym (ap last_entry_key entries ∙ ap (λ (xs : List Entry). last_entry_key (entries_in_blocks blocks ++ xs)) entries_are);
       }
 
   -- ---- all data blocks
 
-  pub blocks_open : (blocks : List PlannedBlock) (size : ℕ) (last : Option (List ℕ)) (open_one : Metered) → IsOpen o blocks size last open_one → data_blocks o (entries_in_blocks blocks ++ open_one.entries) ≡ parts_of blocks ++ open_block open_one.entries
+  pub blocks_open : (blocks : List PlannedBlock) (size : ℕ) (last : Option (List ℕ)) (open_one : BlockInProgress) → IsOpen o blocks size last open_one → data_blocks o (entries_in_blocks blocks ++ open_one.entries) ≡ parts_of blocks ++ open_block open_one.entries
   unfolding data_blocks
   blocks_open blocks size last open_one h = ap (blocks_behind o []) (sym (append-nil (entries_in_blocks blocks ++ open_one.entries))) ∙ h.cuts []
 
@@ -192,14 +192,14 @@ module _ (o : Options) where
   some_block [] some = absurd (some refl)
   some_block (e ∷ es) some = refl
 
-  pub blocks_some : (blocks : List PlannedBlock) (size : ℕ) (last : Option (List ℕ)) (open_one : Metered) (b : PlannedBlock) → IsOpen o blocks size last open_one → (open_one.entries ≡ [] → ⊥) → b.entries.entries ≡ open_one.entries
+  pub blocks_some : (blocks : List PlannedBlock) (size : ℕ) (last : Option (List ℕ)) (open_one : BlockInProgress) (b : PlannedBlock) → IsOpen o blocks size last open_one → (open_one.entries ≡ [] → ⊥) → b.entries.entries ≡ open_one.entries
       → parts_of (blocks ++ b ∷ []) ≡ data_blocks o (entries_in_blocks blocks ++ open_one.entries)
   blocks_some blocks size last open_one b h some is =
       parts_push blocks b
       ∙ ap (λ (q : List Entry). parts_of blocks ++ q ∷ []) is
       ∙ sym (blocks_open blocks size last open_one h ∙ ap (λ (ps : List (List Entry)). parts_of blocks ++ ps) (some_block open_one.entries some))
 
-  pub blocks_none : (blocks : List PlannedBlock) (size : ℕ) (last : Option (List ℕ)) (open_one : Metered) → IsOpen o blocks size last open_one → open_one.entries ≡ [] → parts_of blocks ≡ data_blocks o (entries_in_blocks blocks ++ open_one.entries)
+  pub blocks_none : (blocks : List PlannedBlock) (size : ℕ) (last : Option (List ℕ)) (open_one : BlockInProgress) → IsOpen o blocks size last open_one → open_one.entries ≡ [] → parts_of blocks ≡ data_blocks o (entries_in_blocks blocks ++ open_one.entries)
   blocks_none blocks size last open_one h none =
       sym (blocks_open blocks size last open_one h ∙ ap (λ (q : List Entry). parts_of blocks ++ open_block q) none ∙ append-nil (parts_of blocks))
 
@@ -210,7 +210,7 @@ module _ (o : Options) where
   stored_sum (b ∷ bs) full =
       let p : List Entry = b.entries.entries in
       let one : flushed_len o p ≡ length (block o.restart_interval p) + 5 = rw full.0 refl in
-      length-append (stored (block o.restart_interval p)) (stored_blocks o.restart_interval (parts_of bs))
+      length-append (stored_block (block o.restart_interval p)) (stored_blocks o.restart_interval (parts_of bs))
       ∙ ap (λ (n : ℕ). n + stored_len o.restart_interval (parts_of bs)) (length-stored (block o.restart_interval p) ∙ sym one)
       ∙ ap (λ (n : ℕ). flushed_len o p + n) (stored_sum bs full.1)
       ∙ sym (sum_by-cons (flushed_len o) p (parts_of bs))
@@ -219,7 +219,7 @@ module _ (o : Options) where
   open_sum [] part = refl
   open_sum (e ∷ es) part = sum_by-cons (flushed_len o) (e ∷ es) [] ∙ rw part refl
 
-  flushed_open : (blocks : List PlannedBlock) (size : ℕ) (last : Option (List ℕ)) (open_one : Metered) → IsOpen o blocks size last open_one → flushed o (entries_in_blocks blocks ++ open_one.entries) ≡ stored_len o.restart_interval (parts_of blocks)
+  flushed_open : (blocks : List PlannedBlock) (size : ℕ) (last : Option (List ℕ)) (open_one : BlockInProgress) → IsOpen o blocks size last open_one → flushed o (entries_in_blocks blocks ++ open_one.entries) ≡ stored_len o.restart_interval (parts_of blocks)
   unfolding flushed
   flushed_open blocks size last open_one h =
       ap (sum_by (flushed_len o)) (blocks_open blocks size last open_one h)
@@ -229,48 +229,48 @@ module _ (o : Options) where
   -- ---- where the output ends
 
   -- a limit is reached by a length where it is reached by what stands for it
-  reached : (limit n : ℕ) → limit ≤ 2 ^ 30 → nat_le limit (saturated n) ≡ nat_le limit n
+  reached : (limit n : ℕ) → limit ≤ 2 ^ 30 → nat_le limit (saturated_length n) ≡ nat_le limit n
   reached limit n le =
       elim (cases_lt n limit) [
-        | inl below ↦ lt-leb limit (saturated n) (omega arith) ∙ sym (lt-leb limit n below)
-        | inr above ↦ le-leb limit (saturated n) (omega arith) ∙ sym (le-leb limit n above)
+        | inl below ↦ lt-leb limit (saturated_length n) (omega arith) ∙ sym (lt-leb limit n below)
+        | inr above ↦ le-leb limit (saturated_length n) (omega arith) ∙ sym (le-leb limit n above)
       ]
 
-  ends_some : (x : Entry) (xs : List Entry) (n : ℕ) (last : List ℕ) (e : Entry) → o.file_size ≤ 2 ^ 30 → n ≡ saturated (flushed o (x ∷ xs)) → Some last ≡ ended (x ∷ xs)
+  ends_some : (x : Entry) (xs : List Entry) (n : ℕ) (last : List ℕ) (e : Entry) → o.file_size ≤ 2 ^ 30 → n ≡ saturated_length (flushed o (x ∷ xs)) → Some last ≡ last_entry_key (x ∷ xs)
       → ends_before o (x ∷ xs) e ≡ (nat_le o.file_size n && not (bytes_eq (user_of last) (user_of e.key)))
   ends_some x xs n last e le n_is last_is =
       let key : last ≡ last_key x.key xs = (let both : Some last ≡ Some (last_key x.key xs) = last_is ∙ ended_is x xs in cc) in
       let size : nat_le o.file_size (flushed o (x ∷ xs)) ≡ nat_le o.file_size n = sym (ap (nat_le o.file_size) n_is ∙ reached o.file_size (flushed o (x ∷ xs)) le) in
       ap (λ (b : Bool). b && not (bytes_eq (user_of (last_key x.key xs)) (user_of e.key))) size ∙ ap (λ (k : List ℕ). nat_le o.file_size n && not (bytes_eq (user_of k) (user_of e.key))) (sym key)
 
-  ends_none : (q : List Entry) (e : Entry) → None ≡ ended q → ends_before o q e ≡ false
+  ends_none : (q : List Entry) (e : Entry) → None ≡ last_entry_key q → ends_before o q e ≡ false
   ends_none [] e h = refl
   ends_none (x ∷ xs) e h = absurd (let no : None ≡ Some (last_key x.key xs) = h ∙ ended_is x xs in cc)
 
-  ends_by_last : (q : List Entry) (n : ℕ) (last : List ℕ) (e : Entry) → o.file_size ≤ 2 ^ 30 → n ≡ saturated (flushed o q) → Some last ≡ ended q
+  ends_by_last : (q : List Entry) (n : ℕ) (last : List ℕ) (e : Entry) → o.file_size ≤ 2 ^ 30 → n ≡ saturated_length (flushed o q) → Some last ≡ last_entry_key q
       → ends_before o q e ≡ (nat_le o.file_size n && not (bytes_eq (user_of last) (user_of e.key)))
   ends_by_last [] n last e le n_is last_is = absurd (let no : Some last ≡ None = last_is in cc)
   ends_by_last (x ∷ xs) n last e le n_is last_is = ends_some x xs n last e le n_is last_is
 
   -- whether the output of what is kept ends before the first of the entries behind
-  pub ends_not : (blocks : List PlannedBlock) (size : ℕ) (open_one : Metered) → IsOpen o blocks size None open_one → ends_by o (entries_in_blocks blocks ++ open_one.entries) open_one.behind ≡ false
+  pub ends_not : (blocks : List PlannedBlock) (size : ℕ) (open_one : BlockInProgress) → IsOpen o blocks size None open_one → ends_by o (entries_in_blocks blocks ++ open_one.entries) open_one.behind ≡ false
   ends_not blocks size open_one h = by_behind open_one.behind
     where
       by_behind : (behind : List Entry) → ends_by o (entries_in_blocks blocks ++ open_one.entries) behind ≡ false
       by_behind [] = refl
       by_behind (e ∷ es) = ends_none (entries_in_blocks blocks ++ open_one.entries) e h.last_is
 
-  pub ends_part : (blocks : List PlannedBlock) (size : ℕ) (last : List ℕ) (open_one : Metered) → IsOpen o blocks size (Some last) open_one → nat_le o.file_size size ≡ false
+  pub ends_part : (blocks : List PlannedBlock) (size : ℕ) (last : List ℕ) (open_one : BlockInProgress) → IsOpen o blocks size (Some last) open_one → nat_le o.file_size size ≡ false
       → ends_by o (entries_in_blocks blocks ++ open_one.entries) open_one.behind ≡ false
   ends_part blocks size last open_one h below = by_behind open_one.behind
     where
       by_behind : (behind : List Entry) → ends_by o (entries_in_blocks blocks ++ open_one.entries) behind ≡ false
       by_behind [] = refl
       by_behind (e ∷ es) =
-          ends_by_last (entries_in_blocks blocks ++ open_one.entries) size last e h.limits.file_size_le (h.flushed_is ∙ ap saturated (sym (flushed_open blocks size (Some last) open_one h))) h.last_is
+          ends_by_last (entries_in_blocks blocks ++ open_one.entries) size last e h.limits.file_size_le (h.flushed_is ∙ ap saturated_length (sym (flushed_open blocks size (Some last) open_one h))) h.last_is
           ∙ rw below refl
 
-  pub ends_last : (blocks : List PlannedBlock) (size : ℕ) (last next : List ℕ) (open_one : Metered) → IsOpen o blocks size (Some last) open_one → 0 < length open_one.behind
+  pub ends_last : (blocks : List PlannedBlock) (size : ℕ) (last next : List ℕ) (open_one : BlockInProgress) → IsOpen o blocks size (Some last) open_one → 0 < length open_one.behind
       → option_map (λ (e : Entry). e.key) (slice_get open_one.behind 0) ≡ Some next
       → ends_by o (entries_in_blocks blocks ++ open_one.entries) open_one.behind ≡ (nat_le o.file_size size && not (bytes_eq (user_of last) (user_of next)))
   ends_last blocks size last next open_one h some next_is = by_behind open_one.behind some next_is
@@ -280,7 +280,7 @@ module _ (o : Options) where
       by_behind [] some next_is = absurd (omega arith)
       by_behind (e ∷ es) some next_is =
           let key : e.key ≡ next = cc in
-          ends_by_last (entries_in_blocks blocks ++ open_one.entries) size last e h.limits.file_size_le (h.flushed_is ∙ ap saturated (sym (flushed_open blocks size (Some last) open_one h))) h.last_is
+          ends_by_last (entries_in_blocks blocks ++ open_one.entries) size last e h.limits.file_size_le (h.flushed_is ∙ ap saturated_length (sym (flushed_open blocks size (Some last) open_one h))) h.last_is
           ∙ ap (λ (k : List ℕ). nat_le o.file_size size && not (bytes_eq (user_of last) (user_of k))) key
 
   -- ---- where the output goes on
@@ -295,21 +295,21 @@ module _ (o : Options) where
       let step : outputs_behind o q (e ∷ (take n es ++ rest)) ≡ outputs_behind o (q ++ e ∷ []) (take n es ++ rest) = rw first refl in
       ap (λ (xs : List Entry). outputs_behind o xs rest) (sym (append_assoc q (e ∷ []) (take n es))) ∙ goes_by n (q ++ e ∷ []) es later rest ∙ sym step
 
-  ends_below : (blocks : List PlannedBlock) (size : ℕ) (last : Option (List ℕ)) (open_one : Metered) → IsOpen o blocks size last open_one → nat_le o.file_size size ≡ false → ends_by o (entries_in_blocks blocks ++ open_one.entries) open_one.behind ≡ false
+  ends_below : (blocks : List PlannedBlock) (size : ℕ) (last : Option (List ℕ)) (open_one : BlockInProgress) → IsOpen o blocks size last open_one → nat_le o.file_size size ≡ false → ends_by o (entries_in_blocks blocks ++ open_one.entries) open_one.behind ≡ false
   ends_below blocks size None open_one h below = ends_not blocks size open_one h
   ends_below blocks size (Some last) open_one h below = ends_part blocks size last open_one h below
 
   -- the output goes on with all entries that are taken in, where more than one is taken in only below the maximal file size
-  pub left_taken : (blocks : List PlannedBlock) (size : ℕ) (last : Option (List ℕ)) (before : Metered) (n : ℕ) → IsOpen o blocks size last before
-      → ((m : ℕ) → m < n → is_full o (grown m before).entries ≡ false) → ends_by o (entries_in_blocks blocks ++ before.entries) before.behind ≡ false → (1 < n → size < o.file_size) → (rest : List Entry)
+  pub left_taken : (blocks : List PlannedBlock) (size : ℕ) (last : Option (List ℕ)) (before : BlockInProgress) (n : ℕ) → IsOpen o blocks size last before
+      → ((m : ℕ) → m < n → is_full o (block_after_entries m before).entries ≡ false) → ends_by o (entries_in_blocks blocks ++ before.entries) before.behind ≡ false → (1 < n → size < o.file_size) → (rest : List Entry)
       → outputs_behind o ((entries_in_blocks blocks ++ before.entries) ++ take n before.behind) rest ≡ outputs_behind o (entries_in_blocks blocks ++ before.entries) (take n before.behind ++ rest)
   left_taken blocks size last before n h parts first below rest = goes_by n (entries_in_blocks blocks ++ before.entries) before.behind on rest
     where
       on : (m : ℕ) → m < n → ends_by o ((entries_in_blocks blocks ++ before.entries) ++ take m before.behind) (drop m before.behind) ≡ false
       on zero lt = ap (λ (xs : List Entry). ends_by o xs before.behind) (append-nil (entries_in_blocks blocks ++ before.entries)) ∙ first
       on (suc m) lt =
-          let k : Metered = grown (suc m) before in
-          let open_one : IsOpen o blocks size (ended (entries_in_blocks blocks ++ k.entries)) k =
-          open_grown blocks size last (ended (entries_in_blocks blocks ++ k.entries)) before k (suc m) h refl (λ i below_m. parts i (omega (arith, below_m, lt))) (parts (suc m) lt) refl in
+          let k : BlockInProgress = block_after_entries (suc m) before in
+          let open_one : IsOpen o blocks size (last_entry_key (entries_in_blocks blocks ++ k.entries)) k =
+          open_grown blocks size last (last_entry_key (entries_in_blocks blocks ++ k.entries)) before k (suc m) h refl (λ i below_m. parts i (omega (arith, below_m, lt))) (parts (suc m) lt) refl in
           ap (λ (xs : List Entry). ends_by o xs (drop (suc m) before.behind)) (append_assoc (entries_in_blocks blocks) before.entries (take (suc m) before.behind))
-          ∙ ends_below blocks size (ended (entries_in_blocks blocks ++ k.entries)) k open_one (lt-leb o.file_size size (below (omega (arith, lt))))
+          ∙ ends_below blocks size (last_entry_key (entries_in_blocks blocks ++ k.entries)) k open_one (lt-leb o.file_size size (below (omega (arith, lt))))

@@ -5,13 +5,13 @@ use Rattle.std.specs.List.{AllByRecursion}
 use Rattle.std.proofs.lemmas.Bool.{lt-ltb, le-ltb, le-leb}
 use Rattle.std.proofs.lemmas.List.{length-append, length_push, map-append, take_at, drop_at}
 use Rattle.std.proofs.lemmas.List.Sums.{sum_by_push, sum_by-append}
-use Rattle.block.specs.Piece.{Entry}
+use Rattle.block.specs.EncodedEntry.{Entry}
 use Rattle.table.specs.declared.options.Options.{Options}
 use Rattle.table.specs.DataBlocks.{data_blocks}
 use Rattle.encoding.specs.declared.planned_block.PlannedBlock.{PlannedBlock}
 use Rattle.cut.specs.declared.piece.Piece.{Piece}
 use Rattle.cut.specs.declared.planned_output.PlannedOutput.{PlannedOutput}
-use Rattle.cut.specs.Divided.{blocks_at, piece_blocks, places_from, places_all, piece_limit}
+use Rattle.cut.specs.Divided.{blocks_at, piece_blocks, piece_places_from, places_all, piece_limit}
 use Rattle.cut.specs.Opened.{parts_of, entries_in_blocks, HasLen, ArePlanned}
 use Rattle.cut.specs.Plan.{open_piece, pieces_behind, pieces_in, stored_len}
 use Rattle.cut.specs.TableLength.{lens_of}
@@ -40,15 +40,15 @@ middle front mid rest from to f t =
 module _ (limit output : ℕ) where
   step_by : (full : Bool) (latest : List PlannedBlock) (b : PlannedBlock) (bs all : List PlannedBlock) (from at size : ℕ) → nat_le limit (size + (b.len + 5)) ≡ full → lens_of (latest ++ b ∷ []) ≡ size + (b.len + 5)
       → slice_range all from (at + 1) ≡ latest ++ b ∷ []
-      → map (λ (p : Piece). slice_range all p.from p.to) (places_from output limit (at + 1) (at + 1) 0 bs) ≡ divided_behind limit [] bs
-      → map (λ (p : Piece). slice_range all p.from p.to) (places_from output limit from (at + 1) (size + (b.len + 5)) bs) ≡ divided_behind limit (latest ++ b ∷ []) bs
-      → map (λ (p : Piece). slice_range all p.from p.to) (places_from output limit from at size (b ∷ bs)) ≡ divided_behind limit latest (b ∷ bs)
+      → map (λ (p : Piece). slice_range all p.from p.to) (piece_places_from output limit (at + 1) (at + 1) 0 bs) ≡ divided_behind limit [] bs
+      → map (λ (p : Piece). slice_range all p.from p.to) (piece_places_from output limit from (at + 1) (size + (b.len + 5)) bs) ≡ divided_behind limit (latest ++ b ∷ []) bs
+      → map (λ (p : Piece). slice_range all p.from p.to) (piece_places_from output limit from at size (b ∷ bs)) ≡ divided_behind limit latest (b ∷ bs)
   step_by true latest b bs all from at size full lens piece ended grown =
-      rw (full, ap (nat_le limit) lens ∙ full) (ap (λ (q : List PlannedBlock). q ∷ map (λ (p : Piece). slice_range all p.from p.to) (places_from output limit (at + 1) (at + 1) 0 bs)) piece ∙ ap (λ (qs : List (List PlannedBlock)). (latest ++ b ∷ []) ∷ qs) ended)
+      rw (full, ap (nat_le limit) lens ∙ full) (ap (λ (q : List PlannedBlock). q ∷ map (λ (p : Piece). slice_range all p.from p.to) (piece_places_from output limit (at + 1) (at + 1) 0 bs)) piece ∙ ap (λ (qs : List (List PlannedBlock)). (latest ++ b ∷ []) ∷ qs) ended)
   step_by false latest b bs all from at size full lens piece ended grown = rw (full, ap (nat_le limit) lens ∙ full) grown
 
   pub places_are : (front latest rest all : List PlannedBlock) (from at size : ℕ) → all ≡ front ++ (latest ++ rest) → from ≡ length front → at ≡ length front + length latest → size ≡ lens_of latest
-      → map (λ (p : Piece). slice_range all p.from p.to) (places_from output limit from at size rest) ≡ divided_behind limit latest rest
+      → map (λ (p : Piece). slice_range all p.from p.to) (piece_places_from output limit from at size rest) ≡ divided_behind limit latest rest
   places_are front [] [] all from at size whole f a s = rw (le-ltb from at (omega arith)) refl
   places_are front (x ∷ xs) [] all from at size whole f a s =
       rw (lt-ltb from at (omega arith)) (ap (λ (q : List PlannedBlock). q ∷ []) (ap (λ (bs : List PlannedBlock). slice_range bs from at) whole ∙ middle front (x ∷ xs) [] from at f a))
@@ -65,19 +65,19 @@ module _ (limit output : ℕ) where
 
   -- all pieces of an output's blocks are of that output
   same_by : (outputs : List PlannedOutput) (full : Bool) (b : PlannedBlock) (bs : List PlannedBlock) (from at size : ℕ) → nat_le limit (size + (b.len + 5)) ≡ full
-      → map (piece_blocks outputs) (places_from output limit (at + 1) (at + 1) 0 bs) ≡ map (λ (p : Piece). slice_range (blocks_at outputs output) p.from p.to) (places_from output limit (at + 1) (at + 1) 0 bs)
-      → map (piece_blocks outputs) (places_from output limit from (at + 1) (size + (b.len + 5)) bs) ≡ map (λ (p : Piece). slice_range (blocks_at outputs output) p.from p.to) (places_from output limit from (at + 1) (size + (b.len + 5)) bs)
-      → map (piece_blocks outputs) (places_from output limit from at size (b ∷ bs)) ≡ map (λ (p : Piece). slice_range (blocks_at outputs output) p.from p.to) (places_from output limit from at size (b ∷ bs))
+      → map (piece_blocks outputs) (piece_places_from output limit (at + 1) (at + 1) 0 bs) ≡ map (λ (p : Piece). slice_range (blocks_at outputs output) p.from p.to) (piece_places_from output limit (at + 1) (at + 1) 0 bs)
+      → map (piece_blocks outputs) (piece_places_from output limit from (at + 1) (size + (b.len + 5)) bs) ≡ map (λ (p : Piece). slice_range (blocks_at outputs output) p.from p.to) (piece_places_from output limit from (at + 1) (size + (b.len + 5)) bs)
+      → map (piece_blocks outputs) (piece_places_from output limit from at size (b ∷ bs)) ≡ map (λ (p : Piece). slice_range (blocks_at outputs output) p.from p.to) (piece_places_from output limit from at size (b ∷ bs))
   same_by outputs true b bs from at size full ended grown = rw full (ap (λ (qs : List (List PlannedBlock)). slice_range (blocks_at outputs output) from (at + 1) ∷ qs) ended)
   same_by outputs false b bs from at size full ended grown = rw full grown
 
   same_end : (outputs : List PlannedOutput) (open_some : Bool) (from at : ℕ) → nat_lt from at ≡ open_some
-      → map (piece_blocks outputs) (places_from output limit from at 0 []) ≡ map (λ (p : Piece). slice_range (blocks_at outputs output) p.from p.to) (places_from output limit from at 0 [])
+      → map (piece_blocks outputs) (piece_places_from output limit from at 0 []) ≡ map (λ (p : Piece). slice_range (blocks_at outputs output) p.from p.to) (piece_places_from output limit from at 0 [])
   same_end outputs true from at e = rw e refl
   same_end outputs false from at e = rw e refl
 
   pub same_output : (outputs : List PlannedOutput) (rest : List PlannedBlock) (from at size : ℕ)
-      → map (piece_blocks outputs) (places_from output limit from at size rest) ≡ map (λ (p : Piece). slice_range (blocks_at outputs output) p.from p.to) (places_from output limit from at size rest)
+      → map (piece_blocks outputs) (piece_places_from output limit from at size rest) ≡ map (λ (p : Piece). slice_range (blocks_at outputs output) p.from p.to) (piece_places_from output limit from at size rest)
   same_output outputs [] from at size = same_end outputs (nat_lt from at) from at refl
   same_output outputs (b ∷ bs) from at size =
       same_by outputs (nat_le limit (size + (b.len + 5))) b bs from at size refl (same_output outputs bs (at + 1) (at + 1) 0) (same_output outputs bs from (at + 1) (size + (b.len + 5)))
@@ -97,10 +97,10 @@ pub all_are : (limit : ℕ) (front outputs all : List PlannedOutput) (i : ℕ) �
 all_are limit front [] all i whole e = refl
 all_are limit front (p ∷ ps) all i whole e =
     let here : blocks_at all i ≡ p.blocks.items = ap (λ (ps : List PlannedOutput). blocks_at ps i) whole ∙ at_front front p ps i e in
-    let first : map (piece_blocks all) (places_from i limit 0 0 0 p.blocks.items) ≡ divided_behind limit [] p.blocks.items =
+    let first : map (piece_blocks all) (piece_places_from i limit 0 0 0 p.blocks.items) ≡ divided_behind limit [] p.blocks.items =
     same_output limit i all p.blocks.items 0 0 0 ∙ places_are limit i [] [] p.blocks.items (blocks_at all i) 0 0 0 here refl refl refl in
     let behind : all ≡ (front ++ p ∷ []) ++ ps = whole ∙ sym (append_assoc front (p ∷ []) ps) in
-    map-append (piece_blocks all) (places_from i limit 0 0 0 p.blocks.items) (places_all limit (i + 1) ps)
+    map-append (piece_blocks all) (piece_places_from i limit 0 0 0 p.blocks.items) (places_all limit (i + 1) ps)
     ∙ ap (λ (qs : List (List PlannedBlock)). qs ++ map (piece_blocks all) (places_all limit (i + 1) ps)) first
     ∙ ap (λ (qs : List (List PlannedBlock)). divided_behind limit [] p.blocks.items ++ qs) (all_are limit (front ++ p ∷ []) ps all (i + 1) behind (omega (arith, length_push front p)))
 

@@ -9,18 +9,18 @@ use Rattle.std.proofs.lemmas.List.{length-append, length_push, length-map}
 use Rattle.std.proofs.lemmas.List.Sums.{sum_by-cons}
 use Rattle.coding.specs.Answers.{EqualOrMemory}
 use Rattle.coding.specs.declared.fault.Fault.{Fault}
-use Rattle.block.specs.Piece.{Entry}
-use Rattle.block.specs.Writing.{block}
+use Rattle.block.specs.EncodedEntry.{Entry}
+use Rattle.block.specs.BlockFormat.{block}
 use Rattle.table.specs.declared.options.Options.{Options}
 use Rattle.table.specs.DataBlocks.{data_blocks}
 use Rattle.table.specs.Table.{stored_blocks, table}
 use Rattle.encoding.specs.declared.planned_block.PlannedBlock.{PlannedBlock}
 use Rattle.cut.specs.declared.piece.Piece.{Piece}
 use Rattle.cut.specs.declared.planned_output.PlannedOutput.{PlannedOutput}
-use Rattle.cut.specs.Divided.{blocks_at, piece_blocks, places_from, places_all, piece_limit}
+use Rattle.cut.specs.Divided.{blocks_at, piece_blocks, piece_places_from, places_all, piece_limit}
 use Rattle.cut.specs.Opened.{parts_of, entries_in_blocks, HasLen}
 use Rattle.cut.specs.Plan.{parts, pieces, pieces_in}
-use Rattle.cut.specs.Planning.{planned_of, block_count, IsPlannedOutput, IsPlan, lists_in}
+use Rattle.cut.specs.OutputPlan.{planned_of, block_count, IsPlannedOutput, IsPlan, lists_in}
 use Rattle.cut.specs.TableLength.{lens_of}
 use Rattle.cut.proofs.PiecePlaces.{IsShort, all_are, pieces_are}
 use Rattle.cut.proofs.TableLengths.{exact_one, length-table, stored_more}
@@ -69,17 +69,17 @@ pub record IsPlaceOf (output count : ℕ) (p : Piece) : Type 0 where
 
 module _ (output limit count : ℕ) where
   place_by : (full : Bool) (b : PlannedBlock) (bs : List PlannedBlock) (from place size : ℕ) → nat_le limit (size + (b.len + 5)) ≡ full → from ≤ place → place + 1 ≤ count
-      → AllByRecursion (IsPlaceOf output count) (places_from output limit (place + 1) (place + 1) 0 bs)
-      → AllByRecursion (IsPlaceOf output count) (places_from output limit from (place + 1) (size + (b.len + 5)) bs)
-      → AllByRecursion (IsPlaceOf output count) (places_from output limit from place size (b ∷ bs))
+      → AllByRecursion (IsPlaceOf output count) (piece_places_from output limit (place + 1) (place + 1) 0 bs)
+      → AllByRecursion (IsPlaceOf output count) (piece_places_from output limit from (place + 1) (size + (b.len + 5)) bs)
+      → AllByRecursion (IsPlaceOf output count) (piece_places_from output limit from place size (b ∷ bs))
   place_by true b bs from place size full rises within ended grown = rw full (record { of = refl; rises = omega arith; within = within }, ended)
   place_by false b bs from place size full rises within ended grown = rw full grown
 
-  place_end : (some : Bool) (from place size : ℕ) → nat_lt from place ≡ some → from ≤ place → place ≤ count → AllByRecursion (IsPlaceOf output count) (places_from output limit from place size [])
+  place_end : (some : Bool) (from place size : ℕ) → nat_lt from place ≡ some → from ≤ place → place ≤ count → AllByRecursion (IsPlaceOf output count) (piece_places_from output limit from place size [])
   place_end true from place size is rises within = rw is (record { of = refl; rises = rises; within = within }, tt)
   place_end false from place size is rises within = rw is tt
 
-  places_of : (blocks : List PlannedBlock) (from place size : ℕ) → from ≤ place → place + length blocks ≡ count → AllByRecursion (IsPlaceOf output count) (places_from output limit from place size blocks)
+  places_of : (blocks : List PlannedBlock) (from place size : ℕ) → from ≤ place → place + length blocks ≡ count → AllByRecursion (IsPlaceOf output count) (piece_places_from output limit from place size blocks)
   places_of [] from place size rises end = place_end (nat_lt from place) from place size refl rises (omega arith)
   places_of (b ∷ bs) from place size rises end =
       place_by (nat_le limit (size + (b.len + 5))) b bs from place size refl rises (omega arith) (places_of bs (place + 1) (place + 1) 0 (omega arith) (omega arith)) (places_of bs from (place + 1) (size + (b.len + 5)) (omega arith) (omega arith))
@@ -97,8 +97,8 @@ places_stand limit front (p ∷ ps) all i whole e =
     let count : length (blocks_at all i) ≡ length p.blocks.items = ap length here in
     let inside : i < length all = omega (arith, ap length whole, length-append front (p ∷ ps)) in
     let behind : all ≡ (front ++ p ∷ []) ++ ps = whole ∙ sym (append_assoc front (p ∷ []) ps) in
-    both (IsPlace all) (places_from i limit 0 0 0 p.blocks.items) (places_all limit (i + 1) ps)
-    (each (IsPlaceOf i (length p.blocks.items)) (IsPlace all) (places_from i limit 0 0 0 p.blocks.items)
+    both (IsPlace all) (piece_places_from i limit 0 0 0 p.blocks.items) (places_all limit (i + 1) ps)
+    (each (IsPlaceOf i (length p.blocks.items)) (IsPlace all) (piece_places_from i limit 0 0 0 p.blocks.items)
     (λ x h. record { output = omega (arith, h.of); rises = h.rises; within = subst (λ (k : ℕ). x.to ≤ length (blocks_at all k)) (sym h.of) (omega (arith, h.within, count)) })
     (places_of i limit (length p.blocks.items) p.blocks.items 0 0 0 (omega arith) (omega arith)))
     (places_stand limit (front ++ p ∷ []) ps all (i + 1) behind (omega (arith, length_push front p)))
@@ -196,23 +196,23 @@ bytes_are (Err e) bytes found answer is = tt
 -- ---- how many pieces there are
 
 module _ (output limit : ℕ) where
-  end_le : (some : Bool) (from place size : ℕ) → nat_lt from place ≡ some → length (places_from output limit from place size []) ≤ 1
+  end_le : (some : Bool) (from place size : ℕ) → nat_lt from place ≡ some → length (piece_places_from output limit from place size []) ≤ 1
   end_le true from place size is = rw is (omega arith)
   end_le false from place size is = rw is (omega arith)
 
-  step_le : (full : Bool) (b : PlannedBlock) (bs : List PlannedBlock) (from place size most : ℕ) → nat_le limit (size + (b.len + 5)) ≡ full → 1 + length (places_from output limit (place + 1) (place + 1) 0 bs) ≤ most
-      → length (places_from output limit from (place + 1) (size + (b.len + 5)) bs) ≤ most → length (places_from output limit from place size (b ∷ bs)) ≤ most
+  step_le : (full : Bool) (b : PlannedBlock) (bs : List PlannedBlock) (from place size most : ℕ) → nat_le limit (size + (b.len + 5)) ≡ full → 1 + length (piece_places_from output limit (place + 1) (place + 1) 0 bs) ≤ most
+      → length (piece_places_from output limit from (place + 1) (size + (b.len + 5)) bs) ≤ most → length (piece_places_from output limit from place size (b ∷ bs)) ≤ most
   step_le true b bs from place size most full ended grown = rw full (omega (arith, ended))
   step_le false b bs from place size most full ended grown = rw full grown
 
-  open_le : (bs : List PlannedBlock) (from place size : ℕ) → length (places_from output limit from place size bs) ≤ length bs + 1
+  open_le : (bs : List PlannedBlock) (from place size : ℕ) → length (piece_places_from output limit from place size bs) ≤ length bs + 1
   open_le [] from place size = let one = end_le (nat_lt from place) from place size refl in omega (arith, one)
   open_le (b ∷ bs) from place size =
       let ended = open_le bs (place + 1) (place + 1) 0 in
       let grown = open_le bs from (place + 1) (size + (b.len + 5)) in
       step_le (nat_le limit (size + (b.len + 5))) b bs from place size (length (b ∷ bs) + 1) refl (omega (arith, ended)) (omega (arith, grown))
 
-  closed_le : (bs : List PlannedBlock) (place size : ℕ) → length (places_from output limit place place size bs) ≤ length bs
+  closed_le : (bs : List PlannedBlock) (place size : ℕ) → length (piece_places_from output limit place place size bs) ≤ length bs
   closed_le [] place size = rw (le-ltb place place (omega arith)) (omega arith)
   closed_le (b ∷ bs) place size =
       let ended = closed_le bs (place + 1) 0 in
@@ -226,4 +226,4 @@ places_few limit i (p ∷ ps) =
     let here = closed_le i limit p.blocks.items 0 0 in
     let behind = places_few limit (i + 1) ps in
     let sum = sum_by-cons (λ (x : PlannedOutput). length x.blocks.items) p ps in
-    omega (arith, length-append (places_from i limit 0 0 0 p.blocks.items) (places_all limit (i + 1) ps), here, behind, sum)
+    omega (arith, length-append (piece_places_from i limit 0 0 0 p.blocks.items) (places_all limit (i + 1) ps), here, behind, sum)

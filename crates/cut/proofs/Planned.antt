@@ -9,7 +9,7 @@ use Rattle.std.proofs.lemmas.List.{length-append, length-map}
 use Rattle.std.proofs.lemmas.List.Sums.{sum_by-cons}
 use Rattle.coding.specs.Answers.{fault}
 use Rattle.coding.specs.declared.fault.FaultName.TheVariants.{Numbers, TooLarge}
-use Rattle.block.specs.Piece.{Entry}
+use Rattle.block.specs.EncodedEntry.{Entry}
 use Rattle.table.specs.declared.options.Options.{Options}
 use Rattle.table.specs.Options.{AreInLimits}
 use Rattle.table.specs.DataBlocks.{data_blocks, AreDataBlocks}
@@ -20,10 +20,10 @@ use Rattle.cut.specs.declared.piece.Piece.{Piece}
 use Rattle.cut.specs.declared.planned_output.PlannedOutput.{PlannedOutput}
 use Rattle.cut.specs.Divided.{places_all, counts_all, piece_limit}
 use Rattle.cut.specs.Opened.{parts_of, entries_in_blocks, ArePlanned}
-use Rattle.cut.specs.Plan.{Planned, ends_from, planned_from, parts, plan_of}
-use Rattle.cut.specs.Planning.{planned_of, HaveEntries, numbered_from, block_count, IsPlannedOutput, IsPlan}
-use Rattle.cut.specs.Sizes.{saturated}
-use Rattle.cut.specs.TableLength.{capped, table_size}
+use Rattle.cut.specs.Plan.{OutputView, block_ends_from, planned_from, parts, plan_of}
+use Rattle.cut.specs.OutputPlan.{planned_of, HaveEntries, numbered_from, block_count, IsPlannedOutput, IsPlan}
+use Rattle.cut.specs.Sizes.{saturated_length}
+use Rattle.cut.specs.TableLength.{capped_length, table_size}
 use Rattle.cut.proofs.TableLengths.{size_is}
 
 -- ---- data blocks have entries
@@ -55,11 +55,11 @@ pub record IsMade (o : Options) (ended : List (Vec PlannedBlock)) (outputs : Lis
 abbrev pub are_small : List PlannedOutput → Bool
 are_small outputs = list_all (λ (p : PlannedOutput). nat_le p.len (2 ^ 30)) outputs && nat_le (block_count outputs) (2 ^ 40)
 
-pub count_le : (n : ℕ) → nat_le (saturated n) (2 ^ 40) ≡ nat_le n (2 ^ 40)
+pub count_le : (n : ℕ) → nat_le (saturated_length n) (2 ^ 40) ≡ nat_le n (2 ^ 40)
 count_le n =
     elim (cases_lt (2 ^ 40) n) [
-      | inl over ↦ lt-leb (saturated n) (2 ^ 40) (omega arith) ∙ sym (lt-leb n (2 ^ 40) over)
-      | inr within ↦ le-leb (saturated n) (2 ^ 40) (omega arith) ∙ sym (le-leb n (2 ^ 40) within)
+      | inl over ↦ lt-leb (saturated_length n) (2 ^ 40) (omega arith) ∙ sym (lt-leb n (2 ^ 40) over)
+      | inr within ↦ le-leb (saturated_length n) (2 ^ 40) (omega arith) ∙ sym (le-leb n (2 ^ 40) within)
     ]
 
 -- ---- one output more
@@ -81,11 +81,11 @@ module _ (cmp : List ℕ → List ℕ → Ordering) (separator_of : List ℕ →
 
   -- ---- the limits
 
-  capped_le : (n : ℕ) → nat_le (capped n) (2 ^ 30) ≡ nat_le n (2 ^ 30)
+  capped_le : (n : ℕ) → nat_le (capped_length n) (2 ^ 30) ≡ nat_le n (2 ^ 30)
   capped_le n =
       elim (cases_lt (2 ^ 30) n) [
-        | inl over ↦ lt-leb (capped n) (2 ^ 30) (omega arith) ∙ sym (lt-leb n (2 ^ 30) over)
-        | inr within ↦ le-leb (capped n) (2 ^ 30) (omega arith) ∙ sym (le-leb n (2 ^ 30) within)
+        | inl over ↦ lt-leb (capped_length n) (2 ^ 30) (omega arith) ∙ sym (lt-leb n (2 ^ 30) over)
+        | inr within ↦ le-leb (capped_length n) (2 ^ 30) (omega arith) ∙ sym (le-leb n (2 ^ 30) within)
       ]
 
   small_is : (number : ℕ) (ended : List (Vec PlannedBlock)) → AllByRecursion (λ (b : Vec PlannedBlock). ArePlanned o b.items) ended
@@ -117,10 +117,10 @@ module _ (cmp : List ℕ → List ℕ → Ordering) (separator_of : List ℕ →
   planned_is number (b ∷ bs) h small =
       let both = and_parts (nat_le (size b.items) (2 ^ 30)) (list_all (λ (p : PlannedOutput). nat_le p.len (2 ^ 30)) (numbered_from size (number + 1) bs)) small in
       let q = entries_in_blocks b.items in
-      let one : Planned → List Planned = λ p. p ∷ map planned_of (numbered_from size (number + 1) bs) in
-      ap (λ (n : ℕ). one (record { number = number; entries = q; blocks = ends_from 0 (parts_of b.items); length = n })) (exact b h.0 (leb-true (size b.items) (2 ^ 30) both.0))
-      ∙ ap (λ (ps : List (List Entry)). one (record { number = number; entries = q; blocks = ends_from 0 ps; length = length (T q) })) h.0.cut
-      ∙ ap (λ (ps : List Planned). record { number = number; entries = q; blocks = ends_from 0 (data_blocks o q); length = length (T q) } ∷ ps) (planned_is (number + 1) bs h.1 both.1)
+      let one : OutputView → List OutputView = λ p. p ∷ map planned_of (numbered_from size (number + 1) bs) in
+      ap (λ (n : ℕ). one (record { number = number; entries = q; blocks = block_ends_from 0 (parts_of b.items); length = n })) (exact b h.0 (leb-true (size b.items) (2 ^ 30) both.0))
+      ∙ ap (λ (ps : List (List Entry)). one (record { number = number; entries = q; blocks = block_ends_from 0 ps; length = length (T q) })) h.0.cut
+      ∙ ap (λ (ps : List OutputView). record { number = number; entries = q; blocks = block_ends_from 0 (data_blocks o q); length = length (T q) } ∷ ps) (planned_is (number + 1) bs h.1 both.1)
 
   each_is : (number : ℕ) (ended : List (Vec PlannedBlock)) → AllByRecursion (λ (b : Vec PlannedBlock). ArePlanned o b.items) ended → AllByRecursion (λ (b : Vec PlannedBlock). HaveEntries b.items) ended
       → list_all (λ (p : PlannedOutput). nat_le p.len (2 ^ 30)) (numbered_from size number ended) ≡ true → AllByRecursion (IsPlannedOutput T o) (numbered_from size number ended)

@@ -4,20 +4,20 @@ use Rattle.std.specs.Prelude.{flat_map}
 use Rattle.std.specs.List.{AllByRecursion}
 use Rattle.std.specs.declared.cmp.Ordering.{Ordering}
 use Rattle.std.proofs.lemmas.List.{length-map, map-append, take_at, drop_at, drop_more}
-use Rattle.block.specs.Piece.{Entry}
+use Rattle.block.specs.EncodedEntry.{Entry}
 use Rattle.table.specs.declared.options.Options.{Options}
-use Rattle.table.specs.Table.{IndexKeys, index_keys, stored_blocks, table, table_of}
+use Rattle.table.specs.Table.{IndexKeys, index_keys, stored_blocks, table, table_of_blocks}
 use Rattle.encoding.specs.declared.planned_block.PlannedBlock.{PlannedBlock}
 use Rattle.encoding.specs.Planned.{IsPlanned}
 use Rattle.cut.specs.declared.piece.Piece.{Piece}
 use Rattle.cut.specs.declared.planned_output.PlannedOutput.{PlannedOutput}
-use Rattle.cut.specs.Assembling.{IsReady, AreReady, tables_of}
-use Rattle.cut.specs.Divided.{places_from, counts_all, piece_limit}
+use Rattle.cut.specs.PlanTables.{IsReady, AreReady, tables_of}
+use Rattle.cut.specs.Divided.{piece_places_from, counts_all, piece_limit}
 use Rattle.cut.specs.Opened.{parts_of, entries_in_blocks, HasLen, ArePlanned}
-use Rattle.cut.specs.Plan.{assembled, encoded, pieces_in}
-use Rattle.cut.specs.Planning.{planned_of, block_count, IsPlannedOutput, IsPlan, lists_in}
+use Rattle.cut.specs.Plan.{plan_tables, encoded_pieces, pieces_in}
+use Rattle.cut.specs.OutputPlan.{planned_of, block_count, IsPlannedOutput, IsPlan, lists_in}
 use Rattle.std.specs.Prelude.{slice_range}
-use Rattle.cut.proofs.Joining.{pieces_join}
+use Rattle.cut.proofs.JoinedPieces.{pieces_join}
 use Rattle.cut.proofs.PiecePlaces.{divided_behind, places_are, one_are}
 use Rattle.cut.proofs.PlanPieces.{short_one, lists_seen, count_seen}
 
@@ -92,9 +92,9 @@ each_planned o [] h some = tt
 each_planned o (b ∷ bs) h some = (record { some = some.0; len_is = h.0 }, each_planned o bs h.1 some.1)
 
 table_is : (cmp : List ℕ → List ℕ → Ordering) (separator_of : List ℕ → List ℕ → List ℕ) (successor_of : List ℕ → List ℕ) (o : Options) (blocks : List PlannedBlock) → ArePlanned o blocks
-    → table cmp separator_of successor_of o (entries_in_blocks blocks) ≡ table_of (index_keys cmp separator_of successor_of) o.restart_interval (parts_of blocks)
+    → table cmp separator_of successor_of o (entries_in_blocks blocks) ≡ table_of_blocks (index_keys cmp separator_of successor_of) o.restart_interval (parts_of blocks)
 unfolding table
-table_is cmp separator_of successor_of o blocks h = ap (table_of (index_keys cmp separator_of successor_of) o.restart_interval) (sym h.cut)
+table_is cmp separator_of successor_of o blocks h = ap (table_of_blocks (index_keys cmp separator_of successor_of) o.restart_interval) (sym h.cut)
 
 pub counts_len : (limit i : ℕ) (outputs : List PlannedOutput) → length (counts_all limit i outputs) ≡ length outputs
 counts_len limit i [] = refl
@@ -121,7 +121,7 @@ module _ (cmp : List ℕ → List ℕ → Ordering) (separator_of : List ℕ →
       let short = short_one cmp separator_of successor_of o p h.0 in
       let own : List (List ℕ) = bytes (pieces_in o n q) in
       let rest : List (List ℕ) = bytes (flat_map (pieces_in o n) (lists ps)) in
-      let places : List Piece = places_from i (piece_limit n) 0 0 0 blocks in
+      let places : List Piece = piece_places_from i (piece_limit n) 0 0 0 blocks in
       let split : bytes (pieces_in o n q ++ flat_map (pieces_in o n) (lists ps)) ≡ own ++ rest = map-append (stored_blocks o.restart_interval) (pieces_in o n q) (flat_map (pieces_in o n) (lists ps)) in
       let count : length own ≡ length places =
       length-map (pieces_in o n q) (stored_blocks o.restart_interval)
@@ -131,7 +131,7 @@ module _ (cmp : List ℕ → List ℕ → Ordering) (separator_of : List ℕ →
       ∙ length-map places (λ (x : Piece). slice_range blocks x.from x.to) in
       let front : own ≡ take (length places) (bytes (flat_map (pieces_in o n) (lists (p ∷ ps)))) = all_taken own rest (bytes (flat_map (pieces_in o n) (lists (p ∷ ps)))) (length places) (sym split) count in
       let behind : rest ≡ drop (length places) (bytes (flat_map (pieces_in o n) (lists (p ∷ ps)))) = all_left own rest (bytes (flat_map (pieces_in o n) (lists (p ∷ ps)))) (length places) (sym split) count in
-      let table_eq : T q ≡ table_of keys o.restart_interval (parts_of blocks) = table_is cmp separator_of successor_of o blocks h.0.planned in
+      let table_eq : T q ≡ table_of_blocks keys o.restart_interval (parts_of blocks) = table_is cmp separator_of successor_of o blocks h.0.planned in
       let joined : flat_map (λ (piece : List ℕ). piece) own ≡ stored_blocks o.restart_interval (parts_of blocks) =
       flat_of (stored_blocks o.restart_interval) (pieces_in o n q) ∙ pieces_join o n q ∙ ap (stored_blocks o.restart_interval) (sym h.0.planned.cut) in
       let is_ready : IsReady keys o.restart_interval p own = record {
@@ -143,16 +143,16 @@ module _ (cmp : List ℕ → List ℕ → Ordering) (separator_of : List ℕ →
         subst (AreReady keys o.restart_interval ps (counts_all (piece_limit n) (i + 1) ps)) behind (ready_all n (i + 1) ps h.1),
       )
 
-  pub plan_ready : (outputs : List PlannedOutput) (places : List Piece) (counts : List ℕ) → IsPlan T o outputs places counts → AreReady keys o.restart_interval outputs counts (encoded o (lists_in (map planned_of outputs)))
+  pub plan_ready : (outputs : List PlannedOutput) (places : List Piece) (counts : List ℕ) → IsPlan T o outputs places counts → AreReady keys o.restart_interval outputs counts (encoded_pieces o (lists_in (map planned_of outputs)))
   plan_ready outputs places counts h =
       let n = block_count outputs in
-      let whole : bytes (flat_map (pieces_in o n) (lists outputs)) ≡ encoded o (lists_in (map planned_of outputs)) =
+      let whole : bytes (flat_map (pieces_in o n) (lists outputs)) ≡ encoded_pieces o (lists_in (map planned_of outputs)) =
       ap (λ (k : ℕ). bytes (flat_map (pieces_in o k) (lists outputs))) (count_seen cmp separator_of successor_of o outputs h.each)
-      ∙ sym (ap (encoded o) (lists_seen cmp separator_of successor_of o outputs)) in
-      subst (λ (ns : List ℕ). AreReady keys o.restart_interval outputs ns (encoded o (lists_in (map planned_of outputs)))) (sym h.counts_are)
+      ∙ sym (ap (encoded_pieces o) (lists_seen cmp separator_of successor_of o outputs)) in
+      subst (λ (ns : List ℕ). AreReady keys o.restart_interval outputs ns (encoded_pieces o (lists_in (map planned_of outputs)))) (sym h.counts_are)
       (subst (AreReady keys o.restart_interval outputs (counts_all (piece_limit n) 0 outputs)) whole (ready_all n 0 outputs h.each))
 
-  pub tables_are : (outputs : List PlannedOutput) → AllByRecursion (IsPlannedOutput T o) outputs → tables_of keys o.restart_interval outputs ≡ assembled T (map planned_of outputs)
+  pub tables_are : (outputs : List PlannedOutput) → AllByRecursion (IsPlannedOutput T o) outputs → tables_of keys o.restart_interval outputs ≡ plan_tables T (map planned_of outputs)
   tables_are [] h = refl
   tables_are (p ∷ ps) h =
       ap (λ (bs : List ℕ). (p.number, bs) ∷ tables_of keys o.restart_interval ps) (sym (table_is cmp separator_of successor_of o p.blocks.items h.0.planned))

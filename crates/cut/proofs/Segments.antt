@@ -10,16 +10,16 @@ use Rattle.std.proofs.lemmas.Bool.{both_ways, lt-ltb, ltb-true}
 use Rattle.std.proofs.lemmas.Slice.Eq.{bytes_eq-Decides}
 use Rattle.ikey.specs.Comparator.{IsExact}
 use Rattle.ikey.specs.Key.{user_of}
-use Rattle.block.specs.Piece.{Entry}
+use Rattle.block.specs.EncodedEntry.{Entry}
 use Rattle.table.specs.declared.options.Options.{Options}
 use Rattle.edit.specs.declared.meta.FileMeta.{FileMeta}
-use Rattle.keep.specs.Keeping.{is_same_user, keeps, kept, kept_behind}
-use Rattle.keep.specs.Marks.{Below, grandparents_below, heads, heads_behind}
-use Rattle.merge.specs.Union.{version_cmp, VersionsRise}
+use Rattle.keep.specs.DropRule.{is_same_user, keeps, kept, kept_behind}
+use Rattle.keep.specs.Marks.{CompactionContext, grandparents_below, heads, heads_behind}
+use Rattle.merge.specs.Union.{key_version_cmp, VersionsRise}
 use Rattle.cut.specs.Outputs.{all_of, outputs, outputs_in, segments, AreOutputs}
 use Rattle.cut.specs.Segments.{AreSegments, BeginsSegment, EachReachesNext, ReachesNext, SegmentsLaw}
 use Rattle.cut.specs.Stops.{size_between, stops, stops_behind}
-use Rattle.cut.proofs.Outputting.{outputs_law}
+use Rattle.cut.proofs.SegmentOutputs.{outputs_law}
 
 -- ---- lists
 
@@ -115,7 +115,7 @@ module _ (cmp : List ℕ → List ℕ → Ordering) where
   rises_front [] ys h = tt
   rises_front (x ∷ xs) ys h = (front xs h.0, rises_front xs ys h.1)
     where
-      front : (zs : List Entry) → AllByRecursion (λ (f : Entry). version_cmp cmp x.key f.key ≡ Less) (zs ++ ys) → AllByRecursion (λ (f : Entry). version_cmp cmp x.key f.key ≡ Less) zs
+      front : (zs : List Entry) → AllByRecursion (λ (f : Entry). key_version_cmp cmp x.key f.key ≡ Less) (zs ++ ys) → AllByRecursion (λ (f : Entry). key_version_cmp cmp x.key f.key ≡ Less) zs
       front [] k = tt
       front (z ∷ zs) k = (k.0, front zs k.1)
 
@@ -125,7 +125,7 @@ module _ (cmp : List ℕ → List ℕ → Ordering) where
 
 -- ---- what is kept
 
-module _ (cmp : List ℕ → List ℕ → Ordering) (b : Below) (size : ℕ) where
+module _ (cmp : List ℕ → List ℕ → Ordering) (b : CompactionContext) (size : ℕ) where
   abbrev gs : List FileMeta
   gs = b.grandparents
 
@@ -169,7 +169,7 @@ module _ (cmp : List ℕ → List ℕ → Ordering) (b : Below) (size : ℕ) whe
   kept_rises before (e ∷ es) h = around (is_kept before e) (kept_rises (Some e) es h.1)
     where
       around : (k : Bool) → VersionsRise cmp (keep (Some e) es) → VersionsRise cmp ((if k then e ∷ [] else []) ++ keep (Some e) es)
-      around true rest = (kept_all (λ (f : Entry). version_cmp cmp e.key f.key ≡ Less) (Some e) es h.0, rest)
+      around true rest = (kept_all (λ (f : Entry). key_version_cmp cmp e.key f.key ≡ Less) (Some e) es h.0, rest)
       around false rest = rest
 
   -- ---- the stops

@@ -10,8 +10,8 @@ use Rattle.keep.specs.declared.mark.Mark.{Mark}
 use Rattle.cut.specs.declared.stops.Overlap.{Overlap}
 use Rattle.cut.specs.declared.stops.Stopping.{Stopping}
 use Rattle.cut.specs.Stops.{size_between, is_stop, stops_behind}
-use Rattle.cut.specs.Stopping.{room_left, stops_since, all_stops, IsCounted, AreCounted}
-use Rattle.cut.proofs.Stopping.{running, none_between}
+use Rattle.cut.specs.OverlapStops.{room_left, stops_since, all_stops, HasOverlapRoom, AreCounted}
+use Rattle.cut.proofs.RepeatedMarks.{running, none_between}
 
 -- the sizes of files together
 abbrev pub sizes : List FileMeta → ℕ
@@ -63,20 +63,20 @@ to_the_further gs first middle last le = elim (cases_lt last middle) [
 -- ---- marks
 
 -- where room is left there is no stop
-pub no_stop : (gs : List FileMeta) (size : ℕ) (o : Overlap) (m : Mark) (left : ℕ) → IsCounted gs size o → room_left o.room (size_between gs o.counted m.below) ≡ Some left → is_stop gs size o.since m ≡ false
+pub no_stop : (gs : List FileMeta) (size : ℕ) (o : Overlap) (m : Mark) (left : ℕ) → HasOverlapRoom gs size o → room_left o.room (size_between gs o.counted m.below) ≡ Some left → is_stop gs size o.since m ≡ false
 no_stop gs size o m left h e =
     le-ltb (10 * size) (size_between gs o.since m.below)
     (omega (arith, some_left o.room (size_between gs o.counted m.below) left e, h.room, to_the_further gs o.since o.counted m.below h.rises, at_most gs o.since m.below (max o.counted m.below) (omega arith)))
 
-pub counted_further : (gs : List FileMeta) (size : ℕ) (o : Overlap) (below left : ℕ) → IsCounted gs size o → room_left o.room (size_between gs o.counted below) ≡ Some left
-    → IsCounted gs size (record { since = o.since; counted = max o.counted below; room = left })
+pub counted_further : (gs : List FileMeta) (size : ℕ) (o : Overlap) (below left : ℕ) → HasOverlapRoom gs size o → room_left o.room (size_between gs o.counted below) ≡ Some left
+    → HasOverlapRoom gs size (record { since = o.since; counted = max o.counted below; room = left })
 counted_further gs size o below left h e = record {
   rises = omega (arith, h.rises);
   room = omega (arith, some_left o.room (size_between gs o.counted below) left e, h.room, to_the_further gs o.since o.counted below h.rises);
 }
 
 -- where none is left there is a stop
-pub a_stop : (gs : List FileMeta) (size : ℕ) (o : Overlap) (m : Mark) → IsCounted gs size o → room_left o.room (size_between gs o.counted m.below) ≡ None → is_stop gs size o.since m ≡ true
+pub a_stop : (gs : List FileMeta) (size : ℕ) (o : Overlap) (m : Mark) → HasOverlapRoom gs size o → room_left o.room (size_between gs o.counted m.below) ≡ None → is_stop gs size o.since m ≡ true
 a_stop gs size o m h e =
     let more = none_left o.room (size_between gs o.counted m.below) e in
     lt-ltb (10 * size) (size_between gs o.since m.below) (elim (cases_lt m.below o.counted) [
@@ -85,7 +85,7 @@ a_stop gs size o m h e =
     ])
 
 -- nothing is counted yet
-pub counted_none : (gs : List FileMeta) (size below limit : ℕ) → limit ≡ 10 * size → IsCounted gs size (record { since = below; counted = below; room = limit })
+pub counted_none : (gs : List FileMeta) (size below limit : ℕ) → limit ≡ 10 * size → HasOverlapRoom gs size (record { since = below; counted = below; room = limit })
 counted_none gs size below limit e = record { rises = omega arith; room = omega (arith, e, none_between gs size below) }
 
 passes_mark : (gs : List FileMeta) (size since : ℕ) (m : Mark) (rest : List Mark) → is_stop gs size since m ≡ false → stops_behind gs size since (m ∷ rest) ≡ stops_behind gs size since rest
@@ -96,8 +96,8 @@ stops_at_mark gs size since m rest s = rw s refl
 
 -- ---- one mark is passed
 
-counted_at : (gs : List FileMeta) (size : ℕ) (s : Stopping) (o : Overlap) → AreCounted gs size s → s.overlap ≡ Some o → IsCounted gs size o
-counted_at gs size s o h is = subst (λ (x : Option Overlap). IfSome x (IsCounted gs size)) is h
+counted_at : (gs : List FileMeta) (size : ℕ) (s : Stopping) (o : Overlap) → AreCounted gs size s → s.overlap ≡ Some o → HasOverlapRoom gs size o
+counted_at gs size s o h is = subst (λ (x : Option Overlap). IfSome x (HasOverlapRoom gs size)) is h
 
 -- what is passed at a number, where so much room is left
 abbrev pub overlap_at : Overlap → ℕ → ℕ → Overlap
@@ -114,10 +114,10 @@ mapped_some : (f : ℕ → Overlap) (x : Option ℕ) (o : Overlap) → option_ma
 mapped_some f None o e = absurd (none-some o e)
 mapped_some f (Some left) o e = (left, refl, same_Some (f left) o e)
 
-pub counted_next : (gs : List FileMeta) (size : ℕ) (s : Stopping) (o further : Overlap) (below : ℕ) → AreCounted gs size s → s.overlap ≡ Some o → next_overlap gs o below ≡ Some further → IsCounted gs size further
+pub counted_next : (gs : List FileMeta) (size : ℕ) (s : Stopping) (o further : Overlap) (below : ℕ) → AreCounted gs size s → s.overlap ≡ Some o → next_overlap gs o below ≡ Some further → HasOverlapRoom gs size further
 counted_next gs size s o further below h is next =
     let found = mapped_some (overlap_at o below) (room_left o.room (size_between gs o.counted below)) further next in
-    subst (IsCounted gs size) found.2 (counted_further gs size o below found.0 (counted_at gs size s o h is) found.1)
+    subst (HasOverlapRoom gs size) found.2 (counted_further gs size o below found.0 (counted_at gs size s o h is) found.1)
 
 pub goes_on : (gs : List FileMeta) (size : ℕ) (s : Stopping) (o further : Overlap) (m : Mark) (rest : List Mark) → AreCounted gs size s → s.overlap ≡ Some o → next_overlap gs o m.below ≡ Some further
     → s.places.items ++ stops_behind gs size further.since rest ≡ all_stops gs size s (m ∷ rest)

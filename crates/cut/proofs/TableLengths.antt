@@ -11,41 +11,41 @@ use Rattle.std.proofs.Math.ListN.{drop_of_length-le}
 use Rattle.std.proofs.Math.Nat.{mod-one}
 use Rattle.coding.specs.Varint.{varint}
 use Rattle.ikey.specs.Short.{internal_separator_of, internal_successor_of}
-use Rattle.block.specs.Piece.{Entry, piece_bytes}
-use Rattle.block.specs.Writing.{block}
-use Rattle.block.specs.Building.{last_key}
+use Rattle.block.specs.EncodedEntry.{Entry, encoded_entry_bytes}
+use Rattle.block.specs.BlockFormat.{block}
+use Rattle.block.specs.BuilderView.{last_key}
 use Rattle.block.proofs.Written.{piece_at_restart}
 use Rattle.frame.specs.Handle.{handle_bytes}
-use Rattle.frame.specs.Trailer.{stored}
+use Rattle.frame.specs.Trailer.{stored_block}
 use Rattle.frame.proofs.Stored.{length-stored}
 use Rattle.table.specs.declared.options.Options.{Options}
 use Rattle.table.specs.ReadingEntries.{first_key}
-use Rattle.table.specs.Table.{IndexKeys, index_key, index_keys, index_from, handle_entry, closing, stored_blocks, table, table_of}
+use Rattle.table.specs.Table.{IndexKeys, index_key, index_keys, index_from, handle_entry, closing_bytes, stored_blocks, table, table_of_blocks}
 use Rattle.encoding.specs.declared.planned_block.PlannedBlock.{PlannedBlock}
 use Rattle.cut.specs.Lengths.{added_len}
-use Rattle.cut.specs.Metered.{ended}
+use Rattle.cut.specs.Metered.{last_entry_key}
 use Rattle.cut.specs.Opened.{parts_of, entries_in_blocks, HasLen, ArePlanned}
 use Rattle.cut.specs.Plan.{stored_len}
-use Rattle.cut.specs.Sizes.{saturated, piece_size}
-use Rattle.cut.specs.TableLength.{capped, lens_of, key_at, index_of, index_sizes, table_size}
+use Rattle.cut.specs.Sizes.{saturated_length, encoded_entry_size}
+use Rattle.cut.specs.TableLength.{capped_length, lens_of, planned_index_key, planned_index_entries, index_sizes, table_size}
 use Rattle.cut.proofs.Metered.{length-piece}
-use Rattle.cut.proofs.Metering.{lengths_law}
+use Rattle.cut.proofs.MeteredLengths.{lengths_law}
 
 -- ---- an index block
 
-whole_piece : (before : List ℕ) (e : Entry) → length (piece_bytes (piece_at_restart true before e)) ≡ piece_size 0 (length e.key) (length e.value)
+whole_piece : (before : List ℕ) (e : Entry) → length (encoded_entry_bytes (piece_at_restart true before e)) ≡ encoded_entry_size 0 (length e.key) (length e.value)
 whole_piece before e = length-piece (piece_at_restart true before e)
 
-added_at : (place : ℕ) (before : List ℕ) (e : Entry) → place ≡ 0 → length (piece_bytes (piece_at_restart (eqb place 0) before e)) + cond (eqb place 0) 4 0 ≡ piece_size 0 (length e.key) (length e.value) + 4
+added_at : (place : ℕ) (before : List ℕ) (e : Entry) → place ≡ 0 → length (encoded_entry_bytes (piece_at_restart (eqb place 0) before e)) + cond (eqb place 0) 4 0 ≡ encoded_entry_size 0 (length e.key) (length e.value) + 4
 added_at place before e none = rw none (ap (λ (n : ℕ). n + 4) (whole_piece before e))
 
-added_first : (place : ℕ) (e : Entry) → place ≡ 0 → length (piece_bytes (piece_at_restart (eqb place 0) [] e)) + 0 ≡ piece_size 0 (length e.key) (length e.value)
+added_first : (place : ℕ) (e : Entry) → place ≡ 0 → length (encoded_entry_bytes (piece_at_restart (eqb place 0) [] e)) + 0 ≡ encoded_entry_size 0 (length e.key) (length e.value)
 added_first place e none = rw none (omega (arith, whole_piece [] e))
 
 index_more : (x : Entry) (xs es : List Entry) → length (block 1 ((x ∷ xs) ++ es)) ≡ length (block 1 (x ∷ xs)) + index_sizes es
 index_more x xs [] = ap (λ (q : List Entry). length (block 1 q)) (append-nil (x ∷ xs)) ∙ omega arith
 index_more x xs (e ∷ es) =
-    let added : added_len 1 (x ∷ xs) e ≡ piece_size 0 (length e.key) (length e.value) + 4 = added_at (length (x ∷ xs) % 1) (last_key x.key xs) e (mod-one (length (x ∷ xs))) in
+    let added : added_len 1 (x ∷ xs) e ≡ encoded_entry_size 0 (length e.key) (length e.value) + 4 = added_at (length (x ∷ xs) % 1) (last_key x.key xs) e (mod-one (length (x ∷ xs))) in
     ap (λ (q : List Entry). length (block 1 q)) (sym (append_assoc (x ∷ xs) (e ∷ []) es))
     ∙ index_more x (xs ++ e ∷ []) es
     ∙ omega (arith, lengths_law.more 1 (x ∷ xs) e, added)
@@ -53,7 +53,7 @@ index_more x xs (e ∷ es) =
 pub length-index : (es : List Entry) → es ≢ [] → length (block 1 es) ≡ 4 + index_sizes es
 length-index [] some = absurd (some refl)
 length-index (e ∷ es) some =
-    let first : added_len 1 [] e ≡ piece_size 0 (length e.key) (length e.value) = added_first (0 % 1) e (mod-one 0) in
+    let first : added_len 1 [] e ≡ encoded_entry_size 0 (length e.key) (length e.value) = added_first (0 % 1) e (mod-one 0) in
     index_more e [] es ∙ omega (arith, lengths_law.more 1 [] e, lengths_law.none 1, first)
 
 -- ---- the lengths of planned blocks
@@ -62,10 +62,10 @@ pub lens_more : (blocks : List PlannedBlock) (i : ℕ) (b : PlannedBlock) → i 
 lens_more blocks i b lt is = sum_by-drop_more (λ (x : PlannedBlock). x.len + 5) blocks i b lt ∙ ap (λ (x : PlannedBlock). x.len + 5 + lens_of (drop (i + 1) blocks)) is
 
 pub index_step : (keys : IndexKeys) (at : ℕ) (blocks : List PlannedBlock) (i : ℕ) (b : PlannedBlock) → i < length blocks → get_or blocks i b ≡ b
-    → index_of keys at (drop i blocks) ≡ handle_entry (key_at keys (drop i blocks)) at b.len ∷ index_of keys (at + b.len + 5) (drop (i + 1) blocks)
+    → planned_index_entries keys at (drop i blocks) ≡ handle_entry (planned_index_key keys (drop i blocks)) at b.len ∷ planned_index_entries keys (at + b.len + 5) (drop (i + 1) blocks)
 index_step keys at blocks i b lt is =
     let front : drop i blocks ≡ b ∷ drop (i + 1) blocks = drop_more blocks i b lt ∙ ap (λ (x : PlannedBlock). x ∷ drop (i + 1) blocks) is in
-    ap (index_of keys at) front ∙ sym (ap (λ (bs : List PlannedBlock). handle_entry (key_at keys bs) at b.len ∷ index_of keys (at + b.len + 5) (drop (i + 1) blocks)) front)
+    ap (planned_index_entries keys at) front ∙ sym (ap (λ (bs : List PlannedBlock). handle_entry (planned_index_key keys bs) at b.len ∷ planned_index_entries keys (at + b.len + 5) (drop (i + 1) blocks)) front)
 
 pub length-handle : (offset size : ℕ) → length (handle_bytes offset size) ≡ length (varint offset) + length (varint size)
 unfolding handle_bytes
@@ -73,28 +73,28 @@ length-handle offset size = length-append (varint offset) (varint size)
 
 -- what is added up, and what is left of an index
 pub record IsIndexLen (keys : IndexKeys) (blocks : List PlannedBlock) (i offset len : ℕ) : Type 0 where
-  pub sizes : saturated (len + index_sizes (index_of keys offset (drop i blocks))) ≡ saturated (4 + index_sizes (index_of keys 0 blocks))
+  pub sizes : saturated_length (len + index_sizes (planned_index_entries keys offset (drop i blocks))) ≡ saturated_length (4 + index_sizes (planned_index_entries keys 0 blocks))
   pub offset_is : offset + lens_of (drop i blocks) ≡ lens_of blocks
   pub fits : len ≤ 2 ^ 64 - 1
 
-more_saturated : (len piece rest all : ℕ) → saturated (len + (piece + 4 + rest)) ≡ all → saturated (min (min (len + saturated piece) (2 ^ 64 - 1) + 4) (2 ^ 64 - 1) + rest) ≡ all
+more_saturated : (len piece rest all : ℕ) → saturated_length (len + (piece + 4 + rest)) ≡ all → saturated_length (min (min (len + saturated_length piece) (2 ^ 64 - 1) + 4) (2 ^ 64 - 1) + rest) ≡ all
 more_saturated len piece rest all h = omega arith
 
-pub index_len_more : (keys : IndexKeys) (blocks : List PlannedBlock) (i offset len : ℕ) (b : PlannedBlock) (key : List ℕ) (handle : ℕ) → i < length blocks → get_or blocks i b ≡ b → key ≡ key_at keys (drop i blocks)
+pub index_len_more : (keys : IndexKeys) (blocks : List PlannedBlock) (i offset len : ℕ) (b : PlannedBlock) (key : List ℕ) (handle : ℕ) → i < length blocks → get_or blocks i b ≡ b → key ≡ planned_index_key keys (drop i blocks)
     → handle ≡ length (varint offset) + length (varint b.len) → IsIndexLen keys blocks i offset len
-    → IsIndexLen keys blocks (i + 1) (offset + (b.len + 5)) (min (min (len + saturated (piece_size 0 (length key) handle)) (2 ^ 64 - 1) + 4) (2 ^ 64 - 1))
+    → IsIndexLen keys blocks (i + 1) (offset + (b.len + 5)) (min (min (len + saturated_length (encoded_entry_size 0 (length key) handle)) (2 ^ 64 - 1) + 4) (2 ^ 64 - 1))
 index_len_more keys blocks i offset len b key handle lt is key_is handle_is h =
-    let rest = index_of keys (offset + b.len + 5) (drop (i + 1) blocks) in
+    let rest = planned_index_entries keys (offset + b.len + 5) (drop (i + 1) blocks) in
     let place : offset + b.len + 5 ≡ offset + (b.len + 5) = omega arith in
     let value : length (handle_bytes offset b.len) ≡ handle = length-handle offset b.len ∙ sym handle_is in
-    let piece : piece_size 0 (length (key_at keys (drop i blocks))) (length (handle_bytes offset b.len)) ≡ piece_size 0 (length key) handle =
-    ap (λ (k : List ℕ). piece_size 0 (length k) (length (handle_bytes offset b.len))) (sym key_is) ∙ ap (piece_size 0 (length key)) value in
-    let step : index_sizes (index_of keys offset (drop i blocks)) ≡ piece_size 0 (length key) handle + 4 + index_sizes rest =
+    let piece : encoded_entry_size 0 (length (planned_index_key keys (drop i blocks))) (length (handle_bytes offset b.len)) ≡ encoded_entry_size 0 (length key) handle =
+    ap (λ (k : List ℕ). encoded_entry_size 0 (length k) (length (handle_bytes offset b.len))) (sym key_is) ∙ ap (encoded_entry_size 0 (length key)) value in
+    let step : index_sizes (planned_index_entries keys offset (drop i blocks)) ≡ encoded_entry_size 0 (length key) handle + 4 + index_sizes rest =
     ap index_sizes (index_step keys offset blocks i b lt is) ∙ ap (λ (n : ℕ). n + 4 + index_sizes rest) piece in
     record {
       sizes =
-          ap (λ (at : ℕ). saturated (min (min (len + saturated (piece_size 0 (length key) handle)) (2 ^ 64 - 1) + 4) (2 ^ 64 - 1) + index_sizes (index_of keys at (drop (i + 1) blocks)))) (sym place)
-          ∙ more_saturated len (piece_size 0 (length key) handle) (index_sizes rest) (saturated (4 + index_sizes (index_of keys 0 blocks))) (sym (ap (λ (n : ℕ). saturated (len + n)) step) ∙ h.sizes);
+          ap (λ (at : ℕ). saturated_length (min (min (len + saturated_length (encoded_entry_size 0 (length key) handle)) (2 ^ 64 - 1) + 4) (2 ^ 64 - 1) + index_sizes (planned_index_entries keys at (drop (i + 1) blocks)))) (sym place)
+          ∙ more_saturated len (encoded_entry_size 0 (length key) handle) (index_sizes rest) (saturated_length (4 + index_sizes (planned_index_entries keys 0 blocks))) (sym (ap (λ (n : ℕ). saturated_length (len + n)) step) ∙ h.sizes);
       offset_is = omega (arith, h.offset_is, lens_more blocks i b lt is);
       fits = omega arith;
     }
@@ -102,15 +102,15 @@ index_len_more keys blocks i offset len b key handle lt is key_is handle_is h =
 pub index_len_none : (keys : IndexKeys) (blocks : List PlannedBlock) → IsIndexLen keys blocks 0 0 4
 index_len_none keys blocks = record { sizes = refl; offset_is = omega arith; fits = omega arith }
 
-index_some : (keys : IndexKeys) (at : ℕ) (blocks : List PlannedBlock) → blocks ≢ [] → index_of keys at blocks ≢ []
+index_some : (keys : IndexKeys) (at : ℕ) (blocks : List PlannedBlock) → blocks ≢ [] → planned_index_entries keys at blocks ≢ []
 index_some keys at [] some = λ _. some refl
 index_some keys at (b ∷ bs) some = λ none. absurd (cc)
 
-pub index_len_all : (keys : IndexKeys) (blocks : List PlannedBlock) (i offset len : ℕ) → blocks ≢ [] → length blocks ≤ i → IsIndexLen keys blocks i offset len → saturated (length (block 1 (index_of keys 0 blocks))) ≡ len
+pub index_len_all : (keys : IndexKeys) (blocks : List PlannedBlock) (i offset len : ℕ) → blocks ≢ [] → length blocks ≤ i → IsIndexLen keys blocks i offset len → saturated_length (length (block 1 (planned_index_entries keys 0 blocks))) ≡ len
 index_len_all keys blocks i offset len some le h =
     let none : drop i blocks ≡ [] = drop_of_length-le blocks le in
-    let left : index_sizes (index_of keys offset (drop i blocks)) ≡ 0 = ap (λ (bs : List PlannedBlock). index_sizes (index_of keys offset bs)) none in
-    omega (arith, h.sizes, h.fits, left, length-index (index_of keys 0 blocks) (index_some keys 0 blocks some))
+    let left : index_sizes (planned_index_entries keys offset (drop i blocks)) ≡ 0 = ap (λ (bs : List PlannedBlock). index_sizes (planned_index_entries keys offset bs)) none in
+    omega (arith, h.sizes, h.fits, left, length-index (planned_index_entries keys 0 blocks) (index_some keys 0 blocks some))
 
 -- ---- the keys of the index
 
@@ -118,11 +118,11 @@ ended_is : (x : Entry) (xs : List Entry) → option_map (λ (e : Entry). e.key) 
 ended_is x [] = refl
 ended_is x (y ∷ ys) = ended_is y ys
 
-pub some_ended : (q : List Entry) → q ≢ [] → ended q ≡ None → ⊥
+pub some_ended : (q : List Entry) → q ≢ [] → last_entry_key q ≡ None → ⊥
 some_ended [] some none = some refl
 some_ended (x ∷ xs) some none = (let no : Some (last_key x.key xs) ≡ None = sym (ended_is x xs) ∙ none in cc)
 
-ended_last : (q : List Entry) (last : List ℕ) → Some last ≡ ended q → last_key [] q ≡ last
+ended_last : (q : List Entry) (last : List ℕ) → Some last ≡ last_entry_key q → last_key [] q ≡ last
 ended_last [] last is = absurd (cc)
 ended_last (x ∷ xs) last is = (let both : Some last ≡ Some (last_key x.key xs) = is ∙ ended_is x xs in cc)
 
@@ -139,23 +139,23 @@ front_is : (blocks : List PlannedBlock) (i : ℕ) (b : PlannedBlock) → i < len
 front_is blocks i b lt is = drop_more blocks i b lt ∙ ap (λ (x : PlannedBlock). x ∷ drop (i + 1) blocks) is
 
 module _ (cmp : List ℕ → List ℕ → Ordering) (separator_of : List ℕ → List ℕ → List ℕ) (successor_of : List ℕ → List ℕ) where
-  pub key_last : (blocks : List PlannedBlock) (i : ℕ) (b : PlannedBlock) (last : List ℕ) → i + 1 ≡ length blocks → get_or blocks i b ≡ b → Some last ≡ ended b.entries.entries
-      → internal_successor_of cmp successor_of last ≡ key_at (index_keys cmp separator_of successor_of) (drop i blocks)
+  pub key_last : (blocks : List PlannedBlock) (i : ℕ) (b : PlannedBlock) (last : List ℕ) → i + 1 ≡ length blocks → get_or blocks i b ≡ b → Some last ≡ last_entry_key b.entries.entries
+      → internal_successor_of cmp successor_of last ≡ planned_index_key (index_keys cmp separator_of successor_of) (drop i blocks)
   unfolding index_keys
   key_last blocks i b last end is ends =
       let keys = index_keys cmp separator_of successor_of in
       let front : drop i blocks ≡ b ∷ [] = front_is blocks i b (omega arith) is ∙ ap (λ (bs : List PlannedBlock). b ∷ bs) (drop_of_length-le blocks (omega arith)) in
-      sym (ap (key_at keys) front ∙ ap (internal_successor_of cmp successor_of) (ended_last b.entries.entries last ends))
+      sym (ap (planned_index_key keys) front ∙ ap (internal_successor_of cmp successor_of) (ended_last b.entries.entries last ends))
 
-  pub key_next : (blocks : List PlannedBlock) (i : ℕ) (b n : PlannedBlock) (last next : List ℕ) → i + 1 < length blocks → get_or blocks i b ≡ b → get_or blocks (i + 1) n ≡ n → Some last ≡ ended b.entries.entries
+  pub key_next : (blocks : List PlannedBlock) (i : ℕ) (b n : PlannedBlock) (last next : List ℕ) → i + 1 < length blocks → get_or blocks i b ≡ b → get_or blocks (i + 1) n ≡ n → Some last ≡ last_entry_key b.entries.entries
       → n.entries.entries ≢ [] → option_map (λ (e : Entry). e.key) (slice_get (n.entries.entries ++ n.entries.behind) 0) ≡ Some next
-      → internal_separator_of cmp separator_of last next ≡ key_at (index_keys cmp separator_of successor_of) (drop i blocks)
+      → internal_separator_of cmp separator_of last next ≡ planned_index_key (index_keys cmp separator_of successor_of) (drop i blocks)
   unfolding index_keys
   key_next blocks i b n last next lt is next_is ends some first =
       let keys = index_keys cmp separator_of successor_of in
       let front : drop i blocks ≡ b ∷ n ∷ drop (i + 1 + 1) blocks = front_is blocks i b (omega arith) is ∙ ap (λ (bs : List PlannedBlock). b ∷ bs) (front_is blocks (i + 1) n lt next_is) in
       sym (
-      ap (key_at keys) front
+      ap (planned_index_key keys) front
       ∙ ap (λ (k : List ℕ). internal_separator_of cmp separator_of k (first_key n.entries.entries)) (ended_last b.entries.entries last ends)
       ∙ ap (internal_separator_of cmp separator_of last) (first_next n.entries.entries n.entries.behind next some first)
       )
@@ -167,7 +167,7 @@ exact_one o b h le = omega arith
 
 module _ (o : Options) where
   stored_cons : (p : List Entry) (ps : List (List Entry)) → stored_len o.restart_interval (p ∷ ps) ≡ length (block o.restart_interval p) + 5 + stored_len o.restart_interval ps
-  stored_cons p ps = omega (arith, length-append (stored (block o.restart_interval p)) (stored_blocks o.restart_interval ps), length-stored (block o.restart_interval p))
+  stored_cons p ps = omega (arith, length-append (stored_block (block o.restart_interval p)) (stored_blocks o.restart_interval ps), length-stored (block o.restart_interval p))
 
   pub stored_exact : (blocks : List PlannedBlock) → AllByRecursion (HasLen o) blocks → lens_of blocks ≤ 2 ^ 30 → stored_len o.restart_interval (parts_of blocks) ≡ lens_of blocks
   stored_exact [] h le = refl
@@ -183,7 +183,7 @@ module _ (o : Options) where
       let one : b.len ≤ length (block o.restart_interval b.entries.entries) = omega (arith, h.0) in
       omega (arith, stored_cons b.entries.entries (parts_of bs), stored_more bs h.1, one, all)
 
-  pub index_exact : (keys : IndexKeys) (at : ℕ) (blocks : List PlannedBlock) → AllByRecursion (HasLen o) blocks → lens_of blocks ≤ 2 ^ 30 → index_of keys at blocks ≡ index_from keys o.restart_interval at (parts_of blocks)
+  pub index_exact : (keys : IndexKeys) (at : ℕ) (blocks : List PlannedBlock) → AllByRecursion (HasLen o) blocks → lens_of blocks ≤ 2 ^ 30 → planned_index_entries keys at blocks ≡ index_from keys o.restart_interval at (parts_of blocks)
   index_exact keys at [] h le = refl
   index_exact keys at (b ∷ bs) h le =
       let all = sum_by-cons (λ (x : PlannedBlock). x.len + 5) b bs in
@@ -198,11 +198,11 @@ module _ (o : Options) where
     abbrev whole : List PlannedBlock → ℕ
     whole blocks = stored_len o.restart_interval (parts_of blocks) + (length (block 1 (index_from keys o.restart_interval 0 (parts_of blocks))) + 66)
 
-    length-whole : (blocks : List PlannedBlock) → length (table_of keys o.restart_interval (parts_of blocks)) ≡ whole blocks
+    length-whole : (blocks : List PlannedBlock) → length (table_of_blocks keys o.restart_interval (parts_of blocks)) ≡ whole blocks
     length-whole blocks =
         let stored_bytes = stored_blocks o.restart_interval (parts_of blocks) in
         let index = index_from keys o.restart_interval 0 (parts_of blocks) in
-        length-append stored_bytes (closing (length stored_bytes) index) ∙ ap (λ (n : ℕ). length stored_bytes + n) (lengths_law.closed (length stored_bytes) index)
+        length-append stored_bytes (closing_bytes (length stored_bytes) index) ∙ ap (λ (n : ℕ). length stored_bytes + n) (lengths_law.closed (length stored_bytes) index)
 
 pub length-table : (cmp : List ℕ → List ℕ → Ordering) (separator_of : List ℕ → List ℕ → List ℕ) (successor_of : List ℕ → List ℕ) (o : Options) (blocks : List PlannedBlock) → ArePlanned o blocks
     → length (table cmp separator_of successor_of o (entries_in_blocks blocks))
@@ -210,24 +210,24 @@ pub length-table : (cmp : List ℕ → List ℕ → Ordering) (separator_of : Li
 unfolding table
 length-table cmp separator_of successor_of o blocks h =
     let keys = index_keys cmp separator_of successor_of in
-    ap (λ (ps : List (List Entry)). length (table_of keys o.restart_interval ps)) (sym h.cut) ∙ length-whole o keys blocks
+    ap (λ (ps : List (List Entry)). length (table_of_blocks keys o.restart_interval ps)) (sym h.cut) ∙ length-whole o keys blocks
 
 -- the size that is added up is that of the table
 pub size_is : (cmp : List ℕ → List ℕ → Ordering) (separator_of : List ℕ → List ℕ → List ℕ) (successor_of : List ℕ → List ℕ) (o : Options) (blocks : List PlannedBlock) → ArePlanned o blocks
-    → table_size (index_keys cmp separator_of successor_of) blocks ≡ capped (length (table cmp separator_of successor_of o (entries_in_blocks blocks)))
+    → table_size (index_keys cmp separator_of successor_of) blocks ≡ capped_length (length (table cmp separator_of successor_of o (entries_in_blocks blocks)))
 size_is cmp separator_of successor_of o blocks h =
     let keys = index_keys cmp separator_of successor_of in
     let whole = length-table cmp separator_of successor_of o blocks h in
     elim (cases_lt (2 ^ 30) (lens_of blocks)) [
       | inl over ↦ rw (lt-ltb (2 ^ 30) (lens_of blocks) over) (omega (arith, whole, stored_more o blocks h.lens))
       | inr within ↦
-          let exact : length (block 1 (index_of keys 0 blocks)) ≡ length (block 1 (index_from keys o.restart_interval 0 (parts_of blocks))) = ap (λ (es : List Entry). length (block 1 es)) (index_exact o keys 0 blocks h.lens within) in
+          let exact : length (block 1 (planned_index_entries keys 0 blocks)) ≡ length (block 1 (index_from keys o.restart_interval 0 (parts_of blocks))) = ap (λ (es : List Entry). length (block 1 es)) (index_exact o keys 0 blocks h.lens within) in
           rw (le-ltb (2 ^ 30) (lens_of blocks) within) (omega (arith, whole, stored_exact o blocks h.lens within, exact))
     ]
 
-pub size_over : (keys : IndexKeys) (blocks : List PlannedBlock) (size : ℕ) → size ≡ saturated (lens_of blocks) → 2 ^ 30 < size → table_size keys blocks ≡ 2 ^ 30 + 1
+pub size_over : (keys : IndexKeys) (blocks : List PlannedBlock) (size : ℕ) → size ≡ saturated_length (lens_of blocks) → 2 ^ 30 < size → table_size keys blocks ≡ 2 ^ 30 + 1
 size_over keys blocks size is over = rw (lt-ltb (2 ^ 30) (lens_of blocks) (omega arith)) refl
 
-pub size_within : (keys : IndexKeys) (blocks : List PlannedBlock) (size index : ℕ) → size ≡ saturated (lens_of blocks) → size ≤ 2 ^ 30 → saturated (length (block 1 (index_of keys 0 blocks))) ≡ index
+pub size_within : (keys : IndexKeys) (blocks : List PlannedBlock) (size index : ℕ) → size ≡ saturated_length (lens_of blocks) → size ≤ 2 ^ 30 → saturated_length (length (block 1 (planned_index_entries keys 0 blocks))) ≡ index
     → table_size keys blocks ≡ min (min (size + 66 + index) (2 ^ 64 - 1)) (2 ^ 30 + 1)
 size_within keys blocks size index is within index_is = rw (le-ltb (2 ^ 30) (lens_of blocks) (omega arith)) (omega arith)

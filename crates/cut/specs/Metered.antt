@@ -2,26 +2,26 @@
 use Rattle.std.specs.Prelude.{◌≡◌, ℕ, ◌+◌, ◌-◌, ◌%◌, ◌^◌, ◌≤◌, nat_eq, ◌==◌, ◌&&◌, if◌then◌else◌, List, ◌++◌, length, take, drop, Option, Some, None}
 use Rattle.std.specs.List.{common_prefix_len, last_or}
 use Rattle.std.specs.Option.{is_some, option_map}
-use Rattle.block.specs.Piece.{Entry}
-use Rattle.block.specs.Writing.{block}
-use Rattle.cut.specs.Sizes.{saturated, piece_size}
+use Rattle.block.specs.EncodedEntry.{Entry}
+use Rattle.block.specs.BlockFormat.{block}
+use Rattle.cut.specs.Sizes.{saturated_length, encoded_entry_size}
 
 -- an open data block: its restart interval, its entries, and the entries still to come
-pub record Metered : Type 0 where
+pub record BlockInProgress : Type 0 where
   pub interval : ℕ
   pub entries : List Entry
   pub behind : List Entry
 
 -- the open block after n more entries
-abbrev pub grown : ℕ → Metered → Metered
-grown n m = record { interval = m.interval; entries = m.entries ++ take n m.behind; behind = drop n m.behind }
+abbrev pub block_after_entries : ℕ → BlockInProgress → BlockInProgress
+block_after_entries n m = record { interval = m.interval; entries = m.entries ++ take n m.behind; behind = drop n m.behind }
 
 -- What is kept of the block of these entries: its length, and the number of entries after the last
 -- whole interval. There are at most 2 ^ 64 - 1 entries.
 pub record IsMetered (interval : ℕ) (entries : List Entry) (len since : ℕ) : Type 0 where
   pub positive : 1 ≤ interval
   pub limited : interval ≤ 1024
-  pub len_is : len ≡ saturated (length (block interval entries))
+  pub len_is : len ≡ saturated_length (length (block interval entries))
   pub since_is : since ≡ length entries % interval
   pub counted : length entries ≤ 2 ^ 64 - 1
 
@@ -30,8 +30,8 @@ abbrev pub next_since : ℕ → ℕ → ℕ
 next_since interval since = if since + 1 == interval then 0 else since + 1
 
 -- the key of the last of these entries; None if there is none
-abbrev pub ended : List Entry → Option (List ℕ)
-ended q = option_map (λ (e : Entry). e.key) (last_or None q)
+abbrev pub last_entry_key : List Entry → Option (List ℕ)
+last_entry_key q = option_map (λ (e : Entry). e.key) (last_or None q)
 
 -- how many bytes a key shares with the one before it, if there is one
 abbrev pub shared_with : Option (List ℕ) → List ℕ → ℕ
@@ -39,12 +39,12 @@ shared_with None key = 0
 shared_with (Some before) key = common_prefix_len nat_eq before key
 
 -- how many bytes of the key an entry leaves out: none if a restart points at it
-abbrev pub left_out : ℕ → Option (List ℕ) → List ℕ → ℕ
-left_out since before key = if since == 0 then 0 else shared_with before key
+abbrev pub left_out_len : ℕ → Option (List ℕ) → List ℕ → ℕ
+left_out_len since before key = if since == 0 then 0 else shared_with before key
 
 -- How many bytes an entry adds to a block: its own bytes, and those of its restart if it has one
 -- and is not the first.
 abbrev pub added_size : ℕ → Option (List ℕ) → List ℕ → ℕ → ℕ
 added_size since before key value =
-    piece_size (left_out since before key) (length key - left_out since before key) value
+    encoded_entry_size (left_out_len since before key) (length key - left_out_len since before key) value
     + (if since == 0 && is_some before then 4 else 0)

@@ -1,19 +1,19 @@
 -- An open output of a plan.
 use Rattle.std.specs.Prelude.{◌≡◌, ℕ, Bool, false, true, List, [], ◌∷◌, ◌++◌, length, map, Option}
 use Rattle.std.specs.List.{AllByRecursion}
-use Rattle.block.specs.Piece.{Entry}
-use Rattle.block.specs.Writing.{block}
+use Rattle.block.specs.EncodedEntry.{Entry}
+use Rattle.block.specs.BlockFormat.{block}
 use Rattle.table.specs.declared.options.Options.{Options}
 use Rattle.table.specs.Options.{AreInLimits}
 use Rattle.table.specs.DataBlocks.{is_full, blocks_behind, data_blocks}
 use Rattle.encoding.specs.declared.planned_block.PlannedBlock.{PlannedBlock}
-use Rattle.cut.specs.Metered.{Metered, ended}
+use Rattle.cut.specs.Metered.{BlockInProgress, last_entry_key}
 use Rattle.cut.specs.Outputs.{all_of, ends_before}
 use Rattle.cut.specs.Plan.{stored_len}
-use Rattle.cut.specs.Sizes.{saturated}
+use Rattle.cut.specs.Sizes.{saturated_length}
 
 -- the options of an output, its entries so far, and the entries still to come
-pub record Opened : Type 0 where
+pub record OutputInProgress : Type 0 where
   pub options : Options
   pub entries : List Entry
   pub behind : List Entry
@@ -28,7 +28,7 @@ entries_in_blocks blocks = all_of (parts_of blocks)
 
 -- the length of a planned block is that of the block of its entries
 abbrev pub HasLen : Options → PlannedBlock → Type 0
-HasLen o b = b.len ≡ saturated (length (block o.restart_interval b.entries.entries))
+HasLen o b = b.len ≡ saturated_length (length (block o.restart_interval b.entries.entries))
 
 -- a planned block is full
 abbrev pub IsFlushed : Options → PlannedBlock → Type 0
@@ -46,7 +46,7 @@ ends_by o q (e ∷ es) = ends_before o q e
 
 -- What is kept of an open output: its full data blocks, their bytes, its last key and the open
 -- block. Whatever entries are still to come, its data blocks begin with the full ones.
-pub record IsOpen (o : Options) (blocks : List PlannedBlock) (flushed : ℕ) (last : Option (List ℕ)) (open_one : Metered) : Type 0 where
+pub record IsOpen (o : Options) (blocks : List PlannedBlock) (flushed : ℕ) (last : Option (List ℕ)) (open_one : BlockInProgress) : Type 0 where
   pub limits : AreInLimits o
   pub interval : open_one.interval ≡ o.restart_interval
   pub part : is_full o open_one.entries ≡ false
@@ -54,5 +54,5 @@ pub record IsOpen (o : Options) (blocks : List PlannedBlock) (flushed : ℕ) (la
   pub lens : AllByRecursion (HasLen o) blocks
   pub cuts : (rest : List Entry) →
       blocks_behind o [] ((entries_in_blocks blocks ++ open_one.entries) ++ rest) ≡ parts_of blocks ++ blocks_behind o open_one.entries rest
-  pub flushed_is : flushed ≡ saturated (stored_len o.restart_interval (parts_of blocks))
-  pub last_is : last ≡ ended (entries_in_blocks blocks ++ open_one.entries)
+  pub flushed_is : flushed ≡ saturated_length (stored_len o.restart_interval (parts_of blocks))
+  pub last_is : last ≡ last_entry_key (entries_in_blocks blocks ++ open_one.entries)

@@ -6,15 +6,15 @@ use Rattle.std.specs.Str.{bytes_eq}
 use Rattle.std.specs.declared.cmp.Ordering.{Ordering}
 use Rattle.std.specs.declared.cmp.Ordering.TheVariants.{Less}
 use Rattle.ikey.specs.Key.{user_of}
-use Rattle.block.specs.Piece.{Entry}
-use Rattle.block.specs.Building.{last_key}
+use Rattle.block.specs.EncodedEntry.{Entry}
+use Rattle.block.specs.BuilderView.{last_key}
 use Rattle.table.specs.declared.options.Options.{Options}
 use Rattle.table.specs.DataBlocks.{open_block, flushed}
 use Rattle.merge.specs.Union.{VersionsRise}
 use Rattle.edit.specs.declared.meta.FileMeta.{FileMeta}
 use Rattle.split.specs.Boundaries.{IsSplit}
-use Rattle.keep.specs.Keeping.{kept}
-use Rattle.keep.specs.Marks.{Below, heads}
+use Rattle.keep.specs.DropRule.{kept}
+use Rattle.keep.specs.Marks.{CompactionContext, heads}
 use Rattle.keep.specs.Runs.{Run, joined_run, runs_of}
 use Rattle.cut.specs.Stops.{stops}
 
@@ -45,7 +45,7 @@ outputs_of grandparents o run = flat_map (outputs_in o) (segments 0 (stops grand
 
 -- The outputs of a compaction of the union of its inputs. The stops at the first entries of all
 -- user keys cut the union into segments, and the kept entries of each are cut into outputs by size.
-abbrev pub outputs : (List ℕ → List ℕ → Ordering) → Below → Options → List Entry → List (List Entry)
+abbrev pub outputs : (List ℕ → List ℕ → Ordering) → CompactionContext → Options → List Entry → List (List Entry)
 outputs cmp b o union = outputs_of b.grandparents o (record { kept = kept cmp b.readable b.deeper union; marks = heads cmp b union })
 
 -- An output of entries q may end before the rest: its flushed blocks have reached the maximal file
@@ -84,7 +84,7 @@ UsersRise cmp (q ∷ qs) = AreBelow cmp q (all_of qs) × UsersRise cmp qs
 pub record WholeLaw (cmp : List ℕ → List ℕ → Ordering) : Type 0 where
   pub all : (grandparents : List FileMeta) (o : Options) (run : Run) → all_of (outputs_of grandparents o run) ≡ run.kept
   pub some : (grandparents : List FileMeta) (o : Options) (run : Run) → AllByRecursion (λ q. q ≢ []) (outputs_of grandparents o run)
-  pub users : (b : Below) (o : Options) (union : List Entry) → VersionsRise cmp union → UsersRise cmp (outputs cmp b o union)
+  pub users : (b : CompactionContext) (o : Options) (union : List Entry) → VersionsRise cmp union → UsersRise cmp (outputs cmp b o union)
 
 -- a segment whose entries are in order has these outputs and no others
 abbrev pub OutputsLaw : (List ℕ → List ℕ → Ordering) → Type 0
@@ -95,5 +95,5 @@ OutputsLaw cmp =
 -- the runs of the ranges of a split have together the outputs of the union
 abbrev pub RangesCutLaw : (List ℕ → List ℕ → Ordering) → Type 0
 RangesCutLaw cmp =
-    (b : Below) (o : Options) (boundaries : List (List ℕ)) (union : List Entry) → IsSplit cmp boundaries → VersionsRise cmp union →
+    (b : CompactionContext) (o : Options) (boundaries : List (List ℕ)) (union : List Entry) → IsSplit cmp boundaries → VersionsRise cmp union →
     outputs_of b.grandparents o (joined_run (runs_of cmp b boundaries union)) ≡ outputs cmp b o union

@@ -6,31 +6,31 @@ use Rattle.std.specs.declared.cmp.Ordering.{Ordering}
 use Rattle.coding.specs.Answers.{◌>>=◌}
 use Rattle.coding.specs.declared.fault.Fault.{Fault}
 use Rattle.coding.specs.declared.fault.FaultName.TheVariants.{Numbers, TooLarge}
-use Rattle.block.specs.Piece.{Entry}
+use Rattle.block.specs.EncodedEntry.{Entry}
 use Rattle.table.specs.declared.options.Options.{Options}
 use Rattle.table.specs.DataBlocks.{data_blocks}
-use Rattle.table.specs.Table.{closing, index_from, index_keys, stored_blocks, table}
-use Rattle.table.specs.ReadingSteps.{pass}
+use Rattle.table.specs.Table.{closing_bytes, index_from, index_keys, stored_blocks, table}
+use Rattle.table.specs.ReadingSteps.{test_result}
 
 -- an output: the number of its file, its entries, the place after the last entry of each data
 -- block, and the length of its table
-pub record Planned : Type 0 where
+pub record OutputView : Type 0 where
   pub number : ℕ
   pub entries : List Entry
   pub blocks : List ℕ
   pub length : ℕ
 
 -- the place after the last entry of each part, with `at` entries before the first part
-abbrev pub ends_from : ℕ → List (List Entry) → List ℕ
-ends_from at [] = []
-ends_from at (p ∷ ps) = (at + length p) ∷ ends_from (at + length p) ps
+abbrev pub block_ends_from : ℕ → List (List Entry) → List ℕ
+block_ends_from at [] = []
+block_ends_from at (p ∷ ps) = (at + length p) ∷ block_ends_from (at + length p) ps
 
 -- the outputs of these lists of entries, numbered from `number` on; `table_of` is how a table is
 -- written
-abbrev pub planned_from : (List Entry → List ℕ) → Options → ℕ → List (List Entry) → List Planned
+abbrev pub planned_from : (List Entry → List ℕ) → Options → ℕ → List (List Entry) → List OutputView
 planned_from table_of o number [] = []
 planned_from table_of o number (q ∷ qs) =
-    record { number = number; entries = q; blocks = ends_from 0 (data_blocks o q); length = length (table_of q) }
+    record { number = number; entries = q; blocks = block_ends_from 0 (data_blocks o q); length = length (table_of q) }
     ∷ planned_from table_of o (number + 1) qs
 
 -- the data blocks of all outputs, in order
@@ -39,15 +39,15 @@ parts o outputs = flat_map (data_blocks o) outputs
 
 -- The plan of outputs, numbered from `first` on. Numbers if the number after the last exceeds 2 ^
 -- 64 - 1; else TooLarge if a table exceeds 2 ^ 30 bytes or there are more than 2 ^ 40 data blocks.
-abbrev pub plan_of : (List Entry → List ℕ) → Options → ℕ → List (List Entry) → Result (List Planned) Fault
+abbrev pub plan_of : (List Entry → List ℕ) → Options → ℕ → List (List Entry) → Result (List OutputView) Fault
 plan_of table_of o first outputs = do
-  _ ← pass (nat_lt (first + length outputs) (2 ^ 64)) Numbers
-  _ ← pass (list_all (λ q. nat_le (length (table_of q)) (2 ^ 30)) outputs && nat_le (length (parts o outputs)) (2 ^ 40)) TooLarge
+  _ ← test_result (nat_lt (first + length outputs) (2 ^ 64)) Numbers
+  _ ← test_result (list_all (λ q. nat_le (length (table_of q)) (2 ^ 30)) outputs && nat_le (length (parts o outputs)) (2 ^ 40)) TooLarge
   Ok (planned_from table_of o first outputs)
 
 -- the number of each output, and its table
-abbrev pub assembled : (List Entry → List ℕ) → List Planned → List (ℕ × List ℕ)
-assembled table_of plan = map (λ (p : Planned). (p.number, table_of p.entries)) plan
+abbrev pub plan_tables : (List Entry → List ℕ) → List OutputView → List (ℕ × List ℕ)
+plan_tables table_of plan = map (λ (p : OutputView). (p.number, table_of p.entries)) plan
 
 -- the bytes of data blocks, each with its trailer
 abbrev pub stored_len : ℕ → List (List Entry) → ℕ
@@ -82,8 +82,8 @@ abbrev pub jobs : Options → List (List Entry) → ℕ
 jobs o outputs = length (pieces o outputs)
 
 -- the bytes of each piece: its data blocks, each with its trailer
-abbrev pub encoded : Options → List (List Entry) → List (List ℕ)
-encoded o outputs = map (stored_blocks o.restart_interval) (pieces o outputs)
+abbrev pub encoded_pieces : Options → List (List Entry) → List (List ℕ)
+encoded_pieces o outputs = map (stored_blocks o.restart_interval) (pieces o outputs)
 
 -- The bytes of a piece are those of its data blocks, each with its trailer. The pieces of an
 -- output, one after the other, and what closes its table are its table.
@@ -93,4 +93,4 @@ PiecesLaw =
     (o : Options) (blocks : ℕ) (q : List Entry) →
     let bytes = flat_map (stored_blocks o.restart_interval) (pieces_in o blocks q) in
     table cmp separator_of successor_of o q
-    ≡ bytes ++ closing (length bytes) (index_from (index_keys cmp separator_of successor_of) o.restart_interval 0 (data_blocks o q))
+    ≡ bytes ++ closing_bytes (length bytes) (index_from (index_keys cmp separator_of successor_of) o.restart_interval 0 (data_blocks o q))

@@ -14,11 +14,11 @@ use Rattle.std.specs.Prelude.{◌≡◌, ◌≢◌, ℕ, ◌*◌, ◌<◌, List,
 use Rattle.std.specs.List.{AllByRecursion}
 use Rattle.std.specs.declared.cmp.Ordering.{Ordering}
 use Rattle.ikey.specs.Key.{user_of}
-use Rattle.block.specs.Piece.{Entry}
+use Rattle.block.specs.EncodedEntry.{Entry}
 use Rattle.table.specs.declared.options.Options.{Options}
 use Rattle.edit.specs.declared.meta.FileMeta.{FileMeta}
-use Rattle.keep.specs.Keeping.{kept}
-use Rattle.keep.specs.Marks.{Below, grandparents_below}
+use Rattle.keep.specs.DropRule.{kept}
+use Rattle.keep.specs.Marks.{CompactionContext, grandparents_below}
 use Rattle.merge.specs.Union.{VersionsRise}
 use Rattle.cut.specs.Outputs.{all_of, outputs, outputs_in, AreOutputs}
 use Rattle.cut.specs.Stops.{size_between}
@@ -68,15 +68,15 @@ pub record SegmentsLaw (cmp : List ℕ → List ℕ → Ordering) : Type 0 where
       AreSegments cmp grandparents file_size union segments →
       AreSegments cmp grandparents file_size union others →
       segments ≡ others
-  pub all_kept : (b : Below) (file_size : ℕ) (union : List Entry) (segments : List (List Entry)) →
+  pub all_kept : (b : CompactionContext) (file_size : ℕ) (union : List Entry) (segments : List (List Entry)) →
       AreSegments cmp b.grandparents file_size union segments →
       kept cmp b.readable b.deeper union
       ≡ flat_map (λ segment. kept cmp b.readable b.deeper segment) segments
-  pub all_outputs : (b : Below) (o : Options) (union : List Entry) (segments : List (List Entry)) →
+  pub all_outputs : (b : CompactionContext) (o : Options) (union : List Entry) (segments : List (List Entry)) →
       AreSegments cmp b.grandparents o.file_size union segments →
       outputs cmp b o union
       ≡ flat_map (λ segment. outputs_in o (kept cmp b.readable b.deeper segment)) segments
-  pub each_output : (b : Below) (o : Options) (union : List Entry) (segments : List (List Entry)) →
+  pub each_output : (b : CompactionContext) (o : Options) (union : List Entry) (segments : List (List Entry)) →
       VersionsRise cmp union → AreSegments cmp b.grandparents o.file_size union segments →
       AllByRecursion
       (λ segment. AreOutputs o (kept cmp b.readable b.deeper segment)

@@ -1,37 +1,37 @@
 -- The length of a table, by the lengths of its data blocks.
 use Rattle.std.specs.Prelude.{ℕ, ◌+◌, ◌^◌, nat_lt, if◌then◌else◌, List, [], ◌∷◌, length, min}
 use Rattle.std.specs.List.{sum_by}
-use Rattle.block.specs.Piece.{Entry}
-use Rattle.block.specs.Writing.{block}
+use Rattle.block.specs.EncodedEntry.{Entry}
+use Rattle.block.specs.BlockFormat.{block}
 use Rattle.table.specs.Table.{IndexKeys, index_key, handle_entry}
 use Rattle.encoding.specs.declared.planned_block.PlannedBlock.{PlannedBlock}
 use Rattle.cut.specs.Opened.{parts_of}
-use Rattle.cut.specs.Sizes.{piece_size}
+use Rattle.cut.specs.Sizes.{encoded_entry_size}
 
 -- a length, or 2 ^ 30 + 1 if it is more
-abbrev pub capped : ℕ → ℕ
-capped n = min n (2 ^ 30 + 1)
+abbrev pub capped_length : ℕ → ℕ
+capped_length n = min n (2 ^ 30 + 1)
 
 -- the length of planned data blocks, each with its trailer
 abbrev pub lens_of : List PlannedBlock → ℕ
 lens_of blocks = sum_by (λ (b : PlannedBlock). b.len + 5) blocks
 
 -- the index key of the first of these data blocks
-abbrev pub key_at : IndexKeys → List PlannedBlock → List ℕ
-key_at keys [] = []
-key_at keys (b ∷ bs) = index_key keys b.entries.entries (parts_of bs)
+abbrev pub planned_index_key : IndexKeys → List PlannedBlock → List ℕ
+planned_index_key keys [] = []
+planned_index_key keys (b ∷ bs) = index_key keys b.entries.entries (parts_of bs)
 
 -- the index entries of planned data blocks, the first of which is at offset `at`
-abbrev pub index_of : IndexKeys → ℕ → List PlannedBlock → List Entry
-index_of keys at [] = []
-index_of keys at (b ∷ bs) = handle_entry (key_at keys (b ∷ bs)) at b.len ∷ index_of keys (at + b.len + 5) bs
+abbrev pub planned_index_entries : IndexKeys → ℕ → List PlannedBlock → List Entry
+planned_index_entries keys at [] = []
+planned_index_entries keys at (b ∷ bs) = handle_entry (planned_index_key keys (b ∷ bs)) at b.len ∷ planned_index_entries keys (at + b.len + 5) bs
 
 -- the length of the table of planned data blocks, or 2 ^ 30 + 1 if it is more than 2 ^ 30
 abbrev pub table_size : IndexKeys → List PlannedBlock → ℕ
 table_size keys blocks =
-    if nat_lt (2 ^ 30) (lens_of blocks) then 2 ^ 30 + 1 else capped (lens_of blocks + 66 + length (block 1 (index_of keys 0 blocks)))
+    if nat_lt (2 ^ 30) (lens_of blocks) then 2 ^ 30 + 1 else capped_length (lens_of blocks + 66 + length (block 1 (planned_index_entries keys 0 blocks)))
 
 -- the bytes that entries take in a block in which a restart points at each
 abbrev pub index_sizes : List Entry → ℕ
 index_sizes [] = 0
-index_sizes (e ∷ es) = piece_size 0 (length e.key) (length e.value) + 4 + index_sizes es
+index_sizes (e ∷ es) = encoded_entry_size 0 (length e.key) (length e.value) + 4 + index_sizes es

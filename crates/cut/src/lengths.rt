@@ -2,7 +2,7 @@
 
 ghost use Rattle.std.specs.Prelude.{◌≡◌, ◌≤◌, length};
 ghost use Rattle.coding.specs.Varint.{varint};
-ghost use Rattle.cut.specs.Sizes.{saturated, piece_size};
+ghost use Rattle.cut.specs.Sizes.{saturated_length, encoded_entry_size};
 
 /// The length of a number as a varint: 1 to 10 bytes.
 pub(crate) fn varint_len(number: u64) -> u64
@@ -21,8 +21,8 @@ pub(crate) fn varint_len(number: u64) -> u64
 /// The length of an entry in a block: three varints, and the unshared bytes and the value.
 /// `shared`, `unshared` and `value` are in bytes. A sum of 2^64 or more is answered as 2^64 - 1.
 #[inline(always)]
-pub(crate) fn piece_len(shared: usize, unshared: usize, value: usize) -> u64
-    ensures { result ≡ saturated (piece_size shared unshared value) }
+pub(crate) fn encoded_entry_len(shared: usize, unshared: usize, value: usize) -> u64
+    ensures { result ≡ saturated_length (encoded_entry_size shared unshared value) }
 {
     if shared < 128 && unshared < 128 && value < 128 {
         // Each of the three varints takes one byte.

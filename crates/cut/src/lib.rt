@@ -14,25 +14,25 @@
 //! No contract says how much memory a plan takes.
 #![tactic(auto)]
 
-mod assembling;
-mod cutting;
-mod dividing;
-mod laws;
+mod block_summary;
 mod lengths;
 mod open_block;
 mod open_output;
+mod output_cuts;
+mod output_laws;
 mod output_meta;
+mod output_plan;
 mod piece;
+mod piece_division;
+mod plan_assembly;
 mod planned_output;
-mod planning;
 mod stops;
-mod summing;
 mod table_len;
 mod whole_plan;
 
-pub use laws::{
+pub use output_laws::{
     lengths_law, outputs_law, pieces_law, ranges_cut, segments_law, stops_law, whole_law,
 };
 pub use output_meta::OutputMeta;
-pub use planning::{MAX_BLOCKS, plan};
+pub use output_plan::{MAX_BLOCKS, plan};
 pub use whole_plan::Plan;

@@ -2,15 +2,15 @@
 
 ghost use Rattle.std.specs.Prelude.{◌≡◌, ◌≢◌, ℕ, ◌↔◌, ◌-◌, ◌^◌, ◌≤◌, ◌<◌, false, [], length, IsTrue};
 ghost use Rattle.std.specs.Option.{option_map};
-ghost use Rattle.block.specs.Writing.{block};
+ghost use Rattle.block.specs.BlockFormat.{block};
 ghost use Rattle.table.specs.DataBlocks.{is_full};
 ghost use Rattle.table.specs.Options.{AreInLimits};
-ghost use Rattle.cut.specs.Sizes.{saturated};
-ghost use Rattle.cut.specs.Metered.{grown, ended, next_since, left_out, added_size};
+ghost use Rattle.cut.specs.Sizes.{saturated_length};
+ghost use Rattle.cut.specs.Metered.{block_after_entries, last_entry_key, next_since, left_out_len, added_size};
 
-use crate::lengths::piece_len;
+use crate::lengths::encoded_entry_len;
 use coding::common_len;
-use encoding::{PlannedBlock, RunsCursor, RunsSlice};
+use encoding::{EntryCursor, EntrySpan, PlannedBlock};
 use ikey::InternalKey;
 use std::marker::Model;
 use std::mem;
@@ -26,7 +26,7 @@ const RESTART_LEN: u64 = 4;
 #[derive(Drop)]
 pub(crate) struct OpenBlock<'r, 'a> {
     interval: u64,
-    slice: RunsSlice<'r, 'a>,
+    slice: EntrySpan<'r, 'a>,
     /// The length that the block would have now; 2^64 - 1 if it is more.
     len: u64,
     /// The number of entries after the last whole interval.
@@ -34,9 +34,9 @@ pub(crate) struct OpenBlock<'r, 'a> {
 }
 
 impl<'r, 'a> Model for OpenBlock<'r, 'a> {
-    ghost use Rattle.cut.specs.Metered.{Metered, IsMetered};
+    ghost use Rattle.cut.specs.Metered.{BlockInProgress, IsMetered};
 
-    ghost Value = { Metered };
+    ghost Value = { BlockInProgress };
 
     ghost view = { λ b. record { interval = b.interval; entries = b.slice.entries; behind = b.slice.behind } };
 
@@ -47,7 +47,7 @@ impl<'r, 'a> Model for OpenBlock<'r, 'a> {
 /// number of entries after the last whole interval, is 0, for then a restart points at it.
 #[inline(always)]
 fn left_out(since: u64, before: Option<InternalKey<'_>>, key: InternalKey<'_>) -> usize
-    ensures value { result ≡ left_out since (option_map (λ k. k.bytes.now) before.entry) key.entry.bytes.now }
+    ensures value { result ≡ left_out_len since (option_map (λ k. k.bytes.now) before.entry) key.entry.bytes.now }
     ensures within { result ≤ length key.entry.bytes.now }
 {
     if since == 0 {
@@ -64,10 +64,10 @@ fn left_out(since: u64, before: Option<InternalKey<'_>>, key: InternalKey<'_>) -
 #[inline(always)]
 fn added_len(since: u64, before: Option<InternalKey<'_>>, key: InternalKey<'_>, value: &[u8]) -> u64
     ensures { result
-        ≡ saturated (added_size since (option_map (λ k. k.bytes.now) before.entry) key.entry.bytes.now (length value.now)) }
+        ≡ saturated_length (added_size since (option_map (λ k. k.bytes.now) before.entry) key.entry.bytes.now (length value.now)) }
 {
     let shared = left_out(since, before, key);
-    let piece = piece_len(shared, key.bytes().len() - shared, value.len());
+    let piece = encoded_entry_len(shared, key.bytes().len() - shared, value.len());
     // The first entry's restart is there from the start.
     let restart = if since == 0 && before.is_some() {
         RESTART_LEN
@@ -88,14 +88,14 @@ fn next_since(since: u64, interval: u64) -> u64
 impl<'r, 'a> OpenBlock<'r, 'a> {
     /// No entries, before those from `place` on, at a restart interval from 1 to 1,024. Takes no
     /// memory.
-    pub fn new(interval: u64, place: RunsCursor<'r, 'a>) -> OpenBlock<'r, 'a>
+    pub fn new(interval: u64, place: EntryCursor<'r, 'a>) -> OpenBlock<'r, 'a>
         requires positive { 1 ≤ interval }
         requires limited { interval ≤ 1024 }
         ensures { result ≡ record { interval = interval; entries = []; behind = place.entry } }
     {
         OpenBlock {
             interval,
-            slice: RunsSlice::at(place),
+            slice: EntrySpan::at(place),
             len: EMPTY_LEN,
             since: 0,
         }
@@ -105,7 +105,7 @@ impl<'r, 'a> OpenBlock<'r, 'a> {
     fn push(&mut self)
         requires any { 0 < length self.old.behind }
         requires counted { length self.old.entries < 2 ^ 64 - 1 }
-        ensures { self.new ≡ grown 1 self.old }
+        ensures { self.new ≡ block_after_entries 1 self.old }
     {
         let place = self.slice.behind();
         let key = place.key();
@@ -121,14 +121,14 @@ impl<'r, 'a> OpenBlock<'r, 'a> {
         requires limits { AreInLimits options }
         requires interval { self.old.interval ≡ options.restart_interval }
         requires some { self.old.entries ≢ [] }
-        ensures new { self.new ≡ grown result self.old }
+        ensures new { self.new ≡ block_after_entries result self.old }
         ensures most { result ≤ most }
         ensures within { result ≤ length self.old.behind }
-        ensures part { (n : ℕ) → n < result → is_full options (grown n self.old).entries ≡ false }
+        ensures part { (n : ℕ) → n < result → is_full options (block_after_entries n self.old).entries ≡ false }
     {
         // What each entry changes is in variables of the loop, so that none of it is written back
         // before the loop's end.
-        let next = RunsSlice::at(self.slice.behind());
+        let next = EntrySpan::at(self.slice.behind());
         let mut slice = mem::replace(&mut self.slice, next);
         let mut len = self.len;
         let mut since = self.since;
@@ -156,11 +156,11 @@ impl<'r, 'a> OpenBlock<'r, 'a> {
         requires any { 0 < length self.old.behind }
         requires most { 0 < most }
         requires part { is_full options self.old.entries ≡ false }
-        ensures new { self.new ≡ grown result self.old }
+        ensures new { self.new ≡ block_after_entries result self.old }
         ensures some { 0 < result }
         ensures most { result ≤ most }
         ensures within { result ≤ length self.old.behind }
-        ensures part { (n : ℕ) → 0 < n → n < result → is_full options (grown n self.old).entries ≡ false }
+        ensures part { (n : ℕ) → 0 < n → n < result → is_full options (block_after_entries n self.old).entries ≡ false }
     {
         self.push();
         1 + self.fill(options, most - 1)
@@ -168,7 +168,7 @@ impl<'r, 'a> OpenBlock<'r, 'a> {
 
     /// The key of the last entry; None if there is no entry.
     pub fn last_key(&self) -> Option<InternalKey<'r>>
-        ensures { option_map (λ key. key.bytes.now) result ≡ ended self.now.entries }
+        ensures { option_map (λ key. key.bytes.now) result ≡ last_entry_key self.now.entries }
     {
         self.slice.last_key()
     }
@@ -189,7 +189,7 @@ impl<'r, 'a> OpenBlock<'r, 'a> {
     }
 
     /// The place after the last entry.
-    pub fn behind(&self) -> RunsCursor<'r, 'a>
+    pub fn behind(&self) -> EntryCursor<'r, 'a>
         ensures { result ≡ self.now.behind }
     {
         self.slice.behind()
@@ -198,11 +198,11 @@ impl<'r, 'a> OpenBlock<'r, 'a> {
     /// Ends the block and answers it, and begins another one after it. Takes no memory.
     pub fn end(&mut self) -> PlannedBlock<'r, 'a>
         ensures entries { result.entries.entries ≡ self.old.entries }
-        ensures len { result.len ≡ saturated (length (block self.old.interval self.old.entries)) }
+        ensures len { result.len ≡ saturated_length (length (block self.old.interval self.old.entries)) }
         ensures new { self.new ≡ record { interval = self.old.interval; entries = []; behind = self.old.behind } }
     {
         let entries = self.slice.part();
-        self.slice = RunsSlice::at(self.slice.behind());
+        self.slice = EntrySpan::at(self.slice.behind());
         let len = mem::replace(&mut self.len, EMPTY_LEN);
         self.since = 0;
         PlannedBlock { entries, len }

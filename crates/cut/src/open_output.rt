@@ -11,7 +11,7 @@ ghost use Rattle.std.specs.Prelude.{◌≡◌, ℕ, ◌↔◌, ◌<◌, ◌≤�
 ghost use Rattle.std.specs.List.{AllByRecursion};
 ghost use Rattle.coding.specs.Answers.{fault};
 ghost use Rattle.coding.specs.declared.fault.FaultName.TheVariants.{Memory};
-ghost use Rattle.block.specs.Piece.{Entry};
+ghost use Rattle.block.specs.EncodedEntry.{Entry};
 ghost use Rattle.table.specs.Options.{AreInLimits};
 ghost use Rattle.table.specs.DataBlocks.{data_blocks};
 ghost use Rattle.cut.specs.Opened.{parts_of, HasLen, ends_by};
@@ -19,7 +19,7 @@ ghost use Rattle.cut.specs.Outputs.{outputs_behind};
 
 use crate::open_block::OpenBlock;
 use coding::Fault;
-use encoding::{PlannedBlock, RunsCursor};
+use encoding::{EntryCursor, PlannedBlock};
 use frame::TRAILER_LEN;
 use ikey::InternalKey;
 use std::alloc::Global;
@@ -44,9 +44,9 @@ pub(crate) struct OpenOutput<'r, 'a> {
 impl<'r, 'a> Model for OpenOutput<'r, 'a> {
     ghost use Rattle.std.specs.Prelude.{◌++◌};
     ghost use Rattle.std.specs.Option.{option_map};
-    ghost use Rattle.cut.specs.Opened.{Opened, entries_in_blocks, IsOpen};
+    ghost use Rattle.cut.specs.Opened.{OutputInProgress, entries_in_blocks, IsOpen};
 
-    ghost Value = { Opened };
+    ghost Value = { OutputInProgress };
 
     ghost view = { λ w. record {
       options = w.options;
@@ -59,7 +59,7 @@ impl<'r, 'a> Model for OpenOutput<'r, 'a> {
 
 impl<'r, 'a> OpenOutput<'r, 'a> {
     /// No entries, before those from `place` on. Takes no memory.
-    pub fn new(alloc: Global, options: Options, place: RunsCursor<'r, 'a>) -> OpenOutput<'r, 'a>
+    pub fn new(alloc: Global, options: Options, place: EntryCursor<'r, 'a>) -> OpenOutput<'r, 'a>
         requires { AreInLimits options }
         ensures { result ≡ record { options = options; entries = []; behind = place.entry } }
     {

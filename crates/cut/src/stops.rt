@@ -28,7 +28,7 @@ ghost use Rattle.edit.specs.declared.meta.FileMeta.{FileMeta};
 ghost use Rattle.keep.specs.declared.mark.Mark.{Mark};
 ghost use Rattle.keep.specs.Runs.{joined_marks, moved_mark};
 ghost use Rattle.cut.specs.Stops.{size_between, stops};
-ghost use Rattle.cut.specs.Stopping.{all_stops, room_left, AreCounted};
+ghost use Rattle.cut.specs.OverlapStops.{all_stops, room_left, AreCounted};
 
 use coding::Fault;
 use edit::FileMeta;

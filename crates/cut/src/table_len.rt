@@ -10,12 +10,12 @@
 ghost use Rattle.std.specs.Prelude.{◌≡◌, ◌≢◌, ◌^◌, ◌≤◌, ◌<◌, [], length, drop, Ok};
 ghost use Rattle.std.specs.List.{AllByRecursion};
 ghost use Rattle.coding.specs.Answers.{EqualOrMemory};
-ghost use Rattle.block.specs.Writing.{block};
+ghost use Rattle.block.specs.BlockFormat.{block};
 ghost use Rattle.table.specs.Table.{index_keys};
-ghost use Rattle.cut.specs.Sizes.{saturated};
-ghost use Rattle.cut.specs.TableLength.{index_of, key_at, lens_of, table_size};
+ghost use Rattle.cut.specs.Sizes.{saturated_length};
+ghost use Rattle.cut.specs.TableLength.{planned_index_entries, planned_index_key, lens_of, table_size};
 
-use crate::lengths::{piece_len, varint_len};
+use crate::lengths::{encoded_entry_len, varint_len};
 use coding::Fault;
 use encoding::PlannedBlock;
 use frame::TRAILER_LEN;
@@ -32,7 +32,7 @@ const CLOSING_LEN: u64 = 66;
 
 /// The length of data blocks with their trailers; 2^64 - 1 if it is more.
 pub(crate) fn stored_len(blocks: &[PlannedBlock<'_, '_>]) -> u64
-    ensures { result ≡ saturated (lens_of blocks.now) }
+    ensures { result ≡ saturated_length (lens_of blocks.now) }
 {
     let mut len: u64 = 0;
     for block in blocks {
@@ -52,7 +52,7 @@ fn index_key<C: Comparator>(
     requires within { place < length blocks.now }
     requires some { AllByRecursion (λ b. b.entries.entries ≢ []) blocks.now }
     ensures { EqualOrMemory (λ key. key) result
-        (Ok (key_at (index_keys C.cmp C.separator_of C.successor_of) (drop place blocks.now))) }
+        (Ok (planned_index_key (index_keys C.cmp C.separator_of C.successor_of) (drop place blocks.now))) }
 {
     let Some(last) = blocks[place].entries.last_key() else {
         unreachable!()
@@ -70,7 +70,7 @@ fn index_len<C: Comparator>(alloc: Global, blocks: &[PlannedBlock<'_, '_>]) -> R
     requires some { AllByRecursion (λ b. b.entries.entries ≢ []) blocks.now }
     requires short { lens_of blocks.now ≤ 2 ^ 30 }
     ensures { EqualOrMemory (λ len. len) result
-        (Ok (saturated (length (block 1 (index_of (index_keys C.cmp C.separator_of C.successor_of) 0 blocks.now))))) }
+        (Ok (saturated_length (length (block 1 (planned_index_entries (index_keys C.cmp C.separator_of C.successor_of) 0 blocks.now))))) }
 {
     let mut len = RESTART_LEN;
     let mut offset = 0;
@@ -78,7 +78,7 @@ fn index_len<C: Comparator>(alloc: Global, blocks: &[PlannedBlock<'_, '_>]) -> R
         let key = index_key::<C>(alloc, blocks, place)?;
         let size = blocks[place].len;
         let handle = varint_len(offset) + varint_len(size);
-        let piece = piece_len(0, key.as_key().bytes().len(), handle as usize);
+        let piece = encoded_entry_len(0, key.as_key().bytes().len(), handle as usize);
         len = len.saturating_add(piece).saturating_add(RESTART_LEN);
         offset += size + TRAILER_LEN as u64;
     }

@@ -5,14 +5,14 @@ ghost use Rattle.coding.specs.Answers.{EqualOrMemory, fault};
 ghost use Rattle.coding.specs.declared.fault.FaultName.TheVariants.{Memory};
 ghost use Rattle.table.specs.Table.{table};
 ghost use Rattle.cut.specs.OutputMeta.{IsMetaOf};
-ghost use Rattle.cut.specs.Plan.{jobs, assembled, encoded};
-ghost use Rattle.cut.specs.Planning.{lists_in};
+ghost use Rattle.cut.specs.Plan.{jobs, plan_tables, encoded_pieces};
+ghost use Rattle.cut.specs.OutputPlan.{lists_in};
 
-use crate::assembling::assemble_all;
+use crate::block_summary::meta_of;
 use crate::output_meta::OutputMeta;
 use crate::piece::Piece;
+use crate::plan_assembly::assemble_all;
 use crate::planned_output::PlannedOutput;
-use crate::summing::meta_of;
 use crate::table_len::stored_len;
 use coding::Fault;
 use encoding::{PlannedBlock, encode_blocks};
@@ -40,7 +40,7 @@ pub struct Plan<'r, 'a, C: Comparator> {
 impl<'r, 'a, C: Comparator> Model for Plan<'r, 'a, C> {
     ghost use Rattle.std.specs.Prelude.{map};
     ghost use Rattle.table.specs.Table.{table};
-    ghost use Rattle.cut.specs.Planning.{PlanSeen, planned_of, IsPlan};
+    ghost use Rattle.cut.specs.OutputPlan.{PlanSeen, planned_of, IsPlan};
 
     ghost Value = { PlanSeen };
 
@@ -95,7 +95,7 @@ impl<'r, 'a, C: Comparator> Plan<'r, 'a, C> {
     pub fn encode(&self, alloc: Global, job: u64) -> Result<Vec<u8>, Fault>
         requires { job < jobs self.now.options (lists_in self.now.outputs) }
         ensures ok { IfOk result (λ bytes.
-            slice_get (encoded self.now.options (lists_in self.now.outputs)) job ≡ Some bytes.items) }
+            slice_get (encoded_pieces self.now.options (lists_in self.now.outputs)) job ≡ Some bytes.items) }
         ensures memory { IfErr result (λ e. e ≡ fault Memory) }
     {
         let piece = self.pieces[job as usize];
@@ -118,9 +118,9 @@ impl<'r, 'a, C: Comparator> Plan<'r, 'a, C> {
         alloc: Global,
         pieces: Vec<Vec<u8>>,
     ) -> Result<Vec<(u64, Vec<u8>)>, Fault>
-        requires { map (λ p. p.items) pieces.items ≡ encoded self.now.options (lists_in self.now.outputs) }
+        requires { map (λ p. p.items) pieces.items ≡ encoded_pieces self.now.options (lists_in self.now.outputs) }
         ensures { EqualOrMemory (λ tables. map (λ t. (t.0, t.1.items)) tables.items) result
-            (Ok (assembled (table C.cmp C.separator_of C.successor_of self.now.options) self.now.outputs)) }
+            (Ok (plan_tables (table C.cmp C.separator_of C.successor_of self.now.options) self.now.outputs)) }
     {
         let interval = self.options.restart_interval;
         assemble_all::<C>(alloc, &self.outputs, &self.counts, interval, pieces)

@@ -7,8 +7,8 @@
 //! None of them changes a folder. No contract says which file, log or numbers these are.
 #![tactic(auto)]
 
-mod accounting;
+mod compaction_account;
 mod diagnosis;
 
-pub use accounting::account_of;
+pub use compaction_account::account_of;
 pub use diagnosis::{RefusedFile, log_with_writes, refused_file};

@@ -14,13 +14,13 @@ use Rattle.coding.proofs.Refusals.{unless_from}
 use Rattle.coding.specs.Answers.{fault, FailsOrMemory}
 use Rattle.coding.specs.declared.fault.Fault.{Fault}
 use Rattle.coding.specs.declared.fault.FaultName.TheVariants.{Apply}
-use Rattle.edit.specs.Edit.{Edit, HasLevels}
-use Rattle.edit.specs.Version.{State, AreLevelled, IsState, is_deleted, has_place, kept_files, are_new, number_cmp, with_file, files_after, with_pointer, applied}
+use Rattle.edit.specs.Edit.{Edit, HasValidLevels}
+use Rattle.edit.specs.Version.{State, AreLevelled, IsState, is_deleted, has_place, undeleted_files, are_new, number_cmp, with_file, files_after, with_pointer, applied}
 use Rattle.edit.specs.declared.meta.NewFile.{NewFile}
 use Rattle.edit.specs.declared.meta.CompactPointer.{CompactPointer}
 use Rattle.edit.specs.declared.meta.DeletedFile.{DeletedFile}
 use Rattle.edit.proofs.Inserted.{sorted_all}
-use Rattle.edit.proofs.Rising.{number_total, rising_apart, rising_filter}
+use Rattle.edit.proofs.RisingFiles.{number_total, rising_apart, rising_filter}
 use Rattle.edit.proofs.Together.{rises_put}
 
 -- ---- copies of maps
@@ -60,14 +60,14 @@ some_files files = Some files
 abbrev pub answer : Option (List NewFile) → Result (List NewFile) Fault
 answer files = ok_or files (fault Apply)
 
-pub after_is : (files : List NewFile) (ds : List DeletedFile) (added : List NewFile) → list_all (has_place files) ds ≡ true → are_new (kept_files ds files) added ≡ true
-    → files_after files ds added ≡ Some (fold with_file (kept_files ds files) added)
+pub after_is : (files : List NewFile) (ds : List DeletedFile) (added : List NewFile) → list_all (has_place files) ds ≡ true → are_new (undeleted_files ds files) added ≡ true
+    → files_after files ds added ≡ Some (fold with_file (undeleted_files ds files) added)
 after_is files ds added p q = rw (p, q) refl
 
 pub after_no_place : (files : List NewFile) (ds : List DeletedFile) (added : List NewFile) → list_all (has_place files) ds ≡ false → answer (files_after files ds added) ≡ Err (fault Apply)
 after_no_place files ds added e = rw e refl
 
-pub after_clash : (files : List NewFile) (ds : List DeletedFile) (added : List NewFile) → list_all (has_place files) ds ≡ true → are_new (kept_files ds files) added ≡ false → answer (files_after files ds added) ≡ Err (fault Apply)
+pub after_clash : (files : List NewFile) (ds : List DeletedFile) (added : List NewFile) → list_all (has_place files) ds ≡ true → are_new (undeleted_files ds files) added ≡ false → answer (files_after files ds added) ≡ Err (fault Apply)
 after_clash files ds added p q = rw (p, q) refl
 
 tests_passed : (a b : Bool) (x y : List NewFile) → cond (a && b) (Some x) None ≡ some_files y → x ≡ y
@@ -112,12 +112,12 @@ pointer_levels m [] h k = h
 pointer_levels m (p ∷ ps) h k =
     pointer_levels (with_pointer m p) ps (All-keys-insert_entry nat_cmp p.level p.key (λ (level : ℕ). level ≤ 6) m h (All-head (λ (q : CompactPointer). q.level ≤ 6) p ps k)) (All-tail (λ (q : CompactPointer). q.level ≤ 6) p ps k)
 
-levels_after : (pointers after_pointers : List (ℕ × List ℕ)) (files after : List NewFile) (e : Edit) → AreLevelled pointers files → HasLevels e → files_after files e.deleted e.added ≡ Some after
+levels_after : (pointers after_pointers : List (ℕ × List ℕ)) (files after : List NewFile) (e : Edit) → AreLevelled pointers files → HasValidLevels e → files_after files e.deleted e.added ≡ Some after
     → after_pointers ≡ fold with_pointer pointers e.pointers → AreLevelled after_pointers after
 levels_after pointers after_pointers files after e state levels is pointers-are =
-    let t = tests_passed (list_all (has_place files) e.deleted) (are_new (kept_files e.deleted files) e.added) (fold with_file (kept_files e.deleted files) e.added) after is in
+    let t = tests_passed (list_all (has_place files) e.deleted) (are_new (undeleted_files e.deleted files) e.added) (fold with_file (undeleted_files e.deleted files) e.added) after is in
     record {
-      file_levels = subst (All low) t (low_added (kept_files e.deleted files) e.added (All-filter (λ (f : NewFile). not (is_deleted e.deleted f)) low files state.file_levels) levels.added);
+      file_levels = subst (All low) t (low_added (undeleted_files e.deleted files) e.added (All-filter (λ (f : NewFile). not (is_deleted e.deleted f)) low files state.file_levels) levels.added);
       pointer_levels = subst (λ (m : List (ℕ × List ℕ)). All (λ (level : ℕ). level ≤ 6) (keys_of m)) (sym pointers-are) (pointer_levels pointers e.pointers state.pointer_levels levels.pointers);
     }
 
@@ -126,11 +126,11 @@ pointers_rise m [] h = h
 pointers_rise m (p ∷ ps) h = pointers_rise (with_pointer m p) ps (rises_put m p.level p.key h)
 
 -- what holds of a version holds of it after an edit
-pub state_after : (pointers after_pointers : List (ℕ × List ℕ)) (files after : List NewFile) (e : Edit) → IsState pointers files → HasLevels e → files_after files e.deleted e.added ≡ Some after
+pub state_after : (pointers after_pointers : List (ℕ × List ℕ)) (files after : List NewFile) (e : Edit) → IsState pointers files → HasValidLevels e → files_after files e.deleted e.added ≡ Some after
     → after_pointers ≡ fold with_pointer pointers e.pointers → IsState after_pointers after
 state_after pointers after_pointers files after e state levels is pointers-are =
-    let t = tests_passed (list_all (has_place files) e.deleted) (are_new (kept_files e.deleted files) e.added) (fold with_file (kept_files e.deleted files) e.added) after is in
-    let rise = subst (IsStrictlySortedBy number_cmp) t (sorted_all number_cmp number_total (kept_files e.deleted files) e.added (rising_filter number_cmp (λ (f : NewFile). not (is_deleted e.deleted f)) files state.files_rise)) in
+    let t = tests_passed (list_all (has_place files) e.deleted) (are_new (undeleted_files e.deleted files) e.added) (fold with_file (undeleted_files e.deleted files) e.added) after is in
+    let rise = subst (IsStrictlySortedBy number_cmp) t (sorted_all number_cmp number_total (undeleted_files e.deleted files) e.added (rising_filter number_cmp (λ (f : NewFile). not (is_deleted e.deleted f)) files state.files_rise)) in
     record {
       files_rise = rise;
       apart = rising_apart after rise;

@@ -11,7 +11,7 @@ use Rattle.coding.proofs.Varints.{varint_reading-varint, reads_varint}
 use Rattle.coding.proofs.Bytes.{IsBytes, IsBytes-take, IsBytes-drop}
 use Rattle.ikey.specs.Key.{IsInternalKey, internal_key_reading}
 use Rattle.ikey.proofs.Keys.{internal_key_reading-Ok, IsInternalKey-reading}
-use Rattle.edit.specs.Reading.{varint_at, slice_at, level_at, text_at, key_at}
+use Rattle.edit.specs.FieldReader.{varint_at, slice_at, level_at, text_at, key_at}
 use Rattle.edit.proofs.Steps.{bind_some, map_some, passed, passed_not}
 
 -- ---- varints

@@ -14,9 +14,9 @@ use Rattle.coding.proofs.Varints.{length-varint_pos}
 use Rattle.coding.proofs.Bytes.{IsBytes}
 use Rattle.coding.proofs.Refusals.{unless_from}
 use Rattle.edit.specs.Tag.{tag_number}
-use Rattle.edit.specs.Field.{Field, SetComparator, SetLogNumber, SetPreviousLog, SetNextFile, SetLastSequence, SetPointer, DeleteFile, AddFile, tag_of, content, spelling, IsField}
-use Rattle.edit.specs.Reading.{field_at}
-use Rattle.edit.specs.Edit.{Edit, IsEdit, IsRefused, HasLevels, HasShortName, empty_edit, with_field, edit_from, deleted_cmp}
+use Rattle.edit.specs.Field.{Field, SetComparator, SetLogNumber, SetPreviousLog, SetNextFile, SetLastSequence, SetPointer, DeleteFile, AddFile, field_tag, content, spelling, IsField}
+use Rattle.edit.specs.FieldReader.{field_at}
+use Rattle.edit.specs.Edit.{Edit, IsEdit, IsEditRefused, HasValidLevels, HasShortName, empty_edit, with_field, edit_from, deleted_cmp}
 use Rattle.edit.specs.declared.meta.NewFile.{NewFile}
 use Rattle.edit.specs.declared.meta.CompactPointer.{CompactPointer}
 use Rattle.edit.specs.declared.meta.DeletedFile.{DeletedFile}
@@ -28,14 +28,14 @@ AllByRecursion-push P (y ∷ ys) x h p = (h.0, AllByRecursion-push P ys x h.1 p)
 
 -- ---- levels
 
-levels_empty : HasLevels empty_edit
+levels_empty : HasValidLevels empty_edit
 levels_empty = record {
   pointers = All-nil (λ (p : CompactPointer). p.level ≤ 6);
   deleted = All-nil (λ (f : DeletedFile). f.level ≤ 6);
   added = All-nil (λ (f : NewFile). f.level ≤ 6);
 }
 
-levels_on : (e : Edit) (field : Field) → HasLevels e → IsField field → HasLevels (with_field e field)
+levels_on : (e : Edit) (field : Field) → HasValidLevels e → IsField field → HasValidLevels (with_field e field)
 levels_on e (SetComparator name) h lawful = record { pointers = h.pointers; deleted = h.deleted; added = h.added }
 levels_on e (SetLogNumber n) h lawful = record { pointers = h.pointers; deleted = h.deleted; added = h.added }
 levels_on e (SetPreviousLog n) h lawful = record { pointers = h.pointers; deleted = h.deleted; added = h.added }
@@ -84,7 +84,7 @@ pub record ReadsEdit (bytes : List ℕ) (e : Edit) (rest : List ℕ) : Type 0 wh
   pub lawful : AllByRecursion IsField read
   pub parts : bytes ≡ flat_map spelling read ++ rest
   pub sets : edit_from read ≡ e
-  pub levels : HasLevels e
+  pub levels : HasValidLevels e
   pub name : HasShortName e
   pub rest_fits : IsBytes rest
 
@@ -111,7 +111,7 @@ reads_on bytes e rest x r h =
     }
 
 pub spelling_some : (field : Field) → 0 < length (spelling field)
-spelling_some field = omega (arith, length-append (varint (tag_number (tag_of field))) (content field), length-varint_pos (tag_number (tag_of field)))
+spelling_some field = omega (arith, length-append (varint (tag_number (field_tag field))) (content field), length-varint_pos (tag_number (field_tag field)))
 
 pub field_shorter : (bytes : List ℕ) (e : Edit) (rest : List ℕ) (x : Field × List ℕ) → ReadsEdit bytes e rest → field_at rest ≡ Ok x → length x.1 < length rest
 field_shorter bytes e rest x r h =
@@ -126,7 +126,7 @@ reads_end bytes e rest r none = record {
   sets = r.sets;
 }
 
-pub reads_refused : (bytes : List ℕ) (e : Edit) (rest : List ℕ) (d : Fault) → ReadsEdit bytes e rest → rest ≢ [] → field_at rest ≡ Err d → IsRefused bytes d
+pub reads_refused : (bytes : List ℕ) (e : Edit) (rest : List ℕ) (d : Fault) → ReadsEdit bytes e rest → rest ≢ [] → field_at rest ≡ Err d → IsEditRefused bytes d
 reads_refused bytes e rest d r some h = record {
   read = r.read;
   rest = rest;
@@ -177,7 +177,7 @@ left_over : (others : List Field) (rest : List ℕ) → AllByRecursion IsField o
 left_over [] rest lawful some left none = some left
 left_over (f ∷ fs) rest lawful some left none = none f (flat_map spelling fs) lawful.0 left
 
-pub not_both : (bytes : List ℕ) (d : Fault) (e : Edit) → IsRefused bytes d → IsEdit bytes e → ⊥
+pub not_both : (bytes : List ℕ) (d : Fault) (e : Edit) → IsEditRefused bytes d → IsEdit bytes e → ⊥
 not_both bytes d e r x =
     let begins = fields_begin r.read x.fields r.rest r.lawful x.lawful (sym r.parts ∙ x.spelled) in
     left_over begins.others r.rest begins.lawful r.some begins.left r.no_field
@@ -186,7 +186,7 @@ abbrev edits : Edit → Result Edit Fault
 edits e = Ok e
 
 -- what is read is the one edit that the bytes read as
-pub only_edit : {X : Type 0} (view : X → Edit) (bytes : List ℕ) (result : Result X Fault) → IfOk result (λ x. IsEdit bytes (view x)) → IfErr result (λ d. UnlessMemory d (IsRefused bytes d))
+pub only_edit : {X : Type 0} (view : X → Edit) (bytes : List ℕ) (result : Result X Fault) → IfOk result (λ x. IsEdit bytes (view x)) → IfErr result (λ d. UnlessMemory d (IsEditRefused bytes d))
     → (e : Edit) → IsEdit bytes e → EqualOrMemory view result (edits e)
 only_edit view bytes (Ok x) found refused e h = ap edits (one_edit bytes e (view x) h found)
-only_edit view bytes (Err d) found refused e h = unless_from d (IsRefused bytes d) (edits e ≡ Err d) (λ r. absurd (not_both bytes d e r h)) refused
+only_edit view bytes (Err d) found refused e h = unless_from d (IsEditRefused bytes d) (edits e ≡ Err d) (λ r. absurd (not_both bytes d e r h)) refused

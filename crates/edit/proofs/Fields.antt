@@ -10,8 +10,8 @@ use Rattle.coding.specs.declared.fault.FaultName.TheVariants.{EditTag, EditField
 use Rattle.coding.proofs.Bytes.{IsBytes}
 use Rattle.ikey.specs.Key.{IsInternalKey}
 use Rattle.edit.specs.Tag.{tag_number, tags, listed_tag}
-use Rattle.edit.specs.Field.{Field, SetComparator, SetLogNumber, SetPreviousLog, SetNextFile, SetLastSequence, SetPointer, DeleteFile, AddFile, tag_of, content, spelling, IsField}
-use Rattle.edit.specs.Reading.{◌>>=◌, varint_at, level_at, text_at, key_at, pointer_at, deleted_at, added_at, number_field, content_at, tagged_at, field_at}
+use Rattle.edit.specs.Field.{Field, SetComparator, SetLogNumber, SetPreviousLog, SetNextFile, SetLastSequence, SetPointer, DeleteFile, AddFile, field_tag, content, spelling, IsField}
+use Rattle.edit.specs.FieldReader.{◌>>=◌, varint_at, level_at, text_at, key_at, pointer_at, deleted_at, added_at, number_field, content_at, tagged_at, field_at}
 use Rattle.edit.specs.Edit.{field_fault}
 use Rattle.edit.specs.declared.meta.NewFile.{NewFile}
 use Rattle.edit.specs.declared.meta.CompactPointer.{CompactPointer}
@@ -23,7 +23,7 @@ use Rattle.edit.proofs.Contents.{varint_takes, varint_again, level_takes, level_
 
 -- what the content of a field of this tag says of the bytes
 pub record TakesContent (tag : Tag) (bytes : List ℕ) (x : Field × List ℕ) : Type 0 where
-  pub tag_is : tag_of x.0 ≡ tag
+  pub tag_is : field_tag x.0 ≡ tag
   pub parts : bytes ≡ content x.0 ++ x.1
   pub lawful : IsField x.0
   pub rest_fits : IsBytes x.1
@@ -31,7 +31,7 @@ pub record TakesContent (tag : Tag) (bytes : List ℕ) (x : Field × List ℕ) :
 some_is : {A : Type 0} (x y : A) → Some x ≡ Some y → x ≡ y
 some_is x y e = cc
 
-number_takes : (field : ℕ → Field) (tag : Tag) (tagged : (n : ℕ) → tag_of (field n) ≡ tag) (spelt : (n : ℕ) → content (field n) ≡ varint n) (lawful : (n : ℕ) → n < 2 ^ 64 → IsField (field n))
+number_takes : (field : ℕ → Field) (tag : Tag) (tagged : (n : ℕ) → field_tag (field n) ≡ tag) (spelt : (n : ℕ) → content (field n) ≡ varint n) (lawful : (n : ℕ) → n < 2 ^ 64 → IsField (field n))
     (bytes : List ℕ) (x : Field × List ℕ) → IsBytes bytes → number_field field bytes ≡ Some x → TakesContent tag bytes x
 number_takes field tag tagged spelt lawful bytes x fits e =
     let m = map_some (λ (n : ℕ × List ℕ). (field n.0, n.1)) (varint_at (2 ^ 64) bytes) x e in
@@ -160,7 +160,7 @@ added_again f rest h =
     ap added_at (file_bytes (varint f.level) (varint f.meta.number) (varint f.meta.size) (length_prefixed f.meta.smallest) (length_prefixed f.meta.largest) rest)
     ∙ rw (level_again f.level _ h.0, varint_again (2 ^ 64) f.meta.number _ h.1 (lit≤ tt), varint_again (2 ^ 64) f.meta.size _ h.2 (lit≤ tt), key_again f.meta.smallest _ h.3, key_again f.meta.largest rest h.4) refl
 
-pub content_again : (field : Field) (rest : List ℕ) → IsField field → content_at (tag_of field) (content field ++ rest) ≡ Some (field, rest)
+pub content_again : (field : Field) (rest : List ℕ) → IsField field → content_at (field_tag field) (content field ++ rest) ≡ Some (field, rest)
 content_again (SetComparator name) rest h = rw (text_again name rest h.0 h.1) refl
 content_again (SetLogNumber n) rest h = number_again SetLogNumber n rest h
 content_again (SetPreviousLog n) rest h = number_again SetPreviousLog n rest h
@@ -235,9 +235,9 @@ field_takes bytes x fits e =
     let b = map_or_ok (λ (tag : Tag). ok_or (content_at tag a.0.1) (fault EditField)) (listed_tag a.0.0) (fault EditTag) x a.2 in
     let n = varint_takes (2 ^ 32) bytes a.0 fits a.1 in
     let t = content_takes b.0 a.0.1 x n.rest_fits (ok_or_ok (content_at b.0 a.0.1) (fault EditField) x b.2) in
-    let number : a.0.0 ≡ tag_number (tag_of x.0) = sym (listed_is a.0.0 b.0 b.1) ∙ ap tag_number (sym t.tag_is) in
+    let number : a.0.0 ≡ tag_number (field_tag x.0) = sym (listed_is a.0.0 b.0 b.1) ∙ ap tag_number (sym t.tag_is) in
     record {
-      parts = n.parts ∙ ap (λ (r : List ℕ). varint a.0.0 ++ r) t.parts ∙ ap (λ (k : ℕ). varint k ++ (content x.0 ++ x.1)) number ∙ sym (append_assoc (varint (tag_number (tag_of x.0))) (content x.0) x.1);
+      parts = n.parts ∙ ap (λ (r : List ℕ). varint a.0.0 ++ r) t.parts ∙ ap (λ (k : ℕ). varint k ++ (content x.0 ++ x.1)) number ∙ sym (append_assoc (varint (tag_number (field_tag x.0))) (content x.0) x.1);
       lawful = t.lawful;
       rest_fits = t.rest_fits;
     }
@@ -245,8 +245,8 @@ field_takes bytes x fits e =
 pub field_again : (field : Field) (rest : List ℕ) → IsField field → field_at (spelling field ++ rest) ≡ field_read (field, rest)
 unfolding field_at
 field_again field rest h =
-    ap field_at (append_assoc (varint (tag_number (tag_of field))) (content field) rest)
-    ∙ rw (varint_again (2 ^ 32) (tag_number (tag_of field)) (content field ++ rest) (tag_number_small (tag_of field)) (lit≤ tt), listed_number (tag_of field), content_again field rest h) refl
+    ap field_at (append_assoc (varint (tag_number (field_tag field))) (content field) rest)
+    ∙ rw (varint_again (2 ^ 32) (tag_number (field_tag field)) (content field ++ rest) (tag_number_small (field_tag field)) (lit≤ tt), listed_number (field_tag field), content_again field rest h) refl
 
 -- ---- the refusal
 

@@ -11,7 +11,7 @@ use Rattle.std.specs.declared.cmp.Ordering.TheVariants.{Less, Equal, Greater}
 use Rattle.std.proofs.lemmas.Bool.{eqb-true}
 use Rattle.edit.proofs.ByNumber.{IsByNumber}
 use Rattle.edit.specs.Edit.{deleted_cmp}
-use Rattle.edit.specs.Version.{place_of, is_same_place, is_deleted, has_place, kept_files, has_number, are_apart, are_new, number_cmp, with_file}
+use Rattle.edit.specs.Version.{place_of, is_same_place, is_deleted, has_place, undeleted_files, has_number, are_apart, are_new, number_cmp, with_file}
 use Rattle.edit.specs.declared.meta.NewFile.{NewFile}
 use Rattle.edit.specs.declared.meta.DeletedFile.{DeletedFile}
 use Rattle.edit.proofs.Tested.{both_true, both_false, and_false, not_is_true, eqb-sym, is_eq-nat_cmp, is_eq-then, list_any-filter, by_test}
@@ -102,7 +102,7 @@ no_place (f ∷ files) d e =
     let here : is_same_place (place_of f) d ≡ false = and_false (eqb f.level d.level) (eqb f.meta.number d.number) other in
     rw here (no_place files d h.1)
 
-kept_others : (files : List NewFile) (d : DeletedFile) → has_place files d ≡ false → kept_files (d ∷ []) files ≡ files
+kept_others : (files : List NewFile) (d : DeletedFile) → has_place files d ≡ false → undeleted_files (d ∷ []) files ≡ files
 kept_others [] d e = refl
 kept_others (f ∷ files) d e =
     let h = both_false (is_same_place (place_of f) d) (has_place files d) e in
@@ -133,11 +133,11 @@ there_is (e ∷ es) d h rises =
     rw (test_is d.number e h.0) (there_by (eqb d.number e.1.meta.number) e es d refl (none_behind e es d h rises.0) (there_is es d h.1 rises.1))
 
 others_by : (t : Bool) (e : ℕ × NewFile) (es : List (ℕ × NewFile)) (d : DeletedFile) → eqb d.number e.1.meta.number ≡ t → (t ≡ true → has_place (values_of es) d ≡ false)
-    → (has_place (values_of es) d ≡ true → values_of (remove_entry (is_at (nat_cmp d.number)) es) ≡ kept_files (d ∷ []) (values_of es))
+    → (has_place (values_of es) d ≡ true → values_of (remove_entry (is_at (nat_cmp d.number)) es) ≡ undeleted_files (d ∷ []) (values_of es))
     → (is_same_place (place_of e.1) d || has_place (values_of es) d) ≡ true
-    → values_of (cond t es (e ∷ remove_entry (is_at (nat_cmp d.number)) es)) ≡ kept_files (d ∷ []) (e.1 ∷ values_of es)
+    → values_of (cond t es (e ∷ remove_entry (is_at (nat_cmp d.number)) es)) ≡ undeleted_files (d ∷ []) (e.1 ∷ values_of es)
 others_by true e es d is none rest there =
-    by_test (is_same_place (place_of e.1) d) (λ (b : Bool). (b || has_place (values_of es) d) ≡ true → values_of es ≡ cond (not (b || false)) (e.1 ∷ kept_files (d ∷ []) (values_of es)) (kept_files (d ∷ []) (values_of es)))
+    by_test (is_same_place (place_of e.1) d) (λ (b : Bool). (b || has_place (values_of es) d) ≡ true → values_of es ≡ cond (not (b || false)) (e.1 ∷ undeleted_files (d ∷ []) (values_of es)) (undeleted_files (d ∷ []) (values_of es)))
     (λ _ _. sym (kept_others (values_of es) d (none refl)))
     (λ _ h. let both : true ≡ false = sym h ∙ none refl in absurd cc)
     there
@@ -147,7 +147,7 @@ others_by false e es d is none rest there =
     rw other (ap (λ (t : List NewFile). e.1 ∷ t) (rest behind))
 
 pub others_are : (es : List (ℕ × NewFile)) (d : DeletedFile) → Numbered es → IsStrictlySortedBy nat_cmp (keys_of es) → has_place (values_of es) d ≡ true
-    → values_of (remove_entry (is_at (nat_cmp d.number)) es) ≡ kept_files (d ∷ []) (values_of es)
+    → values_of (remove_entry (is_at (nat_cmp d.number)) es) ≡ undeleted_files (d ∷ []) (values_of es)
 unfolding IsStrictlySortedBy
 others_are [] d h rises there = refl
 others_are (e ∷ es) d h rises there =
@@ -173,36 +173,36 @@ one_place f d y is apart =
     let p = place_is (place_of f) d is in
     ap (λ (k : ℕ). eqb k y.level && eqb f.meta.number y.number) p.0 ∙ ap (λ (k : ℕ). eqb d.level y.level && eqb k y.number) p.1 ∙ apart
 
-still_there : (files : List NewFile) (d y : DeletedFile) → is_same_place d y ≡ false → has_place files y ≡ has_place (kept_files (d ∷ []) files) y
+still_there : (files : List NewFile) (d y : DeletedFile) → is_same_place d y ≡ false → has_place files y ≡ has_place (undeleted_files (d ∷ []) files) y
 still_there [] d y apart = refl
 still_there (f ∷ files) d y apart =
     let rest = still_there files d y apart in
-    by_test (is_same_place (place_of f) d) (λ (b : Bool). is_same_place (place_of f) d ≡ b → (is_same_place (place_of f) y || has_place files y) ≡ has_place (cond (not (b || false)) (f ∷ kept_files (d ∷ []) files) (kept_files (d ∷ []) files)) y)
+    by_test (is_same_place (place_of f) d) (λ (b : Bool). is_same_place (place_of f) d ≡ b → (is_same_place (place_of f) y || has_place files y) ≡ has_place (cond (not (b || false)) (f ∷ undeleted_files (d ∷ []) files) (undeleted_files (d ∷ []) files)) y)
     (λ _ is. ap (λ (b : Bool). b || has_place files y) (one_place f d y is apart) ∙ rest)
     (λ _ _. ap (λ (b : Bool). is_same_place (place_of f) y || b) rest)
     refl
 
-all_still_there : (files : List NewFile) (d : DeletedFile) (ds : List DeletedFile) → AllByRecursion (λ y. deleted_cmp d y ≡ Less) ds → list_all (has_place files) ds ≡ list_all (has_place (kept_files (d ∷ []) files)) ds
+all_still_there : (files : List NewFile) (d : DeletedFile) (ds : List DeletedFile) → AllByRecursion (λ y. deleted_cmp d y ≡ Less) ds → list_all (has_place files) ds ≡ list_all (has_place (undeleted_files (d ∷ []) files)) ds
 all_still_there files d [] h = refl
 all_still_there files d (y ∷ ds) h =
     ap (λ (b : Bool). b && list_all (has_place files) ds) (still_there files d y (less_not_same d y h.0))
-    ∙ ap (λ (b : Bool). has_place (kept_files (d ∷ []) files) y && b) (all_still_there files d ds h.1)
+    ∙ ap (λ (b : Bool). has_place (undeleted_files (d ∷ []) files) y && b) (all_still_there files d ds h.1)
 
-kept_both : (files : List NewFile) (d : DeletedFile) (ds : List DeletedFile) → kept_files (d ∷ ds) files ≡ kept_files ds (kept_files (d ∷ []) files)
+kept_both : (files : List NewFile) (d : DeletedFile) (ds : List DeletedFile) → undeleted_files (d ∷ ds) files ≡ undeleted_files ds (undeleted_files (d ∷ []) files)
 kept_both [] d ds = refl
 kept_both (f ∷ files) d ds =
     let rest = kept_both files d ds in
-    by_test (is_same_place (place_of f) d) (λ (b : Bool). cond (not (b || is_deleted ds f)) (f ∷ kept_files (d ∷ ds) files) (kept_files (d ∷ ds) files) ≡ kept_files ds (cond (not (b || false)) (f ∷ kept_files (d ∷ []) files) (kept_files (d ∷ []) files)))
+    by_test (is_same_place (place_of f) d) (λ (b : Bool). cond (not (b || is_deleted ds f)) (f ∷ undeleted_files (d ∷ ds) files) (undeleted_files (d ∷ ds) files) ≡ undeleted_files ds (cond (not (b || false)) (f ∷ undeleted_files (d ∷ []) files) (undeleted_files (d ∷ []) files)))
     (λ _. rest)
     (λ _. ap (λ (t : List NewFile). cond (not (is_deleted ds f)) (f ∷ t) t) rest)
 
-pub kept_all : (files : List NewFile) → kept_files [] files ≡ files
+pub kept_all : (files : List NewFile) → undeleted_files [] files ≡ files
 kept_all [] = refl
 kept_all (f ∷ files) = ap (λ (t : List NewFile). f ∷ t) (kept_all files)
 
 -- what the deletions so far have left
 pub record TakesOut (before : List NewFile) (all : List DeletedFile) (files : List NewFile) (rest : List DeletedFile) : Type 0 where
-  pub kept : kept_files all before ≡ kept_files rest files
+  pub kept : undeleted_files all before ≡ undeleted_files rest files
   pub there : list_all (has_place before) all ≡ list_all (has_place files) rest
   pub rises : IsStrictlySortedBy deleted_cmp rest
 
@@ -210,10 +210,10 @@ pub takes_begin : (files : List NewFile) (all : List DeletedFile) → IsStrictly
 takes_begin files all rises = record { kept = refl; there = refl; rises = rises }
 
 pub takes_on : (before : List NewFile) (all : List DeletedFile) (files after : List NewFile) (d : DeletedFile) (rest : List DeletedFile) → TakesOut before all files (d ∷ rest) → has_place files d ≡ true
-    → after ≡ kept_files (d ∷ []) files → TakesOut before all after rest
+    → after ≡ undeleted_files (d ∷ []) files → TakesOut before all after rest
 unfolding IsStrictlySortedBy
 takes_on before all files after d rest t there is = record {
-  kept = t.kept ∙ kept_both files d rest ∙ ap (kept_files rest) (sym is);
+  kept = t.kept ∙ kept_both files d rest ∙ ap (undeleted_files rest) (sym is);
   there = t.there
       ∙ ap (λ (b : Bool). b && list_all (has_place files) rest) there
       ∙ all_still_there files d rest t.rises.0

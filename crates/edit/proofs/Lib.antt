@@ -13,8 +13,8 @@ pub mod Added
 pub mod Places
 pub mod Moved
 pub mod Inserted
-pub mod Rising
+pub mod RisingFiles
 pub mod Applied
-pub mod Sorting
+pub mod SortedFiles
 pub mod Remade
 pub mod Snapshots

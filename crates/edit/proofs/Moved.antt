@@ -12,7 +12,7 @@ use Rattle.std.proofs.lemmas.Map.{lookup-remove_entry, lookup-set_value, keys-se
 use Rattle.std.proofs.lemmas.Map.Keys.{IsDistinct-from_sorted}
 use Rattle.std.proofs.lemmas.Option.{none-some, same_Some, slice_get-get_or, slice_get_within}
 use Rattle.edit.specs.FilePlaces.{number_at, AreFilePlaces, numbered_files, with_place_of}
-use Rattle.edit.specs.Version.{has_place, kept_files}
+use Rattle.edit.specs.Version.{has_place, undeleted_files}
 use Rattle.edit.specs.declared.meta.NewFile.{NewFile}
 use Rattle.edit.specs.declared.meta.DeletedFile.{DeletedFile}
 use Rattle.edit.proofs.Kept.{there_is, others_are}
@@ -270,7 +270,7 @@ stands_nowhere files ps d h under =
     ap (λ (o : Option NewFile). option_map_or (λ (f : NewFile). eqb f.level d.level) o false) (found_file files ps d.number None h under) ∙ there_is (numbered_files files ps) d es.numbers es.rises
 
 pub others_left : (files after : List NewFile) (ps qs : List (ℕ × ℕ)) (d : DeletedFile) (i last : ℕ) → TakesOne files after ps d.number i last → qs ≡ left after ps d.number i → has_place (values_of (numbered_files files ps)) d ≡ true
-    → values_of (numbered_files after qs) ≡ kept_files (d ∷ []) (values_of (numbered_files files ps))
+    → values_of (numbered_files after qs) ≡ undeleted_files (d ∷ []) (values_of (numbered_files files ps))
 others_left files after ps qs d i last t is there =
     let es = by_number_is files ps t.placed_so in
     ap (λ (q : List (ℕ × ℕ)). values_of (numbered_files after q)) is ∙ ap values_of (left_is files after ps d.number i last t) ∙ others_are (numbered_files files ps) d es.numbers es.rises there

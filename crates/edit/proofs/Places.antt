@@ -11,7 +11,7 @@ use Rattle.std.proofs.lemmas.Cmp.{nat_cmp_total, tied_itself}
 use Rattle.std.proofs.lemmas.Map.Lookups.{exact_unsigned}
 use Rattle.std.proofs.lemmas.Option.{none-some, same_Some, slice_get_within}
 use Rattle.edit.proofs.ByNumber.{IsByNumber, with_numbered}
-use Rattle.edit.specs.FilePlaces.{number_at, AreFilePlaces, with_found, numbered_files, places_from, with_place}
+use Rattle.edit.specs.FilePlaces.{number_at, AreFilePlaces, with_found, numbered_files, file_places_from, with_place}
 use Rattle.edit.specs.Version.{has_number, are_new}
 use Rattle.edit.specs.VersionOrder.{files_at}
 use Rattle.edit.specs.declared.meta.FileMeta.{FileMeta}
@@ -197,7 +197,7 @@ complete_put files ps f t none = λ n i e.
 -- ---- all new files at the end
 
 abbrev pub places_after : List NewFile → List (ℕ × ℕ) → List NewFile → List (ℕ × ℕ)
-places_after files ps added = fold with_place ps (places_from (length files) added)
+places_after files ps added = fold with_place ps (file_places_from (length files) added)
 
 one_longer : (files : List NewFile) (f : NewFile) → length (files ++ f ∷ []) ≡ suc (length files)
 one_longer files f = length-append files (f ∷ []) ∙ omega arith
@@ -207,7 +207,7 @@ carried : (P : List NewFile → List (ℕ × ℕ) → Type 0) (files : List NewF
     → P ((files ++ f ∷ []) ++ added) (places_after (files ++ f ∷ []) (with_last files ps f) added) → P (files ++ f ∷ added) (places_after files ps (f ∷ added))
 carried P files ps f added h =
     subst (λ (fs : List NewFile). P fs (places_after files ps (f ∷ added))) (append_assoc files (f ∷ []) added)
-    (subst (λ (n : ℕ). P ((files ++ f ∷ []) ++ added) (fold with_place (with_last files ps f) (places_from n added))) (one_longer files f) h)
+    (subst (λ (n : ℕ). P ((files ++ f ∷ []) ++ added) (fold with_place (with_last files ps f) (file_places_from n added))) (one_longer files f) h)
 
 pub all_placed : (added files : List NewFile) (ps : List (ℕ × ℕ)) → Held files ps → numbered_files (files ++ added) (places_after files ps added) ≡ fold with_numbered (numbered_files files ps) added
 all_placed [] files ps h = ap (λ (fs : List NewFile). numbered_files fs ps) (append-nil files)
@@ -265,14 +265,14 @@ pub is_placed_after : (files : List NewFile) (ps : List (ℕ × ℕ)) (added all
     → are_new (values_of (numbered_files files ps)) added ≡ true → AreFilePlaces all qs
 is_placed_after files ps added all qs h all-is qs-is new =
     subst (λ (fs : List NewFile). AreFilePlaces fs qs) (sym all-is) (subst (AreFilePlaces (files ++ added)) (sym qs-is) (record {
-      rises = rises_each ps (places_from (length files) added) h.rises;
+      rises = rises_each ps (file_places_from (length files) added) h.rises;
       sound = held_found (files ++ added) (places_after files ps added) (all_held added files ps (held_is files ps h));
       complete = all_complete added files ps (held_is files ps h) h.complete new;
     }))
 
 -- places that count from the length of the files
-pub counted : (files : List NewFile) (ps : List (ℕ × ℕ)) (added given : List NewFile) (qs : List (ℕ × ℕ)) (first : ℕ) → first ≡ length files → given ≡ added → qs ≡ fold with_place ps (places_from first given) → qs ≡ places_after files ps added
-counted files ps added given qs first is same-files e = e ∙ ap (λ (n : ℕ). fold with_place ps (places_from n given)) is ∙ ap (λ (fs : List NewFile). fold with_place ps (places_from (length files) fs)) same-files
+pub counted : (files : List NewFile) (ps : List (ℕ × ℕ)) (added given : List NewFile) (qs : List (ℕ × ℕ)) (first : ℕ) → first ≡ length files → given ≡ added → qs ≡ fold with_place ps (file_places_from first given) → qs ≡ places_after files ps added
+counted files ps added given qs first is same-files e = e ∙ ap (λ (n : ℕ). fold with_place ps (file_places_from n given)) is ∙ ap (λ (fs : List NewFile). fold with_place ps (file_places_from (length files) fs)) same-files
 
 length_values : (es : List (ℕ × NewFile)) → length es ≡ length (values_of es)
 length_values [] = refl

@@ -12,13 +12,13 @@ use Rattle.std.proofs.lemmas.List.Elements.{All-head, All-tail}
 use Rattle.std.proofs.lemmas.List.Sorted.{IsPermutation-refl, IsPermutation-sym, IsPermutation-trans, IsPermutation-cons, IsPermutation-middle, IsPermutation-append, IsPermutation-append_right, IsPermutation-map}
 use Rattle.std.proofs.lemmas.Map.Keys.{IsDistinct-IsPermutation}
 use Rattle.edit.specs.Version.{State, IsState, applied, are_apart, empty_state, files_after, number_cmp, with_file, with_pointer}
-use Rattle.edit.specs.VersionOrder.{added_from, at_level, files_at, in_version_order, pointer_entry, snapshot_of, unnumbered}
+use Rattle.edit.specs.VersionOrder.{added_from, at_level, files_at, in_version_order, pointer_entry, snapshot_of, unnumbered_version}
 use Rattle.edit.specs.declared.meta.NewFile.{NewFile}
 use Rattle.edit.proofs.Applied.{after_is, last_entry}
 use Rattle.edit.proofs.Inserted.{in_order}
-use Rattle.edit.proofs.Rising.{same_file, number_total, same_turned, tied_same, rising_distinct, distinct_apart}
+use Rattle.edit.proofs.RisingFiles.{same_file, number_total, same_turned, tied_same, rising_distinct, distinct_apart}
 use Rattle.edit.proofs.Snapshots.{added_from-suc, added_from-zero, one_level}
-use Rattle.edit.proofs.Sorting.{order_permutes}
+use Rattle.edit.proofs.SortedFiles.{order_permutes}
 use Rattle.edit.proofs.Tested.{by_test}
 
 -- ---- all levels, one after the other
@@ -123,7 +123,7 @@ both_passed true false e h = refl
 both_passed true true e h = absurd cc
 both_passed false b e h = absurd cc
 
-pub remade : {cmp : List ℕ → List ℕ → Ordering} → IsTotalOrder cmp → (name : List ℕ) (v : State) → IsState v.pointers v.files → applied empty_state (snapshot_of name cmp v) ≡ Some (unnumbered v)
+pub remade : {cmp : List ℕ → List ℕ → Ordering} → IsTotalOrder cmp → (name : List ℕ) (v : State) → IsState v.pointers v.files → applied empty_state (snapshot_of name cmp v) ≡ Some (unnumbered_version v)
 remade {cmp} total name v h =
     let added = added_from cmp v.files 0 7 in
     let permuted = IsPermutation-trans added (of_levels v.files 0 7) v.files (levels_permute total v.files h.apart 0 7) (all_levels v.files h.levels.file_levels) in

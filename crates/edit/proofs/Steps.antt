@@ -1,7 +1,7 @@
 -- The steps of a reading that may find nothing.
 use Rattle.std.proofs.Common.{◌≡◌, Bool, true, false, cond, Option, Some, None, refl}
 use Rattle.std.specs.Option.{option_map}
-use Rattle.edit.specs.Reading.{◌>>=◌}
+use Rattle.edit.specs.FieldReader.{◌>>=◌}
 
 -- the value of a step that found one
 pub bind_some : {A B : Type 0} (o : Option A) (f : A → Option B) (y : B) → (o >>= f) ≡ Some y → (x : A) × (o ≡ Some x) × (f x ≡ Some y)

@@ -2,7 +2,7 @@
 use Rattle.std.proofs.Common.{◌≡◌, ℕ, Bool, true, false, List, Option, Some, None, refl}
 use Rattle.std.specs.Str.{IsUtf8, is_utf8}
 use Rattle.std.proofs.lemmas.Str.{is_utf8-from_IsUtf8, IsUtf8-from_is_utf8}
-use Rattle.edit.specs.Reading.{slice_at, text_at}
+use Rattle.edit.specs.FieldReader.{slice_at, text_at}
 
 pub text_found : (bytes : List ℕ) (x : List ℕ × List ℕ) → slice_at bytes ≡ Some x → IsUtf8 x.0 → text_at bytes ≡ Some x
 unfolding text_at

@@ -14,7 +14,7 @@ use Rattle.std.proofs.lemmas.List.Sums.{fold-append}
 use Rattle.std.proofs.lemmas.Grind.{flat_map-append}
 use Rattle.edit.specs.Field.{Field, SetComparator, SetLogNumber, SetPreviousLog, SetNextFile, SetLastSequence, SetPointer, DeleteFile, AddFile, spelling, IsField}
 use Rattle.coding.specs.Varint.{varint}
-use Rattle.edit.specs.Edit.{Edit, IsEdit, empty_edit, with_field, edit_from, deleted_cmp, optional, settings_of, fields_of, edit_bytes}
+use Rattle.edit.specs.Edit.{Edit, IsEdit, empty_edit, with_field, edit_from, deleted_cmp, optional_field, settings_of, fields_of, edit_bytes}
 use Rattle.edit.specs.Tag.{tag_number}
 use Rattle.edit.specs.declared.tag.Tag.{Tag}
 use Rattle.edit.specs.declared.tag.Tag.TheVariants.{LogNumber, NextFile, LastSequence, PreviousLog}
@@ -97,23 +97,23 @@ settings comparator log previous next last = record {
   added = [];
 }
 
-set_comparator : (o : Option (List ℕ)) → fold with_field (settings None None None None None) (optional SetComparator o) ≡ settings o None None None None
+set_comparator : (o : Option (List ℕ)) → fold with_field (settings None None None None None) (optional_field SetComparator o) ≡ settings o None None None None
 set_comparator None = refl
 set_comparator (Some x) = refl
 
-set_log : (c : Option (List ℕ)) (o : Option ℕ) → fold with_field (settings c None None None None) (optional SetLogNumber o) ≡ settings c o None None None
+set_log : (c : Option (List ℕ)) (o : Option ℕ) → fold with_field (settings c None None None None) (optional_field SetLogNumber o) ≡ settings c o None None None
 set_log c None = refl
 set_log c (Some x) = refl
 
-set_previous : (c : Option (List ℕ)) (l o : Option ℕ) → fold with_field (settings c l None None None) (optional SetPreviousLog o) ≡ settings c l o None None
+set_previous : (c : Option (List ℕ)) (l o : Option ℕ) → fold with_field (settings c l None None None) (optional_field SetPreviousLog o) ≡ settings c l o None None
 set_previous c l None = refl
 set_previous c l (Some x) = refl
 
-set_next : (c : Option (List ℕ)) (l p o : Option ℕ) → fold with_field (settings c l p None None) (optional SetNextFile o) ≡ settings c l p o None
+set_next : (c : Option (List ℕ)) (l p o : Option ℕ) → fold with_field (settings c l p None None) (optional_field SetNextFile o) ≡ settings c l p o None
 set_next c l p None = refl
 set_next c l p (Some x) = refl
 
-set_last : (c : Option (List ℕ)) (l p n o : Option ℕ) → fold with_field (settings c l p n None) (optional SetLastSequence o) ≡ settings c l p n o
+set_last : (c : Option (List ℕ)) (l p n o : Option ℕ) → fold with_field (settings c l p n None) (optional_field SetLastSequence o) ≡ settings c l p n o
 set_last c l p n None = refl
 set_last c l p n (Some x) = refl
 
@@ -164,11 +164,11 @@ filled done (f ∷ fs) h =
 -- what an edit's fields set is the edit, and its bytes read as it
 pub fields_set : (e : Edit) → IsStrictlySortedBy deleted_cmp e.deleted → edit_from (fields_of e) ≡ e
 fields_set e ordered =
-    let c = optional SetComparator e.comparator in
-    let l = optional SetLogNumber e.log_number in
-    let p = optional SetPreviousLog e.previous_log in
-    let n = optional SetNextFile e.next_file in
-    let s = optional SetLastSequence e.last_sequence in
+    let c = optional_field SetComparator e.comparator in
+    let l = optional_field SetLogNumber e.log_number in
+    let p = optional_field SetPreviousLog e.previous_log in
+    let n = optional_field SetNextFile e.next_file in
+    let s = optional_field SetLastSequence e.last_sequence in
     let ps = map SetPointer e.pointers in
     let ds = map DeleteFile e.deleted in
     let fs = map AddFile e.added in
@@ -191,7 +191,7 @@ reads_back e ordered lawful = record { fields = fields_of e; lawful = lawful; sp
 abbrev number_bytes : Tag → Option ℕ → List ℕ
 number_bytes tag number = option_map_or (λ n. varint (tag_number tag) ++ varint n) number []
 
-spelt_number : (field : ℕ → Field) (tag : Tag) (spelt : (n : ℕ) → spelling (field n) ≡ varint (tag_number tag) ++ varint n) (o : Option ℕ) → flat_map spelling (optional field o) ≡ number_bytes tag o
+spelt_number : (field : ℕ → Field) (tag : Tag) (spelt : (n : ℕ) → spelling (field n) ≡ varint (tag_number tag) ++ varint n) (o : Option ℕ) → flat_map spelling (optional_field field o) ≡ number_bytes tag o
 spelt_number field tag spelt None = refl
 spelt_number field tag spelt (Some n) = append-nil (spelling (field n)) ∙ spelt n
 
@@ -201,7 +201,7 @@ five x a b c d e = simp append_assoc
 flat_map-settings : (a b c d e : List Field) → flat_map spelling (a ++ b ++ c ++ d ++ e) ≡ (((flat_map spelling a ++ flat_map spelling b) ++ flat_map spelling c) ++ flat_map spelling d) ++ flat_map spelling e
 flat_map-settings a b c d e = simp flat_map-append
 
-pub settings_written : (e : Edit) (old a b c d out : List ℕ) → a ≡ old ++ flat_map spelling (optional SetComparator e.comparator) → b ≡ a ++ number_bytes LogNumber e.log_number
+pub settings_written : (e : Edit) (old a b c d out : List ℕ) → a ≡ old ++ flat_map spelling (optional_field SetComparator e.comparator) → b ≡ a ++ number_bytes LogNumber e.log_number
     → c ≡ b ++ number_bytes PreviousLog e.previous_log → d ≡ c ++ number_bytes NextFile e.next_file → out ≡ d ++ number_bytes LastSequence e.last_sequence → out ≡ old ++ flat_map spelling (settings_of e)
 settings_written e old a b c d out p q r s t =
     let l = spelt_number SetLogNumber LogNumber (λ n. refl) e.log_number in
@@ -209,8 +209,8 @@ settings_written e old a b c d out p q r s t =
     let n = spelt_number SetNextFile NextFile (λ n. refl) e.next_file in
     let k = spelt_number SetLastSequence LastSequence (λ n. refl) e.last_sequence in
     rw (t, s, r, q, p, ← l, ← m, ← n, ← k)
-    (five old (flat_map spelling (optional SetComparator e.comparator)) (flat_map spelling (optional SetLogNumber e.log_number)) (flat_map spelling (optional SetPreviousLog e.previous_log)) (flat_map spelling (optional SetNextFile e.next_file)) (flat_map spelling (optional SetLastSequence e.last_sequence))
-    ∙ ap (λ (x : List ℕ). old ++ x) (sym (flat_map-settings (optional SetComparator e.comparator) (optional SetLogNumber e.log_number) (optional SetPreviousLog e.previous_log) (optional SetNextFile e.next_file) (optional SetLastSequence e.last_sequence))))
+    (five old (flat_map spelling (optional_field SetComparator e.comparator)) (flat_map spelling (optional_field SetLogNumber e.log_number)) (flat_map spelling (optional_field SetPreviousLog e.previous_log)) (flat_map spelling (optional_field SetNextFile e.next_file)) (flat_map spelling (optional_field SetLastSequence e.last_sequence))
+    ∙ ap (λ (x : List ℕ). old ++ x) (sym (flat_map-settings (optional_field SetComparator e.comparator) (optional_field SetLogNumber e.log_number) (optional_field SetPreviousLog e.previous_log) (optional_field SetNextFile e.next_file) (optional_field SetLastSequence e.last_sequence))))
 
 flat_map-groups : (a b c d : List Field) → flat_map spelling (a ++ b ++ c ++ d) ≡ ((flat_map spelling a ++ flat_map spelling b) ++ flat_map spelling c) ++ flat_map spelling d
 flat_map-groups a b c d = simp flat_map-append

@@ -71,17 +71,17 @@ pub record IsEdit (bytes : List ℕ) (e : Edit) : Type 0 where
   pub sets : edit_from fields ≡ e
 
 -- a field that may be missing
-abbrev pub optional : {A : Type 0} → (A → Field) → Option A → List Field
-optional field o = map field (option_to_list o)
+abbrev pub optional_field : {A : Type 0} → (A → Field) → Option A → List Field
+optional_field field o = map field (option_to_list o)
 
 -- the comparator and the numbers
 abbrev pub settings_of : Edit → List Field
 settings_of e =
-    optional SetComparator e.comparator
-    ++ optional SetLogNumber e.log_number
-    ++ optional SetPreviousLog e.previous_log
-    ++ optional SetNextFile e.next_file
-    ++ optional SetLastSequence e.last_sequence
+    optional_field SetComparator e.comparator
+    ++ optional_field SetLogNumber e.log_number
+    ++ optional_field SetPreviousLog e.previous_log
+    ++ optional_field SetNextFile e.next_file
+    ++ optional_field SetLastSequence e.last_sequence
 
 -- the fields of an edit in the order in which they are written
 abbrev pub fields_of : Edit → List Field
@@ -99,7 +99,7 @@ field_fault bytes =
 
 -- The bytes are refused with this fault: after some fields there are bytes left that begin with no
 -- field.
-pub record IsRefused (bytes : List ℕ) (e : Fault) : Type 0 where
+pub record IsEditRefused (bytes : List ℕ) (e : Fault) : Type 0 where
   pub read : List Field
   pub rest : List ℕ
   pub lawful : AllByRecursion IsField read
@@ -122,7 +122,7 @@ edit_in e = record {
 }
 
 -- each level is from 0 to 6
-pub record HasLevels (e : Edit) : Type 0 where
+pub record HasValidLevels (e : Edit) : Type 0 where
   pub pointers : All (λ (pointer : CompactPointer). pointer.level ≤ 6) e.pointers
   pub deleted : All (λ (file : DeletedFile). file.level ≤ 6) e.deleted
   pub added : All (λ (file : NewFile). file.level ≤ 6) e.added

@@ -21,15 +21,15 @@ pub data Field : Type 0 where
   AddFile : NewFile → Field
 
 -- the tag of a field
-abbrev pub tag_of : Field → Tag
-tag_of (SetComparator name) = Comparator
-tag_of (SetLogNumber number) = LogNumber
-tag_of (SetPreviousLog number) = PreviousLog
-tag_of (SetNextFile number) = NextFile
-tag_of (SetLastSequence number) = LastSequence
-tag_of (SetPointer pointer) = Pointer
-tag_of (DeleteFile file) = Deleted
-tag_of (AddFile file) = Added
+abbrev pub field_tag : Field → Tag
+field_tag (SetComparator name) = Comparator
+field_tag (SetLogNumber number) = LogNumber
+field_tag (SetPreviousLog number) = PreviousLog
+field_tag (SetNextFile number) = NextFile
+field_tag (SetLastSequence number) = LastSequence
+field_tag (SetPointer pointer) = Pointer
+field_tag (DeleteFile file) = Deleted
+field_tag (AddFile file) = Added
 
 -- the content of a field: levels and numbers are varints, names and keys are length-prefixed
 abbrev pub content : Field → List ℕ
@@ -45,7 +45,7 @@ content (AddFile file) =
 
 -- a field's bytes: its tag, and then its content
 abbrev pub spelling : Field → List ℕ
-spelling field = varint (tag_number (tag_of field)) ++ content field
+spelling field = varint (tag_number (field_tag field)) ++ content field
 
 -- a field is within its limits: a name is UTF-8, a level is at most 6, and a key is an internal key
 abbrev pub IsField : Field → Type 0

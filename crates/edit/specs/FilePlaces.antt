@@ -32,9 +32,9 @@ numbered_files files [] = []
 numbered_files files (p ∷ places) = with_found p.0 (slice_get files p.1) (numbered_files files places)
 
 -- the numbers of files, with places that count from i
-abbrev pub places_from : ℕ → List NewFile → List (ℕ × ℕ)
-places_from i [] = []
-places_from i (f ∷ files) = (f.meta.number, i) ∷ places_from (suc i) files
+abbrev pub file_places_from : ℕ → List NewFile → List (ℕ × ℕ)
+file_places_from i [] = []
+file_places_from i (f ∷ files) = (f.meta.number, i) ∷ file_places_from (suc i) files
 
 -- the map after a place is put under a number, replacing one that was there
 abbrev pub with_place : List (ℕ × ℕ) → ℕ × ℕ → List (ℕ × ℕ)

@@ -5,6 +5,6 @@ pub mod Edit
 pub mod Version
 pub mod VersionOrder
 -- serves proofs alone
-pub mod Reading
+pub mod FieldReader
 pub mod CodeFields
 pub mod FilePlaces

@@ -55,8 +55,8 @@ abbrev pub is_deleted : List DeletedFile → NewFile → Bool
 is_deleted deleted f = list_any (is_same_place (place_of f)) deleted
 
 -- the files that no deletion names
-abbrev pub kept_files : List DeletedFile → List NewFile → List NewFile
-kept_files deleted files = filter (λ f. not (is_deleted deleted f)) files
+abbrev pub undeleted_files : List DeletedFile → List NewFile → List NewFile
+undeleted_files deleted files = filter (λ f. not (is_deleted deleted f)) files
 
 -- whether there is a file of this level and number
 abbrev pub has_place : List NewFile → DeletedFile → Bool
@@ -89,7 +89,7 @@ with_file files f = insert_key number_cmp files f
 -- - a new file has the number of one that stays.
 abbrev pub files_after : List NewFile → List DeletedFile → List NewFile → Option (List NewFile)
 files_after files deleted added =
-    if list_all (has_place files) deleted && are_new (kept_files deleted files) added then Some (fold with_file (kept_files deleted files) added) else None
+    if list_all (has_place files) deleted && are_new (undeleted_files deleted files) added then Some (fold with_file (undeleted_files deleted files) added) else None
 
 -- the pointers after a new one, which replaces that of its level
 abbrev pub with_pointer : List (ℕ × List ℕ) → CompactPointer → List (ℕ × List ℕ)

@@ -11,12 +11,12 @@ use Rattle.edit.specs.declared.meta.NewFile.{NewFile}
 use Rattle.edit.specs.declared.meta.CompactPointer.{CompactPointer}
 
 -- version order: by smallest internal key, then number
-abbrev pub version_cmp : (List ℕ → List ℕ → Ordering) → FileMeta → FileMeta → Ordering
-version_cmp cmp a b = ordering_then (internal_cmp cmp a.smallest b.smallest) (nat_cmp a.number b.number)
+abbrev pub file_cmp : (List ℕ → List ℕ → Ordering) → FileMeta → FileMeta → Ordering
+file_cmp cmp a b = ordering_then (internal_cmp cmp a.smallest b.smallest) (nat_cmp a.number b.number)
 
 -- files in version order
 abbrev pub in_version_order : (List ℕ → List ℕ → Ordering) → List FileMeta → List FileMeta
-in_version_order cmp files = fold (insert_key (version_cmp cmp)) [] files
+in_version_order cmp files = fold (insert_key (file_cmp cmp)) [] files
 
 -- the files at a level
 abbrev pub files_at : List NewFile → ℕ → List FileMeta
@@ -54,8 +54,8 @@ snapshot_of name cmp v = record {
 }
 
 -- a version without its numbers
-abbrev pub unnumbered : State → State
-unnumbered v = record {
+abbrev pub unnumbered_version : State → State
+unnumbered_version v = record {
   log_number = None;
   previous_log = None;
   next_file = None;

@@ -4,11 +4,11 @@ ghost use Rattle.std.specs.Prelude.{◌≡◌, ◌++◌, true, length, map, fold
 ghost use Rattle.coding.specs.Answers.{EqualOrMemory, fault};
 ghost use Rattle.coding.specs.declared.fault.FaultName.TheVariants.{Memory};
 ghost use Rattle.edit.specs.FilePlaces.{with_place_of};
-ghost use Rattle.edit.specs.Version.{has_place, kept_files, with_file, are_new, are_apart};
+ghost use Rattle.edit.specs.Version.{has_place, undeleted_files, with_file, are_new, are_apart};
 ghost use Rattle.edit.specs.VersionOrder.{files_at};
 
-use crate::copying::{copied_files, copied_places};
-use crate::inserting::insert_all;
+use crate::copies::{copied_files, copied_places};
+use crate::file_insertion::insert_all;
 use crate::meta::{DeletedFile, FileMeta, NewFile};
 use coding::Fault;
 use std::alloc::Global;
@@ -73,7 +73,7 @@ impl Files {
     /// Takes out the file of this number. Answers whether there was one and it was at this level.
     pub fn take_out(&mut self, place: DeletedFile) -> bool
         ensures there { result ≡ has_place self.old place }
-        ensures others { result ≡ true → self.new ≡ kept_files (place ∷ []) self.old }
+        ensures others { result ≡ true → self.new ≡ undeleted_files (place ∷ []) self.old }
     {
         match self.places.remove(&place.number) {
             Some(spot) => {

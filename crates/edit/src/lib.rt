@@ -24,23 +24,23 @@
 //! [`edit_laws`] and [`snapshot_law`] are laws of both. No contract says how long an edit takes.
 #![tactic(auto)]
 
-mod applying;
-mod copying;
+mod copies;
+mod edit_effect;
 mod field;
+mod field_reader;
+mod field_writer;
+mod file_insertion;
 mod files;
-mod inserting;
-mod laws;
+mod format_laws;
 mod meta;
 mod order;
 mod outcome;
-mod reading;
 mod snapshot;
 mod tag;
 mod version;
 mod version_edit;
-mod writing;
 
-pub use laws::{edit_laws, snapshot_law};
+pub use format_laws::{edit_laws, snapshot_law};
 pub use meta::{CompactPointer, DeletedFile, FileMeta, NewFile};
 pub use outcome::Outcome;
 pub use version::Version;

@@ -3,7 +3,7 @@
 ghost use Rattle.std.specs.Prelude.{◌≡◌, map, true, Ok, IfOk};
 ghost use Rattle.coding.specs.Answers.{EqualOrMemory};
 ghost use Rattle.edit.specs.Version.{are_apart};
-ghost use Rattle.edit.specs.VersionOrder.{version_cmp, in_version_order, files_at};
+ghost use Rattle.edit.specs.VersionOrder.{file_cmp, in_version_order, files_at};
 
 use crate::files::Files;
 use crate::meta::FileMeta;
@@ -29,7 +29,7 @@ pub(crate) fn ordered_at<C: Comparator>(
 
 /// Version order of two files.
 fn version_order<C: Comparator>(a: &FileMeta, b: &FileMeta) -> Ordering
-    ensures { result ≡ version_cmp C.cmp a.now b.now }
+    ensures { result ≡ file_cmp C.cmp a.now b.now }
 {
     let keys = a.smallest.as_key().compare::<C>(&b.smallest.as_key());
     keys.then(a.number.cmp(&b.number))

@@ -4,12 +4,12 @@ ghost use Rattle.std.specs.Prelude.{◌≡◌, ◌<◌, ◌≤◌, ◌^◌, leng
 ghost use Rattle.coding.specs.declared.fault.FaultName.TheVariants.{Apply, Memory};
 ghost use Rattle.std.specs.Option.{option_copied, ok_or};
 ghost use Rattle.coding.specs.Answers.{EqualOrMemory, fault};
-ghost use Rattle.edit.specs.Edit.{HasLevels, HasShortName};
+ghost use Rattle.edit.specs.Edit.{HasValidLevels, HasShortName};
 ghost use Rattle.edit.specs.Version.{IsState, empty_state, pointer_of, applied, applied_by};
 ghost use Rattle.edit.specs.VersionOrder.{level_files, snapshot_of};
 
-use crate::applying::{files_after, pointers_after};
-use crate::copying::copied_by_level;
+use crate::copies::copied_by_level;
+use crate::edit_effect::{files_after, pointers_after};
 use crate::files::Files;
 use crate::meta::FileMeta;
 use crate::order::ordered_at;
@@ -117,7 +117,7 @@ impl Version {
     ///    have one number, or a new file has the number of one that stays.
     /// 3. Memory otherwise.
     pub fn apply<C: Comparator>(&self, alloc: Global, edit: &VersionEdit) -> Result<Version, Fault>
-        requires { HasLevels (edit_in edit.now) }
+        requires { HasValidLevels (edit_in edit.now) }
         ensures after { EqualOrMemory (λ v. v) result
             (applied_by C.name_bytes self.now (edit_in edit.now)) }
     {
@@ -133,7 +133,7 @@ impl Version {
     /// It takes the time of the edit: each of its fields takes a time that grows with the logarithm
     /// of the number of files. No contract says so.
     pub fn applied<C: Comparator>(self, edit: VersionEdit) -> Result<Version, Fault>
-        requires { HasLevels (edit_in edit) }
+        requires { HasValidLevels (edit_in edit) }
         ensures after { EqualOrMemory (λ v. v) result
             (applied_by C.name_bytes self (edit_in edit)) }
     {
@@ -164,7 +164,7 @@ impl Version {
         ensures edit { IfOk result (λ e. edit_in e ≡ snapshot_of C.name_bytes C.cmp self.now) }
         ensures memory { IfErr result (λ e. e ≡ fault Memory) }
         // It can be applied. It can be written if the comparator's name is short enough.
-        ensures levels { IfOk result (λ e. HasLevels (edit_in e)) }
+        ensures levels { IfOk result (λ e. HasValidLevels (edit_in e)) }
         ensures name { length C.name_bytes < 2 ^ 32 → IfOk result (λ e. HasShortName (edit_in e)) }
         // Files rise by number, pointers by level, and levels are from 0 to 6.
         ensures state { IsState self.now.pointers self.now.files }
@@ -179,7 +179,7 @@ impl Version {
     /// The version after an edit that names no other comparator. Apply if the edit doesn't fit;
     /// otherwise the only fault is Memory.
     fn changed(self, edit: VersionEdit) -> Result<Version, Fault>
-        requires { HasLevels (edit_in edit) }
+        requires { HasValidLevels (edit_in edit) }
         ensures after { EqualOrMemory (λ v. v) result
             (ok_or (applied self (edit_in edit)) (fault Apply)) }
     {

@@ -7,12 +7,14 @@ ghost use Rattle.coding.specs.declared.fault.FaultName.TheVariants.{Memory};
 ghost use Rattle.edit.specs.Field.{IsField, spelling};
 ghost use Rattle.edit.specs.CodeFields.{field_in};
 
-use crate::copying::{copied_files, copied_name, copied_pointers};
+use crate::copies::{copied_files, copied_name, copied_pointers};
 use crate::field::Field;
+use crate::field_reader::field_at;
+use crate::field_writer::{
+    push_added, push_comparator, push_deleted, push_optional, push_pointers,
+};
 use crate::meta::{CompactPointer, DeletedFile, FileMeta, NewFile};
-use crate::reading::field_at;
 use crate::tag::Tag;
-use crate::writing::{push_added, push_comparator, push_deleted, push_optional, push_pointers};
 use coding::Fault;
 use ikey::{Comparator, KeyBuf};
 use std::alloc::Global;
@@ -41,7 +43,7 @@ pub struct VersionEdit {
 
 impl VersionEdit {
     ghost use Rattle.edit.specs.Version.{names_another};
-    ghost use Rattle.edit.specs.Edit.{Edit, IsEdit, IsRefused, HasLevels, HasShortName, edit_in, edit_bytes, settings_of, empty_edit, with_field};
+    ghost use Rattle.edit.specs.Edit.{Edit, IsEdit, IsEditRefused, HasValidLevels, HasShortName, edit_in, edit_bytes, settings_of, empty_edit, with_field};
 
     /// The edit that changes nothing.
     pub fn empty(alloc: Global) -> VersionEdit
@@ -78,9 +80,9 @@ impl VersionEdit {
         // Bytes that read as an edit get that edit, or Memory.
         ensures only { (e : Edit) → IsEdit bytes.now e → EqualOrMemory edit_in result (Ok e) }
         // Which refusal it is: at the first field that can't be read.
-        ensures refused { IfErr result (λ e. UnlessMemory e (IsRefused bytes.now e)) }
+        ensures refused { IfErr result (λ e. UnlessMemory e (IsEditRefused bytes.now e)) }
         // It can be written and applied.
-        ensures levels { IfOk result (λ e. HasLevels (edit_in e)) }
+        ensures levels { IfOk result (λ e. HasValidLevels (edit_in e)) }
         ensures name { IfOk result (λ e. HasShortName (edit_in e)) }
     {
         VersionEdit::read(alloc, bytes)
@@ -96,7 +98,7 @@ impl VersionEdit {
     /// Levels are from 0 to 6, and the comparator's name has fewer than 2^32 bytes. The only fault
     /// is Memory.
     pub fn encode(&self, alloc: Global) -> Result<Vec<u8>, Fault>
-        requires levels { HasLevels (edit_in self.now) }
+        requires levels { HasValidLevels (edit_in self.now) }
         requires name { HasShortName (edit_in self.now) }
         ensures bytes { IfOk result (λ v. v.items ≡ edit_bytes (edit_in self.now)) }
         // What was written reads back.
@@ -157,8 +159,8 @@ impl VersionEdit {
     /// Reads and sets one field after the other.
     fn read(alloc: Global, bytes: &[u8]) -> Result<VersionEdit, Fault>
         ensures found { IfOk result (λ e. IsEdit bytes.now (edit_in e)) }
-        ensures refused { IfErr result (λ e. UnlessMemory e (IsRefused bytes.now e)) }
-        ensures levels { IfOk result (λ e. HasLevels (edit_in e)) }
+        ensures refused { IfErr result (λ e. UnlessMemory e (IsEditRefused bytes.now e)) }
+        ensures levels { IfOk result (λ e. HasValidLevels (edit_in e)) }
         ensures name { IfOk result (λ e. HasShortName (edit_in e)) }
     {
         let mut edit = VersionEdit::empty(alloc);

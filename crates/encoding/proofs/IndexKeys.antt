@@ -7,15 +7,15 @@ use borrow.Author.Tests.{ltb-true}
 use Rattle.std.proofs.lemmas.List.{length-take}
 use Rattle.ikey.specs.declared.kind.Kind.TheVariants.{Put}
 use Rattle.ikey.specs.Key.{user_of, internal_key}
-use Rattle.ikey.specs.Short.{shortened, internal_separator_of, internal_successor_of}
+use Rattle.ikey.specs.Short.{shortened_key, internal_separator_of, internal_successor_of}
 use Rattle.ikey.proofs.Keys.{length-internal_key}
-use Rattle.block.specs.Piece.{Entry}
-use Rattle.block.specs.Writing.{block}
-use Rattle.block.specs.Building.{last_key}
+use Rattle.block.specs.EncodedEntry.{Entry}
+use Rattle.block.specs.BlockFormat.{block}
+use Rattle.block.specs.BuilderView.{last_key}
 use Rattle.block.proofs.Sizes.{block-grows, length-block-nil}
 use Rattle.frame.proofs.Handles.{length-handle_bytes}
 use Rattle.table.specs.ReadingEntries.{first_key}
-use Rattle.table.specs.Table.{IndexKeys, index_keys, handle_entry, table_of}
+use Rattle.table.specs.Table.{IndexKeys, index_keys, handle_entry, table_of_blocks}
 use Rattle.encoding.proofs.Indexes.{length_stored, length_table}
 
 shortened_by : (key short : List ℕ) (shorter lower : Bool) → nat_lt (length short) (length (user_of key)) ≡ shorter → length (if shorter && lower then internal_key short (2 ^ 56 - 1) Put else key) ≤ length key + 8
@@ -25,11 +25,11 @@ shortened_by key short true true e =
 shortened_by key short true false e = omega arith
 shortened_by key short false lower e = omega arith
 
-shortened_len : (cmp : List ℕ → List ℕ → Ordering) (key short : List ℕ) → length (shortened cmp key short) ≤ length key + 8
-unfolding shortened
+shortened_len : (cmp : List ℕ → List ℕ → Ordering) (key short : List ℕ) → length (shortened_key cmp key short) ≤ length key + 8
+unfolding shortened_key
 shortened_len cmp key short = shortened_by key short (nat_lt (length short) (length (user_of key))) (is_lt (cmp (user_of key) short)) refl
 
-between_by : (cmp : List ℕ → List ℕ → Ordering) (a short : List ℕ) (same : Bool) → length (if same then a else shortened cmp a short) ≤ length a + 8
+between_by : (cmp : List ℕ → List ℕ → Ordering) (a short : List ℕ) (same : Bool) → length (if same then a else shortened_key cmp a short) ≤ length a + 8
 between_by cmp a short true = omega arith
 between_by cmp a short false = shortened_len cmp a short
 
@@ -44,7 +44,7 @@ above_len cmp separator_of successor_of a = shortened_len cmp a (successor_of (u
 
 pub two_blocks_fit : (cmp : List ℕ → List ℕ → Ordering) (separator_of : List ℕ → List ℕ → List ℕ) (successor_of : List ℕ → List ℕ) (r : ℕ) (p q : List Entry)
     → length (block r p) ≤ 1000 → length (block r q) ≤ 1000 → length (last_key [] p) ≤ 1000 → length (last_key [] q) ≤ 1000
-    → length (table_of (index_keys cmp separator_of successor_of) r (p ∷ q ∷ [])) ≤ 2 ^ 30
+    → length (table_of_blocks (index_keys cmp separator_of successor_of) r (p ∷ q ∷ [])) ≤ 2 ^ 30
 two_blocks_fit cmp separator_of successor_of r p q pl ql pk qk =
     let keys : IndexKeys = index_keys cmp separator_of successor_of in
     let first : Entry = handle_entry (keys.between (last_key [] p) (first_key q)) 0 (length (block r p)) in

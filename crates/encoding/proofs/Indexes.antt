@@ -4,12 +4,12 @@ use Rattle.std.specs.Prelude.{slice_get, slice_index_or, Some}
 use Rattle.std.specs.List.{AllByRecursion}
 use Rattle.std.proofs.lemmas.List.{length-append, length-map, take-append-drop, take_all}
 use Rattle.std.proofs.lemmas.Option.{same_Some, none-some}
-use Rattle.block.specs.Piece.{Entry}
-use Rattle.block.specs.Writing.{block}
+use Rattle.block.specs.EncodedEntry.{Entry}
+use Rattle.block.specs.BlockFormat.{block}
 use Rattle.block.proofs.Sizes.{length-block-append}
-use Rattle.frame.specs.Trailer.{stored}
+use Rattle.frame.specs.Trailer.{stored_block}
 use Rattle.frame.proofs.Stored.{length-stored}
-use Rattle.table.specs.Table.{IndexKeys, index_key, handle_entry, index_from, stored_blocks, table_of, closing}
+use Rattle.table.specs.Table.{IndexKeys, index_key, handle_entry, index_from, stored_blocks, table_of_blocks, closing_bytes}
 use Rattle.table.proofs.Indexes.{length-closing}
 use Rattle.encoding.specs.declared.planned_block.PlannedBlock.{PlannedBlock}
 use Rattle.encoding.specs.Planned.{parts_of, IsPlanned}
@@ -18,7 +18,7 @@ use Rattle.encoding.proofs.Lists.{suc_is}
 use Rattle.encoding.proofs.Keys.{planned_at, part_at}
 
 pub length_stored : (r : ℕ) (p : List Entry) (ps : List (List Entry)) → length (stored_blocks r (p ∷ ps)) ≡ length (block r p) + 5 + length (stored_blocks r ps)
-length_stored r p ps = omega (arith, length-append (stored (block r p)) (stored_blocks r ps), length-stored (block r p))
+length_stored r p ps = omega (arith, length-append (stored_block (block r p)) (stored_blocks r ps), length-stored (block r p))
 
 -- one more entry of the index
 pub index_next : (keys : IndexKeys) (r at : ℕ) (parts : List (List Entry)) (i : ℕ) (p : List Entry) → slice_get parts i ≡ Some p
@@ -55,15 +55,15 @@ index_part index n =
     omega (arith, length-block-append 1 (take n index) (drop n index), ap (λ (x : List Entry). length (block 1 x)) parts)
 
 -- the length of a table
-pub length_table : (keys : IndexKeys) (r : ℕ) (parts : List (List Entry)) → length (table_of keys r parts) ≡ length (stored_blocks r parts) + length (block 1 (index_from keys r 0 parts)) + 66
+pub length_table : (keys : IndexKeys) (r : ℕ) (parts : List (List Entry)) → length (table_of_blocks keys r parts) ≡ length (stored_blocks r parts) + length (block 1 (index_from keys r 0 parts)) + 66
 length_table keys r parts =
     let bytes : List ℕ = stored_blocks r parts in
     let index : List Entry = index_from keys r 0 parts in
-    omega (arith, length-append bytes (closing (length bytes) index), length-closing (length bytes) index)
+    omega (arith, length-append bytes (closing_bytes (length bytes) index), length-closing (length bytes) index)
 
 -- a table is no shorter than what some of its data blocks and of its index take
 pub table_over : (keys : IndexKeys) (r : ℕ) (parts : List (List Entry)) (n m : ℕ)
-    → length (stored_blocks r (take n parts)) + length (block 1 (take m (index_from keys r 0 parts))) + 66 ≤ length (table_of keys r parts)
+    → length (stored_blocks r (take n parts)) + length (block 1 (take m (index_from keys r 0 parts))) + 66 ≤ length (table_of_blocks keys r parts)
 table_over keys r parts n m = omega (arith, length_table keys r parts, stored_part r parts n, index_part (index_from keys r 0 parts) m)
 
 -- what one more planned block does
@@ -74,7 +74,7 @@ pub record Steps (keys : IndexKeys) (r : ℕ) (blocks : List PlannedBlock) (i si
       ++ handle_entry (place_key keys (drop i (parts_of blocks))) (length (stored_blocks r (take i (parts_of blocks)))) size ∷ []
   pub fits : length (block 1 (take (i + 1) (index_from keys r 0 (parts_of blocks)))) ≤ 2 ^ 31
 
-pub steps : (keys : IndexKeys) (r : ℕ) (blocks : List PlannedBlock) (i : ℕ) (d : PlannedBlock) → i < length blocks → AllByRecursion (IsPlanned r) blocks → length (table_of keys r (parts_of blocks)) ≤ 2 ^ 30
+pub steps : (keys : IndexKeys) (r : ℕ) (blocks : List PlannedBlock) (i : ℕ) (d : PlannedBlock) → i < length blocks → AllByRecursion (IsPlanned r) blocks → length (table_of_blocks keys r (parts_of blocks)) ≤ 2 ^ 30
     → Steps keys r blocks i (slice_index_or blocks i d).len
 steps keys r blocks i d lt planned fits =
     let parts : List (List Entry) = parts_of blocks in
@@ -83,7 +83,7 @@ steps keys r blocks i d lt planned fits =
     let index : List Entry = index_from keys r 0 parts in
     let at : slice_get parts i ≡ Some p = part_at blocks i d lt in
     let next : length (stored_blocks r (take (i + 1) parts)) ≡ length (stored_blocks r (take i parts)) + (length (block r p) + 5) = ap (λ (n : ℕ). length (stored_blocks r (take n parts))) (suc_is i) ∙ stored_next r parts i p at in
-    let over : length (stored_blocks r (take (i + 1) parts)) + length (block 1 (take (i + 1) index)) + 66 ≤ length (table_of keys r parts) = table_over keys r parts (i + 1) (i + 1) in
+    let over : length (stored_blocks r (take (i + 1) parts)) + length (block 1 (take (i + 1) index)) + 66 ≤ length (table_of_blocks keys r parts) = table_over keys r parts (i + 1) (i + 1) in
     let size_is : size ≡ length (block r p) = omega (arith, (planned_at r blocks i d lt planned).len_is, next, over, fits) in
     let before : ℕ = length (stored_blocks r (take i parts)) in
     record {

@@ -6,10 +6,10 @@ use Rattle.std.specs.Option.{option_map}
 use Rattle.std.proofs.Math.Seq.{take-add}
 use Rattle.std.proofs.lemmas.List.{drop_at, length-drop}
 use Rattle.std.proofs.lemmas.Option.{none-some}
-use Rattle.block.specs.Piece.{Entry}
+use Rattle.block.specs.EncodedEntry.{Entry}
 use Rattle.keep.specs.Runs.{Run}
-use Rattle.encoding.specs.SlicePlaces.{sliced, IsSliced}
-use Rattle.encoding.specs.Standing.{kept_of, StandsAt}
+use Rattle.encoding.specs.SlicePlaces.{slice_between, IsSliced}
+use Rattle.encoding.specs.RunPlace.{kept_of_runs, IsPlaceInRuns}
 
 drop_none : (n : ℕ) → drop {A = Entry} n [] ≡ []
 drop_none zero = refl
@@ -28,16 +28,16 @@ drop_next n xs =
 
 -- ---- a place in its run
 
-pub in_run : (runs : List Run) (r : Run) (entry : ℕ) → StandsAt runs entry → 0 < length (drop entry (kept_of runs)) → entry < length (slice_index_or runs 0 r).kept
+pub in_run : (runs : List Run) (r : Run) (entry : ℕ) → IsPlaceInRuns runs entry → 0 < length (drop entry (kept_of_runs runs)) → entry < length (slice_index_or runs 0 r).kept
 in_run [] r entry s h = absurd (omega (arith, h, ap length (drop_none entry)))
 in_run (q ∷ qs) r entry s h = s
 
 -- behind the last entry of a run stand those of the later runs
 pub past_run : (runs : List Run) (r : Run) (entry : ℕ) → entry + 1 ≡ length (slice_index_or runs 0 r).kept
-    → kept_of (drop 1 runs) ≡ drop 1 (drop entry (kept_of runs))
+    → kept_of_runs (drop 1 runs) ≡ drop 1 (drop entry (kept_of_runs runs))
 past_run [] r entry e = sym (drop_none 1) ∙ ap (drop 1) (sym (drop_none entry))
 past_run (q ∷ qs) r entry e =
-    sym (drop_at q.kept (kept_of qs) (entry + 1) (sym e)) ∙ drop_next entry (q.kept ++ kept_of qs)
+    sym (drop_at q.kept (kept_of_runs qs) (entry + 1) (sym e)) ∙ drop_next entry (q.kept ++ kept_of_runs qs)
 
 -- ---- a slice with one entry more
 
@@ -65,7 +65,7 @@ more from to later e h d =
 
 pushed_by : (from to : List Entry) (len : ℕ) (last : Option (List ℕ)) (key : List ℕ) (shown : List Entry) → to ≡ shown → IsSliced from to len last
     → option_map (λ (e : Entry). e.key) (slice_get shown 0) ≡ Some key
-    → IsSliced from (drop 1 shown) (min (len + 1) (2 ^ 64 - 1)) (Some key) × (sliced from (drop 1 shown) ≡ record { entries = take (length from - length to) from ++ take 1 shown; behind = drop 1 shown })
+    → IsSliced from (drop 1 shown) (min (len + 1) (2 ^ 64 - 1)) (Some key) × (slice_between from (drop 1 shown) ≡ record { entries = take (length from - length to) from ++ take 1 shown; behind = drop 1 shown })
 pushed_by from to len last key [] h is k = absurd (none-some key k)
 pushed_by from to len last key (e ∷ later) h is k = (
   record {
@@ -83,5 +83,5 @@ pushed_by from to len last key (e ∷ later) h is k = (
 
 -- an entry more: the invariant, and what is seen
 pub pushed : (from to : List Entry) (len : ℕ) (last : Option (List ℕ)) (key : List ℕ) → IsSliced from to len last → option_map (λ (e : Entry). e.key) (slice_get to 0) ≡ Some key
-    → IsSliced from (drop 1 to) (min (len + 1) (2 ^ 64 - 1)) (Some key) × (sliced from (drop 1 to) ≡ record { entries = take (length from - length to) from ++ take 1 to; behind = drop 1 to })
+    → IsSliced from (drop 1 to) (min (len + 1) (2 ^ 64 - 1)) (Some key) × (slice_between from (drop 1 to) ≡ record { entries = take (length from - length to) from ++ take 1 to; behind = drop 1 to })
 pushed from to len last key is k = pushed_by from to len last key to refl is k

@@ -5,34 +5,34 @@ use Rattle.std.specs.List.{last_or}
 use Rattle.std.specs.Option.{option_map}
 use Rattle.std.proofs.Math.Seq.{drop-append-add}
 use Rattle.std.proofs.lemmas.List.{drop-drop, length-append, length-drop, length-take-le}
-use Rattle.block.specs.Piece.{Entry}
+use Rattle.block.specs.EncodedEntry.{Entry}
 use Rattle.keep.specs.Runs.{Run}
-use Rattle.encoding.specs.SlicePlaces.{sliced, IsSliced}
-use Rattle.encoding.specs.Standing.{kept_of, StandsAt}
+use Rattle.encoding.specs.SlicePlaces.{slice_between, IsSliced}
+use Rattle.encoding.specs.RunPlace.{kept_of_runs, IsPlaceInRuns}
 
 -- so many entries of these runs are still to be taken off, where so many are of all; and they are no more than the entries of
 -- these runs and what a place in a run may be
 pub record IsSkipping (all : List Entry) (count : ℕ) (runs : List Run) (left : ℕ) : Type 0 where
-  pub rest : drop left (kept_of runs) ≡ drop count all
-  pub within : left ≤ 2 ^ 64 - 1 + length (kept_of runs)
+  pub rest : drop left (kept_of_runs runs) ≡ drop count all
+  pub within : left ≤ 2 ^ 64 - 1 + length (kept_of_runs runs)
 
-pub skipping_first : (all : List Entry) (count : ℕ) (runs : List Run) (entry : ℕ) → drop entry (kept_of runs) ≡ all → count ≤ length all → entry ≤ 2 ^ 64 - 1 → IsSkipping all count runs (entry + count)
+pub skipping_first : (all : List Entry) (count : ℕ) (runs : List Run) (entry : ℕ) → drop entry (kept_of_runs runs) ≡ all → count ≤ length all → entry ≤ 2 ^ 64 - 1 → IsSkipping all count runs (entry + count)
 skipping_first all count runs entry is le fits = record {
-  rest = sym (drop-drop count entry (kept_of runs)) ∙ ap (drop count) is;
-  within = omega (arith, le, fits, ap length is, length-drop entry (kept_of runs));
+  rest = sym (drop-drop count entry (kept_of_runs runs)) ∙ ap (drop count) is;
+  within = omega (arith, le, fits, ap length is, length-drop entry (kept_of_runs runs));
 }
 
-run_behind : (r : Run) (rs : List Run) (left : ℕ) → length r.kept ≤ left → drop (left - length r.kept) (kept_of rs) ≡ drop left (kept_of (r ∷ rs))
+run_behind : (r : Run) (rs : List Run) (left : ℕ) → length r.kept ≤ left → drop (left - length r.kept) (kept_of_runs rs) ≡ drop left (kept_of_runs (r ∷ rs))
 run_behind r rs left le =
     let whole : length r.kept + (left - length r.kept) ≡ left = omega (arith, le) in
-    sym (drop-append-add r.kept (kept_of rs) (left - length r.kept)) ∙ ap (λ (n : ℕ). drop n (kept_of (r ∷ rs))) whole
+    sym (drop-append-add r.kept (kept_of_runs rs) (left - length r.kept)) ∙ ap (λ (n : ℕ). drop n (kept_of_runs (r ∷ rs))) whole
 
 passed_by : (all : List Entry) (count : ℕ) (runs : List Run) (left : ℕ) (r : Run) → IsSkipping all count runs left → 0 < length runs → length (slice_index_or runs 0 r).kept ≤ left
     → IsSkipping all count (drop 1 runs) (left - length (slice_index_or runs 0 r).kept)
 passed_by all count [] left r h some le = absurd (omega arith)
 passed_by all count (q ∷ qs) left r h some le = record {
   rest = run_behind q qs left le ∙ h.rest;
-  within = omega (arith, h.within, le, length-append q.kept (kept_of qs));
+  within = omega (arith, h.within, le, length-append q.kept (kept_of_runs qs));
 }
 
 at_front : (runs : List Run) (passed : ℕ) (r : Run) → slice_index_or (drop passed runs) 0 r ≡ slice_index_or runs passed r
@@ -65,14 +65,14 @@ skipped_none all count [] left h none = omega (arith, h.within)
 skipped_none all count (q ∷ qs) left h none = absurd (omega (arith, none))
 
 -- where all runs are passed, no entry behind is in one
-pub stands_behind : (runs : List Run) (passed left : ℕ) → length runs ≤ passed → StandsAt (drop passed runs) left
+pub stands_behind : (runs : List Run) (passed left : ℕ) → length runs ≤ passed → IsPlaceInRuns (drop passed runs) left
 stands_behind [] zero left le = tt
 stands_behind [] (suc n) left le = tt
 stands_behind (q ∷ qs) zero left le = absurd (omega (arith, le))
 stands_behind (q ∷ qs) (suc n) left le = stands_behind qs n left (omega (arith, le))
 
 -- the entry behind those that are taken off stands in the run that is not passed
-pub stands_in : (runs : List Run) (passed left : ℕ) (r : Run) → left < length (slice_index_or runs passed r).kept → StandsAt (drop passed runs) left
+pub stands_in : (runs : List Run) (passed left : ℕ) (r : Run) → left < length (slice_index_or runs passed r).kept → IsPlaceInRuns (drop passed runs) left
 stands_in [] zero left r lt = tt
 stands_in [] (suc n) left r lt = tt
 stands_in (q ∷ qs) zero left r lt = lt
@@ -97,7 +97,7 @@ last_taken n xs key some le is =
 -- what is held of a slice is the place of its first entry and their number
 pub record IsHeld (from to : List Entry) (len : ℕ) : Type 0 where
   pub within : len ≤ length from
-  pub same : record { entries = take len from; behind = drop len from } ≡ sliced from to
+  pub same : record { entries = take len from; behind = drop len from } ≡ slice_between from to
 
 pub held : (from to : List Entry) (len : ℕ) (last : Option (List ℕ)) → IsSliced from to len last → length (take (length from - length to) from) ≤ 2 ^ 64 - 1 → IsHeld from to len
 held from to len last is fits =

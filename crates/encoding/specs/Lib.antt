@@ -2,6 +2,6 @@
 pub mod Slices
 pub mod Planned
 -- serves proofs alone
-pub mod Standing
+pub mod RunPlace
 pub mod SlicePlaces
 pub mod PlaceKey

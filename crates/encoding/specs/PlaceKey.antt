@@ -1,6 +1,6 @@
 -- The index key of a data block, by the blocks from it on.
 use Rattle.std.specs.Prelude.{ℕ, List, [], ◌∷◌}
-use Rattle.block.specs.Piece.{Entry}
+use Rattle.block.specs.EncodedEntry.{Entry}
 use Rattle.table.specs.Table.{IndexKeys, index_key}
 
 -- the index key of the first of these data blocks

@@ -1,7 +1,7 @@
 -- Data blocks that are planned.
 use Rattle.std.specs.Prelude.{◌≡◌, ◌≢◌, ℕ, ◌-◌, ◌^◌, List, [], length, map, min}
-use Rattle.block.specs.Piece.{Entry}
-use Rattle.block.specs.Writing.{block}
+use Rattle.block.specs.EncodedEntry.{Entry}
+use Rattle.block.specs.BlockFormat.{block}
 use Rattle.encoding.specs.declared.planned_block.PlannedBlock.{PlannedBlock}
 
 -- the entries of each data block

@@ -2,12 +2,12 @@
 use Rattle.std.specs.Prelude.{◌≡◌, ℕ, ◌-◌, ◌^◌, List, length, take, drop, min, Option, None}
 use Rattle.std.specs.List.{last_or}
 use Rattle.std.specs.Option.{option_map}
-use Rattle.block.specs.Piece.{Entry}
+use Rattle.block.specs.EncodedEntry.{Entry}
 use Rattle.encoding.specs.Slices.{Slice}
 
 -- the entries from one place up to a later one; a place is the entries from it on
-abbrev pub sliced : List Entry → List Entry → Slice
-sliced from to = record { entries = take (length from - length to) from; behind = to }
+abbrev pub slice_between : List Entry → List Entry → Slice
+slice_between from to = record { entries = take (length from - length to) from; behind = to }
 
 -- The second place is not before the first, n entries lie between them (2 ^ 64 - 1 if there are
 -- more), and the last of these has this key.

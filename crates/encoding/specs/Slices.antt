@@ -1,6 +1,6 @@
 -- Consecutive entries of runs.
 use Rattle.std.specs.Prelude.{List}
-use Rattle.block.specs.Piece.{Entry}
+use Rattle.block.specs.EncodedEntry.{Entry}
 
 -- consecutive entries, and those after them
 pub record Slice : Type 0 where

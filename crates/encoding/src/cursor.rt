@@ -3,7 +3,7 @@
 ghost use Rattle.std.specs.Prelude.{◌≡◌, ◌<◌, ◌≤◌, ◌↔◌, length, drop, flat_map, slice_get};
 ghost use Rattle.std.specs.Prelude.{IsTrue, Some};
 ghost use Rattle.std.specs.Option.{option_map};
-ghost use Rattle.encoding.specs.Standing.{kept_of, StandsAt};
+ghost use Rattle.encoding.specs.RunPlace.{kept_of_runs, IsPlaceInRuns};
 
 use ikey::InternalKey;
 use keep::RangeRun;
@@ -11,42 +11,42 @@ use std::marker::Model;
 
 /// A place among the kept entries of runs, one run after the other: the entries from there on.
 #[derive(Drop)]
-pub struct RunsCursor<'r, 'a> {
+pub struct EntryCursor<'r, 'a> {
     /// The run of the next entry, and those after it.
     runs: &'r [RangeRun<'a>],
     /// The number of entries of that run before the place.
     entry: usize,
 }
 
-impl<'r, 'a> Model for RunsCursor<'r, 'a> {
+impl<'r, 'a> Model for EntryCursor<'r, 'a> {
     ghost use Rattle.std.specs.Prelude.{List, drop};
-    ghost use Rattle.block.specs.Piece.{Entry};
+    ghost use Rattle.block.specs.EncodedEntry.{Entry};
 
     ghost Value = { List Entry };
 
-    ghost use Rattle.encoding.specs.Standing.{kept_of, StandsAt};
+    ghost use Rattle.encoding.specs.RunPlace.{kept_of_runs, IsPlaceInRuns};
 
-    ghost view = { λ c. drop c.entry (kept_of c.runs.now) };
+    ghost view = { λ c. drop c.entry (kept_of_runs c.runs.now) };
 
-    ghost invariant = { λ c. StandsAt c.runs.now c.entry };
+    ghost invariant = { λ c. IsPlaceInRuns c.runs.now c.entry };
 }
 
-impl<'r, 'a> RunsCursor<'r, 'a> {
+impl<'r, 'a> EntryCursor<'r, 'a> {
     /// All kept entries of the runs. Takes no memory.
-    pub fn new(runs: &'r [RangeRun<'a>]) -> RunsCursor<'r, 'a>
+    pub fn new(runs: &'r [RangeRun<'a>]) -> EntryCursor<'r, 'a>
         ensures { result ≡ flat_map (λ r. r.kept) runs.now }
     {
-        RunsCursor {
+        EntryCursor {
             runs: from_entry(runs),
             entry: 0,
         }
     }
 
     /// The same place. Takes no memory.
-    pub fn copy(&self) -> RunsCursor<'r, 'a>
+    pub fn copy(&self) -> EntryCursor<'r, 'a>
         ensures { result ≡ self.now }
     {
-        RunsCursor {
+        EntryCursor {
             runs: self.runs,
             entry: self.entry,
         }
@@ -92,7 +92,7 @@ impl<'r, 'a> RunsCursor<'r, 'a> {
     }
 
     /// The place `count` entries further, found run by run. Takes no memory.
-    pub(crate) fn skip(&self, count: u64) -> RunsCursor<'r, 'a>
+    pub(crate) fn skip(&self, count: u64) -> EntryCursor<'r, 'a>
         requires { count ≤ length self.now }
         ensures { result ≡ drop count self.now }
     {
@@ -104,7 +104,7 @@ impl<'r, 'a> RunsCursor<'r, 'a> {
             passed += 1;
         }
         let (_, rest) = runs.split_at(passed);
-        RunsCursor {
+        EntryCursor {
             runs: rest,
             entry: left as usize,
         }
@@ -113,8 +113,8 @@ impl<'r, 'a> RunsCursor<'r, 'a> {
 
 /// The runs from the first one that has a kept entry.
 fn from_entry<'r, 'a>(runs: &'r [RangeRun<'a>]) -> &'r [RangeRun<'a>]
-    ensures entries { kept_of result.now ≡ kept_of runs.now }
-    ensures stands { StandsAt result.now 0 }
+    ensures entries { kept_of_runs result.now ≡ kept_of_runs runs.now }
+    ensures stands { IsPlaceInRuns result.now 0 }
 {
     let mut passed = 0;
     while passed < runs.len() && runs[passed].len() == 0 {

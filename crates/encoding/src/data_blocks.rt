@@ -3,12 +3,12 @@
 ghost use Rattle.std.specs.Prelude.{◌≤◌, ◌^◌, length, Ok};
 ghost use Rattle.std.specs.List.{AllByRecursion};
 ghost use Rattle.coding.specs.Answers.{EqualOrMemory};
-ghost use Rattle.block.specs.Writing.{block};
+ghost use Rattle.block.specs.BlockFormat.{block};
 ghost use Rattle.table.specs.Table.{stored_blocks};
 ghost use Rattle.encoding.specs.Planned.{parts_of};
 
+use crate::block_writer::push_block;
 use crate::planned_block::PlannedBlock;
-use crate::writing::push_block;
 use coding::Fault;
 use frame::Trailer;
 use std::alloc::Global;

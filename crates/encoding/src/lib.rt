@@ -1,8 +1,8 @@
 //! The encoding of a compaction's outputs: the entries that are kept, as one list, written as data
 //! blocks and joined to tables.
 //!
-//! A [`RunsCursor`] is a place in that list, a [`RunsSlice`] grows entry by entry, and a
-//! [`RunsPart`] is entries that stay as they are. Keys and values stay where the runs have them,
+//! A [`EntryCursor`] is a place in that list, a [`EntrySpan`] grows entry by entry, and a
+//! [`EntryRef`] is entries that stay as they are. Keys and values stay where the runs have them,
 //! and no call of these three takes memory.
 //!
 //! A [`PlannedBlock`] is a data block of which no byte is written yet. [`encode_blocks`] writes
@@ -16,18 +16,18 @@
 //! ```
 #![tactic(auto)]
 
-mod assembling;
+mod block_writer;
 mod cursor;
 mod data_blocks;
-mod indexing;
 mod part;
 mod planned_block;
 mod slice;
-mod writing;
+mod table_assembly;
+mod table_index;
 
-pub use assembling::assemble_table;
-pub use cursor::RunsCursor;
+pub use cursor::EntryCursor;
 pub use data_blocks::encode_blocks;
-pub use part::RunsPart;
+pub use part::EntryRef;
 pub use planned_block::PlannedBlock;
-pub use slice::RunsSlice;
+pub use slice::EntrySpan;
+pub use table_assembly::assemble_table;

@@ -4,19 +4,19 @@ ghost use Rattle.std.specs.Prelude.{◌≡◌, ◌≤◌, ◌++◌, length, take
 ghost use Rattle.std.specs.List.{last_or};
 ghost use Rattle.std.specs.Option.{option_map};
 
-use crate::cursor::RunsCursor;
+use crate::cursor::EntryCursor;
 use ikey::InternalKey;
 use std::marker::Model;
 
 /// Consecutive entries of runs, held as the place of the first and their number. Contracts see
 /// these entries and those after them.
 #[derive(Drop)]
-pub struct RunsPart<'r, 'a> {
-    start: RunsCursor<'r, 'a>,
+pub struct EntryRef<'r, 'a> {
+    start: EntryCursor<'r, 'a>,
     len: u64,
 }
 
-impl<'r, 'a> Model for RunsPart<'r, 'a> {
+impl<'r, 'a> Model for EntryRef<'r, 'a> {
     ghost use Rattle.std.specs.Prelude.{◌≤◌, length, take, drop};
     ghost use Rattle.encoding.specs.Slices.{Slice};
 
@@ -27,13 +27,13 @@ impl<'r, 'a> Model for RunsPart<'r, 'a> {
     ghost invariant = { λ p. p.len ≤ length p.start };
 }
 
-impl<'r, 'a> RunsPart<'r, 'a> {
+impl<'r, 'a> EntryRef<'r, 'a> {
     /// The `len` entries from `start` on. Takes no memory.
-    pub(crate) fn new(start: RunsCursor<'r, 'a>, len: u64) -> RunsPart<'r, 'a>
+    pub(crate) fn new(start: EntryCursor<'r, 'a>, len: u64) -> EntryRef<'r, 'a>
         requires { len ≤ length start }
         ensures { result ≡ record { entries = take len start.entry; behind = drop len start.entry } }
     {
-        RunsPart { start, len }
+        EntryRef { start, len }
     }
 
     /// The number of entries. Takes no memory.
@@ -44,7 +44,7 @@ impl<'r, 'a> RunsPart<'r, 'a> {
     }
 
     /// The place of the first entry. Takes no memory.
-    pub fn first(&self) -> RunsCursor<'r, 'a>
+    pub fn first(&self) -> EntryCursor<'r, 'a>
         ensures { result ≡ self.now.entries ++ self.now.behind }
     {
         self.start.copy()

@@ -1,12 +1,12 @@
 //! A data block that is planned.
 
-use crate::part::RunsPart;
+use crate::part::EntryRef;
 
 /// A data block of which no byte is written yet.
 #[derive(Drop)]
 pub struct PlannedBlock<'r, 'a> {
     /// Its entries, which stay in the runs.
-    pub entries: RunsPart<'r, 'a>,
+    pub entries: EntryRef<'r, 'a>,
     /// The length of the block in bytes, without its trailer.
     pub len: u64,
 }

@@ -5,29 +5,29 @@ ghost use Rattle.std.specs.Prelude.{slice_get, IsTrue, Some, None};
 ghost use Rattle.std.specs.List.{last_or};
 ghost use Rattle.std.specs.Option.{option_map};
 
-use crate::cursor::RunsCursor;
-use crate::part::RunsPart;
+use crate::cursor::EntryCursor;
+use crate::part::EntryRef;
 use ikey::InternalKey;
 use std::marker::Model;
 
 /// Consecutive entries of runs, which grow one by one. Contracts see these entries and those after
 /// them.
 #[derive(Drop)]
-pub struct RunsSlice<'r, 'a> {
-    start: RunsCursor<'r, 'a>,
-    behind: RunsCursor<'r, 'a>,
+pub struct EntrySpan<'r, 'a> {
+    start: EntryCursor<'r, 'a>,
+    behind: EntryCursor<'r, 'a>,
     /// The number of entries; 2^64 - 1 if there are more.
     len: u64,
     last: Option<InternalKey<'r>>,
 }
 
-impl<'r, 'a> Model for RunsSlice<'r, 'a> {
+impl<'r, 'a> Model for EntrySpan<'r, 'a> {
     ghost use Rattle.encoding.specs.Slices.{Slice};
-    ghost use Rattle.encoding.specs.SlicePlaces.{sliced, IsSliced};
+    ghost use Rattle.encoding.specs.SlicePlaces.{slice_between, IsSliced};
 
     ghost Value = { Slice };
 
-    ghost view = { λ s. sliced s.start s.behind };
+    ghost view = { λ s. slice_between s.start s.behind };
 
     ghost use Rattle.std.specs.Option.{option_map};
 
@@ -35,12 +35,12 @@ impl<'r, 'a> Model for RunsSlice<'r, 'a> {
         (option_map (λ key. key.bytes.now) s.last) };
 }
 
-impl<'r, 'a> RunsSlice<'r, 'a> {
+impl<'r, 'a> EntrySpan<'r, 'a> {
     /// No entries, before those from `cursor` on. Takes no memory.
-    pub fn at(cursor: RunsCursor<'r, 'a>) -> RunsSlice<'r, 'a>
+    pub fn at(cursor: EntryCursor<'r, 'a>) -> EntrySpan<'r, 'a>
         ensures { result ≡ record { entries = []; behind = cursor.entry } }
     {
-        RunsSlice {
+        EntrySpan {
             start: cursor.copy(),
             behind: cursor,
             len: 0,
@@ -77,17 +77,17 @@ impl<'r, 'a> RunsSlice<'r, 'a> {
     }
 
     /// The place after the last entry. Takes no memory.
-    pub fn behind(&self) -> RunsCursor<'r, 'a>
+    pub fn behind(&self) -> EntryCursor<'r, 'a>
         ensures { result ≡ self.now.behind }
     {
         self.behind.copy()
     }
 
     /// These entries as a part. Requires that there are at most 2^64 - 1. Takes no memory.
-    pub fn part(&self) -> RunsPart<'r, 'a>
+    pub fn part(&self) -> EntryRef<'r, 'a>
         requires { length self.now.entries ≤ 2 ^ 64 - 1 }
         ensures { result ≡ self.now }
     {
-        RunsPart::new(self.start.copy(), self.len)
+        EntryRef::new(self.start.copy(), self.len)
     }
 }

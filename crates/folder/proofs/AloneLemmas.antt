@@ -6,16 +6,16 @@ use Rattle.std.specs.List.{AllZip}
 use Rattle.std.specs.declared.cmp.Ordering.{Ordering}
 use Rattle.coding.specs.Answers.{Follows, IsThen}
 use Rattle.coding.specs.declared.fault.Fault.{Fault}
-use Rattle.logrec.specs.Reading.{records_of}
+use Rattle.logrec.specs.LogReader.{records_of}
 use Rattle.edit.specs.Edit.{Edit, IsEdit}
 use Rattle.edit.specs.Version.{State}
 use Rattle.edit.proofs.Edits.{not_both, one_edit}
 use Rattle.folder.specs.Calls.{Files, Tells}
 use Rattle.folder.specs.Levels.{file_numbers}
-use Rattle.folder.specs.Loading.{IsLoaded, IsTableAnswer, IsTableOf}
+use Rattle.folder.specs.LoadedTables.{IsLoaded, IsTableAnswer, IsTableOf}
 use Rattle.folder.specs.Manifest.{AreEdits, IsEditsAnswer, IsManifestAnswer, version_from}
 use Rattle.folder.specs.Names.{IsNumberAnswer, current_text, manifest_name, old_table_name, table_name}
-use Rattle.folder.specs.Opening.{IsHeld, IsOpened}
+use Rattle.folder.specs.OpenAnswer.{IsHeld, IsOpened}
 use Rattle.folder.specs.ReadsAs.{ReadsAs, IsHeldIn}
 use Rattle.folder.specs.declared.order.Order.{Order}
 use Rattle.folder.proofs.CrashLemmas.{ManifestParts, manifest_parts}

@@ -5,7 +5,7 @@ use Rattle.coding.proofs.Binds.{failed}
 use Rattle.coding.specs.Answers.{fault}
 use Rattle.coding.specs.declared.fault.Fault.{Fault}
 use Rattle.coding.specs.declared.fault.FaultName.TheVariants as name
-use Rattle.folder.specs.Opening.{StopsAtDevice}
+use Rattle.folder.specs.OpenAnswer.{StopsAtDevice}
 use Rattle.folder.specs.Folder.{DeviceFailed, failures_after, fault_name, one_more}
 use Rattle.folder.specs.declared.folder.FolderFault.{FolderFault}
 use Rattle.folder.specs.declared.folder.FolderFault.TheVariants.{Device, Memory}

@@ -7,12 +7,12 @@ use Rattle.edit.specs.Edit.{Edit}
 use Rattle.edit.specs.Version.{State, empty_state}
 use Rattle.coding.specs.Answers.{IsThen, fault, ◌>>=◌}
 use Rattle.coding.specs.declared.fault.FaultName.TheVariants.{Apply}
-use Rattle.logrec.specs.Reading.{records_of}
-use Rattle.folder.specs.Calls.{Created, Done, Files, FolderSynced, Renamed, Shown, Shows, Step, Synced, Tried, put, with_file, with_synced}
-use Rattle.folder.specs.Runs.{ShowsAll}
-use Rattle.folder.specs.Crash.{Happens, IsKept, Leads, Leaves, World, open_world}
+use Rattle.logrec.specs.LogReader.{records_of}
+use Rattle.folder.specs.Calls.{Created, Done, Files, FolderSynced, Renamed, FolderView, Shows, Step, Synced, Tried, with_value, with_contents, with_synced}
+use Rattle.folder.specs.CallSequence.{ShowsAll}
+use Rattle.folder.specs.Crash.{Happens, IsDurable, Leads, Leaves, World, open_world}
 use Rattle.folder.specs.Free.{IsFree}
-use Rattle.folder.specs.Manifest.{AreEdits, IsEditsAnswer, IsManifestAnswer, is_complete, order_name, order_of, version_after, version_from}
+use Rattle.folder.specs.Manifest.{AreEdits, IsEditsAnswer, IsManifestAnswer, is_complete, order_name, order_of, version_after_edits, version_from}
 use Rattle.folder.specs.Names.{manifest_name}
 use Rattle.folder.specs.ReadsAs.{Current, IsSettled, Manifest, OldTable, ReadsAs, RestsOn, StandsAs, Table}
 use Rattle.folder.specs.declared.order.Order.{Order}
@@ -33,21 +33,21 @@ tested false x y e h = absurd (cc h)
 -- the steps that gave a version
 pub record IsFrom (number : ℕ) (edits : List Edit) (order : Order) (v : State) : Type 0 where
   pub named : order_of edits ≡ Ok order
-  pub after : version_after (order_name order) empty_state edits ≡ Ok v
+  pub after : version_after_edits (order_name order) empty_state edits ≡ Ok v
   pub complete : is_complete number v ≡ true
 
 pub from_version : (number : ℕ) (edits : List Edit) (order : Order) (v : State) → Ok (order, v) ≡ version_from number edits → IsFrom number edits order v
 from_version number edits order v h =
-    let one = bound {A = Order} (order_of edits) (λ (o : Order). version_after (order_name o) empty_state edits >>= λ w. if is_complete number w then Ok (o, w) else Err (fault Apply)) (order, v) h in
+    let one = bound {A = Order} (order_of edits) (λ (o : Order). version_after_edits (order_name o) empty_state edits >>= λ w. if is_complete number w then Ok (o, w) else Err (fault Apply)) (order, v) h in
     let o = one.0 in
-    let two = bound {A = State} (version_after (order_name o) empty_state edits) (λ (w : State). if is_complete number w then Ok (o, w) else Err (fault Apply)) (order, v) one.2 in
+    let two = bound {A = State} (version_after_edits (order_name o) empty_state edits) (λ (w : State). if is_complete number w then Ok (o, w) else Err (fault Apply)) (order, v) one.2 in
     let w = two.0 in
     let three = tested (is_complete number w) (o, w) (order, v) (fault Apply) two.2 in
     let orders : o ≡ order = ap (λ (x : Order × State). x.0) three.1 in
     let states : w ≡ v = ap (λ (x : Order × State). x.1) three.1 in
     record {
       named = one.1 ∙ ap (λ (x : Order). Ok x) orders;
-      after = subst (λ (x : Order). version_after (order_name x) empty_state edits ≡ Ok v) orders (two.1 ∙ ap (λ (x : State). Ok x) states);
+      after = subst (λ (x : Order). version_after_edits (order_name x) empty_state edits ≡ Ok v) orders (two.1 ∙ ap (λ (x : State). Ok x) states);
       complete = subst (λ (x : State). is_complete number x ≡ true) states three.0;
     }
 
@@ -99,12 +99,12 @@ at f g name e = ap (λ h. h name) e
 
 -- A file that is made under a free name, or was to be made.
 pub stands_made : (cmp : List ℕ → List ℕ → Ordering) (order : Order) (v : State) (tables : List (ℕ × List ℕ)) (w next : World) (free : List ℕ) (held torn : Option (List ℕ)) → StandsAs cmp order v tables w → IsFree cmp v free
-    → next.shown ≡ with_file w.shown free held → next.left ≡ put w.left free torn → StandsAs cmp order v tables next
+    → next.shown ≡ with_contents w.shown free held → next.left ≡ with_value w.left free torn → StandsAs cmp order v tables next
 stands_made cmp order v tables w next free held torn h f shown left =
     stands_on cmp order v tables w next h (λ name r.
     let other = rests_on_none cmp order v tables w.shown.files free name h.reads f r in
-    let files = at next.shown.files _ name (ap (λ (s : Shown). s.files) shown) ∙ put_other w.shown.files free held name other in
-    let synced = at next.shown.synced _ name (ap (λ (s : Shown). s.synced) shown) ∙ put_other w.shown.synced free false name other in
+    let files = at next.shown.files _ name (ap (λ (s : FolderView). s.files) shown) ∙ put_other w.shown.files free held name other in
+    let synced = at next.shown.synced _ name (ap (λ (s : FolderView). s.synced) shown) ∙ put_other w.shown.synced free false name other in
     (files, still_settled w next name (h.settled name r) files synced (at next.left _ name left ∙ put_other w.left free torn name other)))
 
 -- a file is synced
@@ -112,13 +112,13 @@ pub stands_synced : (cmp : List ℕ → List ℕ → Ordering) (order : Order) (
     → next.shown ≡ with_synced w.shown synced → next.left ≡ w.left → StandsAs cmp order v tables next
 stands_synced cmp order v tables w next name' h shown left =
     stands_on cmp order v tables w next h (λ name r.
-    let files = at next.shown.files w.shown.files name (ap (λ (s : Shown). s.files) shown) in
-    let marks = at next.shown.synced (put w.shown.synced name' true) name (ap (λ (s : Shown). s.synced) shown) in (
+    let files = at next.shown.files w.shown.files name (ap (λ (s : FolderView). s.files) shown) in
+    let marks = at next.shown.synced (with_value w.shown.synced name' true) name (ap (λ (s : FolderView). s.synced) shown) in (
       files,
       record {
         kept = elim (h.settled name r).kept [
           | inl was ↦ elim (same_name name name') [
-            | inl is ↦ inl (marks ∙ (ap (put w.shown.synced name' true) is ∙ put_same w.shown.synced name' true))
+            | inl is ↦ inl (marks ∙ (ap (with_value w.shown.synced name' true) is ∙ put_same w.shown.synced name' true))
             | inr other ↦ inl (marks ∙ (put_other w.shown.synced name' true name other ∙ was))
           ]
           | inr none' ↦ inr (files ∙ none')
@@ -132,16 +132,16 @@ pub stands_still : (cmp : List ℕ → List ℕ → Ordering) (order : Order) (v
     → next.shown ≡ w.shown → next.left ≡ w.left → StandsAs cmp order v tables next
 stands_still cmp order v tables w next h shown left =
     stands_on cmp order v tables w next h (λ name r.
-    let files = at next.shown.files w.shown.files name (ap (λ (s : Shown). s.files) shown) in
-    let marks = at next.shown.synced w.shown.synced name (ap (λ (s : Shown). s.synced) shown) in
+    let files = at next.shown.files w.shown.files name (ap (λ (s : FolderView). s.files) shown) in
+    let marks = at next.shown.synced w.shown.synced name (ap (λ (s : FolderView). s.synced) shown) in
     (files, still_settled w next name (h.settled name r) files marks (at next.left w.left name left)))
 
 -- The folder is synced: all that was to be kept is settled.
 pub stands_folder_synced : (cmp : List ℕ → List ℕ → Ordering) (order : Order) (v : State) (tables : List (ℕ × List ℕ)) (w next : World) → ReadsAs cmp order v tables w.shown.files
-    → ((name : List ℕ) → RestsOn cmp v w.shown.files name → IsKept w.shown name) → Happens (Done FolderSynced) w next → StandsAs cmp order v tables next
+    → ((name : List ℕ) → RestsOn cmp v w.shown.files name → IsDurable w.shown name) → Happens (Done FolderSynced) w next → StandsAs cmp order v tables next
 stands_folder_synced cmp order v tables w next h kept happens =
-    let files = λ (name : List ℕ). at next.shown.files w.shown.files name (ap (λ (s : Shown). s.files) happens.0) in
-    let marks = λ (name : List ℕ). at next.shown.synced w.shown.synced name (ap (λ (s : Shown). s.synced) happens.0) in
+    let files = λ (name : List ℕ). at next.shown.files w.shown.files name (ap (λ (s : FolderView). s.files) happens.0) in
+    let marks = λ (name : List ℕ). at next.shown.synced w.shown.synced name (ap (λ (s : FolderView). s.synced) happens.0) in
     record {
       reads = reads_same cmp order v tables w.shown.files next.shown.files h (λ name r. files name);
       settled = λ name r.
@@ -157,18 +157,18 @@ pub left_reads : (cmp : List ℕ → List ℕ → Ordering) (order : Order) (v :
 left_reads cmp order v tables w h = reads_same cmp order v tables w.shown.files w.left h.reads (λ name r. (h.settled name r).left)
 
 -- a step that shows something may leave just that
-left_shown : (step : Step) (s next : Shown) → Shows step s next → Leaves step s s.files next.files
-left_shown (Done (Created name bytes)) s next h = (Some bytes, ap (λ (t : Shown). t.files) h)
-left_shown (Tried (Created name bytes)) s next h = (h.0, ap (λ (t : Shown). t.files) h.1)
-left_shown (Done (Renamed from to)) s next h = inr (ap (λ (t : Shown). t.files) h)
-left_shown (Tried (Renamed from to)) s next (inl h) = inl (ap (λ (t : Shown). t.files) h)
-left_shown (Tried (Renamed from to)) s next (inr h) = inr (ap (λ (t : Shown). t.files) h)
-left_shown (Done (Synced name)) s next h = ap (λ (t : Shown). t.files) h
-left_shown (Tried (Synced name)) s next h = ap (λ (t : Shown). t.files) h
-left_shown (Done FolderSynced) s next h = λ name k. ap (λ (t : Shown). t.files name) h
-left_shown (Tried FolderSynced) s next h = ap (λ (t : Shown). t.files) h
+left_shown : (step : Step) (s next : FolderView) → Shows step s next → Leaves step s s.files next.files
+left_shown (Done (Created name bytes)) s next h = (Some bytes, ap (λ (t : FolderView). t.files) h)
+left_shown (Tried (Created name bytes)) s next h = (h.0, ap (λ (t : FolderView). t.files) h.1)
+left_shown (Done (Renamed from to)) s next h = inr (ap (λ (t : FolderView). t.files) h)
+left_shown (Tried (Renamed from to)) s next (inl h) = inl (ap (λ (t : FolderView). t.files) h)
+left_shown (Tried (Renamed from to)) s next (inr h) = inr (ap (λ (t : FolderView). t.files) h)
+left_shown (Done (Synced name)) s next h = ap (λ (t : FolderView). t.files) h
+left_shown (Tried (Synced name)) s next h = ap (λ (t : FolderView). t.files) h
+left_shown (Done FolderSynced) s next h = λ name k. ap (λ (t : FolderView). t.files name) h
+left_shown (Tried FolderSynced) s next h = ap (λ (t : FolderView). t.files) h
 
 -- what read gives is one of the folders that a crash may leave
-pub shown_left : (steps : List Step) (s last : Shown) → ShowsAll steps s last → Leads (open_world s) steps (open_world last)
+pub shown_left : (steps : List Step) (s last : FolderView) → ShowsAll steps s last → Leads (open_world s) steps (open_world last)
 shown_left [] s last h = ap open_world h
 shown_left (step ∷ steps) s last h = (open_world h.0, (h.1, left_shown step s h.0 h.1), shown_left steps h.0 last h.2)

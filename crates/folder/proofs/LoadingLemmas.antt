@@ -6,7 +6,7 @@ use Rattle.std.specs.List.{AllZip}
 use Rattle.coding.specs.declared.fault.Fault.{Fault}
 use Rattle.folder.specs.Folder.{TellsSame}
 use Rattle.folder.specs.Levels.{by_level}
-use Rattle.folder.specs.Loading.{IsLoaded, IsTableAnswer, IsTableOf}
+use Rattle.folder.specs.LoadedTables.{IsLoaded, IsTableAnswer, IsTableOf}
 use Rattle.folder.proofs.ManifestLemmas.{zip_push}
 
 -- one level more

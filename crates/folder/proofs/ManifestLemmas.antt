@@ -6,11 +6,11 @@ use Rattle.std.specs.List.{AllZip}
 use Rattle.coding.proofs.Refusals.{unless_from}
 use Rattle.coding.specs.Answers.{◌>>=◌, FailsOrMemory, EqualOrMemory, UnlessMemory, HoldsOrMemory}
 use Rattle.coding.specs.declared.fault.Fault.{Fault}
-use Rattle.logrec.specs.Reading.{lists, records_of}
-use Rattle.edit.specs.Edit.{Edit, IsEdit, IsRefused, edit_in}
+use Rattle.logrec.specs.LogReader.{lists, records_of}
+use Rattle.edit.specs.Edit.{Edit, IsEdit, IsEditRefused, edit_in}
 use Rattle.edit.specs.Version.{State, applied_by}
 use Rattle.edit.specs.declared.version_edit.VersionEdit.{VersionEdit}
-use Rattle.folder.specs.Manifest.{AreEdits, IsEditsAnswer, IsManifestAnswer, version_after, version_from}
+use Rattle.folder.specs.Manifest.{AreEdits, IsEditsAnswer, IsManifestAnswer, version_after_edits, version_from}
 use Rattle.folder.specs.declared.order.Order.{Order}
 
 -- a refusal that `?` hands on
@@ -41,12 +41,12 @@ read_more records i r edits after e within is pushed all one =
 
 -- the next record is refused
 pub refused_there : (records : List (Vec ℕ)) (i : ℕ) (r : Vec ℕ) (edits : List VersionEdit) (e : Fault) → i < length records → r ≡ get_or records i r
-    → AreEdits (lists (take i records)) (map edit_in edits) → UnlessMemory e (IsRefused r.items e) → UnlessMemory e (IsEditsAnswer (lists records) (Err e))
+    → AreEdits (lists (take i records)) (map edit_in edits) → UnlessMemory e (IsEditRefused r.items e) → UnlessMemory e (IsEditsAnswer (lists records) (Err e))
 refused_there records i r edits e within is all h =
     let rest : drop i records ≡ r ∷ drop (suc i) records = drop-cons records i r within ∙ ap (λ (x : Vec ℕ). x ∷ drop (suc i) records) (sym is) in
     let parts : lists records ≡ lists (take i records) ++ r.items ∷ lists (drop (suc i) records) =
     ap lists (sym (take-append-drop i records) ∙ ap (λ (xs : List (Vec ℕ)). take i records ++ xs) rest) ∙ map-append _ (take i records) (r ∷ drop (suc i) records) in
-    unless_from e (IsRefused r.items e) (IsEditsAnswer (lists records) (Err e)) (λ refused. record {
+    unless_from e (IsEditRefused r.items e) (IsEditsAnswer (lists records) (Err e)) (λ refused. record {
       before = lists (take i records);
       edits = map edit_in edits;
       bytes = r.items;
@@ -70,8 +70,8 @@ edits_answer number bytes records edits log read a is = (Ok records, (sym log, (
 
 -- an edit that doesn't fit what the earlier ones made
 pub not_applied : (text : List ℕ) (v : State) (e : Edit) (edits : List Edit) (all : Result State Fault) (r : Result State Fault) (f : Fault) → IsErrAnd r (λ g. g ≡ f) → FailsOrMemory f (applied_by text v e)
-    → version_after text v (e ∷ edits) ≡ all → EqualOrMemory (λ w. w) r all
+    → version_after_edits text v (e ∷ edits) ≡ all → EqualOrMemory (λ w. w) r all
 not_applied text v e edits all (Ok x) f h given same = absurd h
 not_applied text v e edits all (Err g) f h given same =
     subst (λ (x : Fault). FailsOrMemory x all) (sym h)
-    (unless_from f (applied_by text v e ≡ Err f) (all ≡ Err f) (λ is. sym same ∙ ap (λ (first : Result State Fault). first >>= λ w. version_after text w edits) is) given)
+    (unless_from f (applied_by text v e ≡ Err f) (all ≡ Err f) (λ is. sym same ∙ ap (λ (first : Result State Fault). first >>= λ w. version_after_edits text w edits) is) given)

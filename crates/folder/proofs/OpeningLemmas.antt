@@ -7,7 +7,7 @@ use Rattle.edit.specs.Version.{State}
 use Rattle.folder.specs.Folder.{DeviceFailed, TellsSame}
 use Rattle.folder.specs.Manifest.{IsManifestAnswer}
 use Rattle.folder.specs.Names.{IsNumberAnswer, manifest_name}
-use Rattle.folder.specs.Opening.{FolderAnswers, IsHeld, IsOpened, IsStopped}
+use Rattle.folder.specs.OpenAnswer.{FolderAnswers, IsHeld, IsOpened, IsStopped}
 use Rattle.folder.specs.declared.order.Order.{Order}
 
 -- a failure after a time is one after an earlier time

@@ -7,10 +7,10 @@ use Rattle.coding.specs.declared.fault.Fault.{Fault}
 use Rattle.edit.specs.Version.{State}
 use Rattle.folder.specs.Calls.{Files}
 use Rattle.folder.specs.Levels.{file_numbers}
-use Rattle.folder.specs.Loading.{IsTableAnswer, IsTableOf}
+use Rattle.folder.specs.LoadedTables.{IsTableAnswer, IsTableOf}
 use Rattle.folder.specs.Manifest.{IsManifestAnswer}
 use Rattle.folder.specs.Names.{current_text, manifest_name, old_table_name, table_name}
-use Rattle.folder.specs.Opening.{IsOpened}
+use Rattle.folder.specs.OpenAnswer.{IsOpened}
 use Rattle.folder.specs.ReadsAs.{Current, IsOneOf, Manifest, OldTable, ReadsAs, RestsOn, Table, IsHeldIn}
 use Rattle.folder.specs.declared.order.Order.{Order}
 use Rattle.folder.proofs.OpeningLemmas.{manifest_answers}

@@ -8,14 +8,14 @@ use Rattle.coding.specs.declared.fault.Fault.{Fault}
 use Rattle.coding.specs.declared.fault.FaultName.{FaultName}
 use Rattle.coding.specs.Varint.{varint_reading}
 use Rattle.coding.specs.declared.fault.FaultName.TheVariants.{Apply, Comparator, EditField, EditTag, LogChecksum, LogShape, Missing}
-use Rattle.logrec.specs.Reading.{behind_zeros, content_len, ends_record, left_at, piece_at, record_at, records_in, records_of}
+use Rattle.logrec.specs.LogReader.{behind_zeros, content_len, ends_record, left_at, fragment_reading, record_at, records_in, records_of}
 use Rattle.edit.specs.Edit.{Edit, field_fault}
 use Rattle.edit.specs.Tag.{listed_tag}
 use Rattle.edit.specs.Version.{State, applied_by, empty_state}
-use Rattle.folder.specs.Loading.{IsLoaded}
-use Rattle.folder.specs.Manifest.{IsEditsAnswer, IsManifestAnswer, first_name, order_name, order_named, order_of, version_after, version_from}
+use Rattle.folder.specs.LoadedTables.{IsLoaded}
+use Rattle.folder.specs.Manifest.{IsEditsAnswer, IsManifestAnswer, first_name, order_name, order_named, order_of, version_after_edits, version_from}
 use Rattle.folder.specs.Names.{IsNumberAnswer}
-use Rattle.folder.specs.Opening.{FolderAnswers, HasDeviceFailed, IsHeld, IsOfContents, IsOpened, IsStopped}
+use Rattle.folder.specs.OpenAnswer.{FolderAnswers, HasDeviceFailed, IsHeld, IsOfContents, IsOpened, IsStopped}
 use Rattle.folder.specs.declared.order.Order.TheVariants.{Bytewise, Shortlex}
 
 -- the refusal comes of what a folder holds
@@ -51,8 +51,8 @@ unfolding AllOfContents
 refused_by {A = A} r e same h = subst (λ (x : Result A Fault). IfErr x OfContents) (sym same) h
 
 -- a log's refusals
-piece_refused : (room : ℕ) (bytes : List ℕ) → AllOfContents (piece_at room bytes)
-unfolding piece_at
+piece_refused : (room : ℕ) (bytes : List ℕ) → AllOfContents (fragment_reading room bytes)
+unfolding fragment_reading
 piece_refused room bytes =
     let content = drop 7 bytes in
     tested (nat_lt (length bytes) 7) _ _ (named _ LogShape tt)
@@ -68,7 +68,7 @@ left_refused : (n : ℕ) (begins : Bool) (room : ℕ) (bytes : List ℕ) → All
 unfolding left_at
 left_refused zero begins room bytes = named _ LogShape tt
 left_refused (suc n) begins room bytes =
-    bound (piece_at room bytes) _ (piece_refused room bytes) (λ first.
+    bound (fragment_reading room bytes) _ (piece_refused room bytes) (λ first.
     bound (ends_record begins room first.kind _) _ (ends_refused begins room first.kind _) (λ ends.
     tested ends _ _ (value _) (bound (left_at n false 32761 first.rest) _ (left_refused n false 32761 first.rest) (λ others. value _))))
 
@@ -116,14 +116,14 @@ fits : (next : Option State) → AllOfContents (ok_or next (fault Apply))
 fits None = named _ Apply tt
 fits (Some v) = value v
 
-version_refused : (text : List ℕ) (v : State) (edits : List Edit) → AllOfContents (version_after text v edits)
+version_refused : (text : List ℕ) (v : State) (edits : List Edit) → AllOfContents (version_after_edits text v edits)
 version_refused text v [] = value v
 version_refused text v (e ∷ edits) = bound (applied_by text v e) _ (tested _ _ _ (named _ Comparator tt) (fits _)) (λ w. version_refused text w edits)
 
 edits_by : (number : ℕ) (edits : List Edit) → AllOfContents (version_from number edits)
 edits_by number edits =
     bound (order_of edits) _ (by_name (first_name edits)) (λ order.
-    bound (version_after (order_name order) empty_state edits) _ (version_refused (order_name order) empty_state edits) (λ v. tested _ _ _ (value (order, v)) (named _ Apply tt)))
+    bound (version_after_edits (order_name order) empty_state edits) _ (version_refused (order_name order) empty_state edits) (λ v. tested _ _ _ (value (order, v)) (named _ Apply tt)))
 
 -- two steps, one after the other
 same_err : {A : Type 0} (d e : Fault) → failed {A = A} e ≡ failed d → d ≡ e

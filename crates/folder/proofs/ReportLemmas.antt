@@ -8,7 +8,7 @@ use Rattle.folder.proofs.CountLemmas.{count_device, count_later, later_since, la
 use Rattle.folder.proofs.LoadingLemmas.{told_since}
 use Rattle.folder.proofs.OpeningLemmas.{failed_since}
 use Rattle.folder.specs.Folder.{failures_after, fault_name}
-use Rattle.folder.specs.Opening.{HasDeviceFailed, IsStopped}
+use Rattle.folder.specs.OpenAnswer.{HasDeviceFailed, IsStopped}
 use Rattle.folder.specs.Reports.{OnlyReads, ReportsDevice}
 use Rattle.folder.specs.declared.folder.Folder.{Ghosts}
 use Rattle.folder.specs.declared.folder.FolderFault.{FolderFault}

@@ -1,8 +1,8 @@
 -- Calls that a function makes one after the other.
 use Rattle.std.proofs.Common.{◌≡◌, ℕ, List, [], ◌∷◌, ◌++◌, map, Option, Result, Ok, Err, refl, sym, ap, ◌∙◌, inl, inr, append_assoc}
 use Rattle.std.proofs.lemmas.List.{append-nil, map-append}
-use Rattle.folder.specs.Calls.{Call, Done, Shown, Step, TellsAfter, Tried, step_of}
-use Rattle.folder.specs.Runs.{AreMade, Runs, ShowsAll, TellsThrough}
+use Rattle.folder.specs.Calls.{Call, Done, FolderView, Step, TellsAfter, Tried, step_of}
+use Rattle.folder.specs.CallSequence.{AreMade, MakesCalls, ShowsAll, TellsThrough}
 use Rattle.folder.specs.declared.folder.FolderFault.{FolderFault}
 
 -- no step is a beginning of any calls
@@ -22,7 +22,7 @@ pub made_behind : (calls more : List Call) (steps : List Step) → AreMade more 
 made_behind [] more steps h = h
 made_behind (call ∷ calls) more steps h = inr (inr (map Done calls ++ steps, refl, made_behind calls more steps h))
 
-pub shows_then : (one two : List Step) (s middle last : Shown) → ShowsAll one s middle → ShowsAll two middle last → ShowsAll (one ++ two) s last
+pub shows_then : (one two : List Step) (s middle last : FolderView) → ShowsAll one s middle → ShowsAll two middle last → ShowsAll (one ++ two) s last
 shows_then [] two s middle last a b = let same : middle ≡ s = a in rw (← same) b
 shows_then (step ∷ one) two s middle last a b = (a.0, a.1, shows_then one two a.0 middle last a.2 b)
 
@@ -33,7 +33,7 @@ changes_then one two old middle new a b s h =
     (y.0, shows_then one two s x.0 y.0 x.1 y.1, y.2)
 
 -- a function that fails before its first call
-pub runs_none : {T E : Type 0} (calls : List Call) (before : List Step) (tells : List ℕ → Option (List ℕ) → Type 0) (e : E) → Runs {T = T} calls before before tells tells (Err e)
+pub runs_none : {T E : Type 0} (calls : List Call) (before : List Step) (tells : List ℕ → Option (List ℕ) → Type 0) (e : E) → MakesCalls {T = T} calls before before tells tells (Err e)
 runs_none calls before tells e = record {
   steps = [];
   made = made_none calls;
@@ -43,7 +43,7 @@ runs_none calls before tells e = record {
 
 -- a call, whose answer says as much as the function's
 pub runs_one : {T : Type 0} (call : Call) (before after : List Step) (old new : List ℕ → Option (List ℕ) → Type 0) (answer : Result T FolderFault) → after ≡ before ++ step_of call answer ∷ [] → TellsAfter (step_of call answer) old new
-    → Runs (call ∷ []) before after old new answer
+    → MakesCalls (call ∷ []) before after old new answer
 runs_one call before after old new (Ok x) is change = record {
   steps = Done call ∷ [];
   made = refl;
@@ -58,7 +58,7 @@ runs_one call before after old new (Err x) is change = record {
 }
 
 -- what failed among the first calls failed among all
-pub runs_stopped : {T E U G : Type 0} (calls more : List Call) (before after : List Step) (old new : List ℕ → Option (List ℕ) → Type 0) (e : E) (f : G) → Runs {T = T} calls before after old new (Err e) → Runs {T = U} (calls ++ more) before after old new (Err f)
+pub runs_stopped : {T E U G : Type 0} (calls more : List Call) (before after : List Step) (old new : List ℕ → Option (List ℕ) → Type 0) (e : E) (f : G) → MakesCalls {T = T} calls before after old new (Err e) → MakesCalls {T = U} (calls ++ more) before after old new (Err f)
 runs_stopped calls more before after old new e f h = record {
   steps = h.steps;
   made = made_front calls more h.steps h.made;
@@ -67,8 +67,8 @@ runs_stopped calls more before after old new e f h = record {
 }
 
 -- the next calls after the first
-pub runs_then : {T E U G : Type 0} (calls more : List Call) (before middle after : List Step) (old between new : List ℕ → Option (List ℕ) → Type 0) (x : T) (result : Result U G) → Runs {E = E} calls before middle old between (Ok x)
-    → Runs more middle after between new result → Runs (calls ++ more) before after old new result
+pub runs_then : {T E U G : Type 0} (calls more : List Call) (before middle after : List Step) (old between new : List ℕ → Option (List ℕ) → Type 0) (x : T) (result : Result U G) → MakesCalls {E = E} calls before middle old between (Ok x)
+    → MakesCalls more middle after between new result → MakesCalls (calls ++ more) before after old new result
 runs_then calls more before middle after old between new x (Ok y) h k = record {
   steps = h.steps ++ k.steps;
   made = ap (λ (t : List Step). t ++ k.steps) h.made ∙ (ap (λ (t : List Step). map Done calls ++ t) k.made ∙ sym (map-append Done calls more));

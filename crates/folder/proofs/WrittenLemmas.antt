@@ -2,8 +2,8 @@
 use Rattle.std.proofs.Common.{◌≡◌, ◌≢◌, ◌⊎◌, ℕ, true, false, List, [], ◌∷◌, ◌++◌, map, Option, Some, sym, ap, subst, ◌∙◌, inl, inr}
 use Rattle.std.specs.declared.cmp.Ordering.{Ordering}
 use Rattle.edit.specs.Version.{State}
-use Rattle.folder.specs.Calls.{Call, Created, Done, Shown, Step, Synced, Tried, put, with_file, with_synced}
-use Rattle.folder.specs.Runs.{AreMade}
+use Rattle.folder.specs.Calls.{Call, Created, Done, FolderView, Step, Synced, Tried, with_value, with_contents, with_synced}
+use Rattle.folder.specs.CallSequence.{AreMade}
 use Rattle.folder.specs.Crash.{Leads, World}
 use Rattle.folder.specs.Free.{IsFree}
 use Rattle.folder.specs.ReadsAs.{StandsAs}
@@ -26,12 +26,12 @@ at : {A : Type 0} (f g : List ℕ → A) (name : List ℕ) → f ≡ g → f nam
 at f g name e = ap (λ h. h name) e
 
 -- files stay written where no other of their names is touched
-written_others : (files : List (List ℕ × List ℕ)) (name : List ℕ) (w next : World) (held : Option (List ℕ)) → next.shown ≡ with_file w.shown name held → AllOther name files → AllWritten files w → AllWritten files next
+written_others : (files : List (List ℕ × List ℕ)) (name : List ℕ) (w next : World) (held : Option (List ℕ)) → next.shown ≡ with_contents w.shown name held → AllOther name files → AllWritten files w → AllWritten files next
 written_others [] name w next held is other h = tt
 written_others (file ∷ files) name w next held is other h = (
   record {
-    held = at next.shown.files _ file.0 (ap (λ (s : Shown). s.files) is) ∙ (put_other w.shown.files name held file.0 other.0 ∙ h.0.held);
-    synced = at next.shown.synced _ file.0 (ap (λ (s : Shown). s.synced) is) ∙ (put_other w.shown.synced name false file.0 other.0 ∙ h.0.synced);
+    held = at next.shown.files _ file.0 (ap (λ (s : FolderView). s.files) is) ∙ (put_other w.shown.files name held file.0 other.0 ∙ h.0.held);
+    synced = at next.shown.synced _ file.0 (ap (λ (s : FolderView). s.synced) is) ∙ (put_other w.shown.synced name false file.0 other.0 ∙ h.0.synced);
   },
   written_others files name w next held is other.1 h.1,
 )
@@ -40,9 +40,9 @@ written_synced : (files : List (List ℕ × List ℕ)) (name : List ℕ) (w next
 written_synced [] name w next is h = tt
 written_synced (file ∷ files) name w next is h = (
   record {
-    held = at next.shown.files w.shown.files file.0 (ap (λ (s : Shown). s.files) is) ∙ h.0.held;
-    synced = at next.shown.synced (put w.shown.synced name true) file.0 (ap (λ (s : Shown). s.synced) is) ∙ elim (same_name file.0 name) [
-      | inl same ↦ ap (put w.shown.synced name true) same ∙ put_same w.shown.synced name true
+    held = at next.shown.files w.shown.files file.0 (ap (λ (s : FolderView). s.files) is) ∙ h.0.held;
+    synced = at next.shown.synced (with_value w.shown.synced name true) file.0 (ap (λ (s : FolderView). s.synced) is) ∙ elim (same_name file.0 name) [
+      | inl same ↦ ap (with_value w.shown.synced name true) same ∙ put_same w.shown.synced name true
       | inr other ↦ put_other w.shown.synced name true file.0 other ∙ h.0.synced
     ];
   },
@@ -53,8 +53,8 @@ pub written_still : (files : List (List ℕ × List ℕ)) (w next : World) → n
 written_still [] w next is h = tt
 written_still (file ∷ files) w next is h = (
   record {
-    held = at next.shown.files w.shown.files file.0 (ap (λ (s : Shown). s.files) is) ∙ h.0.held;
-    synced = at next.shown.synced w.shown.synced file.0 (ap (λ (s : Shown). s.synced) is) ∙ h.0.synced;
+    held = at next.shown.files w.shown.files file.0 (ap (λ (s : FolderView). s.files) is) ∙ h.0.held;
+    synced = at next.shown.synced w.shown.synced file.0 (ap (λ (s : FolderView). s.synced) is) ∙ h.0.synced;
   },
   written_still files w next is h.1,
 )
@@ -113,8 +113,8 @@ module _ (cmp : List ℕ → List ℕ → Ordering) (order : Order) (v : State) 
         stands = stands_synced cmp order v tables start next name h shown l'.1.1;
         written = (
           record {
-            held = at next.shown.files start.shown.files name (ap (λ (s : Shown). s.files) shown) ∙ held;
-            synced = at next.shown.synced (put start.shown.synced name true) name (ap (λ (s : Shown). s.synced) shown) ∙ put_same start.shown.synced name true;
+            held = at next.shown.files start.shown.files name (ap (λ (s : FolderView). s.files) shown) ∙ held;
+            synced = at next.shown.synced (with_value start.shown.synced name true) name (ap (λ (s : FolderView). s.synced) shown) ∙ put_same start.shown.synced name true;
           },
           written_synced files name start next shown all,
         );
@@ -133,9 +133,9 @@ module _ (cmp : List ℕ → List ℕ → Ordering) (order : Order) (v : State) 
   file_passed name bytes rest files steps start w h free other all (inr (inr more)) l =
       let l' = leads_first start w steps more.0 _ more.1 l in
       let next = l'.0 in
-      let shown : next.shown ≡ with_file start.shown name (Some bytes) = l'.1.0 in
+      let shown : next.shown ≡ with_contents start.shown name (Some bytes) = l'.1.0 in
       let stands = stands_made cmp order v tables start next name (Some bytes) l'.1.1.0 h free shown l'.1.1.1 in
-      let held = at next.shown.files (put start.shown.files name (Some bytes)) name (ap (λ (s : Shown). s.files) shown) ∙ put_same start.shown.files name (Some bytes) in
+      let held = at next.shown.files (with_value start.shown.files name (Some bytes)) name (ap (λ (s : FolderView). s.files) shown) ∙ put_same start.shown.files name (Some bytes) in
       elim (sync_passed name bytes rest files more.0 next w stands (written_others files name start next (Some bytes) shown other all) held more.2 l'.2) [
         | inl still ↦ inl (still.0, short_behind steps more.0 (Created name bytes) (Synced name ∷ rest) more.1 still.1)
         | inr passed ↦ inr (record {

@@ -26,34 +26,34 @@ abbrev pub Files : Type 0
 Files = List ℕ → Option (List ℕ)
 
 -- the same, but x at this name
-abbrev pub put : {A : Type 0} → (List ℕ → A) → List ℕ → A → List ℕ → A
-put of name x other = if bytes_eq other name then x else of other
+abbrev pub with_value : {A : Type 0} → (List ℕ → A) → List ℕ → A → List ℕ → A
+with_value of name x other = if bytes_eq other name then x else of other
 
 -- what was at the first name is at the second, and nothing is left at the first
-abbrev pub moved : {A : Type 0} → A → (List ℕ → A) → List ℕ → List ℕ → List ℕ → A
-moved nothing of from to = put (put of from nothing) to (of from)
+abbrev pub with_moved : {A : Type 0} → A → (List ℕ → A) → List ℕ → List ℕ → List ℕ → A
+with_moved nothing of from to = with_value (with_value of from nothing) to (of from)
 
 -- a folder as it is read: its files, and which names were synced since they got their bytes
-pub record Shown : Type 0 where
+pub record FolderView : Type 0 where
   pub files : Files
   pub synced : List ℕ → Bool
 
-abbrev pub with_file : Shown → List ℕ → Option (List ℕ) → Shown
-with_file s name held = record { files = put s.files name held; synced = put s.synced name false }
+abbrev pub with_contents : FolderView → List ℕ → Option (List ℕ) → FolderView
+with_contents s name held = record { files = with_value s.files name held; synced = with_value s.synced name false }
 
-abbrev pub with_synced : Shown → List ℕ → Shown
-with_synced s name = record { files = s.files; synced = put s.synced name true }
+abbrev pub with_synced : FolderView → List ℕ → FolderView
+with_synced s name = record { files = s.files; synced = with_value s.synced name true }
 
-abbrev pub renamed : Shown → List ℕ → List ℕ → Shown
-renamed s from to = record { files = moved None s.files from to; synced = moved false s.synced from to }
+abbrev pub with_renamed : FolderView → List ℕ → List ℕ → FolderView
+with_renamed s from to = record { files = with_moved None s.files from to; synced = with_moved false s.synced from to }
 
 -- What a step changes if no crash comes. A call that failed may have made a file of any bytes or
 -- none, or renamed one or not.
-abbrev pub Shows : Step → Shown → Shown → Type 0
-Shows (Done (Created name bytes)) s next = next ≡ with_file s name (Some bytes)
-Shows (Tried (Created name bytes)) s next = (held : Option (List ℕ)) × (next ≡ with_file s name held)
-Shows (Done (Renamed from to)) s next = next ≡ renamed s from to
-Shows (Tried (Renamed from to)) s next = (next ≡ s) ⊎ (next ≡ renamed s from to)
+abbrev pub Shows : Step → FolderView → FolderView → Type 0
+Shows (Done (Created name bytes)) s next = next ≡ with_contents s name (Some bytes)
+Shows (Tried (Created name bytes)) s next = (held : Option (List ℕ)) × (next ≡ with_contents s name held)
+Shows (Done (Renamed from to)) s next = next ≡ with_renamed s from to
+Shows (Tried (Renamed from to)) s next = (next ≡ s) ⊎ (next ≡ with_renamed s from to)
 Shows (Done (Synced name)) s next = next ≡ with_synced s name
 Shows (Tried (Synced name)) s next = next ≡ s
 Shows (Done FolderSynced) s next = next ≡ s
@@ -65,4 +65,4 @@ Tells tells files = (name : List ℕ) (held : Option (List ℕ)) → tells name 
 
 -- What a step changes of what a folder tells. Nothing is said of a folder that tells no files.
 abbrev pub TellsAfter : Step → (List ℕ → Option (List ℕ) → Type 0) → (List ℕ → Option (List ℕ) → Type 0) → Type 0
-TellsAfter step old new = (s : Shown) → Tells old s.files → (next : Shown) × Shows step s next × Tells new next.files
+TellsAfter step old new = (s : FolderView) → Tells old s.files → (next : FolderView) × Shows step s next × Tells new next.files

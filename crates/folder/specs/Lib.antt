@@ -4,13 +4,13 @@ pub mod Folder
 pub mod Calls
 pub mod Manifest
 pub mod Orders
-pub mod Opening
+pub mod OpenAnswer
 pub mod Reports
 pub mod Levels
-pub mod Loading
+pub mod LoadedTables
 pub mod Crash
 pub mod ReadsAs
-pub mod Runs
+pub mod CallSequence
 pub mod Shelf
 -- serves proofs alone
 pub mod Attempts

@@ -6,10 +6,10 @@ use Rattle.std.specs.Str.{bytes_eq}
 use Rattle.coding.specs.Answers.{fault, IsThen, ◌>>=◌}
 use Rattle.coding.specs.declared.fault.Fault.{Fault}
 use Rattle.coding.specs.declared.fault.FaultName.TheVariants as name
-use Rattle.logrec.specs.Reading.{records_of}
+use Rattle.logrec.specs.LogReader.{records_of}
 use Rattle.ikey.specs.Bytewise.{bytewise_name}
 use Rattle.ikey.specs.Shortlex.{shortlex_name}
-use Rattle.edit.specs.Edit.{Edit, IsEdit, IsRefused}
+use Rattle.edit.specs.Edit.{Edit, IsEdit, IsEditRefused}
 use Rattle.edit.specs.Version.{State, applied_by, empty_state}
 use Rattle.folder.specs.declared.order.Order.{Order}
 use Rattle.folder.specs.declared.order.Order.TheVariants.{Bytewise, Shortlex}
@@ -26,7 +26,7 @@ pub record IsFirstRefused (records : List (List ℕ)) (e : Fault) : Type 0 where
   pub behind : List (List ℕ)
   pub parts : records ≡ before ++ bytes ∷ behind
   pub read : AreEdits before edits
-  pub refused : IsRefused bytes e
+  pub refused : IsEditRefused bytes e
 
 -- the edits that records read as, or the refusal of the first that is no edit
 abbrev pub IsEditsAnswer : List (List ℕ) → Result (List Edit) Fault → Type 0
@@ -53,9 +53,9 @@ abbrev pub order_of : List Edit → Result Order Fault
 order_of edits = option_map_or order_named (first_name edits) (Err (fault name.Comparator))
 
 -- the version after all edits, applied one after the other by the comparator of this name
-abbrev pub version_after : List ℕ → State → List Edit → Result State Fault
-version_after text v [] = Ok v
-version_after text v (e ∷ edits) = applied_by text v e >>= λ w. version_after text w edits
+abbrev pub version_after_edits : List ℕ → State → List Edit → Result State Fault
+version_after_edits text v [] = Ok v
+version_after_edits text v (e ∷ edits) = applied_by text v e >>= λ w. version_after_edits text w edits
 
 -- whether log number, last sequence and next file were set, and this number is below next file
 abbrev pub is_complete : ℕ → State → Bool
@@ -66,7 +66,7 @@ is_complete number v = is_some v.log_number && is_some v.last_sequence && option
 abbrev pub version_from : ℕ → List Edit → Result (Order × State) Fault
 version_from number edits = do
   order ← order_of edits
-  v ← version_after (order_name order) empty_state edits
+  v ← version_after_edits (order_name order) empty_state edits
   if is_complete number v then Ok (order, v) else Err (fault name.Apply)
 
 -- What the bytes of the manifest of a number answer: they are read as a log, then each record as an

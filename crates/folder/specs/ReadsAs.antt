@@ -3,11 +3,11 @@ use Rattle.std.specs.Prelude.{◌≡◌, ◌⊎◌, ◌<◌, ◌^◌, ℕ, List,
 use Rattle.std.specs.declared.cmp.Ordering.{Ordering}
 use Rattle.edit.specs.Version.{State}
 use Rattle.folder.specs.Calls.{Files}
-use Rattle.folder.specs.Crash.{IsKept, World}
+use Rattle.folder.specs.Crash.{IsDurable, World}
 use Rattle.folder.specs.Levels.{file_numbers}
-use Rattle.folder.specs.Loading.{IsLoaded}
+use Rattle.folder.specs.LoadedTables.{IsLoaded}
 use Rattle.folder.specs.Names.{current_text, manifest_name, old_table_name, table_name}
-use Rattle.folder.specs.Opening.{IsOpened}
+use Rattle.folder.specs.OpenAnswer.{IsOpened}
 use Rattle.folder.specs.declared.order.Order.{Order}
 
 -- the bytes under a name of these files
@@ -36,7 +36,7 @@ pub data RestsOn (cmp : List ℕ → List ℕ → Ordering) (v : State) (files :
 
 -- a crash now leaves under the name what is read there, and a sync of the folder keeps it
 pub record IsSettled (w : World) (name : List ℕ) : Type 0 where
-  pub kept : IsKept w.shown name
+  pub kept : IsDurable w.shown name
   pub left : w.left name ≡ w.shown.files name
 
 -- The folder reads as the version and its tables, and each name on which that rests is settled.

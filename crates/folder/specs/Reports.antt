@@ -2,7 +2,7 @@
 use Rattle.std.specs.Prelude.{◌≡◌, ◌≤◌, Result, IfErr}
 use Rattle.coding.specs.declared.fault.Fault.{Fault}
 use Rattle.folder.specs.Folder.{TellsSame}
-use Rattle.folder.specs.Opening.{HasDeviceFailed, StopsAtDevice}
+use Rattle.folder.specs.OpenAnswer.{HasDeviceFailed, StopsAtDevice}
 use Rattle.folder.specs.declared.folder.Folder.{Ghosts}
 
 -- Device is answered only if the device failed during the call. If the count of failures rose,

@@ -6,9 +6,9 @@ ghost use Rattle.folder.specs.Folder.{failures_after};
 ghost use Rattle.folder.specs.Attempts.{call_in};
 
 use crate::folder::{Folder, FolderFault};
-use crate::loading::tables_ahead;
 use crate::order::Order;
 use crate::system::{done_in, read_in};
+use crate::table_loader::tables_ahead;
 use crate::trail::{Attempt, Trail, WriteCall};
 use crate::whole_files::{Ahead, WholeFiles, read_all, take};
 use edit::Version;

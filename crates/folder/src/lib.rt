@@ -21,30 +21,30 @@
 //! - A call that failed or was under way may be done as far as these say.
 #![tactic(auto)]
 
+mod current_version;
 mod disk;
 mod edits;
 mod folder;
-mod laws;
-mod loading;
+mod folder_answer_laws;
 mod names;
-mod opening;
 mod order;
 mod shelf;
 mod shelf_step;
 mod system;
+mod table_loader;
 mod trail;
 mod whole_files;
 
+pub use current_version::open;
 pub use disk::Disk;
 pub use folder::{Folder, FolderFault};
-pub use laws::{crash_laws, folder_laws, reading_laws};
-pub use loading::load;
+pub use folder_answer_laws::{crash_laws, folder_laws, reading_laws};
 pub use names::{
     CURRENT, current_text, manifest_name, number_in_current, old_table_name, table_name,
     temporary_name,
 };
-pub use opening::open;
 pub use order::Order;
 pub use shelf::{Failing, Shelf};
 pub use shelf_step::{ShelfCall, ShelfStep};
+pub use table_loader::load;
 pub use whole_files::WholeFiles;

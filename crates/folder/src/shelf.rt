@@ -5,7 +5,7 @@ ghost use Rattle.std.specs.Option.{option_map};
 ghost use Rattle.folder.specs.Attempts.{Alters, call_in, tried_if};
 ghost use Rattle.folder.specs.Calls.{Files, Tells, step_of};
 ghost use Rattle.folder.specs.Folder.{failures_after};
-ghost use Rattle.folder.specs.Shelf.{after_steps, files_in, held_by, made_by};
+ghost use Rattle.folder.specs.Shelf.{files_after_steps, files_in, held_by, made_by};
 ghost use Rattle.folder.specs.declared.folder.FolderFault.TheVariants.{Memory};
 
 use crate::folder::{Folder, FolderFault};
@@ -43,9 +43,9 @@ pub struct Shelf<'a> {
 
 impl<'a> Model for Shelf<'a> {
     ghost use Rattle.std.specs.Prelude.{map};
-    ghost use Rattle.folder.specs.Shelf.{Shelved};
+    ghost use Rattle.folder.specs.Shelf.{ShelfView};
 
-    ghost Value = { Shelved };
+    ghost Value = { ShelfView };
 
     ghost view = { λ s. record {
       start = map (λ f. (f.0.now, f.1.now)) s.start.now;
@@ -159,7 +159,7 @@ impl<'a> Shelf<'a> {
     fn write(&mut self, call: WriteCall<'_>) -> Result<(), FolderFault>
         ensures calls { self.new.trail ≡ self.old.trail ++ step_of (call_in call.entry) result ∷ [] }
         ensures change { (files : Files) →
-            Alters (step_of (call_in call.entry) result) (after_steps self.old.steps files) (after_steps self.new.steps files) }
+            Alters (step_of (call_in call.entry) result) (files_after_steps self.old.steps files) (files_after_steps self.new.steps files) }
         ensures start { self.new.start ≡ self.old.start }
         ensures failures { self.new.failures ≡ failures_after self.old.failures result }
     {
@@ -172,7 +172,7 @@ impl<'a> Shelf<'a> {
     /// Adds a call that writes to the record. It fails if it is the failing one.
     fn record(&mut self, call: WriteCall<'_>) -> Result<(), FolderFault>
         ensures change { (files : Files) →
-            Alters (step_of (call_in call.entry) result) (after_steps self.old.steps files) (after_steps self.new.steps files) }
+            Alters (step_of (call_in call.entry) result) (files_after_steps self.old.steps files) (files_after_steps self.new.steps files) }
         ensures start { self.new.start ≡ self.old.start }
         ensures failures { self.new.failures ≡ failures_after self.old.failures result }
         ensures trail { self.new.trail ≡ self.old.trail }

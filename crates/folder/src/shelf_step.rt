@@ -2,7 +2,7 @@
 
 ghost use Rattle.std.specs.Prelude.{◌≡◌};
 ghost use Rattle.folder.specs.Calls.{Files};
-ghost use Rattle.folder.specs.Shelf.{after_step};
+ghost use Rattle.folder.specs.Shelf.{files_after_step};
 ghost use Rattle.folder.specs.Source.{from_source};
 
 /// A call that writes.
@@ -39,7 +39,7 @@ pub(crate) enum Source<'a> {
 impl ShelfStep {
     /// Where the bytes under `name` come from, after this step.
     pub(crate) fn source<'a>(&'a self, name: &'a str) -> Source<'a>
-        ensures { (files : Files) → after_step self.now files name.now ≡ from_source files result }
+        ensures { (files : Files) → files_after_step self.now files name.now ≡ from_source files result }
     {
         if !self.is_shown {
             return Source::Name(name);

@@ -11,7 +11,7 @@ use Rattle.coding.specs.Answers.{fault}
 use Rattle.coding.specs.Crc.{crc32c, masked}
 use Rattle.coding.specs.declared.fault.Fault.{Fault}
 use Rattle.coding.specs.declared.fault.FaultName.TheVariants.{Trailer, Compressed, BlockType}
-use Rattle.frame.specs.Trailer.{trailer_bytes, stored, stored_reading, StoredLaw, OnlyStoredLaw}
+use Rattle.frame.specs.Trailer.{trailer_bytes, stored_block, stored_reading, StoredLaw, OnlyStoredLaw}
 
 -- a test that did not fail
 guard_ok : {A : Type 0} (b : Bool) (d : Fault) (r : Result A Fault) (y : A) → cond b (Err d) r ≡ Ok y → (b ≡ false) × (r ≡ Ok y)
@@ -50,7 +50,7 @@ masked-lt crc = omega arith
 abbrev summed_up : List ℕ → List ℕ
 summed_up contents = contents ++ 0 ∷ []
 
-stored-parts : (contents : List ℕ) → stored contents ≡ summed_up contents ++ little_bytes 4 (masked (crc32c (summed_up contents)))
+stored-parts : (contents : List ℕ) → stored_block contents ≡ summed_up contents ++ little_bytes 4 (masked (crc32c (summed_up contents)))
 unfolding trailer_bytes
 stored-parts contents =
     sym (append_assoc contents (0 ∷ []) (little_bytes 4 (masked (crc32c (summed_up contents)))))
@@ -58,20 +58,20 @@ stored-parts contents =
 length-summed : (contents : List ℕ) → length (summed_up contents) ≡ length contents + 1
 length-summed contents = length-append contents (0 ∷ [])
 
-pub length-stored : (contents : List ℕ) → length (stored contents) ≡ length contents + 5
+pub length-stored : (contents : List ℕ) → length (stored_block contents) ≡ length contents + 5
 length-stored contents =
     let sum : ℕ = masked (crc32c (summed_up contents)) in
     omega (arith, ap length (stored-parts contents), length-append (summed_up contents) (little_bytes 4 sum), length-summed contents, length-bytes_low_first 0 4 sum)
 
-type_at : (contents : List ℕ) (n : ℕ) → n ≡ length contents → get_or (stored contents) n 0 ≡ 0
+type_at : (contents : List ℕ) (n : ℕ) → n ≡ length contents → get_or (stored_block contents) n 0 ≡ 0
 unfolding trailer_bytes
 type_at contents n e =
-    ap (λ (i : ℕ). get_or (stored contents) i 0) e
+    ap (λ (i : ℕ). get_or (stored_block contents) i 0) e
     ∙ get_or-append_seam contents 0 (little_bytes 4 (masked (crc32c (summed_up contents)))) 0
 
 pub stored_again : StoredLaw
 stored_again contents =
-    let bytes : List ℕ = stored contents in
+    let bytes : List ℕ = stored_block contents in
     let sum : ℕ = masked (crc32c (summed_up contents)) in
     let len : length bytes ≡ length contents + 5 = length-stored contents in
     let at : length (summed_up contents) ≡ length bytes - 4 = omega (arith, length-summed contents) in
@@ -107,7 +107,7 @@ read_by-Ok sum crc kind front contents e =
     record { sum_is = eqb-true sum crc (negated (eqb sum crc) a.0); kind_is = eqb-true kind 0 (negated (eqb kind 0) c.0); front_is = cc }
 
 -- bytes whose parts are these are the stored contents
-put_together : (bytes contents : List ℕ) (n : ℕ) → length bytes ≡ n + 5 → take n bytes ≡ contents → get_or bytes n 0 ≡ 0 → drop (n + 1) bytes ≡ little_bytes 4 (masked (crc32c (take (n + 1) bytes))) → bytes ≡ stored contents
+put_together : (bytes contents : List ℕ) (n : ℕ) → length bytes ≡ n + 5 → take n bytes ≡ contents → get_or bytes n 0 ≡ 0 → drop (n + 1) bytes ≡ little_bytes 4 (masked (crc32c (take (n + 1) bytes))) → bytes ≡ stored_block contents
 put_together bytes contents n len front type_is behind =
     let one : take (n + 1) bytes ≡ summed_up contents = (let more : suc n ≡ n + 1 = omega arith in ap (λ (i : ℕ). take i bytes) (sym more) ∙ take-suc bytes n 0 (omega arith) ∙ ap (λ (x : List ℕ). x ++ get_or bytes n 0 ∷ []) front ∙ ap (λ (x : ℕ). contents ++ x ∷ []) type_is) in
     sym (take-append-drop (n + 1) bytes)

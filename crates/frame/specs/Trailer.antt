@@ -13,8 +13,8 @@ unfoldable pub trailer_bytes : List ℕ → List ℕ
 trailer_bytes contents = 0 ∷ little_bytes 4 (masked (crc32c (contents ++ 0 ∷ [])))
 
 -- contents as they are stored
-abbrev pub stored : List ℕ → List ℕ
-stored contents = contents ++ trailer_bytes contents
+abbrev pub stored_block : List ℕ → List ℕ
+stored_block contents = contents ++ trailer_bytes contents
 
 -- The contents of a stored block, of at least 5 bytes, or the first test that fails: the checksum
 -- is that of the contents and the type, the type is not 1, and it is 0.
@@ -30,9 +30,9 @@ stored_reading bytes =
 
 -- contents that were stored are read
 abbrev pub StoredLaw : Type 0
-StoredLaw = (contents : List ℕ) → stored_reading (stored contents) ≡ Ok contents
+StoredLaw = (contents : List ℕ) → stored_reading (stored_block contents) ≡ Ok contents
 
 -- contents are read only of the bytes that they are stored as
 abbrev pub OnlyStoredLaw : Type 0
 OnlyStoredLaw = (bytes contents : List ℕ) → 5 ≤ length bytes → ((i : ℕ) → slice_index bytes i < 256) →
-    stored_reading bytes ≡ Ok contents → bytes ≡ stored contents
+    stored_reading bytes ≡ Ok contents → bytes ≡ stored_block contents

@@ -5,7 +5,7 @@ use Rattle.clap.specs.declared.builder.arg.Arg.{Arg}
 use Rattle.clap.specs.declared.builder.command.Command.{Command}
 use Rattle.clap.specs.declared.builder.command.Command.TheViews.{out-Command}
 use Rattle.clap.specs.Words.{AddsArg, App, Rule, app_of, rule_of, with_rule}
-use Rattle.grammar.specs.Commands.{Extends, IsCommand, adding}
+use Rattle.grammar.specs.Commands.{Extends, IsCommand, with_argument}
 
 -- a test that fails adds nothing
 or_false : (a b : Bool) → b ≡ false → (a || b) ≡ a
@@ -13,7 +13,7 @@ or_false true b e = refl
 or_false false b e = e
 
 -- a command with one argument more, of this rule
-pub argument_added : (old new : Command) (a : Arg) (rule : Rule) → rule_of a ≡ rule → a.global ≡ false → AddsArg old a new → Extends (adding rule) old new
+pub argument_added : (old new : Command) (a : Arg) (rule : Rule) → rule_of a ≡ rule → a.global ≡ false → AddsArg old a new → Extends (with_argument rule) old new
 argument_added old new a rule is local adds = (adds.shape local ∙ ap (with_rule (app_of old)) is, adds.globals ∙ or_false (out-Command old).has_globals a.global local)
 
 -- a command that is known, changed

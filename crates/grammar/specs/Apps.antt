@@ -5,12 +5,12 @@ use Rattle.clap.specs.declared.builder.action.ArgAction.TheVariants.{SetTrue}
 use Rattle.clap.specs.declared.builder.value_parser.ValueParser.TheVariants as parser
 
 -- an argument that must be given
-abbrev pub wanted : Text → Rule
-wanted id = record (new_rule id) { required = true }
+abbrev pub required_argument : Text → Rule
+required_argument id = record (new_rule id) { required = true }
 
 -- `--at HEXKEY`, which must be given
 abbrev pub at_rule : Rule
-at_rule = record (wanted (codes "at")) { long = Some (codes "at"); value_names = 1 }
+at_rule = record (required_argument (codes "at")) { long = Some (codes "at"); value_names = 1 }
 
 -- a flag, as `--all`
 abbrev pub flag_rule : Text → Rule
@@ -23,7 +23,7 @@ verbose_rule = record (flag_rule (codes "verbose")) { short = Some 118 }
 -- `blocks A B --at HEXKEY OUT`
 abbrev pub blocks_app : App
 blocks_app =
-    with_rule (with_rule (with_rule (with_rule (new_app (codes "blocks")) (wanted (codes "A"))) (wanted (codes "B"))) at_rule) (wanted (codes "OUT"))
+    with_rule (with_rule (with_rule (with_rule (new_app (codes "blocks")) (required_argument (codes "A"))) (required_argument (codes "B"))) at_rule) (required_argument (codes "OUT"))
 
 -- the program: a command must be given, and it tells its version
 abbrev pub bare_app : App
@@ -31,11 +31,11 @@ bare_app = record (new_app (codes "sedvokt")) { top = record (new_app (codes "se
 
 -- `dump TABLE`
 abbrev pub dump_app : App
-dump_app = with_rule (new_app (codes "dump")) (wanted (codes "TABLE"))
+dump_app = with_rule (new_app (codes "dump")) (required_argument (codes "TABLE"))
 
 -- a command on a folder, as `verify DIR [-v]`
 abbrev pub folder_app : Text → App
-folder_app name = with_rule (with_rule (new_app name) (wanted (codes "DIR"))) verbose_rule
+folder_app name = with_rule (with_rule (new_app name) (required_argument (codes "DIR"))) verbose_rule
 
 -- an option that takes a number of 64 bits, as `--at N`
 abbrev pub number_rule : Text → Rule
@@ -44,7 +44,7 @@ number_rule id = record (new_rule id) { long = Some id; value_names = 1; parser 
 -- `get DIR HEXKEY [--at N] [-v]`
 abbrev pub get_app : App
 get_app =
-    with_rule (with_rule (with_rule (with_rule (new_app (codes "get")) (wanted (codes "DIR"))) (wanted (codes "HEXKEY"))) (number_rule (codes "at")))
+    with_rule (with_rule (with_rule (with_rule (new_app (codes "get")) (required_argument (codes "DIR"))) (required_argument (codes "HEXKEY"))) (number_rule (codes "at")))
     verbose_rule
 
 -- `--snapshots S,S,..`
@@ -59,7 +59,7 @@ with_outputs app =
 
 -- `DIR [--level N] [--all]`, after what a command has
 abbrev pub with_levels : App → App
-with_levels app = with_rule (with_rule (with_rule app (wanted (codes "DIR"))) (number_rule (codes "level"))) (flag_rule (codes "all"))
+with_levels app = with_rule (with_rule (with_rule app (required_argument (codes "DIR"))) (number_rule (codes "level"))) (flag_rule (codes "all"))
 
 -- `[--workers W] [--ranges R] [-v] [--explain]`, after what a command has
 abbrev pub with_work : App → App

@@ -14,5 +14,5 @@ abbrev pub Extends : (App → App) → Command → Command → Type 0
 Extends change old new = (app_of new ≡ change (app_of old)) × ((out-Command new).has_globals ≡ (out-Command old).has_globals)
 
 -- with one more argument
-abbrev pub adding : Rule → App → App
-adding rule app = with_rule app rule
+abbrev pub with_argument : Rule → App → App
+with_argument rule app = with_rule app rule

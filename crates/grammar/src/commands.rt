@@ -2,8 +2,8 @@
 
 ghost use Rattle.std.specs.Prelude.{◌≡◌, IfOk};
 ghost use Rattle.clap.specs.Words.{App, app_of, new_app, with_subcommand};
-ghost use Rattle.grammar.specs.Commands.{Extends, IsCommand, adding};
-ghost use Rattle.grammar.specs.Apps.{at_rule, bare_app, blocks_app, compact_app, dump_app, flag_rule, folder_app, get_app, number_rule, program_app, snapshots_rule, verbose_rule, wanted, with_levels, with_outputs, with_work};
+ghost use Rattle.grammar.specs.Commands.{Extends, IsCommand, with_argument};
+ghost use Rattle.grammar.specs.Apps.{at_rule, bare_app, blocks_app, compact_app, dump_app, flag_rule, folder_app, get_app, number_rule, program_app, snapshots_rule, verbose_rule, required_argument, with_levels, with_outputs, with_work};
 
 use clap::{Arg, ArgAction, Command, value_parser};
 use std::alloc::{AllocError, Global};
@@ -223,7 +223,7 @@ fn with_wanted<'a>(
     id: &'a str,
     help: &'a str,
 ) -> Result<Command<'a>, AllocError>
-    ensures { IfOk result (Extends (adding (wanted id.entry.now)) command.entry) }
+    ensures { IfOk result (Extends (with_argument (required_argument id.entry.now)) command.entry) }
 {
     command.arg(Arg::new(alloc, id).required(true).help(help))
 }
@@ -236,7 +236,7 @@ fn with_number<'a>(
     name: &'a str,
     help: &'a str,
 ) -> Result<Command<'a>, AllocError>
-    ensures { IfOk result (Extends (adding (number_rule id.entry.now)) command.entry) }
+    ensures { IfOk result (Extends (with_argument (number_rule id.entry.now)) command.entry) }
 {
     let number = Arg::new(alloc, id)
         .long(id)
@@ -248,7 +248,7 @@ fn with_number<'a>(
 
 /// The command with the flag `-v`.
 fn with_verbose<'a>(alloc: Global, command: Command<'a>) -> Result<Command<'a>, AllocError>
-    ensures { IfOk result (Extends (adding verbose_rule) command.entry) }
+    ensures { IfOk result (Extends (with_argument verbose_rule) command.entry) }
 {
     let verbose = Arg::new(alloc, "verbose")
         .long("verbose")
@@ -265,7 +265,7 @@ fn with_flag<'a>(
     id: &'a str,
     help: &'a str,
 ) -> Result<Command<'a>, AllocError>
-    ensures { IfOk result (Extends (adding (flag_rule id.entry.now)) command.entry) }
+    ensures { IfOk result (Extends (with_argument (flag_rule id.entry.now)) command.entry) }
 {
     let flag = Arg::new(alloc, id)
         .long(id)
@@ -276,7 +276,7 @@ fn with_flag<'a>(
 
 /// The command with `--at HEXKEY`, which must be given.
 fn with_at<'a>(alloc: Global, command: Command<'a>) -> Result<Command<'a>, AllocError>
-    ensures { IfOk result (Extends (adding at_rule) command.entry) }
+    ensures { IfOk result (Extends (with_argument at_rule) command.entry) }
 {
     let at = Arg::new(alloc, "at")
         .required(true)
@@ -288,7 +288,7 @@ fn with_at<'a>(alloc: Global, command: Command<'a>) -> Result<Command<'a>, Alloc
 
 /// The command with `--snapshots S,S,..`.
 fn with_snapshots<'a>(alloc: Global, command: Command<'a>) -> Result<Command<'a>, AllocError>
-    ensures { IfOk result (Extends (adding snapshots_rule) command.entry) }
+    ensures { IfOk result (Extends (with_argument snapshots_rule) command.entry) }
 {
     let snapshots = Arg::new(alloc, "snapshots")
         .long("snapshots")

@@ -20,19 +20,19 @@
 #![tactic(auto)]
 
 mod boards;
-mod building;
+mod builders;
+mod calls_without_memory;
 mod case;
 mod cases;
+mod cursors;
 mod damage;
 mod fault;
 mod folders;
 mod held;
 mod memory;
-mod planning;
+mod plans;
 mod requests;
-mod resting;
 mod rows;
-mod walking;
 mod worked;
 
 use crate::damage::print_claims;

@@ -34,17 +34,17 @@
 //! 4. The next try has the same inputs and split. One row has a gate that holds job 0 until job 2
 //!    has ended.
 
-use crate::building::{block_built, edited, logged, table_built};
+use crate::builders::{block_built, edited, logged, table_built};
+use crate::calls_without_memory::{blocks, board, numbers, plans, rules, tables, versions};
 use crate::case::{Case, carried, is_answer, picked, three_ranges};
 use crate::cases::{DELETION, FOUR_WORKERS, GRANDPARENTS, OUTPUTS, SPOILT};
+use crate::cursors::{block_walked, merged, table_walked};
 use crate::fault::wanted;
 use crate::folders::{blocks_merged, folder_asked, folder_compacted, installed, table_dumped};
 use crate::held::Held;
 use crate::memory::Memory;
-use crate::planning::{chosen, planned, seated};
+use crate::plans::{chosen, planned, seated};
 use crate::requests::is_answered_of_many;
-use crate::resting::{blocks, board, numbers, plans, rules, tables, versions};
-use crate::walking::{block_walked, merged, table_walked};
 use anyhow::Result;
 use coding::Fault;
 use ikey::Bytewise;

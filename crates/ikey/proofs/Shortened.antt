@@ -9,7 +9,7 @@ use Rattle.ikey.specs.declared.kind.Kind.TheVariants.{Put}
 use Rattle.ikey.specs.Comparator.{IsBetween, Separates, Succeeds}
 use Rattle.ikey.specs.Key.{user_of, sequence_of, kind_of, kind_number, internal_key, IsInternalKey}
 use Rattle.ikey.specs.Order.{internal_cmp}
-use Rattle.ikey.specs.Short.{shortened, internal_separator_of, internal_successor_of}
+use Rattle.ikey.specs.Short.{shortened_key, internal_separator_of, internal_successor_of}
 use borrow.Author.Tests.{ltb-true}
 use Rattle.ikey.proofs.Keys.{IsInternalKey-internal_key, length-user_of, user_of-internal_key}
 use Rattle.ikey.proofs.Ordered.{internal_cmp-total}
@@ -59,8 +59,8 @@ module _ (cmp : List ℕ → List ℕ → Ordering) (total : IsTotalOrder cmp) w
   shortened-above-by key short false lower e = not_above_itself key
 
   -- a shortened key is not below the key
-  pub shortened-above : (key short : List ℕ) → internal_cmp cmp key (shortened cmp key short) ≢ Greater
-  unfolding shortened
+  pub shortened-above : (key short : List ℕ) → internal_cmp cmp key (shortened_key cmp key short) ≢ Greater
+  unfolding shortened_key
   shortened-above key short =
       shortened-above-by key short (nat_lt (length short) (length (user_of key))) (is_lt (cmp (user_of key) short)) refl
 
@@ -69,12 +69,12 @@ module _ (cmp : List ℕ → List ℕ → Ordering) (total : IsTotalOrder cmp) w
   shortened-below-by key short limit false below h = h
 
   -- a key shortened by a user key below the limit's stays below the limit
-  pub shortened-below : (key short limit : List ℕ) → cmp short (user_of limit) ≡ Less → internal_cmp cmp key limit ≡ Less → internal_cmp cmp (shortened cmp key short) limit ≡ Less
-  unfolding shortened
+  pub shortened-below : (key short limit : List ℕ) → cmp short (user_of limit) ≡ Less → internal_cmp cmp key limit ≡ Less → internal_cmp cmp (shortened_key cmp key short) limit ≡ Less
+  unfolding shortened_key
   shortened-below key short limit below h =
       shortened-below-by key short limit (nat_lt (length short) (length (user_of key)) && is_lt (cmp (user_of key) short)) below h
 
-  separator-by : (separator_of : List ℕ → List ℕ → List ℕ) → Separates cmp separator_of → (a b : List ℕ) (same : Bool) → is_eq (cmp (user_of a) (user_of b)) ≡ same → internal_cmp cmp a b ≡ Less → IsBetween (internal_cmp cmp) a b (if same then a else shortened cmp a (separator_of (user_of a) (user_of b)))
+  separator-by : (separator_of : List ℕ → List ℕ → List ℕ) → Separates cmp separator_of → (a b : List ℕ) (same : Bool) → is_eq (cmp (user_of a) (user_of b)) ≡ same → internal_cmp cmp a b ≡ Less → IsBetween (internal_cmp cmp) a b (if same then a else shortened_key cmp a (separator_of (user_of a) (user_of b)))
   separator-by separator_of law a b true e h = record { at_least = not_above_itself a; below = h }
   separator-by separator_of law a b false e h =
       let short : List ℕ = separator_of (user_of a) (user_of b) in
@@ -101,8 +101,8 @@ lawful_by key short true false e l = l
 lawful_by key short false lower e l = l
 
 -- a shortened key is an internal key
-pub IsInternalKey-shortened : (cmp : List ℕ → List ℕ → Ordering) (key short : List ℕ) → IsInternalKey key → IsInternalKey (shortened cmp key short)
-unfolding shortened
+pub IsInternalKey-shortened : (cmp : List ℕ → List ℕ → Ordering) (key short : List ℕ) → IsInternalKey key → IsInternalKey (shortened_key cmp key short)
+unfolding shortened_key
 IsInternalKey-shortened cmp key short l =
     lawful_by key short (nat_lt (length short) (length (user_of key))) (is_lt (cmp (user_of key) short)) refl l
 
@@ -114,7 +114,7 @@ pub IsInternalKey-internal_separator_of : (cmp : List ℕ → List ℕ → Order
 unfolding internal_separator_of
 IsInternalKey-internal_separator_of cmp separator_of a b l =
     let short : List ℕ = separator_of (user_of a) (user_of b) in
-    kept_or (is_eq (cmp (user_of a) (user_of b))) a (shortened cmp a short) l (IsInternalKey-shortened cmp a short l)
+    kept_or (is_eq (cmp (user_of a) (user_of b))) a (shortened_key cmp a short) l (IsInternalKey-shortened cmp a short l)
 
 pub IsInternalKey-internal_successor_of : (cmp : List ℕ → List ℕ → Ordering) (successor_of : List ℕ → List ℕ) (key : List ℕ) → IsInternalKey key → IsInternalKey (internal_successor_of cmp successor_of key)
 unfolding internal_successor_of

@@ -7,8 +7,8 @@ use Rattle.ikey.specs.Key.{user_of, internal_key}
 
 -- short with the greatest sequence and type 1, if short is shorter than the user key and greater;
 -- else the key
-unfoldable pub shortened : (List ℕ → List ℕ → Ordering) → List ℕ → List ℕ → List ℕ
-shortened cmp key short =
+unfoldable pub shortened_key : (List ℕ → List ℕ → Ordering) → List ℕ → List ℕ → List ℕ
+shortened_key cmp key short =
     if nat_lt (length short) (length (user_of key)) && is_lt (cmp (user_of key) short)
     then internal_key short (2 ^ 56 - 1) Put
     else key
@@ -16,8 +16,8 @@ shortened cmp key short =
 -- a if the user keys are equal, else a shortened by the separator of the user keys
 unfoldable pub internal_separator_of : (List ℕ → List ℕ → Ordering) → (List ℕ → List ℕ → List ℕ) → List ℕ → List ℕ → List ℕ
 internal_separator_of cmp separator_of a b =
-    if is_eq (cmp (user_of a) (user_of b)) then a else shortened cmp a (separator_of (user_of a) (user_of b))
+    if is_eq (cmp (user_of a) (user_of b)) then a else shortened_key cmp a (separator_of (user_of a) (user_of b))
 
 -- the key shortened by the successor of its user key
 unfoldable pub internal_successor_of : (List ℕ → List ℕ → Ordering) → (List ℕ → List ℕ) → List ℕ → List ℕ
-internal_successor_of cmp successor_of key = shortened cmp key (successor_of (user_of key))
+internal_successor_of cmp successor_of key = shortened_key cmp key (successor_of (user_of key))

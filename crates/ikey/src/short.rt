@@ -8,7 +8,7 @@ ghost use Rattle.std.specs.declared.cmp.Ordering.TheVariants.{Less, Greater};
 ghost use Rattle.coding.specs.Answers.{EqualOrMemory};
 ghost use Rattle.ikey.specs.Comparator.{IsBetween};
 ghost use Rattle.ikey.specs.Order.{internal_cmp};
-ghost use Rattle.ikey.specs.Short.{shortened, internal_separator_of, internal_successor_of};
+ghost use Rattle.ikey.specs.Short.{shortened_key, internal_separator_of, internal_successor_of};
 
 use crate::comparator::Comparator;
 use crate::key::{InternalKey, MAX_SEQUENCE};
@@ -62,9 +62,9 @@ pub fn internal_successor<C: Comparator>(alloc: Global, key: InternalKey) -> Res
 
 /// `short` with sequence 2^56 - 1 and type 1, if `short` is shorter than the key's user key and
 /// greater; else `key`. The only fault is Memory.
-#[tactic(auto, unfolding(crate::specs::Short::shortened))]
+#[tactic(auto, unfolding(crate::specs::Short::shortened_key))]
 fn shorten<C: Comparator>(alloc: Global, key: InternalKey, short: &[u8]) -> Result<KeyBuf, Fault>
-    ensures { EqualOrMemory (λ own. own) result (Ok (shortened C.cmp key.entry.bytes.now short.now)) }
+    ensures { EqualOrMemory (λ own. own) result (Ok (shortened_key C.cmp key.entry.bytes.now short.now)) }
 {
     let user = key.user();
     if short.len() < user.len() && C::compare(user, short).is_lt() {

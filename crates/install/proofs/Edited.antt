@@ -12,12 +12,12 @@ use Rattle.coding.specs.declared.fault.Fault.{Fault}
 use Rattle.coding.specs.declared.fault.FaultName.TheVariants.{Apply, Comparator}
 use Rattle.logrec.proofs.Logs.{log_again}
 use Rattle.edit.specs.Edit.{Edit, IsEdit, edit_bytes}
-use Rattle.edit.specs.Version.{State, IsState, applied, applied_by, are_apart, are_new, empty_state, files_after, has_number, has_place, kept_files, names_another}
-use Rattle.edit.specs.VersionOrder.{snapshot_of, unnumbered}
+use Rattle.edit.specs.Version.{State, IsState, applied, applied_by, are_apart, are_new, empty_state, files_after, has_number, has_place, undeleted_files, names_another}
+use Rattle.edit.specs.VersionOrder.{snapshot_of, unnumbered_version}
 use Rattle.edit.specs.declared.meta.NewFile.{NewFile}
 use Rattle.folder.specs.Free.{IsFree}
 use Rattle.folder.specs.Levels.{file_numbers}
-use Rattle.folder.specs.Manifest.{IsManifestAnswer, is_complete, order_name, order_of, version_after, version_from}
+use Rattle.folder.specs.Manifest.{IsManifestAnswer, is_complete, order_name, order_of, version_after_edits, version_from}
 use Rattle.folder.specs.Names.{manifest_name, old_table_name, table_name, temporary_name}
 use Rattle.folder.specs.ReadsAs.{IsOneOf}
 use Rattle.folder.specs.declared.order.Order.{Order}
@@ -70,15 +70,15 @@ some_or None a h = absurd (cc h)
 some_or (Some x) a h = refl
 
 -- an edit that sets all numbers makes the same of a version without them
-unnumbered_edited : (v next : State) (e : Edit) → applied v e ≡ Some next → is_some e.log_number ≡ true → is_some e.previous_log ≡ true → is_some e.next_file ≡ true → is_some e.last_sequence ≡ true → applied (unnumbered v) e ≡ Some next
+unnumbered_edited : (v next : State) (e : Edit) → applied v e ≡ Some next → is_some e.log_number ≡ true → is_some e.previous_log ≡ true → is_some e.next_file ≡ true → is_some e.last_sequence ≡ true → applied (unnumbered_version v) e ≡ Some next
 unnumbered_edited v next e h log' previous' free' last' =
     let parts = option_parts (made v e) (files_after v.files e.deleted e.added) next h in
     let one = same_or e.log_number None v.log_number log' in
     let two = same_or e.previous_log None v.previous_log previous' in
     let three = same_or e.next_file None v.next_file free' in
     let four = same_or e.last_sequence None v.last_sequence last' in
-    let same : made (unnumbered v) e parts.0 ≡ made v e parts.0 = cc (one, two, three, four) in
-    ap (option_map (made (unnumbered v) e)) parts.1 ∙ ap (λ (s : State). Some s) (same ∙ parts.2)
+    let same : made (unnumbered_version v) e parts.0 ≡ made v e parts.0 = cc (one, two, three, four) in
+    ap (option_map (made (unnumbered_version v) e)) parts.1 ∙ ap (λ (s : State). Some s) (same ∙ parts.2)
 
 -- it makes a version that is complete
 edited_complete : (v next : State) (e : Edit) (number free : ℕ) → applied v e ≡ Some next → is_some e.log_number ≡ true → is_some e.last_sequence ≡ true → e.next_file ≡ Some free → number < free → is_complete number next ≡ true
@@ -108,17 +108,17 @@ named_order Bytewise cmp v edits = refl
 named_order Shortlex cmp v edits = refl
 
 -- the snapshot and the edit give the next version
-pub from_snapshot : (order : Order) (cmp : List ℕ → List ℕ → Ordering) (v next : State) (e : Edit) (number : ℕ) → applied empty_state (snapshot_of (order_name order) cmp v) ≡ Some (unnumbered v) → e.comparator ≡ None
-    → applied (unnumbered v) e ≡ Some next → is_complete number next ≡ true → Ok (order, next) ≡ version_from number (snapshot_of (order_name order) cmp v ∷ e ∷ [])
+pub from_snapshot : (order : Order) (cmp : List ℕ → List ℕ → Ordering) (v next : State) (e : Edit) (number : ℕ) → applied empty_state (snapshot_of (order_name order) cmp v) ≡ Some (unnumbered_version v) → e.comparator ≡ None
+    → applied (unnumbered_version v) e ≡ Some next → is_complete number next ≡ true → Ok (order, next) ≡ version_from number (snapshot_of (order_name order) cmp v ∷ e ∷ [])
 from_snapshot order cmp v next e number again unnamed edited complete =
     let name = order_name order in
     let snap = snapshot_of name cmp v in
     let edits = snap ∷ e ∷ [] in
-    let last' = λ (w : State). version_after name w [] in
-    let two : version_after name (unnumbered v) (e ∷ []) ≡ Ok next = bind_ok {A = State} (applied_by name (unnumbered v) e) next (λ w. version_after name w []) (unnamed_applied name (unnumbered v) next e unnamed edited) in
-    let after : version_after name empty_state edits ≡ Ok next = bind_ok {A = State} (applied_by name empty_state snap) (unnumbered v) (λ w. version_after name w (e ∷ [])) (named_applied order cmp v (unnumbered v) again) ∙ two in
-    sym (bind_ok {A = Order} (order_of edits) order (λ o. version_after (order_name o) empty_state edits >>= λ w. if is_complete number w then Ok (o, w) else Err (fault Apply)) (named_order order cmp v (e ∷ []))
-    ∙ (bind_ok {A = State} (version_after name empty_state edits) next (λ w. if is_complete number w then Ok (order, w) else Err (fault Apply)) after
+    let last' = λ (w : State). version_after_edits name w [] in
+    let two : version_after_edits name (unnumbered_version v) (e ∷ []) ≡ Ok next = bind_ok {A = State} (applied_by name (unnumbered_version v) e) next (λ w. version_after_edits name w []) (unnamed_applied name (unnumbered_version v) next e unnamed edited) in
+    let after : version_after_edits name empty_state edits ≡ Ok next = bind_ok {A = State} (applied_by name empty_state snap) (unnumbered_version v) (λ w. version_after_edits name w (e ∷ [])) (named_applied order cmp v (unnumbered_version v) again) ∙ two in
+    sym (bind_ok {A = Order} (order_of edits) order (λ o. version_after_edits (order_name o) empty_state edits >>= λ w. if is_complete number w then Ok (o, w) else Err (fault Apply)) (named_order order cmp v (e ∷ []))
+    ∙ (bind_ok {A = State} (version_after_edits name empty_state edits) next (λ w. if is_complete number w then Ok (order, w) else Err (fault Apply)) after
     ∙ ap (λ (b : Bool). if b then Ok (order, next) else Err (fault Apply)) complete))
 
 -- the manifest gives the next version
@@ -190,8 +190,8 @@ module _ (cmp : List ℕ → List ℕ → Ordering) (order : Order) (v next : St
   distinct : AreDistinct (numbers_of outputs)
   distinct =
       let parts = option_parts (made v h.edit) (files_after v.files h.edit.deleted h.edit.added) next h.edited in
-      let tests = some_tested (list_all (has_place v.files) h.edit.deleted && are_new (kept_files h.edit.deleted v.files) h.edit.added) _ parts.0 None refl parts.1 in
-      let new' = (both_true (list_all (has_place v.files) h.edit.deleted) (are_new (kept_files h.edit.deleted v.files) h.edit.added) tests).1 in
+      let tests = some_tested (list_all (has_place v.files) h.edit.deleted && are_new (undeleted_files h.edit.deleted v.files) h.edit.added) _ parts.0 None refl parts.1 in
+      let new' = (both_true (list_all (has_place v.files) h.edit.deleted) (are_new (undeleted_files h.edit.deleted v.files) h.edit.added) tests).1 in
       subst AreDistinct h.added (apart_distinct h.edit.added (both_true (are_apart h.edit.added) _ new').0)
 
   pub apart_of : (manifest : List ℕ) → Apart cmp v outputs number manifest
@@ -203,7 +203,7 @@ module _ (cmp : List ℕ → List ℕ → Ordering) (order : Order) (v next : St
     temporary_other = (manifest_no_temporary number number small, other_filed outputs [] (temporary_name number) (λ n. table_no_temporary n number) tt);
   }
 
-  pub setting_of : (tables : List (ℕ × List ℕ)) → IsState v.pointers v.files → applied empty_state (snapshot_of (order_name order) cmp v) ≡ Some (unnumbered v) → IsEdit (edit_bytes (snapshot_of (order_name order) cmp v)) (snapshot_of (order_name order) cmp v)
+  pub setting_of : (tables : List (ℕ × List ℕ)) → IsState v.pointers v.files → applied empty_state (snapshot_of (order_name order) cmp v) ≡ Some (unnumbered_version v) → IsEdit (edit_bytes (snapshot_of (order_name order) cmp v)) (snapshot_of (order_name order) cmp v)
       → Setting cmp order v next tables outputs number (manifest_bytes (order_name order) cmp v bytes)
   setting_of tables state again reads = record {
     small = small;

@@ -2,8 +2,8 @@
 use Rattle.std.proofs.Common.{◌≡◌, ℕ, List, [], ◌∷◌, ◌++◌, map, Option, Result, Ok, Err, OnOk, sym, ap, subst, ◌∙◌, inl, inr}
 use Rattle.std.specs.declared.cmp.Ordering.{Ordering}
 use Rattle.edit.specs.Version.{State}
-use Rattle.folder.specs.Calls.{Call, Done, FolderSynced, Shown, Step}
-use Rattle.folder.specs.Runs.{AreMade, Runs}
+use Rattle.folder.specs.Calls.{Call, Done, FolderSynced, FolderView, Step}
+use Rattle.folder.specs.CallSequence.{AreMade, MakesCalls}
 use Rattle.folder.specs.Crash.{Leads, LeavesOnly, World}
 use Rattle.folder.specs.Free.{IsFree}
 use Rattle.folder.specs.ReadsAs.{IsSettled, ReadsAs, StandsAs}
@@ -11,12 +11,12 @@ use Rattle.folder.specs.Written.{IsWritten}
 use Rattle.folder.specs.declared.order.Order.{Order}
 use Rattle.folder.proofs.CrashLemmas.{left_reads, stands_folder_synced, stands_still}
 use Rattle.folder.proofs.WrittenLemmas.{file_passed, leads_first, leads_none, short_none, short_tried, written_still}
-use Rattle.install.specs.Install.{writes}
+use Rattle.install.specs.Install.{write_calls}
 use Rattle.install.proofs.Moments.{leads_split, made_by, moment_made}
 
 module _ (cmp : List ℕ → List ℕ → Ordering) (order : Order) (v : State) (tables : List (ℕ × List ℕ)) (name bytes : List ℕ) (free : IsFree cmp v name) where
-  file_stands : (start w : World) (steps : List Step) → StandsAs cmp order v tables start → AreMade (writes name bytes) steps → Leads start steps w
-      → StandsAs cmp order v tables w × (steps ≡ map Done (writes name bytes) → IsWritten w (name, bytes))
+  file_stands : (start w : World) (steps : List Step) → StandsAs cmp order v tables start → AreMade (write_calls name bytes) steps → Leads start steps w
+      → StandsAs cmp order v tables w × (steps ≡ map Done (write_calls name bytes) → IsWritten w (name, bytes))
   file_stands start w steps h made l =
       elim (file_passed cmp order v tables name bytes [] [] steps start w h free tt tt made l) [
         | inl still ↦ (still.0, λ done. absurd (still.1 done))
@@ -26,21 +26,21 @@ module _ (cmp : List ℕ → List ℕ → Ordering) (order : Order) (v : State) 
       ]
 
   pub file_moments : {T E : Type 0} (start : World) (before now : List Step) (old new : List ℕ → Option (List ℕ) → Type 0) (r : Result T E) → ((w : World) → Leads start before w → StandsAs cmp order v tables w)
-      → Runs (writes name bytes) before now old new r → LeavesOnly start before now (ReadsAs cmp order v tables)
+      → MakesCalls (write_calls name bytes) before now old new r → LeavesOnly start before now (ReadsAs cmp order v tables)
   file_moments start before now old new r stands runs = record {
     steps = runs.steps;
     all = runs.appended;
     each = λ sofar moment files left.
         let split = leads_split start left.0 before sofar left.1 in
-        let made = moment_made (writes name bytes) runs.steps sofar (made_by (writes name bytes) runs.steps r runs.made) moment in
+        let made = moment_made (write_calls name bytes) runs.steps sofar (made_by (write_calls name bytes) runs.steps r runs.made) moment in
         subst (ReadsAs cmp order v tables) (sym left.2) (left_reads cmp order v tables left.0 (file_stands split.0 left.0 sofar (stands split.0 split.1) made split.2).0);
   }
 
   pub file_written : {T E : Type 0} (start : World) (before now : List Step) (old new : List ℕ → Option (List ℕ) → Type 0) (r : Result T E) → ((w : World) → Leads start before w → StandsAs cmp order v tables w)
-      → Runs (writes name bytes) before now old new r → OnOk r ((w : World) → Leads start now w → StandsAs cmp order v tables w × IsWritten w (name, bytes))
+      → MakesCalls (write_calls name bytes) before now old new r → OnOk r ((w : World) → Leads start now w → StandsAs cmp order v tables w × IsWritten w (name, bytes))
   file_written start before now old new (Ok x) stands runs = λ w l.
       let split = leads_split start w before runs.steps (subst (λ (s : List Step). Leads start s w) runs.appended l) in
-      let end = file_stands split.0 w runs.steps (stands split.0 split.1) (made_by {T = Unit {0}} {E = Unit {0}} (writes name bytes) runs.steps (Ok tt) runs.made) split.2 in
+      let end = file_stands split.0 w runs.steps (stands split.0 split.1) (made_by {T = Unit {0}} {E = Unit {0}} (write_calls name bytes) runs.steps (Ok tt) runs.made) split.2 in
       (end.0, end.1 runs.made)
   file_written start before now old new (Err e) stands runs = tt
 
@@ -59,11 +59,11 @@ module _ (cmp : List ℕ → List ℕ → Ordering) (order : Order) (v : State) 
       let next = l'.0 in
       let is : w ≡ next = leads_none next w more.0 more.2 l'.2 in
       let written : IsWritten next (name, bytes) = (written_still ((name, bytes) ∷ []) start next l'.1.0 (file, tt)).0 in
-      let settled : IsSettled next name = record { kept = inl written.synced; left = l'.1.1 name (inl file.synced) ∙ sym (ap (λ (s : Shown). s.files name) l'.1.0) } in
+      let settled : IsSettled next name = record { kept = inl written.synced; left = l'.1.1 name (inl file.synced) ∙ sym (ap (λ (s : FolderView). s.files name) l'.1.0) } in
       (subst (StandsAs cmp order v tables) (sym is) (stands_folder_synced cmp order v tables start next h.reads (λ n r. (h.settled n r).kept) l'.1), λ all. subst AtLast (sym is) (written, settled))
 
   abbrev pub settled_calls : List Call
-  settled_calls = writes name bytes ++ FolderSynced ∷ []
+  settled_calls = write_calls name bytes ++ FolderSynced ∷ []
 
   settled_stands : (start w : World) (steps : List Step) → StandsAs cmp order v tables start → AreMade settled_calls steps → Leads start steps w
       → StandsAs cmp order v tables w × (steps ≡ map Done settled_calls → AtLast w)
@@ -76,7 +76,7 @@ module _ (cmp : List ℕ → List ℕ → Ordering) (order : Order) (v : State) 
       ]
 
   pub settled_moments : {T E : Type 0} (start : World) (before now : List Step) (old new : List ℕ → Option (List ℕ) → Type 0) (r : Result T E) → ((w : World) → Leads start before w → StandsAs cmp order v tables w)
-      → Runs settled_calls before now old new r → LeavesOnly start before now (ReadsAs cmp order v tables)
+      → MakesCalls settled_calls before now old new r → LeavesOnly start before now (ReadsAs cmp order v tables)
   settled_moments start before now old new r stands runs = record {
     steps = runs.steps;
     all = runs.appended;
@@ -87,7 +87,7 @@ module _ (cmp : List ℕ → List ℕ → Ordering) (order : Order) (v : State) 
   }
 
   pub settled_written : {T E : Type 0} (start : World) (before now : List Step) (old new : List ℕ → Option (List ℕ) → Type 0) (r : Result T E) → ((w : World) → Leads start before w → StandsAs cmp order v tables w)
-      → Runs settled_calls before now old new r → OnOk r ((w : World) → Leads start now w → StandsAs cmp order v tables w × IsWritten w (name, bytes) × IsSettled w name)
+      → MakesCalls settled_calls before now old new r → OnOk r ((w : World) → Leads start now w → StandsAs cmp order v tables w × IsWritten w (name, bytes) × IsSettled w name)
   settled_written start before now old new (Ok x) stands runs = λ w l.
       let split = leads_split start w before runs.steps (subst (λ (s : List Step). Leads start s w) runs.appended l) in
       let end = settled_stands split.0 w runs.steps (stands split.0 split.1) (made_by {T = Unit {0}} {E = Unit {0}} settled_calls runs.steps (Ok tt) runs.made) split.2 in

@@ -6,12 +6,12 @@ use Rattle.edit.specs.Edit.{IsEdit, edit_bytes}
 use Rattle.edit.specs.Version.{IsState, State}
 use Rattle.edit.specs.VersionOrder.{snapshot_of}
 use Rattle.folder.specs.Calls.{Files, Step, Tells}
-use Rattle.folder.specs.Runs.{Runs}
+use Rattle.folder.specs.CallSequence.{MakesCalls}
 use Rattle.folder.specs.Crash.{Leads, LeavesOnly, World}
 use Rattle.folder.specs.ReadsAs.{ReadsAs, StandsAs}
 use Rattle.folder.specs.declared.order.Order.{Order}
 use Rattle.folder.specs.Manifest.{order_name}
-use Rattle.install.specs.Install.{IsBeforeOrAfter, IsEditedBy, Survives, install_calls, manifest_bytes, tables_after}
+use Rattle.install.specs.Install.{IsBeforeOrAfter, IsEditedBy, SurvivesCrash, install_calls, manifest_bytes, next_version_tables}
 use Rattle.edit.proofs.Remade.{remade}
 use Rattle.install.proofs.Edited.{apart_of, setting_of}
 use Rattle.install.proofs.Moments.{any_moment, nothing_done, reads_then, stands_installed}
@@ -23,7 +23,7 @@ ReadsBack name cmp v = IsEdit (edit_bytes (snapshot_of name cmp v)) (snapshot_of
 
 module _ (cmp : List ℕ → List ℕ → Ordering) (order : Order) (v next : State) (tables outputs : List (ℕ × List ℕ)) (number : ℕ) (bytes : List ℕ) (small : number < 2 ^ 64) (total : IsTotalOrder cmp) (state : IsState v.pointers v.files) where
   abbrev after : List (ℕ × List ℕ)
-  after = tables_after cmp next outputs tables
+  after = next_version_tables cmp next outputs tables
 
   abbrev calls : List ℕ → List Rattle.folder.specs.Calls.Call
   calls name = install_calls number outputs (manifest_bytes name cmp v bytes)
@@ -32,29 +32,29 @@ module _ (cmp : List ℕ → List ℕ → Ordering) (order : Order) (v next : St
   setting h back w stands = setting_of cmp order v next number outputs bytes h small tables state (remade total (order_name order) v state) back
 
   moments : {T E : Type 0} (name : List ℕ) → IsEditedBy name cmp order v number outputs bytes next → ReadsBack name cmp v → (start : World) (before now : List Step) (old new : List ℕ → Option (List ℕ) → Type 0) (r : Result T E)
-      → ((w : World) → Leads start before w → StandsAs cmp order v tables w) → Runs (calls name) before now old new r → LeavesOnly start before now (IsBeforeOrAfter cmp order v tables next after)
+      → ((w : World) → Leads start before w → StandsAs cmp order v tables w) → MakesCalls (calls name) before now old new r → LeavesOnly start before now (IsBeforeOrAfter cmp order v tables next after)
   moments {T = T} {E = E} name h = subst
       (λ (n : List ℕ). IsEditedBy n cmp order v number outputs bytes next → ReadsBack n cmp v → (start : World) (before now : List Step) (old new : List ℕ → Option (List ℕ) → Type 0) (r : Result T E)
-      → ((w : World) → Leads start before w → StandsAs cmp order v tables w) → Runs (calls n) before now old new r → LeavesOnly start before now (IsBeforeOrAfter cmp order v tables next after))
+      → ((w : World) → Leads start before w → StandsAs cmp order v tables w) → MakesCalls (calls n) before now old new r → LeavesOnly start before now (IsBeforeOrAfter cmp order v tables next after))
       h.named
       (λ h back start before now old new r stands runs.
       any_moment cmp order v next tables outputs number (manifest_bytes (order_name order) cmp v bytes) (setting h back) (apart_of cmp order v next number outputs bytes h small (manifest_bytes (order_name order) cmp v bytes)) start before now old new r stands runs)
       h
 
   installed : {T E : Type 0} (name : List ℕ) → IsEditedBy name cmp order v number outputs bytes next → ReadsBack name cmp v → (start : World) (before now : List Step) (old new : List ℕ → Option (List ℕ) → Type 0) (r : Result T E)
-      → ((w : World) → Leads start before w → StandsAs cmp order v tables w) → Runs (calls name) before now old new r → OnOk r ((w : World) → Leads start now w → StandsAs cmp order next after w)
+      → ((w : World) → Leads start before w → StandsAs cmp order v tables w) → MakesCalls (calls name) before now old new r → OnOk r ((w : World) → Leads start now w → StandsAs cmp order next after w)
   installed {T = T} {E = E} name h = subst
       (λ (n : List ℕ). IsEditedBy n cmp order v number outputs bytes next → ReadsBack n cmp v → (start : World) (before now : List Step) (old new : List ℕ → Option (List ℕ) → Type 0) (r : Result T E)
-      → ((w : World) → Leads start before w → StandsAs cmp order v tables w) → Runs (calls n) before now old new r → OnOk r ((w : World) → Leads start now w → StandsAs cmp order next after w))
+      → ((w : World) → Leads start before w → StandsAs cmp order v tables w) → MakesCalls (calls n) before now old new r → OnOk r ((w : World) → Leads start now w → StandsAs cmp order next after w))
       h.named
       (λ h back start before now old new r stands runs.
       stands_installed cmp order v next tables outputs number (manifest_bytes (order_name order) cmp v bytes) (setting h back) (apart_of cmp order v next number outputs bytes h small (manifest_bytes (order_name order) cmp v bytes)) start before now old new r stands runs)
       h
 
-  reads : {T E : Type 0} (name : List ℕ) → IsEditedBy name cmp order v number outputs bytes next → ReadsBack name cmp v → (before now : List Step) (old new : List ℕ → Option (List ℕ) → Type 0) (r : Result T E) → Runs (calls name) before now old new r
+  reads : {T E : Type 0} (name : List ℕ) → IsEditedBy name cmp order v number outputs bytes next → ReadsBack name cmp v → (before now : List Step) (old new : List ℕ → Option (List ℕ) → Type 0) (r : Result T E) → MakesCalls (calls name) before now old new r
       → (files : Files) → Tells old files → ReadsAs cmp order v tables files → (files' : Files) × Tells new files' × IsBeforeOrAfter cmp order v tables next after files' × OnOk r (ReadsAs cmp order next after files')
   reads {T = T} {E = E} name h = subst
-      (λ (n : List ℕ). IsEditedBy n cmp order v number outputs bytes next → ReadsBack n cmp v → (before now : List Step) (old new : List ℕ → Option (List ℕ) → Type 0) (r : Result T E) → Runs (calls n) before now old new r
+      (λ (n : List ℕ). IsEditedBy n cmp order v number outputs bytes next → ReadsBack n cmp v → (before now : List Step) (old new : List ℕ → Option (List ℕ) → Type 0) (r : Result T E) → MakesCalls (calls n) before now old new r
       → (files : Files) → Tells old files → ReadsAs cmp order v tables files → (files' : Files) × Tells new files' × IsBeforeOrAfter cmp order v tables next after files' × OnOk r (ReadsAs cmp order next after files'))
       h.named
       (λ h back before now old new r runs files tells read.
@@ -63,7 +63,7 @@ module _ (cmp : List ℕ → List ℕ → Ordering) (order : Order) (v next : St
 
   -- all three
   pub survives : {T E : Type 0} (name : List ℕ) → IsEditedBy name cmp order v number outputs bytes next → ReadsBack name cmp v → (before now : List Step) (old new : List ℕ → Option (List ℕ) → Type 0) (r : Result T E)
-      → Runs (calls name) before now old new r → Survives cmp order v tables next after before now old new r
+      → MakesCalls (calls name) before now old new r → SurvivesCrash cmp order v tables next after before now old new r
   survives name h back before now old new r runs = record {
     any_moment = λ start stands. moments name h back start before now old new r stands runs;
     installed = λ start stands. installed name h back start before now old new r stands runs;
@@ -72,7 +72,7 @@ module _ (cmp : List ℕ → List ℕ → Ordering) (order : Order) (v next : St
 
 -- what failed before the first call
 pub undone : {T E : Type 0} (P : E → Type 0) (cmp : List ℕ → List ℕ → Ordering) (order : Order) (v next : State) (tables tables' : List (ℕ × List ℕ)) (calls : List Step) (tells : List ℕ → Option (List ℕ) → Type 0) (r : Result T E) → IsErrAnd r P
-    → Survives cmp order v tables next tables' calls calls tells tells r
+    → SurvivesCrash cmp order v tables next tables' calls calls tells tells r
 undone P cmp order v next tables tables' calls tells (Ok x) h = absurd h
 undone P cmp order v next tables tables' calls tells (Err e) h = record {
   any_moment = λ start stands. nothing_done cmp order v next tables tables' start calls stands;

@@ -3,8 +3,8 @@ use Rattle.std.proofs.Common.{◌≡◌, ℕ, true, List, [], ◌∷◌, ◌++�
 use Rattle.std.proofs.lemmas.List.{append-nil, append_cancel_left, map-append}
 use Rattle.std.specs.declared.cmp.Ordering.{Ordering}
 use Rattle.edit.specs.Version.{State}
-use Rattle.folder.specs.Calls.{Call, Created, Done, Files, Shown, Step, Synced, Tells}
-use Rattle.folder.specs.Runs.{AreMade, AreMadeBy, Runs}
+use Rattle.folder.specs.Calls.{Call, Created, Done, Files, FolderView, Step, Synced, Tells}
+use Rattle.folder.specs.CallSequence.{AreMade, AreMadeBy, MakesCalls}
 use Rattle.folder.specs.Crash.{IsMoment, Leads, LeavesOnly, World, open_world}
 use Rattle.folder.specs.Free.{IsFree}
 use Rattle.folder.specs.Names.{current_text, manifest_name, temporary_name}
@@ -13,7 +13,7 @@ use Rattle.folder.specs.declared.order.Order.{Order}
 use Rattle.folder.proofs.CrashLemmas.{left_reads, shown_left}
 use Rattle.folder.proofs.RunLemmas.{made_behind}
 use Rattle.folder.proofs.WrittenLemmas.{AllOther, IsShort, file_passed}
-use Rattle.install.specs.Install.{IsBeforeOrAfter, install_calls, table_calls, tables_after}
+use Rattle.install.specs.Install.{IsBeforeOrAfter, install_calls, table_calls, next_version_tables}
 use Rattle.install.proofs.Outputs.{AreApart, filed, tables_passed}
 use Rattle.install.proofs.Switch.{Setting, ends, last_calls}
 
@@ -59,10 +59,10 @@ pub record Apart (cmp : List ℕ → List ℕ → Ordering) (v : State) (outputs
 
 module _ (cmp : List ℕ → List ℕ → Ordering) (order : Order) (v next : State) (tables outputs : List (ℕ × List ℕ)) (number : ℕ) (manifest : List ℕ) (setting : (w : World) → StandsAs cmp order v tables w → Setting cmp order v next tables outputs number manifest) (apart : Apart cmp v outputs number manifest) where
   abbrev IsLeft : World → Type 0
-  IsLeft w = IsBeforeOrAfter cmp order v tables next (tables_after cmp next outputs tables) w.left
+  IsLeft w = IsBeforeOrAfter cmp order v tables next (next_version_tables cmp next outputs tables) w.left
 
   abbrev StandsNext : World → Type 0
-  StandsNext w = StandsAs cmp order next (tables_after cmp next outputs tables) w
+  StandsNext w = StandsAs cmp order next (next_version_tables cmp next outputs tables) w
 
   abbrev all_calls : List Call
   all_calls = install_calls number outputs manifest
@@ -106,36 +106,36 @@ module _ (cmp : List ℕ → List ℕ → Ordering) (order : Order) (v next : St
 
   -- each moment of a run, from any start after which the version before stands
   pub any_moment : {T E : Type 0} (start : World) (before now : List Step) (old new : List ℕ → Option (List ℕ) → Type 0) (r : Result T E) → ((w : World) → Leads start before w → StandsAs cmp order v tables w)
-      → Runs all_calls before now old new r → LeavesOnly start before now (IsBeforeOrAfter cmp order v tables next (tables_after cmp next outputs tables))
+      → MakesCalls all_calls before now old new r → LeavesOnly start before now (IsBeforeOrAfter cmp order v tables next (next_version_tables cmp next outputs tables))
   any_moment start before now old new r stands runs = record {
     steps = runs.steps;
     all = runs.appended;
     each = λ sofar moment files left.
         let split = leads_split start left.0 before sofar left.1 in
         let made = moment_made all_calls runs.steps sofar (made_by all_calls runs.steps r runs.made) moment in
-        subst (IsBeforeOrAfter cmp order v tables next (tables_after cmp next outputs tables)) (sym left.2) (installs split.0 left.0 sofar (stands split.0 split.1) made split.2).0;
+        subst (IsBeforeOrAfter cmp order v tables next (next_version_tables cmp next outputs tables)) (sym left.2) (installs split.0 left.0 sofar (stands split.0 split.1) made split.2).0;
   }
 
   -- at Ok the edited version stands
   pub stands_installed : {T E : Type 0} (start : World) (before now : List Step) (old new : List ℕ → Option (List ℕ) → Type 0) (r : Result T E) → ((w : World) → Leads start before w → StandsAs cmp order v tables w)
-      → Runs all_calls before now old new r → OnOk r ((w : World) → Leads start now w → StandsNext w)
+      → MakesCalls all_calls before now old new r → OnOk r ((w : World) → Leads start now w → StandsNext w)
   stands_installed start before now old new (Ok x) stands runs = λ w l.
       let split = leads_split start w before runs.steps (subst (λ (s : List Step). Leads start s w) runs.appended l) in
       (installs split.0 w runs.steps (stands split.0 split.1) (made_by {T = Unit {0}} {E = Unit {0}} all_calls runs.steps (Ok tt) runs.made) split.2).1 runs.made
   stands_installed start before now old new (Err e) stands runs = tt
 
   -- without a crash one of the two is read, and at Ok the edited version
-  pub reads_then : {T E : Type 0} (before now : List Step) (old new : List ℕ → Option (List ℕ) → Type 0) (r : Result T E) → Runs all_calls before now old new r → (files : Files) → Tells old files → ReadsAs cmp order v tables files
-      → (files' : Files) × Tells new files' × IsBeforeOrAfter cmp order v tables next (tables_after cmp next outputs tables) files' × OnOk r (ReadsAs cmp order next (tables_after cmp next outputs tables) files')
+  pub reads_then : {T E : Type 0} (before now : List Step) (old new : List ℕ → Option (List ℕ) → Type 0) (r : Result T E) → MakesCalls all_calls before now old new r → (files : Files) → Tells old files → ReadsAs cmp order v tables files
+      → (files' : Files) × Tells new files' × IsBeforeOrAfter cmp order v tables next (next_version_tables cmp next outputs tables) files' × OnOk r (ReadsAs cmp order next (next_version_tables cmp next outputs tables) files')
   reads_then before now old new r runs files tells reads =
-      let s : Shown = record { files = files; synced = λ name. true } in
+      let s : FolderView = record { files = files; synced = λ name. true } in
       let last = runs.change s tells in
       let stands : StandsAs cmp order v tables (open_world s) = record { reads = reads; settled = λ name rests. record { kept = inl refl; left = refl } } in
       let end = installs (open_world s) (open_world last.0) runs.steps stands (made_by all_calls runs.steps r runs.made) (shown_left runs.steps s last.0 last.1) in
       (last.0.files, last.2, end.0, on_ok r runs.made end.1)
     where
-      on_ok : {T E : Type 0} {w : World} (r : Result T E) → AreMadeBy all_calls runs.steps r → (runs.steps ≡ map Done all_calls → StandsNext w) → OnOk r (ReadsAs cmp order next (tables_after cmp next outputs tables) w.left)
-      on_ok {w = w} (Ok x) made then = left_reads cmp order next (tables_after cmp next outputs tables) w (then made)
+      on_ok : {T E : Type 0} {w : World} (r : Result T E) → AreMadeBy all_calls runs.steps r → (runs.steps ≡ map Done all_calls → StandsNext w) → OnOk r (ReadsAs cmp order next (next_version_tables cmp next outputs tables) w.left)
+      on_ok {w = w} (Ok x) made then = left_reads cmp order next (next_version_tables cmp next outputs tables) w (then made)
       on_ok (Err e) made then = tt
 
 -- nothing was done, and the version before stands

@@ -10,8 +10,8 @@ use Rattle.std.specs.declared.cmp.Ordering.TheVariants.{Equal, Greater, Less}
 use Rattle.ikey.specs.Order.{internal_cmp}
 use Rattle.edit.specs.Edit.{Edit, IsEdit, empty_edit, with_field}
 use Rattle.edit.specs.Field.{AddFile, DeleteFile, Field, IsField, SetComparator, SetLastSequence, SetLogNumber, SetNextFile, SetPointer, SetPreviousLog}
-use Rattle.edit.specs.Version.{State, applied, are_new, files_after, has_place, is_deleted, kept_files, number_cmp}
-use Rattle.edit.specs.VersionOrder.{files_at, version_cmp}
+use Rattle.edit.specs.Version.{State, applied, are_new, files_after, has_place, is_deleted, undeleted_files, number_cmp}
+use Rattle.edit.specs.VersionOrder.{files_at, file_cmp}
 use Rattle.edit.specs.declared.meta.FileMeta.{FileMeta}
 use Rattle.edit.specs.declared.meta.NewFile.{NewFile}
 use Rattle.edit.proofs.Tested.{is_eq-nat_cmp}
@@ -149,14 +149,14 @@ second_equal Less p e = absurd (cc e)
 second_equal Equal p e = e
 second_equal Greater p e = absurd (cc e)
 
-tied : (cmp : List ℕ → List ℕ → Ordering) (a b : FileMeta) → version_cmp cmp a b ≡ Equal → number_of a ≡ number_of b
+tied : (cmp : List ℕ → List ℕ → Ordering) (a b : FileMeta) → file_cmp cmp a b ≡ Equal → number_of a ≡ number_of b
 tied cmp a b e = eqb-true a.number b.number (sym (is_eq-nat_cmp a.number b.number) ∙ ap is_eq (second_equal (internal_cmp cmp a.smallest b.smallest) (nat_cmp a.number b.number) e))
 
 -- the numbers of a version are those of its files
 pub in_files : (cmp : List ℕ → List ℕ → Ordering) (v : State) (n : ℕ) → IsOneOf (file_numbers cmp v) n → IsOneOf (numbers_in v.files) n
 in_files cmp v n m =
     let l = at_level (numbers_at cmp v) 0 7 n m in
-    elim (from_order number_of (version_cmp cmp) [] (files_at v.files l.0) n l.1) [
+    elim (from_order number_of (file_cmp cmp) [] (files_at v.files l.0) n l.1) [
       | inl none' ↦ absurd none'
       | inr b ↦ filtered (λ (f : NewFile). f.meta.number) (λ (f : NewFile). nat_eq f.level l.0) v.files n (metas_in (filter (λ (f : NewFile). nat_eq f.level l.0) v.files) n b)
     ]
@@ -165,7 +165,7 @@ pub in_version : (cmp : List ℕ → List ℕ → Ordering) (v : State) (n : ℕ
 in_version cmp v n low m =
     let l = with_level v.files n low m in
     of_levels (numbers_at cmp v) 0 7 l.0 n (omega arith) (omega (arith, l.1))
-    (to_order number_of (version_cmp cmp) (tied cmp) [] (files_at v.files l.0) n (inr (in_metas (filter (λ (f : NewFile). nat_eq f.level l.0) v.files) n l.2)))
+    (to_order number_of (file_cmp cmp) (tied cmp) [] (files_at v.files l.0) n (inr (in_metas (filter (λ (f : NewFile). nat_eq f.level l.0) v.files) n l.2)))
 
 some_value : {A : Type 0} (b : Bool) (x y : A) → (if b then Some x else None) ≡ Some y → x ≡ y
 some_value true x y h = cc h
@@ -175,7 +175,7 @@ some_value false x y h = absurd (cc h)
 pub after_edit : (v next : State) (e : Edit) → applied v e ≡ Some next → (n : ℕ) → IsOneOf (numbers_in next.files) n → IsOneOf (numbers_in e.added) n ⊎ IsOneOf (numbers_in v.files) n
 after_edit v next e h n m =
     let parts = option_parts (made v e) (files_after v.files e.deleted e.added) next h in
-    let left = kept_files e.deleted v.files in
+    let left = undeleted_files e.deleted v.files in
     let files : next.files ≡ fold (insert_key number_cmp) left e.added =
     sym (ap (λ (s : State). s.files) parts.2) ∙ sym (some_value (list_all (has_place v.files) e.deleted && are_new left e.added) (fold (insert_key number_cmp) left e.added) parts.0 parts.1) in
     elim (from_order (λ (f : NewFile). f.meta.number) number_cmp left e.added n (subst (λ (fs : List NewFile). IsOneOf (numbers_in fs) n) files m)) [

@@ -6,15 +6,15 @@ use Rattle.std.specs.Map.{lookup}
 use Rattle.std.specs.declared.cmp.Ordering.{Ordering}
 use Rattle.edit.specs.Version.{State}
 use Rattle.folder.specs.Calls.{Call, Created, Done, Files, Step, Synced}
-use Rattle.folder.specs.Runs.{AreMade}
+use Rattle.folder.specs.CallSequence.{AreMade}
 use Rattle.folder.specs.Crash.{Leads, World}
 use Rattle.folder.specs.Free.{IsFree}
-use Rattle.folder.specs.Loading.{IsTableAnswer, IsTableOf}
+use Rattle.folder.specs.LoadedTables.{IsTableAnswer, IsTableOf}
 use Rattle.folder.specs.Names.{table_name}
 use Rattle.folder.specs.ReadsAs.{IsOneOf, StandsAs}
 use Rattle.folder.specs.declared.order.Order.{Order}
 use Rattle.folder.proofs.WrittenLemmas.{AllOther, AllWritten, IsShort, Passed, file_passed, short_behind}
-use Rattle.install.specs.Install.{bytes_of, numbers_of, table_calls, writes}
+use Rattle.install.specs.Install.{table_bytes_of, numbers_of, table_calls, write_calls}
 
 -- the tables as files, before other files
 abbrev pub filed : List (ℕ × List ℕ) → List (List ℕ × List ℕ) → List (List ℕ × List ℕ)
@@ -45,7 +45,7 @@ tables_passed cmp order v tables (t ∷ outputs) done rest steps start w h apart
               written = others.written;
               made = others.made;
               leads = others.leads;
-              whole = one.whole ∙ ap (λ (s : List Step). map Done (writes (table_name t.0) t.1) ++ s) others.whole;
+              whole = one.whole ∙ ap (λ (s : List Step). map Done (write_calls (table_name t.0) t.1) ++ s) others.whole;
             })
           ]
     ]
@@ -97,22 +97,22 @@ other_number : (n m : ℕ) → nat_eq n m ≡ false → n ≢ m
 other_number n m h same = let e : nat_eq n m ≡ true = subst (λ (k : ℕ). nat_eq n k ≡ true) same (same_number n) in cc
 
 -- an output is held under its name with the bytes of its number
-pub output_held : (outputs tables : List (ℕ × List ℕ)) (files : Files) (n : ℕ) → AllHeld outputs files → IsOneOf (numbers_of outputs) n → files (table_name n) ≡ Some (bytes_of (outputs ++ tables) n)
+pub output_held : (outputs tables : List (ℕ × List ℕ)) (files : Files) (n : ℕ) → AllHeld outputs files → IsOneOf (numbers_of outputs) n → files (table_name n) ≡ Some (table_bytes_of (outputs ++ tables) n)
 output_held [] tables files n h m = absurd m
 output_held (t ∷ outputs) tables files n h m =
     elim (test_cases (nat_eq n t.0)) [
       | inl here ↦
           let same : n ≡ t.0 = eqb-true n t.0 here in
-          let bytes : bytes_of (t ∷ outputs ++ tables) n ≡ t.1 = ap (λ (o : Option (List ℕ)). unwrap_or o []) (lookup_here n t (outputs ++ tables) here) in
+          let bytes : table_bytes_of (t ∷ outputs ++ tables) n ≡ t.1 = ap (λ (o : Option (List ℕ)). unwrap_or o []) (lookup_here n t (outputs ++ tables) here) in
           ap (λ (k : ℕ). files (table_name k)) same ∙ (h.0 ∙ ap (λ (b : List ℕ). Some b) (sym bytes))
       | inr there ↦
-          let bytes : bytes_of (t ∷ outputs ++ tables) n ≡ bytes_of (outputs ++ tables) n = ap (λ (o : Option (List ℕ)). unwrap_or o []) (lookup_there n t (outputs ++ tables) there) in
+          let bytes : table_bytes_of (t ∷ outputs ++ tables) n ≡ table_bytes_of (outputs ++ tables) n = ap (λ (o : Option (List ℕ)). unwrap_or o []) (lookup_there n t (outputs ++ tables) there) in
           let m' : IsOneOf (numbers_of outputs) n = elim m [ inl same ↦ absurd (other_number n t.0 there same) | inr other ↦ other ] in
           output_held outputs tables files n h.1 m' ∙ ap (λ (b : List ℕ). Some b) (sym bytes)
     ]
 
 -- a number is an output's, or is found among the tables before
-pub among_outputs : (outputs tables : List (ℕ × List ℕ)) (n : ℕ) → IsOneOf (numbers_of outputs) n ⊎ (bytes_of (outputs ++ tables) n ≡ bytes_of tables n)
+pub among_outputs : (outputs tables : List (ℕ × List ℕ)) (n : ℕ) → IsOneOf (numbers_of outputs) n ⊎ (table_bytes_of (outputs ++ tables) n ≡ table_bytes_of tables n)
 among_outputs [] tables n = inr refl
 among_outputs (t ∷ outputs) tables n =
     elim (test_cases (nat_eq n t.0)) [
@@ -124,7 +124,7 @@ among_outputs (t ∷ outputs) tables n =
     ]
 
 -- the table of a number that was loaded
-pub loaded_at : (tells : List ℕ → Option (List ℕ) → Type 0) (numbers : List ℕ) (tables : List (ℕ × List ℕ)) (n : ℕ) → AllZip (IsTableOf tells) numbers tables → IsOneOf numbers n → IsTableAnswer tells n (Ok (bytes_of tables n))
+pub loaded_at : (tells : List ℕ → Option (List ℕ) → Type 0) (numbers : List ℕ) (tables : List (ℕ × List ℕ)) (n : ℕ) → AllZip (IsTableOf tells) numbers tables → IsOneOf numbers n → IsTableAnswer tells n (Ok (table_bytes_of tables n))
 loaded_at tells [] [] n h m = absurd m
 loaded_at tells [] (t ∷ tables) n h m = absurd h
 loaded_at tells (k ∷ numbers) [] n h m = absurd h
@@ -132,10 +132,10 @@ loaded_at tells (k ∷ numbers) (t ∷ tables) n h m =
     elim (test_cases (nat_eq n t.0)) [
       | inl here ↦
           let same : n ≡ k = eqb-true n t.0 here ∙ h.0.0 in
-          let bytes : bytes_of (t ∷ tables) n ≡ t.1 = ap (λ (o : Option (List ℕ)). unwrap_or o []) (lookup_here n t tables here) in
+          let bytes : table_bytes_of (t ∷ tables) n ≡ t.1 = ap (λ (o : Option (List ℕ)). unwrap_or o []) (lookup_here n t tables here) in
           subst (λ (b : List ℕ). IsTableAnswer tells n (Ok b)) (sym bytes) (subst (λ (j : ℕ). IsTableAnswer tells j (Ok t.1)) (sym same) h.0.1)
       | inr there ↦
-          let bytes : bytes_of (t ∷ tables) n ≡ bytes_of tables n = ap (λ (o : Option (List ℕ)). unwrap_or o []) (lookup_there n t tables there) in
+          let bytes : table_bytes_of (t ∷ tables) n ≡ table_bytes_of tables n = ap (λ (o : Option (List ℕ)). unwrap_or o []) (lookup_there n t tables there) in
           let m' : IsOneOf numbers n = elim m [ inl same ↦ absurd (other_number n t.0 there (same ∙ sym h.0.0)) | inr other ↦ other ] in
           subst (λ (b : List ℕ). IsTableAnswer tells n (Ok b)) (sym bytes) (loaded_at tells numbers tables n h.1 m')
     ]

@@ -4,10 +4,10 @@ use Rattle.std.proofs.lemmas.List.{take_more, take-append-drop}
 use Rattle.std.specs.Global.{Vec}
 use Rattle.coding.specs.declared.fault.Fault.{Fault}
 use Rattle.folder.specs.Calls.{Call, Step}
-use Rattle.folder.specs.Runs.{Runs}
+use Rattle.folder.specs.CallSequence.{MakesCalls}
 use Rattle.coding.specs.Answers.{UnlessMemory, fault}
 use Rattle.folder.specs.Folder.{failures_after, fault_name}
-use Rattle.folder.specs.Opening.{IsStopped, StopsAtDevice}
+use Rattle.folder.specs.OpenAnswer.{IsStopped, StopsAtDevice}
 use Rattle.folder.specs.declared.folder.FolderFault.{FolderFault}
 use Rattle.folder.specs.declared.folder.FolderFault.TheVariants.{Device, Memory}
 use Rattle.coding.specs.declared.fault.FaultName.TheVariants as name
@@ -15,48 +15,48 @@ use Rattle.folder.proofs.CountLemmas.{count_device, count_later}
 use Rattle.folder.proofs.OpeningLemmas.{failed_since}
 use Rattle.folder.specs.Names.{table_name}
 use Rattle.folder.proofs.RunLemmas.{runs_none, runs_stopped, runs_then}
-use Rattle.install.specs.Install.{table_calls, tables_in, writes}
+use Rattle.install.specs.Install.{table_calls, tables_in, write_calls}
 
 -- calls that were all made
 abbrev pub RunsWhole : List Call → List Step → List Step → (List ℕ → Option (List ℕ) → Type 0) → (List ℕ → Option (List ℕ) → Type 0) → Type 0
-RunsWhole calls before after old new = Runs {T = Unit {0}} {E = Fault} calls before after old new (Ok tt)
+RunsWhole calls before after old new = MakesCalls {T = Unit {0}} {E = Fault} calls before after old new (Ok tt)
 
 -- a call's failure that `?` hands on
 pub hands_stopped : {T E U G : Type 0} (P : G → Type 0) (calls more : List Call) (before after : List Step) (old new : List ℕ → Option (List ℕ) → Type 0) (e : E) (r : Result U G) → IsErrAnd r P
-    → Runs {T = T} calls before after old new (Err e) → Runs (calls ++ more) before after old new r
+    → MakesCalls {T = T} calls before after old new (Err e) → MakesCalls (calls ++ more) before after old new r
 hands_stopped P calls more before after old new e (Ok x) h k = absurd h
 hands_stopped P calls more before after old new e (Err f) h k = runs_stopped calls more before after old new e f k
 
 -- a failure before the first call
-pub hands_none : {U G : Type 0} (P : G → Type 0) (calls : List Call) (before : List Step) (tells : List ℕ → Option (List ℕ) → Type 0) (r : Result U G) → IsErrAnd r P → Runs calls before before tells tells r
+pub hands_none : {U G : Type 0} (P : G → Type 0) (calls : List Call) (before : List Step) (tells : List ℕ → Option (List ℕ) → Type 0) (r : Result U G) → IsErrAnd r P → MakesCalls calls before before tells tells r
 hands_none P calls before tells (Ok x) h = absurd h
 hands_none P calls before tells (Err f) h = runs_none calls before tells f
 
 -- whatever the value is, all were made
-pub runs_whole : {T E : Type 0} (calls : List Call) (before after : List Step) (old new : List ℕ → Option (List ℕ) → Type 0) (x : T) → Runs {E = E} calls before after old new (Ok x) → RunsWhole calls before after old new
+pub runs_whole : {T E : Type 0} (calls : List Call) (before after : List Step) (old new : List ℕ → Option (List ℕ) → Type 0) (x : T) → MakesCalls {E = E} calls before after old new (Ok x) → RunsWhole calls before after old new
 runs_whole calls before after old new x h = record { steps = h.steps; made = h.made; appended = h.appended; change = h.change }
 
 -- calls that are the same
-pub runs_same : {T E : Type 0} (calls others : List Call) (before after : List Step) (old new : List ℕ → Option (List ℕ) → Type 0) (r : Result T E) → calls ≡ others → Runs calls before after old new r → Runs others before after old new r
+pub runs_same : {T E : Type 0} (calls others : List Call) (before after : List Step) (old new : List ℕ → Option (List ℕ) → Type 0) (r : Result T E) → calls ≡ others → MakesCalls calls before after old new r → MakesCalls others before after old new r
 runs_same calls others before after old new r same h = rw (← same) h
 
 -- a file under another spelling of its name, with its bytes
-pub same_writes : (a b x y : List ℕ) → a ≡ b → x ≡ y → writes a x ≡ writes b y
+pub same_writes : (a b x y : List ℕ) → a ≡ b → x ≡ y → write_calls a x ≡ write_calls b y
 same_writes a b x y one two = cc
 
 -- what was made so far, where a later one fails before its first call
 pub hands_behind : {U G : Type 0} (P : G → Type 0) (calls more : List Call) (before after : List Step) (old new : List ℕ → Option (List ℕ) → Type 0) (r : Result U G) → IsErrAnd r P
-    → RunsWhole calls before after old new → Runs (calls ++ more) before after old new r
+    → RunsWhole calls before after old new → MakesCalls (calls ++ more) before after old new r
 hands_behind P calls more before after old new r h k = runs_then {E = Fault} calls more before after after old new new tt r k (hands_none P more after new r h)
 
 -- the calls of tables, and of more tables behind them
 calls_append : (xs ys : List (ℕ × Vec ℕ)) → table_calls (tables_in (xs ++ ys)) ≡ table_calls (tables_in xs) ++ table_calls (tables_in ys)
 calls_append [] ys = refl
-calls_append (x ∷ xs) ys = ap (λ (t : List Call). writes (table_name x.0) x.1.items ++ t) (calls_append xs ys)
+calls_append (x ∷ xs) ys = ap (λ (t : List Call). write_calls (table_name x.0) x.1.items ++ t) (calls_append xs ys)
 
 -- the tables before a place, the one at it and those behind
 pub tables_around : (tables : List (ℕ × Vec ℕ)) (i : ℕ) (t : ℕ × Vec ℕ) → i < length tables → t ≡ get_or tables i t
-    → table_calls (tables_in (take i tables)) ++ (writes (table_name t.0) t.1.items ++ table_calls (tables_in (drop (suc i) tables))) ≡ table_calls (tables_in tables)
+    → table_calls (tables_in (take i tables)) ++ (write_calls (table_name t.0) t.1.items ++ table_calls (tables_in (drop (suc i) tables))) ≡ table_calls (tables_in tables)
 tables_around tables i t h is =
     let behind : drop i tables ≡ t ∷ drop (suc i) tables = drop-cons tables i t h ∙ ap (λ (x : ℕ × Vec ℕ). x ∷ drop (suc i) tables) (sym is) in
     let parts : take i tables ++ t ∷ drop (suc i) tables ≡ tables = ap (λ (x : List (ℕ × Vec ℕ)). take i tables ++ x) (sym behind) ∙ take-append-drop i tables in
@@ -64,7 +64,7 @@ tables_around tables i t h is =
 
 -- one table more
 pub tables_on : (tables : List (ℕ × Vec ℕ)) (i : ℕ) (t : ℕ × Vec ℕ) → i < length tables → t ≡ get_or tables i t
-    → table_calls (tables_in (take i tables)) ++ writes (table_name t.0) t.1.items ≡ table_calls (tables_in (take (i + 1) tables))
+    → table_calls (tables_in (take i tables)) ++ write_calls (table_name t.0) t.1.items ≡ table_calls (tables_in (take (i + 1) tables))
 tables_on tables i t h is =
     let more : take (i + 1) tables ≡ take i tables ++ t ∷ [] = take_more tables i t h ∙ ap (λ (x : ℕ × Vec ℕ). take i tables ++ x ∷ []) (sym is) in
     sym (calls_append (take i tables) (t ∷ [])) ∙ ap (λ (x : List (ℕ × Vec ℕ)). table_calls (tables_in x)) (sym more)

@@ -3,12 +3,12 @@ use Rattle.std.proofs.Common.{◌≡◌, ◌≢◌, ◌⊎◌, ◌<◌, ◌^◌,
 use Rattle.std.proofs.lemmas.Option.{none-some, same_Some}
 use Rattle.std.specs.declared.cmp.Ordering.{Ordering}
 use Rattle.edit.specs.Version.{State}
-use Rattle.folder.specs.Calls.{Call, Done, Files, FolderSynced, Renamed, Shown, Step, moved, renamed}
-use Rattle.folder.specs.Runs.{AreMade}
-use Rattle.folder.specs.Crash.{Happens, IsKept, Leads, World}
+use Rattle.folder.specs.Calls.{Call, Done, Files, FolderSynced, Renamed, FolderView, Step, with_moved, with_renamed}
+use Rattle.folder.specs.CallSequence.{AreMade}
+use Rattle.folder.specs.Crash.{Happens, IsDurable, Leads, World}
 use Rattle.folder.specs.Free.{IsFree}
 use Rattle.folder.specs.Levels.{file_numbers}
-use Rattle.folder.specs.Loading.{IsTableAnswer}
+use Rattle.folder.specs.LoadedTables.{IsTableAnswer}
 use Rattle.folder.specs.Manifest.{IsManifestAnswer}
 use Rattle.folder.specs.Names.{current_text, manifest_name, old_table_name, table_name, temporary_name}
 use Rattle.folder.specs.ReadsAs.{Current, IsOneOf, Manifest, OldTable, ReadsAs, RestsOn, StandsAs, Table, IsHeldIn}
@@ -19,7 +19,7 @@ use Rattle.folder.proofs.NameLemmas.{texts_alike}
 use Rattle.folder.proofs.PutLemmas.{moved_other, moved_to}
 use Rattle.folder.proofs.ReadsLemmas.{opens, table_same}
 use Rattle.folder.proofs.WrittenLemmas.{AllWritten, leads_first, leads_none, short_none, short_tried, written_still}
-use Rattle.install.specs.Install.{IsBeforeOrAfter, bytes_of, numbers_of, tables_after}
+use Rattle.install.specs.Install.{IsBeforeOrAfter, table_bytes_of, numbers_of, next_version_tables}
 use Rattle.install.proofs.Outputs.{AllHeld, among_outputs, filed, filed_parts, filed_synced, held_same, loaded_at, loads, output_held, synced_at}
 
 abbrev pub CURRENT : List ℕ
@@ -55,7 +55,7 @@ pub record Setting (cmp : List ℕ → List ℕ → Ordering) (order : Order) (v
 
 module _ (cmp : List ℕ → List ℕ → Ordering) (order : Order) (v next : State) (tables outputs : List (ℕ × List ℕ)) (number : ℕ) (manifest : List ℕ) (setting : Setting cmp order v next tables outputs number manifest) where
   abbrev tables' : List (ℕ × List ℕ)
-  tables' = tables_after cmp next outputs tables
+  tables' = next_version_tables cmp next outputs tables
 
   -- Files that hold what the next version wants, and else what the version before rests on.
   record Holds (files now : Files) : Type 0 where
@@ -65,15 +65,15 @@ module _ (cmp : List ℕ → List ℕ → Ordering) (order : Order) (v next : St
     same : (name : List ℕ) → RestsOn cmp v files name → name ≢ CURRENT → now name ≡ files name
 
   -- a table of the next version
-  table_next : (files now : Files) → ReadsAs cmp order v tables files → Holds files now → (n : ℕ) → IsOneOf (file_numbers cmp next) n → IsTableAnswer (IsHeldIn now) n (Ok (bytes_of (outputs ++ tables) n))
+  table_next : (files now : Files) → ReadsAs cmp order v tables files → Holds files now → (n : ℕ) → IsOneOf (file_numbers cmp next) n → IsTableAnswer (IsHeldIn now) n (Ok (table_bytes_of (outputs ++ tables) n))
   table_next files now reads h n m =
-      let output = λ (m' : IsOneOf (numbers_of outputs) n). let t : IsTableAnswer (IsHeldIn now) n (Ok (bytes_of (outputs ++ tables) n)) = inl (output_held outputs tables now n h.held m') in t in
+      let output = λ (m' : IsOneOf (numbers_of outputs) n). let t : IsTableAnswer (IsHeldIn now) n (Ok (table_bytes_of (outputs ++ tables) n)) = inl (output_held outputs tables now n h.held m') in t in
       elim (among_outputs outputs tables n) [
         | inl m' ↦ output m'
         | inr same ↦ elim (setting.there n m) [
           | inl m' ↦ output m'
           | inr before ↦ subst (λ (b : List ℕ). IsTableAnswer (IsHeldIn now) n (Ok b)) (sym same)
-              (table_same files now n (bytes_of tables n) (h.same _ (Table n before) (table_no_current n)) (λ none'. h.same _ (OldTable n before none') (old_table_no_current n))
+              (table_same files now n (table_bytes_of tables n) (h.same _ (Table n before) (table_no_current n)) (λ none'. h.same _ (OldTable n before none') (old_table_no_current n))
               (loaded_at (IsHeldIn files) (file_numbers cmp v) tables n reads.loaded before))
         ]
       ]
@@ -88,7 +88,7 @@ module _ (cmp : List ℕ → List ℕ → Ordering) (order : Order) (v next : St
       manifest = h.named;
       answer = setting.answer;
     });
-    loaded = loads (IsHeldIn now) (file_numbers cmp next) (bytes_of (outputs ++ tables)) (table_next files now reads h);
+    loaded = loads (IsHeldIn now) (file_numbers cmp next) (table_bytes_of (outputs ++ tables)) (table_next files now reads h);
   }
 
   -- what a fact has to hold of, so that it holds of all that the next version rests on
@@ -111,14 +111,14 @@ module _ (cmp : List ℕ → List ℕ → Ordering) (order : Order) (v next : St
   pub record Ready (w : World) : Type 0 where
     pub stands : StandsAs cmp order v tables w
     pub written : AllWritten ((temporary_name number, current_text number) ∷ (manifest_name number, manifest) ∷ filed outputs []) w
-    pub settled : (name : List ℕ) → IsKept w.shown name → w.left name ≡ w.shown.files name
+    pub settled : (name : List ℕ) → IsDurable w.shown name → w.left name ≡ w.shown.files name
 
   -- what the version before rests on isn't the temporary file
   no_temporary : (w : World) → StandsAs cmp order v tables w → (name : List ℕ) → RestsOn cmp v w.shown.files name → name ≢ temporary_name number
   no_temporary w h name r = rests_on_none cmp order v tables w.shown.files (temporary_name number) name h.reads setting.free r
 
   -- files where the temporary file became CURRENT, of such that hold what is written
-  moved_holds : (w : World) (files : Files) → Ready w → ((name : List ℕ) → IsKept w.shown name → files name ≡ w.shown.files name) → Holds w.shown.files (moved None files (temporary_name number) CURRENT)
+  moved_holds : (w : World) (files : Files) → Ready w → ((name : List ℕ) → IsDurable w.shown name → files name ≡ w.shown.files name) → Holds w.shown.files (with_moved None files (temporary_name number) CURRENT)
   moved_holds w files h same =
       let tmp = temporary_name number in
       let outs = filed_parts outputs [] w h.written.1.1 in
@@ -127,27 +127,27 @@ module _ (cmp : List ℕ → List ℕ → Ordering) (order : Order) (v next : St
       record {
         current = moved_to None files tmp CURRENT ∙ (same tmp (inl h.written.0.synced) ∙ h.written.0.held);
         named = other (manifest_name number) (manifest_no_temporary number number setting.small) (manifest_no_current number setting.small) ∙ (same _ (inl h.written.1.0.synced) ∙ h.written.1.0.held);
-        held = held_same outputs w.shown.files (moved None files tmp CURRENT) (λ n m. other (table_name n) (table_no_temporary n number) (table_no_current n) ∙ same _ (inl (synced_at outputs w.shown.synced n marks.0 m))) outs.0;
+        held = held_same outputs w.shown.files (with_moved None files tmp CURRENT) (λ n m. other (table_name n) (table_no_temporary n number) (table_no_current n) ∙ same _ (inl (synced_at outputs w.shown.synced n marks.0 m))) outs.0;
         same = λ name r c. other name (no_temporary w h.stands name r) c ∙ same name (h.stands.settled name r).kept;
       }
 
   -- after the rename a crash leaves the one or the other
-  pub left_renamed : (w after : World) → Ready w → (after.left ≡ w.left) ⊎ (after.left ≡ moved None w.left (temporary_name number) CURRENT) → IsBeforeOrAfter cmp order v tables next tables' after.left
+  pub left_renamed : (w after : World) → Ready w → (after.left ≡ w.left) ⊎ (after.left ≡ with_moved None w.left (temporary_name number) CURRENT) → IsBeforeOrAfter cmp order v tables next tables' after.left
   left_renamed w after h (inl same) = inl (subst (ReadsAs cmp order v tables) (sym same) (left_reads cmp order v tables w h.stands))
   left_renamed w after h (inr same) = inr (subst (ReadsAs cmp order next tables') (sym same) (reads_next w.shown.files _ h.stands.reads (moved_holds w w.left h h.settled)))
 
   -- once the folder is synced the edited version stands
-  pub stands_next : (w after last : World) → Ready w → after.shown ≡ renamed w.shown (temporary_name number) CURRENT → Happens (Done FolderSynced) after last → StandsAs cmp order next tables' last
+  pub stands_next : (w after last : World) → Ready w → after.shown ≡ with_renamed w.shown (temporary_name number) CURRENT → Happens (Done FolderSynced) after last → StandsAs cmp order next tables' last
   stands_next w after last h shown happens =
       let tmp = temporary_name number in
-      let now = moved None w.shown.files tmp CURRENT in
+      let now = with_moved None w.shown.files tmp CURRENT in
       let holds = moved_holds w w.shown.files h (λ name k. refl) in
       let marks = filed_synced outputs [] w h.written.1.1 in
-      let files : after.shown.files ≡ now = ap (λ (s : Shown). s.files) shown in
-      let synced : after.shown.synced ≡ moved false w.shown.synced tmp CURRENT = ap (λ (s : Shown). s.synced) shown in
+      let files : after.shown.files ≡ now = ap (λ (s : FolderView). s.files) shown in
+      let synced : after.shown.synced ≡ with_moved false w.shown.synced tmp CURRENT = ap (λ (s : FolderView). s.synced) shown in
       let other = λ (name : List ℕ) (a : name ≢ tmp) (b : name ≢ CURRENT). at after.shown.synced _ name synced ∙ moved_other false w.shown.synced tmp CURRENT name a b in
       let reads = subst (ReadsAs cmp order next tables') (sym files) (reads_next w.shown.files now h.stands.reads holds) in
-      let kept = rests_next (IsKept after.shown) w.shown.files now holds
+      let kept = rests_next (IsDurable after.shown) w.shown.files now holds
       (inl (at after.shown.synced _ CURRENT synced ∙ (moved_to false w.shown.synced tmp CURRENT ∙ h.written.0.synced)))
       (inl (other (manifest_name number) (manifest_no_temporary number number setting.small) (manifest_no_current number setting.small) ∙ h.written.1.0.synced))
       (λ n m. inl (other (table_name n) (table_no_temporary n number) (table_no_current n) ∙ synced_at outputs w.shown.synced n marks.0 m))
@@ -171,7 +171,7 @@ module _ (cmp : List ℕ → List ℕ → Ordering) (order : Order) (v next : St
   same_world P a b is h = subst P (sym is) h
 
   -- the folder was synced, and the file renamed
-  sync_again : (w after last : World) (steps : List Step) → Ready w → after.shown ≡ renamed w.shown (temporary_name number) CURRENT → (after.left ≡ w.left) ⊎ (after.left ≡ moved None w.left (temporary_name number) CURRENT)
+  sync_again : (w after last : World) (steps : List Step) → Ready w → after.shown ≡ with_renamed w.shown (temporary_name number) CURRENT → (after.left ≡ w.left) ⊎ (after.left ≡ with_moved None w.left (temporary_name number) CURRENT)
       → AreMade (FolderSynced ∷ []) steps → Leads after steps last → Leaves last × (steps ≡ Done FolderSynced ∷ [] → StandsAs cmp order next tables' last)
   sync_again w after last steps h shown left (inl none') l = (same_world Leaves after last (leads_none after last steps none' l) (left_renamed w after h left), λ all. absurd (short_none steps FolderSynced [] none' all))
   sync_again w after last steps h shown left (inr (inl one)) l =
@@ -207,13 +207,13 @@ module _ (cmp : List ℕ → List ℕ → Ordering) (order : Order) (v next : St
   ends w last steps h all (inr (inr more)) l =
       let l' = leads_first w last steps more.0 _ more.1 l in
       let after = l'.0 in
-      let files = ap (λ (s : Shown). s.files) l'.1.0 in
-      let marks = ap (λ (s : Shown). s.synced) l'.1.0 in
+      let files = ap (λ (s : FolderView). s.files) l'.1.0 in
+      let marks = ap (λ (s : FolderView). s.synced) l'.1.0 in
       let ready : Ready after = record {
         stands = stands_folder_synced cmp order v tables w after h.reads (λ name r. (h.settled name r).kept) l'.1;
         written = written_still ((temporary_name number, current_text number) ∷ (manifest_name number, manifest) ∷ filed outputs []) w after l'.1.0 all;
         settled = λ name k.
-            let before : IsKept w.shown name = subst (λ (s : Shown). IsKept s name) l'.1.0 k in
+            let before : IsDurable w.shown name = subst (λ (s : FolderView). IsDurable s name) l'.1.0 k in
             l'.1.1 name before ∙ sym (at after.shown.files w.shown.files name files);
       } in
       let end = renames after last more.0 ready more.2 l'.2 in

@@ -21,13 +21,13 @@ abbrev pub tables_in : List (ℕ × Vec ℕ) → List (ℕ × List ℕ)
 tables_in tables = map (λ (t : ℕ × Vec ℕ). (t.0, t.1.items)) tables
 
 -- a file is made and synced
-abbrev pub writes : List ℕ → List ℕ → List Call
-writes name bytes = Created name bytes ∷ Synced name ∷ []
+abbrev pub write_calls : List ℕ → List ℕ → List Call
+write_calls name bytes = Created name bytes ∷ Synced name ∷ []
 
 -- each table is made and synced
 abbrev pub table_calls : List (ℕ × List ℕ) → List Call
 table_calls [] = []
-table_calls (table ∷ tables) = writes (table_name table.0) table.1 ++ table_calls tables
+table_calls (table ∷ tables) = write_calls (table_name table.0) table.1 ++ table_calls tables
 
 -- the manifest of the edited version: a log of the snapshot of the version before, and the edit
 abbrev pub manifest_bytes : List ℕ → (List ℕ → List ℕ → Ordering) → State → List ℕ → List ℕ
@@ -35,7 +35,7 @@ manifest_bytes name cmp v edit = log (edit_bytes (snapshot_of name cmp v) ∷ ed
 
 -- CURRENT's text is made under its temporary name and synced, and the folder is synced
 abbrev pub temporary_calls : ℕ → List Call
-temporary_calls number = writes (temporary_name number) (current_text number) ++ FolderSynced ∷ []
+temporary_calls number = write_calls (temporary_name number) (current_text number) ++ FolderSynced ∷ []
 
 -- the temporary name is renamed to CURRENT, and the folder is synced
 abbrev pub current_calls : ℕ → List Call
@@ -44,7 +44,7 @@ current_calls number = Renamed (temporary_name number) (codes "CURRENT") ∷ Fol
 -- The calls of an installation: tables, manifest, CURRENT's text, CURRENT.
 abbrev pub install_calls : ℕ → List (ℕ × List ℕ) → List ℕ → List Call
 install_calls number outputs manifest =
-    table_calls outputs ++ (writes (manifest_name number) manifest ++ (temporary_calls number ++ current_calls number))
+    table_calls outputs ++ (write_calls (manifest_name number) manifest ++ (temporary_calls number ++ current_calls number))
 
 -- the numbers of tables
 abbrev pub numbers_of : List (ℕ × List ℕ) → List ℕ
@@ -52,12 +52,12 @@ numbers_of tables = map (λ (t : ℕ × List ℕ). t.0) tables
 
 -- the bytes of the first table of a number, or no bytes if there is none; each number that is asked
 -- for has one
-abbrev pub bytes_of : List (ℕ × List ℕ) → ℕ → List ℕ
-bytes_of tables number = unwrap_or (lookup (nat_eq number) tables) []
+abbrev pub table_bytes_of : List (ℕ × List ℕ) → ℕ → List ℕ
+table_bytes_of tables number = unwrap_or (lookup (nat_eq number) tables) []
 
 -- the tables of the next version: the outputs, and those of the tables before that stay
-abbrev pub tables_after : (List ℕ → List ℕ → Ordering) → State → List (ℕ × List ℕ) → List (ℕ × List ℕ) → List (ℕ × List ℕ)
-tables_after cmp next outputs tables = map (λ (n : ℕ). (n, bytes_of (outputs ++ tables) n)) (file_numbers cmp next)
+abbrev pub next_version_tables : (List ℕ → List ℕ → Ordering) → State → List (ℕ × List ℕ) → List (ℕ × List ℕ) → List (ℕ × List ℕ)
+next_version_tables cmp next outputs tables = map (λ (n : ℕ). (n, table_bytes_of (outputs ++ tables) n)) (file_numbers cmp next)
 
 -- The outputs and the bytes of an edit make the next version of this one, by a manifest of this
 -- number.
@@ -90,19 +90,19 @@ abbrev pub IsBeforeOrAfter : (List ℕ → List ℕ → Ordering) → Order → 
 IsBeforeOrAfter cmp order v tables next tables' files = ReadsAs cmp order v tables files ⊎ ReadsAs cmp order next tables' files
 
 -- After these calls from the start, the folder stands for the version and its tables.
-abbrev pub StandsAfter : (List ℕ → List ℕ → Ordering) → Order → State → List (ℕ × List ℕ) → World → List Step → Type 0
-StandsAfter cmp order v tables start calls = (w : World) → Leads start calls w → StandsAs cmp order v tables w
+abbrev pub AlwaysStandsAs : (List ℕ → List ℕ → Ordering) → Order → State → List (ℕ × List ℕ) → World → List Step → Type 0
+AlwaysStandsAs cmp order v tables start calls = (w : World) → Leads start calls w → StandsAs cmp order v tables w
 
 -- What an installation of the next version guarantees, of its calls and of what the folder tells
 -- before and after them.
-pub record Survives {T E : Type 0} (cmp : List ℕ → List ℕ → Ordering) (order : Order)
+pub record SurvivesCrash {T E : Type 0} (cmp : List ℕ → List ℕ → Ordering) (order : Order)
     (v : State) (tables : List (ℕ × List ℕ)) (next : State) (tables' : List (ℕ × List ℕ))
     (before after : List Step) (old new : List ℕ → Option (List ℕ) → Type 0) (result : Result T E) : Type 0 where
   -- if the folder stands for the version, a crash at any moment leaves it or the next version
-  pub any_moment : (start : World) → StandsAfter cmp order v tables start before →
+  pub any_moment : (start : World) → AlwaysStandsAs cmp order v tables start before →
       LeavesOnly start before after (IsBeforeOrAfter cmp order v tables next tables')
   -- then at Ok the folder stands for the next version
-  pub installed : (start : World) → StandsAfter cmp order v tables start before → OnOk result (StandsAfter cmp order next tables' start after)
+  pub installed : (start : World) → AlwaysStandsAs cmp order v tables start before → OnOk result (AlwaysStandsAs cmp order next tables' start after)
   -- without a crash the folder reads as one of the two, and at Ok as the next version
   pub read : (files : Files) → Tells old files → ReadsAs cmp order v tables files
       → (now : Files) × Tells new now × IsBeforeOrAfter cmp order v tables next tables' now × OnOk result (ReadsAs cmp order next tables' now)

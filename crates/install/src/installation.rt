@@ -3,14 +3,14 @@
 ghost use Rattle.std.specs.Prelude.{◌<◌, ◌≤◌, ◌^◌, ℕ, List, length, IfErr};
 ghost use Rattle.coding.specs.Answers.{UnlessMemory};
 ghost use Rattle.edit.specs.Version.{State};
-ghost use Rattle.folder.specs.Runs.{Runs};
-ghost use Rattle.folder.specs.Opening.{IsStopped, StopsAtDevice};
+ghost use Rattle.folder.specs.CallSequence.{MakesCalls};
+ghost use Rattle.folder.specs.OpenAnswer.{IsStopped, StopsAtDevice};
 ghost use Rattle.folder.specs.Reports.{ReportsDevice};
 ghost use Rattle.folder.specs.declared.order.Order.{Order};
-ghost use Rattle.install.specs.Install.{IsEditedBy, Survives, install_calls, manifest_bytes, tables_after, tables_in};
+ghost use Rattle.install.specs.Install.{IsEditedBy, SurvivesCrash, install_calls, manifest_bytes, next_version_tables, tables_in};
 
+use crate::install_steps::{name_current, write, write_tables, write_temporary};
 use crate::manifest::manifest_bytes;
-use crate::writing::{name_current, write, write_tables, write_temporary};
 use coding::Fault;
 use edit::{Outcome, Version};
 use folder::{Folder, manifest_name};
@@ -33,7 +33,7 @@ pub fn install<C: Comparator, F: Folder>(
     requires { length C.name_bytes < 2 ^ 32 }
 
     // The calls in their order, up to one that fails.
-    ensures runs { Runs
+    ensures runs { MakesCalls
         (install_calls manifest_number (tables_in outcome.now.tables.items) (manifest_bytes C.name_bytes C.cmp version.now outcome.now.edit.items))
         (F.calls folder.old) (F.calls folder.new) (F.tells folder.old) (F.tells folder.new) result }
 
@@ -41,7 +41,7 @@ pub fn install<C: Comparator, F: Folder>(
     // At Ok the folder stands for the edited one. Without a crash it reads as one of the two.
     ensures survives { (order : Order) (next : State) (tables : List (ℕ × List ℕ))
         → IsEditedBy C.name_bytes C.cmp order version.now manifest_number (tables_in outcome.now.tables.items) outcome.now.edit.items next
-        → Survives C.cmp order version.now tables next (tables_after C.cmp next (tables_in outcome.now.tables.items) tables)
+        → SurvivesCrash C.cmp order version.now tables next (next_version_tables C.cmp next (tables_in outcome.now.tables.items) tables)
         (F.calls folder.old) (F.calls folder.new) (F.tells folder.old) (F.tells folder.new) result }
 
     // Only Device and Memory are answered, Device only if the device failed. Then no further call
@@ -61,7 +61,7 @@ fn make_calls<F: Folder>(
     tables: &[(u64, Vec<u8>)],
     manifest: &[u8],
 ) -> Result<(), Fault>
-    ensures runs { Runs (install_calls manifest_number (tables_in tables.now) manifest.now)
+    ensures runs { MakesCalls (install_calls manifest_number (tables_in tables.now) manifest.now)
         (F.calls folder.old) (F.calls folder.new) (F.tells folder.old) (F.tells folder.new) result }
     ensures refused { IfErr result (λ e. UnlessMemory e (IsStopped (F.failed folder.old) (F.failed folder.new) e)) }
     ensures at_once { StopsAtDevice (F.failed folder.old) (F.failed folder.new) result }

@@ -15,8 +15,8 @@
 //! `folder`.
 #![tactic(auto)]
 
+mod install_steps;
 mod installation;
 mod manifest;
-mod writing;
 
 pub use installation::install;

@@ -6,11 +6,11 @@ use Rattle.std.specs.declared.cmp.Ordering.{Ordering}
 use Rattle.std.proofs.lemmas.Bool.{leb-true, le-leb, lt-ltb, and_parts, and_cases, and_from, or_cases, not-true, not-false, leb-false, false≢true, both_ways}
 use Rattle.std.proofs.lemmas.List.Elements.{Contains-push}
 use Rattle.ikey.specs.Key.{user_of, sequence_of, kind_of}
-use Rattle.block.specs.Piece.{Entry}
+use Rattle.block.specs.EncodedEntry.{Entry}
 use Rattle.edit.specs.declared.meta.FileMeta.{FileMeta}
 use Rattle.pick.specs.Ranges.{is_in_none}
 use Rattle.keep.specs.Readable.{Readable, is_read}
-use Rattle.keep.specs.Keeping.{is_same_user, is_deletion, is_between, is_hidden, is_obsolete, keeps, kept_behind, kept}
+use Rattle.keep.specs.DropRule.{is_same_user, is_deletion, is_snapshot_between, is_hidden, is_obsolete, keeps, kept_behind, kept}
 use Rattle.reads.specs.NewestFirst.{SequencesFall, AreOf}
 use Rattle.keep.specs.OneKey.{Hides, IsUnderKept, IsUnderDeletion, OneKeyLaw}
 use Rattle.keep.proofs.OneKey.{listed_has, all_hidden, falls_behind, answers}
@@ -57,8 +57,8 @@ module _ (cmp : List ℕ → List ℕ → Ordering) (r : Readable) (deeper : Lis
   sees_both : (p e : Entry) (at : ℕ) → is_hidden r (Some p) e ≡ true → is_read r at ≡ true → sequence_of e.key ≤ at → sequence_of p.key ≤ at
   sees_both p e at h read seen = by_test (nat_le (sequence_of p.key) at) refl
     where
-      outer : ((is_same_user p e && nat_le (sequence_of p.key) r.floor) ≡ true) × (not (list_any (is_between p e) r.listed) ≡ true)
-      outer = and_parts (is_same_user p e && nat_le (sequence_of p.key) r.floor) (not (list_any (is_between p e) r.listed)) h
+      outer : ((is_same_user p e && nat_le (sequence_of p.key) r.floor) ≡ true) × (not (list_any (is_snapshot_between p e) r.listed) ≡ true)
+      outer = and_parts (is_same_user p e && nat_le (sequence_of p.key) r.floor) (not (list_any (is_snapshot_between p e) r.listed)) h
 
       low : sequence_of p.key ≤ r.floor
       low = leb-true (sequence_of p.key) r.floor (and_parts (is_same_user p e) (nat_le (sequence_of p.key) r.floor) outer.0).1
@@ -68,8 +68,8 @@ module _ (cmp : List ℕ → List ℕ → Ordering) (r : Readable) (deeper : Lis
       by_test false is =
           let unseen : at < sequence_of p.key = leb-false (sequence_of p.key) at is in
           elim (or_cases (list_any (nat_eq at) r.listed) (nat_le r.floor at) read) as (λ _. sequence_of p.key ≤ at) [
-            | inl listed ↦ absurd (both_ways (list_any (is_between p e) r.listed) (not-true (list_any (is_between p e) r.listed) outer.1)
-                (listed_has (is_between p e) at r.listed listed (and_from (nat_le (sequence_of e.key) at) (nat_lt at (sequence_of p.key)) (le-leb (sequence_of e.key) at seen) (lt-ltb at (sequence_of p.key) unseen))))
+            | inl listed ↦ absurd (both_ways (list_any (is_snapshot_between p e) r.listed) (not-true (list_any (is_snapshot_between p e) r.listed) outer.1)
+                (listed_has (is_snapshot_between p e) at r.listed listed (and_from (nat_le (sequence_of e.key) at) (nat_lt at (sequence_of p.key)) (le-leb (sequence_of e.key) at seen) (lt-ltb at (sequence_of p.key) unseen))))
             | inr high ↦ let up : r.floor ≤ at = leb-true r.floor at high in omega (arith, low, up)
           ]
 

@@ -6,12 +6,12 @@ use Rattle.std.proofs.Math.Seq.{drop-append_seam}
 use Rattle.std.proofs.lemmas.List.{length-drop, take-append-le, take_all}
 use Rattle.std.proofs.lemmas.Option.{same_Some, none-some}
 use Rattle.ikey.specs.Key.{IsInternalKey}
-use Rattle.block.specs.Piece.{Entry}
+use Rattle.block.specs.EncodedEntry.{Entry}
 use Rattle.merge.proofs.Orders.{all_append}
 use Rattle.keep.specs.declared.kept_entry.KeptEntry.{KeptEntry}
-use Rattle.keep.specs.KeyBuffer.{entries_at, AreEnds, AreKeys}
+use Rattle.keep.specs.KeyBuffer.{entries_at, AreBufferEnds, AreKeys}
 
-ends_last : (at last : ℕ) (ks : List KeptEntry) → AreEnds at last ks → at ≤ last
+ends_last : (at last : ℕ) (ks : List KeptEntry) → AreBufferEnds at last ks → at ≤ last
 ends_last at last [] h = omega (arith, h)
 ends_last at last (k ∷ ks) h = let more = ends_last k.end last ks h.1 in omega (arith, h.0, more)
 
@@ -32,7 +32,7 @@ last_part keys key at h =
     ∙ ap (take (length (keys ++ key) - length keys)) (drop-append_seam keys key)
     ∙ take_all (length (keys ++ key) - length keys) key (omega (arith, length-append keys key))
 
-pub entries_push : (at : ℕ) (keys key : List ℕ) (ks : List KeptEntry) (k : KeptEntry) → AreEnds at (length keys) ks → k.end ≡ length (keys ++ key)
+pub entries_push : (at : ℕ) (keys key : List ℕ) (ks : List KeptEntry) (k : KeptEntry) → AreBufferEnds at (length keys) ks → k.end ≡ length (keys ++ key)
     → entries_at at (keys ++ key) (ks ++ k ∷ []) ≡ entries_at at keys ks ++ record { key = key; value = k.value.now } ∷ []
 entries_push at keys key [] k h e =
     ap (λ (bytes : List ℕ). record { key = bytes; value = k.value.now } ∷ []) (ap (slice_range (keys ++ key) at) e ∙ last_part keys key at h)
@@ -41,7 +41,7 @@ entries_push at keys key (j ∷ ks) k h e =
     ap (λ (bytes : List ℕ). record { key = bytes; value = j.value.now } ∷ entries_at j.end (keys ++ key) (ks ++ k ∷ [])) (same_part keys key at j.end h.0 end)
     ∙ ap (λ (es : List Entry). record { key = slice_range keys at j.end; value = j.value.now } ∷ es) (entries_push j.end keys key ks k h.1 e)
 
-ends_push : (at : ℕ) (keys key : List ℕ) (ks : List KeptEntry) (k : KeptEntry) → AreEnds at (length keys) ks → k.end ≡ length (keys ++ key) → AreEnds at (length (keys ++ key)) (ks ++ k ∷ [])
+ends_push : (at : ℕ) (keys key : List ℕ) (ks : List KeptEntry) (k : KeptEntry) → AreBufferEnds at (length keys) ks → k.end ≡ length (keys ++ key) → AreBufferEnds at (length (keys ++ key)) (ks ++ k ∷ [])
 ends_push at keys key [] k h e = (omega (arith, h, e, length-append keys key), e)
 ends_push at keys key (j ∷ ks) k h e = (h.0, ends_push j.end keys key ks k h.1 e)
 
@@ -80,7 +80,7 @@ pub record IsPart (last start end : ℕ) : Type 0 where
   pub rises : start ≤ end
   pub within : end ≤ last
 
-pub part_at : (at last : ℕ) (ks : List KeptEntry) (i : ℕ) (k : KeptEntry) → AreEnds at last ks → i < length ks → k ≡ get_or ks i k → IsPart last (start_of at ks i) k.end
+pub part_at : (at last : ℕ) (ks : List KeptEntry) (i : ℕ) (k : KeptEntry) → AreBufferEnds at last ks → i < length ks → k ≡ get_or ks i k → IsPart last (start_of at ks i) k.end
 part_at at last [] i k h lt e = absurd (omega arith)
 part_at at last (j ∷ ks) zero k h lt e =
     subst (λ (f : KeptEntry). IsPart last at f.end) (sym e) (record { rises = h.0; within = ends_last j.end last ks h.1 })

@@ -7,7 +7,7 @@ use Rattle.std.specs.Ordering.{is_lt}
 use Rattle.std.specs.Cmp.{IsTotalOrder}
 use Rattle.std.specs.declared.cmp.Ordering.{Ordering}
 use Rattle.std.specs.declared.cmp.Ordering.TheVariants.{Less, Equal, Greater}
-use Rattle.split.proofs.Rising.{rises_from_next}
+use Rattle.split.proofs.RisingKeys.{rises_from_next}
 use borrow.Author.Tests.{ltb-true, ltb-false}
 
 pub increasing_if : (xs : List ℕ) (answer : Bool) → IsAllAdjacentAnswer (λ x y b. b ≡ nat_lt x y) xs answer → (answer ≡ true) ↔ IsStrictlyIncreasing xs

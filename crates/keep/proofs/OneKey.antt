@@ -9,13 +9,13 @@ use Rattle.std.proofs.lemmas.Slice.Eq.{bytes_eq-Decides}
 use Rattle.ikey.specs.declared.kind.Kind.{Kind}
 use Rattle.ikey.specs.declared.kind.Kind.TheVariants.{Delete, Put}
 use Rattle.ikey.specs.Key.{user_of, sequence_of, kind_of}
-use Rattle.block.specs.Piece.{Entry}
+use Rattle.block.specs.EncodedEntry.{Entry}
 use Rattle.edit.specs.declared.meta.FileMeta.{FileMeta}
 use Rattle.reads.specs.Gets.{value_by, value_in}
 use Rattle.reads.specs.NewestFirst.{SequencesFall, AreOf, answer_at}
 use Rattle.pick.specs.Ranges.{is_in_none}
 use Rattle.keep.specs.Readable.{Readable, is_read}
-use Rattle.keep.specs.Keeping.{is_same_user, is_deletion, is_between, is_hidden, is_obsolete, keeps, kept_behind, kept}
+use Rattle.keep.specs.DropRule.{is_same_user, is_deletion, is_snapshot_between, is_hidden, is_obsolete, keeps, kept_behind, kept}
 
 or_first : (x y : Bool) → x ≡ true → (x || y) ≡ true
 or_first true y h = refl
@@ -93,7 +93,7 @@ module _ (cmp : List ℕ → List ℕ → Ordering) (r : Readable) (deeper : Lis
       let lower : sequence_of e.key < sequence_of p.key = falls.0.0 in
       let floor : sequence_of p.key ≤ r.floor = leb-true (sequence_of p.key) r.floor low in
       let hidden : is_hidden r (Some p) e ≡ true =
-      and_from (is_same_user p e && nat_le (sequence_of p.key) r.floor) (not (list_any (is_between p e) r.listed))
+      and_from (is_same_user p e && nat_le (sequence_of p.key) r.floor) (not (list_any (is_snapshot_between p e) r.listed))
       (and_from (is_same_user p e) (nat_le (sequence_of p.key) r.floor) (same_user p e is of.0) low)
       (ap not (none_between (sequence_of e.key) (sequence_of p.key) (sequence_of p.key) r.listed listed (omega arith))) in
       let dropped : keeps cmp r deeper (Some p) e ≡ false = ap (λ b. not b && not (is_obsolete cmp r deeper e)) hidden in
@@ -109,12 +109,12 @@ module _ (cmp : List ℕ → List ℕ → Ordering) (r : Readable) (deeper : Lis
     seen_not_hidden : (before : Option Entry) (e : Entry) → IsUnseen before → nat_le (sequence_of e.key) at ≡ true → is_hidden r before e ≡ true → ⊥
     seen_not_hidden None e unseen seen h = false≢true h
     seen_not_hidden (Some p) e unseen seen h =
-        let outer = and_parts (is_same_user p e && nat_le (sequence_of p.key) r.floor) (not (list_any (is_between p e) r.listed)) h in
+        let outer = and_parts (is_same_user p e && nat_le (sequence_of p.key) r.floor) (not (list_any (is_snapshot_between p e) r.listed)) h in
         let inner = and_parts (is_same_user p e) (nat_le (sequence_of p.key) r.floor) outer.0 in
         let low : sequence_of p.key ≤ r.floor = leb-true (sequence_of p.key) r.floor inner.1 in
         elim (or_cases (list_any (nat_eq at) r.listed) (nat_le r.floor at) read) as (λ _. ⊥) [
-          | inl listed ↦ both_ways (list_any (is_between p e) r.listed) (not-true (list_any (is_between p e) r.listed) outer.1)
-              (listed_has (is_between p e) at r.listed listed (and_from (nat_le (sequence_of e.key) at) (nat_lt at (sequence_of p.key)) seen (lt-ltb at (sequence_of p.key) unseen)))
+          | inl listed ↦ both_ways (list_any (is_snapshot_between p e) r.listed) (not-true (list_any (is_snapshot_between p e) r.listed) outer.1)
+              (listed_has (is_snapshot_between p e) at r.listed listed (and_from (nat_le (sequence_of e.key) at) (nat_lt at (sequence_of p.key)) seen (lt-ltb at (sequence_of p.key) unseen)))
           | inr high ↦ let up : r.floor ≤ at = leb-true r.floor at high in let un : at < sequence_of p.key = unseen in omega (arith, low, up, un)
         ]
 

@@ -5,9 +5,9 @@ use Rattle.std.specs.List.{AllByRecursion}
 use Rattle.std.proofs.Math.Nat.{div-add-mod}
 use Rattle.std.proofs.lemmas.Option.{same_Some}
 use Rattle.ikey.specs.Key.{IsInternalKey}
-use Rattle.block.specs.Piece.{Entry}
+use Rattle.block.specs.EncodedEntry.{Entry}
 use Rattle.merge.proofs.Orders.{all_append}
-use Rattle.keep.specs.KeptPieces.{all_kept, AreInPieces}
+use Rattle.keep.specs.EntryChunks.{all_kept, AreInChunks}
 
 abbrev pub IsFull : List Entry → Type 0
 IsFull p = length p ≡ 4096
@@ -27,8 +27,8 @@ all_kept_push [] last e = refl
 all_kept_push (p ∷ ps) last e = ap (λ (es : List Entry). p ++ es) (all_kept_push ps last e) ∙ sym (append_assoc p (all_kept ps last) (e ∷ []))
 
 -- the same entries in other pieces
-pub pieces_same : (ps qs : List (List Entry)) (last more : List Entry) (n : ℕ) → AreInPieces ps last n → all_kept qs more ≡ all_kept ps last → AllByRecursion IsFull qs → length more ≤ 4096
-    → AreInPieces qs more n
+pub pieces_same : (ps qs : List (List Entry)) (last more : List Entry) (n : ℕ) → AreInChunks ps last n → all_kept qs more ≡ all_kept ps last → AllByRecursion IsFull qs → length more ≤ 4096
+    → AreInChunks qs more n
 pieces_same ps qs last more n h e f l = record {
   full = f;
   last = l;
@@ -36,8 +36,8 @@ pieces_same ps qs last more n h e f l = record {
   internal = subst (AllByRecursion IsKeyed) (sym e) h.internal;
 }
 
-pub pieces_push : (ps : List (List Entry)) (last : List Entry) (n m : ℕ) (e : Entry) → AreInPieces ps last n → m ≡ n + 1 → IsInternalKey e.key → length last < 4096
-    → AreInPieces ps (last ++ e ∷ []) m
+pub pieces_push : (ps : List (List Entry)) (last : List Entry) (n m : ℕ) (e : Entry) → AreInChunks ps last n → m ≡ n + 1 → IsInternalKey e.key → length last < 4096
+    → AreInChunks ps (last ++ e ∷ []) m
 pieces_push ps last n m e h k internal lt =
     let number : m ≡ length (all_kept ps last ++ e ∷ []) = omega (arith, k, h.count, length-append (all_kept ps last) (e ∷ [])) in
     record {
@@ -107,7 +107,7 @@ stands_at (p ∷ ps) last (suc q) r i e b h l lt =
       same = λ o at. more.same o at ∙ sym (at_behind p (all_kept ps last) (4096 * q + r) i place);
     }
 
-pub stands_in : (ps : List (List Entry)) (last : List Entry) (n i : ℕ) → AreInPieces ps last n → i < length (all_kept ps last) → StandsIn ps last (i / 4096) (i % 4096) i
+pub stands_in : (ps : List (List Entry)) (last : List Entry) (n i : ℕ) → AreInChunks ps last n → i < length (all_kept ps last) → StandsIn ps last (i / 4096) (i % 4096) i
 stands_in ps last n i h lt =
     let below : i % 4096 < 4096 = mod-lt i {m = 4096} (omega arith) in
     stands_at ps last (i / 4096) (i % 4096) i (sym (div-add-mod i 4096)) below h.full h.last lt

@@ -13,24 +13,24 @@ use Rattle.coding.proofs.Binds.{bind_ok, ok_is}
 use Rattle.coding.specs.Answers.{fault, ◌>>=◌}
 use Rattle.coding.specs.declared.fault.FaultName.TheVariants.{Duplicate}
 use Rattle.ikey.specs.Key.{user_of}
-use Rattle.block.specs.Piece.{Entry}
-use Rattle.block.specs.Building.{last_key}
-use Rattle.table.specs.Reading.{Contents, DataBlock, blocks_of, contents_of, contents_reading, data_reading, entries_of, index_in}
+use Rattle.block.specs.EncodedEntry.{Entry}
+use Rattle.block.specs.BuilderView.{last_key}
+use Rattle.table.specs.TableContents.{Contents, DataBlock, blocks_of, contents_of, contents_reading, data_reading, entries_of, index_in}
 use Rattle.table.specs.ReadingCursors.{NeverFalls}
 use Rattle.table.specs.ReadingEntries.{first_key}
 use Rattle.table.specs.ReadingIndex.{IndexEntry, index_reading}
 use Rattle.table.proofs.CheckedTables.{blocks_by, last_is, read_data}
 use Rattle.table.proofs.EntryTests.{all_tests, rising}
 use Rattle.table.proofs.Orders.{rising_never_falls}
-use Rattle.merge.specs.Merged.{joined, sorted}
-use Rattle.merge.proofs.Sorting.{filter-sorted}
+use Rattle.merge.specs.Merged.{entries_of_lists, sorted_entries}
+use Rattle.merge.proofs.SortedEntries.{filter-sorted}
 use Rattle.split.specs.Ranges.{KeyRange}
 use Rattle.keep.specs.InRange.{is_in_range, entries_in}
 use Rattle.keep.specs.Left.{is_before, LosesOnly}
-use Rattle.keep.specs.Marks.{Below}
+use Rattle.keep.specs.Marks.{CompactionContext}
 use Rattle.keep.specs.Runs.{run_of, are_distinct, range_run}
 use Rattle.keep.proofs.Bounds.{below_apart, from_bound}
-use Rattle.keep.proofs.Leaving.{leaves_filter}
+use Rattle.keep.proofs.LeftEntries.{leaves_filter}
 
 -- ---- the first and the last key of entries
 
@@ -134,23 +134,23 @@ module _ (cmp : List ℕ → List ℕ → Ordering) (total : IsTotalOrder cmp) (
   append_join [] ys zs = refl
   append_join (x ∷ xs) ys zs = ap (λ (ws : List Entry). x ∷ ws) (append_join xs ys zs)
 
-  joined_pushed : (lists : List (List Entry)) (l : List Entry) → joined (lists ++ l ∷ []) ≡ joined lists ++ l
+  joined_pushed : (lists : List (List Entry)) (l : List Entry) → entries_of_lists (lists ++ l ∷ []) ≡ entries_of_lists lists ++ l
   joined_pushed [] l = append_none l
-  joined_pushed (x ∷ xs) l = ap (λ (es : List Entry). x ++ es) (joined_pushed xs l) ∙ sym (append_join x (joined xs) l)
+  joined_pushed (x ∷ xs) l = ap (λ (es : List Entry). x ++ es) (joined_pushed xs l) ∙ sym (append_join x (entries_of_lists xs) l)
 
   -- one list more
-  pub in_pushed : (lists : List (List Entry)) (l : List Entry) → entries_in cmp range (joined (lists ++ l ∷ [])) ≡ entries_in cmp range (joined lists) ++ entries_in cmp range l
-  in_pushed lists l = ap (entries_in cmp range) (joined_pushed lists l) ∙ in_both (joined lists) l
+  pub in_pushed : (lists : List (List Entry)) (l : List Entry) → entries_in cmp range (entries_of_lists (lists ++ l ∷ [])) ≡ entries_in cmp range (entries_of_lists lists) ++ entries_in cmp range l
+  in_pushed lists l = ap (entries_in cmp range) (joined_pushed lists l) ∙ in_both (entries_of_lists lists) l
 
   -- a list that has nothing in the range
-  pub in_left_out : (lists : List (List Entry)) (l : List Entry) → entries_in cmp range l ≡ [] → entries_in cmp range (joined lists) ≡ entries_in cmp range (joined lists) ++ entries_in cmp range l
-  in_left_out lists l none = sym (ap (λ (es : List Entry). entries_in cmp range (joined lists) ++ es) none ∙ append_none (entries_in cmp range (joined lists)))
+  pub in_left_out : (lists : List (List Entry)) (l : List Entry) → entries_in cmp range l ≡ [] → entries_in cmp range (entries_of_lists lists) ≡ entries_in cmp range (entries_of_lists lists) ++ entries_in cmp range l
+  in_left_out lists l none = sym (ap (λ (es : List Entry). entries_in cmp range (entries_of_lists lists) ++ es) none ∙ append_none (entries_in cmp range (entries_of_lists lists)))
 
   -- lists that have the same in a range give the same run in it
-  pub run_same : (b : Below) (olds news : List (List Entry)) → entries_in cmp range (joined news) ≡ entries_in cmp range (joined olds) → range_run cmp b news range ≡ range_run cmp b olds range
+  pub run_same : (b : CompactionContext) (olds news : List (List Entry)) → entries_in cmp range (entries_of_lists news) ≡ entries_in cmp range (entries_of_lists olds) → range_run cmp b news range ≡ range_run cmp b olds range
   run_same b olds news h =
       ap (λ (es : List Entry). if are_distinct es then Ok (run_of cmp b es) else Err (fault Duplicate))
-      (filter-sorted cmp total (λ e. is_in_range cmp range (user_of e.key)) (joined news) ∙ ap (sorted cmp) h ∙ sym (filter-sorted cmp total (λ e. is_in_range cmp range (user_of e.key)) (joined olds)))
+      (filter-sorted cmp total (λ e. is_in_range cmp range (user_of e.key)) (entries_of_lists news) ∙ ap (sorted_entries cmp) h ∙ sym (filter-sorted cmp total (λ e. is_in_range cmp range (user_of e.key)) (entries_of_lists olds)))
 
 -- one more of a list, as it is seen
 pub map_next : {X Y : Type 0} (f : X → Y) (xs : List X) (i : ℕ) (x : X) → i < length xs → x ≡ get_or xs i x → map f (take (i + 1) xs) ≡ map f (take i xs) ++ f x ∷ []

@@ -8,11 +8,11 @@ use Rattle.std.specs.declared.cmp.Ordering.TheVariants.{Less}
 use Rattle.ikey.specs.declared.kind.Kind.TheVariants.{Put}
 use Rattle.ikey.specs.Key.{sequence_of, internal_key}
 use Rattle.ikey.specs.Order.{internal_cmp}
-use Rattle.block.specs.Piece.{Entry}
+use Rattle.block.specs.EncodedEntry.{Entry}
 use Rattle.table.specs.ReadingCursors.{entries_from, LeavesFrom}
 use Rattle.keep.specs.Left.{is_before, LosesOnly}
 use Rattle.keep.proofs.Bounds.{below_first}
-use Rattle.keep.proofs.Leaving.{leaves_sought, leaves_from}
+use Rattle.keep.proofs.LeftEntries.{leaves_sought, leaves_from}
 
 gone : (cmp : List ℕ → List ℕ → Ordering) (user target : List ℕ) → target ≡ internal_key user 72057594037927935 Put → (e : Entry) → sequence_of e.key < 2 ^ 56 → internal_cmp cmp e.key target ≡ Less → is_before cmp (Some user) false e ≡ true
 gone cmp user target is e fits less = ap is_lt (below_first cmp user e.key fits (subst (λ (t : List ℕ). internal_cmp cmp e.key t ≡ Less) is less))

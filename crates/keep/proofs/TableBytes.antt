@@ -8,9 +8,9 @@ use Rattle.byteorder.specs.Endian.{little_number}
 use Rattle.byteorder.specs.Numbers.{little_from-lt}
 use Rattle.coding.specs.Varint.{varint}
 use Rattle.ikey.specs.Key.{tag_of, sequence_of}
-use Rattle.block.specs.Piece.{Entry, Piece, piece_bytes, key_after, entries_after, restarts_of, restart_bytes, IsBlock}
-use Rattle.frame.specs.Trailer.{stored, trailer_bytes}
-use Rattle.table.specs.Reading.{DataBlock, entries_of, table_reading}
+use Rattle.block.specs.EncodedEntry.{Entry, EncodedEntry, encoded_entry_bytes, key_after, entries_after, restarts_of, restart_bytes, IsBlock}
+use Rattle.frame.specs.Trailer.{stored_block, trailer_bytes}
+use Rattle.table.specs.TableContents.{DataBlock, entries_of, table_reading}
 use Rattle.table.specs.ReadingTables.{IsNamed, AreNamed}
 use Rattle.table.proofs.Tables.{reads_tables}
 
@@ -58,30 +58,30 @@ to_places (x ∷ xs) h (suc i) = to_places xs h.1 i
 abbrev HasBytes : Entry → Type 0
 HasBytes e = Bytes e.key
 
-own_bytes : (p : Piece) → Bytes (piece_bytes p) → Bytes p.unshared
+own_bytes : (p : EncodedEntry) → Bytes (encoded_entry_bytes p) → Bytes p.unshared
 own_bytes p h =
     let lengths = part_behind IsByte (varint p.shared) (varint (length p.unshared) ++ (varint (length p.value) ++ (p.unshared ++ p.value))) h in
     let two = part_behind IsByte (varint (length p.unshared)) (varint (length p.value) ++ (p.unshared ++ p.value)) lengths in
     let three = part_behind IsByte (varint (length p.value)) (p.unshared ++ p.value) two in
     part_before IsByte p.unshared p.value three
 
-pieces_bytes : (before : List ℕ) (ps : List Piece) → Bytes before → Bytes (flat_map piece_bytes ps) → AllByRecursion HasBytes (entries_after before ps)
+pieces_bytes : (before : List ℕ) (ps : List EncodedEntry) → Bytes before → Bytes (flat_map encoded_entry_bytes ps) → AllByRecursion HasBytes (entries_after before ps)
 pieces_bytes before [] b h = tt
 pieces_bytes before (p ∷ ps) b h =
-    let own = own_bytes p (part_before IsByte (piece_bytes p) (flat_map piece_bytes ps) h) in
+    let own = own_bytes p (part_before IsByte (encoded_entry_bytes p) (flat_map encoded_entry_bytes ps) h) in
     let key = both_parts IsByte (take p.shared before) p.unshared (first_ones p.shared before b) own in
-    (key, pieces_bytes (key_after before p) ps key (part_behind IsByte (piece_bytes p) (flat_map piece_bytes ps) h))
+    (key, pieces_bytes (key_after before p) ps key (part_behind IsByte (encoded_entry_bytes p) (flat_map encoded_entry_bytes ps) h))
 
 block_keys : (contents : List ℕ) (entries : List Entry) → IsBlock contents entries → Bytes contents → AllByRecursion HasBytes entries
 block_keys contents entries is h =
     subst (AllByRecursion HasBytes) is.3
-    (pieces_bytes [] is.0 tt (part_before IsByte (flat_map piece_bytes is.0) (restart_bytes (restarts_of is.0)) (subst Bytes is.2 h)))
+    (pieces_bytes [] is.0 tt (part_before IsByte (flat_map encoded_entry_bytes is.0) (restart_bytes (restarts_of is.0)) (subst Bytes is.2 h)))
 
 stored_keys : (bytes : List ℕ) (b : DataBlock) (e : Entry) → IsNamed bytes e b → Bytes bytes → AllByRecursion HasBytes b.entries
 stored_keys bytes b e named h =
     let at = named.block in
-    let inside = part_behind IsByte at.before (stored at.contents ++ at.behind) (subst Bytes at.whole h) in
-    let there = part_before IsByte (stored at.contents) at.behind inside in
+    let inside = part_behind IsByte at.before (stored_block at.contents ++ at.behind) (subst Bytes at.whole h) in
+    let there = part_before IsByte (stored_block at.contents) at.behind inside in
     block_keys at.contents b.entries at.block (part_before IsByte at.contents (trailer_bytes at.contents) there)
 
 named_keys : (bytes : List ℕ) (es : List Entry) (bs : List DataBlock) → AreNamed bytes es bs → Bytes bytes → AllByRecursion HasBytes (entries_of bs)

@@ -3,7 +3,7 @@
 use Rattle.std.specs.Prelude.{◌≡◌, ℕ, ◌≤◌, List, [], ◌∷◌, length, slice_range}
 use Rattle.std.specs.List.{AllByRecursion}
 use Rattle.ikey.specs.Key.{IsInternalKey}
-use Rattle.block.specs.Piece.{Entry}
+use Rattle.block.specs.EncodedEntry.{Entry}
 use Rattle.keep.specs.declared.kept_entry.KeptEntry.{KeptEntry}
 
 -- the entries whose keys lie in these bytes, the first key at offset `at`
@@ -12,11 +12,11 @@ entries_at at keys [] = []
 entries_at at keys (k ∷ ks) = record { key = slice_range keys at k.end; value = k.value.now } ∷ entries_at k.end keys ks
 
 -- the ends of keys that begin at `at`: none is before the one before it, and the last is `last`
-abbrev pub AreEnds : ℕ → ℕ → List KeptEntry → Type 0
-AreEnds at last [] = at ≡ last
-AreEnds at last (k ∷ ks) = (at ≤ k.end) × AreEnds k.end last ks
+abbrev pub AreBufferEnds : ℕ → ℕ → List KeptEntry → Type 0
+AreBufferEnds at last [] = at ≡ last
+AreBufferEnds at last (k ∷ ks) = (at ≤ k.end) × AreBufferEnds k.end last ks
 
 -- the bytes are the keys of these entries, each an internal key
 pub record AreKeys (keys : List ℕ) (kept : List KeptEntry) : Type 0 where
-  pub ends : AreEnds 0 (length keys) kept
+  pub ends : AreBufferEnds 0 (length keys) kept
   pub internal : AllByRecursion (λ e. IsInternalKey e.key) (entries_at 0 keys kept)

@@ -1,15 +1,15 @@
 -- what contracts rest on
 pub mod Readable
-pub mod Keeping
+pub mod DropRule
 pub mod InRange
 pub mod Marks
 pub mod Runs
 pub mod Left
 pub mod Begun
 pub mod OneKey
-pub mod Starting
+pub mod FirstEntry
 -- serves proofs alone
 pub mod Versions
 pub mod KeyBuffer
-pub mod KeptPieces
-pub mod Walking
+pub mod EntryChunks
+pub mod RangeWalk

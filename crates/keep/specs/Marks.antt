@@ -4,12 +4,12 @@ use Rattle.std.specs.Ordering.{is_lt}
 use Rattle.std.specs.declared.cmp.Ordering.{Ordering}
 use Rattle.std.specs.declared.cmp.Ordering.TheVariants.{Less}
 use Rattle.ikey.specs.Order.{internal_cmp}
-use Rattle.block.specs.Piece.{Entry}
+use Rattle.block.specs.EncodedEntry.{Entry}
 use Rattle.edit.specs.declared.meta.FileMeta.{FileMeta}
 use Rattle.pick.specs.declared.picked.Inputs.{Inputs}
 use Rattle.keep.specs.declared.mark.Mark.{Mark}
 use Rattle.keep.specs.Readable.{Readable}
-use Rattle.keep.specs.Keeping.{is_same_user, keeps}
+use Rattle.keep.specs.DropRule.{is_same_user, keeps}
 
 -- how many grandparents lie below an internal key: their largest keys are below it
 abbrev pub grandparents_below : (List ℕ → List ℕ → Ordering) → List FileMeta → List ℕ → ℕ
@@ -21,14 +21,14 @@ LargestRise cmp grandparents = AllPairs (λ (f later : FileMeta). internal_cmp c
 
 -- what the drop rule and the marks need to know: which sequences stay readable, the deeper files,
 -- and the grandparents
-pub record Below : Type 0 where
+pub record CompactionContext : Type 0 where
   pub readable : Readable
   pub deeper : List FileMeta
   pub grandparents : List FileMeta
 
 -- that of inputs, if the listed sequences stay readable and all from the floor on
-abbrev pub below_of : List ℕ → ℕ → Inputs → Below
-below_of listed floor inputs = record {
+abbrev pub context_of : List ℕ → ℕ → Inputs → CompactionContext
+context_of listed floor inputs = record {
   readable = record { listed = listed; floor = floor };
   deeper = inputs.deeper.items;
   grandparents = inputs.grandparents.items;
@@ -41,14 +41,14 @@ is_first (Some before) e = not (is_same_user before e)
 
 -- A mark at the first entry of each user key, kept or dropped, with `before` as the entry previous
 -- to the first, and n kept entries before it.
-abbrev pub heads_behind : (List ℕ → List ℕ → Ordering) → Below → Option Entry → ℕ → List Entry → List Mark
+abbrev pub heads_behind : (List ℕ → List ℕ → Ordering) → CompactionContext → Option Entry → ℕ → List Entry → List Mark
 heads_behind cmp b before n [] = []
 heads_behind cmp b before n (e ∷ es) =
     (if is_first before e then record { below = grandparents_below cmp b.grandparents e.key; kept = n } ∷ [] else [])
     ++ heads_behind cmp b (Some e) (if keeps cmp b.readable b.deeper before e then n + 1 else n) es
 
 -- a mark at the first entry of each user key, kept or dropped
-abbrev pub heads : (List ℕ → List ℕ → Ordering) → Below → List Entry → List Mark
+abbrev pub heads : (List ℕ → List ℕ → Ordering) → CompactionContext → List Entry → List Mark
 heads cmp b entries = heads_behind cmp b None 0 entries
 
 -- the marks that differ in their number from the mark before, the first being after one with
@@ -64,5 +64,5 @@ changes (m ∷ ms) = m ∷ changes_behind m.below ms
 
 -- The marks of entries: at the first of all, and at the first entry of each user key at which the
 -- number of grandparents below differs from that of the user key before.
-abbrev pub marks : (List ℕ → List ℕ → Ordering) → Below → List Entry → List Mark
+abbrev pub marks : (List ℕ → List ℕ → Ordering) → CompactionContext → List Entry → List Mark
 marks cmp b entries = changes (heads cmp b entries)

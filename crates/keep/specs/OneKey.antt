@@ -3,12 +3,12 @@ use Rattle.std.specs.Prelude.{◌≡◌, ◌⊎◌, ℕ, ◌≤◌, true, false,
 use Rattle.std.specs.List.{last_or}
 use Rattle.std.specs.declared.cmp.Ordering.{Ordering}
 use Rattle.ikey.specs.Key.{sequence_of}
-use Rattle.block.specs.Piece.{Entry}
+use Rattle.block.specs.EncodedEntry.{Entry}
 use Rattle.edit.specs.declared.meta.FileMeta.{FileMeta}
 use Rattle.pick.specs.Ranges.{is_in_none}
 use Rattle.reads.specs.NewestFirst.{SequencesFall, AreOf, answer_at}
 use Rattle.keep.specs.Readable.{Readable, is_read}
-use Rattle.keep.specs.Keeping.{is_obsolete, keeps, kept}
+use Rattle.keep.specs.DropRule.{is_obsolete, keeps, kept}
 
 -- a newer entry hides an older one: each readable sequence that sees the older one sees the newer
 abbrev pub Hides : Readable → Entry → Entry → Type 0

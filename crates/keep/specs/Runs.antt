@@ -6,15 +6,15 @@ use Rattle.coding.specs.Answers.{fault}
 use Rattle.coding.specs.declared.fault.Fault.{Fault}
 use Rattle.coding.specs.declared.fault.FaultName.TheVariants.{Duplicate}
 use Rattle.ikey.specs.Key.{sequence_of}
-use Rattle.block.specs.Piece.{Entry}
+use Rattle.block.specs.EncodedEntry.{Entry}
 use Rattle.merge.specs.Merged.{merged}
 use Rattle.merge.specs.Union.{VersionsRise, IsUnion}
 use Rattle.split.specs.Boundaries.{IsSplit}
 use Rattle.split.specs.Ranges.{KeyRange, range_at}
-use Rattle.keep.specs.Keeping.{is_same_user, kept}
+use Rattle.keep.specs.DropRule.{is_same_user, kept}
 use Rattle.keep.specs.InRange.{entries_in}
 use Rattle.keep.specs.declared.mark.Mark.{Mark}
-use Rattle.keep.specs.Marks.{Below, marks, changes}
+use Rattle.keep.specs.Marks.{CompactionContext, marks, changes}
 
 -- the kept entries of a range, and its marks
 pub record Run : Type 0 where
@@ -22,7 +22,7 @@ pub record Run : Type 0 where
   pub marks : List Mark
 
 -- the run of entries: the kept ones of them, and their marks
-abbrev pub run_of : (List ℕ → List ℕ → Ordering) → Below → List Entry → Run
+abbrev pub run_of : (List ℕ → List ℕ → Ordering) → CompactionContext → List Entry → Run
 run_of cmp b entries = record { kept = kept cmp b.readable b.deeper entries; marks = marks cmp b entries }
 
 -- whether two entries have one user key and one sequence
@@ -36,7 +36,7 @@ are_distinct (e ∷ es) = not (list_any (is_same_version e) es) && are_distinct 
 
 -- The answer on a range of user keys: Duplicate if it holds one user key and sequence twice, else
 -- the run of the entries that the sorted merge of the inputs has there.
-abbrev pub range_run : (List ℕ → List ℕ → Ordering) → Below → List (List Entry) → KeyRange → Result Run Fault
+abbrev pub range_run : (List ℕ → List ℕ → Ordering) → CompactionContext → List (List Entry) → KeyRange → Result Run Fault
 range_run cmp b inputs range =
     if are_distinct (entries_in cmp range (merged cmp inputs))
     then Ok (run_of cmp b (entries_in cmp range (merged cmp inputs)))
@@ -65,24 +65,24 @@ abbrev pub ranges_of : List (List ℕ) → List KeyRange
 ranges_of boundaries = ranges_from None boundaries
 
 -- the entries of each range
-abbrev pub parts_of : (List ℕ → List ℕ → Ordering) → List (List ℕ) → List Entry → List (List Entry)
-parts_of cmp boundaries entries = map (λ range. entries_in cmp range entries) (ranges_of boundaries)
+abbrev pub entries_by_range : (List ℕ → List ℕ → Ordering) → List (List ℕ) → List Entry → List (List Entry)
+entries_by_range cmp boundaries entries = map (λ range. entries_in cmp range entries) (ranges_of boundaries)
 
 -- the run of each range
-abbrev pub runs_of : (List ℕ → List ℕ → Ordering) → Below → List (List ℕ) → List Entry → List Run
-runs_of cmp b boundaries union = map (run_of cmp b) (parts_of cmp boundaries union)
+abbrev pub runs_of : (List ℕ → List ℕ → Ordering) → CompactionContext → List (List ℕ) → List Entry → List Run
+runs_of cmp b boundaries union = map (run_of cmp b) (entries_by_range cmp boundaries union)
 
 -- Ranges compose, however they are cut between user keys. The kept entries of the ranges in order
 -- are those of the whole union. So are their marks, but a range's first mark may repeat the number
 -- before it. Some range is refused exactly if all inputs together hold one user key and sequence
 -- twice.
 pub record RangesCompose (cmp : List ℕ → List ℕ → Ordering) : Type 0 where
-  pub kept : (b : Below) (boundaries : List (List ℕ)) (union : List Entry) → IsSplit cmp boundaries → VersionsRise cmp union →
+  pub kept : (b : CompactionContext) (boundaries : List (List ℕ)) (union : List Entry) → IsSplit cmp boundaries → VersionsRise cmp union →
       (joined_run (runs_of cmp b boundaries union)).kept ≡ (run_of cmp b union).kept
-  pub marks : (b : Below) (boundaries : List (List ℕ)) (union : List Entry) → IsSplit cmp boundaries → VersionsRise cmp union →
+  pub marks : (b : CompactionContext) (boundaries : List (List ℕ)) (union : List Entry) → IsSplit cmp boundaries → VersionsRise cmp union →
       changes (joined_run (runs_of cmp b boundaries union)).marks ≡ (run_of cmp b union).marks
   pub refused : (inputs : List (List Entry)) (boundaries : List (List ℕ)) → IsSplit cmp boundaries →
-      list_all are_distinct (parts_of cmp boundaries (merged cmp inputs)) ≡ are_distinct (merged cmp inputs)
+      list_all are_distinct (entries_by_range cmp boundaries (merged cmp inputs)) ≡ are_distinct (merged cmp inputs)
   -- the ranges are those that a split gives
   pub ranges : (boundaries : List (List ℕ)) (i : ℕ) → i ≤ length boundaries → slice_get (ranges_of boundaries) i ≡ Some (range_at boundaries i)
 
@@ -95,6 +95,6 @@ DistinctLaw cmp =
 -- what is kept of the entries of a range is what is kept of the whole union there
 abbrev pub KeptInRangeLaw : (List ℕ → List ℕ → Ordering) → Type 0
 KeptInRangeLaw cmp =
-    (b : Below) (range : KeyRange) (union : List Entry) → VersionsRise cmp union →
+    (b : CompactionContext) (range : KeyRange) (union : List Entry) → VersionsRise cmp union →
     (run_of cmp b (entries_in cmp range union)).kept
     ≡ entries_in cmp range (run_of cmp b union).kept

@@ -16,27 +16,29 @@
 #![tactic(auto)]
 
 mod conditions;
+mod drop_rule_laws;
+mod entry_chunk;
+mod entry_chunks;
 mod grandparents;
 mod kept_entry;
-mod kept_list;
-mod kept_piece;
 mod last_version;
-mod laws;
 mod mark;
-mod merging_range;
 mod range_cursors;
+mod range_merge;
 mod range_run;
+mod range_start;
 mod rule;
-mod seeking;
 mod snapshots;
 mod walk;
-mod walking;
+mod walk_steps;
 
 pub use conditions::{is_rising, largest_rise};
-pub use laws::{begun_law, distinct_law, holds_law, kept_in_range, one_key, ranges_compose};
+pub use drop_rule_laws::{
+    begun_law, distinct_law, holds_law, kept_in_range, one_key, ranges_compose,
+};
 pub use mark::Mark;
-pub use merging_range::merge_range;
 pub use range_cursors::{add_cursor, cursors_from};
+pub use range_merge::merge_range;
 pub use range_run::RangeRun;
-pub use seeking::seek_range;
+pub use range_start::seek_range;
 pub use snapshots::Snapshots;

@@ -7,12 +7,12 @@ ghost use Rattle.std.specs.Ordering.{is_lt};
 ghost use Rattle.coding.specs.Answers.{fault};
 ghost use Rattle.coding.specs.declared.fault.FaultName.TheVariants.{Memory};
 ghost use Rattle.ikey.specs.Key.{user_of};
-ghost use Rattle.table.specs.Reading.{table_reading};
-ghost use Rattle.merge.specs.Merged.{joined};
+ghost use Rattle.table.specs.TableContents.{table_reading};
+ghost use Rattle.merge.specs.Merged.{entries_of_lists};
 ghost use Rattle.split.specs.Ranges.{key_range};
 ghost use Rattle.keep.specs.InRange.{entries_in};
 
-use crate::seeking::seek_range;
+use crate::range_start::seek_range;
 use coding::Fault;
 use ikey::{Comparator, InternalKey};
 use split::Range;
@@ -29,8 +29,8 @@ pub fn cursors_from<'t, C: Comparator + 't>(
     tables: &[&SoundTable<'t, C>],
     range: Range<'_>,
 ) -> Result<Vec<TableCursor<'t, C>>, Fault>
-    ensures held { IfOk result (λ v. entries_in C.cmp (key_range range.entry) (joined v.items)
-        ≡ entries_in C.cmp (key_range range.entry) (joined (map (λ t. t.now.entries) tables.now))) }
+    ensures held { IfOk result (λ v. entries_in C.cmp (key_range range.entry) (entries_of_lists v.items)
+        ≡ entries_in C.cmp (key_range range.entry) (entries_of_lists (map (λ t. t.now.entries) tables.now))) }
     ensures memory { IfErr result (λ e. e ≡ fault Memory) }
 {
     let mut cursors = Vec::new(alloc);
@@ -51,8 +51,8 @@ pub fn add_cursor<'t, C: Comparator + 't>(
     table: &SoundTable<'t, C>,
     range: Range<'_>,
 ) -> Result<(), Fault>
-    ensures held { OnOk result (entries_in C.cmp (key_range range.entry) (joined cursors.new.items)
-        ≡ entries_in C.cmp (key_range range.entry) (joined cursors.old.items)
+    ensures held { OnOk result (entries_in C.cmp (key_range range.entry) (entries_of_lists cursors.new.items)
+        ≡ entries_in C.cmp (key_range range.entry) (entries_of_lists cursors.old.items)
         ++ entries_in C.cmp (key_range range.entry) table.now.entries) }
     ensures unchanged { OnErr result (cursors.new.items ≡ cursors.old.items) }
     ensures memory { IsOkUnless result (fault Memory) }

@@ -8,7 +8,7 @@ ghost use Rattle.coding.specs.declared.fault.FaultName.TheVariants.{Memory};
 ghost use Rattle.ikey.specs.Key.{IsInternalKey};
 ghost use Rattle.keep.specs.Runs.{Run};
 
-use crate::kept_list::KeptList;
+use crate::entry_chunks::EntryChunks;
 use crate::mark::Mark;
 use coding::Fault;
 use ikey::InternalKey;
@@ -17,11 +17,11 @@ use std::marker::Model;
 
 /// The kept entries of a range, and its marks.
 ///
-/// Entries lie in pieces of 4,096. A piece has its keys in one buffer; values are slices of the
+/// Entries lie in chunks of 4,096. A chunk has its keys in one buffer; values are slices of the
 /// inputs' bytes. So an entry takes 24 bytes and those of its key, and no allocation of its own.
 #[derive(Drop)]
 pub struct RangeRun<'a> {
-    kept: KeptList<'a>,
+    kept: EntryChunks<'a>,
     marks: Vec<Mark>,
 }
 
@@ -39,7 +39,7 @@ impl<'a> RangeRun<'a> {
         ensures { result ≡ record { kept = []; marks = [] } }
     {
         RangeRun {
-            kept: KeptList::new(alloc),
+            kept: EntryChunks::new(alloc),
             marks: Vec::new(alloc),
         }
     }

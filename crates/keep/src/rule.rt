@@ -19,8 +19,8 @@
 ghost use Rattle.std.specs.Prelude.{◌≡◌, nat_le, []};
 ghost use Rattle.std.specs.List.{list_all};
 ghost use Rattle.std.specs.List.Sorted.{IsStrictlyIncreasing};
-ghost use Rattle.keep.specs.Keeping.{is_obsolete};
-ghost use Rattle.keep.specs.Walking.{is_needed, is_hidden_by, keeps_behind};
+ghost use Rattle.keep.specs.DropRule.{is_obsolete};
+ghost use Rattle.keep.specs.RangeWalk.{is_needed, is_hidden_by, keeps_behind};
 
 use ikey::{Comparator, InternalKey, Kind};
 use pick::{Inputs, is_base};
@@ -60,9 +60,9 @@ pub(crate) struct Rule<'r> {
 
 impl<'r> Model for Rule<'r> {
     ghost use Rattle.std.specs.List.Sorted.{IsStrictlyIncreasing};
-    ghost use Rattle.keep.specs.Marks.{Below};
+    ghost use Rattle.keep.specs.Marks.{CompactionContext};
 
-    ghost Value = { Below };
+    ghost Value = { CompactionContext };
 
     ghost view = { λ r. record {
       readable = record { listed = r.listed.now; floor = r.floor };

@@ -8,7 +8,7 @@ use Rattle.coding.specs.declared.fault.FaultName.TheVariants.{LogShape}
 use Rattle.coding.proofs.Binds.{bind_ok, ok_is}
 use Rattle.coding.proofs.Bytes.{IsBytes}
 use Rattle.logrec.specs.Log.{fragment_type, fragment, fragments}
-use Rattle.logrec.specs.Reading.{Piece, piece_at, ends_record, left_at}
+use Rattle.logrec.specs.LogReader.{FragmentReading, fragment_reading, ends_record, left_at}
 use Rattle.logrec.proofs.Pieces.{length-fragment, TakesPiece, piece_takes, piece_shorter, piece_again, HasMore, Ends, ends_ok, ends_last, ends_not}
 
 -- a record that ends in this fragment
@@ -27,13 +27,13 @@ pub record TakesLeft (m : ℕ) (begins : Bool) (room : ℕ) (bytes : List ℕ) (
   pub rest_fits : IsBytes x.1
   pub more : HasMore begins (length x.0)
 
-abbrev pub ending : ℕ → Piece → Bool → Result (List ℕ × List ℕ) Fault
+abbrev pub ending : ℕ → FragmentReading → Bool → Result (List ℕ × List ℕ) Fault
 ending n first ends = cond ends (Ok (first.content, first.rest)) (left_at n false 32761 first.rest >>= λ others. Ok (first.content ++ others.0, others.1))
 
-abbrev pub going : ℕ → Bool → ℕ → Piece → Result (List ℕ × List ℕ) Fault
+abbrev pub going : ℕ → Bool → ℕ → FragmentReading → Result (List ℕ × List ℕ) Fault
 going n begins room first = ends_record begins room first.kind (length first.content) >>= ending n first
 
-pub left_at-suc : (n : ℕ) (begins : Bool) (room : ℕ) (bytes : List ℕ) → left_at (suc n) begins room bytes ≡ (piece_at room bytes >>= going n begins room)
+pub left_at-suc : (n : ℕ) (begins : Bool) (room : ℕ) (bytes : List ℕ) → left_at (suc n) begins room bytes ≡ (fragment_reading room bytes >>= going n begins room)
 unfolding left_at
 left_at-suc n begins room bytes = refl
 
@@ -42,7 +42,7 @@ unfolding left_at
 left_at-zero begins room bytes = refl
 
 -- the last fragment
-takes_last : (m : ℕ) (begins : Bool) (room : ℕ) (bytes : List ℕ) (p : Piece) → TakesPiece room bytes p → Ends begins room p.kind (length p.content) true → TakesLeft m begins room bytes (p.content, p.rest)
+takes_last : (m : ℕ) (begins : Bool) (room : ℕ) (bytes : List ℕ) (p : FragmentReading) → TakesPiece room bytes p → Ends begins room p.kind (length p.content) true → TakesLeft m begins room bytes (p.content, p.rest)
 takes_last m begins room bytes p t h = record {
   parts = t.parts ∙ ap (λ (k : ℕ). fragment k p.content ++ p.rest) h.0 ∙ ap (λ (f : List ℕ). f ++ p.rest) (sym (fragments_last m begins room p.content t.content_le));
   rest_fits = t.rest_fits;
@@ -50,7 +50,7 @@ takes_last m begins room bytes p t h = record {
 }
 
 -- another fragment, and those behind it
-takes_more : (m : ℕ) (begins : Bool) (room : ℕ) (bytes : List ℕ) (p : Piece) (x : List ℕ × List ℕ) → TakesPiece room bytes p → Ends begins room p.kind (length p.content) false
+takes_more : (m : ℕ) (begins : Bool) (room : ℕ) (bytes : List ℕ) (p : FragmentReading) (x : List ℕ × List ℕ) → TakesPiece room bytes p → Ends begins room p.kind (length p.content) false
     → 0 < length x.0 → TakesLeft m false 32761 p.rest x → TakesLeft (suc m) begins room bytes (p.content ++ x.0, x.1)
 takes_more m begins room bytes p x t h some others =
     let long : room < length (p.content ++ x.0) = omega (arith, length-append p.content x.0, h.1) in
@@ -79,7 +79,7 @@ abbrev failed : Result (List ℕ × List ℕ) Fault
 failed = Err (fault LogShape)
 
 -- the step, at what is behind the first fragment
-left_ends : (n : ℕ) (begins : Bool) (room : ℕ) (bytes : List ℕ) (x : List ℕ × List ℕ) (p : Piece) (b : Bool) → TakesPiece room bytes p → Ends begins room p.kind (length p.content) b → ending n p b ≡ Ok x
+left_ends : (n : ℕ) (begins : Bool) (room : ℕ) (bytes : List ℕ) (x : List ℕ × List ℕ) (p : FragmentReading) (b : Bool) → TakesPiece room bytes p → Ends begins room p.kind (length p.content) b → ending n p b ≡ Ok x
     → ((y : List ℕ × List ℕ) → left_at n false 32761 p.rest ≡ Ok y → (m : ℕ) → length y.0 ≤ m + 32761 → TakesLeft m false 32761 p.rest y)
     → (m : ℕ) → length x.0 ≤ m + room → TakesLeft m begins room bytes x
 left_ends n begins room bytes x p true t h e behind m enough =
@@ -103,7 +103,7 @@ pub left_takes : (n : ℕ) (begins : Bool) (room : ℕ) (bytes : List ℕ) (x : 
     → (m : ℕ) → length x.0 ≤ m + room → TakesLeft m begins room bytes x
 left_takes zero begins room bytes x fits e m enough = absurd (no_value x (sym (left_at-zero begins room bytes) ∙ e))
 left_takes (suc n) begins room bytes x fits e m enough =
-    let a = bind_ok (piece_at room bytes) (going n begins room) x (sym (left_at-suc n begins room bytes) ∙ e) in
+    let a = bind_ok (fragment_reading room bytes) (going n begins room) x (sym (left_at-suc n begins room bytes) ∙ e) in
     let b = bind_ok (ends_record begins room a.0.kind (length a.0.content)) (ending n a.0) x a.2 in
     let t = piece_takes room bytes a.0 fits a.1 in
     left_ends n begins room bytes x a.0 b.0 t (ends_ok begins room a.0.kind (length a.0.content) b.0 b.1) b.2 (λ y h. left_takes n false 32761 a.0.rest y t.rest_fits h) m enough
@@ -121,7 +121,7 @@ fragments_long (suc m) begins room content =
           omega (arith, ap length (fragments_more m begins room content long), length-append (fragment (fragment_type begins false) (take room content)) (fragments m false 32761 (drop room content)), length-fragment (fragment_type begins false) (take room content))
     ]
 
-ending_shorter : (n : ℕ) (p : Piece) (b : Bool) (len : ℕ) (x : List ℕ × List ℕ) → length p.rest < len → ((y : List ℕ × List ℕ) → left_at n false 32761 p.rest ≡ Ok y → length y.1 < length p.rest)
+ending_shorter : (n : ℕ) (p : FragmentReading) (b : Bool) (len : ℕ) (x : List ℕ × List ℕ) → length p.rest < len → ((y : List ℕ × List ℕ) → left_at n false 32761 p.rest ≡ Ok y → length y.1 < length p.rest)
     → ending n p b ≡ Ok x → length x.1 < len
 ending_shorter n p true len x lt behind e = omega (arith, ap (λ (z : List ℕ × List ℕ). length z.1) (ok_is (p.content, p.rest) x e), lt)
 ending_shorter n p false len x lt behind e =
@@ -132,7 +132,7 @@ ending_shorter n p false len x lt behind e =
 pub left_shorter : (n : ℕ) (begins : Bool) (room : ℕ) (bytes : List ℕ) (x : List ℕ × List ℕ) → left_at n begins room bytes ≡ Ok x → length x.1 < length bytes
 left_shorter zero begins room bytes x e = absurd (no_value x (sym (left_at-zero begins room bytes) ∙ e))
 left_shorter (suc n) begins room bytes x e =
-    let a = bind_ok (piece_at room bytes) (going n begins room) x (sym (left_at-suc n begins room bytes) ∙ e) in
+    let a = bind_ok (fragment_reading room bytes) (going n begins room) x (sym (left_at-suc n begins room bytes) ∙ e) in
     let b = bind_ok (ends_record begins room a.0.kind (length a.0.content)) (ending n a.0) x a.2 in
     ending_shorter n a.0 b.0 (length bytes) x (piece_shorter room bytes a.0 a.1) (λ y h. left_shorter n false 32761 a.0.rest y h) b.2
 
@@ -143,7 +143,7 @@ again_last : (n : ℕ) (begins : Bool) (room : ℕ) (content rest : List ℕ) �
 again_last n begins room content rest more le fits =
     let whole = fragment (fragment_type begins true) content ++ rest in
     left_at-suc n begins room (fragment (fragment_type begins true) content ++ rest)
-    ∙ ap (λ (r : Result Piece Fault). r >>= going n begins room) (piece_again room (fragment_type begins true) content rest le fits)
+    ∙ ap (λ (r : Result FragmentReading Fault). r >>= going n begins room) (piece_again room (fragment_type begins true) content rest le fits)
     ∙ ap (λ (r : Result Bool Fault). r >>= ending n (record { kind = fragment_type begins true; content = content; rest = rest })) (ends_last begins room (length content) more)
 
 again_more : (n : ℕ) (begins : Bool) (room : ℕ) (content behind rest others : List ℕ) → length content ≡ room → room < 2 ^ 16
@@ -151,7 +151,7 @@ again_more : (n : ℕ) (begins : Bool) (room : ℕ) (content behind rest others 
     → left_at (suc n) begins room (fragment (fragment_type begins false) content ++ others) ≡ Ok (content ++ behind, rest)
 again_more n begins room content behind rest others full fits e =
     left_at-suc n begins room (fragment (fragment_type begins false) content ++ others)
-    ∙ ap (λ (r : Result Piece Fault). r >>= going n begins room) (piece_again room (fragment_type begins false) content others (omega (arith, full)) fits)
+    ∙ ap (λ (r : Result FragmentReading Fault). r >>= going n begins room) (piece_again room (fragment_type begins false) content others (omega (arith, full)) fits)
     ∙ ap (λ (r : Result Bool Fault). r >>= ending n (record { kind = fragment_type begins false; content = content; rest = others })) (ends_not begins room (length content) full)
     ∙ ap (λ (r : Result (List ℕ × List ℕ) Fault). r >>= λ others. Ok (content ++ others.0, others.1)) e
 

@@ -13,8 +13,8 @@ use Rattle.coding.specs.declared.fault.Fault.{Fault}
 use Rattle.coding.specs.declared.fault.FaultName.TheVariants.{LogShape}
 use Rattle.coding.proofs.Binds.{bind_ok, ok_is}
 use Rattle.coding.proofs.Bytes.{IsBytes, IsBytes-drop}
-use Rattle.logrec.specs.Log.{block_left, zeros_due, room_at, fragments, written, written_from, log, AppendLaw, OneListLaw}
-use Rattle.logrec.specs.Reading.{left_at, behind_zeros, record_at, records_in, records_of, lists}
+use Rattle.logrec.specs.Log.{block_left, zeros_due, room_at, fragments, written_record, written_records, log, AppendLaw, OneListLaw}
+use Rattle.logrec.specs.LogReader.{left_at, behind_zeros, record_at, records_in, records_of, lists}
 use Rattle.logrec.proofs.Bytes.{guard_ended}
 use Rattle.logrec.proofs.Lefts.{left_takes, left_shorter, left_again, fragments_long}
 
@@ -52,8 +52,8 @@ behind_again offset body =
 abbrev first_left : ℕ → List ℕ → Result (List ℕ × List ℕ) Fault
 first_left offset body = left_at (length body) true (room_at offset) body
 
-record_takes : (offset : ℕ) (bytes : List ℕ) (x : List ℕ × List ℕ) → IsBytes bytes → record_at offset bytes ≡ Ok x → (bytes ≡ written offset x.0 ++ x.1) × IsBytes x.1
-unfolding record_at written
+record_takes : (offset : ℕ) (bytes : List ℕ) (x : List ℕ × List ℕ) → IsBytes bytes → record_at offset bytes ≡ Ok x → (bytes ≡ written_record offset x.0 ++ x.1) × IsBytes x.1
+unfolding record_at written_record
 record_takes offset bytes x fits e =
     let a = bind_ok (behind_zeros offset bytes) (first_left offset) x e in
     let z = behind_takes offset bytes a.0 a.1 in
@@ -68,16 +68,16 @@ record_shorter offset bytes x e =
     let z = behind_takes offset bytes a.0 a.1 in
     omega (arith, left_shorter (length a.0) true (room_at offset) a.0 x a.2, ap length z.0, length-append (zeros_due offset) a.0)
 
-record_again : (offset : ℕ) (r rest : List ℕ) → record_at offset (written offset r ++ rest) ≡ Ok (r, rest)
-unfolding record_at written
+record_again : (offset : ℕ) (r rest : List ℕ) → record_at offset (written_record offset r ++ rest) ≡ Ok (r, rest)
+unfolding record_at written_record
 record_again offset r rest =
     let body = fragments (length r) true (room_at offset) r ++ rest in
     ap (λ (b : List ℕ). behind_zeros offset b >>= first_left offset) (append_assoc (zeros_due offset) (fragments (length r) true (room_at offset) r) rest)
     ∙ ap (λ (b : Result (List ℕ) Fault). b >>= first_left offset) (behind_again offset body)
     ∙ left_again (length body) (length r) true (room_at offset) r rest (inl refl) (omega arith) (room_fits offset) (omega arith)
 
-written_long : (offset : ℕ) (r : List ℕ) → 7 ≤ length (written offset r)
-unfolding written
+written_long : (offset : ℕ) (r : List ℕ) → 7 ≤ length (written_record offset r)
+unfolding written_record
 written_long offset r = omega (arith, length-append (zeros_due offset) (fragments (length r) true (room_at offset) r), fragments_long (length r) true (room_at offset) r)
 
 -- ---- all records
@@ -94,8 +94,8 @@ pub records_in-nil : (n offset : ℕ) → records_in n offset [] ≡ Ok []
 unfolding records_in
 records_in-nil n offset = refl
 
-records_take : (n offset : ℕ) (bytes : List ℕ) (rs : List (List ℕ)) → IsBytes bytes → length bytes ≤ n → records_in n offset bytes ≡ Ok rs → bytes ≡ written_from offset rs
-records_take n offset [] rs fits enough e = ap (written_from offset) (ok_is [] rs (sym (records_in-nil n offset) ∙ e))
+records_take : (n offset : ℕ) (bytes : List ℕ) (rs : List (List ℕ)) → IsBytes bytes → length bytes ≤ n → records_in n offset bytes ≡ Ok rs → bytes ≡ written_records offset rs
+records_take n offset [] rs fits enough e = ap (written_records offset) (ok_is [] rs (sym (records_in-nil n offset) ∙ e))
 records_take zero offset (b ∷ bytes) rs fits enough e = absurd (omega arith)
 records_take (suc n) offset (b ∷ bytes) rs fits enough e =
     let whole = b ∷ bytes in
@@ -104,20 +104,20 @@ records_take (suc n) offset (b ∷ bytes) rs fits enough e =
     let t = record_takes offset (b ∷ bytes) a.0 fits a.1 in
     let fewer : length a.0.1 ≤ n = omega (arith, record_shorter offset (b ∷ bytes) a.0 a.1, enough) in
     let others = records_take n (offset + (length (b ∷ bytes) - length a.0.1)) a.0.1 d.0 t.1 fewer d.1 in
-    let at : offset + (length (b ∷ bytes) - length a.0.1) ≡ offset + length (written offset a.0.0) = omega (arith, ap length t.0, length-append (written offset a.0.0) a.0.1) in
-    t.0 ∙ ap (λ (x : List ℕ). written offset a.0.0 ++ x) (others ∙ ap (λ (k : ℕ). written_from k d.0) at) ∙ ap (written_from offset) (ok_is (a.0.0 ∷ d.0) rs d.2)
+    let at : offset + (length (b ∷ bytes) - length a.0.1) ≡ offset + length (written_record offset a.0.0) = omega (arith, ap length t.0, length-append (written_record offset a.0.0) a.0.1) in
+    t.0 ∙ ap (λ (x : List ℕ). written_record offset a.0.0 ++ x) (others ∙ ap (λ (k : ℕ). written_records k d.0) at) ∙ ap (written_records offset) (ok_is (a.0.0 ∷ d.0) rs d.2)
 
-records_again : (n offset : ℕ) (rs : List (List ℕ)) → length (written_from offset rs) ≤ n → records_in n offset (written_from offset rs) ≡ Ok rs
+records_again : (n offset : ℕ) (rs : List (List ℕ)) → length (written_records offset rs) ≤ n → records_in n offset (written_records offset rs) ≡ Ok rs
 records_again n offset [] enough = records_in-nil n offset
 records_again zero offset (r ∷ rs) enough =
-    absurd (omega (arith, written_long offset r, length-append (written offset r) (written_from (offset + length (written offset r)) rs)))
+    absurd (omega (arith, written_long offset r, length-append (written_record offset r) (written_records (offset + length (written_record offset r)) rs)))
 records_again (suc n) offset (r ∷ rs) enough =
-    let next = offset + length (written offset r) in
-    let others = written_from (offset + length (written offset r)) rs in
-    let whole = written offset r ++ others in
-    let len : length whole ≡ length (written offset r) + length others = length-append (written offset r) others in
+    let next = offset + length (written_record offset r) in
+    let others = written_records (offset + length (written_record offset r)) rs in
+    let whole = written_record offset r ++ others in
+    let len : length whole ≡ length (written_record offset r) + length others = length-append (written_record offset r) others in
     let at : offset + (length whole - length others) ≡ next = omega (arith, len) in
-    records_in-suc n offset (written offset r ++ written_from (offset + length (written offset r)) rs) (omega (arith, len, written_long offset r))
+    records_in-suc n offset (written_record offset r ++ written_records (offset + length (written_record offset r)) rs) (omega (arith, len, written_long offset r))
     ∙ ap (λ (x : Result (List ℕ × List ℕ) Fault). x >>= others_in n offset whole) (record_again offset r others)
     ∙ ap (λ (k : ℕ). records_in n k others >>= λ behind. Ok (r ∷ behind)) at
     ∙ ap (λ (x : Result (List (List ℕ)) Fault). x >>= λ behind. Ok (r ∷ behind)) (records_again n next rs (omega (arith, len, written_long offset r, enough)))
@@ -132,20 +132,20 @@ log_again rs = records_again (length (log rs)) 0 rs (omega arith)
 
 -- ---- laws
 
-written_from-append : (offset : ℕ) (rs : List (List ℕ)) (r : List ℕ) → written_from offset (rs ++ r ∷ []) ≡ written_from offset rs ++ written (offset + length (written_from offset rs)) r
-written_from-append offset [] r = let at : offset ≡ offset + 0 = omega arith in append-nil (written offset r) ∙ ap (λ (k : ℕ). written k r) at
+written_from-append : (offset : ℕ) (rs : List (List ℕ)) (r : List ℕ) → written_records offset (rs ++ r ∷ []) ≡ written_records offset rs ++ written_record (offset + length (written_records offset rs)) r
+written_from-append offset [] r = let at : offset ≡ offset + 0 = omega arith in append-nil (written_record offset r) ∙ ap (λ (k : ℕ). written_record k r) at
 written_from-append offset (s ∷ rs) r =
-    let next = offset + length (written offset s) in
-    let others = written_from (offset + length (written offset s)) rs in
-    let at : next + length others ≡ offset + length (written offset s ++ others) = omega (arith, length-append (written offset s) others) in
-    ap (λ (x : List ℕ). written offset s ++ x) (written_from-append next rs r)
-    ∙ sym (append_assoc (written offset s) others (written (next + length others) r))
-    ∙ ap (λ (k : ℕ). (written offset s ++ others) ++ written k r) at
+    let next = offset + length (written_record offset s) in
+    let others = written_records (offset + length (written_record offset s)) rs in
+    let at : next + length others ≡ offset + length (written_record offset s ++ others) = omega (arith, length-append (written_record offset s) others) in
+    ap (λ (x : List ℕ). written_record offset s ++ x) (written_from-append next rs r)
+    ∙ sym (append_assoc (written_record offset s) others (written_record (next + length others) r))
+    ∙ ap (λ (k : ℕ). (written_record offset s ++ others) ++ written_record k r) at
 
 pub append_law : AppendLaw
 append_law rs r =
     let at : 0 + length (log rs) ≡ length (log rs) = omega arith in
-    written_from-append 0 rs r ∙ ap (λ (k : ℕ). log rs ++ written k r) at
+    written_from-append 0 rs r ∙ ap (λ (k : ℕ). log rs ++ written_record k r) at
 
 pub one_list : OneListLaw
 one_list rs ss e = ok_is rs ss (sym (log_again rs) ∙ ap records_of e ∙ log_again ss)
@@ -186,8 +186,8 @@ behind_found offset k bytes zeros b z len is h =
 
 -- a log that grew by zeros and fragments
 pub appended : (old r empty copied filled whole zeros : List ℕ) (k room : ℕ) → empty ≡ [] → copied ≡ empty ++ old → filled ≡ copied ++ zeros → zeros ≡ take k (zeros_of 6) → k ≡ length (zeros_due (length old)) → room ≡ room_at (length old)
-    → whole ≡ filled ++ fragments (length r) true room r → whole ≡ old ++ written (length old) r
-unfolding written
+    → whole ≡ filled ++ fragments (length r) true room r → whole ≡ old ++ written_record (length old) r
+unfolding written_record
 appended old r empty copied filled whole zeros k room none copy fill z k-is room-is all =
     let at : filled ≡ old ++ zeros_due (length old) = fill ∙ ap (λ (t : List ℕ). t ++ zeros) (copy ∙ ap (λ (t : List ℕ). t ++ old) none) ∙ ap (λ (t : List ℕ). old ++ t) (z ∙ zeros_taken (length old) k k-is) in
     all

@@ -7,7 +7,7 @@ use Rattle.coding.proofs.Refusals.{unless_from}
 use Rattle.coding.specs.declared.fault.Fault.{Fault}
 use Rattle.coding.specs.declared.fault.FaultName.TheVariants.{LogShape}
 use Rattle.logrec.specs.Log.{fragment_type, fragment, fragments}
-use Rattle.logrec.specs.Reading.{Piece, piece_at, ends_record, left_at, record_at, records_in, records_of}
+use Rattle.logrec.specs.LogReader.{FragmentReading, fragment_reading, ends_record, left_at, record_at, records_in, records_of}
 use Rattle.logrec.proofs.Pieces.{piece_shorter}
 use Rattle.logrec.proofs.Lefts.{fragments_last, fragments_more, going, ending, left_at-suc}
 use Rattle.logrec.proofs.Logs.{others_in, records_in-suc, records_in-nil, record_shorter}
@@ -77,15 +77,15 @@ regroup front content (Ok x) = ap (λ (t : List ℕ). done (t, x.1)) (sym (appen
 regroup front content (Err e) = refl
 
 -- what a fragment makes of what is left
-pieced : (most : ℕ) (begins : Bool) (room : ℕ) (rest : List ℕ) (p : Piece) (b : Bool) → piece_at room rest ≡ Ok p → ends_record begins room p.kind (length p.content) ≡ Ok b
+pieced : (most : ℕ) (begins : Bool) (room : ℕ) (rest : List ℕ) (p : FragmentReading) (b : Bool) → fragment_reading room rest ≡ Ok p → ends_record begins room p.kind (length p.content) ≡ Ok b
     → left_at (suc most) begins room rest ≡ ending most p b
 pieced most begins room rest p b e f =
     left_at-suc most begins room rest
-    ∙ ap (λ (r : Result Piece Fault). r >>= going most begins room) e
+    ∙ ap (λ (r : Result FragmentReading Fault). r >>= going most begins room) e
     ∙ ap (λ (r : Result Bool Fault). r >>= ending most p) f
 
-reads_by : (most : ℕ) (total : Result (List ℕ × List ℕ) Fault) (front : List ℕ) (begins : Bool) (room : ℕ) (rest : List ℕ) (p : Piece) → length rest ≤ most → with_front front (left_at most begins room rest) ≡ total
-    → piece_at room rest ≡ Ok p → ends_record begins room p.kind (length p.content) ≡ Ok false → Reads total (front ++ p.content) false 32761 p.rest
+reads_by : (most : ℕ) (total : Result (List ℕ × List ℕ) Fault) (front : List ℕ) (begins : Bool) (room : ℕ) (rest : List ℕ) (p : FragmentReading) → length rest ≤ most → with_front front (left_at most begins room rest) ≡ total
+    → fragment_reading room rest ≡ Ok p → ends_record begins room p.kind (length p.content) ≡ Ok false → Reads total (front ++ p.content) false 32761 p.rest
 reads_by zero total front begins room rest p enough parts e f = absurd (omega (arith, piece_shorter room rest p e))
 reads_by (suc most) total front begins room rest p enough parts e f = record {
   most = most;
@@ -93,47 +93,47 @@ reads_by (suc most) total front begins room rest p enough parts e f = record {
   parts = sym (regroup front p.content (left_at most false 32761 p.rest)) ∙ sym (ap (with_front front) (pieced most begins room rest p false e f)) ∙ parts;
 }
 
-pub reads_on : (total : Result (List ℕ × List ℕ) Fault) (front : List ℕ) (begins : Bool) (room : ℕ) (rest : List ℕ) (p : Piece) → Reads total front begins room rest
-    → piece_at room rest ≡ Ok p → ends_record begins room p.kind (length p.content) ≡ Ok false → Reads total (front ++ p.content) false 32761 p.rest
+pub reads_on : (total : Result (List ℕ × List ℕ) Fault) (front : List ℕ) (begins : Bool) (room : ℕ) (rest : List ℕ) (p : FragmentReading) → Reads total front begins room rest
+    → fragment_reading room rest ≡ Ok p → ends_record begins room p.kind (length p.content) ≡ Ok false → Reads total (front ++ p.content) false 32761 p.rest
 reads_on total front begins room rest p r e f = reads_by r.most total front begins room rest p r.enough r.parts e f
 
-ended_by : (most : ℕ) (total : Result (List ℕ × List ℕ) Fault) (front : List ℕ) (begins : Bool) (room : ℕ) (rest : List ℕ) (p : Piece) → length rest ≤ most → with_front front (left_at most begins room rest) ≡ total
-    → piece_at room rest ≡ Ok p → ends_record begins room p.kind (length p.content) ≡ Ok true → total ≡ Ok (front ++ p.content, p.rest)
+ended_by : (most : ℕ) (total : Result (List ℕ × List ℕ) Fault) (front : List ℕ) (begins : Bool) (room : ℕ) (rest : List ℕ) (p : FragmentReading) → length rest ≤ most → with_front front (left_at most begins room rest) ≡ total
+    → fragment_reading room rest ≡ Ok p → ends_record begins room p.kind (length p.content) ≡ Ok true → total ≡ Ok (front ++ p.content, p.rest)
 ended_by zero total front begins room rest p enough parts e f = absurd (omega (arith, piece_shorter room rest p e))
 ended_by (suc most) total front begins room rest p enough parts e f = sym parts ∙ ap (with_front front) (pieced most begins room rest p true e f)
 
-pub reads_end : (total : Result (List ℕ × List ℕ) Fault) (front : List ℕ) (begins : Bool) (room : ℕ) (rest : List ℕ) (p : Piece) → Reads total front begins room rest
-    → piece_at room rest ≡ Ok p → ends_record begins room p.kind (length p.content) ≡ Ok true → total ≡ Ok (front ++ p.content, p.rest)
+pub reads_end : (total : Result (List ℕ × List ℕ) Fault) (front : List ℕ) (begins : Bool) (room : ℕ) (rest : List ℕ) (p : FragmentReading) → Reads total front begins room rest
+    → fragment_reading room rest ≡ Ok p → ends_record begins room p.kind (length p.content) ≡ Ok true → total ≡ Ok (front ++ p.content, p.rest)
 reads_end total front begins room rest p r e f = ended_by r.most total front begins room rest p r.enough r.parts e f
 
 -- a refusal of the fragment, or of its type and length, is that of all
-no_piece : (room : ℕ) (bytes : List ℕ) → length bytes ≤ 0 → piece_at room bytes ≡ Err (fault LogShape)
-unfolding piece_at
+no_piece : (room : ℕ) (bytes : List ℕ) → length bytes ≤ 0 → fragment_reading room bytes ≡ Err (fault LogShape)
+unfolding fragment_reading
 no_piece room bytes none = let short : ltb (length bytes) 7 ≡ true = lt-ltb (length bytes) 7 (omega arith) in rw short refl
 
-abbrev refused : Fault → Result Piece Fault
+abbrev refused : Fault → Result FragmentReading Fault
 refused e = Err e
 
 same_fault : (d e : Fault) → refused d ≡ refused e → d ≡ e
 same_fault d e h = cc
 
-piece_failed : (most : ℕ) (begins : Bool) (room : ℕ) (rest : List ℕ) (e : Fault) → length rest ≤ most → piece_at room rest ≡ Err e → left_at most begins room rest ≡ Err e
+piece_failed : (most : ℕ) (begins : Bool) (room : ℕ) (rest : List ℕ) (e : Fault) → length rest ≤ most → fragment_reading room rest ≡ Err e → left_at most begins room rest ≡ Err e
 unfolding left_at
 piece_failed zero begins room rest e enough h = ap failing (same_fault (fault LogShape) e (sym (no_piece room rest enough) ∙ h))
-piece_failed (suc most) begins room rest e enough h = left_at-suc most begins room rest ∙ ap (λ (r : Result Piece Fault). r >>= going most begins room) h
+piece_failed (suc most) begins room rest e enough h = left_at-suc most begins room rest ∙ ap (λ (r : Result FragmentReading Fault). r >>= going most begins room) h
 
-pub reads_refused : (total : Result (List ℕ × List ℕ) Fault) (front : List ℕ) (begins : Bool) (room : ℕ) (rest : List ℕ) (e : Fault) → Reads total front begins room rest → FailsOrMemory e (piece_at room rest) → FailsOrMemory e total
+pub reads_refused : (total : Result (List ℕ × List ℕ) Fault) (front : List ℕ) (begins : Bool) (room : ℕ) (rest : List ℕ) (e : Fault) → Reads total front begins room rest → FailsOrMemory e (fragment_reading room rest) → FailsOrMemory e total
 reads_refused total front begins room rest e r =
-    FailsOrMemory-map e (piece_at room rest) total (λ h. sym r.parts ∙ ap (with_front front) (piece_failed r.most begins room rest e r.enough h))
+    FailsOrMemory-map e (fragment_reading room rest) total (λ h. sym r.parts ∙ ap (with_front front) (piece_failed r.most begins room rest e r.enough h))
 
-ends_failed : (most : ℕ) (begins : Bool) (room : ℕ) (rest : List ℕ) (p : Piece) (e : Fault) → length rest ≤ most → piece_at room rest ≡ Ok p → ends_record begins room p.kind (length p.content) ≡ Err e → left_at most begins room rest ≡ Err e
+ends_failed : (most : ℕ) (begins : Bool) (room : ℕ) (rest : List ℕ) (p : FragmentReading) (e : Fault) → length rest ≤ most → fragment_reading room rest ≡ Ok p → ends_record begins room p.kind (length p.content) ≡ Err e → left_at most begins room rest ≡ Err e
 ends_failed zero begins room rest p e enough f h = absurd (omega (arith, piece_shorter room rest p f))
 ends_failed (suc most) begins room rest p e enough f h =
     left_at-suc most begins room rest
-    ∙ ap (λ (r : Result Piece Fault). r >>= going most begins room) f
+    ∙ ap (λ (r : Result FragmentReading Fault). r >>= going most begins room) f
     ∙ ap (λ (r : Result Bool Fault). r >>= ending most p) h
 
-pub reads_misplaced : (total : Result (List ℕ × List ℕ) Fault) (front : List ℕ) (begins : Bool) (room : ℕ) (rest : List ℕ) (p : Piece) (e : Fault) → Reads total front begins room rest → piece_at room rest ≡ Ok p
+pub reads_misplaced : (total : Result (List ℕ × List ℕ) Fault) (front : List ℕ) (begins : Bool) (room : ℕ) (rest : List ℕ) (p : FragmentReading) (e : Fault) → Reads total front begins room rest → fragment_reading room rest ≡ Ok p
     → FailsOrMemory e (ends_record begins room p.kind (length p.content)) → FailsOrMemory e total
 reads_misplaced total front begins room rest p e r f =
     FailsOrMemory-map e (ends_record begins room p.kind (length p.content)) total (λ h. sym r.parts ∙ ap (with_front front) (ends_failed r.most begins room rest p e r.enough f h))

@@ -11,37 +11,37 @@ use Rattle.coding.specs.declared.fault.FaultName.TheVariants.{LogChecksum, LogSh
 use Rattle.coding.proofs.Binds.{guard_ok, ok_is}
 use Rattle.coding.proofs.Bytes.{IsBytes, IsBytes-drop}
 use Rattle.logrec.specs.Log.{fragment_type, checksum, fragment}
-use Rattle.logrec.specs.Reading.{Piece, content_len, piece_at, ends_record}
+use Rattle.logrec.specs.LogReader.{FragmentReading, content_len, fragment_reading, ends_record}
 use Rattle.logrec.proofs.Bytes.{guard_ended, header_parts}
 
-abbrev piece_is : ℕ → List ℕ → List ℕ → Piece
+abbrev piece_is : ℕ → List ℕ → List ℕ → FragmentReading
 piece_is kind content rest = record { kind = kind; content = content; rest = rest }
 
 -- the last test of a fragment, and each with those behind it
-abbrev summed : ℕ → ℕ → ℕ → List ℕ → Result Piece Fault
+abbrev summed : ℕ → ℕ → ℕ → List ℕ → Result FragmentReading Fault
 summed len sum kind body = cond (eqb sum (checksum kind (take len body))) (Ok (piece_is kind (take len body) (drop len body))) (Err (fault LogChecksum))
 
-abbrev within : ℕ → ℕ → ℕ → List ℕ → Result Piece Fault
+abbrev within : ℕ → ℕ → ℕ → List ℕ → Result FragmentReading Fault
 within len sum kind body = cond (ltb (length body) len) (Err (fault LogShape)) (summed len sum kind body)
 
-abbrev roomy : ℕ → ℕ → ℕ → ℕ → List ℕ → Result Piece Fault
+abbrev roomy : ℕ → ℕ → ℕ → ℕ → List ℕ → Result FragmentReading Fault
 roomy room len sum kind body = cond (ltb room len) (Err (fault LogShape)) (within len sum kind body)
 
-abbrev piece_by : ℕ → ℕ → ℕ → ℕ → ℕ → List ℕ → Result Piece Fault
+abbrev piece_by : ℕ → ℕ → ℕ → ℕ → ℕ → List ℕ → Result FragmentReading Fault
 piece_by total room len sum kind body = cond (ltb total 7) (Err (fault LogShape)) (roomy room len sum kind body)
 
-piece_at-by : (room : ℕ) (bytes : List ℕ) → piece_at room bytes ≡ piece_by (length bytes) room (content_len bytes) (little_number 4 bytes) (get_or bytes 6 0) (drop 7 bytes)
-unfolding piece_at
+piece_at-by : (room : ℕ) (bytes : List ℕ) → fragment_reading room bytes ≡ piece_by (length bytes) room (content_len bytes) (little_number 4 bytes) (get_or bytes 6 0) (drop 7 bytes)
+unfolding fragment_reading
 piece_at-by room bytes = refl
 
-record Passed (total room len sum kind : ℕ) (body : List ℕ) (p : Piece) : Type 0 where
+record Passed (total room len sum kind : ℕ) (body : List ℕ) (p : FragmentReading) : Type 0 where
   header : 7 ≤ total
   room_le : len ≤ room
   body_le : len ≤ length body
   sum_is : sum ≡ checksum kind (take len body)
   piece : piece_is kind (take len body) (drop len body) ≡ p
 
-piece_by_ok : (total room len sum kind : ℕ) (body : List ℕ) (p : Piece) → piece_by total room len sum kind body ≡ Ok p → Passed total room len sum kind body p
+piece_by_ok : (total room len sum kind : ℕ) (body : List ℕ) (p : FragmentReading) → piece_by total room len sum kind body ≡ Ok p → Passed total room len sum kind body p
 piece_by_ok total room len sum kind body p e =
     let a = guard_ok (ltb total 7) (fault LogShape) (roomy room len sum kind body) p e in
     let b = guard_ok (ltb room len) (fault LogShape) (within len sum kind body) p a.1 in
@@ -69,12 +69,12 @@ unfolding fragment
 length-fragment kind content = omega arith
 
 -- what is read
-pub record TakesPiece (room : ℕ) (bytes : List ℕ) (p : Piece) : Type 0 where
+pub record TakesPiece (room : ℕ) (bytes : List ℕ) (p : FragmentReading) : Type 0 where
   pub parts : bytes ≡ fragment p.kind p.content ++ p.rest
   pub rest_fits : IsBytes p.rest
   pub content_le : length p.content ≤ room
 
-pub piece_takes : (room : ℕ) (bytes : List ℕ) (p : Piece) → IsBytes bytes → piece_at room bytes ≡ Ok p → TakesPiece room bytes p
+pub piece_takes : (room : ℕ) (bytes : List ℕ) (p : FragmentReading) → IsBytes bytes → fragment_reading room bytes ≡ Ok p → TakesPiece room bytes p
 unfolding fragment
 piece_takes room bytes p fits e =
     let len = content_len bytes in
@@ -88,15 +88,15 @@ piece_takes room bytes p fits e =
     let parts : bytes ≡ fragment kind (take len body) ++ drop len body =
     header_parts bytes fits h.header ∙ ap whole (sym (take-append-drop len body)) ∙ ap sums h.sum_is ∙ ap lens (sym len-is) in
     let made : TakesPiece room bytes (piece_is kind (take len body) (drop len body)) = record { parts = parts; rest_fits = IsBytes-drop len body (IsBytes-drop 7 bytes fits); content_le = omega (arith, h.room_le) } in
-    subst (λ (q : Piece). TakesPiece room bytes q) h.piece made
+    subst (λ (q : FragmentReading). TakesPiece room bytes q) h.piece made
 
-pub piece_shorter : (room : ℕ) (bytes : List ℕ) (p : Piece) → piece_at room bytes ≡ Ok p → length p.rest < length bytes
+pub piece_shorter : (room : ℕ) (bytes : List ℕ) (p : FragmentReading) → fragment_reading room bytes ≡ Ok p → length p.rest < length bytes
 piece_shorter room bytes p e =
     let h = piece_by_ok (length bytes) room (content_len bytes) (little_number 4 bytes) (get_or bytes 6 0) (drop 7 bytes) p (sym (piece_at-by room bytes) ∙ e) in
-    omega (arith, h.header, ap (λ (q : Piece). length q.rest) h.piece, length-drop (content_len bytes) (drop 7 bytes), length-drop 7 bytes)
+    omega (arith, h.header, ap (λ (q : FragmentReading). length q.rest) h.piece, length-drop (content_len bytes) (drop 7 bytes), length-drop 7 bytes)
 
 pub piece_again : (room kind : ℕ) (content rest : List ℕ) → length content ≤ room → room < 2 ^ 16
-    → piece_at room (fragment kind content ++ rest) ≡ Ok (record { kind = kind; content = content; rest = rest })
+    → fragment_reading room (fragment kind content ++ rest) ≡ Ok (record { kind = kind; content = content; rest = rest })
 unfolding fragment
 piece_again room kind content rest le fits =
     let total : 7 ≤ length (fragment kind content ++ rest) = omega (arith, length-append (fragment kind content) rest, length-fragment kind content) in

@@ -1,5 +1,5 @@
 -- what contracts rest on
 pub mod Log
-pub mod Reading
+pub mod LogReader
 -- serves proofs alone
 pub mod CodeFragment

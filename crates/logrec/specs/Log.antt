@@ -41,21 +41,21 @@ fragments (suc n) begins room left =
     else fragment (fragment_type begins false) (take room left) ++ fragments n false 32761 (drop room left)
 
 -- what is written for a record at an offset, of which only its place in the block counts
-unfoldable pub written : ℕ → List ℕ → List ℕ
-written offset r = zeros_due offset ++ fragments (length r) true (room_at offset) r
+unfoldable pub written_record : ℕ → List ℕ → List ℕ
+written_record offset r = zeros_due offset ++ fragments (length r) true (room_at offset) r
 
 -- what is written for records one after the other, from an offset on
-abbrev pub written_from : ℕ → List (List ℕ) → List ℕ
-written_from offset [] = []
-written_from offset (r ∷ rs) = written offset r ++ written_from (offset + length (written offset r)) rs
+abbrev pub written_records : ℕ → List (List ℕ) → List ℕ
+written_records offset [] = []
+written_records offset (r ∷ rs) = written_record offset r ++ written_records (offset + length (written_record offset r)) rs
 
 -- the log of records, each written at the length so far
 abbrev pub log : List (List ℕ) → List ℕ
-log rs = written_from 0 rs
+log rs = written_records 0 rs
 
 -- the log of one record more is the log, and then what is written at its length
 abbrev pub AppendLaw : Type 0
-AppendLaw = (rs : List (List ℕ)) (r : List ℕ) → log (rs ++ r ∷ []) ≡ log rs ++ written (length (log rs)) r
+AppendLaw = (rs : List (List ℕ)) (r : List ℕ) → log (rs ++ r ∷ []) ≡ log rs ++ written_record (length (log rs)) r
 
 -- bytes are the log of at most one list of records
 abbrev pub OneListLaw : Type 0

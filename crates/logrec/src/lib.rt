@@ -18,10 +18,10 @@
 #![tactic(auto)]
 
 mod format;
-mod laws;
-mod reading;
-mod writing;
+mod log_format_laws;
+mod log_reader;
+mod log_writer;
 
-pub use laws::log_laws;
-pub use reading::records;
-pub use writing::append;
+pub use log_format_laws::log_laws;
+pub use log_reader::records;
+pub use log_writer::append;

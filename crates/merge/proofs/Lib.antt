@@ -1,5 +1,5 @@
 pub mod Orders
-pub mod Sorting
+pub mod SortedEntries
 pub mod Merges
 pub mod Leasts
 pub mod Tournaments

@@ -6,13 +6,13 @@ use Rattle.std.specs.Cmp.{IsTotalOrder}
 use Rattle.std.specs.Ordering.{is_eq, is_le, ordering_reverse}
 use Rattle.std.specs.declared.cmp.Ordering.{Ordering}
 use Rattle.std.specs.declared.cmp.Ordering.TheVariants.{Less, Equal, Greater}
-use Rattle.block.specs.Piece.{Entry}
+use Rattle.block.specs.EncodedEntry.{Entry}
 use Rattle.ikey.specs.Order.{internal_cmp}
 use Rattle.ikey.proofs.Ordered.{internal_cmp-total}
 use Rattle.table.specs.ReadingCursors.{NeverFalls}
-use Rattle.merge.specs.Merged.{inserted, sorted, joined, merged, has_key, IsMerge}
+use Rattle.merge.specs.Merged.{entries_with, sorted_entries, entries_of_lists, merged, has_key, IsMerge}
 use Rattle.merge.proofs.Orders.{Above, From, all_weaker, above_first}
-use Rattle.merge.proofs.Sorting.{with_first, sorted_never_falls, filter-sorted}
+use Rattle.merge.proofs.SortedEntries.{with_first, sorted_never_falls, filter-sorted}
 
 -- ---- entries of one key
 
@@ -35,10 +35,10 @@ all_of_key cmp key (e ∷ es) = by_test (is_eq (internal_cmp cmp e.key key)) ref
     by_test false is more = more
 
 -- entries of one key are in order
-sorted_of_key : (cmp : List ℕ → List ℕ → Ordering) → IsTotalOrder cmp → (key : List ℕ) (es : List Entry) → AllByRecursion (HasKey cmp key) es → sorted cmp es ≡ es
+sorted_of_key : (cmp : List ℕ → List ℕ → Ordering) → IsTotalOrder cmp → (key : List ℕ) (es : List Entry) → AllByRecursion (HasKey cmp key) es → sorted_entries cmp es ≡ es
 sorted_of_key cmp total key [] h = refl
 sorted_of_key cmp total key (e ∷ es) h =
-    ap (inserted cmp e) (sorted_of_key cmp total key es h.1)
+    ap (entries_with cmp e) (sorted_of_key cmp total key es h.1)
     ∙ with_first cmp total e es (all_weaker (HasKey cmp key) (From cmp e.key) from es h.1)
   where
     laws : IsTotalOrder (internal_cmp cmp)
@@ -49,8 +49,8 @@ sorted_of_key cmp total key (e ∷ es) h =
 
 pub merged_is_merge : (cmp : List ℕ → List ℕ → Ordering) → IsTotalOrder cmp → (lists : List (List Entry)) → IsMerge cmp lists (merged cmp lists)
 merged_is_merge cmp total lists = record {
-  ordered = sorted_never_falls cmp total (joined lists);
-  same = λ key. filter-sorted cmp total (has_key cmp key) (joined lists) ∙ sorted_of_key cmp total key (filter (has_key cmp key) (joined lists)) (all_of_key cmp key (joined lists));
+  ordered = sorted_never_falls cmp total (entries_of_lists lists);
+  same = λ key. filter-sorted cmp total (has_key cmp key) (entries_of_lists lists) ∙ sorted_of_key cmp total key (filter (has_key cmp key) (entries_of_lists lists)) (all_of_key cmp key (entries_of_lists lists));
 }
 
 -- ---- two lists with the same entries of each key

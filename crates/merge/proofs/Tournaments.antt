@@ -12,13 +12,13 @@ use Rattle.std.proofs.Math.Seq.{get_or-append_seam}
 use Rattle.std.proofs.lemmas.Bool.{cases_eq, cases_lt, ltb-true, ltb-false}
 use Rattle.std.proofs.lemmas.List.{get_or_default, nil_from_length, length_push, length-map, map-set}
 use Rattle.std.proofs.lemmas.Option.{same_Some, none-some, slice_get_read, slice_get_within, get_or_from_slice_get}
-use Rattle.block.specs.Piece.{Entry}
+use Rattle.block.specs.EncodedEntry.{Entry}
 use Rattle.ikey.specs.Order.{internal_cmp}
 use Rattle.ikey.proofs.Ordered.{internal_cmp-total}
 use Rattle.table.specs.ReadingCursors.{NeverFalls}
 use Rattle.merge.specs.Merged.{merged}
 use Rattle.merge.specs.Least.{StartsAbove, StartsFrom, IsLeast, IsMerging}
-use Rattle.merge.specs.Tournament.{first_key, comes_first, AreBeside, IsAhead, Beats, IsWinner, IsBracket, IsPlayed, IsMatch, IsAboveBy, IsAbove, IsTournament}
+use Rattle.merge.specs.Tournament.{first_key_at, comes_first, AreBeside, IsAhead, Beats, IsWinner, IsBracket, IsPlayed, IsMatch, IsAboveBy, IsAbove, IsTournament}
 use Rattle.merge.proofs.Orders.{lt_le_trans, never_falls_drop, all_append}
 use Rattle.merge.proofs.Merges.{one_of}
 use Rattle.merge.proofs.Leasts.{at_place, none_without_least, take_next}
@@ -134,11 +134,11 @@ none_long list is = ap length is
 
 module _ (cmp : List ℕ → List ℕ → Ordering) (total : IsTotalOrder cmp) (lists : List (List Entry)) (best other : ℕ) (low : best < length lists) (high : other < length lists) where
   -- a place without a key loses
-  pub best_alone : None ≡ first_key lists other → IsWinner cmp lists best other best
+  pub best_alone : None ≡ first_key_at lists other → IsWinner cmp lists best other best
   best_alone none = wins_of_none cmp total lists best other (get_or lists other []) (stands_at lists other high) (none_long (get_or lists other []) (none_first (get_or lists other []) (sym none)))
 
-  module _ (key : List ℕ) (second : Some key ≡ first_key lists other) where
-    by_order : (best_key : List ℕ) (o : Ordering) (b : Bool) → Some best_key ≡ first_key lists best → internal_cmp cmp best_key key ≡ o → b ≡ match_ordering o false (nat_lt other best) true → IsWinner cmp lists best other (cond b other best)
+  module _ (key : List ℕ) (second : Some key ≡ first_key_at lists other) where
+    by_order : (best_key : List ℕ) (o : Ordering) (b : Bool) → Some best_key ≡ first_key_at lists best → internal_cmp cmp best_key key ≡ o → b ≡ match_ordering o false (nat_lt other best) true → IsWinner cmp lists best other (cond b other best)
     by_order best_key Less true first is test = absurd cc
     by_order best_key Less false first is test = lesser_wins cmp total lists best other (get_or lists best []) (get_or lists other []) best_key key (stands_at lists best low) (stands_at lists other high) (sym first) (sym second) is
     by_order best_key Greater false first is test = absurd cc
@@ -151,14 +151,14 @@ module _ (cmp : List ℕ → List ℕ → Ordering) (total : IsTotalOrder cmp) (
         lower_wins cmp total lists best other (get_or lists best []) (get_or lists other []) best_key key (stands_at lists best low) (stands_at lists other high) (sym first) (sym second) best is (inl refl) (omega arith) (omega arith)
 
     -- the one that comes first wins
-    pub first_wins : (best_key : Option (List ℕ)) (b : Bool) → best_key ≡ first_key lists best → b ≡ comes_first cmp key other best_key best → IsWinner cmp lists best other (cond b other best)
+    pub first_wins : (best_key : Option (List ℕ)) (b : Bool) → best_key ≡ first_key_at lists best → b ≡ comes_first cmp key other best_key best → IsWinner cmp lists best other (cond b other best)
     first_wins None true first test =
         none_wins cmp total lists best other (get_or lists best []) (stands_at lists best low) (none_long (get_or lists best []) (none_first (get_or lists best []) (sym first)))
     first_wins None false first test = absurd cc
     first_wins (Some best_key) b first test = by_order best_key (internal_cmp cmp best_key key) b first refl test
 
 -- the first key of the list that a cursor is seen as
-pub key_is : {X : Type 0} (remaining : X → List Entry) (cursors : List X) (place : ℕ) (cursor : X) → place < length cursors → cursor ≡ get_or cursors place cursor → first_key (map remaining cursors) place ≡ option_map (λ e. e.key) (slice_get (remaining cursor) 0)
+pub key_is : {X : Type 0} (remaining : X → List Entry) (cursors : List X) (place : ℕ) (cursor : X) → place < length cursors → cursor ≡ get_or cursors place cursor → first_key_at (map remaining cursors) place ≡ option_map (λ e. e.key) (slice_get (remaining cursor) 0)
 key_is remaining cursors place cursor within is =
     ap (λ (l : List Entry). option_map (λ e. e.key) (slice_get l 0)) (get_or_from_slice_get (map remaining cursors) place (remaining cursor) [] (at_place remaining cursors place cursor within is))
 

@@ -8,14 +8,14 @@ use Rattle.std.specs.declared.cmp.Ordering.{Ordering}
 use Rattle.std.specs.declared.cmp.Ordering.TheVariants.{Less, Equal, Greater}
 use Rattle.std.proofs.lemmas.List.Sums.{length-filter}
 use Rattle.std.proofs.lemmas.List.Sorted.{IsPermutation-refl, IsPermutation-cons, IsPermutation-middle, IsPermutation-trans, Contains-permutation, sum_by-IsPermutation}
-use Rattle.block.specs.Piece.{Entry}
+use Rattle.block.specs.EncodedEntry.{Entry}
 use Rattle.ikey.specs.Key.{user_of, sequence_of, kind_of, kind_number}
 use Rattle.ikey.specs.Order.{internal_cmp}
 use Rattle.ikey.proofs.Ordered.{internal_cmp-total}
-use Rattle.table.specs.ReadingCursors.{IsRising}
+use Rattle.table.specs.ReadingCursors.{EntriesRise}
 use Rattle.table.proofs.Orders.{rising_never_falls}
-use Rattle.merge.specs.Merged.{inserted, sorted, joined, merged, has_key, IsMerge}
-use Rattle.merge.specs.Union.{version_cmp, VersionsRise, IsUnion}
+use Rattle.merge.specs.Merged.{entries_with, sorted_entries, entries_of_lists, merged, has_key, IsMerge}
+use Rattle.merge.specs.Union.{key_version_cmp, VersionsRise, IsUnion}
 use Rattle.merge.proofs.Orders.{Above, all_weaker}
 use Rattle.merge.proofs.OneMerge.{equal_is, none_above, one_merge}
 
@@ -78,17 +78,17 @@ then_less Equal Less c h = refl
 then_less Equal Equal c h = absurd cc
 then_less Equal Greater c h = absurd cc
 
-version_less : (cmp : List ℕ → List ℕ → Ordering) (a b : List ℕ) → version_cmp cmp a b ≡ Less → internal_cmp cmp a b ≡ Less
+version_less : (cmp : List ℕ → List ℕ → Ordering) (a b : List ℕ) → key_version_cmp cmp a b ≡ Less → internal_cmp cmp a b ≡ Less
 unfolding internal_cmp
 version_less cmp a b h = then_less (cmp (user_of a) (user_of b)) (nat_cmp (sequence_of b) (sequence_of a)) (nat_cmp (kind_number (kind_of b)) (kind_number (kind_of a))) h
 
-versions_rising : (cmp : List ℕ → List ℕ → Ordering) (es : List Entry) → VersionsRise cmp es → IsRising cmp es
+versions_rising : (cmp : List ℕ → List ℕ → Ordering) (es : List Entry) → VersionsRise cmp es → EntriesRise cmp es
 versions_rising cmp [] h = tt
 versions_rising cmp (e ∷ es) h =
-    (all_weaker (λ f. version_cmp cmp e.key f.key ≡ Less) (Above cmp e.key) (λ f less. version_less cmp e.key f.key less) es h.0, versions_rising cmp es h.1)
+    (all_weaker (λ f. key_version_cmp cmp e.key f.key ≡ Less) (Above cmp e.key) (λ f less. version_less cmp e.key f.key less) es h.0, versions_rising cmp es h.1)
 
 -- a key stands at most once where keys rise
-key_once : (cmp : List ℕ → List ℕ → Ordering) → IsTotalOrder cmp → (key : List ℕ) (es : List Entry) → IsRising cmp es → length (filter (has_key cmp key) es) ≤ 1
+key_once : (cmp : List ℕ → List ℕ → Ordering) → IsTotalOrder cmp → (key : List ℕ) (es : List Entry) → EntriesRise cmp es → length (filter (has_key cmp key) es) ≤ 1
 key_once cmp total key [] h = omega arith
 key_once cmp total key (e ∷ es) h = by_test (is_eq (internal_cmp cmp e.key key)) refl (key_once cmp total key es h.1)
   where
@@ -102,19 +102,19 @@ key_once cmp total key (e ∷ es) h = by_test (is_eq (internal_cmp cmp e.key key
 
 -- ---- sorting moves entries only
 
-with_moved : (cmp : List ℕ → List ℕ → Ordering) (e : Entry) (es : List Entry) → IsPermutation (e ∷ es) (inserted cmp e es)
+with_moved : (cmp : List ℕ → List ℕ → Ordering) (e : Entry) (es : List Entry) → IsPermutation (e ∷ es) (entries_with cmp e es)
 with_moved cmp e [] = IsPermutation-refl (e ∷ [])
 with_moved cmp e (f ∷ fs) = by_test (is_lt (internal_cmp cmp f.key e.key)) (with_moved cmp e fs)
   where
-    by_test : (b : Bool) → IsPermutation (e ∷ fs) (inserted cmp e fs) → IsPermutation (e ∷ (f ∷ fs)) (cond b (f ∷ inserted cmp e fs) (e ∷ (f ∷ fs)))
+    by_test : (b : Bool) → IsPermutation (e ∷ fs) (entries_with cmp e fs) → IsPermutation (e ∷ (f ∷ fs)) (cond b (f ∷ entries_with cmp e fs) (e ∷ (f ∷ fs)))
     by_test true more =
-        IsPermutation-trans (e ∷ (f ∷ fs)) (f ∷ (e ∷ fs)) (f ∷ inserted cmp e fs) (IsPermutation-middle (e ∷ []) f fs) (IsPermutation-cons f (e ∷ fs) (inserted cmp e fs) more)
+        IsPermutation-trans (e ∷ (f ∷ fs)) (f ∷ (e ∷ fs)) (f ∷ entries_with cmp e fs) (IsPermutation-middle (e ∷ []) f fs) (IsPermutation-cons f (e ∷ fs) (entries_with cmp e fs) more)
     by_test false more = IsPermutation-refl (e ∷ (f ∷ fs))
 
-sorted_moved : (cmp : List ℕ → List ℕ → Ordering) (es : List Entry) → IsPermutation es (sorted cmp es)
+sorted_moved : (cmp : List ℕ → List ℕ → Ordering) (es : List Entry) → IsPermutation es (sorted_entries cmp es)
 sorted_moved cmp [] = IsPermutation-refl []
 sorted_moved cmp (e ∷ es) =
-    IsPermutation-trans (e ∷ es) (e ∷ sorted cmp es) (inserted cmp e (sorted cmp es)) (IsPermutation-cons e es (sorted cmp es) (sorted_moved cmp es)) (with_moved cmp e (sorted cmp es))
+    IsPermutation-trans (e ∷ es) (e ∷ sorted_entries cmp es) (entries_with cmp e (sorted_entries cmp es)) (IsPermutation-cons e es (sorted_entries cmp es) (sorted_moved cmp es)) (with_moved cmp e (sorted_entries cmp es))
 
 -- ---- the law
 
@@ -123,11 +123,11 @@ union_is_merge cmp total inputs union u =
     let rises = versions_rising cmp union u.rising in
     record {
       ordered = rising_never_falls cmp union rises;
-      same = λ key. sym (filter_moved (has_key cmp key) (joined inputs) union u.same (key_once cmp total key union rises));
+      same = λ key. sym (filter_moved (has_key cmp key) (entries_of_lists inputs) union u.same (key_once cmp total key union rises));
     }
 
 pub union_is_merged : (cmp : List ℕ → List ℕ → Ordering) → IsTotalOrder cmp → (inputs : List (List Entry)) (union : List Entry) → IsUnion cmp inputs union ↔ ((union ≡ merged cmp inputs) × VersionsRise cmp union)
 union_is_merged cmp total inputs union = (
   λ u. (one_merge cmp total inputs union (union_is_merge cmp total inputs union u), u.rising),
-  λ h. record { rising = h.1; same = subst (IsPermutation (joined inputs)) (sym h.0) (sorted_moved cmp (joined inputs)) },
+  λ h. record { rising = h.1; same = subst (IsPermutation (entries_of_lists inputs)) (sym h.0) (sorted_moved cmp (entries_of_lists inputs)) },
 )

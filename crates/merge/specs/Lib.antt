@@ -2,6 +2,6 @@
 pub mod Merged
 pub mod Union
 pub mod Least
-pub mod Seeking
+pub mod Seeks
 -- serves proofs alone
 pub mod Tournament

@@ -5,7 +5,7 @@ use Rattle.std.specs.Option.{option_map}
 use Rattle.std.specs.List.{AllByRecursion}
 use Rattle.std.specs.declared.cmp.Ordering.{Ordering}
 use Rattle.std.specs.declared.cmp.Ordering.TheVariants.{Less, Equal}
-use Rattle.block.specs.Piece.{Entry}
+use Rattle.block.specs.EncodedEntry.{Entry}
 use Rattle.ikey.specs.Order.{internal_cmp}
 use Rattle.table.specs.ReadingCursors.{NeverFalls}
 
@@ -27,8 +27,8 @@ pub record IsWinner (cmp : List ℕ → List ℕ → Ordering) (lists : List (Li
   pub over_other : Beats cmp lists winner other
 
 -- the key of the first entry of the list at a place; None if it has no entry
-abbrev pub first_key : List (List Entry) → ℕ → Option (List ℕ)
-first_key lists place = option_map (λ e. e.key) (slice_get (slice_index_or lists place []) 0)
+abbrev pub first_key_at : List (List Entry) → ℕ → Option (List ℕ)
+first_key_at lists place = option_map (λ e. e.key) (slice_get (slice_index_or lists place []) 0)
 
 -- whether a key at a place comes before best at another place; if there is no best, it does
 abbrev pub comes_first : (List ℕ → List ℕ → Ordering) → List ℕ → ℕ → Option (List ℕ) → ℕ → Bool

@@ -15,11 +15,11 @@
 //! No contract says what a step costs: it plays one path of a tournament, one match a round.
 #![tactic(auto)]
 
-mod laws;
 mod least;
-mod merging;
+mod merging_cursor;
 mod tournament;
+mod union_laws;
 
-pub use laws::{merge_law, union_law};
 pub use least::least_place;
-pub use merging::Merging;
+pub use merging_cursor::Merging;
+pub use union_laws::{merge_law, union_law};

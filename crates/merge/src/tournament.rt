@@ -17,7 +17,7 @@ ghost use Rattle.coding.specs.declared.fault.FaultName.TheVariants.{Memory};
 ghost use Rattle.table.specs.ReadingCursors.{NeverFalls};
 ghost use Rattle.merge.specs.Least.{IsMerging};
 ghost use Rattle.merge.specs.Merged.{merged};
-ghost use Rattle.merge.specs.Tournament.{first_key, comes_first, AreBeside, IsWinner, IsBracket, IsPlayed, IsMatch, IsAbove, IsTournament};
+ghost use Rattle.merge.specs.Tournament.{first_key_at, comes_first, AreBeside, IsWinner, IsBracket, IsPlayed, IsMatch, IsAbove, IsTournament};
 
 use coding::Fault;
 use ikey::{Comparator, InternalKey};
@@ -90,7 +90,7 @@ fn key_at<'a, 'c, C: Comparator, S: Cursor<'c, C>>(
     place: usize,
 ) -> Option<InternalKey<'a>>
     requires { place < length cursors.now }
-    ensures { option_map (λ key. key.bytes.now) result ≡ first_key (map S.remaining cursors.now) place }
+    ensures { option_map (λ key. key.bytes.now) result ≡ first_key_at (map S.remaining cursors.now) place }
 {
     let cursor = &cursors[place];
     if !cursor.valid() {

@@ -2,4 +2,4 @@ mod TestedLists
 mod Unions
 mod Repeats
 mod RangeUnions
-mod Answering
+mod FileAnswers

@@ -15,18 +15,18 @@ use Rattle.coding.specs.Answers.{fault, ◌>>=◌}
 use Rattle.coding.specs.declared.fault.Fault.{Fault}
 use Rattle.coding.specs.declared.fault.FaultName.TheVariants.{Duplicate}
 use Rattle.coding.proofs.Binds.{bind_ok, ok_is, done}
-use Rattle.block.specs.Piece.{Entry}
+use Rattle.block.specs.EncodedEntry.{Entry}
 use Rattle.ikey.specs.Bytewise.{bytewise_cmp}
 use Rattle.ikey.specs.Key.{user_of, sequence_of, kind_of, kind_number}
 use Rattle.ikey.specs.Order.{internal_cmp}
 use Rattle.std.proofs.lemmas.Cmp.{nat_list_cmp_total}
 use Rattle.table.specs.ReadingCursors.{NeverFalls}
-use Rattle.merge.specs.Merged.{inserted, sorted, joined, merged}
+use Rattle.merge.specs.Merged.{entries_with, sorted_entries, entries_of_lists, merged}
 use Rattle.merge.specs.Union.{VersionsRise}
-use Rattle.merge.proofs.Sorting.{sorted_never_falls, all_sorted}
-use Rattle.pairing.specs.Merging.{tested_entries, is_behind, distinct_after, union_of, IsLimited}
+use Rattle.merge.proofs.SortedEntries.{sorted_never_falls, all_sorted}
+use Rattle.pairing.specs.TestedUnion.{tested_entries, is_behind, distinct_after, union_of, IsLimited}
 use Rattle.pairing.specs.Repeats.{HasRepeat}
-use Rattle.pairing.specs.Testing.{last_key}
+use Rattle.pairing.specs.EntryTests.{last_key_or}
 use Rattle.pairing.specs.declared.tested.TestedEntry.{TestedEntry}
 use Rattle.pairing.proofs.TestedLists.{with_front, regroup, last_key-push}
 use Rattle.pairing.proofs.Unions.{version_total, all_append, all_weaker, guard, Below}
@@ -34,25 +34,25 @@ use Rattle.pairing.proofs.Repeats.{version, times-cons, repeat_moved}
 
 -- ---- a merge moves entries only
 
-with_moved : (e : Entry) (es : List Entry) → IsPermutation (e ∷ es) (inserted bytewise_cmp e es)
+with_moved : (e : Entry) (es : List Entry) → IsPermutation (e ∷ es) (entries_with bytewise_cmp e es)
 with_moved e [] = IsPermutation-refl (e ∷ [])
 with_moved e (f ∷ fs) = by_test (is_lt (internal_cmp bytewise_cmp f.key e.key)) (with_moved e fs)
   where
-    by_test : (b : Bool) → IsPermutation (e ∷ fs) (inserted bytewise_cmp e fs) → IsPermutation (e ∷ (f ∷ fs)) (cond b (f ∷ inserted bytewise_cmp e fs) (e ∷ (f ∷ fs)))
+    by_test : (b : Bool) → IsPermutation (e ∷ fs) (entries_with bytewise_cmp e fs) → IsPermutation (e ∷ (f ∷ fs)) (cond b (f ∷ entries_with bytewise_cmp e fs) (e ∷ (f ∷ fs)))
     by_test true more =
-        IsPermutation-trans (e ∷ (f ∷ fs)) (f ∷ (e ∷ fs)) (f ∷ inserted bytewise_cmp e fs) (IsPermutation-middle (e ∷ []) f fs) (IsPermutation-cons f (e ∷ fs) (inserted bytewise_cmp e fs) more)
+        IsPermutation-trans (e ∷ (f ∷ fs)) (f ∷ (e ∷ fs)) (f ∷ entries_with bytewise_cmp e fs) (IsPermutation-middle (e ∷ []) f fs) (IsPermutation-cons f (e ∷ fs) (entries_with bytewise_cmp e fs) more)
     by_test false more = IsPermutation-refl (e ∷ (f ∷ fs))
 
-sorted_moved : (es : List Entry) → IsPermutation es (sorted bytewise_cmp es)
+sorted_moved : (es : List Entry) → IsPermutation es (sorted_entries bytewise_cmp es)
 sorted_moved [] = IsPermutation-refl []
 sorted_moved (e ∷ es) =
-    IsPermutation-trans (e ∷ es) (e ∷ sorted bytewise_cmp es) (inserted bytewise_cmp e (sorted bytewise_cmp es)) (IsPermutation-cons e es (sorted bytewise_cmp es) (sorted_moved es)) (with_moved e (sorted bytewise_cmp es))
+    IsPermutation-trans (e ∷ es) (e ∷ sorted_entries bytewise_cmp es) (entries_with bytewise_cmp e (sorted_entries bytewise_cmp es)) (IsPermutation-cons e es (sorted_entries bytewise_cmp es) (sorted_moved es)) (with_moved e (sorted_entries bytewise_cmp es))
 
-whole : (a b : List Entry) → joined (a ∷ b ∷ []) ≡ a ++ b
+whole : (a b : List Entry) → entries_of_lists (a ∷ b ∷ []) ≡ a ++ b
 whole a b = ap (λ (t : List Entry). a ++ t) (append-nil b)
 
 merged_moved : (a b : List Entry) → IsPermutation (a ++ b) (merged bytewise_cmp (a ∷ b ∷ []))
-merged_moved a b = subst (λ (t : List Entry). IsPermutation t (merged bytewise_cmp (a ∷ b ∷ []))) (whole a b) (sorted_moved (joined (a ∷ b ∷ [])))
+merged_moved a b = subst (λ (t : List Entry). IsPermutation t (merged bytewise_cmp (a ∷ b ∷ []))) (whole a b) (sorted_moved (entries_of_lists (a ∷ b ∷ [])))
 
 -- ---- what is accepted
 
@@ -147,7 +147,7 @@ refused (e ∷ es) f falls h = refused_behind e es f falls (bind_err (distinct_a
 -- where a range is refused, a version stands twice in it
 pub union_refused_for : (a b : List Entry) (f : Fault) → union_of (a ∷ b ∷ []) ≡ Err f → (f ≡ fault Duplicate) × HasRepeat (a ++ b)
 union_refused_for a b f h =
-    let found = refused (merged bytewise_cmp (a ∷ b ∷ [])) f (sorted_never_falls bytewise_cmp nat_list_cmp_total (joined (a ∷ b ∷ []))) h in
+    let found = refused (merged bytewise_cmp (a ∷ b ∷ [])) f (sorted_never_falls bytewise_cmp nat_list_cmp_total (entries_of_lists (a ∷ b ∷ []))) h in
     (found.0, repeat_moved (a ++ b) (merged bytewise_cmp (a ∷ b ∷ [])) (merged_moved a b) found.1)
 
 -- ---- entry by entry
@@ -159,20 +159,20 @@ step : (t : Bool) (before : Option (List ℕ)) (q rest : List Entry) (e : Entry)
 step t before q rest e first is =
     ap (distinct_after before) first ∙ ap (λ (b : Bool). cond b (distinct_after (Some e.key) rest >>= λ others. Ok (e ∷ others)) (Err (fault Duplicate))) is
 
-pub goes_on_behind : (front q : List Entry) (key value : List ℕ) (total : Result (List Entry) Fault) → q ≡ record { key = key; value = value } ∷ drop 1 q → is_behind (last_key None front) key ≡ true
-    → with_front front (distinct_after (last_key None front) q) ≡ total → with_front (front ++ record { key = key; value = value } ∷ []) (distinct_after (last_key None (front ++ record { key = key; value = value } ∷ [])) (drop 1 q)) ≡ total
+pub goes_on_behind : (front q : List Entry) (key value : List ℕ) (total : Result (List Entry) Fault) → q ≡ record { key = key; value = value } ∷ drop 1 q → is_behind (last_key_or None front) key ≡ true
+    → with_front front (distinct_after (last_key_or None front) q) ≡ total → with_front (front ++ record { key = key; value = value } ∷ []) (distinct_after (last_key_or None (front ++ record { key = key; value = value } ∷ [])) (drop 1 q)) ≡ total
 goes_on_behind front q key value total first is so_far =
     ap (λ (b : Option (List ℕ)). with_front (front ++ entry key value ∷ []) (distinct_after b (drop 1 q))) (last_key-push None front (entry key value))
-    ∙ sym (regroup front (entry key value) (distinct_after (Some key) (drop 1 q))) ∙ sym (ap (with_front front) (step true (last_key None front) q (drop 1 q) (entry key value) first is)) ∙ so_far
+    ∙ sym (regroup front (entry key value) (distinct_after (Some key) (drop 1 q))) ∙ sym (ap (with_front front) (step true (last_key_or None front) q (drop 1 q) (entry key value) first is)) ∙ so_far
 
-pub ends_behind : (front q : List Entry) (key : List ℕ) (total : Result (List Entry) Fault) → option_map (λ e. e.key) (slice_get q 0) ≡ Some key → is_behind (last_key None front) key ≡ false
-    → with_front front (distinct_after (last_key None front) q) ≡ total → total ≡ Err (fault Duplicate)
+pub ends_behind : (front q : List Entry) (key : List ℕ) (total : Result (List Entry) Fault) → option_map (λ e. e.key) (slice_get q 0) ≡ Some key → is_behind (last_key_or None front) key ≡ false
+    → with_front front (distinct_after (last_key_or None front) q) ≡ total → total ≡ Err (fault Duplicate)
 ends_behind front [] key total first is so_far = absurd (none-some key first)
 ends_behind front (e ∷ q) key total first is so_far =
-    let here : is_behind (last_key None front) e.key ≡ false = ap (λ (k : List ℕ). is_behind (last_key None front) k) (same_Some e.key key first) ∙ is in
-    sym so_far ∙ ap (with_front front) (step false (last_key None front) (e ∷ q) q e refl here)
+    let here : is_behind (last_key_or None front) e.key ≡ false = ap (λ (k : List ℕ). is_behind (last_key_or None front) k) (same_Some e.key key first) ∙ is in
+    sym so_far ∙ ap (with_front front) (step false (last_key_or None front) (e ∷ q) q e refl here)
 
-pub is_done_behind : (front q : List Entry) (total : Result (List Entry) Fault) → length q ≡ 0 → with_front front (distinct_after (last_key None front) q) ≡ total → total ≡ Ok front
+pub is_done_behind : (front q : List Entry) (total : Result (List Entry) Fault) → length q ≡ 0 → with_front front (distinct_after (last_key_or None front) q) ≡ total → total ≡ Ok front
 is_done_behind front [] total none so_far = sym so_far ∙ ap (λ (es : List Entry). Ok es) (append-nil front)
 is_done_behind front (e ∷ q) total none so_far = absurd (omega arith)
 
@@ -184,9 +184,9 @@ front_none (Err e) = refl
 pub begins_with : (lists items self : List (List Entry)) → done self ≡ done items → done (map (λ (list : List Entry). list) items) ≡ done lists → lists ≡ self
 begins_with lists items self all taken = sym (ok_is (map (λ (list : List Entry). list) items) lists taken) ∙ map-id items ∙ sym (ok_is self items all)
 
-pub begins_behind : (run : List TestedEntry) (lists self : List (List Entry)) → run ≡ [] → lists ≡ self → with_front (tested_entries run) (distinct_after (last_key None (tested_entries run)) (merged bytewise_cmp lists)) ≡ union_of self
+pub begins_behind : (run : List TestedEntry) (lists self : List (List Entry)) → run ≡ [] → lists ≡ self → with_front (tested_entries run) (distinct_after (last_key_or None (tested_entries run)) (merged bytewise_cmp lists)) ≡ union_of self
 begins_behind run lists self none is =
-    ap (λ (r : List TestedEntry). with_front (tested_entries r) (distinct_after (last_key None (tested_entries r)) (merged bytewise_cmp lists))) none
+    ap (λ (r : List TestedEntry). with_front (tested_entries r) (distinct_after (last_key_or None (tested_entries r)) (merged bytewise_cmp lists))) none
     ∙ front_none (distinct_after None (merged bytewise_cmp lists)) ∙ ap (λ (ls : List (List Entry)). union_of ls) is
 
 -- ---- lengths of values
@@ -195,12 +195,12 @@ tested_limited : (ts : List TestedEntry) → AllByRecursion IsLimited (tested_en
 tested_limited [] = tt
 tested_limited (t ∷ ts) = (t.limited, tested_limited ts)
 
-pub joined_limited : (xs ys : List TestedEntry) → AllByRecursion IsLimited (joined (tested_entries xs ∷ tested_entries ys ∷ []))
+pub joined_limited : (xs ys : List TestedEntry) → AllByRecursion IsLimited (entries_of_lists (tested_entries xs ∷ tested_entries ys ∷ []))
 joined_limited xs ys =
     subst (AllByRecursion IsLimited) (sym (whole (tested_entries xs) (tested_entries ys))) (all_append IsLimited (tested_entries xs) (tested_entries ys) (tested_limited xs) (tested_limited ys))
 
-pub merged_limited : (lists self : List (List Entry)) → lists ≡ self → AllByRecursion IsLimited (joined self) → AllByRecursion IsLimited (merged bytewise_cmp lists)
-merged_limited lists self is each = subst (λ (ls : List (List Entry)). AllByRecursion IsLimited (merged bytewise_cmp ls)) (sym is) (all_sorted IsLimited bytewise_cmp (joined self) each)
+pub merged_limited : (lists self : List (List Entry)) → lists ≡ self → AllByRecursion IsLimited (entries_of_lists self) → AllByRecursion IsLimited (merged bytewise_cmp lists)
+merged_limited lists self is each = subst (λ (ls : List (List Entry)). AllByRecursion IsLimited (merged bytewise_cmp ls)) (sym is) (all_sorted IsLimited bytewise_cmp (entries_of_lists self) each)
 
 -- the first of limited entries, and the others
 pub first_limited : (q : List Entry) (value : List ℕ) → option_map (λ e. e.value) (slice_get q 0) ≡ Some value → AllByRecursion IsLimited q → length value ≤ 16777215

@@ -8,48 +8,48 @@ use Rattle.std.specs.declared.cmp.Ordering.TheVariants.{Less, Equal, Greater}
 use Rattle.std.proofs.lemmas.List.{append-nil}
 use Rattle.std.proofs.lemmas.List.Sums.{sum_by-append, sum_by-cons}
 use Rattle.std.proofs.lemmas.List.Sorted.{sum_by-IsPermutation}
-use Rattle.block.specs.Piece.{Entry}
+use Rattle.block.specs.EncodedEntry.{Entry}
 use Rattle.ikey.specs.Bytewise.{bytewise_cmp}
-use Rattle.merge.specs.Union.{version_cmp, IsUnion, VersionsRise}
-use Rattle.pairing.specs.Repeats.{has_version, times, HasRepeat}
+use Rattle.merge.specs.Union.{key_version_cmp, IsUnion, VersionsRise}
+use Rattle.pairing.specs.Repeats.{has_version, version_count, HasRepeat}
 use Rattle.pairing.proofs.Unions.{version_total}
 
 abbrev pub version : List ℕ → List ℕ → Ordering
-version = version_cmp bytewise_cmp
+version = key_version_cmp bytewise_cmp
 
 -- ---- how often a version stands
 
-times-append : (key : List ℕ) (xs ys : List Entry) → times key (xs ++ ys) ≡ times key xs + times key ys
+times-append : (key : List ℕ) (xs ys : List Entry) → version_count key (xs ++ ys) ≡ version_count key xs + version_count key ys
 times-append key xs ys = sum_by-append (λ e. cond (has_version key e) 1 0) xs ys
 
-pub times-cons : (key : List ℕ) (e : Entry) (es : List Entry) → times key (e ∷ es) ≡ cond (has_version key e) 1 0 + times key es
+pub times-cons : (key : List ℕ) (e : Entry) (es : List Entry) → version_count key (e ∷ es) ≡ cond (has_version key e) 1 0 + version_count key es
 times-cons key e es = sum_by-cons (λ e. cond (has_version key e) 1 0) e es
 
-pub times-moved : (key : List ℕ) (xs ys : List Entry) → IsPermutation xs ys → times key ys ≡ times key xs
+pub times-moved : (key : List ℕ) (xs ys : List Entry) → IsPermutation xs ys → version_count key ys ≡ version_count key xs
 times-moved key xs ys h = sum_by-IsPermutation (λ e. cond (has_version key e) 1 0) xs ys h
 
 -- two versions of one third are one
 same_version : (a b key : List ℕ) → version a key ≡ Equal → version b key ≡ Equal → version a b ≡ Equal
 same_version a b key p q = version_total.congr a key b p ∙ (version_total.antisymm key b ∙ ap ordering_reverse q)
 
-none_behind : (e : Entry) (key : List ℕ) (es : List Entry) → version e.key key ≡ Equal → AllByRecursion (λ f. version e.key f.key ≡ Less) es → times key es ≡ 0
+none_behind : (e : Entry) (key : List ℕ) (es : List Entry) → version e.key key ≡ Equal → AllByRecursion (λ f. version e.key f.key ≡ Less) es → version_count key es ≡ 0
 none_behind e key [] p each = refl
 none_behind e key (f ∷ es) p each = times-cons key f es ∙ by_order (version f.key key) refl (none_behind e key es p each.1)
   where
-    by_order : (o : Ordering) → version f.key key ≡ o → times key es ≡ 0 → cond (has_version key f) 1 0 + times key es ≡ 0
+    by_order : (o : Ordering) → version f.key key ≡ o → version_count key es ≡ 0 → cond (has_version key f) 1 0 + version_count key es ≡ 0
     by_order Less q rest = rw q (omega (arith, rest))
     by_order Greater q rest = rw q (omega (arith, rest))
     by_order Equal q rest = let same : version e.key f.key ≡ Equal = same_version e.key f.key key p q in absurd (let bad : Equal ≡ Less = sym same ∙ each.0 in cc)
 
 -- in a rising list each version stands once at most
-pub rising_once : (key : List ℕ) (es : List Entry) → VersionsRise bytewise_cmp es → times key es ≤ 1
+pub rising_once : (key : List ℕ) (es : List Entry) → VersionsRise bytewise_cmp es → version_count key es ≤ 1
 rising_once key [] rising = omega arith
 rising_once key (e ∷ es) rising = by_order (version e.key key) refl (rising_once key es rising.1)
   where
-    by_order : (o : Ordering) → version e.key key ≡ o → times key es ≤ 1 → times key (e ∷ es) ≤ 1
-    by_order Less q rest = let one : times key (e ∷ es) ≡ 0 + times key es = rw (times-cons key e es, q) refl in omega (arith, one, rest)
-    by_order Greater q rest = let one : times key (e ∷ es) ≡ 0 + times key es = rw (times-cons key e es, q) refl in omega (arith, one, rest)
-    by_order Equal q rest = let one : times key (e ∷ es) ≡ 1 + times key es = rw (times-cons key e es, q) refl in omega (arith, one, none_behind e key es q rising.0)
+    by_order : (o : Ordering) → version e.key key ≡ o → version_count key es ≤ 1 → version_count key (e ∷ es) ≤ 1
+    by_order Less q rest = let one : version_count key (e ∷ es) ≡ 0 + version_count key es = rw (times-cons key e es, q) refl in omega (arith, one, rest)
+    by_order Greater q rest = let one : version_count key (e ∷ es) ≡ 0 + version_count key es = rw (times-cons key e es, q) refl in omega (arith, one, rest)
+    by_order Equal q rest = let one : version_count key (e ∷ es) ≡ 1 + version_count key es = rw (times-cons key e es, q) refl in omega (arith, one, none_behind e key es q rising.0)
 
 -- where a version stands twice there is no union
 pub no_union : (a b u : List Entry) → HasRepeat (a ++ b) → IsUnion bytewise_cmp (a ∷ b ∷ []) u → ⊥

@@ -11,16 +11,16 @@ use Rattle.coding.specs.declared.fault.FaultName.TheVariants.{Key, TooLarge, Ord
 use Rattle.ikey.specs.Key.{tag_of, internal_key_reading}
 use Rattle.std.specs.Prelude.{IfOk}
 use Rattle.std.specs.Global.{Vec}
-use Rattle.block.specs.Piece.{Entry, IsBlock}
-use Rattle.pairing.specs.Merging.{tested_entries}
+use Rattle.block.specs.EncodedEntry.{Entry, IsBlock}
+use Rattle.pairing.specs.TestedUnion.{tested_entries}
 use Rattle.pairing.specs.declared.tested.TestedEntry.{TestedEntry}
-use Rattle.pairing.specs.Testing.{entry_test, is_above, tested_after, last_key}
+use Rattle.pairing.specs.EntryTests.{file_entry_test, is_above_bytewise, tested_after, last_key_or}
 
 -- what was tested before, and what is still tested
 abbrev pub with_front : List Entry → Result (List Entry) Fault → Result (List Entry) Fault
 with_front front tested = tested >>= λ es. Ok (front ++ es)
 
-pub last_key-push : (before : Option (List ℕ)) (es : List Entry) (e : Entry) → last_key before (es ++ e ∷ []) ≡ Some e.key
+pub last_key-push : (before : Option (List ℕ)) (es : List Entry) (e : Entry) → last_key_or before (es ++ e ∷ []) ≡ Some e.key
 last_key-push before [] e = refl
 last_key-push before (x ∷ es) e = last_key-push (Some x.key) es e
 
@@ -34,24 +34,24 @@ first_entry [] key value k v = absurd (none-some key k)
 first_entry (e ∷ q) key value k v =
     ap (λ (x : List ℕ). record { key = x; value = e.value } ∷ q) (same_Some _ _ k) ∙ ap (λ (x : List ℕ). record { key = key; value = x } ∷ q) (same_Some _ _ v)
 
-pub goes_on : (front q : List Entry) (key value internal : List ℕ) (total : Result (List Entry) Fault) → q ≡ record { key = key; value = value } ∷ drop 1 q → Ok internal ≡ entry_test (last_key None front) key value
-    → with_front front (tested_after (last_key None front) q) ≡ total → with_front (front ++ record { key = key; value = value } ∷ []) (tested_after (last_key None (front ++ record { key = key; value = value } ∷ [])) (drop 1 q)) ≡ total
+pub goes_on : (front q : List Entry) (key value internal : List ℕ) (total : Result (List Entry) Fault) → q ≡ record { key = key; value = value } ∷ drop 1 q → Ok internal ≡ file_entry_test (last_key_or None front) key value
+    → with_front front (tested_after (last_key_or None front) q) ≡ total → with_front (front ++ record { key = key; value = value } ∷ []) (tested_after (last_key_or None (front ++ record { key = key; value = value } ∷ [])) (drop 1 q)) ≡ total
 goes_on front q key value internal total first passed so_far =
     let e : Entry = record { key = key; value = value } in
-    let one : tested_after (last_key None front) q ≡ (tested_after (Some key) (drop 1 q) >>= λ es. Ok (e ∷ es)) =
-    ap (tested_after (last_key None front)) first ∙ ap (λ (r : Result (List ℕ) Fault). r >>= λ k. tested_after (Some key) (drop 1 q) >>= λ es. Ok (e ∷ es)) (sym passed) in
+    let one : tested_after (last_key_or None front) q ≡ (tested_after (Some key) (drop 1 q) >>= λ es. Ok (e ∷ es)) =
+    ap (tested_after (last_key_or None front)) first ∙ ap (λ (r : Result (List ℕ) Fault). r >>= λ k. tested_after (Some key) (drop 1 q) >>= λ es. Ok (e ∷ es)) (sym passed) in
     ap (λ (b : Option (List ℕ)). with_front (front ++ e ∷ []) (tested_after b (drop 1 q))) (last_key-push None front e)
     ∙ sym (regroup front e (tested_after (Some key) (drop 1 q))) ∙ sym (ap (with_front front) one) ∙ so_far
 
-pub ends : (front q : List Entry) (key value : List ℕ) (f : Fault) (total : Result (List Entry) Fault) → q ≡ record { key = key; value = value } ∷ drop 1 q → Err f ≡ entry_test (last_key None front) key value
-    → with_front front (tested_after (last_key None front) q) ≡ total → total ≡ Err f
+pub ends : (front q : List Entry) (key value : List ℕ) (f : Fault) (total : Result (List Entry) Fault) → q ≡ record { key = key; value = value } ∷ drop 1 q → Err f ≡ file_entry_test (last_key_or None front) key value
+    → with_front front (tested_after (last_key_or None front) q) ≡ total → total ≡ Err f
 ends front q key value f total first failed so_far =
     let e : Entry = record { key = key; value = value } in
-    let one : tested_after (last_key None front) q ≡ Err f =
-    ap (tested_after (last_key None front)) first ∙ ap (λ (r : Result (List ℕ) Fault). r >>= λ k. tested_after (Some key) (drop 1 q) >>= λ es. Ok (e ∷ es)) (sym failed) in
+    let one : tested_after (last_key_or None front) q ≡ Err f =
+    ap (tested_after (last_key_or None front)) first ∙ ap (λ (r : Result (List ℕ) Fault). r >>= λ k. tested_after (Some key) (drop 1 q) >>= λ es. Ok (e ∷ es)) (sym failed) in
     sym so_far ∙ ap (with_front front) one
 
-pub is_done : (front q : List Entry) (total : Result (List Entry) Fault) → length q ≡ 0 → with_front front (tested_after (last_key None front) q) ≡ total → total ≡ Ok front
+pub is_done : (front q : List Entry) (total : Result (List Entry) Fault) → length q ≡ 0 → with_front front (tested_after (last_key_or None front) q) ≡ total → total ≡ Ok front
 is_done front [] total none so_far = sym so_far ∙ ap (λ (es : List Entry). Ok es) (append-nil front)
 is_done front (e ∷ q) total none so_far = absurd (omega arith)
 
@@ -62,14 +62,14 @@ get_or-cons t ts d some =
     ap (λ (i : ℕ). get_or (t ∷ ts) i d) n
 
 -- the last of tested entries
-pub last_key-tested_entries : (before : Option (List ℕ)) (ts : List TestedEntry) (d : TestedEntry) → 0 < length ts → last_key before (tested_entries ts) ≡ Some (get_or ts (length ts - 1) d).key
+pub last_key-tested_entries : (before : Option (List ℕ)) (ts : List TestedEntry) (d : TestedEntry) → 0 < length ts → last_key_or before (tested_entries ts) ≡ Some (get_or ts (length ts - 1) d).key
 last_key-tested_entries before [] d some = absurd (omega arith)
 last_key-tested_entries before (t ∷ []) d some = refl
 last_key-tested_entries before (t ∷ u ∷ ts) d some =
     last_key-tested_entries (Some t.key) (u ∷ ts) d (omega arith) ∙ ap (λ (x : TestedEntry). Some x.key) (sym (get_or-cons t (u ∷ ts) d (omega arith)))
 
 -- the same of the last one as a slice gives it
-pub last_key_read : (ts : List TestedEntry) (t : TestedEntry) → Some t ≡ slice_get ts (length ts - 1) → last_key None (tested_entries ts) ≡ Some t.key
+pub last_key_read : (ts : List TestedEntry) (t : TestedEntry) → Some t ≡ slice_get ts (length ts - 1) → last_key_or None (tested_entries ts) ≡ Some t.key
 last_key_read ts t is =
     let within = slice_get_within ts (length ts - 1) t (sym is) in
     last_key-tested_entries None ts t (omega (arith, within)) ∙ ap (λ (x : TestedEntry). Some x.key) (get_or_from_slice_get ts (length ts - 1) t t (sym is))
@@ -78,7 +78,7 @@ last_key_read ts t is =
 pub tested_same : (before : Option (List ℕ)) (q es : List Entry) → tested_after before q ≡ Ok es → q ≡ es
 tested_same before [] es h = ok_is [] es h
 tested_same before (e ∷ q) es h =
-    let a = bind_ok (entry_test before e.key e.value) (λ k. tested_after (Some e.key) q >>= λ xs. Ok (e ∷ xs)) es h in
+    let a = bind_ok (file_entry_test before e.key e.value) (λ k. tested_after (Some e.key) q >>= λ xs. Ok (e ∷ xs)) es h in
     let b = bind_ok (tested_after (Some e.key) q) (λ xs. Ok (e ∷ xs)) es a.2 in
     ap (λ (xs : List Entry). e ∷ xs) (tested_same (Some e.key) q b.0 b.1) ∙ ok_is (e ∷ b.0) es b.2
 
@@ -95,11 +95,11 @@ two false true d e x y h = ok_is x y h
 two false false d e x y h = absurd cc
 
 -- what passes the tests is the key itself
-pub entry_test_same : (before : Option (List ℕ)) (key value internal : List ℕ) → entry_test before key value ≡ Ok internal → key ≡ internal
+pub entry_test_same : (before : Option (List ℕ)) (key value internal : List ℕ) → file_entry_test before key value ≡ Ok internal → key ≡ internal
 entry_test_same before key value internal h =
     let a = bind_ok (internal_key_reading key) _ internal h in
     three (nat_lt (length key) 8) (nat_lt 1 (tag_of key % 256)) (nat_lt (65535 + 8) (length key)) (fault Key) (fault Key) (fault TooLarge) key a.0 a.1
-    ∙ two (nat_lt 16777215 (length value)) (is_above before key) (fault TooLarge) (fault Order) a.0 internal a.2
+    ∙ two (nat_lt 16777215 (length value)) (is_above_bytewise before key) (fault TooLarge) (fault Order) a.0 internal a.2
 
 -- the entries that were tested are those of the block
 pub found_tested : (bytes : List ℕ) (q : List Entry) (r : Result (Vec TestedEntry) Fault) → IsBlock bytes q → EqualOrMemory (λ v. tested_entries v.items) r (tested_after None q) → IfOk r (λ v. IsBlock bytes (tested_entries v.items))

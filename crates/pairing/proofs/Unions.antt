@@ -13,9 +13,9 @@ use Rattle.std.proofs.lemmas.List.{append-nil, drop-map, drop_all}
 use Rattle.std.proofs.lemmas.List.Elements.{recursion_from_All, All-from_recursion}
 use Rattle.std.proofs.lemmas.List.Sorted.{IsPermutation-trans, IsPermutation-append, IsPermutation-append_comm, IsPermutation-append_right, IsPermutation-append_left, All-permutation}
 use Rattle.std.proofs.lemmas.Bool.{lt-leb}
-use Rattle.block.specs.Piece.{Entry}
-use Rattle.block.specs.Writing.{block}
-use Rattle.block.specs.Building.{Building, with_entry}
+use Rattle.block.specs.EncodedEntry.{Entry}
+use Rattle.block.specs.BlockFormat.{block}
+use Rattle.block.specs.BuilderView.{BlockBuilding, with_entry}
 use Rattle.block.proofs.Sizes.{length-block-append, fits_with_entry}
 use Rattle.pairing.specs.Blocks.{block_within}
 use Rattle.ikey.specs.Bytewise.{bytewise_cmp}
@@ -25,18 +25,18 @@ use Rattle.coding.specs.declared.fault.Fault.{Fault}
 use Rattle.coding.specs.declared.fault.FaultName.TheVariants.{TooLarge, Order}
 use Rattle.ikey.specs.Order.{internal_cmp}
 use Rattle.ikey.proofs.Ordered.{internal_cmp-total}
-use Rattle.merge.specs.Union.{version_cmp, IsUnion, VersionsRise}
-use Rattle.table.specs.ReadingCursors.{IsRising, NeverFalls}
+use Rattle.merge.specs.Union.{key_version_cmp, IsUnion, VersionsRise}
+use Rattle.table.specs.ReadingCursors.{EntriesRise, NeverFalls}
 use Rattle.table.proofs.Orders.{rising_never_falls}
 use Rattle.pairing.specs.Ranges.{IsBefore, IsFrom}
-use Rattle.pairing.specs.Merging.{tested_entry, tested_entries}
+use Rattle.pairing.specs.TestedUnion.{tested_entry, tested_entries}
 use Rattle.pairing.specs.declared.tested.TestedEntry.{TestedEntry}
-use Rattle.pairing.specs.Testing.{entry_test, is_above, tested_after}
+use Rattle.pairing.specs.EntryTests.{file_entry_test, is_above_bytewise, tested_after}
 use Rattle.coding.proofs.Binds.{bind_ok}
 use Rattle.pairing.proofs.TestedLists.{tested_same}
 
 -- versions are totally ordered
-pub version_total : IsTotalOrder (version_cmp bytewise_cmp)
+pub version_total : IsTotalOrder (key_version_cmp bytewise_cmp)
 version_total = then_total (on_total user_of nat_list_cmp_total) (on_total sequence_of (back_total nat_cmp_total))
 
 abbrev pub Below : (List ℕ → List ℕ → Ordering) → List ℕ → Entry → Type 0
@@ -54,9 +54,9 @@ pub all_weaker : (P Q : Entry → Type 0) → ((x : Entry) → P x → Q x) → 
 all_weaker P Q f [] h = tt
 all_weaker P Q f (x ∷ xs) h = (f x h.0, all_weaker P Q f xs h.1)
 
-rising_append : (xs ys : List Entry) → VersionsRise bytewise_cmp xs → VersionsRise bytewise_cmp ys → AllByRecursion (λ e. AllByRecursion (λ f. version_cmp bytewise_cmp e.key f.key ≡ Less) ys) xs → VersionsRise bytewise_cmp (xs ++ ys)
+rising_append : (xs ys : List Entry) → VersionsRise bytewise_cmp xs → VersionsRise bytewise_cmp ys → AllByRecursion (λ e. AllByRecursion (λ f. key_version_cmp bytewise_cmp e.key f.key ≡ Less) ys) xs → VersionsRise bytewise_cmp (xs ++ ys)
 rising_append [] ys h q each = q
-rising_append (x ∷ xs) ys h q each = (all_append (Below (version_cmp bytewise_cmp) x.key) xs ys h.0 each.0, rising_append xs ys h.1 q each.1)
+rising_append (x ∷ xs) ys h q each = (all_append (Below (key_version_cmp bytewise_cmp) x.key) xs ys h.0 each.0, rising_append xs ys h.1 q each.1)
 
 -- ---- what passed its tests rises
 
@@ -74,31 +74,31 @@ passed_above false true d e key internal h = refl
 passed_above false false d e key internal h = absurd cc
 
 -- an entry that passed its tests is above the one before
-above_before : (before key value internal : List ℕ) → entry_test (Some before) key value ≡ Ok internal → internal_cmp bytewise_cmp before key ≡ Less
+above_before : (before key value internal : List ℕ) → file_entry_test (Some before) key value ≡ Ok internal → internal_cmp bytewise_cmp before key ≡ Less
 above_before before key value internal h =
     let a = bind_ok (internal_key_reading key) _ internal h in
-    guard (internal_cmp bytewise_cmp before key) (passed_above (nat_lt 16777215 (length value)) (is_above (Some before) key) (fault TooLarge) (fault Order) a.0 internal a.2)
+    guard (internal_cmp bytewise_cmp before key) (passed_above (nat_lt 16777215 (length value)) (is_above_bytewise (Some before) key) (fault TooLarge) (fault Order) a.0 internal a.2)
 
-rising_after : (before : List ℕ) (q es : List Entry) → tested_after (Some before) q ≡ Ok es → AllByRecursion (Below (internal_cmp bytewise_cmp) before) q × IsRising bytewise_cmp q
+rising_after : (before : List ℕ) (q es : List Entry) → tested_after (Some before) q ≡ Ok es → AllByRecursion (Below (internal_cmp bytewise_cmp) before) q × EntriesRise bytewise_cmp q
 rising_after before [] es h = (tt, tt)
 rising_after before (e ∷ q) es h =
-    let a = bind_ok (entry_test (Some before) e.key e.value) (λ k. tested_after (Some e.key) q >>= λ xs. Ok (e ∷ xs)) es h in
+    let a = bind_ok (file_entry_test (Some before) e.key e.value) (λ k. tested_after (Some e.key) q >>= λ xs. Ok (e ∷ xs)) es h in
     let b = bind_ok (tested_after (Some e.key) q) (λ xs. Ok (e ∷ xs)) es a.2 in
     let rest = rising_after e.key q b.0 b.1 in
     let up = above_before before e.key e.value a.0 a.1 in
     ((up, all_weaker (Below (internal_cmp bytewise_cmp) e.key) (Below (internal_cmp bytewise_cmp) before) (λ f g. (internal_cmp-total nat_list_cmp_total).trans before e.key f.key up g) q rest.0), (rest.0, rest.1))
 
-pub tested_rising : (q es : List Entry) → tested_after None q ≡ Ok es → IsRising bytewise_cmp q
+pub tested_rising : (q es : List Entry) → tested_after None q ≡ Ok es → EntriesRise bytewise_cmp q
 tested_rising [] es h = tt
 tested_rising (e ∷ q) es h =
-    let a = bind_ok (entry_test None e.key e.value) (λ k. tested_after (Some e.key) q >>= λ xs. Ok (e ∷ xs)) es h in
+    let a = bind_ok (file_entry_test None e.key e.value) (λ k. tested_after (Some e.key) q >>= λ xs. Ok (e ∷ xs)) es h in
     let b = bind_ok (tested_after (Some e.key) q) (λ xs. Ok (e ∷ xs)) es a.2 in
     let rest = rising_after e.key q b.0 b.1 in
     (rest.0, rest.1)
 
 -- what was tested and accepted rises
-pub rising_tested : (q : List Entry) (r : Result (Vec TestedEntry) Fault) → EqualOrMemory (λ v. tested_entries v.items) r (tested_after None q) → IfOk r (λ v. IsRising bytewise_cmp (tested_entries v.items))
-rising_tested q (Ok v) given = subst (IsRising bytewise_cmp) (tested_same None q (tested_entries v.items) given) (tested_rising q (tested_entries v.items) given)
+pub rising_tested : (q : List Entry) (r : Result (Vec TestedEntry) Fault) → EqualOrMemory (λ v. tested_entries v.items) r (tested_after None q) → IfOk r (λ v. EntriesRise bytewise_cmp (tested_entries v.items))
+rising_tested q (Ok v) given = subst (EntriesRise bytewise_cmp) (tested_same None q (tested_entries v.items) given) (tested_rising q (tested_entries v.items) given)
 rising_tested q (Err e) given = tt
 
 -- ---- a list cut at a key
@@ -134,13 +134,13 @@ from_after at x y from below before =
     by_order Equal e other = from (nat_list_cmp_total.congr (user_of x.key) (user_of y.key) at e ∙ before)
     by_order Greater e other = other refl
 
-from_rest : (at : List ℕ) (q : List Entry) → IsRising bytewise_cmp q → ((e : Entry) (es : List Entry) → q ≡ e ∷ es → IsFrom at e) → AllByRecursion (IsFrom at) q
+from_rest : (at : List ℕ) (q : List Entry) → EntriesRise bytewise_cmp q → ((e : Entry) (es : List Entry) → q ≡ e ∷ es → IsFrom at e) → AllByRecursion (IsFrom at) q
 from_rest at [] rising first = tt
 from_rest at (e ∷ q) rising first =
     let here = first e q refl in
     (here, all_weaker (Below (internal_cmp bytewise_cmp) e.key) (IsFrom at) (λ f g. from_after at e f here g) q rising.0)
 
-rising_drop : (n : ℕ) (q : List Entry) → IsRising bytewise_cmp q → IsRising bytewise_cmp (drop n q)
+rising_drop : (n : ℕ) (q : List Entry) → EntriesRise bytewise_cmp q → EntriesRise bytewise_cmp (drop n q)
 rising_drop zero q h = h
 rising_drop (suc n) [] h = tt
 rising_drop (suc n) (e ∷ q) h = rising_drop n q h.1
@@ -151,26 +151,26 @@ head_of_drop zero (t ∷ ts) e es d h = (omega arith, cc)
 head_of_drop (suc n) [] e es d h = absurd cc
 head_of_drop (suc n) (t ∷ ts) e es d h = let rest = head_of_drop n ts e es d h in (omega (arith, rest.0), rest.1)
 
-pub from_cut : (at : List ℕ) (n : ℕ) (ts : List TestedEntry) → IsRising bytewise_cmp (tested_entries ts) → ((d : TestedEntry) → n < length ts → IsFrom at (tested_entry (get_or ts n d))) → AllByRecursion (IsFrom at) (tested_entries (drop n ts))
+pub from_cut : (at : List ℕ) (n : ℕ) (ts : List TestedEntry) → EntriesRise bytewise_cmp (tested_entries ts) → ((d : TestedEntry) → n < length ts → IsFrom at (tested_entry (get_or ts n d))) → AllByRecursion (IsFrom at) (tested_entries (drop n ts))
 from_cut at n [] rising first = subst (λ (ts : List TestedEntry). AllByRecursion (IsFrom at) (tested_entries ts)) (sym (drop_all n [] (omega arith))) tt
 from_cut at n (t ∷ ts) rising first =
     from_rest at (tested_entries (drop n (t ∷ ts))) (rw (← drop-map tested_entry n (t ∷ ts)) (rising_drop n (tested_entries (t ∷ ts)) rising))
     (λ e es h. let at_place = head_of_drop n (t ∷ ts) e es t h in subst (IsFrom at) at_place.1 (first t at_place.0))
 
 -- both parts of rising entries never fall
-rising_left : (xs ys : List Entry) → IsRising bytewise_cmp (xs ++ ys) → IsRising bytewise_cmp xs
+rising_left : (xs ys : List Entry) → EntriesRise bytewise_cmp (xs ++ ys) → EntriesRise bytewise_cmp xs
 rising_left [] ys h = tt
 rising_left (x ∷ xs) ys h = (all_left (Below (internal_cmp bytewise_cmp) x.key) xs ys h.0, rising_left xs ys h.1)
 
-rising_right : (xs ys : List Entry) → IsRising bytewise_cmp (xs ++ ys) → IsRising bytewise_cmp ys
+rising_right : (xs ys : List Entry) → EntriesRise bytewise_cmp (xs ++ ys) → EntriesRise bytewise_cmp ys
 rising_right [] ys h = h
 rising_right (x ∷ xs) ys h = rising_right xs ys h.1
 
-pub left_never_falls : (q xs ys : List Entry) → q ≡ xs ++ ys → IsRising bytewise_cmp q → NeverFalls bytewise_cmp xs
-left_never_falls q xs ys parts h = rising_never_falls bytewise_cmp xs (rising_left xs ys (subst (IsRising bytewise_cmp) parts h))
+pub left_never_falls : (q xs ys : List Entry) → q ≡ xs ++ ys → EntriesRise bytewise_cmp q → NeverFalls bytewise_cmp xs
+left_never_falls q xs ys parts h = rising_never_falls bytewise_cmp xs (rising_left xs ys (subst (EntriesRise bytewise_cmp) parts h))
 
-pub right_never_falls : (q xs ys : List Entry) → q ≡ xs ++ ys → IsRising bytewise_cmp q → NeverFalls bytewise_cmp ys
-right_never_falls q xs ys parts h = rising_never_falls bytewise_cmp ys (rising_right xs ys (subst (IsRising bytewise_cmp) parts h))
+pub right_never_falls : (q xs ys : List Entry) → q ≡ xs ++ ys → EntriesRise bytewise_cmp q → NeverFalls bytewise_cmp ys
+right_never_falls q xs ys parts h = rising_never_falls bytewise_cmp ys (rising_right xs ys (subst (EntriesRise bytewise_cmp) parts h))
 
 -- ---- two runs joined
 
@@ -178,19 +178,19 @@ All-of : (P : Entry → Type 0) (xs ys : List Entry) → IsPermutation xs ys →
 All-of P xs ys h each = recursion_from_All P ys (All-permutation P xs ys h (All-from_recursion P xs each))
 
 -- a key before the cut and one from it on
-across : (at : List ℕ) (x y : Entry) → IsBefore at x → IsFrom at y → version_cmp bytewise_cmp x.key y.key ≡ Less
+across : (at : List ℕ) (x y : Entry) → IsBefore at x → IsFrom at y → key_version_cmp bytewise_cmp x.key y.key ≡ Less
 across at x y before from = by_order (bytewise_cmp (user_of y.key) (user_of x.key)) refl
   where
-    by_order : (o : Ordering) → bytewise_cmp (user_of y.key) (user_of x.key) ≡ o → version_cmp bytewise_cmp x.key y.key ≡ Less
+    by_order : (o : Ordering) → bytewise_cmp (user_of y.key) (user_of x.key) ≡ o → key_version_cmp bytewise_cmp x.key y.key ≡ Less
     by_order Less e = absurd (from (nat_list_cmp_total.trans (user_of y.key) (user_of x.key) at e before))
     by_order Equal e = absurd (from (nat_list_cmp_total.congr (user_of y.key) (user_of x.key) at e ∙ before))
     by_order Greater e =
         let less : bytewise_cmp (user_of x.key) (user_of y.key) ≡ Less = nat_list_cmp_total.antisymm (user_of x.key) (user_of y.key) ∙ ap ordering_reverse e in
         ap (λ (o : Ordering). ordering_then o (nat_cmp (sequence_of y.key) (sequence_of x.key))) less
 
-all_across : (at : List ℕ) (xs ys : List Entry) → AllByRecursion (IsBefore at) xs → AllByRecursion (IsFrom at) ys → AllByRecursion (λ e. AllByRecursion (Below (version_cmp bytewise_cmp) e.key) ys) xs
+all_across : (at : List ℕ) (xs ys : List Entry) → AllByRecursion (IsBefore at) xs → AllByRecursion (IsFrom at) ys → AllByRecursion (λ e. AllByRecursion (Below (key_version_cmp bytewise_cmp) e.key) ys) xs
 all_across at [] ys before from = tt
-all_across at (x ∷ xs) ys before from = (all_weaker (IsFrom at) (Below (version_cmp bytewise_cmp) x.key) (λ y f. across at x y before.0 f) ys from, all_across at xs ys before.1 from)
+all_across at (x ∷ xs) ys before from = (all_weaker (IsFrom at) (Below (key_version_cmp bytewise_cmp) x.key) (λ y f. across at x y before.0 f) ys from, all_across at xs ys before.1 from)
 
 -- what one file has in the two ranges
 pub record Cut (at : List ℕ) (q below above : List Entry) : Type 0 where
@@ -234,7 +234,7 @@ too_large q es lt =
     rw over refl
 
 -- one more entry within the limits leaves the block within what a builder takes
-pub room : (b : Building) (key value : List ℕ) → b.interval ≡ 16 → length (block 16 b.entries) ≤ 2 ^ 30 → length key ≤ 65535 + 8 → length value ≤ 16777215 → length (block b.interval (with_entry b.entries key value)) ≤ 2 ^ 31
+pub room : (b : BlockBuilding) (key value : List ℕ) → b.interval ≡ 16 → length (block 16 b.entries) ≤ 2 ^ 30 → length key ≤ 65535 + 8 → length value ≤ 16777215 → length (block b.interval (with_entry b.entries key value)) ≤ 2 ^ 31
 room b key value sixteen small k v =
     let same : length (block b.interval b.entries) ≡ length (block 16 b.entries) = ap (λ (n : ℕ). length (block n b.entries)) sixteen in
     fits_with_entry b key value (omega arith)

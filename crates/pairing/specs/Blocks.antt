@@ -3,11 +3,11 @@ use Rattle.std.specs.Prelude.{◌≡◌, ◌⊎◌, ℕ, ◌^◌, nat_le, if◌t
 use Rattle.coding.specs.Answers.{IsThen, fault, ◌>>=◌}
 use Rattle.coding.specs.declared.fault.Fault.{Fault}
 use Rattle.coding.specs.declared.fault.FaultName.TheVariants.{Block, Duplicate, TooLarge}
-use Rattle.block.specs.Piece.{Entry, IsBlock}
-use Rattle.block.specs.Writing.{block}
+use Rattle.block.specs.EncodedEntry.{Entry, IsBlock}
+use Rattle.block.specs.BlockFormat.{block}
 use Rattle.ikey.specs.Bytewise.{bytewise_cmp}
 use Rattle.merge.specs.Union.{IsUnion}
-use Rattle.pairing.specs.Testing.{tested_after}
+use Rattle.pairing.specs.EntryTests.{tested_after}
 
 -- the block of entries at interval 16; TooLarge if it has more than 2 ^ 30 bytes
 abbrev pub block_within : List Entry → Result (List ℕ) Fault
@@ -31,8 +31,8 @@ IsUnionAnswer a b (Ok union) = IsUnion bytewise_cmp (a ∷ b ∷ []) union
 IsUnionAnswer a b (Err e) = ((union : List Entry) → IsUnion bytewise_cmp (a ∷ b ∷ []) union → ⊥) × (e ≡ fault Duplicate)
 
 -- the number of entries, and their block; or TooLarge
-abbrev pub counted : List Entry → Result (ℕ × List ℕ) Fault
-counted union = block_within union >>= λ bytes. Ok (length union, bytes)
+abbrev pub counted_block : List Entry → Result (ℕ × List ℕ) Fault
+counted_block union = block_within union >>= λ bytes. Ok (length union, bytes)
 
 -- What two files answer: A is tested, then B; then their union is taken, and written as a block.
 abbrev pub IsBlocksAnswer : List ℕ → List ℕ → Result (ℕ × List ℕ) Fault → Type 0
@@ -40,7 +40,7 @@ IsBlocksAnswer a b =
     IsThen (IsFileAnswer a) (λ entries_a.
     IsThen (IsFileAnswer b) (λ entries_b.
     IsThen (IsUnionAnswer entries_a entries_b) (λ union answer.
-    answer ≡ counted union)))
+    answer ≡ counted_block union)))
 
 -- Both files read as blocks. The bytes are the block of the union of their entries, and count is
 -- the number of these.

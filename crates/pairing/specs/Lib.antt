@@ -1,7 +1,7 @@
 -- what contracts rest on
-pub mod Testing
+pub mod EntryTests
 pub mod Blocks
 -- serves proofs alone
-pub mod Merging
+pub mod TestedUnion
 pub mod Ranges
 pub mod Repeats

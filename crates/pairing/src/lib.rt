@@ -9,11 +9,11 @@
 //! That both workers run, or how much memory the entries take, no contract says.
 #![tactic(auto)]
 
-mod parting;
+mod entry_checks;
+mod parted_entries;
 mod parts;
 mod tested;
 mod tested_cursor;
-mod testing;
 mod two_blocks;
 mod two_ranges;
 

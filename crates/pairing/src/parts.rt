@@ -3,18 +3,18 @@
 ghost use Rattle.std.specs.Prelude.{◌≡◌, ◌≤◌, ◌++◌, [], ◌∷◌, IfErr, IfOk, None, Ok, OnOk, false, length, true};
 ghost use Rattle.std.specs.List.{AllByRecursion};
 ghost use Rattle.std.specs.Option.{option_map};
-ghost use Rattle.block.specs.Piece.{Entry};
+ghost use Rattle.block.specs.EncodedEntry.{Entry};
 ghost use Rattle.coding.specs.Answers.{EqualOrMemory, UnlessMemory, fault};
 ghost use Rattle.coding.specs.declared.fault.FaultName.TheVariants.{Duplicate};
 ghost use Rattle.ikey.specs.Bytewise.{bytewise_cmp};
 ghost use Rattle.table.specs.ReadingCursors.{NeverFalls};
-ghost use Rattle.merge.specs.Merged.{joined};
-ghost use Rattle.pairing.specs.Merging.{tested_entries, is_behind, union_of, IsLimited};
-ghost use Rattle.pairing.specs.Testing.{last_key};
+ghost use Rattle.merge.specs.Merged.{entries_of_lists};
+ghost use Rattle.pairing.specs.TestedUnion.{tested_entries, is_behind, union_of, IsLimited};
+ghost use Rattle.pairing.specs.EntryTests.{last_key_or};
 
+use crate::entry_checks::{last_of, push_entry};
 use crate::tested::TestedEntry;
 use crate::tested_cursor::TestedCursor;
-use crate::testing::{last_of, push_entry};
 use coding::{Fault, FaultName};
 use ikey::{Bytewise, Comparator, InternalKey};
 use merge::Merging;
@@ -31,10 +31,10 @@ pub(crate) struct Parts<'r, 'a> {
 
 impl<'r, 'a> Model for Parts<'r, 'a> {
     ghost use Rattle.std.specs.Prelude.{List, [], ◌∷◌};
-    ghost use Rattle.block.specs.Piece.{Entry};
+    ghost use Rattle.block.specs.EncodedEntry.{Entry};
     ghost use Rattle.ikey.specs.Bytewise.{bytewise_cmp};
     ghost use Rattle.table.specs.ReadingCursors.{NeverFalls};
-    ghost use Rattle.pairing.specs.Merging.{tested_entries};
+    ghost use Rattle.pairing.specs.TestedUnion.{tested_entries};
 
     ghost Value = { List (List Entry) };
 
@@ -70,7 +70,7 @@ impl<'r, 'a> Parts<'r, 'a> {
     /// A cursor over the entries of each file. The only fault is Memory.
     fn cursors(&self, alloc: Global) -> Result<Vec<TestedCursor<'r, 'a>>, Fault>
         ensures all { EqualOrMemory (λ v. v.items) result (Ok self.now) }
-        ensures limited { IfOk result (λ _. AllByRecursion IsLimited (joined self.now)) }
+        ensures limited { IfOk result (λ _. AllByRecursion IsLimited (entries_of_lists self.now)) }
     {
         let mut cursors = Vec::new(alloc);
         cursors.push(TestedCursor::new(self.a))?;
@@ -88,11 +88,11 @@ fn push_behind<'a>(
     value: &'a [u8],
 ) -> Result<(), Fault>
     requires { length value.now ≤ 16777215 }
-    ensures behind { OnOk result (is_behind (last_key None (tested_entries union.old.items)) key.entry.bytes.now ≡ true) }
+    ensures behind { OnOk result (is_behind (last_key_or None (tested_entries union.old.items)) key.entry.bytes.now ≡ true) }
     ensures ok { let entry : Entry = record { key = key.entry.bytes.now; value = value.now } in
         OnOk result (tested_entries union.new.items ≡ tested_entries union.old.items ++ entry ∷ []) }
     ensures refused { IfErr result (λ e. UnlessMemory e
-        ((is_behind (last_key None (tested_entries union.old.items)) key.entry.bytes.now ≡ false) × (e ≡ fault Duplicate))) }
+        ((is_behind (last_key_or None (tested_entries union.old.items)) key.entry.bytes.now ≡ false) × (e ≡ fault Duplicate))) }
 {
     if !is_behind(last_of(union), &key) {
         return Err(Fault::of(FaultName::Duplicate));

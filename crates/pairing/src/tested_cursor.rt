@@ -1,11 +1,11 @@
 //! The cursor over tested entries.
 
 ghost use Rattle.std.specs.Prelude.{◌≡◌, ◌<◌, length, drop};
-ghost use Rattle.block.specs.Piece.{Entry};
+ghost use Rattle.block.specs.EncodedEntry.{Entry};
 ghost use Rattle.ikey.specs.Bytewise.{bytewise_cmp};
 ghost use Rattle.table.specs.ReadingCursors.{NeverFalls};
-ghost use Rattle.table.specs.Seeking.{first_is_below};
-ghost use Rattle.pairing.specs.Merging.{tested_entries};
+ghost use Rattle.table.specs.RestartSearch.{first_is_below};
+ghost use Rattle.pairing.specs.TestedUnion.{tested_entries};
 
 use crate::tested::TestedEntry;
 use coding::Fault;
@@ -22,10 +22,10 @@ pub(crate) struct TestedCursor<'r, 'a> {
 
 impl<'r, 'a> Model for TestedCursor<'r, 'a> {
     ghost use Rattle.std.specs.Prelude.{List};
-    ghost use Rattle.block.specs.Piece.{Entry};
+    ghost use Rattle.block.specs.EncodedEntry.{Entry};
     ghost use Rattle.ikey.specs.Bytewise.{bytewise_cmp};
     ghost use Rattle.table.specs.ReadingCursors.{NeverFalls};
-    ghost use Rattle.pairing.specs.Merging.{tested_entries};
+    ghost use Rattle.pairing.specs.TestedUnion.{tested_entries};
 
     ghost Value = { List Entry };
 

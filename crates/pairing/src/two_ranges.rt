@@ -19,7 +19,7 @@ impl<'r, 'a> Labour for TwoRanges<'r, 'a> {
     type Out = Vec<TestedEntry<'a>>;
 
     ghost use Rattle.board.specs.Collected.{refusal_at, HasValue};
-    ghost use Rattle.pairing.specs.Merging.{tested_entries, unions_of};
+    ghost use Rattle.pairing.specs.TestedUnion.{tested_entries, unions_of};
 
     ghost jobs = { λ _. 2 };
 

@@ -12,10 +12,10 @@ use Rattle.std.proofs.lemmas.List.Folds.{list_any-append}
 use Rattle.ikey.specs.Key.{user_of, sequence_of, kind_of, kind_number}
 use Rattle.ikey.specs.Order.{internal_cmp}
 use Rattle.ikey.proofs.Ordered.{internal_cmp-total}
-use Rattle.edit.specs.VersionOrder.{version_cmp}
+use Rattle.edit.specs.VersionOrder.{file_cmp}
 use Rattle.edit.specs.declared.meta.FileMeta.{FileMeta}
 use Rattle.edit.proofs.Tested.{eqb-sym}
-use Rattle.edit.proofs.Sorting.{same_number}
+use Rattle.edit.proofs.SortedFiles.{same_number}
 use Rattle.pick.specs.Boundaries.{greater_key, with_largest, largest_key, goes_on, is_among, next_boundary, IsChain, AreWithBoundaries}
 use Rattle.pick.specs.Choices.{boundary_pass}
 use Rattle.pick.proofs.Lists.{IsIn, in_back, in_either, any_from, any_gives, none_any, or_left, cond_true, cond_false, false_true, cases, filter_in, in_filter, find_past, none_find, one_alone, apart_behind, before, and_both, and_first, and_second, same_test}
@@ -173,7 +173,7 @@ module _ (cmp : List ℕ → List ℕ → Ordering) (total : IsTotalOrder cmp) w
 
     first_behind : (passed : List FileMeta) (f : FileMeta) (rest : List FileMeta) → files ≡ passed ++ f ∷ rest → (q : FileMeta) → IsIn passed q → is_gt (internal_cmp cmp q.smallest f.smallest) ≡ false
     first_behind passed f rest parts q i =
-        not_above (internal_cmp cmp q.smallest f.smallest) (nat_cmp q.number f.number) (before (version_cmp cmp) passed f rest (subst (IsStrictlySortedBy (version_cmp cmp)) parts level.rise) q i)
+        not_above (internal_cmp cmp q.smallest f.smallest) (nat_cmp q.number f.number) (before (file_cmp cmp) passed f rest (subst (IsStrictlySortedBy (file_cmp cmp)) parts level.rise) q i)
 
     other_number : (passed : List FileMeta) (f : FileMeta) (rest : List FileMeta) → files ≡ passed ++ f ∷ rest → (q : FileMeta) → IsIn rest q → eqb f.number q.number ≡ false
     other_number passed f rest parts q i = apart_behind same_number passed f rest (subst (IsDistinct same_number) parts level.differ) q i

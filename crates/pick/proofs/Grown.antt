@@ -6,7 +6,7 @@ use Rattle.std.specs.Ordering.{is_lt}
 use Rattle.std.specs.declared.cmp.Ordering.{Ordering}
 use Rattle.ikey.specs.Key.{user_of}
 use Rattle.edit.specs.declared.meta.FileMeta.{FileMeta}
-use Rattle.pick.specs.Ranges.{is_at_most, begins_by, ends_from, overlaps}
+use Rattle.pick.specs.Ranges.{is_at_most, begins_by, ends_at_or_after, overlaps}
 use Rattle.pick.specs.Chosen.{IsOverlapClosed}
 use Rattle.pick.specs.Spans.{lesser_user, greater_user, is_overlapping, is_covering}
 use Rattle.pick.specs.Choices.{Reaches, IsGrown}
@@ -65,7 +65,7 @@ module _ (cmp : List ℕ → List ℕ → Ordering) (total : IsTotalOrder cmp) w
       let x = any_gives (λ (f : FileMeta). is_at_most cmp (user_of f.smallest) a) files h in
       any_from (λ (f : FileMeta). is_at_most cmp (user_of f.smallest) b) files x.item x.inside (le_trans cmp total (user_of x.item.smallest) a b x.passes k)
 
-  ends_on : (files : List FileMeta) (a b : List ℕ) → ends_from cmp files b ≡ true → is_at_most cmp a b ≡ true → ends_from cmp files a ≡ true
+  ends_on : (files : List FileMeta) (a b : List ℕ) → ends_at_or_after cmp files b ≡ true → is_at_most cmp a b ≡ true → ends_at_or_after cmp files a ≡ true
   ends_on files a b h k =
       let x = any_gives (λ (f : FileMeta). is_at_most cmp b (user_of f.largest)) files h in
       any_from (λ (f : FileMeta). is_at_most cmp a (user_of f.largest)) files x.item x.inside (le_trans cmp total a b (user_of x.item.largest) k x.passes)
@@ -73,7 +73,7 @@ module _ (cmp : List ℕ → List ℕ → Ordering) (total : IsTotalOrder cmp) w
   -- what overlaps a range overlaps the files that reach as far
   pub overlaps_reaching : (files : List FileMeta) (s l : List ℕ) (f : FileMeta) → Reaches cmp files s l → is_overlapping cmp s l f ≡ true → overlaps cmp files f ≡ true
   overlaps_reaching files s l f r h =
-      and_both (begins_by cmp files (user_of f.largest)) (ends_from cmp files (user_of f.smallest))
+      and_both (begins_by cmp files (user_of f.largest)) (ends_at_or_after cmp files (user_of f.smallest))
       (begins_on files s (user_of f.largest) r.begins (and_first (is_at_most cmp s (user_of f.largest)) (is_at_most cmp (user_of f.smallest) l) h))
       (ends_on files (user_of f.smallest) l r.ends (and_second (is_at_most cmp s (user_of f.largest)) (is_at_most cmp (user_of f.smallest) l) h))
 
@@ -92,7 +92,7 @@ module _ (cmp : List ℕ → List ℕ → Ordering) (total : IsTotalOrder cmp) w
   reaches_with : (files : List FileMeta) (s l a b : List ℕ) → Reaches cmp files s l → Reaches cmp files a b → Reaches cmp files (lesser_user cmp s a) (greater_user cmp l b)
   reaches_with files s l a b r t = record {
     begins = one_of (λ k. begins_by cmp files k ≡ true) (is_lt (cmp a s)) a s t.begins r.begins;
-    ends = one_of (λ k. ends_from cmp files k ≡ true) (is_lt (cmp l b)) b l t.ends r.ends;
+    ends = one_of (λ k. ends_at_or_after cmp files k ≡ true) (is_lt (cmp l b)) b l t.ends r.ends;
   }
 
   -- what lies in the range lies in the wider one

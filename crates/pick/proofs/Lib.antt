@@ -3,8 +3,8 @@ pub mod UserOrders
 pub mod Grown
 pub mod VersionFiles
 pub mod Chains
-pub mod Spanning
-pub mod Choosing
-pub mod Assembling
+pub mod FileSpans
+pub mod ChosenInputs
+pub mod LevelInputs
 pub mod LaterLevels
 pub mod OneChoice

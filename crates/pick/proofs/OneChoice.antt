@@ -8,7 +8,7 @@ use Rattle.edit.specs.declared.meta.FileMeta.{FileMeta}
 use Rattle.pick.specs.Ranges.{overlaps}
 use Rattle.pick.specs.Chosen.{IsLeastClosed, AreChosen}
 use Rattle.pick.specs.Boundaries.{largest_key, is_among, IsChain, AreWithBoundaries}
-use Rattle.pick.specs.Picked.{Picked, AreUpper, AreLower, input_at, grandparents_of, HasOneChoice}
+use Rattle.pick.specs.Picked.{PickedInputs, AreUpper, AreLower, input_at, grandparents_of, HasOneChoice}
 use Rattle.pick.specs.declared.picked.InputFile.{InputFile}
 use Rattle.pick.proofs.Lists.{all_in, filter_same, same_test}
 
@@ -46,7 +46,7 @@ module _ (cmp : List ℕ → List ℕ → Ordering) where
       let chosen = chosen_one level files k.first h.chosen k.chosen (subst (λ (f : FileMeta). AreChosen cmp level files f h.chosen) first h.are_chosen) k.are_chosen in
       bounded_one files k.chosen a b (subst (λ (fs : List FileMeta). AreWithBoundaries cmp files fs a) chosen h.with_boundaries) k.with_boundaries
 
-  abbrev picked : ℕ → List InputFile → List FileMeta → List FileMeta → ℕ → List ℕ → Picked
+  abbrev picked : ℕ → List InputFile → List FileMeta → List FileMeta → ℕ → List ℕ → PickedInputs
   picked level files grandparents deeper at key = record {
     level = level;
     files = files;

@@ -9,15 +9,15 @@ use Rattle.std.specs.declared.cmp.Ordering.{Ordering}
 use Rattle.std.specs.declared.cmp.Ordering.TheVariants.{Less, Equal, Greater}
 use Rattle.std.proofs.lemmas.Cmp.{tied_itself}
 use Rattle.edit.specs.Version.{State, are_apart}
-use Rattle.edit.specs.VersionOrder.{version_cmp, files_at, level_files}
+use Rattle.edit.specs.VersionOrder.{file_cmp, files_at, level_files}
 use Rattle.edit.specs.declared.meta.FileMeta.{FileMeta}
 use Rattle.edit.proofs.Tested.{eqb-sym}
-use Rattle.edit.proofs.Sorting.{version_cmp-total, same_number, sorted_all, distinct_at}
+use Rattle.edit.proofs.SortedFiles.{version_cmp-total, same_number, sorted_all, distinct_at}
 use Rattle.pick.proofs.Lists.{IsIn, all_in, all_from, one_alone, false_true, cases}
 
 -- what holds of a level's files
 pub record AreLevelFiles (cmp : List ℕ → List ℕ → Ordering) (files : List FileMeta) : Type 0 where
-  pub rise : IsStrictlySortedBy (version_cmp cmp) files
+  pub rise : IsStrictlySortedBy (file_cmp cmp) files
   pub differ : IsDistinct same_number files
 
 module _ (R : FileMeta → FileMeta → Ordering) where
@@ -71,7 +71,7 @@ of_two fs q (inr i) = i
 
 pub are_level_files : {cmp : List ℕ → List ℕ → Ordering} (total : IsTotalOrder cmp) (v : State) (level : ℕ) → are_apart v.files ≡ true → AreLevelFiles cmp (level_files cmp v level)
 are_level_files {cmp} total v level apart =
-    let R = version_cmp cmp in
+    let R = file_cmp cmp in
     let by_version = version_cmp-total total in
     let fs = files_at v.files level in
     let rise = sorted_all R by_version [] fs (none_rises R) in

@@ -7,7 +7,7 @@ use Rattle.ikey.specs.Key.{user_of}
 use Rattle.edit.specs.Version.{State}
 use Rattle.edit.specs.VersionOrder.{level_files}
 use Rattle.edit.specs.declared.meta.FileMeta.{FileMeta}
-use Rattle.pick.specs.Ranges.{begins_by, ends_from}
+use Rattle.pick.specs.Ranges.{begins_by, ends_at_or_after}
 use Rattle.pick.specs.Chosen.{IsOverlapClosed}
 use Rattle.pick.specs.Spans.{is_overlapping, is_covering}
 use Rattle.pick.specs.Boundaries.{with_largest, largest_key, goes_on}
@@ -27,7 +27,7 @@ is_widening cmp range f = is_in cmp range f && not (is_covering cmp range.smalle
 -- the range of the files begins at or before `smallest`, and ends at or after `largest`
 pub record Reaches (cmp : List ℕ → List ℕ → Ordering) (files : List FileMeta) (smallest largest : List ℕ) : Type 0 where
   pub begins : begins_by cmp files smallest ≡ true
-  pub ends : ends_from cmp files largest ≡ true
+  pub ends : ends_at_or_after cmp files largest ≡ true
 
 -- whether a file is chosen
 abbrev pub is_chosen : (List ℕ → List ℕ → Ordering) → Choice → FileMeta → Bool

@@ -15,7 +15,7 @@ use Rattle.pick.specs.declared.picked.InputFile.{InputFile}
 use Rattle.pick.specs.declared.picked.Inputs.{Inputs}
 
 -- inputs as contracts see them
-pub record Picked : Type 0 where
+pub record PickedInputs : Type 0 where
   pub level : ℕ
   pub files : List InputFile
   pub grandparents : List FileMeta
@@ -23,7 +23,7 @@ pub record Picked : Type 0 where
   pub pointer : CompactPointer
 
 -- the inputs of the code
-abbrev pub picked_in : Inputs → Picked
+abbrev pub picked_in : Inputs → PickedInputs
 picked_in i = record {
   level = i.level;
   files = i.files.items;
@@ -64,7 +64,7 @@ AreLower cmp v level upper lower =
 -- - its files of the level, then those of level + 1;
 -- - the grandparents, and all files from level + 2 on;
 -- - as new compact pointer, the largest key of its files of the level.
-pub record IsPicked (cmp : List ℕ → List ℕ → Ordering) (v : State) (level : ℕ) (p : Picked) : Type 0 where
+pub record IsPicked (cmp : List ℕ → List ℕ → Ordering) (v : State) (level : ℕ) (p : PickedInputs) : Type 0 where
   pub upper : List FileMeta
   pub are_upper : AreUpper cmp v level upper
   pub lower : List FileMeta
@@ -77,7 +77,7 @@ pub record IsPicked (cmp : List ℕ → List ℕ → Ordering) (v : State) (leve
   pub pointer_key : largest_key cmp upper ≡ Some p.pointer.key
 
 -- The answer for a level: Level if it is above 5; else NoInput if it has no file; else its inputs.
-abbrev pub IsInputsAnswer : (List ℕ → List ℕ → Ordering) → State → ℕ → Result Picked Fault → Type 0
+abbrev pub IsInputsAnswer : (List ℕ → List ℕ → Ordering) → State → ℕ → Result PickedInputs Fault → Type 0
 IsInputsAnswer cmp v level answer =
     MatchBool (nat_lt 5 level) (answer ≡ Err (fault Level))
     (MatchBool (nat_lt 0 (length (level_files cmp v level)))
@@ -86,4 +86,4 @@ IsInputsAnswer cmp v level answer =
 
 -- a level of a version has at most one choice of inputs
 abbrev pub HasOneChoice : (List ℕ → List ℕ → Ordering) → Type 0
-HasOneChoice cmp = (v : State) (level : ℕ) (p q : Picked) → IsPicked cmp v level p → IsPicked cmp v level q → p ≡ q
+HasOneChoice cmp = (v : State) (level : ℕ) (p q : PickedInputs) → IsPicked cmp v level p → IsPicked cmp v level q → p ≡ q

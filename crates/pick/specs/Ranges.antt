@@ -16,13 +16,13 @@ abbrev pub begins_by : (List ℕ → List ℕ → Ordering) → List FileMeta �
 begins_by cmp files user = list_any (λ (f : FileMeta). is_at_most cmp (user_of f.smallest) user) files
 
 -- whether the range of the files ends at or after the user key: some file's does
-abbrev pub ends_from : (List ℕ → List ℕ → Ordering) → List FileMeta → List ℕ → Bool
-ends_from cmp files user = list_any (λ (f : FileMeta). is_at_most cmp user (user_of f.largest)) files
+abbrev pub ends_at_or_after : (List ℕ → List ℕ → Ordering) → List FileMeta → List ℕ → Bool
+ends_at_or_after cmp files user = list_any (λ (f : FileMeta). is_at_most cmp user (user_of f.largest)) files
 
 -- Whether the range of a file overlaps that of the files, which goes from the least of their user
 -- keys to the greatest.
 abbrev pub overlaps : (List ℕ → List ℕ → Ordering) → List FileMeta → FileMeta → Bool
-overlaps cmp files f = begins_by cmp files (user_of f.largest) && ends_from cmp files (user_of f.smallest)
+overlaps cmp files f = begins_by cmp files (user_of f.largest) && ends_at_or_after cmp files (user_of f.smallest)
 
 -- whether the range of a file holds the user key
 abbrev pub holds_user : (List ℕ → List ℕ → Ordering) → List ℕ → FileMeta → Bool

@@ -17,13 +17,13 @@
 
 mod boundaries;
 mod choice;
+mod choice_law;
 mod deeper;
-mod laws;
+mod input_choice;
 mod picked;
-mod picking;
 mod range;
 mod taken;
 
-pub use laws::one_choice;
+pub use choice_law::one_choice;
+pub use input_choice::inputs;
 pub use picked::{InputFile, Inputs, is_base};
-pub use picking::inputs;

@@ -14,12 +14,12 @@ use Rattle.std.proofs.lemmas.Option.{slice_get-get_or, same_Some}
 use Rattle.std.proofs.lemmas.List.Elements.{Contains-append_left, Contains-append_right, Contains-append_cases, All-from_recursion}
 use Rattle.ikey.specs.Key.{user_of, sequence_of}
 use Rattle.ikey.specs.Order.{internal_cmp}
-use Rattle.block.specs.Piece.{Entry}
-use Rattle.table.specs.Reading.{Contents}
-use Rattle.table.specs.ReadingCursors.{IsRising}
+use Rattle.block.specs.EncodedEntry.{Entry}
+use Rattle.table.specs.TableContents.{Contents}
+use Rattle.table.specs.ReadingCursors.{EntriesRise}
 use Rattle.edit.specs.declared.meta.FileMeta.{FileMeta}
-use Rattle.reads.specs.Tables.{Numbered, table_of, table_entries}
-use Rattle.reads.specs.Visible.{Visible, IsVisible, IsNewest, IsAnswer, newer_visible}
+use Rattle.reads.specs.Tables.{NumberedContents, table_of_number, table_entries}
+use Rattle.reads.specs.Visible.{VisibleEntry, IsVisible, IsNewest, IsAnswer, newer_visible}
 use Rattle.reads.specs.Lawful.{IsFileOf}
 use Rattle.reads.proofs.Members.{first_or_later, none_in}
 use Rattle.reads.proofs.Orders.{before_later, not_before_itself}
@@ -27,7 +27,7 @@ use Rattle.reads.proofs.Sought.{above_first}
 
 -- ---- lists that are joined
 
-newest_left : (xs ys : List Entry) (user : List ℕ) (at : ℕ) (s : Visible) → IsNewest xs user at s → ((e : Entry) → Contains ys e → IsVisible user at e → sequence_of e.key ≤ s.sequence) → IsNewest (xs ++ ys) user at s
+newest_left : (xs ys : List Entry) (user : List ℕ) (at : ℕ) (s : VisibleEntry) → IsNewest xs user at s → ((e : Entry) → Contains ys e → IsVisible user at e → sequence_of e.key ≤ s.sequence) → IsNewest (xs ++ ys) user at s
 newest_left xs ys user at s newest others = record {
   entry = newest.entry;
   there = Contains-append_left xs ys newest.entry newest.there;
@@ -36,7 +36,7 @@ newest_left xs ys user at s newest others = record {
   most = λ e h seen. elim (Contains-append_cases xs ys e h) [ inl i ↦ newest.most e i seen | inr i ↦ others e i seen ];
 }
 
-newest_right : (xs ys : List Entry) (user : List ℕ) (at : ℕ) (s : Visible) → IsNewest ys user at s → ((e : Entry) → Contains xs e → IsVisible user at e → sequence_of e.key ≤ s.sequence) → IsNewest (xs ++ ys) user at s
+newest_right : (xs ys : List Entry) (user : List ℕ) (at : ℕ) (s : VisibleEntry) → IsNewest ys user at s → ((e : Entry) → Contains xs e → IsVisible user at e → sequence_of e.key ≤ s.sequence) → IsNewest (xs ++ ys) user at s
 newest_right xs ys user at s newest others = record {
   entry = newest.entry;
   there = Contains-append_right xs ys newest.entry newest.there;
@@ -45,7 +45,7 @@ newest_right xs ys user at s newest others = record {
   most = λ e h seen. elim (Contains-append_cases xs ys e h) [ inl i ↦ others e i seen | inr i ↦ newest.most e i seen ];
 }
 
-newest_by : (xs ys : List Entry) (user : List ℕ) (at : ℕ) (s r : Visible) (b : Bool) → nat_lt s.sequence r.sequence ≡ b → IsNewest xs user at s → IsNewest ys user at r → IsAnswer (xs ++ ys) user at (cond b (Some r) (Some s))
+newest_by : (xs ys : List Entry) (user : List ℕ) (at : ℕ) (s r : VisibleEntry) (b : Bool) → nat_lt s.sequence r.sequence ≡ b → IsNewest xs user at s → IsNewest ys user at r → IsAnswer (xs ++ ys) user at (cond b (Some r) (Some s))
 newest_by xs ys user at s r true e left right =
     let lt : s.sequence < r.sequence = (Decides-ltb s.sequence r.sequence).0 e in
     newest_right xs ys user at r right (λ f h seen. let le = left.most f h seen in omega arith)
@@ -55,19 +55,19 @@ newest_by xs ys user at s r false e left right =
     not_lt : s.sequence < r.sequence → ⊥
     not_lt lt = let both : true ≡ false = sym ((Decides-ltb s.sequence r.sequence).1 lt) ∙ e in absurd cc
 
-pub answer_append : (xs ys : List Entry) (user : List ℕ) (at : ℕ) (o p : Option Visible) → IsAnswer xs user at o → IsAnswer ys user at p → IsAnswer (xs ++ ys) user at (newer_visible o p)
+pub answer_append : (xs ys : List Entry) (user : List ℕ) (at : ℕ) (o p : Option VisibleEntry) → IsAnswer xs user at o → IsAnswer ys user at p → IsAnswer (xs ++ ys) user at (newer_visible o p)
 answer_append xs ys user at None None left right = λ e h seen. elim (Contains-append_cases xs ys e h) [ inl i ↦ left e i seen | inr i ↦ right e i seen ]
 answer_append xs ys user at None (Some r) left right = newest_right xs ys user at r right (λ e h seen. absurd (left e h seen))
 answer_append xs ys user at (Some s) None left right = newest_left xs ys user at s left (λ e h seen. absurd (right e h seen))
 answer_append xs ys user at (Some s) (Some r) left right = newest_by xs ys user at s r (nat_lt s.sequence r.sequence) refl left right
 
-pub newer_none : (o : Option Visible) → newer_visible o None ≡ o
+pub newer_none : (o : Option VisibleEntry) → newer_visible o None ≡ o
 newer_none None = refl
 newer_none (Some s) = refl
 
 -- ---- the table of a file
 
-pub entries_are : (tables : List Numbered) (number : ℕ) (t : Contents) → table_of tables number ≡ Some t → table_entries tables number ≡ t.entries
+pub entries_are : (tables : List NumberedContents) (number : ℕ) (t : Contents) → table_of_number tables number ≡ Some t → table_entries tables number ≡ t.entries
 entries_are tables number t e = ap (λ (o : Option Contents). option_map_or (λ t. t.entries) o []) e
 
 -- ---- a file whose range doesn't hold the user key
@@ -86,7 +86,7 @@ le_parts Equal Equal e = absurd cc
 
 module _ (cmp : List ℕ → List ℕ → Ordering) (total : IsTotalOrder cmp) where
   -- the keys rise from place to place
-  pub rising_at : (es : List Entry) → IsRising cmp es → (i j : ℕ) (d : Entry) → i < j → j < length es → internal_cmp cmp (get_or es i d).key (get_or es j d).key ≡ Less
+  pub rising_at : (es : List Entry) → EntriesRise cmp es → (i j : ℕ) (d : Entry) → i < j → j < length es → internal_cmp cmp (get_or es i d).key (get_or es j d).key ≡ Less
   rising_at [] rising i j d lt below = absurd (omega arith)
   rising_at (e ∷ es) rising i zero d lt below = absurd (omega arith)
   rising_at (e ∷ es) rising zero (suc j) d lt below =
@@ -95,7 +95,7 @@ module _ (cmp : List ℕ → List ℕ → Ordering) (total : IsTotalOrder cmp) w
   rising_at (e ∷ es) rising (suc i) (suc j) d lt below = rising_at es rising.1 i j d (omega arith) (omega arith)
 
   -- an entry is the one at a place, or before it, or behind it
-  pub first_or_above : (es : List Entry) (key : List ℕ) (e : Entry) → IsRising cmp es → option_map (λ e. e.key) (slice_get es 0) ≡ Some key → Contains es e → (e.key ≡ key) ⊎ (internal_cmp cmp key e.key ≡ Less)
+  pub first_or_above : (es : List Entry) (key : List ℕ) (e : Entry) → EntriesRise cmp es → option_map (λ e. e.key) (slice_get es 0) ≡ Some key → Contains es e → (e.key ≡ key) ⊎ (internal_cmp cmp key e.key ≡ Less)
   first_or_above [] key e rising first at = absurd (none_in e at)
   first_or_above (d ∷ es) key e rising first at =
       let same : d.key ≡ key = cc in
@@ -110,7 +110,7 @@ module _ (cmp : List ℕ → List ℕ → Ordering) (total : IsTotalOrder cmp) w
       let both : Some (get_or es (length es - 1) d).key ≡ Some key = sym (ap (option_map (λ e. e.key)) there) ∙ last in
       same_Some _ _ both
 
-  pub last_or_below : (es : List Entry) (key : List ℕ) (e : Entry) → IsRising cmp es → option_map (λ e. e.key) (slice_get es (length es - 1)) ≡ Some key → Contains es e → (e.key ≡ key) ⊎ (internal_cmp cmp e.key key ≡ Less)
+  pub last_or_below : (es : List Entry) (key : List ℕ) (e : Entry) → EntriesRise cmp es → option_map (λ e. e.key) (slice_get es (length es - 1)) ≡ Some key → Contains es e → (e.key ≡ key) ⊎ (internal_cmp cmp e.key key ≡ Less)
   last_or_below es key e rising last at =
       let some : 0 < length es = omega (arith, at.1) in
       let place = last_place es key e some last in
@@ -125,7 +125,7 @@ module _ (cmp : List ℕ → List ℕ → Ordering) (total : IsTotalOrder cmp) w
   turned : (a b : List ℕ) → cmp a b ≡ Greater → cmp b a ≡ Less
   turned a b e = total.antisymm b a ∙ ap ordering_reverse e
 
-  pub not_held : (tables : List Numbered) (f : FileMeta) (user : List ℕ) (at : ℕ) → IsFileOf cmp tables f → may_hold cmp f user ≡ false → IsAnswer (table_entries tables f.number) user at None
+  pub not_held : (tables : List NumberedContents) (f : FileMeta) (user : List ℕ) (at : ℕ) → IsFileOf cmp tables f → may_hold cmp f user ≡ false → IsAnswer (table_entries tables f.number) user at None
   not_held tables f user at is out e there seen =
       let held : Contains is.table.entries e = subst (λ (es : List Entry). Contains es e) (entries_are tables f.number is.table is.there) there in
       elim (le_parts (cmp (user_of f.smallest) user) (cmp user (user_of f.largest)) out) [
@@ -136,7 +136,7 @@ module _ (cmp : List ℕ → List ℕ → Ordering) (total : IsTotalOrder cmp) w
       own : (u : List ℕ) → cmp u (user_of e.key) ≡ Less → cmp u user ≡ Less
       own u lt = subst (λ (v : List ℕ). cmp u v ≡ Less) seen.0 lt
 
-      below_first : (es : List Entry) → Contains es e → IsRising cmp es → option_map (λ e. e.key) (slice_get es 0) ≡ Some f.smallest → cmp (user_of f.smallest) user ≡ Greater → ⊥
+      below_first : (es : List Entry) → Contains es e → EntriesRise cmp es → option_map (λ e. e.key) (slice_get es 0) ≡ Some f.smallest → cmp (user_of f.smallest) user ≡ Greater → ⊥
       below_first es held rising first above =
           let before : cmp user (user_of f.smallest) ≡ Less = turned (user_of f.smallest) user above in
           elim (first_or_above es f.smallest e rising first held) [
@@ -144,7 +144,7 @@ module _ (cmp : List ℕ → List ℕ → Ordering) (total : IsTotalOrder cmp) w
             | inr later ↦ not_before_itself cmp total user (own user (before_later cmp total user f.smallest e.key before later))
           ]
 
-      behind_last : (es : List Entry) → Contains es e → IsRising cmp es → option_map (λ e. e.key) (slice_get es (length es - 1)) ≡ Some f.largest → cmp user (user_of f.largest) ≡ Greater → ⊥
+      behind_last : (es : List Entry) → Contains es e → EntriesRise cmp es → option_map (λ e. e.key) (slice_get es (length es - 1)) ≡ Some f.largest → cmp user (user_of f.largest) ≡ Greater → ⊥
       behind_last es held rising last above =
           let before : cmp (user_of f.largest) user ≡ Less = turned user (user_of f.largest) above in
           let before_own : cmp (user_of f.largest) (user_of e.key) ≡ Less = subst (λ (v : List ℕ). cmp (user_of f.largest) v ≡ Less) (sym seen.0) before in
@@ -155,12 +155,12 @@ module _ (cmp : List ℕ → List ℕ → Ordering) (total : IsTotalOrder cmp) w
 
 -- ---- one file more
 
-pub files_step : {X : Type 0} (F : X → List Entry) (xs : List X) (i : ℕ) (x : X) (user : List ℕ) (at : ℕ) (o p r : Option Visible) → i < length xs → x ≡ get_or xs i x → r ≡ newer_visible o p
+pub files_step : {X : Type 0} (F : X → List Entry) (xs : List X) (i : ℕ) (x : X) (user : List ℕ) (at : ℕ) (o p r : Option VisibleEntry) → i < length xs → x ≡ get_or xs i x → r ≡ newer_visible o p
     → IsAnswer (flat_map F (take i xs)) user at o → IsAnswer (F x) user at p → IsAnswer (flat_map F (take (i + 1) xs)) user at r
 files_step {X = X} F xs i x user at o p r lt here made front own =
     let front_is : take (i + 1) xs ≡ take i xs ++ x ∷ [] = take_more xs i x lt ∙ ap (λ (y : X). take i xs ++ y ∷ []) (sym here) in
     let all_is : flat_map F (take (i + 1) xs) ≡ flat_map F (take i xs) ++ F x = ap (flat_map F) front_is ∙ flat_map-append F (take i xs) (x ∷ []) ∙ ap (λ (l : List Entry). flat_map F (take i xs) ++ l) (append-nil (F x)) in
-    subst (λ (l : List Entry). IsAnswer l user at r) (sym all_is) (subst (λ (q : Option Visible). IsAnswer (flat_map F (take i xs) ++ F x) user at q) (sym made) (answer_append (flat_map F (take i xs)) (F x) user at o p front own))
+    subst (λ (l : List Entry). IsAnswer l user at r) (sym all_is) (subst (λ (q : Option VisibleEntry). IsAnswer (flat_map F (take i xs) ++ F x) user at q) (sym made) (answer_append (flat_map F (take i xs)) (F x) user at o p front own))
 
 -- ---- one table more
 

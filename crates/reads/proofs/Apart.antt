@@ -10,10 +10,10 @@ use Rattle.std.proofs.lemmas.Map.Keys.{IsDistinct-IsPermutation}
 use Rattle.edit.specs.Version.{has_number, are_apart}
 use Rattle.edit.specs.declared.meta.FileMeta.{FileMeta}
 use Rattle.edit.specs.declared.meta.NewFile.{NewFile}
-use Rattle.edit.proofs.Sorting.{same_number}
+use Rattle.edit.proofs.SortedFiles.{same_number}
 use Rattle.edit.proofs.Tested.{both_true, both_false, not_is_true, eqb-sym}
 use Rattle.reads.specs.declared.level_file.LevelFile.{LevelFile}
-use Rattle.reads.specs.Checking.{file_in, same_file, AreAll}
+use Rattle.reads.specs.FileChecks.{level_file_in, same_file, AreAll}
 use Rattle.reads.proofs.Members.{first_or_later, none_in}
 use Rattle.reads.proofs.FallingEntries.{each_of, of_each}
 use Rattle.reads.proofs.Pairs.{Pairs}
@@ -86,13 +86,13 @@ pairs_distinct [] h = tt
 pairs_distinct (f ∷ files) h = (of_each (λ (x : NewFile). same_file f x ≡ false) files (λ g at. not_equal f.meta.number g.meta.number (h.0 g at)), pairs_distinct files h.1)
 
 -- files that are listed in another order are still all
-pub listed_again : (files : List NewFile) (items again : List LevelFile) → IsPermutation items again → AreAll files (map file_in items) → AreAll files (map file_in again)
+pub listed_again : (files : List NewFile) (items again : List LevelFile) → IsPermutation items again → AreAll files (map level_file_in items) → AreAll files (map level_file_in again)
 listed_again files items again p all =
-    let moved = IsPermutation-map file_in items again p in
-    let back = IsPermutation-sym (map file_in items) (map file_in again) moved in
+    let moved = IsPermutation-map level_file_in items again p in
+    let back = IsPermutation-sym (map level_file_in items) (map level_file_in again) moved in
     record {
       apart = all.apart;
-      distinct = IsDistinct-IsPermutation same_file (λ (f : NewFile) (g : NewFile). eqb-sym f.meta.number g.meta.number) (map file_in items) (map file_in again) moved all.distinct;
-      all = λ f at. Contains-permutation (map file_in items) (map file_in again) f moved (all.all f at);
-      only = λ f at. all.only f (Contains-permutation (map file_in again) (map file_in items) f back at);
+      distinct = IsDistinct-IsPermutation same_file (λ (f : NewFile) (g : NewFile). eqb-sym f.meta.number g.meta.number) (map level_file_in items) (map level_file_in again) moved all.distinct;
+      all = λ f at. Contains-permutation (map level_file_in items) (map level_file_in again) f moved (all.all f at);
+      only = λ f at. all.only f (Contains-permutation (map level_file_in again) (map level_file_in items) f back at);
     }

@@ -5,8 +5,8 @@ use Rattle.std.specs.List.{AllByRecursion, filter, find}
 use Rattle.std.specs.Option.{option_and_then}
 use Rattle.std.proofs.lemmas.Bool.Decides.{nat_tests}
 use Rattle.ikey.specs.Key.{sequence_of}
-use Rattle.block.specs.Piece.{Entry}
-use Rattle.reads.specs.Gets.{is_visible, newest, value_in}
+use Rattle.block.specs.EncodedEntry.{Entry}
+use Rattle.reads.specs.Gets.{is_visible, newest_entry, value_in}
 use Rattle.reads.specs.Tables.{all_entries}
 use Rattle.reads.specs.Visible.{IsVisible}
 use Rattle.reads.specs.NewestFirst.{SequencesFall, AreThoseOf, AnswersNewestFirst}
@@ -112,8 +112,8 @@ module _ (all own : List Entry) (user : List ℕ) (at : ℕ) (are : AreThoseOf u
       let down : sequence_of y.key ≤ sequence_of x.key = top.1 y (in_visible y first.0 first.1) in
       ap (λ (e : Entry). Some e) (same_of_falling own falls x y from.0 first.0 (omega arith))
 
-  answered : option_and_then value_in (newest visible) ≡ option_and_then value_in (find (sees at) own)
-  answered = ap (option_and_then value_in) (same_first (newest visible) (find (sees at) own) (top visible) (first_seen own at falls))
+  answered : option_and_then value_in (newest_entry visible) ≡ option_and_then value_in (find (sees at) own)
+  answered = ap (option_and_then value_in) (same_first (newest_entry visible) (find (sees at) own) (top visible) (first_seen own at falls))
 
 pub answers_newest_first : AnswersNewestFirst
 answers_newest_first v tables user own at are falls = answered (all_entries tables v.files) own user at are falls

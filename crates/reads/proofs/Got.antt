@@ -19,12 +19,12 @@ use Rattle.coding.proofs.Refusals.{unless_from}
 use Rattle.ikey.specs.Key.{IsInternalKey, internal_key, user_of, sequence_of}
 use Rattle.ikey.specs.declared.kind.Kind.TheVariants.{Put}
 use Rattle.ikey.proofs.Keys.{sequence_of-lt, length-user_of, user_of-internal_key, sequence_of-internal_key}
-use Rattle.block.specs.Piece.{Entry}
+use Rattle.block.specs.EncodedEntry.{Entry}
 use Rattle.edit.specs.Version.{State}
 use Rattle.edit.specs.declared.meta.NewFile.{NewFile}
-use Rattle.reads.specs.Tables.{Numbered, table_of, table_entries, all_entries, tables_test}
-use Rattle.reads.specs.Gets.{is_visible, newer, newest, value_by, value_in, get_of}
-use Rattle.reads.specs.Visible.{Visible, IsVisible, IsNewest, IsAnswer}
+use Rattle.reads.specs.Tables.{NumberedContents, table_of_number, table_entries, all_entries, tables_test}
+use Rattle.reads.specs.Gets.{is_visible, newer_entry, newest_entry, value_by, value_in, get_of}
+use Rattle.reads.specs.Visible.{VisibleEntry, IsVisible, IsNewest, IsAnswer}
 use Rattle.reads.specs.Lawful.{IsLawful, IsFileOf, AreDistinct}
 use Rattle.reads.proofs.Members.{first_or_later, later_in, first_in, none_in, in_filter, from_filter, from_flat_map}
 use Rattle.reads.proofs.Answers.{entries_are}
@@ -56,7 +56,7 @@ top_other e es x false test top = (
     at_most : (m n : ℕ) → nat_lt m n ≡ false → n ≤ m
     at_most m n h = grind (arith, nat_tests)
 
-top_by : (e : Entry) (es : List Entry) (o : Option Entry) → IsTop es o → IsTop (e ∷ es) (Some (newer e o))
+top_by : (e : Entry) (es : List Entry) (o : Option Entry) → IsTop es o → IsTop (e ∷ es) (Some (newer_entry e o))
 top_by e es None none = (
   first_in e es,
   λ f at. elim (first_or_later e es f at) [
@@ -66,9 +66,9 @@ top_by e es None none = (
 )
 top_by e es (Some x) top = top_other e es x (nat_lt (sequence_of e.key) (sequence_of x.key)) refl top
 
-pub top : (es : List Entry) → IsTop es (newest es)
+pub top : (es : List Entry) → IsTop es (newest_entry es)
 top [] = none_in
-top (e ∷ es) = top_by e es (newest es) (top es)
+top (e ∷ es) = top_by e es (newest_entry es) (top es)
 
 -- ---- what is visible
 
@@ -103,7 +103,7 @@ same_entry es a b distinct i j user sequence = by_place (cases_lt i.0 j.0)
           | inr lt ↦ absurd (apart_back (get_or es j.0 b) (get_or es i.0 b) j.2 at_i (distinct j.0 i.0 b lt i.1))
         ]
 
-abbrev pub visible_value : Visible → Option (List ℕ)
+abbrev pub visible_value : VisibleEntry → Option (List ℕ)
 visible_value s = value_by s.kind s.value
 
 module _ (es : List Entry) (user : List ℕ) (at : ℕ) (distinct : AllPairs AreDistinct es) where
@@ -113,31 +113,31 @@ module _ (es : List Entry) (user : List ℕ) (at : ℕ) (distinct : AllPairs Are
       let kept = from_filter (is_visible user at) es x top.0 in
       absurd (none x kept.0 ((visible_decides user at x).0 kept.1))
 
-  some_got : (o : Option Entry) (s : Visible) → IsTop (filter (is_visible user at) es) o → IsNewest es user at s → option_and_then value_in o ≡ visible_value s
+  some_got : (o : Option Entry) (s : VisibleEntry) → IsTop (filter (is_visible user at) es) o → IsNewest es user at s → option_and_then value_in o ≡ visible_value s
   some_got None s top answer = absurd (top answer.entry (in_filter (is_visible user at) es answer.entry ((visible_decides user at answer.entry).1 answer.visible) answer.there))
   some_got (Some x) s top answer =
       let kept = from_filter (is_visible user at) es x top.0 in
       let seen : IsVisible user at x = (visible_decides user at x).0 kept.1 in
       let up : sequence_of answer.entry.key ≤ sequence_of x.key = top.1 answer.entry (in_filter (is_visible user at) es answer.entry ((visible_decides user at answer.entry).1 answer.visible) answer.there) in
       let down : sequence_of x.key ≤ s.sequence = answer.most x kept.0 seen in
-      let stated : sequence_of answer.entry.key ≡ s.sequence = ap (λ (y : Visible). y.sequence) answer.is in
+      let stated : sequence_of answer.entry.key ≡ s.sequence = ap (λ (y : VisibleEntry). y.sequence) answer.is in
       let same : x ≡ answer.entry = same_entry es x answer.entry distinct kept.0 answer.there (seen.0 ∙ sym answer.visible.0) (omega arith) in
       ap value_in same ∙ ap visible_value answer.is
 
-  got : (o : Option Visible) → IsAnswer es user at o → option_and_then value_in (newest (filter (is_visible user at) es)) ≡ option_and_then visible_value o
-  got None answer = none_got (newest (filter (is_visible user at) es)) (top (filter (is_visible user at) es)) answer
-  got (Some s) answer = some_got (newest (filter (is_visible user at) es)) s (top (filter (is_visible user at) es)) answer
+  got : (o : Option VisibleEntry) → IsAnswer es user at o → option_and_then value_in (newest_entry (filter (is_visible user at) es)) ≡ option_and_then visible_value o
+  got None answer = none_got (newest_entry (filter (is_visible user at) es)) (top (filter (is_visible user at) es)) answer
+  got (Some s) answer = some_got (newest_entry (filter (is_visible user at) es)) s (top (filter (is_visible user at) es)) answer
 
 -- ---- the entries of a lawful version
 
-keys_lawful : (cmp : List ℕ → List ℕ → Ordering) (v : State) (tables : List Numbered) → IsLawful cmp v tables → (e : Entry) → Contains (all_entries tables v.files) e → IsInternalKey e.key
+keys_lawful : (cmp : List ℕ → List ℕ → Ordering) (v : State) (tables : List NumberedContents) → IsLawful cmp v tables → (e : Entry) → Contains (all_entries tables v.files) e → IsInternalKey e.key
 keys_lawful cmp v tables lawful e at =
     let from = from_flat_map (λ (f : NewFile). table_entries tables f.meta.number) v.files e at in
     let is : IsFileOf cmp tables from.source.meta = All-contains (λ (f : NewFile). IsFileOf cmp tables f.meta) v.files from.source lawful.files from.there in
     All-contains (λ (x : Entry). IsInternalKey x.key) is.table.entries e is.keys (subst (λ (es : List Entry). Contains es e) (entries_are tables from.source.meta.number is.table is.there) from.held)
 
 -- a sequence that is looked up is at most the greatest there is
-widened : (es : List Entry) (user : List ℕ) (at : ℕ) (o : Option Visible) → ((e : Entry) → Contains es e → IsInternalKey e.key) → IsAnswer es user (min at (2 ^ 56 - 1)) o → IsAnswer es user at o
+widened : (es : List Entry) (user : List ℕ) (at : ℕ) (o : Option VisibleEntry) → ((e : Entry) → Contains es e → IsInternalKey e.key) → IsAnswer es user (min at (2 ^ 56 - 1)) o → IsAnswer es user at o
 widened es user at None keys none = λ e there seen. none e there (seen.0, narrowed e there seen.1)
   where
     narrowed : (e : Entry) → Contains es e → sequence_of e.key ≤ at → sequence_of e.key ≤ min at (2 ^ 56 - 1)
@@ -150,13 +150,13 @@ widened es user at (Some s) keys answer = record {
   most = λ e there seen. answer.most e there (seen.0, let lt = sequence_of-lt e.key (keys e there) in let le = seen.1 in omega arith);
 }
 
-pub get_is : (cmp : List ℕ → List ℕ → Ordering) (v : State) (tables : List Numbered) (user : List ℕ) (at : ℕ) (o : Option Visible) → IsLawful cmp v tables → IsAnswer (all_entries tables v.files) user (min at (2 ^ 56 - 1)) o
+pub get_is : (cmp : List ℕ → List ℕ → Ordering) (v : State) (tables : List NumberedContents) (user : List ℕ) (at : ℕ) (o : Option VisibleEntry) → IsLawful cmp v tables → IsAnswer (all_entries tables v.files) user (min at (2 ^ 56 - 1)) o
     → get_of v tables user at ≡ option_and_then visible_value o
 get_is cmp v tables user at o lawful answer =
     got (all_entries tables v.files) user at lawful.sequences_once o (widened (all_entries tables v.files) user at o (keys_lawful cmp v tables lawful) answer)
 
 -- the same by the internal key that is sought
-pub get_by : (cmp : List ℕ → List ℕ → Ordering) (v : State) (tables : List Numbered) (user : List ℕ) (at : ℕ) (key : List ℕ) (s : ℕ) (o : Option Visible) → IsLawful cmp v tables → s ≡ min at (2 ^ 56 - 1) → key ≡ internal_key user s Put
+pub get_by : (cmp : List ℕ → List ℕ → Ordering) (v : State) (tables : List NumberedContents) (user : List ℕ) (at : ℕ) (key : List ℕ) (s : ℕ) (o : Option VisibleEntry) → IsLawful cmp v tables → s ≡ min at (2 ^ 56 - 1) → key ≡ internal_key user s Put
     → IsAnswer (all_entries tables v.files) (user_of key) (sequence_of key) o → get_of v tables user at ≡ option_and_then visible_value o
 get_by cmp v tables user at key s o lawful is_min made answer =
     let fits : s < 2 ^ 56 = omega arith in
@@ -166,7 +166,7 @@ get_by cmp v tables user at key s o lawful is_min made answer =
     (subst (λ (n : ℕ). IsAnswer (all_entries tables v.files) user n o) sequence_is (subst (λ (u : List ℕ). IsAnswer (all_entries tables v.files) u (sequence_of key) o) user_is answer))
 
 -- no entry has a user key over the limit
-pub get_of_long : (cmp : List ℕ → List ℕ → Ordering) (v : State) (tables : List Numbered) (user : List ℕ) (at : ℕ) → 65535 < length user → IsLawful cmp v tables → get_of v tables user at ≡ None
+pub get_of_long : (cmp : List ℕ → List ℕ → Ordering) (v : State) (tables : List NumberedContents) (user : List ℕ) (at : ℕ) → 65535 < length user → IsLawful cmp v tables → get_of v tables user at ≡ None
 get_of_long cmp v tables user at long lawful =
     got (all_entries tables v.files) user at lawful.sequences_once None
     (λ e there seen. let le = length-user_of e.key (keys_lawful cmp v tables lawful e there) in let same : length (user_of e.key) ≡ length user = ap length seen.0 in absurd (omega arith))
@@ -174,10 +174,10 @@ get_of_long cmp v tables user at long lawful =
 -- ---- refusals
 
 -- each file of a lawful version has a table
-pub lawful_there : (cmp : List ℕ → List ℕ → Ordering) (v : State) (tables : List Numbered) → IsLawful cmp v tables → tables_test tables v.files ≡ Ok tt
-lawful_there cmp v tables lawful = ap tested (all_of (λ (f : NewFile). is_some (table_of tables f.meta.number)) v.files each)
+pub lawful_there : (cmp : List ℕ → List ℕ → Ordering) (v : State) (tables : List NumberedContents) → IsLawful cmp v tables → tables_test tables v.files ≡ Ok tt
+lawful_there cmp v tables lawful = ap tested (all_of (λ (f : NewFile). is_some (table_of_number tables f.meta.number)) v.files each)
   where
-    each : (f : NewFile) → Contains v.files f → is_some (table_of tables f.meta.number) ≡ true
+    each : (f : NewFile) → Contains v.files f → is_some (table_of_number tables f.meta.number) ≡ true
     each f at =
         let is : IsFileOf cmp tables f.meta = All-contains (λ (g : NewFile). IsFileOf cmp tables g.meta) v.files f lawful.files at in
         ap is_some is.there

@@ -10,15 +10,15 @@ use Rattle.std.proofs.lemmas.List.Elements.{All-contains, Contains-get_or}
 use Rattle.ikey.specs.Key.{IsInternalKey, user_of, sequence_of}
 use Rattle.ikey.specs.Order.{internal_cmp}
 use Rattle.ikey.proofs.Ordered.{internal_cmp-total}
-use Rattle.block.specs.Piece.{Entry}
-use Rattle.table.specs.ReadingCursors.{IsRising}
+use Rattle.block.specs.EncodedEntry.{Entry}
+use Rattle.table.specs.ReadingCursors.{EntriesRise}
 use Rattle.edit.specs.Version.{State}
 use Rattle.edit.specs.declared.meta.NewFile.{NewFile}
 use Rattle.reads.specs.declared.level_file.LevelFile.{LevelFile}
-use Rattle.reads.specs.Tables.{Numbered, table_entries, all_entries}
-use Rattle.reads.specs.Lawful.{IsLawful, IsFileOf, IsBelowNext, AreDisjoint, AreDistinct, AreNewer, StandsAbove}
-use Rattle.reads.specs.Checking.{file_in, IsStatedFile, IsSoundFile, AreAll, AreListed, AreInTurn}
-use Rattle.reads.specs.Standing.{IsNewer, AreFalling}
+use Rattle.reads.specs.Tables.{NumberedContents, table_entries, all_entries}
+use Rattle.reads.specs.Lawful.{IsLawful, IsFileOf, IsBelowNextFile, AreDisjoint, AreDistinct, AreNewer, StandsAbove}
+use Rattle.reads.specs.FileChecks.{level_file_in, IsStatedFile, IsSoundFile, AreAll, AreListed, AreInTurn}
+use Rattle.reads.specs.TableOrder.{IsNewer, AreFalling}
 use Rattle.reads.proofs.Members.{in_flat_map, from_flat_map, in_map}
 use Rattle.reads.proofs.Orders.{later_older}
 use Rattle.reads.proofs.Answers.{entries_are, first_or_above, last_or_below}
@@ -26,12 +26,12 @@ use Rattle.reads.proofs.Newer.{newer_at, newer_of}
 use Rattle.reads.proofs.FallingEntries.{each_of}
 use Rattle.reads.proofs.Pairs.{Pairs, pairs_from, pairs_to, pairs_right, pairs_across, pairs_part, pairs_of_two, pairs_joined, pairs_unmap, pairs_weaker, pairs_within, pairs_both, pairs_two}
 use Rattle.reads.proofs.OrderedFiles.{Before, before_decides, at_top, top_at, at_depth, depth_at}
-use Rattle.reads.proofs.Standing.{is_range, comes_before}
+use Rattle.reads.proofs.FileOrder.{is_range, comes_before}
 pub use Rattle.reads.proofs.Apart.{one_number}
 use Rattle.reads.proofs.Apart.{apart_places, AreTwo, distinct_pairs}
 
 -- what rises and has no version twice falls
-rising_newer : (cmp : List ℕ → List ℕ → Ordering) → IsTotalOrder cmp → (es : List Entry) → IsRising cmp es → Pairs AreDistinct es → Pairs IsNewer es
+rising_newer : (cmp : List ℕ → List ℕ → Ordering) → IsTotalOrder cmp → (es : List Entry) → EntriesRise cmp es → Pairs AreDistinct es → Pairs IsNewer es
 rising_newer cmp total [] rising pairs = tt
 rising_newer cmp total (e ∷ es) rising pairs = (
   λ f at same.
@@ -44,7 +44,7 @@ rising_newer cmp total (e ∷ es) rising pairs = (
 newer_distinct : (a b : Entry) → IsNewer a b → AreDistinct a b
 newer_distinct a b newer same tie = let lt : sequence_of b.key < sequence_of a.key = newer same in absurd (omega arith)
 
-module _ (cmp : List ℕ → List ℕ → Ordering) (total : IsTotalOrder cmp) (v : State) (tables : List Numbered) where
+module _ (cmp : List ℕ → List ℕ → Ordering) (total : IsTotalOrder cmp) (v : State) (tables : List NumberedContents) where
   abbrev held : NewFile → List Entry
   held f = table_entries tables f.meta.number
 
@@ -211,23 +211,23 @@ module _ (cmp : List ℕ → List ℕ → Ordering) (total : IsTotalOrder cmp) (
           size = is.size;
           smallest = is.smallest;
           largest = is.largest;
-          below_next = All-contains (λ (g : NewFile). IsBelowNext v.next_file g.meta.number) v.files f lawful.below_next at;
+          below_next = All-contains (λ (g : NewFile). IsBelowNextFile v.next_file g.meta.number) v.files f lawful.below_next at;
         }
 
     module _ (items : List LevelFile) (listing : AreListed cmp v.files items) where
-      there : (k : ℕ) (d : LevelFile) → k < length items → Contains v.files (file_in (get_or items k d))
-      there k d lt = listing.all.only (file_in (get_or items k d)) (in_map file_in items (get_or items k d) (Contains-get_or items k d lt))
+      there : (k : ℕ) (d : LevelFile) → k < length items → Contains v.files (level_file_in (get_or items k d))
+      there k d lt = listing.all.only (level_file_in (get_or items k d)) (in_map level_file_in items (get_or items k d) (Contains-get_or items k d lt))
 
-      two : Pairs AreTwo (map file_in items)
-      two = distinct_pairs (map file_in items) listing.all.distinct
+      two : Pairs AreTwo (map level_file_in items)
+      two = distinct_pairs (map level_file_in items) listing.all.distinct
 
       pub stand_in_turn : AreInTurn cmp items
       stand_in_turn k d lt =
-          let f = file_in (get_or items k d) in
-          let g = file_in (get_or items (k + 1) d) in
+          let f = level_file_in (get_or items k d) in
+          let g = level_file_in (get_or items (k + 1) d) in
           let at = there k d (omega arith) in
           let next = there (k + 1) d lt in
-          let other : f.meta.number ≢ g.meta.number = pairs_to (λ x y. AreTwo (file_in x) (file_in y)) items (pairs_unmap AreTwo file_in items two) k (k + 1) d (omega arith) lt in
+          let other : f.meta.number ≢ g.meta.number = pairs_to (λ x y. AreTwo (level_file_in x) (level_file_in y)) items (pairs_unmap AreTwo level_file_in items two) k (k + 1) d (omega arith) lt in
           elim (one_before f g at next other) [
             | inl before ↦ (before_decides cmp f g).1 before
             | inr back ↦ absurd (clash (comes_before cmp total g f (is_range cmp total tables v.next_file g (is_as_stated g next)) back) (listing.sorted k d (omega arith) lt))
@@ -237,28 +237,28 @@ module _ (cmp : List ℕ → List ℕ → Ordering) (total : IsTotalOrder cmp) (
           clash {b = b} e k = let both : true ≡ false = sym e ∙ k in absurd cc
 
       -- each entry of a file is newer than those of its user key in a file that it stands before
-      across : (f g : NewFile) → Contains (map file_in items) f → Contains (map file_in items) g → Before cmp f g × AreTwo f g → (a b : Entry) → Contains (held f) a → Contains (held g) b → IsNewer a b
+      across : (f g : NewFile) → Contains (map level_file_in items) f → Contains (map level_file_in items) g → Before cmp f g × AreTwo f g → (a b : Entry) → Contains (held f) a → Contains (held g) b → IsNewer a b
       across f g i j h a b k l same =
           newer_at (held f) (held g) (newer_if_before f g (listing.all.only f i) (listing.all.only g j) h.1 h.0) a b k l same
 
-      own_newer : (f : NewFile) → Contains (map file_in items) f → Pairs IsNewer (held f)
+      own_newer : (f : NewFile) → Contains (map level_file_in items) f → Pairs IsNewer (held f)
       own_newer f at =
           let in_version = listing.all.only f at in
           let is = file_at f in_version in
           let whole : held f ≡ is.table.entries = entries_are tables f.meta.number is.table is.there in
           subst (Pairs IsNewer) (sym whole) (rising_newer cmp total is.table.entries is.rising (subst (Pairs AreDistinct) whole (pairs_part AreDistinct held v.files f pairs in_version)))
 
-      own_keys : (e : Entry) → Contains (all_entries tables (map file_in items)) e → IsInternalKey e.key
+      own_keys : (e : Entry) → Contains (all_entries tables (map level_file_in items)) e → IsInternalKey e.key
       own_keys e at =
-          let from = from_flat_map held (map file_in items) e at in
+          let from = from_flat_map held (map level_file_in items) e at in
           let is = file_at from.source (listing.all.only from.source from.there) in
           All-contains (λ (x : Entry). IsInternalKey x.key) is.table.entries e is.keys (subst (λ (es : List Entry). Contains es e) (entries_are tables from.source.meta.number is.table is.there) from.held)
 
-      pub entries_fall : Pairs (Before cmp) (map file_in items) → AreFalling (all_entries tables (map file_in items))
+      pub entries_fall : Pairs (Before cmp) (map level_file_in items) → AreFalling (all_entries tables (map level_file_in items))
       entries_fall before = record {
-        keys = λ k d lt. own_keys (get_or (all_entries tables (map file_in items)) k d) (Contains-get_or (all_entries tables (map file_in items)) k d lt);
-        newer = pairs_to IsNewer (all_entries tables (map file_in items)) (pairs_joined IsNewer held (map file_in items) own_newer
-            (pairs_to (λ f g. (a b : Entry) → Contains (held f) a → Contains (held g) b → IsNewer a b) (map file_in items)
-            (pairs_within (λ f g. Before cmp f g × AreTwo f g) (λ f g. (a b : Entry) → Contains (held f) a → Contains (held g) b → IsNewer a b) (map file_in items) across
-            (pairs_both (Before cmp) AreTwo (map file_in items) before two))));
+        keys = λ k d lt. own_keys (get_or (all_entries tables (map level_file_in items)) k d) (Contains-get_or (all_entries tables (map level_file_in items)) k d lt);
+        newer = pairs_to IsNewer (all_entries tables (map level_file_in items)) (pairs_joined IsNewer held (map level_file_in items) own_newer
+            (pairs_to (λ f g. (a b : Entry) → Contains (held f) a → Contains (held g) b → IsNewer a b) (map level_file_in items)
+            (pairs_within (λ f g. Before cmp f g × AreTwo f g) (λ f g. (a b : Entry) → Contains (held f) a → Contains (held g) b → IsNewer a b) (map level_file_in items) across
+            (pairs_both (Before cmp) AreTwo (map level_file_in items) before two))));
       }

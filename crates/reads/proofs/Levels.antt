@@ -13,12 +13,12 @@ use Rattle.coding.specs.declared.fault.Fault.{Fault}
 use Rattle.coding.proofs.Binds.{done}
 use Rattle.coding.specs.declared.fault.FaultName.TheVariants.{Missing}
 use Rattle.edit.specs.Version.{are_apart}
-use Rattle.edit.specs.VersionOrder.{version_cmp, in_version_order, files_at}
+use Rattle.edit.specs.VersionOrder.{file_cmp, in_version_order, files_at}
 use Rattle.edit.specs.declared.meta.FileMeta.{FileMeta}
 use Rattle.edit.specs.declared.meta.NewFile.{NewFile}
 use Rattle.edit.proofs.Tested.{both_true}
-use Rattle.edit.proofs.Sorting.{IsIn, version_cmp-total, from_all, order_permutes}
-use Rattle.reads.specs.Tables.{Numbered, table_of, tables_test}
+use Rattle.edit.proofs.SortedFiles.{IsIn, version_cmp-total, from_all, order_permutes}
+use Rattle.reads.specs.Tables.{NumberedContents, table_of_number, tables_test}
 use Rattle.reads.proofs.Members.{first_or_later, later_in, first_in, none_in, in_filter, from_filter, in_map, from_map}
 
 -- ---- tests of all elements
@@ -76,7 +76,7 @@ pub record IsAtLevel (files : List NewFile) (level : ℕ) (meta : FileMeta) : Ty
 
 module _ (cmp : List ℕ → List ℕ → Ordering) (total : IsTotalOrder cmp) (files : List NewFile) (level : ℕ) where
   pub from_level : (meta : FileMeta) → Contains (in_version_order cmp (files_at files level)) meta → IsAtLevel files level meta
-  from_level meta at = of_file (elim (from_all (version_cmp cmp) (version_cmp-total total) [] (files_at files level) meta (is_in (in_version_order cmp (files_at files level)) meta at)) [ inl i ↦ absurd i | inr i ↦ contains_in (files_at files level) meta i ])
+  from_level meta at = of_file (elim (from_all (file_cmp cmp) (version_cmp-total total) [] (files_at files level) meta (is_in (in_version_order cmp (files_at files level)) meta at)) [ inl i ↦ absurd i | inr i ↦ contains_in (files_at files level) meta i ])
     where
       of_file : Contains (files_at files level) meta → IsAtLevel files level meta
       of_file there =
@@ -111,16 +111,16 @@ abbrev pub tested : Bool → Result (Unit {0}) Fault
 tested b = cond b (Ok tt) (Err (fault Missing))
 
 -- the files of the levels before this one have tables
-pub record HaveTables (tables : List Numbered) (files : List NewFile) (level : ℕ) : Type 0 where
-  pub there : (f : NewFile) → Contains files f → f.level < level → is_some (table_of tables f.meta.number) ≡ true
+pub record HaveTables (tables : List NumberedContents) (files : List NewFile) (level : ℕ) : Type 0 where
+  pub there : (f : NewFile) → Contains files f → f.level < level → is_some (table_of_number tables f.meta.number) ≡ true
   pub low : 0 < level → All (λ (f : NewFile). f.level ≤ 6) files
 
-pub none_tested : (tables : List Numbered) (files : List NewFile) → HaveTables tables files 0
+pub none_tested : (tables : List NumberedContents) (files : List NewFile) → HaveTables tables files 0
 none_tested tables files = record { there = λ f at lt. absurd (omega arith); low = λ lt. absurd (omega arith) }
 
-pub level_tested : (cmp : List ℕ → List ℕ → Ordering) (total : IsTotalOrder cmp) (tables : List Numbered) (files : List NewFile) (level : ℕ) (items : List (Bor FileMeta))
+pub level_tested : (cmp : List ℕ → List ℕ → Ordering) (total : IsTotalOrder cmp) (tables : List NumberedContents) (files : List NewFile) (level : ℕ) (items : List (Bor FileMeta))
     → map (λ (f : Bor FileMeta). f.now) items ≡ in_version_order cmp (files_at files level) → are_apart files ≡ true → All (λ (f : NewFile). f.level ≤ 6) files
-    → list_all (λ (f : Bor FileMeta). is_some (table_of tables f.now.number)) items ≡ true → HaveTables tables files level → HaveTables tables files (level + 1)
+    → list_all (λ (f : Bor FileMeta). is_some (table_of_number tables f.now.number)) items ≡ true → HaveTables tables files level → HaveTables tables files (level + 1)
 level_tested cmp total tables files level items is apart low all so_far = record {
   there = λ f at lt. elim (eq-or-lt_of_le (at_most f.level lt)) [ inl own ↦ at_own f at own | inr before ↦ so_far.there f at before ];
   low = λ lt. low;
@@ -129,26 +129,26 @@ level_tested cmp total tables files level items is apart low all so_far = record
     at_most : (n : ℕ) → n < level + 1 → n ≤ level
     at_most n lt = omega arith
 
-    at_own : (f : NewFile) → Contains files f → f.level ≡ level → is_some (table_of tables f.meta.number) ≡ true
+    at_own : (f : NewFile) → Contains files f → f.level ≡ level → is_some (table_of_number tables f.meta.number) ≡ true
     at_own f at own =
         let lent = lent_at cmp total files level items is apart f at own in
-        ap (λ (m : FileMeta). is_some (table_of tables m.number)) (sym lent.of) ∙ all_at (λ (f : Bor FileMeta). is_some (table_of tables f.now.number)) items lent.lent all lent.there
+        ap (λ (m : FileMeta). is_some (table_of_number tables m.number)) (sym lent.of) ∙ all_at (λ (f : Bor FileMeta). is_some (table_of_number tables f.now.number)) items lent.lent all lent.there
 
-pub all_tested : (tables : List Numbered) (files : List NewFile) → HaveTables tables files 7 → tables_test tables files ≡ Ok tt
+pub all_tested : (tables : List NumberedContents) (files : List NewFile) → HaveTables tables files 7 → tables_test tables files ≡ Ok tt
 all_tested tables files so_far =
     let low = so_far.low (omega arith) in
-    let all : list_all (λ (f : NewFile). is_some (table_of tables f.meta.number)) files ≡ true =
-    all_of (λ (f : NewFile). is_some (table_of tables f.meta.number)) files (λ f at. let le : f.level ≤ 6 = All-contains (λ (f : NewFile). f.level ≤ 6) files f low at in so_far.there f at (omega arith)) in
+    let all : list_all (λ (f : NewFile). is_some (table_of_number tables f.meta.number)) files ≡ true =
+    all_of (λ (f : NewFile). is_some (table_of_number tables f.meta.number)) files (λ f at. let le : f.level ≤ 6 = All-contains (λ (f : NewFile). f.level ≤ 6) files f low at in so_far.there f at (omega arith)) in
     ap tested all
 
-pub one_missing : (cmp : List ℕ → List ℕ → Ordering) (total : IsTotalOrder cmp) (tables : List Numbered) (files : List NewFile) (level : ℕ) (items : List (Bor FileMeta))
-    → map (λ (f : Bor FileMeta). f.now) items ≡ in_version_order cmp (files_at files level) → list_all (λ (f : Bor FileMeta). is_some (table_of tables f.now.number)) items ≡ false → tables_test tables files ≡ Err (fault Missing)
+pub one_missing : (cmp : List ℕ → List ℕ → Ordering) (total : IsTotalOrder cmp) (tables : List NumberedContents) (files : List NewFile) (level : ℕ) (items : List (Bor FileMeta))
+    → map (λ (f : Bor FileMeta). f.now) items ≡ in_version_order cmp (files_at files level) → list_all (λ (f : Bor FileMeta). is_some (table_of_number tables f.now.number)) items ≡ false → tables_test tables files ≡ Err (fault Missing)
 one_missing cmp total tables files level items is some_fails =
-    let failing = not_all (λ (f : Bor FileMeta). is_some (table_of tables f.now.number)) items some_fails in
+    let failing = not_all (λ (f : Bor FileMeta). is_some (table_of_number tables f.now.number)) items some_fails in
     let at = lent_from cmp total files level items is failing.element failing.there in
-    let fails : is_some (table_of tables at.file.meta.number) ≡ false = ap (λ (m : FileMeta). is_some (table_of tables m.number)) at.is ∙ failing.fails in
-    let all : list_all (λ (f : NewFile). is_some (table_of tables f.meta.number)) files ≡ false =
-    all_fails (λ (f : NewFile). is_some (table_of tables f.meta.number)) files (record { element = at.file; there = at.there; fails = fails }) in
+    let fails : is_some (table_of_number tables at.file.meta.number) ≡ false = ap (λ (m : FileMeta). is_some (table_of_number tables m.number)) at.is ∙ failing.fails in
+    let all : list_all (λ (f : NewFile). is_some (table_of_number tables f.meta.number)) files ≡ false =
+    all_fails (λ (f : NewFile). is_some (table_of_number tables f.meta.number)) files (record { element = at.file; there = at.there; fails = fails }) in
     ap tested all
 
 pub done_is : (b : Bool) → tested b ≡ done tt → b ≡ true
@@ -156,9 +156,9 @@ done_is true e = refl
 done_is false e = absurd cc
 
 -- where each file has a table, each of a level has one
-pub level_there : (cmp : List ℕ → List ℕ → Ordering) (total : IsTotalOrder cmp) (tables : List Numbered) (files : List NewFile) (level : ℕ) (items : List (Bor FileMeta))
-    → map (λ (f : Bor FileMeta). f.now) items ≡ in_version_order cmp (files_at files level) → tables_test tables files ≡ Ok tt → All (λ (f : Bor FileMeta). is_some (table_of tables f.now.number) ≡ true) items
+pub level_there : (cmp : List ℕ → List ℕ → Ordering) (total : IsTotalOrder cmp) (tables : List NumberedContents) (files : List NewFile) (level : ℕ) (items : List (Bor FileMeta))
+    → map (λ (f : Bor FileMeta). f.now) items ≡ in_version_order cmp (files_at files level) → tables_test tables files ≡ Ok tt → All (λ (f : Bor FileMeta). is_some (table_of_number tables f.now.number) ≡ true) items
 level_there cmp total tables files level items is test k d lt =
-    let all = done_is (list_all (λ (f : NewFile). is_some (table_of tables f.meta.number)) files) test in
+    let all = done_is (list_all (λ (f : NewFile). is_some (table_of_number tables f.meta.number)) files) test in
     let at = lent_from cmp total files level items is (get_or items k d) (Contains-get_or items k d lt) in
-    ap (λ (m : FileMeta). is_some (table_of tables m.number)) (sym at.is) ∙ all_at (λ (f : NewFile). is_some (table_of tables f.meta.number)) files at.file all at.there
+    ap (λ (m : FileMeta). is_some (table_of_number tables m.number)) (sym at.is) ∙ all_at (λ (f : NewFile). is_some (table_of_number tables f.meta.number)) files at.file all at.there

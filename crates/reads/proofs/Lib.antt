@@ -10,12 +10,12 @@ pub mod FallingEntries
 pub mod Newer
 pub mod Pairs
 pub mod Apart
-pub mod Gathering
-pub mod Falling
+pub mod GatheredFiles
+pub mod EntriesInOrder
 pub mod Ranged
 pub mod SoundFiles
 pub mod OrderedFiles
-pub mod Standing
+pub mod FileOrder
 pub mod LawfulVersions
 pub mod Listed
 pub mod Places

@@ -4,9 +4,9 @@ use Rattle.std.specs.Prelude.{Contains}
 use Rattle.std.specs.List.{All}
 use Rattle.std.proofs.lemmas.List.Elements.{All-contains, Contains-get_or}
 use Rattle.ikey.specs.Key.{user_of, sequence_of}
-use Rattle.block.specs.Piece.{Entry}
+use Rattle.block.specs.EncodedEntry.{Entry}
 use Rattle.reads.specs.Lawful.{AreNewer}
-use Rattle.reads.specs.Standing.{IsNewer}
+use Rattle.reads.specs.TableOrder.{IsNewer}
 
 pub newer_at : (xs ys : List Entry) → AreNewer xs ys → (a b : Entry) → Contains xs a → Contains ys b → user_of a.key ≡ user_of b.key → sequence_of b.key < sequence_of a.key
 newer_at xs ys newer a b i j same =

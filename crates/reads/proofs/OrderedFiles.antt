@@ -7,7 +7,7 @@ use Rattle.std.specs.declared.cmp.Ordering.TheVariants.{Less, Equal, Greater}
 use Rattle.std.proofs.lemmas.Bool.Decides.{Decides-ltb, Decides-eqb, Decides-and, Decides-or}
 use Rattle.ikey.specs.Order.{internal_cmp}
 use Rattle.edit.specs.declared.meta.NewFile.{NewFile}
-use Rattle.reads.specs.Checking.{stands_before}
+use Rattle.reads.specs.FileChecks.{stands_before}
 
 lt_decides : (o : Ordering) → (is_lt o ≡ true → o ≡ Less) × (o ≡ Less → is_lt o ≡ true)
 lt_decides Less = (λ e. refl, λ e. refl)

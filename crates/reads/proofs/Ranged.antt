@@ -5,10 +5,10 @@ use Rattle.std.specs.Option.{option_map_or, ForSome}
 use Rattle.std.specs.Ordering.{is_lt}
 use Rattle.std.specs.declared.cmp.Ordering.{Ordering}
 use Rattle.std.specs.declared.cmp.Ordering.TheVariants.{Less, Equal, Greater}
-use Rattle.block.specs.Piece.{Entry}
+use Rattle.block.specs.EncodedEntry.{Entry}
 use Rattle.split.specs.Ranges.{KeyRange, IsIn}
-use Rattle.reads.specs.Checking.{is_from, is_before_end}
-use Rattle.reads.specs.Standing.{AreFalling, AreFallingIn}
+use Rattle.reads.specs.FileChecks.{is_from, is_before_end}
+use Rattle.reads.specs.TableOrder.{AreFalling, AreFallingIn}
 
 less_of : (o : Ordering) → is_lt o ≡ true → o ≡ Less
 less_of Less h = refl

@@ -12,14 +12,14 @@ use Rattle.ikey.specs.Key.{user_of, sequence_of, kind_of}
 use Rattle.ikey.specs.declared.kind.Kind.{Kind}
 use Rattle.ikey.specs.declared.kind.Kind.TheVariants.{Put}
 use Rattle.ikey.specs.Order.{internal_cmp}
-use Rattle.block.specs.Piece.{Entry}
-use Rattle.table.specs.ReadingCursors.{IsRising, entries_from}
-use Rattle.reads.specs.Visible.{Visible, visible_of, IsVisible, IsAnswer}
+use Rattle.block.specs.EncodedEntry.{Entry}
+use Rattle.table.specs.ReadingCursors.{EntriesRise, entries_from}
+use Rattle.reads.specs.Visible.{VisibleEntry, visible_of, IsVisible, IsAnswer}
 use Rattle.reads.proofs.Members.{first_or_later, later_in, first_in, none_in}
 use Rattle.reads.proofs.Orders.{later_older, before_put, not_before, other_user}
 
 -- each entry behind the first is above it
-pub above_first : (cmp : List ℕ → List ℕ → Ordering) (e : Entry) (es : List Entry) (f : Entry) → IsRising cmp (e ∷ es) → Contains es f → internal_cmp cmp e.key f.key ≡ Less
+pub above_first : (cmp : List ℕ → List ℕ → Ordering) (e : Entry) (es : List Entry) (f : Entry) → EntriesRise cmp (e ∷ es) → Contains es f → internal_cmp cmp e.key f.key ≡ Less
 above_first cmp e es f rising at =
     let P : Entry → Type 0 = λ x. internal_cmp cmp e.key x.key ≡ Less in
     All-contains P es f (All-from_recursion P es rising.0) at
@@ -72,7 +72,7 @@ module _ (cmp : List ℕ → List ℕ → Ordering) (total : IsTotalOrder cmp) (
   first_not_below (d ∷ es) e rest is = first_by d es e rest (is_lt (internal_cmp cmp d.key t)) refl (first_not_below es e rest) is
 
   -- the answer by what is left
-  of_rest : (es : List Entry) (rest : List Entry) (o : Option Visible) → entries_from cmp t es ≡ rest → IsAnswer rest (user_of t) (sequence_of t) o → IsAnswer es (user_of t) (sequence_of t) o
+  of_rest : (es : List Entry) (rest : List Entry) (o : Option VisibleEntry) → entries_from cmp t es ≡ rest → IsAnswer rest (user_of t) (sequence_of t) o → IsAnswer es (user_of t) (sequence_of t) o
   of_rest es rest None is none = λ x at seen. none x (subst (λ (l : List Entry). Contains l x) is (in_rest es x seen at)) seen
   of_rest es rest (Some s) is newest = record {
     entry = newest.entry;
@@ -82,14 +82,14 @@ module _ (cmp : List ℕ → List ℕ → Ordering) (total : IsTotalOrder cmp) (
     most = λ x at seen. newest.most x (subst (λ (l : List Entry). Contains l x) is (in_rest es x seen at)) seen;
   }
 
-  other_first : (e : Entry) (rest : List Entry) → IsRising cmp (e ∷ rest) → is_lt (internal_cmp cmp e.key t) ≡ false → user_of e.key ≢ user_of t → IsAnswer (e ∷ rest) (user_of t) (sequence_of t) None
+  other_first : (e : Entry) (rest : List Entry) → EntriesRise cmp (e ∷ rest) → is_lt (internal_cmp cmp e.key t) ≡ false → user_of e.key ≢ user_of t → IsAnswer (e ∷ rest) (user_of t) (sequence_of t) None
   other_first e rest rising not_below other x at seen =
       elim (first_or_later e rest x at) [
         | inl same ↦ other (ap (λ (y : Entry). user_of y.key) (sym same) ∙ seen.0)
         | inr later ↦ other_user cmp total exact e.key x.key t not_below other (above_first cmp e rest x rising later) seen.0
       ]
 
-  own_first : (e : Entry) (rest : List Entry) → IsRising cmp (e ∷ rest) → is_lt (internal_cmp cmp e.key t) ≡ false → user_of e.key ≡ user_of t → IsAnswer (e ∷ rest) (user_of t) (sequence_of t) (Some (visible_of e))
+  own_first : (e : Entry) (rest : List Entry) → EntriesRise cmp (e ∷ rest) → is_lt (internal_cmp cmp e.key t) ≡ false → user_of e.key ≡ user_of t → IsAnswer (e ∷ rest) (user_of t) (sequence_of t) (Some (visible_of e))
   own_first e rest rising not_below own = record {
     entry = e;
     there = first_in e rest;
@@ -107,7 +107,7 @@ module _ (cmp : List ℕ → List ℕ → Ordering) (total : IsTotalOrder cmp) (
   sought_end es (e ∷ rest) is none = absurd (omega arith)
 
   -- the first that is left is of another user key
-  pub sought_other : (es rest : List Entry) (key : List ℕ) → rest ≡ entries_from cmp t es → IsRising cmp rest → option_map (λ e. e.key) (slice_get rest 0) ≡ Some key → user_of key ≢ user_of t
+  pub sought_other : (es rest : List Entry) (key : List ℕ) → rest ≡ entries_from cmp t es → EntriesRise cmp rest → option_map (λ e. e.key) (slice_get rest 0) ≡ Some key → user_of key ≢ user_of t
       → IsAnswer es (user_of t) (sequence_of t) None
   sought_other es [] key is rising first other = absurd cc
   sought_other es (e ∷ rest) key is rising first other =
@@ -115,7 +115,7 @@ module _ (cmp : List ℕ → List ℕ → Ordering) (total : IsTotalOrder cmp) (
       of_rest es (e ∷ rest) None (sym is) (other_first e rest rising (first_not_below es e rest (sym is)) (λ own. other (ap user_of (sym same) ∙ own)))
 
   -- the first that is left is of the user key
-  pub sought_own : (es rest : List Entry) (key value : List ℕ) (sequence : ℕ) (kind : Kind) → sequence ≡ sequence_of key → kind ≡ kind_of key → rest ≡ entries_from cmp t es → IsRising cmp rest → option_map (λ e. e.key) (slice_get rest 0) ≡ Some key → option_map (λ e. e.value) (slice_get rest 0) ≡ Some value
+  pub sought_own : (es rest : List Entry) (key value : List ℕ) (sequence : ℕ) (kind : Kind) → sequence ≡ sequence_of key → kind ≡ kind_of key → rest ≡ entries_from cmp t es → EntriesRise cmp rest → option_map (λ e. e.key) (slice_get rest 0) ≡ Some key → option_map (λ e. e.value) (slice_get rest 0) ≡ Some value
       → user_of key ≡ user_of t → IsAnswer es (user_of t) (sequence_of t) (Some (record { sequence = sequence; kind = kind; value = value }))
   sought_own es [] key value sequence kind n k is rising first held own = absurd cc
   sought_own es (e ∷ rest) key value sequence kind n k is rising first held own =
@@ -123,4 +123,4 @@ module _ (cmp : List ℕ → List ℕ → Ordering) (total : IsTotalOrder cmp) (
       let same_value : e.value ≡ value = cc in
       let seen : visible_of e ≡ record { sequence = sequence; kind = kind; value = value } = seen_is e sequence kind value (ap sequence_of same ∙ sym n) (ap kind_of same ∙ sym k) same_value in
       of_rest es (e ∷ rest) (Some (record { sequence = sequence; kind = kind; value = value })) (sym is)
-      (subst (λ (s : Visible). IsAnswer (e ∷ rest) (user_of t) (sequence_of t) (Some s)) seen (own_first e rest rising (first_not_below es e rest (sym is)) (ap user_of same ∙ own)))
+      (subst (λ (s : VisibleEntry). IsAnswer (e ∷ rest) (user_of t) (sequence_of t) (Some s)) seen (own_first e rest rising (first_not_below es e rest (sym is)) (ap user_of same ∙ own)))

@@ -9,30 +9,30 @@ use Rattle.coding.specs.declared.fault.Fault.{Fault}
 use Rattle.coding.specs.declared.fault.FaultName.TheVariants.{Lawless}
 use Rattle.ikey.specs.Key.{IsInternalKey, user_of, sequence_of}
 use Rattle.ikey.specs.Order.{internal_cmp}
-use Rattle.block.specs.Piece.{Entry}
-use Rattle.table.specs.Reading.{Contents, contents_reading}
-use Rattle.table.specs.ReadingCursors.{IsRising}
+use Rattle.block.specs.EncodedEntry.{Entry}
+use Rattle.table.specs.TableContents.{Contents, contents_reading}
+use Rattle.table.specs.ReadingCursors.{EntriesRise}
 use Rattle.edit.specs.Version.{State, are_apart}
 use Rattle.edit.specs.declared.meta.FileMeta.{FileMeta}
 use Rattle.edit.specs.declared.meta.NewFile.{NewFile}
-use Rattle.reads.specs.Tables.{Numbered, table_of, table_entries, all_entries, tables_test}
+use Rattle.reads.specs.Tables.{NumberedContents, table_of_number, table_entries, all_entries, tables_test}
 
 -- A file's table is there and accepted: its bytes read as just that table, and its internal keys
 -- rise strictly. Its length, first and last key are those that the version states.
-pub record IsFileOf (cmp : List ℕ → List ℕ → Ordering) (tables : List Numbered) (f : FileMeta) : Type 0 where
+pub record IsFileOf (cmp : List ℕ → List ℕ → Ordering) (tables : List NumberedContents) (f : FileMeta) : Type 0 where
   pub table : Contents
-  pub there : table_of tables f.number ≡ Some table
+  pub there : table_of_number tables f.number ≡ Some table
   pub accepted : contents_reading cmp table.bytes ≡ Ok table
   pub keys : All (λ e. IsInternalKey e.key) table.entries
-  pub rising : IsRising cmp table.entries
+  pub rising : EntriesRise cmp table.entries
   pub size : f.size ≡ length table.bytes
   pub smallest : option_map (λ e. e.key) (slice_get table.entries 0) ≡ Some f.smallest
   pub largest : option_map (λ e. e.key) (slice_get table.entries (length table.entries - 1)) ≡ Some f.largest
 
 -- the number is below next file; no number is if next file was never set
-abbrev pub IsBelowNext : Option ℕ → ℕ → Type 0
-IsBelowNext None number = ⊥
-IsBelowNext (Some next) number = number < next
+abbrev pub IsBelowNextFile : Option ℕ → ℕ → Type 0
+IsBelowNextFile None number = ⊥
+IsBelowNextFile (Some next) number = number < next
 
 -- the ranges of internal keys of two files are disjoint
 abbrev pub AreDisjoint : (List ℕ → List ℕ → Ordering) → FileMeta → FileMeta → Type 0
@@ -57,10 +57,10 @@ StandsAbove f g = (f.level < g.level) ⊎ ((f.level ≡ 0) × (g.level ≡ 0) ×
 -- - no user key has one sequence twice in all tables;
 -- - of one user key, the entries of a file have greater sequences than those of each file that it
 --   is above.
-pub record IsLawful (cmp : List ℕ → List ℕ → Ordering) (v : State) (tables : List Numbered) : Type 0 where
+pub record IsLawful (cmp : List ℕ → List ℕ → Ordering) (v : State) (tables : List NumberedContents) : Type 0 where
   pub files : All (λ f. IsFileOf cmp tables f.meta) v.files
   pub apart : are_apart v.files ≡ true
-  pub below_next : All (λ f. IsBelowNext v.next_file f.meta.number) v.files
+  pub below_next : All (λ f. IsBelowNextFile v.next_file f.meta.number) v.files
   pub disjoint : (f g : NewFile) → Contains v.files f → Contains v.files g → f.level ≡ g.level → 0 < f.level
       → f.meta.number ≢ g.meta.number → AreDisjoint cmp f.meta g.meta
   pub sequences_once : AllPairs AreDistinct (all_entries tables v.files)
@@ -68,6 +68,6 @@ pub record IsLawful (cmp : List ℕ → List ℕ → Ordering) (v : State) (tabl
       → AreNewer (table_entries tables f.meta.number) (table_entries tables g.meta.number)
 
 -- why a version is refused: Missing if a file has no table, else Lawless if it isn't lawful
-abbrev pub IsUnlawful : (List ℕ → List ℕ → Ordering) → State → List Numbered → Fault → Type 0
+abbrev pub IsUnlawful : (List ℕ → List ℕ → Ordering) → State → List NumberedContents → Fault → Type 0
 IsUnlawful cmp v tables e =
     (tables_test tables v.files ≡ Err e) ⊎ ((tables_test tables v.files ≡ Ok tt) × (e ≡ fault Lawless) × (IsLawful cmp v tables → ⊥))

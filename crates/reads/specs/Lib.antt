@@ -3,9 +3,9 @@ pub mod Tables
 pub mod Gets
 pub mod Lawful
 pub mod NewestFirst
-pub mod Standing
+pub mod TableOrder
 pub mod Bounds
 -- serves proofs alone
 pub mod Visible
-pub mod Checking
+pub mod FileChecks
 pub mod Places

@@ -3,10 +3,10 @@ use Rattle.std.specs.Prelude.{◌≡◌, ℕ, ◌<◌, nat_le, List, [], ◌∷�
 use Rattle.std.specs.List.{AllByRecursion}
 use Rattle.std.specs.Option.{option_and_then}
 use Rattle.ikey.specs.Key.{user_of, sequence_of}
-use Rattle.block.specs.Piece.{Entry}
+use Rattle.block.specs.EncodedEntry.{Entry}
 use Rattle.edit.specs.Version.{State}
 use Rattle.reads.specs.Gets.{value_in, get_of}
-use Rattle.reads.specs.Tables.{Numbered, all_entries}
+use Rattle.reads.specs.Tables.{NumberedContents, all_entries}
 
 -- each entry's sequence is greater than those of all later entries
 abbrev pub SequencesFall : List Entry → Type 0
@@ -31,6 +31,6 @@ pub record AreThoseOf (user : List ℕ) (all own : List Entry) : Type 0 where
 -- first
 abbrev pub AnswersNewestFirst : Type 0
 AnswersNewestFirst =
-    (v : State) (tables : List Numbered) (user : List ℕ) (own : List Entry) (at : ℕ) →
+    (v : State) (tables : List NumberedContents) (user : List ℕ) (own : List Entry) (at : ℕ) →
     AreThoseOf user (all_entries tables v.files) own → SequencesFall own →
     get_of v tables user at ≡ answer_at at own

@@ -13,17 +13,17 @@ ghost use Rattle.coding.specs.Answers.{EqualOrMemory, fault, UnlessMemory};
 ghost use Rattle.coding.specs.declared.fault.FaultName.TheVariants.{Memory};
 ghost use Rattle.edit.specs.Version.{IsState};
 ghost use Rattle.edit.specs.VersionOrder.{at_level};
-ghost use Rattle.reads.specs.Tables.{table_of, table_entries, tables_test};
+ghost use Rattle.reads.specs.Tables.{table_of_number, table_entries, tables_test};
 ghost use Rattle.reads.specs.Lawful.{IsLawful, IsUnlawful};
-ghost use Rattle.reads.specs.Checking.{file_in, is_below, is_stated, IsStatedFile, stands_before, AreAll, rank_of, standing_cmp, AreListed, AreInTurn};
-ghost use Rattle.reads.specs.Standing.{AreStanding};
+ghost use Rattle.reads.specs.FileChecks.{level_file_in, is_below, matches_metadata, IsStatedFile, stands_before, AreAll, rank_of, standing_cmp, AreListed, AreInTurn};
+ghost use Rattle.reads.specs.TableOrder.{AreStanding};
 
 use crate::bounds::has_bounds;
-use crate::finding::{LEVELS, tables_test};
+use crate::entries_walk::falls_in;
 use crate::level_file::LevelFile;
 use crate::numbered_table::NumberedTable;
 use crate::table_places::TablePlaces;
-use crate::walking::falls_in;
+use crate::table_search::{LEVELS, tables_test};
 use coding::{Fault, FaultName};
 use edit::{FileMeta, Version};
 use ikey::{Comparator, InternalKey};
@@ -113,8 +113,8 @@ fn push_level<'v>(
     level: u64,
     files: &[&'v FileMeta],
 ) -> Result<(), Fault>
-    ensures ok { OnOk result (map file_in all.new.items
-        ≡ map file_in all.old.items ++ map (λ f. at_level level f.now) files.now) }
+    ensures ok { OnOk result (map level_file_in all.new.items
+        ≡ map level_file_in all.old.items ++ map (λ f. at_level level f.now) files.now) }
     ensures memory { IfErr result (λ e. e ≡ fault Memory) }
 {
     for file in files {
@@ -128,7 +128,7 @@ fn all_files<'v, C: Comparator>(
     alloc: Global,
     version: &'v Version,
 ) -> Result<Vec<LevelFile<'v>>, Fault>
-    ensures all { IfOk result (λ files. AreAll version.now.files (map file_in files.items)) }
+    ensures all { IfOk result (λ files. AreAll version.now.files (map level_file_in files.items)) }
     ensures memory { IfErr result (λ e. e ≡ fault Memory) }
 {
     let mut all = Vec::new(alloc);
@@ -140,7 +140,7 @@ fn all_files<'v, C: Comparator>(
 
 /// The number of a file of level 0; 0 for the others.
 fn rank_of(file: &LevelFile<'_>) -> u64
-    ensures { result ≡ rank_of (file_in file.now) }
+    ensures { result ≡ rank_of (level_file_in file.now) }
 {
     if file.level == 0 { file.meta.number } else { 0 }
 }
@@ -148,7 +148,7 @@ fn rank_of(file: &LevelFile<'_>) -> u64
 /// The order of files, newer entries first: by level, at level 0 by falling number, at each other
 /// level by smallest key.
 fn standing_order<C: Comparator>(file: &LevelFile<'_>, other: &LevelFile<'_>) -> Ordering
-    ensures { result ≡ standing_cmp C.cmp (file_in file.now) (file_in other.now) }
+    ensures { result ≡ standing_cmp C.cmp (level_file_in file.now) (level_file_in other.now) }
 {
     let levels = file.level.cmp(&other.level);
     let ranks = rank_of(other).cmp(&rank_of(file));
@@ -190,7 +190,7 @@ fn is_stated(
     largest: InternalKey<'_>,
 ) -> bool
     ensures { result
-        ≡ is_stated next file.now (length bytes.now) smallest.entry.bytes.now largest.entry.bytes.now }
+        ≡ matches_metadata next file.now (length bytes.now) smallest.entry.bytes.now largest.entry.bytes.now }
 {
     is_below(next, file.number) && has_bounds(file, bytes, smallest, largest)
 }
@@ -201,7 +201,7 @@ fn is_as_stated<C: Comparator>(
     tables: &TablePlaces<'_, '_, C>,
     next: Option<u64>,
 ) -> bool
-    requires { is_some (table_of tables.now file.now.number) ≡ true }
+    requires { is_some (table_of_number tables.now file.now.number) ≡ true }
     ensures { IsTrue result ↔ IsStatedFile C.cmp tables.now next file.now }
 {
     let Some(table) = tables.table(file.number) else {
@@ -218,7 +218,7 @@ fn are_as_stated<C: Comparator>(
     tables: &TablePlaces<'_, '_, C>,
     next: Option<u64>,
 ) -> bool
-    requires { All (λ f. is_some (table_of tables.now f.meta.now.number) ≡ true) files.now }
+    requires { All (λ f. is_some (table_of_number tables.now f.meta.now.number) ≡ true) files.now }
     ensures { IsTrue result ↔ All (λ f. IsStatedFile C.cmp tables.now next f.meta.now) files.now }
 {
     for file in files {
@@ -235,7 +235,7 @@ fn are_as_stated<C: Comparator>(
 /// - or both are at level 0, and it has the higher number;
 /// - or both are at one level from 1 on, and its range of internal keys is below that of `other`.
 fn stands_before<C: Comparator>(file: &LevelFile<'_>, other: &LevelFile<'_>) -> bool
-    ensures { result ≡ stands_before C.cmp (file_in file.now) (file_in other.now) }
+    ensures { result ≡ stands_before C.cmp (level_file_in file.now) (level_file_in other.now) }
 {
     let largest = file.meta.largest.as_key();
     let smallest = other.meta.smallest.as_key();
@@ -266,7 +266,7 @@ fn tables_of<'t, 'a, C: Comparator>(
     files: &[LevelFile<'_>],
     tables: &TablePlaces<'t, 'a, C>,
 ) -> Result<Vec<&'t SoundTable<'a, C>>, Fault>
-    requires { All (λ f. is_some (table_of tables.now f.meta.now.number) ≡ true) files.now }
+    requires { All (λ f. is_some (table_of_number tables.now f.meta.now.number) ≡ true) files.now }
     ensures tables { IfOk result (λ v. map (λ t. t.now.entries) v.items
         ≡ map (λ f. table_entries tables.now f.meta.now.number) files.now) }
     ensures memory { IfErr result (λ e. e ≡ fault Memory) }

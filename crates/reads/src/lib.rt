@@ -15,19 +15,19 @@
 #![tactic(auto)]
 
 mod bounds;
-mod finding;
+mod entries_walk;
 mod found;
-mod getting;
 mod lawfulness;
-mod laws;
 mod level_file;
+mod newest_first_law;
 mod numbered_table;
 mod table_places;
-mod walking;
+mod table_search;
+mod version_get;
 
 pub use bounds::has_bounds;
-pub use getting::get;
+pub use entries_walk::falls_in;
 pub use lawfulness::{lawful, standing_tables};
-pub use laws::answers_newest_first;
+pub use newest_first_law::answers_newest_first;
 pub use numbered_table::NumberedTable;
-pub use walking::falls_in;
+pub use version_get::get;

@@ -14,9 +14,9 @@ pub struct NumberedTable<'a, C: Comparator> {
 }
 
 impl<'a, C: Comparator> Model for NumberedTable<'a, C> {
-    ghost use Rattle.reads.specs.Tables.{Numbered};
+    ghost use Rattle.reads.specs.Tables.{NumberedContents};
 
-    ghost Value = { Numbered };
+    ghost Value = { NumberedContents };
 
     ghost view = { λ t. record { number = t.number; contents = t.table } };
 }

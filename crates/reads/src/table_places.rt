@@ -4,7 +4,7 @@ ghost use Rattle.std.specs.Prelude.{◌≡◌, ◌<◌, length, slice_get, IfOk,
 ghost use Rattle.std.specs.Option.{option_map};
 ghost use Rattle.coding.specs.Answers.{EqualOrMemory, fault};
 ghost use Rattle.coding.specs.declared.fault.FaultName.TheVariants.{Memory};
-ghost use Rattle.reads.specs.Tables.{table_of};
+ghost use Rattle.reads.specs.Tables.{table_of_number};
 ghost use Rattle.reads.specs.Places.{AreFirstPlaces};
 
 use crate::numbered_table::NumberedTable;
@@ -26,10 +26,10 @@ pub(crate) struct TablePlaces<'t, 'a, C: Comparator> {
 
 impl<'t, 'a, C: Comparator> Model for TablePlaces<'t, 'a, C> {
     ghost use Rattle.std.specs.Prelude.{List};
-    ghost use Rattle.reads.specs.Tables.{Numbered};
+    ghost use Rattle.reads.specs.Tables.{NumberedContents};
     ghost use Rattle.reads.specs.Places.{AreFirstPlaces};
 
-    ghost Value = { List Numbered };
+    ghost Value = { List NumberedContents };
 
     ghost view = { λ t. t.tables.now };
 
@@ -50,7 +50,7 @@ impl<'t, 'a, C: Comparator> TablePlaces<'t, 'a, C> {
 
     /// The first table of `number`.
     pub fn table(&self, number: u64) -> Option<&'t SoundTable<'a, C>>
-        ensures { option_map (λ t. t.now) result ≡ table_of self.now number }
+        ensures { option_map (λ t. t.now) result ≡ table_of_number self.now number }
     {
         let Some(place) = self.places.get(&number) else {
             return None;

@@ -7,11 +7,11 @@ use Rattle.std.proofs.lemmas.Bool.{eqb-true, and_parts}
 use Rattle.std.proofs.lemmas.Bool.Decides.{nat_tests}
 use Rattle.std.proofs.lemmas.List.Elements.{All-nil, All-cons}
 use Rattle.std.proofs.lemmas.Map.Views.{All-insert_key}
-use Rattle.edit.specs.Edit.{Edit, HasLevels, deleted_cmp}
+use Rattle.edit.specs.Edit.{Edit, HasValidLevels, deleted_cmp}
 use Rattle.edit.specs.declared.meta.CompactPointer.{CompactPointer}
 use Rattle.edit.specs.declared.meta.DeletedFile.{DeletedFile}
 use Rattle.edit.specs.declared.meta.NewFile.{NewFile}
-use Rattle.pick.specs.Picked.{Picked}
+use Rattle.pick.specs.Picked.{PickedInputs}
 use Rattle.pick.specs.declared.picked.InputFile.{InputFile}
 use Rattle.request.specs.EditOf.{deletion_of, deletions_of}
 use Rattle.request.specs.Request.{has_levels}
@@ -35,7 +35,7 @@ low_deletions level low done (i ∷ files) all h =
     ] in
     low_deletions level low (insert_key deleted_cmp done (deletion_of i)) files (All-insert_key deleted_cmp (deletion_of i) (λ (d : DeletedFile). d.level ≤ 6) done all own) parts.1
 
-pub levels_of : (p : Picked) (e : Edit) → has_levels p ≡ true → e.pointers ≡ record { level = p.level; key = p.pointer.key } ∷ [] → e.deleted ≡ deletions_of p.files → All (λ (f : NewFile). f.level ≤ 6) e.added → HasLevels e
+pub levels_of : (p : PickedInputs) (e : Edit) → has_levels p ≡ true → e.pointers ≡ record { level = p.level; key = p.pointer.key } ∷ [] → e.deleted ≡ deletions_of p.files → All (λ (f : NewFile). f.level ≤ 6) e.added → HasValidLevels e
 levels_of p e h pointers deleted added =
     let parts = and_parts (nat_le p.level 5) (list_all (λ (i : InputFile). eqb i.level p.level || eqb i.level (p.level + 1)) p.files) h in
     let low = low_told p.level 5 parts.0 in

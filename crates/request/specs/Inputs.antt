@@ -5,38 +5,38 @@ use Rattle.std.specs.declared.cmp.Ordering.{Ordering}
 use Rattle.coding.specs.Answers.{fault, ◌>>=◌}
 use Rattle.coding.specs.declared.fault.Fault.{Fault}
 use Rattle.coding.specs.declared.fault.FaultName.TheVariants.{Bounds, Duplicate}
-use Rattle.block.specs.Piece.{Entry}
-use Rattle.block.specs.Building.{last_key}
-use Rattle.table.specs.Reading.{Contents, contents_reading}
+use Rattle.block.specs.EncodedEntry.{Entry}
+use Rattle.block.specs.BuilderView.{last_key}
+use Rattle.table.specs.TableContents.{Contents, contents_reading}
 use Rattle.table.specs.ReadingEntries.{first_key}
-use Rattle.table.specs.ReadingSteps.{pass}
+use Rattle.table.specs.ReadingSteps.{test_result}
 use Rattle.edit.specs.declared.meta.FileMeta.{FileMeta}
 use Rattle.merge.specs.Merged.{merged}
 use Rattle.pick.specs.declared.picked.InputFile.{InputFile}
 use Rattle.keep.specs.Runs.{are_distinct}
 
 -- a fault gets the place of the input that it is about
-abbrev pub about : {A : Type 0} → ℕ → Result A Fault → Result A Fault
-about place (Ok x) = Ok x
-about place (Err e) = Err (record e { input = Some place })
+abbrev pub result_at_input : {A : Type 0} → ℕ → Result A Fault → Result A Fault
+result_at_input place (Ok x) = Ok x
+result_at_input place (Err e) = Err (record e { input = Some place })
 
 -- whether a table's length, first and last key are those that the version states
-abbrev pub is_stated : FileMeta → Contents → Bool
-is_stated f table =
+abbrev pub table_matches_metadata : FileMeta → Contents → Bool
+table_matches_metadata f table =
     nat_eq f.size (length table.bytes) && bytes_eq f.smallest (first_key table.entries) && bytes_eq f.largest (last_key [] table.entries)
 
 -- the entries of an input's table, or the first test that fails: those of a table, then Bounds
 abbrev pub input_reading : (List ℕ → List ℕ → Ordering) → FileMeta → List ℕ → Result (List Entry) Fault
 input_reading cmp f bytes = do
   table ← contents_reading cmp bytes
-  _ ← pass (is_stated f table) Bounds
+  _ ← test_result (table_matches_metadata f table) Bounds
   Ok table.entries
 
 -- The entries of each input, the first of which is at `place`; or the fault of the first input that
 -- is refused, with its place.
 abbrev pub inputs_reading : (List ℕ → List ℕ → Ordering) → ℕ → List InputFile → List (List ℕ) → Result (List (List Entry)) Fault
 inputs_reading cmp place (i ∷ is) (bytes ∷ others) = do
-  entries ← about place (input_reading cmp i.meta bytes)
+  entries ← result_at_input place (input_reading cmp i.meta bytes)
   rest ← inputs_reading cmp (place + 1) is others
   Ok (entries ∷ rest)
 inputs_reading cmp place _ _ = Ok []

@@ -4,9 +4,9 @@ use Rattle.std.specs.declared.cmp.Ordering.{Ordering}
 use Rattle.coding.specs.Answers.{◌>>=◌}
 use Rattle.coding.specs.declared.fault.Fault.{Fault}
 use Rattle.coding.specs.declared.fault.FaultName.TheVariants.{Workers}
-use Rattle.block.specs.Piece.{Entry}
+use Rattle.block.specs.EncodedEntry.{Entry}
 use Rattle.table.specs.Table.{table}
-use Rattle.table.specs.ReadingSteps.{pass}
+use Rattle.table.specs.ReadingSteps.{test_result}
 use Rattle.edit.specs.Edit.{edit_bytes}
 use Rattle.cut.specs.Outputs.{outputs}
 use Rattle.request.specs.Request.{RequestView, below_request, request_test}
@@ -49,8 +49,8 @@ one_thread cmp separator_of successor_of r = do
 
 -- What a compaction by `workers` workers answers: Workers unless they are from 1 to 64, else what
 -- one thread answers.
-abbrev pub compacted : (List ℕ → List ℕ → Ordering) → (List ℕ → List ℕ → List ℕ) →
+abbrev pub compaction_result : (List ℕ → List ℕ → Ordering) → (List ℕ → List ℕ → List ℕ) →
     (List ℕ → List ℕ) → ℕ → RequestView → Result Answer Fault
-compacted cmp separator_of successor_of workers r = do
-  _ ← pass (nat_le 1 workers && nat_le workers 64) Workers
+compaction_result cmp separator_of successor_of workers r = do
+  _ ← test_result (nat_le 1 workers && nat_le workers 64) Workers
   one_thread cmp separator_of successor_of r

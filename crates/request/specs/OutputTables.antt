@@ -4,10 +4,10 @@ use Rattle.std.specs.List.{list_all, sum_by}
 use Rattle.coding.specs.Answers.{◌>>=◌}
 use Rattle.coding.specs.declared.fault.Fault.{Fault}
 use Rattle.coding.specs.declared.fault.FaultName.TheVariants.{Numbers, TooLarge}
-use Rattle.block.specs.Piece.{Entry}
+use Rattle.block.specs.EncodedEntry.{Entry}
 use Rattle.table.specs.declared.options.Options.{Options}
 use Rattle.table.specs.DataBlocks.{data_blocks}
-use Rattle.table.specs.ReadingSteps.{pass}
+use Rattle.table.specs.ReadingSteps.{test_result}
 
 -- an output: the number of its file, its entries, and the bytes of its table
 pub record Output : Type 0 where
@@ -31,8 +31,8 @@ data_block_count o outputs = sum_by (λ (w : Output). length (data_blocks o w.en
 -- more than 2 ^ 40 data blocks together.
 abbrev pub outputs_test : Options → ℕ → List Output → Result (Unit {0}) Fault
 outputs_test o first outputs = do
-  _ ← pass (nat_lt (first + length outputs) (2 ^ 64)) Numbers
-  pass
+  _ ← test_result (nat_lt (first + length outputs) (2 ^ 64)) Numbers
+  test_result
       (list_all (λ (w : Output). nat_le (length w.bytes) (2 ^ 30)) outputs
       && nat_le (data_block_count o outputs) (2 ^ 40))
       TooLarge

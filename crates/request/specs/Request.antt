@@ -8,20 +8,20 @@ use Rattle.coding.specs.declared.fault.Fault.{Fault}
 use Rattle.coding.specs.declared.fault.FaultName.TheVariants.{NoInput, Level, Options, Snapshot, SnapshotList}
 use Rattle.ikey.specs.Order.{internal_cmp}
 use Rattle.table.specs.declared.options.Options as declared
-use Rattle.table.specs.ReadingSteps.{pass}
+use Rattle.table.specs.ReadingSteps.{test_result}
 use Rattle.table.specs.ReadingEntries.{is_some_list}
 use Rattle.edit.specs.declared.meta.FileMeta.{FileMeta}
-use Rattle.pick.specs.Picked.{Picked, picked_in}
+use Rattle.pick.specs.Picked.{PickedInputs, picked_in}
 use Rattle.pick.specs.declared.picked.InputFile.{InputFile}
 use Rattle.keep.specs.Readable.{readable_of}
-use Rattle.keep.specs.Marks.{Below}
+use Rattle.keep.specs.Marks.{CompactionContext}
 use Rattle.keep.specs.declared.snapshots.Snapshots.{Snapshots}
 use Rattle.keep.specs.declared.snapshots.Snapshots.TheVariants.{From, Listed}
 use Rattle.request.specs.declared.request.Request.{Request}
 
 -- a request as contracts see it: its bytes, not where they are in memory
 pub record RequestView : Type 0 where
-  pub picked : Picked
+  pub picked : PickedInputs
   pub tables : List (List ℕ)
   pub snapshots : Snapshots
   pub first_number : ℕ
@@ -45,7 +45,7 @@ request_in r = record {
 
 -- what the drop rule needs to know of a request: the readable sequences, the deeper files, and the
 -- grandparents
-abbrev pub below_request : RequestView → Below
+abbrev pub below_request : RequestView → CompactionContext
 below_request r = record {
   readable = readable_of r.snapshots r.last_sequence;
   deeper = r.picked.deeper;
@@ -53,7 +53,7 @@ below_request r = record {
 }
 
 -- whether the level is from 0 to 5, and each input is of it or of the next
-abbrev pub has_levels : Picked → Bool
+abbrev pub has_levels : PickedInputs → Bool
 has_levels p = nat_le p.level 5 && list_all (λ (i : InputFile). nat_eq i.level p.level || nat_eq i.level (p.level + 1)) p.files
 
 -- whether each option is in its limits
@@ -97,8 +97,8 @@ is_snapshot_list (Listed list) last = nat_le (length list.now) 4096 && rises_by 
 -- the tests of a request in their order; the first refusal counts
 abbrev pub request_test : (List ℕ → List ℕ → Ordering) → RequestView → Result (Unit {0}) Fault
 request_test cmp r = do
-  _ ← pass (is_some_list r.picked.files) NoInput
-  _ ← pass (has_levels r.picked) Level
-  _ ← pass (has_options cmp r) Options
-  _ ← pass (has_snapshots r) Snapshot
-  pass (is_snapshot_list r.snapshots r.last_sequence) SnapshotList
+  _ ← test_result (is_some_list r.picked.files) NoInput
+  _ ← test_result (has_levels r.picked) Level
+  _ ← test_result (has_options cmp r) Options
+  _ ← test_result (has_snapshots r) Snapshot
+  test_result (is_snapshot_list r.snapshots r.last_sequence) SnapshotList

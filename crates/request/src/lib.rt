@@ -14,12 +14,12 @@
 //! the same is a contract of the crate `compact`, not of this one.
 #![tactic(auto)]
 
-mod editing;
-mod laws;
+mod outputs_edit;
 mod request;
-mod testing;
+mod request_conditions;
+mod request_law;
 
-pub use editing::deletions_of;
-pub use laws::passed_law;
+pub use outputs_edit::deletions_of;
 pub use request::Request;
-pub use testing::{MAX_INPUTS, MAX_SNAPSHOTS};
+pub use request_conditions::{MAX_INPUTS, MAX_SNAPSHOTS};
+pub use request_law::passed_law;

@@ -3,7 +3,7 @@
 ghost use Rattle.std.specs.Prelude.{◌≡◌};
 ghost use Rattle.request.specs.Request.{request_in, request_test};
 
-use crate::testing::{has_levels, has_options, has_snapshots, is_snapshot_list};
+use crate::request_conditions::{has_levels, has_options, has_snapshots, is_snapshot_list};
 use coding::{Fault, FaultName};
 use ikey::Comparator;
 use keep::Snapshots;

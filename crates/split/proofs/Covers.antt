@@ -6,8 +6,8 @@ use Rattle.std.specs.declared.cmp.Ordering.TheVariants.{Less, Equal, Greater}
 use Rattle.std.specs.Ordering.{ordering_reverse}
 use Rattle.std.specs.Cmp.{IsTotalOrder}
 use Rattle.std.proofs.lemmas.Option.{get_or_from_slice_get, slice_get-get_or, slice_get_cases, none-some}
-use Rattle.split.specs.Boundaries.{IsRising}
-use Rattle.split.proofs.Rising.{not_before_itself}
+use Rattle.split.specs.Boundaries.{KeysRise}
+use Rattle.split.proofs.RisingKeys.{not_before_itself}
 use Rattle.split.specs.Ranges.{range_at, IsIn, IsCover}
 
 module _ (cmp : List ℕ → List ℕ → Ordering) (total : IsTotalOrder cmp) where
@@ -19,7 +19,7 @@ module _ (cmp : List ℕ → List ℕ → Ordering) (total : IsTotalOrder cmp) w
       let back : cmp l k ≡ Less = total.antisymm l k ∙ ap ordering_reverse e in
       absurd (lb (total.trans l k b back kb))
 
-  module _ (bs : List (List ℕ)) (rising : IsRising cmp bs) where
+  module _ (bs : List (List ℕ)) (rising : KeysRise cmp bs) where
     abbrev at : ℕ → List ℕ
     at i = get_or bs i []
 

@@ -1,4 +1,4 @@
-pub mod Rising
+pub mod RisingKeys
 pub mod Covers
 pub mod Sorted
 pub mod Places

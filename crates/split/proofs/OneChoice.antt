@@ -4,9 +4,9 @@ use Rattle.std.specs.Prelude.{◌⊎◌, Contains}
 use Rattle.std.specs.declared.cmp.Ordering.{Ordering}
 use Rattle.std.specs.declared.cmp.Ordering.TheVariants.{Less}
 use Rattle.std.specs.Cmp.{IsTotalOrder}
-use Rattle.split.specs.Boundaries.{IsRising}
-use Rattle.split.proofs.Rising.{not_before_itself}
-use Rattle.split.specs.Choosing.{IsListOf, IsAtPlaceBelow, OneChoiceLaw}
+use Rattle.split.specs.Boundaries.{KeysRise}
+use Rattle.split.proofs.RisingKeys.{not_before_itself}
+use Rattle.split.specs.SplitChoice.{IsListOf, IsAtPlaceBelow, OneChoiceLaw}
 
 first_or_later : (x : List ℕ) (xs : List (List ℕ)) (k : List ℕ) → Contains (x ∷ xs) k → (k ≡ x) ⊎ Contains xs k
 first_or_later x xs k at = of_place at.0 at.1 at.2
@@ -22,28 +22,28 @@ first_in : (x : List ℕ) (xs : List (List ℕ)) → Contains (x ∷ xs) x
 first_in x xs = (zero, omega arith, refl)
 
 module _ (cmp : List ℕ → List ℕ → Ordering) (total : IsTotalOrder cmp) where
-  later_rise : (x : List ℕ) (xs : List (List ℕ)) → IsRising cmp (x ∷ xs) → IsRising cmp xs
+  later_rise : (x : List ℕ) (xs : List (List ℕ)) → KeysRise cmp (x ∷ xs) → KeysRise cmp xs
   later_rise x xs rising i j d lt below = rising (suc i) (suc j) d (omega arith) (omega arith)
 
-  first_before : (x : List ℕ) (xs : List (List ℕ)) (k : List ℕ) → IsRising cmp (x ∷ xs) → Contains xs k → cmp x k ≡ Less
+  first_before : (x : List ℕ) (xs : List (List ℕ)) (k : List ℕ) → KeysRise cmp (x ∷ xs) → Contains xs k → cmp x k ≡ Less
   first_before x xs k rising at =
       let P : List ℕ → Type 0 = λ l. cmp x l ≡ Less in
       subst P at.2 (rising zero (suc at.0) k (omega arith) (omega (arith, at.1)))
 
-  one_first : (x y : List ℕ) (xs ys : List (List ℕ)) → IsRising cmp (x ∷ xs) → IsRising cmp (y ∷ ys) → (x ≡ y) ⊎ Contains ys x → (y ≡ x) ⊎ Contains xs y → x ≡ y
+  one_first : (x y : List ℕ) (xs ys : List (List ℕ)) → KeysRise cmp (x ∷ xs) → KeysRise cmp (y ∷ ys) → (x ≡ y) ⊎ Contains ys x → (y ≡ x) ⊎ Contains xs y → x ≡ y
   one_first x y xs ys rise also (inl e) there = e
   one_first x y xs ys rise also (inr at) (inl e) = sym e
   one_first x y xs ys rise also (inr at) (inr there) =
       absurd (not_before_itself cmp total x (total.trans x y x (first_before x xs y rise there) (first_before y ys x also at)))
 
   -- a later key of the one list is a later key of the other
-  later_too : (x y : List ℕ) (xs ys : List (List ℕ)) (k : List ℕ) → IsRising cmp (x ∷ xs) → x ≡ y → Contains xs k → (k ≡ y) ⊎ Contains ys k → Contains ys k
+  later_too : (x y : List ℕ) (xs ys : List (List ℕ)) (k : List ℕ) → KeysRise cmp (x ∷ xs) → x ≡ y → Contains xs k → (k ≡ y) ⊎ Contains ys k → Contains ys k
   later_too x y xs ys k rise e at (inr there) = there
   later_too x y xs ys k rise e at (inl same) =
       let P : List ℕ → Type 0 = λ l. cmp l k ≡ Less in
       absurd (not_before_itself cmp total k (subst P (e ∙ sym same) (first_before x xs k rise at)))
 
-  same_lists : (xs ys : List (List ℕ)) → IsRising cmp xs → IsRising cmp ys → ((k : List ℕ) → Contains xs k → Contains ys k) → ((k : List ℕ) → Contains ys k → Contains xs k) → xs ≡ ys
+  same_lists : (xs ys : List (List ℕ)) → KeysRise cmp xs → KeysRise cmp ys → ((k : List ℕ) → Contains xs k → Contains ys k) → ((k : List ℕ) → Contains ys k → Contains xs k) → xs ≡ ys
   same_lists [] [] rise also there back = refl
   same_lists [] (y ∷ ys) rise also there back = absurd (omega (arith, (back y (first_in y ys)).1))
   same_lists (x ∷ xs) [] rise also there back = absurd (omega (arith, (there x (first_in x xs)).1))

@@ -8,8 +8,8 @@ use Rattle.std.proofs.lemmas.Nat.{le-div}
 use Rattle.std.proofs.lemmas.Option.{get_or_from_slice_get, slice_get_past, none-some, same_Some}
 use Rattle.std.proofs.lemmas.List.Quantifiers.{all_pairs_push}
 use Rattle.std.proofs.lemmas.List.Elements.{Contains-get_or, Contains-append_left, Contains-push, Contains-push_cases}
-use Rattle.split.specs.Boundaries.{IsRising}
-use Rattle.split.specs.Choosing.{IsListOf, IsAtPlace, IsAtPlaceBelow}
+use Rattle.split.specs.Boundaries.{KeysRise}
+use Rattle.split.specs.SplitChoice.{IsListOf, IsAtPlace, IsAtPlaceBelow}
 
 module _ (cmp : List ℕ → List ℕ → Ordering) (ks : List (List ℕ)) (want : ℕ) where
   abbrev pub place : ℕ → ℕ
@@ -88,7 +88,7 @@ module _ (cmp : List ℕ → List ℕ → Ordering) (ks : List (List ℕ)) (want
       adds_none number free bs some (λ key at. absurd (none-some key (sym (slice_get_past ks (place number) behind) ∙ at))) taken
 
   -- the key at its place is added
-  pub takes : (number free : ℕ) (bs : List (List ℕ)) (key : List ℕ) → IsRising cmp ks → 0 < number → free ≤ place number → place number < length ks → IsAtPlace ks want number key → Taken number free bs
+  pub takes : (number free : ℕ) (bs : List (List ℕ)) (key : List ℕ) → KeysRise cmp ks → 0 < number → free ≤ place number → place number < length ks → IsAtPlace ks want number key → Taken number free bs
       → Taken (number + 1) (place number + 1) (bs ++ key ∷ [])
   takes number free bs key rising some behind within here taken = record {
     few = omega (arith, taken.few, length-append bs (key ∷ []));
@@ -141,7 +141,7 @@ module _ (cmp : List ℕ → List ℕ → Ordering) (ks : List (List ℕ)) (want
           (place number, omega arith, subst P e here)
 
   -- the same, in the words of a loop
-  pub takes_at : (number free p free' : ℕ) (bs bs' : List (List ℕ)) (key : List ℕ) → IsRising cmp ks → 0 < number → p ≡ place number → free ≤ p → p < length ks → slice_get ks p ≡ Some key → free' ≡ p + 1
+  pub takes_at : (number free p free' : ℕ) (bs bs' : List (List ℕ)) (key : List ℕ) → KeysRise cmp ks → 0 < number → p ≡ place number → free ≤ p → p < length ks → slice_get ks p ≡ Some key → free' ≡ p + 1
       → bs' ≡ bs ++ key ∷ [] → Taken number free bs → Taken (number + 1) free' bs'
   takes_at number free p free' bs bs' key rising some is behind within here free_is bs_is taken =
       let P : List (List ℕ) → Type 0 = λ l. Taken (number + 1) free' l in

@@ -15,8 +15,8 @@ use Rattle.std.proofs.lemmas.List.Kept.{IsStrictlySortedBy-dedup, Any-dedup, Con
 use Rattle.std.proofs.lemmas.List.Sorted.{Contains-permutation, IsPermutation-sym}
 use Rattle.std.proofs.lemmas.Map.Keys.{Less-from_sorted}
 use Rattle.ikey.specs.Comparator.{IsExact}
-use Rattle.split.specs.Choosing.{IsListOf}
-use Rattle.split.proofs.Rising.{Rises, rising_keys}
+use Rattle.split.specs.SplitChoice.{IsListOf}
+use Rattle.split.proofs.RisingKeys.{Rises, rising_keys}
 
 module _ {X : Type 0} (f : X → List ℕ) where
   contains_key : (xs : List X) (x : X) → Contains xs x → Contains (map f xs) (f x)

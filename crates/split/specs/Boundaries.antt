@@ -4,10 +4,10 @@ use Rattle.std.specs.declared.cmp.Ordering.{Ordering}
 use Rattle.std.specs.declared.cmp.Ordering.TheVariants.{Less}
 
 -- each key is before all later ones
-abbrev pub IsRising : (List ℕ → List ℕ → Ordering) → List (List ℕ) → Type 0
-IsRising cmp keys = AllPairs (λ key later. cmp key later ≡ Less) keys
+abbrev pub KeysRise : (List ℕ → List ℕ → Ordering) → List (List ℕ) → Type 0
+KeysRise cmp keys = AllPairs (λ key later. cmp key later ≡ Less) keys
 
 -- the boundaries of a split: at most 4,095 user keys that rise strictly
 pub record IsSplit (cmp : List ℕ → List ℕ → Ordering) (boundaries : List (List ℕ)) : Type 0 where
   pub few : length boundaries ≤ 4095
-  pub rising : IsRising cmp boundaries
+  pub rising : KeysRise cmp boundaries

@@ -1,4 +1,4 @@
 -- what contracts rest on
 pub mod Boundaries
 pub mod Ranges
-pub mod Choosing
+pub mod SplitChoice

@@ -16,11 +16,11 @@
 //! No contract says that the ranges of a choice have about as many bytes each.
 #![tactic(auto)]
 
-mod choosing;
-mod laws;
+mod choice_law;
 mod range;
 mod split;
+mod split_choice;
 
-pub use laws::one_choice;
+pub use choice_law::one_choice;
 pub use range::Range;
 pub use split::{MAX_BOUNDARIES, MAX_RANGES, Split};

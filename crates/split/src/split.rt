@@ -4,12 +4,12 @@ ghost use Rattle.std.specs.Prelude.{◌≡◌, ◌+◌, ◌<◌, ◌≤◌, ◌�
 ghost use Rattle.std.specs.Option.{option_map};
 ghost use Rattle.coding.specs.Answers.{fault, UnlessMemory};
 ghost use Rattle.coding.specs.declared.fault.FaultName.TheVariants.{SplitCount, SplitOrder};
-ghost use Rattle.split.specs.Boundaries.{IsRising, IsSplit};
-ghost use Rattle.split.specs.Choosing.{index_users_of, IsChoice};
+ghost use Rattle.split.specs.Boundaries.{KeysRise, IsSplit};
+ghost use Rattle.split.specs.SplitChoice.{index_users_of, IsChoice};
 ghost use Rattle.split.specs.Ranges.{range_at, key_range, IsCover};
 
-use crate::choosing::{at_places, each_once, index_lists, lent_keys};
 use crate::range::Range;
+use crate::split_choice::{at_places, each_once, index_lists, lent_keys};
 use coding::{Fault, FaultName};
 use ikey::Comparator;
 use std::alloc::Global;
@@ -122,7 +122,7 @@ impl<C: Comparator> Split<C> {
 
 /// Whether the keys rise strictly.
 fn is_rising<C: Comparator>(keys: &[Vec<u8>]) -> bool
-    ensures { (result ≡ true) ↔ IsRising C.cmp (map (λ key. key.items) keys.now) }
+    ensures { (result ≡ true) ↔ KeysRise C.cmp (map (λ key. key.items) keys.now) }
 {
     keys.is_sorted_by(|key, next| C::compare(key, next).is_lt())
 }

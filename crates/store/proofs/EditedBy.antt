@@ -13,11 +13,11 @@ use Rattle.folder.specs.Levels.{file_numbers}
 use Rattle.folder.specs.Manifest.{order_name}
 use Rattle.folder.specs.ReadsAs.{IsOneOf}
 use Rattle.folder.specs.declared.order.Order.{Order}
-use Rattle.pick.specs.Picked.{IsPicked, Picked}
+use Rattle.pick.specs.Picked.{IsPicked, PickedInputs}
 use Rattle.pick.specs.declared.picked.InputFile.{InputFile}
 use Rattle.survival.specs.Closed.{is_input}
-use Rattle.reads.specs.Lawful.{IsBelowNext, IsLawful}
-use Rattle.reads.specs.Tables.{Numbered}
+use Rattle.reads.specs.Lawful.{IsBelowNextFile, IsLawful}
+use Rattle.reads.specs.Tables.{NumberedContents}
 use Rattle.reads.proofs.Members.{first_in, from_filter, from_map}
 use Rattle.request.specs.OutputTables.{Output, numbered_tables}
 use Rattle.request.specs.EditOf.{edit_of, new_file, new_files}
@@ -26,12 +26,12 @@ use Rattle.request.specs.Passed.{IsPassed, PassedLaw}
 use Rattle.request.specs.Request.{RequestView}
 use Rattle.install.specs.Install.{IsEditedBy, numbers_of}
 use Rattle.install.proofs.Numbers.{in_files}
-use Rattle.survival.specs.EditAfter.{AreNumbered, EditApplies, version_after}
-use Rattle.survival.specs.GetsAfter.{staying}
+use Rattle.survival.specs.EditAfter.{AreNumberedFrom, EditApplies, version_after}
+use Rattle.survival.specs.GetsAfter.{staying_files}
 use Rattle.survival.specs.Over.{HoldOutputs, IsOver}
-use Rattle.survival.proofs.Surviving.{is_edit}
+use Rattle.survival.proofs.SurvivingReads.{is_edit}
 use Rattle.checks.specs.Checked.{tables_reading}
-use Rattle.store.specs.Asking.{manifest_of, request_of}
+use Rattle.store.specs.FolderRequest.{manifest_of, request_of}
 use Rattle.store.specs.declared.settings.Settings.{Settings}
 use Rattle.store.proofs.Over.{has_next}
 use Rattle.store.proofs.TablesAfter.{HasNumber, number_of}
@@ -42,20 +42,20 @@ new_numbers level [] = refl
 new_numbers level (q ∷ outputs) = ap (λ (ns : List ℕ). q.number ∷ ns) (new_numbers level outputs)
 
 -- and from the first number on
-numbered_above : (first : ℕ) (outputs : List Output) (n : ℕ) → AreNumbered first outputs → IsOneOf (numbers_of (numbered_tables outputs)) n → first ≤ n
+numbered_above : (first : ℕ) (outputs : List Output) (n : ℕ) → AreNumberedFrom first outputs → IsOneOf (numbers_of (numbered_tables outputs)) n → first ≤ n
 numbered_above first [] n h m = absurd m
 numbered_above first (q ∷ outputs) n h (inl same) = let is : q.number ≡ first = h.0 in omega (arith, same, is)
 numbered_above first (q ∷ outputs) n h (inr m) = let le = numbered_above (first + 1) outputs n h.1 m in omega (arith, le)
 
-below_next : (next : Option ℕ) (m n : ℕ) → next ≡ Some m → IsBelowNext next n → n < m
-below_next next m n is h = subst (λ (o : Option ℕ). IsBelowNext o n) is h
+below_next : (next : Option ℕ) (m n : ℕ) → next ≡ Some m → IsBelowNextFile next n → n < m
+below_next next m n is h = subst (λ (o : Option ℕ). IsBelowNextFile o n) is h
 
 some_input : (files : List InputFile) → files ≢ [] → (i : InputFile) × Contains files i
 some_input [] h = absurd (h refl)
 some_input (i ∷ files) h = (i, first_in i files)
 
 module _ (cmp : List ℕ → List ℕ → Ordering) (total : IsTotalOrder cmp) (exact : IsExact cmp) (separator_of : List ℕ → List ℕ → List ℕ) (successor_of : List ℕ → List ℕ) (applies : EditApplies cmp) (passes : PassedLaw cmp)
-    (order : Order) (v : State) (loaded : List (ℕ × List ℕ)) (tables : List Numbered) (level : ℕ) (p : Picked) (s : Settings) (answer : Answer)
+    (order : Order) (v : State) (loaded : List (ℕ × List ℕ)) (tables : List NumberedContents) (level : ℕ) (p : PickedInputs) (s : Settings) (answer : Answer)
     (checked : tables_reading cmp loaded ≡ Ok tables) (lawful : IsLawful cmp v tables) (low : All (λ (f : NewFile). f.level ≤ 6) v.files) (picked : IsPicked cmp v level p)
     (over : IsOver v tables (request_of v loaded p s)) (held : HoldOutputs cmp separator_of successor_of tables (request_of v loaded p s) answer) where
   abbrev r : RequestView
@@ -78,8 +78,8 @@ module _ (cmp : List ℕ → List ℕ → Ordering) (total : IsTotalOrder cmp) (
   file_below : (n : ℕ) → IsOneOf (file_numbers cmp v) n → n < manifest_of v
   file_below n m =
       let f : HasNumber v.files n = number_of v.files n (in_files cmp v n m) in
-      let below = All-contains (λ (x : NewFile). IsBelowNext v.next_file x.meta.number) v.files f.file lawful.below_next f.there in
-      below_next v.next_file (manifest_of v) n next_there (subst (IsBelowNext v.next_file) (sym f.is) below)
+      let below = All-contains (λ (x : NewFile). IsBelowNextFile v.next_file x.meta.number) v.files f.file lawful.below_next f.there in
+      below_next v.next_file (manifest_of v) n next_there (subst (IsBelowNextFile v.next_file) (sym f.is) below)
 
   output_above : (n : ℕ) → IsOneOf (numbers_of answer.tables) n → manifest_of v ≤ n
   output_above n m =
@@ -107,7 +107,7 @@ module _ (cmp : List ℕ → List ℕ → Ordering) (total : IsTotalOrder cmp) (
     manifest_below = omega arith;
   }
 
-  level_by : (f : NewFile) → Contains (staying v p) f ⊎ Contains (new_files r held.outputs) f → f.level ≤ 6
+  level_by : (f : NewFile) → Contains (staying_files v p) f ⊎ Contains (new_files r held.outputs) f → f.level ≤ 6
   level_by f (inl at) = let old = from_filter (λ (x : NewFile). not (is_input p x.meta.number)) v.files f at in All-contains (λ (x : NewFile). x.level ≤ 6) v.files f low old.0
   level_by f (inr at) =
       let q = from_map (new_file (p.level + 1)) held.outputs f at in
@@ -121,5 +121,5 @@ module _ (cmp : List ℕ → List ℕ → Ordering) (total : IsTotalOrder cmp) (
       let at = Contains-get_or next_version.files k d lt in
       let f = get_or next_version.files k d in
       let permutes = applies.files v tables level r held.outputs lawful picked over.numbers held.numbered in
-      level_by f (Contains-append_cases (staying v p) (new_files r held.outputs) f
-      (Contains-permutation next_version.files (staying v p ++ new_files r held.outputs) f (IsPermutation-sym (staying v p ++ new_files r held.outputs) next_version.files permutes) at))
+      level_by f (Contains-append_cases (staying_files v p) (new_files r held.outputs) f
+      (Contains-permutation next_version.files (staying_files v p ++ new_files r held.outputs) f (IsPermutation-sym (staying_files v p ++ new_files r held.outputs) next_version.files permutes) at))

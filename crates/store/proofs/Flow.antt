@@ -9,8 +9,8 @@ use Rattle.folder.proofs.LoadingLemmas.{loaded_before}
 use Rattle.folder.proofs.OpeningLemmas.{failed_since, hands_on, held_before}
 use Rattle.folder.specs.Calls.{Files, Tells}
 use Rattle.folder.specs.Folder.{TellsSame}
-use Rattle.folder.specs.Loading.{IsLoaded}
-use Rattle.folder.specs.Opening.{FolderAnswers, HasDeviceFailed, IsOpened, IsStopped}
+use Rattle.folder.specs.LoadedTables.{IsLoaded}
+use Rattle.folder.specs.OpenAnswer.{FolderAnswers, HasDeviceFailed, IsOpened, IsStopped}
 use Rattle.folder.specs.ReadsAs.{IsHeldIn}
 use Rattle.folder.specs.declared.order.Order.{Order}
 

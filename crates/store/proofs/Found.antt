@@ -9,32 +9,32 @@ use Rattle.std.proofs.lemmas.Bool.{eqb-true}
 use Rattle.std.proofs.lemmas.Option.{none-some, same_Some}
 use Rattle.coding.specs.declared.fault.Fault.{Fault}
 use Rattle.table.specs.Checked.{contents_in}
-use Rattle.table.specs.Reading.{Contents, contents_of, contents_reading}
-use Rattle.reads.specs.Tables.{Numbered, table_of}
+use Rattle.table.specs.TableContents.{Contents, contents_of, contents_reading}
+use Rattle.reads.specs.Tables.{NumberedContents, table_of_number}
 use Rattle.survival.specs.Survive.{output_table}
 use Rattle.store.proofs.Loaded.{own_bytes, turned}
 
 -- the first table of a number
-pub record IsFirst (tables : List Numbered) (n : ℕ) (t : Contents) : Type 0 where
-  pub table : Numbered
-  pub found : find (λ (x : Numbered). eqb x.number n) tables ≡ Some table
+pub record IsFirst (tables : List NumberedContents) (n : ℕ) (t : Contents) : Type 0 where
+  pub table : NumberedContents
+  pub found : find (λ (x : NumberedContents). eqb x.number n) tables ≡ Some table
   pub holds : table.contents ≡ t
 
-pub first_of : (tables : List Numbered) (n : ℕ) (t : Contents) → table_of tables n ≡ Some t → IsFirst tables n t
-first_of tables n t h = by (find (λ (x : Numbered). eqb x.number n) tables) refl h
+pub first_of : (tables : List NumberedContents) (n : ℕ) (t : Contents) → table_of_number tables n ≡ Some t → IsFirst tables n t
+first_of tables n t h = by (find (λ (x : NumberedContents). eqb x.number n) tables) refl h
   where
-    by : (o : Option Numbered) → find (λ (x : Numbered). eqb x.number n) tables ≡ o → option_map (λ (x : Numbered). x.contents) o ≡ Some t → IsFirst tables n t
+    by : (o : Option NumberedContents) → find (λ (x : NumberedContents). eqb x.number n) tables ≡ o → option_map (λ (x : NumberedContents). x.contents) o ≡ Some t → IsFirst tables n t
     by None e is = absurd (none-some t is)
     by (Some x) e is = record { table = x; found = e; holds = same_Some x.contents t is }
 
 -- what is found passes the test of its number, and what is found of a part that passes another test passes that one
-abbrev left_of : (ℕ → Bool) → List Numbered → List Numbered
-left_of keep tables = filter (λ (y : Numbered). keep y.number) tables
+abbrev left_of : (ℕ → Bool) → List NumberedContents → List NumberedContents
+left_of keep tables = filter (λ (y : NumberedContents). keep y.number) tables
 
-abbrev found_in : ℕ → List Numbered → Option Numbered
-found_in n tables = find (λ (y : Numbered). eqb y.number n) tables
+abbrev found_in : ℕ → List NumberedContents → Option NumberedContents
+found_in n tables = find (λ (y : NumberedContents). eqb y.number n) tables
 
-passed_both : (keep : ℕ → Bool) (tables : List Numbered) (n : ℕ) (x : Numbered) → found_in n (left_of keep tables) ≡ Some x → keep n ≡ true
+passed_both : (keep : ℕ → Bool) (tables : List NumberedContents) (n : ℕ) (x : NumberedContents) → found_in n (left_of keep tables) ≡ Some x → keep n ≡ true
 passed_both keep [] n x h = absurd (none-some x h)
 passed_both keep (y ∷ tables) n x h = by (keep y.number) refl (passed_both keep tables n x) h
   where
@@ -47,7 +47,7 @@ passed_both keep (y ∷ tables) n x h = by (keep y.number) refl (passed_both kee
     by false e rest is = rest is
 
 -- a table that is found among those of some numbers is found among all
-kept_found : (keep : ℕ → Bool) (tables : List Numbered) (n : ℕ) (x : Numbered) → found_in n (left_of keep tables) ≡ Some x → found_in n tables ≡ Some x
+kept_found : (keep : ℕ → Bool) (tables : List NumberedContents) (n : ℕ) (x : NumberedContents) → found_in n (left_of keep tables) ≡ Some x → found_in n tables ≡ Some x
 kept_found keep [] n x h = h
 kept_found keep (y ∷ tables) n x h = by (keep y.number) (eqb y.number n) refl refl (kept_found keep tables n x) h
   where
@@ -63,10 +63,10 @@ kept_found keep (y ∷ tables) n x h = by (keep y.number) (eqb y.number n) refl 
         absurd (cc both)
     by false false e f rest is = rest is
 
-pub kept_table : (keep : ℕ → Bool) (tables : List Numbered) (n : ℕ) (t : Contents) → table_of (filter (λ (y : Numbered). keep y.number) tables) n ≡ Some t → table_of tables n ≡ Some t
+pub kept_table : (keep : ℕ → Bool) (tables : List NumberedContents) (n : ℕ) (t : Contents) → table_of_number (filter (λ (y : NumberedContents). keep y.number) tables) n ≡ Some t → table_of_number tables n ≡ Some t
 kept_table keep tables n t h =
-    let first = first_of (filter (λ (y : Numbered). keep y.number) tables) n t h in
-    ap (option_map (λ (x : Numbered). x.contents)) (kept_found keep tables n first.table first.found) ∙ ap (λ (c : Contents). Some c) first.holds
+    let first = first_of (filter (λ (y : NumberedContents). keep y.number) tables) n t h in
+    ap (option_map (λ (x : NumberedContents). x.contents)) (kept_found keep tables n first.table first.found) ∙ ap (λ (c : Contents). Some c) first.holds
 
 -- the bytes of what bytes hold are these bytes, whether they are a table or none
 in_bytes : (cmp : List ℕ → List ℕ → Ordering) (bytes : List ℕ) → (contents_in cmp bytes).bytes ≡ bytes
@@ -77,13 +77,13 @@ in_bytes cmp bytes = by (contents_reading cmp bytes) refl
     by (Err d) e = refl
 
 -- the table of a number, among outputs and others, is of the bytes that are found among both
-pub found_after : (cmp : List ℕ → List ℕ → Ordering) (outputs loaded : List (ℕ × List ℕ)) (rest : List Numbered) (n : ℕ) (t : Contents)
-    → (table_of rest n ≡ Some t → lookup (eqb n) loaded ≡ Some t.bytes) → table_of (map (output_table cmp) outputs ++ rest) n ≡ Some t → lookup (eqb n) (outputs ++ loaded) ≡ Some t.bytes
+pub found_after : (cmp : List ℕ → List ℕ → Ordering) (outputs loaded : List (ℕ × List ℕ)) (rest : List NumberedContents) (n : ℕ) (t : Contents)
+    → (table_of_number rest n ≡ Some t → lookup (eqb n) loaded ≡ Some t.bytes) → table_of_number (map (output_table cmp) outputs ++ rest) n ≡ Some t → lookup (eqb n) (outputs ++ loaded) ≡ Some t.bytes
 found_after cmp [] loaded rest n t others h = others h
 found_after cmp (o ∷ outputs) loaded rest n t others h = by (eqb o.0 n) refl (found_after cmp outputs loaded rest n t others) h
   where
-    by : (b : Bool) → eqb o.0 n ≡ b → (table_of (map (output_table cmp) outputs ++ rest) n ≡ Some t → lookup (eqb n) (outputs ++ loaded) ≡ Some t.bytes)
-        → option_map (λ (x : Numbered). x.contents) (cond b (Some (output_table cmp o)) (find (λ (x : Numbered). eqb x.number n) (map (output_table cmp) outputs ++ rest))) ≡ Some t
+    by : (b : Bool) → eqb o.0 n ≡ b → (table_of_number (map (output_table cmp) outputs ++ rest) n ≡ Some t → lookup (eqb n) (outputs ++ loaded) ≡ Some t.bytes)
+        → option_map (λ (x : NumberedContents). x.contents) (cond b (Some (output_table cmp o)) (find (λ (x : NumberedContents). eqb x.number n) (map (output_table cmp) outputs ++ rest))) ≡ Some t
         → cond (eqb n o.0) (Some o.1) (lookup (eqb n) (outputs ++ loaded)) ≡ Some t.bytes
     by true e later is =
         let same : contents_in cmp o.1 ≡ t = same_Some (contents_in cmp o.1) t is in

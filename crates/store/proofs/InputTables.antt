@@ -12,23 +12,23 @@ use Rattle.edit.specs.declared.meta.FileMeta.{FileMeta}
 use Rattle.edit.specs.declared.meta.NewFile.{NewFile}
 use Rattle.pick.proofs.VersionFiles.{are_level_files}
 use Rattle.pick.specs.Boundaries.{AreWithBoundaries, is_among}
-use Rattle.pick.specs.Picked.{IsPicked, Picked, input_at}
+use Rattle.pick.specs.Picked.{IsPicked, PickedInputs, input_at}
 use Rattle.pick.specs.Ranges.{overlaps}
 use Rattle.pick.specs.declared.picked.InputFile.{InputFile}
 use Rattle.reads.proofs.Apart.{AreTwoMetas, metas_apart, one_number}
 use Rattle.reads.proofs.Members.{from_map}
 use Rattle.reads.proofs.Pairs.{Pairs, pairs_append, pairs_from, pairs_map, pairs_to}
 use Rattle.reads.specs.Lawful.{IsLawful}
-use Rattle.reads.specs.Tables.{Numbered}
+use Rattle.reads.specs.Tables.{NumberedContents}
 use Rattle.checks.specs.Checked.{tables_reading}
 use Rattle.survival.proofs.Inputs.{input_file}
 use Rattle.store.proofs.Over.{file_of_input, input_bytes}
-use Rattle.store.specs.Taking.{AreLoaded, HaveTables}
+use Rattle.store.specs.InputTables.{AreLoaded, HaveTables}
 
 abbrev AreTwoInputs : InputFile → InputFile → Type 0
 AreTwoInputs i j = i.meta.number ≢ j.meta.number
 
-module _ (cmp : List ℕ → List ℕ → Ordering) (total : IsTotalOrder cmp) (v : State) (loaded : List (ℕ × List ℕ)) (tables : List Numbered) (level : ℕ) (p : Picked)
+module _ (cmp : List ℕ → List ℕ → Ordering) (total : IsTotalOrder cmp) (v : State) (loaded : List (ℕ × List ℕ)) (tables : List NumberedContents) (level : ℕ) (p : PickedInputs)
     (checked : tables_reading cmp loaded ≡ Ok tables) (lawful : IsLawful cmp v tables) (picked : IsPicked cmp v level p) where
   level_apart : (n : ℕ) (chosen : List FileMeta) → Pairs AreTwoMetas (filter (is_among chosen) (level_files cmp v n))
   level_apart n chosen =

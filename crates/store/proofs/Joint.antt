@@ -5,7 +5,7 @@ use Rattle.std.specs.declared.cmp.Ordering.{Ordering}
 use Rattle.ikey.specs.Comparator.{IsExact}
 use Rattle.edit.specs.Version.{State}
 use Rattle.reads.specs.Lawful.{IsLawful}
-use Rattle.reads.specs.Tables.{Numbered}
+use Rattle.reads.specs.Tables.{NumberedContents}
 use Rattle.keep.specs.Readable.{readable_of}
 use Rattle.checks.proofs.LawfulLemmas.{sound}
 use Rattle.request.specs.Passed.{PassedLaw}
@@ -14,8 +14,8 @@ use Rattle.install.specs.Install as install
 use Rattle.survival.specs.EditAfter.{EditApplies, version_after}
 use Rattle.survival.specs.GetsAfter.{GetsAfter}
 use Rattle.survival.specs.Over.{HoldOutputs, IsOver, OutputsHold}
-use Rattle.survival.specs.Survive.{StandsAfter, tables_after}
-use Rattle.store.specs.Asking.{last_of, request_of}
+use Rattle.survival.specs.Survive.{VersionAfterLaw, tables_after}
+use Rattle.store.specs.FolderRequest.{last_of, request_of}
 use Rattle.store.specs.Joint.{JointLaw}
 use Rattle.store.proofs.EditedBy.{edited_by, low_next}
 use Rattle.store.proofs.Over.{is_over}
@@ -23,7 +23,7 @@ use Rattle.store.proofs.SameTables.{same_get, same_lawful}
 use Rattle.store.proofs.TablesAfter.{read_after, reads_after, same_after}
 
 pub joint : (cmp : List ℕ → List ℕ → Ordering) → IsTotalOrder cmp → IsExact cmp → (separator_of : List ℕ → List ℕ → List ℕ) (successor_of : List ℕ → List ℕ)
-    → EditApplies cmp → PassedLaw cmp → OutputsHold cmp separator_of successor_of → StandsAfter cmp separator_of successor_of → GetsAfter cmp → JointLaw cmp separator_of successor_of
+    → EditApplies cmp → PassedLaw cmp → OutputsHold cmp separator_of successor_of → VersionAfterLaw cmp separator_of successor_of → GetsAfter cmp → JointLaw cmp separator_of successor_of
 joint cmp total exact separator_of successor_of applies passes outputs stands gets order v loaded tables level p s answer checked lawful low picked log previous answered =
     let r : RequestView = request_of v loaded p s in
     let over : IsOver v tables r = is_over cmp total v loaded tables level p checked lawful picked s log previous in
@@ -32,12 +32,12 @@ joint cmp total exact separator_of successor_of applies passes outputs stands ge
     let after : IsLawful cmp next (tables_after cmp p answer tables) = stands.lawful v tables level r answer lawful low picked over held in
     let low_after = low_next cmp total exact separator_of successor_of applies passes order v loaded tables level p s answer checked lawful low picked over held in
     let same = same_after cmp loaded tables p answer next checked low_after after in
-    let read : List Numbered = read_after cmp loaded tables p answer next checked low_after after in
+    let read : List NumberedContents = read_after cmp loaded tables p answer next checked low_after after in
     record {
       next = next;
       edited = edited_by cmp total exact separator_of successor_of applies passes order v loaded tables level p s answer checked lawful low picked over held;
       tables_next = read;
-      lawful = sound cmp next (install.tables_after cmp next answer.tables loaded) read (reads_after cmp loaded tables p answer next checked low_after after)
+      lawful = sound cmp next (install.next_version_tables cmp next answer.tables loaded) read (reads_after cmp loaded tables p answer next checked low_after after)
           (same_lawful next read (tables_after cmp p answer tables) same cmp after);
       gets = λ user at is.
           same_get next read (tables_after cmp p answer tables) same user at

@@ -12,4 +12,4 @@ mod Synced
 mod Flow
 mod LineLemmas
 mod Compactions
-mod Installing
+mod InstallPart

@@ -6,27 +6,27 @@ use Rattle.coding.specs.Answers.{◌>>=◌, fault}
 use Rattle.coding.specs.declared.fault.Fault.{Fault}
 use Rattle.coding.specs.declared.fault.FaultName.{FaultName}
 use Rattle.coding.specs.declared.fault.FaultName.TheVariants.{Bounds, Device, Duplicate, Level, NoInput, Numbers, Options, Snapshot, SnapshotList, SplitCount, TooLarge, Workers}
-use Rattle.block.specs.Piece.{Entry}
-use Rattle.table.specs.Reading.{Contents, contents_reading}
+use Rattle.block.specs.EncodedEntry.{Entry}
+use Rattle.table.specs.TableContents.{Contents, contents_reading}
 use Rattle.table.specs.ReadingEntries.{is_some_list}
-use Rattle.table.specs.ReadingSteps.{pass}
+use Rattle.table.specs.ReadingSteps.{test_result}
 use Rattle.edit.specs.Version.{State}
 use Rattle.edit.specs.VersionOrder.{level_files}
 use Rattle.edit.specs.declared.meta.FileMeta.{FileMeta}
 use Rattle.merge.specs.Merged.{merged}
-use Rattle.pick.specs.Picked.{IsInputsAnswer, Picked}
+use Rattle.pick.specs.Picked.{IsInputsAnswer, PickedInputs}
 use Rattle.pick.specs.declared.picked.InputFile.{InputFile}
 use Rattle.keep.specs.Runs.{are_distinct}
 use Rattle.cut.specs.Outputs.{outputs}
-use Rattle.reads.specs.Tables.{Numbered}
+use Rattle.reads.specs.Tables.{NumberedContents}
 use Rattle.checks.proofs.LawfulLemmas.{sound_other}
 use Rattle.checks.proofs.TableRefusals.{no_device}
-use Rattle.request.specs.Inputs.{about, input_reading, inputs_reading, is_stated, union_reading}
+use Rattle.request.specs.Inputs.{result_at_input, input_reading, inputs_reading, table_matches_metadata, union_reading}
 use Rattle.request.specs.OneThread.{one_thread, outputs_answer, table_for}
 use Rattle.request.specs.OutputTables.{Output, outputs_from, outputs_test}
 use Rattle.request.specs.Request.{RequestView, below_request, has_levels, has_options, has_snapshots, is_snapshot_list, request_test}
 use Rattle.store.specs.Answers.{IsLoadedCompacted, lines_of}
-use Rattle.store.specs.Asking.{numbered_request, compaction_of, manifest_of, request_of}
+use Rattle.store.specs.FolderRequest.{numbered_request, compaction_of, manifest_of, request_of}
 use Rattle.store.specs.declared.settings.Settings.{Settings}
 
 abbrev refusal : {Y : Type 0} → Fault → Result Y Fault
@@ -53,24 +53,24 @@ tested : {A : Type 0} (b : Bool) (r s : Result A Fault) → AllOther r → AllOt
 tested true r s one two = one
 tested false r s one two = two
 
-passes : (b : Bool) (n : FaultName) → n ≢ Device → AllOther (pass b n)
+passes : (b : Bool) (n : FaultName) → n ≢ Device → AllOther (test_result b n)
 passes b n h = tested b _ _ (value tt) (named _ n h)
 
 -- ---- the inputs
 
 one_numbered : (cmp : List ℕ → List ℕ → Ordering) (bytes : List ℕ) (e : Fault) → contents_reading cmp bytes ≡ refusal e
-    → (contents_reading cmp bytes >>= λ c. Ok (record { number = 0; contents = c })) ≡ refusal {Y = Numbered} e
+    → (contents_reading cmp bytes >>= λ c. Ok (record { number = 0; contents = c })) ≡ refusal {Y = NumberedContents} e
 one_numbered cmp bytes e h = ap (λ (r : Result Contents Fault). r >>= λ c. Ok (record { number = 0; contents = c })) h
 
 contents_other : (cmp : List ℕ → List ℕ → Ordering) (bytes : List ℕ) → AllOther (contents_reading cmp bytes)
 contents_other cmp bytes e h =
     no_device cmp ((0, bytes) ∷ []) e
-    (ap (λ (r : Result Numbered Fault). r >>= λ first. (Ok []) >>= λ others. Ok (first ∷ others)) (one_numbered cmp bytes e h))
+    (ap (λ (r : Result NumberedContents Fault). r >>= λ first. (Ok []) >>= λ others. Ok (first ∷ others)) (one_numbered cmp bytes e h))
 
 input_other : (cmp : List ℕ → List ℕ → Ordering) (f : FileMeta) (bytes : List ℕ) → AllOther (input_reading cmp f bytes)
-input_other cmp f bytes = bound (contents_reading cmp bytes) _ (contents_other cmp bytes) (λ t. bound (pass (is_stated f t) Bounds) _ (passes (is_stated f t) Bounds (λ same. cc same)) (λ _. value t.entries))
+input_other cmp f bytes = bound (contents_reading cmp bytes) _ (contents_other cmp bytes) (λ t. bound (test_result (table_matches_metadata f t) Bounds) _ (passes (table_matches_metadata f t) Bounds (λ same. cc same)) (λ _. value t.entries))
 
-about_other : {A : Type 0} (place : ℕ) (r : Result A Fault) → AllOther r → AllOther (about place r)
+about_other : {A : Type 0} (place : ℕ) (r : Result A Fault) → AllOther r → AllOther (result_at_input place r)
 about_other place (Ok x) h e is = absurd cc
 about_other {A = A} place (Err d) h e is = subst (λ (f : Fault). f.name ≢ Device) (same_refusal {Y = A} (record d { input = Some place }) e is) (h d refl)
 
@@ -78,24 +78,24 @@ inputs_other : (cmp : List ℕ → List ℕ → Ordering) (place : ℕ) (files :
 inputs_other cmp place [] given = value []
 inputs_other cmp place (i ∷ files) [] = value []
 inputs_other cmp place (i ∷ files) (bytes ∷ given) =
-    bound (about place (input_reading cmp i.meta bytes)) _ (about_other place (input_reading cmp i.meta bytes) (input_other cmp i.meta bytes)) (λ entries.
+    bound (result_at_input place (input_reading cmp i.meta bytes)) _ (about_other place (input_reading cmp i.meta bytes) (input_other cmp i.meta bytes)) (λ entries.
     bound (inputs_reading cmp (place + 1) files given) _ (inputs_other cmp (place + 1) files given) (λ rest. value (entries ∷ rest)))
 
 -- ---- the compaction
 
 test_other : (cmp : List ℕ → List ℕ → Ordering) (r : RequestView) → AllOther (request_test cmp r)
 test_other cmp r =
-    bound (pass (is_some_list r.picked.files) NoInput) _ (passes (is_some_list r.picked.files) NoInput (λ same. cc same)) (λ _.
-    bound (pass (has_levels r.picked) Level) _ (passes (has_levels r.picked) Level (λ same. cc same)) (λ _.
-    bound (pass (has_options cmp r) Options) _ (passes (has_options cmp r) Options (λ same. cc same)) (λ _.
-    bound (pass (has_snapshots r) Snapshot) _ (passes (has_snapshots r) Snapshot (λ same. cc same)) (λ _.
+    bound (test_result (is_some_list r.picked.files) NoInput) _ (passes (is_some_list r.picked.files) NoInput (λ same. cc same)) (λ _.
+    bound (test_result (has_levels r.picked) Level) _ (passes (has_levels r.picked) Level (λ same. cc same)) (λ _.
+    bound (test_result (has_options cmp r) Options) _ (passes (has_options cmp r) Options (λ same. cc same)) (λ _.
+    bound (test_result (has_snapshots r) Snapshot) _ (passes (has_snapshots r) Snapshot (λ same. cc same)) (λ _.
     passes (is_snapshot_list r.snapshots r.last_sequence) SnapshotList (λ same. cc same)))))
 
 module _ (cmp : List ℕ → List ℕ → Ordering) (separator_of : List ℕ → List ℕ → List ℕ) (successor_of : List ℕ → List ℕ) where
   answer_other : (r : RequestView) (outs : List Output) → AllOther (outputs_answer r outs)
   answer_other r outs =
       bound (outputs_test r.options r.first_number outs) _
-      (bound (pass (nat_lt (r.first_number + length outs) (2 ^ 64)) Numbers) _ (passes (nat_lt (r.first_number + length outs) (2 ^ 64)) Numbers (λ same. cc same)) (λ _.
+      (bound (test_result (nat_lt (r.first_number + length outs) (2 ^ 64)) Numbers) _ (passes (nat_lt (r.first_number + length outs) (2 ^ 64)) Numbers (λ same. cc same)) (λ _.
       passes _ TooLarge (λ same. cc same))) (λ _. value _)
 
   union_other : (inputs : List (List Entry)) → AllOther (union_reading cmp inputs)
@@ -108,24 +108,24 @@ module _ (cmp : List ℕ → List ℕ → Ordering) (separator_of : List ℕ →
       bound (union_reading cmp inputs) _ (union_other inputs) (λ union.
       answer_other r (outputs_from (table_for cmp separator_of successor_of r) r.first_number (outputs cmp (below_request r) r.options union)))))
 
-  pub compaction_other : (v : State) (loaded : List (ℕ × List ℕ)) (p : Picked) (s : Settings) → AllOther (compaction_of cmp separator_of successor_of v loaded p s)
+  pub compaction_other : (v : State) (loaded : List (ℕ × List ℕ)) (p : PickedInputs) (s : Settings) → AllOther (compaction_of cmp separator_of successor_of v loaded p s)
   compaction_other v loaded p s =
-      bound (pass (nat_le 1 s.ranges && nat_le s.ranges 4096) SplitCount) _ (passes (nat_le 1 s.ranges && nat_le s.ranges 4096) SplitCount (λ same. cc same)) (λ _.
-      bound (numbered_request v loaded p s) _ (bound (pass (nat_lt (manifest_of v) (2 ^ 64 - 1)) Numbers) _ (passes (nat_lt (manifest_of v) (2 ^ 64 - 1)) Numbers (λ same. cc same)) (λ _. value (request_of v loaded p s))) (λ r.
-      bound (pass (nat_le 1 s.workers && nat_le s.workers 64) Workers) _ (passes (nat_le 1 s.workers && nat_le s.workers 64) Workers (λ same. cc same)) (λ _.
+      bound (test_result (nat_le 1 s.ranges && nat_le s.ranges 4096) SplitCount) _ (passes (nat_le 1 s.ranges && nat_le s.ranges 4096) SplitCount (λ same. cc same)) (λ _.
+      bound (numbered_request v loaded p s) _ (bound (test_result (nat_lt (manifest_of v) (2 ^ 64 - 1)) Numbers) _ (passes (nat_lt (manifest_of v) (2 ^ 64 - 1)) Numbers (λ same. cc same)) (λ _. value (request_of v loaded p s))) (λ r.
+      bound (test_result (nat_le 1 s.workers && nat_le s.workers 64) Workers) _ (passes (nat_le 1 s.workers && nat_le s.workers 64) Workers (λ same. cc same)) (λ _.
       thread_other r)))
 
-  lines_other : (v : State) (loaded : List (ℕ × List ℕ)) (p : Picked) (s : Settings) → AllOther (lines_of v p (compaction_of cmp separator_of successor_of v loaded p s))
+  lines_other : (v : State) (loaded : List (ℕ × List ℕ)) (p : PickedInputs) (s : Settings) → AllOther (lines_of v p (compaction_of cmp separator_of successor_of v loaded p s))
   lines_other v loaded p s = bound (compaction_of cmp separator_of successor_of v loaded p s) _ (compaction_other v loaded p s) (λ a. value _)
 
 inputs_answer_other : (cmp : List ℕ → List ℕ → Ordering) (v : State) (level : ℕ) (e : Fault) → IsInputsAnswer cmp v level (Err e) → e.name ≢ Device
 inputs_answer_other cmp v level e h = by (nat_lt 5 level) (nat_lt 0 (length (level_files cmp v level))) refl refl h
   where
     by : (a b : Bool) → nat_lt 5 level ≡ a → nat_lt 0 (length (level_files cmp v level)) ≡ b
-        → MatchBool a (refusal {Y = Picked} e ≡ refusal (fault Level)) (MatchBool b ⊥ (refusal {Y = Picked} e ≡ refusal (fault NoInput))) → e.name ≢ Device
-    by true b i j is = λ same. let both = sym (ap (λ (f : Fault). f.name) (same_refusal {Y = Picked} e (fault Level) is)) ∙ same in cc both
+        → MatchBool a (refusal {Y = PickedInputs} e ≡ refusal (fault Level)) (MatchBool b ⊥ (refusal {Y = PickedInputs} e ≡ refusal (fault NoInput))) → e.name ≢ Device
+    by true b i j is = λ same. let both = sym (ap (λ (f : Fault). f.name) (same_refusal {Y = PickedInputs} e (fault Level) is)) ∙ same in cc both
     by false true i j is = absurd is
-    by false false i j is = λ same. let both = sym (ap (λ (f : Fault). f.name) (same_refusal {Y = Picked} e (fault NoInput) is)) ∙ same in cc both
+    by false false i j is = λ same. let both = sym (ap (λ (f : Fault). f.name) (same_refusal {Y = PickedInputs} e (fault NoInput) is)) ∙ same in cc both
 
 pub loaded_other : (cmp : List ℕ → List ℕ → Ordering) (separator_of : List ℕ → List ℕ → List ℕ) (successor_of : List ℕ → List ℕ) (v : State) (loaded : List (ℕ × List ℕ)) (level : ℕ) (s : Settings) (e : Fault)
     → IsLoadedCompacted cmp separator_of successor_of v loaded level s (Err e) → e.name ≢ Device

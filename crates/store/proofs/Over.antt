@@ -5,24 +5,24 @@ use Rattle.std.specs.Cmp.{IsTotalOrder}
 use Rattle.std.specs.Option.{option_map, ForSome}
 use Rattle.std.specs.declared.cmp.Ordering.{Ordering}
 use Rattle.std.proofs.lemmas.List.Elements.{All-contains}
-use Rattle.table.specs.Reading.{Contents}
+use Rattle.table.specs.TableContents.{Contents}
 use Rattle.edit.specs.Version.{State}
 use Rattle.edit.specs.declared.meta.NewFile.{NewFile}
-use Rattle.pick.specs.Picked.{IsPicked, Picked}
+use Rattle.pick.specs.Picked.{IsPicked, PickedInputs}
 use Rattle.pick.specs.declared.picked.InputFile.{InputFile}
-use Rattle.reads.specs.Lawful.{IsBelowNext, IsFileOf, IsLawful}
-use Rattle.reads.specs.Tables.{Numbered}
+use Rattle.reads.specs.Lawful.{IsBelowNextFile, IsFileOf, IsLawful}
+use Rattle.reads.specs.Tables.{NumberedContents}
 use Rattle.reads.proofs.Members.{first_in, later_in}
 use Rattle.checks.specs.Checked.{tables_reading}
 use Rattle.install.specs.Install as install
-use Rattle.survival.specs.Over.{IsOver, bytes_of}
+use Rattle.survival.specs.Over.{IsOver, input_bytes_of}
 use Rattle.survival.proofs.Inputs.{input_file}
-use Rattle.store.specs.Asking.{manifest_of, request_of}
+use Rattle.store.specs.FolderRequest.{manifest_of, request_of}
 use Rattle.store.specs.declared.settings.Settings.{Settings}
 use Rattle.store.proofs.Loaded.{bytes_found, found_loaded}
 
 -- a number below the next one tells that there is one
-next_is : (next : Option ℕ) (number : ℕ) → IsBelowNext next number → next ≡ Some (unwrap_or next 0)
+next_is : (next : Option ℕ) (number : ℕ) → IsBelowNextFile next number → next ≡ Some (unwrap_or next 0)
 next_is None number h = absurd h
 next_is (Some n) number h = refl
 
@@ -38,7 +38,7 @@ some_mapped : {X : Type 0} (f : X → List ℕ) (xs : List X) → map (λ (x : X
 some_mapped f [] = refl
 some_mapped f (x ∷ xs) = ap (λ (ys : List (Option (List ℕ))). Some (f x) ∷ ys) (some_mapped f xs)
 
-module _ (cmp : List ℕ → List ℕ → Ordering) (total : IsTotalOrder cmp) (v : State) (loaded : List (ℕ × List ℕ)) (tables : List Numbered) (level : ℕ) (p : Picked)
+module _ (cmp : List ℕ → List ℕ → Ordering) (total : IsTotalOrder cmp) (v : State) (loaded : List (ℕ × List ℕ)) (tables : List NumberedContents) (level : ℕ) (p : PickedInputs)
     (checked : tables_reading cmp loaded ≡ Ok tables) (lawful : IsLawful cmp v tables) (picked : IsPicked cmp v level p) where
   pub file_of_input : (i : InputFile) → Contains p.files i → IsFileOf cmp tables i.meta
   file_of_input i at =
@@ -46,7 +46,7 @@ module _ (cmp : List ℕ → List ℕ → Ordering) (total : IsTotalOrder cmp) (
       subst (IsFileOf cmp tables) f.is (All-contains (λ (x : NewFile). IsFileOf cmp tables x.meta) v.files f.file lawful.files f.there)
 
   -- the bytes that were loaded of an input are those of its table
-  pub input_bytes : (i : InputFile) → Contains p.files i → bytes_of tables i ≡ Some (install.bytes_of loaded i.meta.number)
+  pub input_bytes : (i : InputFile) → Contains p.files i → input_bytes_of tables i ≡ Some (install.table_bytes_of loaded i.meta.number)
   input_bytes i at =
       let f = file_of_input i at in
       ap (option_map (λ (t : Contents). t.bytes)) f.there
@@ -54,7 +54,7 @@ module _ (cmp : List ℕ → List ℕ → Ordering) (total : IsTotalOrder cmp) (
 
   pub is_over : (s : Settings) → (request_of v loaded p s).log_number < 2 ^ 64 → (request_of v loaded p s).previous_log < 2 ^ 64 → IsOver v tables (request_of v loaded p s)
   is_over s log previous = record {
-    bytes = same_map (bytes_of tables) (λ (i : InputFile). Some (install.bytes_of loaded i.meta.number)) p.files input_bytes ∙ some_mapped (λ (i : InputFile). install.bytes_of loaded i.meta.number) p.files;
+    bytes = same_map (input_bytes_of tables) (λ (i : InputFile). Some (install.table_bytes_of loaded i.meta.number)) p.files input_bytes ∙ some_mapped (λ (i : InputFile). install.table_bytes_of loaded i.meta.number) p.files;
     numbers = next_below v.next_file;
     log_number = log;
     previous_log = previous;
@@ -64,4 +64,4 @@ module _ (cmp : List ℕ → List ℕ → Ordering) (total : IsTotalOrder cmp) (
   pub has_next : (i : InputFile) → Contains p.files i → v.next_file ≡ Some (manifest_of v)
   has_next i at =
       let f = input_file cmp total v tables lawful level p picked i at in
-      next_is v.next_file f.file.meta.number (All-contains (λ (x : NewFile). IsBelowNext v.next_file x.meta.number) v.files f.file lawful.below_next f.there)
+      next_is v.next_file f.file.meta.number (All-contains (λ (x : NewFile). IsBelowNextFile v.next_file x.meta.number) v.files f.file lawful.below_next f.there)

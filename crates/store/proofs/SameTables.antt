@@ -5,13 +5,13 @@ use Rattle.std.specs.List.{filter, flat_map}
 use Rattle.std.specs.Option.{option_and_then, option_map_or}
 use Rattle.std.specs.declared.cmp.Ordering.{Ordering}
 use Rattle.std.proofs.lemmas.List.Elements.{All-contains, Contains-get_or}
-use Rattle.block.specs.Piece.{Entry}
-use Rattle.table.specs.Reading.{Contents}
+use Rattle.block.specs.EncodedEntry.{Entry}
+use Rattle.table.specs.TableContents.{Contents}
 use Rattle.edit.specs.Version.{State}
 use Rattle.edit.specs.declared.meta.NewFile.{NewFile}
-use Rattle.reads.specs.Gets.{get_of, is_visible, newest, value_in}
+use Rattle.reads.specs.Gets.{get_of, is_visible, newest_entry, value_in}
 use Rattle.reads.specs.Lawful.{AreDistinct, AreNewer, IsFileOf, IsLawful}
-use Rattle.reads.specs.Tables.{Numbered, all_entries, table_entries, table_of}
+use Rattle.reads.specs.Tables.{NumberedContents, all_entries, table_entries, table_of_number}
 use Rattle.reads.proofs.Members.{first_in, later_in}
 
 flat_same : {X Y : Type 0} (f g : X → List Y) (xs : List X) → ((x : X) → Contains xs x → f x ≡ g x) → flat_map f xs ≡ flat_map g xs
@@ -19,7 +19,7 @@ flat_same f g [] h = refl
 flat_same f g (x ∷ xs) h =
     ap (λ (ys : List _). ys ++ flat_map f xs) (h x (first_in x xs)) ∙ ap (λ (ys : List _). g x ++ ys) (flat_same f g xs (λ y at. h y (later_in x xs y at)))
 
-module _ (v : State) (one two : List Numbered) (same : (f : NewFile) → Contains v.files f → table_of one f.meta.number ≡ table_of two f.meta.number) where
+module _ (v : State) (one two : List NumberedContents) (same : (f : NewFile) → Contains v.files f → table_of_number one f.meta.number ≡ table_of_number two f.meta.number) where
   same_entries : (f : NewFile) → Contains v.files f → table_entries one f.meta.number ≡ table_entries two f.meta.number
   same_entries f at = ap (λ (o : Option Contents). option_map_or (λ (t : Contents). t.entries) o []) (same f at)
 
@@ -28,7 +28,7 @@ module _ (v : State) (one two : List Numbered) (same : (f : NewFile) → Contain
 
   -- each get answers the same
   pub same_get : (user : List ℕ) (at : ℕ) → get_of v one user at ≡ get_of v two user at
-  same_get user at = ap (λ (es : List Entry). option_and_then value_in (newest (filter (is_visible user at) es))) same_all
+  same_get user at = ap (λ (es : List Entry). option_and_then value_in (newest_entry (filter (is_visible user at) es))) same_all
 
   file_same : (cmp : List ℕ → List ℕ → Ordering) (f : NewFile) → Contains v.files f → IsFileOf cmp two f.meta → IsFileOf cmp one f.meta
   file_same cmp f at h = record {

@@ -9,15 +9,15 @@ use Rattle.std.proofs.lemmas.List.Elements.{All-contains}
 use Rattle.coding.specs.Answers.{◌>>=◌}
 use Rattle.coding.specs.declared.fault.Fault.{Fault}
 use Rattle.table.specs.Checked.{contents_in}
-use Rattle.table.specs.Reading.{Contents, contents_reading}
+use Rattle.table.specs.TableContents.{Contents, contents_reading}
 use Rattle.edit.specs.Version.{State}
 use Rattle.edit.specs.declared.meta.NewFile.{NewFile}
 use Rattle.folder.specs.Levels.{file_numbers}
 use Rattle.folder.specs.ReadsAs.{IsOneOf}
-use Rattle.pick.specs.Picked.{Picked}
+use Rattle.pick.specs.Picked.{PickedInputs}
 use Rattle.survival.specs.Closed.{is_input}
 use Rattle.reads.specs.Lawful.{IsFileOf, IsLawful}
-use Rattle.reads.specs.Tables.{Numbered, table_of}
+use Rattle.reads.specs.Tables.{NumberedContents, table_of_number}
 use Rattle.reads.proofs.Members.{first_in, later_in, first_or_later, none_in}
 use Rattle.checks.specs.Checked.{numbered_reading, tables_reading}
 use Rattle.request.specs.OneThread.{Answer}
@@ -44,7 +44,7 @@ one_number (g ∷ files) f at = elim (first_or_later g files f at) [ inl same �
 
 -- tables of these numbers, read of these bytes
 module _ (cmp : List ℕ → List ℕ → Ordering) (of : ℕ → List ℕ) where
-  abbrev pub read_as : ℕ → Numbered
+  abbrev pub read_as : ℕ → NumberedContents
   read_as n = record { number = n; contents = contents_in cmp (of n) }
 
   all_read : (numbers : List ℕ) → ((n : ℕ) → IsOneOf numbers n → contents_reading cmp (of n) ≡ Ok (contents_in cmp (of n))) → tables_reading cmp (map (λ (n : ℕ). (n, of n)) numbers) ≡ Ok (map read_as numbers)
@@ -52,32 +52,32 @@ module _ (cmp : List ℕ → List ℕ → Ordering) (of : ℕ → List ℕ) wher
   all_read (n ∷ numbers) h =
       let rest = all_read numbers (λ m at. h m (inr at)) in
       let one : numbered_reading cmp (n, of n) ≡ Ok (read_as n) = ap (λ (r : Result Contents Fault). r >>= λ c. Ok (record { number = n; contents = c })) (h n (inl refl)) in
-      ap (λ (r : Result Numbered Fault). r >>= λ first. tables_reading cmp (map (λ (m : ℕ). (m, of m)) numbers) >>= λ others. Ok (first ∷ others)) one
-      ∙ ap (λ (r : Result (List Numbered) Fault). r >>= λ others. Ok (read_as n ∷ others)) rest
+      ap (λ (r : Result NumberedContents Fault). r >>= λ first. tables_reading cmp (map (λ (m : ℕ). (m, of m)) numbers) >>= λ others. Ok (first ∷ others)) one
+      ∙ ap (λ (r : Result (List NumberedContents) Fault). r >>= λ others. Ok (read_as n ∷ others)) rest
 
-  found_read : (numbers : List ℕ) (n : ℕ) → IsOneOf numbers n → table_of (map read_as numbers) n ≡ Some (contents_in cmp (of n))
+  found_read : (numbers : List ℕ) (n : ℕ) → IsOneOf numbers n → table_of_number (map read_as numbers) n ≡ Some (contents_in cmp (of n))
   found_read [] n m = absurd m
   found_read (k ∷ numbers) n m = by (eqb k n) refl (found_read numbers n) m
     where
-      by : (b : Bool) → eqb k n ≡ b → (IsOneOf numbers n → table_of (map read_as numbers) n ≡ Some (contents_in cmp (of n))) → (n ≡ k) ⊎ IsOneOf numbers n → option_map (λ (t : Numbered). t.contents) (cond b (Some (read_as k)) (find (λ (t : Numbered). eqb t.number n) (map read_as numbers))) ≡ Some (contents_in cmp (of n))
+      by : (b : Bool) → eqb k n ≡ b → (IsOneOf numbers n → table_of_number (map read_as numbers) n ≡ Some (contents_in cmp (of n))) → (n ≡ k) ⊎ IsOneOf numbers n → option_map (λ (t : NumberedContents). t.contents) (cond b (Some (read_as k)) (find (λ (t : NumberedContents). eqb t.number n) (map read_as numbers))) ≡ Some (contents_in cmp (of n))
       by true e rest at = ap (λ (j : ℕ). Some (contents_in cmp (of j))) (eqb-true k n e)
       by false e rest (inl same) = let both : true ≡ false = sym (eq-eqb k n (sym same)) ∙ e in absurd (cc both)
       by false e rest (inr later) = rest later
 
-module _ (cmp : List ℕ → List ℕ → Ordering) (loaded : List (ℕ × List ℕ)) (tables : List Numbered) (p : Picked) (answer : Answer) (next : State)
+module _ (cmp : List ℕ → List ℕ → Ordering) (loaded : List (ℕ × List ℕ)) (tables : List NumberedContents) (p : PickedInputs) (answer : Answer) (next : State)
     (checked : tables_reading cmp loaded ≡ Ok tables) (low : All (λ (f : NewFile). f.level ≤ 6) next.files) (lawful : IsLawful cmp next (tables_after cmp p answer tables)) where
   -- the bytes under a number
   abbrev bytes_at : ℕ → List ℕ
-  bytes_at n = install.bytes_of (answer.tables ++ loaded) n
+  bytes_at n = install.table_bytes_of (answer.tables ++ loaded) n
 
   -- the tables that are read then
-  abbrev pub read_after : List Numbered
+  abbrev pub read_after : List NumberedContents
   read_after = map (read_as cmp bytes_at) (file_numbers cmp next)
 
-  bytes_after : (n : ℕ) (t : Contents) → table_of (tables_after cmp p answer tables) n ≡ Some t → bytes_at n ≡ t.bytes
+  bytes_after : (n : ℕ) (t : Contents) → table_of_number (tables_after cmp p answer tables) n ≡ Some t → bytes_at n ≡ t.bytes
   bytes_after n t h =
       bytes_found (answer.tables ++ loaded) n t.bytes
-      (found_after cmp answer.tables loaded (filter (λ (x : Numbered). not (is_input p x.number)) tables) n t
+      (found_after cmp answer.tables loaded (filter (λ (x : NumberedContents). not (is_input p x.number)) tables) n t
       (λ kept. found_loaded cmp loaded tables n t checked (kept_table (λ (m : ℕ). not (is_input p m)) tables n t kept)) h)
 
   file_at : (f : NewFile) → Contains next.files f → IsFileOf cmp (tables_after cmp p answer tables) f.meta
@@ -95,10 +95,10 @@ module _ (cmp : List ℕ → List ℕ → Ordering) (loaded : List (ℕ × List 
       let read = ap (λ (k : ℕ). contents_reading cmp (bytes_at k)) f.is ∙ read_file f.file f.there in
       read ∙ ap (λ (t : Contents). Ok t) (sym (held_by cmp (bytes_at n) (file_at f.file f.there).table read))
 
-  pub reads_after : tables_reading cmp (install.tables_after cmp next answer.tables loaded) ≡ Ok read_after
+  pub reads_after : tables_reading cmp (install.next_version_tables cmp next answer.tables loaded) ≡ Ok read_after
   reads_after = all_read cmp bytes_at (file_numbers cmp next) read_number
 
-  pub same_after : (f : NewFile) → Contains next.files f → table_of read_after f.meta.number ≡ table_of (tables_after cmp p answer tables) f.meta.number
+  pub same_after : (f : NewFile) → Contains next.files f → table_of_number read_after f.meta.number ≡ table_of_number (tables_after cmp p answer tables) f.meta.number
   same_after f at =
       let h = file_at f at in
       let n = f.meta.number in

@@ -6,19 +6,19 @@ use Rattle.coding.specs.declared.fault.Fault.{Fault}
 use Rattle.edit.specs.Version.{State}
 use Rattle.folder.specs.Calls.{Files}
 use Rattle.folder.specs.Levels.{file_numbers}
-use Rattle.folder.specs.Loading.{IsLoaded}
-use Rattle.folder.specs.Opening.{IsOpened}
+use Rattle.folder.specs.LoadedTables.{IsLoaded}
+use Rattle.folder.specs.OpenAnswer.{IsOpened}
 use Rattle.folder.specs.ReadsAs.{IsHeldIn}
-use Rattle.pick.specs.Picked.{IsInputsAnswer, Picked}
+use Rattle.pick.specs.Picked.{IsInputsAnswer, PickedInputs}
 use Rattle.checks.specs.LawfulTables.{IsLawfulTables}
 use Rattle.request.specs.OneThread.{Answer}
-use Rattle.store.specs.Asking.{compaction_of, manifest_of}
+use Rattle.store.specs.FolderRequest.{compaction_of, manifest_of}
 use Rattle.store.specs.Lines.{compaction_lines}
 use Rattle.folder.specs.Orders.{order_cmp, order_separator, order_successor}
 use Rattle.store.specs.declared.settings.Settings.{Settings}
 
 -- the lines of a compaction's answer, or its refusal
-abbrev pub lines_of : State → Picked → Result Answer Fault → Result (List ℕ) Fault
+abbrev pub lines_of : State → PickedInputs → Result Answer Fault → Result (List ℕ) Fault
 lines_of v p answer = answer >>= λ (a : Answer). Ok (compaction_lines a.tables p.files (manifest_of v))
 
 -- The answer on a version with the bytes of its tables. The first refusal counts: of a table; of a

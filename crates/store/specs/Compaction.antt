@@ -7,19 +7,19 @@ use Rattle.coding.specs.declared.fault.Fault.{Fault}
 use Rattle.coding.specs.declared.fault.FaultName.TheVariants.{Device}
 use Rattle.edit.specs.Version.{State}
 use Rattle.folder.specs.Calls.{Done, Files, FolderSynced, Step, Tells}
-use Rattle.folder.specs.Crash.{IsKept, Leads, World, call_of}
+use Rattle.folder.specs.Crash.{IsDurable, Leads, World, call_of}
 use Rattle.folder.specs.Folder.{TellsSame}
 use Rattle.folder.specs.Manifest.{order_name}
 use Rattle.folder.specs.ReadsAs.{ReadsAs, RestsOn}
 use Rattle.folder.specs.declared.order.Order.{Order}
-use Rattle.pick.specs.Picked.{IsPicked, Picked}
+use Rattle.pick.specs.Picked.{IsPicked, PickedInputs}
 use Rattle.reads.specs.Gets.{get_of}
-use Rattle.reads.specs.Tables.{Numbered}
+use Rattle.reads.specs.Tables.{NumberedContents}
 use Rattle.keep.specs.Readable.{is_read, readable_of}
 use Rattle.checks.specs.LawfulTables.{IsLawfulTables}
 use Rattle.request.specs.OneThread.{Answer}
-use Rattle.install.specs.Install.{IsEditedBy, StandsAfter, Survives, tables_after}
-use Rattle.store.specs.Asking.{compaction_of, last_of, manifest_of}
+use Rattle.install.specs.Install.{IsEditedBy, AlwaysStandsAs, SurvivesCrash, next_version_tables}
+use Rattle.store.specs.FolderRequest.{compaction_of, last_of, manifest_of}
 use Rattle.store.specs.Lines.{compaction_lines}
 use Rattle.folder.specs.Orders.{order_cmp, order_separator, order_successor}
 use Rattle.store.specs.declared.settings.Settings.{Settings}
@@ -27,25 +27,25 @@ use Rattle.store.specs.declared.settings.Settings.{Settings}
 -- The edited version of a compaction's answer: the answer's edit makes it of the version, by a
 -- manifest whose number is next file. With the tables that an installation leaves it is lawful, and
 -- each get at a readable sequence answers as before.
-pub record Edited (order : Order) (cmp : List ℕ → List ℕ → Ordering) (v : State) (loaded : List (ℕ × List ℕ))
-    (tables : List Numbered) (s : Settings) (answer : Answer) : Type 0 where
+pub record EditedVersion (order : Order) (cmp : List ℕ → List ℕ → Ordering) (v : State) (loaded : List (ℕ × List ℕ))
+    (tables : List NumberedContents) (s : Settings) (answer : Answer) : Type 0 where
   pub next : State
   pub edited : IsEditedBy (order_name order) cmp order v (manifest_of v) answer.tables answer.edit next
-  pub tables_next : List Numbered
-  pub lawful : IsLawfulTables cmp next (tables_after cmp next answer.tables loaded) (Ok tables_next)
+  pub tables_next : List NumberedContents
+  pub lawful : IsLawfulTables cmp next (next_version_tables cmp next answer.tables loaded) (Ok tables_next)
   pub gets : (user : List ℕ) (at : ℕ) → is_read (readable_of s.snapshots (last_of v)) at ≡ true →
       get_of next tables_next user at ≡ get_of v tables user at
 
 -- A compaction of a level of a version with the bytes of its tables. The version is lawful, the
 -- inputs are picked, and these are the answer, what it makes, and its lines.
-pub record Compacted (order : Order) (cmp : List ℕ → List ℕ → Ordering) (separator_of : List ℕ → List ℕ → List ℕ) (successor_of : List ℕ → List ℕ)
+pub record VersionCompaction (order : Order) (cmp : List ℕ → List ℕ → Ordering) (separator_of : List ℕ → List ℕ → List ℕ) (successor_of : List ℕ → List ℕ)
     (v : State) (loaded : List (ℕ × List ℕ)) (level : ℕ) (s : Settings) (answer : Answer) (lines : List ℕ) : Type 0 where
-  pub tables : List Numbered
+  pub tables : List NumberedContents
   pub lawful : IsLawfulTables cmp v loaded (Ok tables)
-  pub picked : Picked
+  pub picked : PickedInputs
   pub is_picked : IsPicked cmp v level picked
   pub answered : compaction_of cmp separator_of successor_of v loaded picked s ≡ Ok answer
-  pub edited : Edited order cmp v loaded tables s answer
+  pub edited : EditedVersion order cmp v loaded tables s answer
   pub told : lines ≡ compaction_lines answer.tables picked.files (manifest_of v)
 
 -- a compaction of a level of the version that files read as
@@ -56,7 +56,7 @@ pub record Compaction (order : Order) (cmp : List ℕ → List ℕ → Ordering)
   pub reads : ReadsAs cmp order version loaded files
   pub answer : Answer
   pub lines : List ℕ
-  pub compacted : Compacted order cmp separator_of successor_of version loaded level s answer lines
+  pub compacted : VersionCompaction order cmp separator_of successor_of version loaded level s answer lines
 
 -- the edited version of a compaction
 abbrev pub next_of : {order : Order} {cmp : List ℕ → List ℕ → Ordering} {separator_of : List ℕ → List ℕ → List ℕ} {successor_of : List ℕ → List ℕ}
@@ -85,8 +85,8 @@ pub record IsInstalled (order : Order) (cmp : List ℕ → List ℕ → Ordering
     (files : Files) (level : ℕ) (s : Settings) (before after : List Step)
     (old new : List ℕ → Option (List ℕ) → Type 0) (result : Result (Vec ℕ) Fault) : Type 0 where
   pub compaction : Compaction order cmp separator_of successor_of files level s
-  pub survives : Survives cmp order compaction.version compaction.loaded (next_of compaction)
-      (tables_after cmp (next_of compaction) compaction.answer.tables compaction.loaded) before after old new result
+  pub survives : SurvivesCrash cmp order compaction.version compaction.loaded (next_of compaction)
+      (next_version_tables cmp (next_of compaction) compaction.answer.tables compaction.loaded) before after old new result
   pub printed : IfOk result (λ text. text.items ≡ compaction.lines)
   pub refused : IfErr result (λ e. UnlessMemory e (e ≡ fault Device))
 
@@ -99,9 +99,9 @@ IsVersionLeft order cmp separator_of successor_of files level s before after old
 
 -- What is left of a folder that held these files: it holds what it held, or after a sync of the
 -- folder a compaction was installed.
-abbrev pub IsLeft : Files → ℕ → Settings
+abbrev pub IsFolderLeft : Files → ℕ → Settings
     → List Step → List Step → (List ℕ → Option (List ℕ) → Type 0) → (List ℕ → Option (List ℕ) → Type 0) → Result (Vec ℕ) Fault → Type 0
-IsLeft files level s before after old new result =
+IsFolderLeft files level s before after old new result =
     IsSynced before after old new result
     ⊎ ((order : Order) × IsInstalled order (order_cmp order) (order_separator order) (order_successor order) files level s
     (before ++ Done FolderSynced ∷ []) after old new result)
@@ -112,5 +112,5 @@ abbrev pub SyncLaw : Type 0
 SyncLaw =
     (cmp : List ℕ → List ℕ → Ordering) (order : Order) (v : State) (tables : List (ℕ × List ℕ)) (start : World) (calls : List Step) →
     ((w : World) → Leads start calls w →
-    ReadsAs cmp order v tables w.shown.files × ((name : List ℕ) → RestsOn cmp v w.shown.files name → IsKept w.shown name)) →
-    StandsAfter cmp order v tables start (calls ++ Done FolderSynced ∷ [])
+    ReadsAs cmp order v tables w.shown.files × ((name : List ℕ) → RestsOn cmp v w.shown.files name → IsDurable w.shown name)) →
+    AlwaysStandsAs cmp order v tables start (calls ++ Done FolderSynced ∷ [])

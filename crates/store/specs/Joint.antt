@@ -5,16 +5,16 @@ use Rattle.std.specs.declared.cmp.Ordering.{Ordering}
 use Rattle.edit.specs.Version.{State}
 use Rattle.edit.specs.declared.meta.NewFile.{NewFile}
 use Rattle.folder.specs.declared.order.Order.{Order}
-use Rattle.pick.specs.Picked.{IsPicked, Picked}
+use Rattle.pick.specs.Picked.{IsPicked, PickedInputs}
 use Rattle.reads.specs.Lawful.{IsLawful}
-use Rattle.reads.specs.Tables.{Numbered}
+use Rattle.reads.specs.Tables.{NumberedContents}
 use Rattle.checks.specs.Checked.{tables_reading}
 use Rattle.checks.specs.LawfulTables.{IsLawfulTables}
 use Rattle.request.specs.OneThread.{Answer, one_thread}
 use Rattle.survival.specs.Over.{IsOver}
-use Rattle.store.specs.Asking.{request_of}
-use Rattle.store.specs.Compaction.{Edited}
-use Rattle.store.specs.Taking.{AreLoaded, HaveTables}
+use Rattle.store.specs.FolderRequest.{request_of}
+use Rattle.store.specs.Compaction.{EditedVersion}
+use Rattle.store.specs.InputTables.{AreLoaded, HaveTables}
 use Rattle.store.specs.declared.settings.Settings.{Settings}
 
 -- If inputs are picked from a lawful version, and its log numbers are below 2^64, the request for
@@ -22,7 +22,7 @@ use Rattle.store.specs.declared.settings.Settings.{Settings}
 -- numbers of its outputs are free.
 abbrev pub OverLaw : (List ℕ → List ℕ → Ordering) → Type 0
 OverLaw cmp =
-    (v : State) (loaded : List (ℕ × List ℕ)) (tables : List Numbered) (level : ℕ) (p : Picked) (s : Settings) →
+    (v : State) (loaded : List (ℕ × List ℕ)) (tables : List NumberedContents) (level : ℕ) (p : PickedInputs) (s : Settings) →
     tables_reading cmp loaded ≡ Ok tables → IsLawful cmp v tables → IsPicked cmp v level p →
     (request_of v loaded p s).log_number < 2 ^ 64 → (request_of v loaded p s).previous_log < 2 ^ 64 →
     IsOver v tables (request_of v loaded p s)
@@ -31,7 +31,7 @@ OverLaw cmp =
 -- the bytes that were loaded.
 abbrev pub InputsReadLaw : (List ℕ → List ℕ → Ordering) → Type 0
 InputsReadLaw cmp =
-    (v : State) (loaded : List (ℕ × List ℕ)) (tables : List Numbered) (level : ℕ) (p : Picked) →
+    (v : State) (loaded : List (ℕ × List ℕ)) (tables : List NumberedContents) (level : ℕ) (p : PickedInputs) →
     IsLawfulTables cmp v loaded (Ok tables) → IsPicked cmp v level p →
     HaveTables cmp tables p.files × AreLoaded loaded tables p.files
 
@@ -41,8 +41,8 @@ InputsReadLaw cmp =
 -- sequence answers as before.
 abbrev pub JointLaw : (List ℕ → List ℕ → Ordering) → (List ℕ → List ℕ → List ℕ) → (List ℕ → List ℕ) → Type 0
 JointLaw cmp separator_of successor_of =
-    (order : Order) (v : State) (loaded : List (ℕ × List ℕ)) (tables : List Numbered) (level : ℕ) (p : Picked) (s : Settings) (answer : Answer) →
+    (order : Order) (v : State) (loaded : List (ℕ × List ℕ)) (tables : List NumberedContents) (level : ℕ) (p : PickedInputs) (s : Settings) (answer : Answer) →
     tables_reading cmp loaded ≡ Ok tables → IsLawful cmp v tables → All (λ (f : NewFile). f.level ≤ 6) v.files → IsPicked cmp v level p →
     (request_of v loaded p s).log_number < 2 ^ 64 → (request_of v loaded p s).previous_log < 2 ^ 64 →
     one_thread cmp separator_of successor_of (request_of v loaded p s) ≡ Ok answer →
-    Edited order cmp v loaded tables s answer
+    EditedVersion order cmp v loaded tables s answer

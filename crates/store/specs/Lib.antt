@@ -1,7 +1,7 @@
 -- what contracts rest on
-pub mod Asking
+pub mod FolderRequest
 pub mod Lines
-pub mod Taking
+pub mod InputTables
 pub mod Answers
 pub mod Compaction
 pub mod Joint

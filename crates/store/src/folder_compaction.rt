@@ -3,16 +3,16 @@
 ghost use Rattle.std.specs.Prelude.{◌≡◌, ◌<◌, ◌^◌, length, Ok};
 ghost use Rattle.folder.specs.Calls.{Files, Tells};
 ghost use Rattle.folder.specs.Manifest.{order_name};
-ghost use Rattle.folder.specs.Opening.{FolderAnswers, IsOpened};
+ghost use Rattle.folder.specs.OpenAnswer.{FolderAnswers, IsOpened};
 ghost use Rattle.folder.specs.Orders.{order_cmp, order_separator, order_successor};
 ghost use Rattle.folder.specs.ReadsAs.{IsHeldIn};
 ghost use Rattle.folder.specs.Reports.{ReportsDevice};
 ghost use Rattle.folder.specs.declared.order.Order.{Order};
 ghost use Rattle.store.specs.Answers.{IsFolderCompacted, IsVersionCompacted};
-ghost use Rattle.store.specs.Compaction.{IsLeft, IsVersionLeft};
+ghost use Rattle.store.specs.Compaction.{IsFolderLeft, IsVersionLeft};
 
-use crate::asking::manifest_of;
-use crate::compacting::compact_loaded;
+use crate::folder_request::manifest_of;
+use crate::loaded_compaction::compact_loaded;
 use crate::settings::Settings;
 use checks::Watch;
 use coding::Fault;
@@ -65,7 +65,7 @@ pub fn compact_dir<F: Folder, W: Watch + Sync, R: Threads + Sync>(
     // What is left of the folder: what it held, or the edited version, which is lawful and answers
     // each readable get as before.
     ensures left { (files : Files) → Tells (F.tells folder.old) files →
-        IsLeft files level settings.now (F.calls folder.old) (F.calls folder.new)
+        IsFolderLeft files level settings.now (F.calls folder.old) (F.calls folder.new)
         (F.tells folder.old) (F.tells folder.new) result }
     ensures device { ReportsDevice F.Folder folder.old folder.new result }
 {

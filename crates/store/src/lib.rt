@@ -11,16 +11,16 @@
 //! missing.
 #![tactic(auto)]
 
-mod asking;
-mod compacting;
 mod folder_compaction;
-mod laws;
+mod folder_request;
+mod input_tables;
+mod install_laws;
 mod lines;
+mod loaded_compaction;
 mod settings;
-mod taking;
 
 pub use board::Open;
 pub use checks::{Watch, Work};
 pub use folder_compaction::{compact_dir, compact_opened};
-pub use laws::{answer_is_installed, inputs_are_tables, request_is_over, sync_stands};
+pub use install_laws::{answer_is_installed, inputs_are_tables, request_is_over, sync_stands};
 pub use settings::Settings;

@@ -9,10 +9,10 @@ use Rattle.std.specs.declared.cmp.Ordering.{Ordering}
 use Rattle.std.specs.declared.cmp.Ordering.TheVariants.{Less, Equal, Greater}
 use Rattle.ikey.specs.Key.{user_of}
 use Rattle.ikey.specs.Order.{internal_cmp}
-use Rattle.edit.specs.VersionOrder.{version_cmp}
+use Rattle.edit.specs.VersionOrder.{file_cmp}
 use Rattle.edit.specs.declared.meta.FileMeta.{FileMeta}
-use Rattle.edit.proofs.Sorting.{same_number}
-use Rattle.pick.specs.Ranges.{is_at_most, begins_by, ends_from, overlaps}
+use Rattle.edit.proofs.SortedFiles.{same_number}
+use Rattle.pick.specs.Ranges.{is_at_most, begins_by, ends_at_or_after, overlaps}
 use Rattle.pick.specs.Boundaries.{greater_key, with_largest, largest_key, goes_on, is_among, next_boundary, IsChain}
 use Rattle.reads.specs.Lawful.{AreDisjoint}
 use Rattle.pick.proofs.Lists.{IsIn, all_in, any_from, any_gives, and_both, and_first, and_second, cond_true, false_true, filter_in, in_filter, in_front, in_back, in_either, find_some, find_none}
@@ -82,7 +82,7 @@ module _ (cmp : List ℕ → List ℕ → Ordering) (total : IsTotalOrder cmp) w
       let x = any_gives (λ (g : FileMeta). is_at_most cmp (user_of g.smallest) u) upper h in
       any_from (λ (g : FileMeta). is_at_most cmp (user_of g.smallest) w) upper x.item x.inside (le_trans cmp total (user_of x.item.smallest) u w x.passes le)
 
-  pub ends_on : (upper : List FileMeta) (u w : List ℕ) → ends_from cmp upper u ≡ true → is_at_most cmp w u ≡ true → ends_from cmp upper w ≡ true
+  pub ends_on : (upper : List FileMeta) (u w : List ℕ) → ends_at_or_after cmp upper u ≡ true → is_at_most cmp w u ≡ true → ends_at_or_after cmp upper w ≡ true
   ends_on upper u w h le =
       let x = any_gives (λ (g : FileMeta). is_at_most cmp u (user_of g.largest)) upper h in
       any_from (λ (g : FileMeta). is_at_most cmp w (user_of g.largest)) upper x.item x.inside (le_trans cmp total w u (user_of x.item.largest) le x.passes)
@@ -177,7 +177,7 @@ module _ (cmp : List ℕ → List ℕ → Ordering) (total : IsTotalOrder cmp) w
     abbrev pub Leads : List FileMeta → List FileMeta → Type 0
     Leads final chosen = (f i : FileMeta) → IsIn files f → is_among final f ≡ false → IsIn chosen i → Follows i f → goes_on cmp (largest_key cmp chosen) f ≡ true
 
-    first_stands : (g f : FileMeta) → version_cmp cmp g f ≡ Less → IsUpTo cmp g.smallest f.smallest
+    first_stands : (g f : FileMeta) → file_cmp cmp g f ≡ Less → IsUpTo cmp g.smallest f.smallest
     first_stands g f e = first_upto (internal_cmp cmp g.smallest f.smallest) (nat_cmp g.number f.number) e
 
     -- the largest key is that of the boundary file that is added
@@ -218,7 +218,7 @@ module _ (cmp : List ℕ → List ℕ → Ordering) (total : IsTotalOrder cmp) w
         behind_g : goes_on cmp (largest_key cmp chosen) f ≡ true → internal_cmp cmp g.largest f.smallest ≡ Less
         behind_g also =
             let passes : is_next cmp total chosen f ≡ true = not_on (is_among chosen f) (goes_on cmp (largest_key cmp chosen) f) (still_out (is_among chosen f) refl) also in
-            elim (found_first (version_cmp cmp) (is_next cmp total chosen) files g f level.rise found at passes) [
+            elim (found_first (file_cmp cmp) (is_next cmp total chosen) files g f level.rise found at passes) [
               | inl same ↦ false_true (is_among final f) (among_own final f (subst (IsIn final) (sym same) final_g)) out
               | inr before ↦ elim (disjoint g f of_g.0 at (other_number final g f final_g out)) [
                 | inl lt ↦ lt
@@ -279,10 +279,10 @@ module _ (cmp : List ℕ → List ℕ → Ordering) (total : IsTotalOrder cmp) w
 
         between : internal_cmp cmp f.largest most.last.smallest ≡ Less → overlaps cmp upper f ≡ true
         between lt =
-            and_both (begins_by cmp upper (user_of f.largest)) (ends_from cmp upper (user_of f.smallest))
-            (begins_on upper (user_of i.largest) (user_of f.largest) (and_first (begins_by cmp upper (user_of i.largest)) (ends_from cmp upper (user_of i.smallest)) of_i.1)
+            and_both (begins_by cmp upper (user_of f.largest)) (ends_at_or_after cmp upper (user_of f.smallest))
+            (begins_on upper (user_of i.largest) (user_of f.largest) (and_first (begins_by cmp upper (user_of i.largest)) (ends_at_or_after cmp upper (user_of i.smallest)) of_i.1)
             (le_trans cmp total (user_of i.largest) (user_of f.smallest) (user_of f.largest) (ap is_le follows.within) own))
-            (ends_on upper (user_of most.last.smallest) (user_of f.smallest) (and_second (begins_by cmp upper (user_of most.last.largest)) (ends_from cmp upper (user_of most.last.smallest)) of_last.1)
+            (ends_on upper (user_of most.last.smallest) (user_of f.smallest) (and_second (begins_by cmp upper (user_of most.last.largest)) (ends_at_or_after cmp upper (user_of most.last.smallest)) of_last.1)
             (le_trans cmp total (user_of f.smallest) (user_of f.largest) (user_of most.last.smallest) own (user_upto cmp total f.largest most.last.smallest (less_upto cmp total f.largest most.last.smallest lt))))
 
         of_side : AreDisjoint cmp most.last f → goes_on cmp (Some most.last.largest) f ≡ true

@@ -7,7 +7,7 @@ use Rattle.std.specs.Ordering.{is_le}
 use Rattle.std.specs.declared.cmp.Ordering.{Ordering}
 use Rattle.ikey.specs.Key.{user_of}
 use Rattle.edit.specs.declared.meta.FileMeta.{FileMeta}
-use Rattle.pick.specs.Ranges.{is_at_most, begins_by, ends_from, overlaps}
+use Rattle.pick.specs.Ranges.{is_at_most, begins_by, ends_at_or_after, overlaps}
 use Rattle.pick.specs.Chosen.{IsLeastClosed}
 use Rattle.pick.specs.Boundaries.{largest_key, goes_on, is_among, IsChain}
 use Rattle.pick.proofs.Lists.{IsIn, all_in, any_from, and_both, and_first, and_second, false_true, filter_in, in_filter, in_front, in_either, find_some}
@@ -34,7 +34,7 @@ module _ (cmp : List ℕ → List ℕ → Ordering) (total : IsTotalOrder cmp) w
 
     touching : (f g : FileMeta) → IsIn chosen g → is_at_most cmp (user_of g.smallest) (user_of f.largest) ≡ true → is_at_most cmp (user_of f.smallest) (user_of g.largest) ≡ true → overlaps cmp chosen f ≡ true
     touching f g i begins ends =
-        and_both (begins_by cmp chosen (user_of f.largest)) (ends_from cmp chosen (user_of f.smallest))
+        and_both (begins_by cmp chosen (user_of f.largest)) (ends_at_or_after cmp chosen (user_of f.smallest))
         (any_from (λ (q : FileMeta). is_at_most cmp (user_of q.smallest) (user_of f.largest)) chosen g i begins)
         (any_from (λ (q : FileMeta). is_at_most cmp (user_of f.smallest) (user_of q.largest)) chosen g i ends)
 

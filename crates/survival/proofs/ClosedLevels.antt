@@ -11,9 +11,9 @@ use Rattle.edit.specs.VersionOrder.{level_files}
 use Rattle.edit.specs.declared.meta.FileMeta.{FileMeta}
 use Rattle.edit.specs.declared.meta.NewFile.{NewFile}
 use Rattle.edit.proofs.Tested.{eqb-sym}
-use Rattle.edit.proofs.Sorting.{same_number}
+use Rattle.edit.proofs.SortedFiles.{same_number}
 use Rattle.pick.specs.Boundaries.{is_among}
-use Rattle.reads.specs.Tables.{Numbered, table_entries}
+use Rattle.reads.specs.Tables.{NumberedContents, table_entries}
 use Rattle.reads.specs.Lawful.{IsFileOf, IsLawful, AreDisjoint, AreNewer}
 use Rattle.pick.specs.declared.picked.InputFile.{InputFile}
 use Rattle.pick.specs.Picked.{input_at}
@@ -71,7 +71,7 @@ module _ (level : ℕ) (upper lower : List FileMeta) (inputs : List InputFile) (
 
 -- ---- a level of a lawful version
 
-module _ (cmp : List ℕ → List ℕ → Ordering) (total : IsTotalOrder cmp) (v : State) (tables : List Numbered) (lawful : IsLawful cmp v tables) where
+module _ (cmp : List ℕ → List ℕ → Ordering) (total : IsTotalOrder cmp) (v : State) (tables : List NumberedContents) (lawful : IsLawful cmp v tables) where
   pub level_of : (n : ℕ) → AreLevelFiles cmp (level_files cmp v n)
   level_of n = are_level_files total v n lawful.apart
 

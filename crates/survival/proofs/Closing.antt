@@ -9,16 +9,16 @@ use Rattle.std.proofs.lemmas.Bool.Decides.{Decides-eqb}
 use Rattle.std.proofs.lemmas.List.Elements.{All-contains, Contains-get_or, Contains-append_cases}
 use Rattle.ikey.specs.Key.{user_of}
 use Rattle.ikey.specs.Order.{internal_cmp}
-use Rattle.block.specs.Piece.{Entry}
+use Rattle.block.specs.EncodedEntry.{Entry}
 use Rattle.edit.specs.Version.{State, pointer_of}
 use Rattle.edit.specs.VersionOrder.{level_files}
 use Rattle.edit.specs.declared.meta.FileMeta.{FileMeta}
 use Rattle.edit.specs.declared.meta.NewFile.{NewFile}
-use Rattle.edit.proofs.Sorting.{same_number}
-use Rattle.pick.specs.Ranges.{is_at_most, begins_by, ends_from, overlaps, holds_user, is_in_none}
+use Rattle.edit.proofs.SortedFiles.{same_number}
+use Rattle.pick.specs.Ranges.{is_at_most, begins_by, ends_at_or_after, overlaps, holds_user, is_in_none}
 use Rattle.pick.specs.Boundaries.{is_among, IsChain, AreWithBoundaries}
-use Rattle.pick.specs.Picked.{Picked, IsPicked, AreUpper, input_at, files_from}
-use Rattle.reads.specs.Tables.{Numbered, table_entries}
+use Rattle.pick.specs.Picked.{PickedInputs, IsPicked, AreUpper, input_at, files_from}
+use Rattle.reads.specs.Tables.{NumberedContents, table_entries}
 use Rattle.reads.specs.Lawful.{IsLawful, AreNewer, AreDisjoint}
 use Rattle.survival.specs.Closed.{ClosedInputs, is_input, upper_inputs, is_within, IsNewerThanInputs, IsOlderThanInputs}
 use Rattle.pick.specs.declared.picked.InputFile.{InputFile}
@@ -27,7 +27,7 @@ use Rattle.pick.proofs.UserOrders.{le_trans}
 use Rattle.reads.proofs.Members.{first_or_later, none_in, from_filter, from_map}
 use Rattle.reads.proofs.Levels.{is_in, contains_in}
 use Rattle.reads.proofs.Newer.{newer_of}
-use Rattle.pick.proofs.Choosing.{first_in}
+use Rattle.pick.proofs.ChosenInputs.{first_in}
 use Rattle.pick.proofs.Chains.{is_next}
 use Rattle.survival.proofs.FileKeys.{IsUpTo, user_upto, less_upto, tied_both, range_rises, user_from, user_to, holds_own, before_newer}
 use Rattle.survival.proofs.ClosedLevels.{among_is, among_own, other_number, all_inputs, upper_input, lower_input, level_of, file_at, in_level, file_of, level_file_of, level_disjoint, shallower_newer, deeper_older}
@@ -73,7 +73,7 @@ module _ (cmp : List ℕ → List ℕ → Ordering) (total : IsTotalOrder cmp) w
         | inr less ↦ in_back (level_files cmp v from) (files_from cmp v (from + 1) n) m (in_files_from v n (from + 1) level (omega arith) (omega arith) m i)
       ]
 
-  module _ (v : State) (tables : List Numbered) (lawful : IsLawful cmp v tables) where
+  module _ (v : State) (tables : List NumberedContents) (lawful : IsLawful cmp v tables) where
     entries : FileMeta → List Entry
     entries m = table_entries tables m.number
 
@@ -142,7 +142,7 @@ module _ (cmp : List ℕ → List ℕ → Ordering) (total : IsTotalOrder cmp) w
         only first q files there (inl same) = subst (IsIn files) (sym same) there
         only first q files there (inr j) = absurd j
 
-    module _ (level : ℕ) (p : Picked) (low : All (λ (f : NewFile). f.level ≤ 6) v.files) (picked : IsPicked cmp v level p) where
+    module _ (level : ℕ) (p : PickedInputs) (low : All (λ (f : NewFile). f.level ≤ 6) v.files) (picked : IsPicked cmp v level p) where
       abbrev above : List FileMeta
       above = picked.are_upper.chosen ++ picked.are_upper.with_boundaries.added
 
@@ -207,11 +207,11 @@ module _ (cmp : List ℕ → List ℕ → Ordering) (total : IsTotalOrder cmp) w
           ap not (any_from (holds_user cmp (user_of e.key)) p.deeper f.meta (subst (λ (l : List FileMeta). IsIn l f.meta) (sym picked.deeper_are) there) (holds_own cmp total tables f.meta (file_of cmp total v tables lawful f at) e (Contains-get_or (table_entries tables f.meta.number) k d less)))
 
       -- no user key of a file of the next level that stays is in the range of the level's inputs
-      not_within : (f : NewFile) → Contains v.files f → is_input p f.meta.number ≡ false → f.level ≡ level + 1 → (e : Entry) → Contains (table_entries tables f.meta.number) e → begins_by cmp picked.upper (user_of e.key) ≡ true → ends_from cmp picked.upper (user_of e.key) ≡ true → ⊥
+      not_within : (f : NewFile) → Contains v.files f → is_input p f.meta.number ≡ false → f.level ≡ level + 1 → (e : Entry) → Contains (table_entries tables f.meta.number) e → begins_by cmp picked.upper (user_of e.key) ≡ true → ends_at_or_after cmp picked.upper (user_of e.key) ≡ true → ⊥
       not_within f at out own e i begins ends =
           let of_f = file_of cmp total v tables lawful f at in
           let there = in_level cmp total v tables lawful f at (level + 1) own in
-          let h : overlaps cmp picked.upper f.meta ≡ true = and_both (begins_by cmp picked.upper (user_of f.meta.largest)) (ends_from cmp picked.upper (user_of f.meta.smallest))
+          let h : overlaps cmp picked.upper f.meta ≡ true = and_both (begins_by cmp picked.upper (user_of f.meta.largest)) (ends_at_or_after cmp picked.upper (user_of f.meta.smallest))
           (begins_on cmp total picked.upper (user_of e.key) (user_of f.meta.largest) begins (user_to cmp total tables f.meta of_f e i))
           (ends_on cmp total picked.upper (user_of e.key) (user_of f.meta.smallest) ends (user_from cmp total tables f.meta of_f e i)) in
           false_true (is_among below f.meta) (among_own below f.meta (in_front overlapping picked.are_lower.added f.meta (in_filter (overlaps cmp picked.upper) (level_files cmp v (level + 1)) f.meta there h))) (out_below f.meta there out)
@@ -233,8 +233,8 @@ module _ (cmp : List ℕ → List ℕ → Ordering) (total : IsTotalOrder cmp) w
           let user = user_of e.key in
           refuted (is_within cmp (upper_inputs p) user)
           (λ within.
-          let begins = any_gives (λ (g : FileMeta). is_at_most cmp (user_of g.smallest) user) (upper_inputs p) (and_first (begins_by cmp (upper_inputs p) user) (ends_from cmp (upper_inputs p) user) within) in
-          let ends = any_gives (λ (g : FileMeta). is_at_most cmp user (user_of g.largest)) (upper_inputs p) (and_second (begins_by cmp (upper_inputs p) user) (ends_from cmp (upper_inputs p) user) within) in
+          let begins = any_gives (λ (g : FileMeta). is_at_most cmp (user_of g.smallest) user) (upper_inputs p) (and_first (begins_by cmp (upper_inputs p) user) (ends_at_or_after cmp (upper_inputs p) user) within) in
+          let ends = any_gives (λ (g : FileMeta). is_at_most cmp user (user_of g.largest)) (upper_inputs p) (and_second (begins_by cmp (upper_inputs p) user) (ends_at_or_after cmp (upper_inputs p) user) within) in
           not_within f at out own e (Contains-get_or (table_entries tables f.meta.number) k d less)
           (any_from (λ (g : FileMeta). is_at_most cmp (user_of g.smallest) user) picked.upper begins.item (of_upper begins.item (contains_in (upper_inputs p) begins.item begins.inside)) begins.passes)
           (any_from (λ (g : FileMeta). is_at_most cmp user (user_of g.largest)) picked.upper ends.item (of_upper ends.item (contains_in (upper_inputs p) ends.item ends.inside)) ends.passes))

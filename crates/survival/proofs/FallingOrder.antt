@@ -8,14 +8,14 @@ use Rattle.std.specs.declared.cmp.Ordering.{Ordering}
 use Rattle.std.proofs.lemmas.List.Elements.{All-contains}
 use Rattle.std.proofs.lemmas.Slice.Eq.{bytes_eq-Decides}
 use Rattle.ikey.specs.Key.{user_of, sequence_of}
-use Rattle.block.specs.Piece.{Entry}
-use Rattle.table.specs.ReadingCursors.{IsRising}
+use Rattle.block.specs.EncodedEntry.{Entry}
+use Rattle.table.specs.ReadingCursors.{EntriesRise}
 use Rattle.edit.specs.Version.{State}
 use Rattle.edit.specs.declared.meta.FileMeta.{FileMeta}
 use Rattle.edit.specs.declared.meta.NewFile.{NewFile}
 use Rattle.reads.specs.Lawful.{IsLawful, IsFileOf, AreDistinct}
 use Rattle.reads.specs.NewestFirst.{SequencesFall}
-use Rattle.reads.specs.Tables.{Numbered, table_entries}
+use Rattle.reads.specs.Tables.{NumberedContents, table_entries}
 use Rattle.reads.proofs.Answers.{entries_are}
 use Rattle.reads.proofs.FallingEntries.{of_each}
 use Rattle.reads.proofs.Members.{from_filter}
@@ -52,7 +52,7 @@ falls user (e ∷ es) pairs = falls_by user e es (is_of user e) refl pairs.0 (fa
 
 module _ (cmp : List ℕ → List ℕ → Ordering) (total : IsTotalOrder cmp) where
   -- a table whose keys rise, and that has no user key and sequence twice
-  of_rising : (es : List Entry) → IsRising cmp es → Pairs AreDistinct es → Pairs IsLower es
+  of_rising : (es : List Entry) → EntriesRise cmp es → Pairs AreDistinct es → Pairs IsLower es
   of_rising [] rising distinct = tt
   of_rising (e ∷ es) rising distinct = (
     λ f at same. elim (eq-or-lt_of_le (later_older cmp total e.key f.key (above_first cmp e es f rising at) same)) [
@@ -62,7 +62,7 @@ module _ (cmp : List ℕ → List ℕ → Ordering) (total : IsTotalOrder cmp) w
     of_rising es rising.1 distinct.1,
   )
 
-  module _ (v : State) (tables : List Numbered) (lawful : IsLawful cmp v tables) where
+  module _ (v : State) (tables : List NumberedContents) (lawful : IsLawful cmp v tables) where
     own_order : (f : NewFile) → Contains v.files f → Pairs IsLower (table_entries tables f.meta.number)
     own_order f at =
         let is : IsFileOf cmp tables f.meta = All-contains (λ (x : NewFile). IsFileOf cmp tables x.meta) v.files f lawful.files at in

@@ -10,13 +10,13 @@ use Rattle.std.proofs.lemmas.List.Elements.{All-contains}
 use Rattle.ikey.specs.Key.{user_of, sequence_of, kind_of, kind_number}
 use Rattle.ikey.specs.Order.{internal_cmp}
 use Rattle.ikey.proofs.Ordered.{internal_cmp-total}
-use Rattle.block.specs.Piece.{Entry}
-use Rattle.table.specs.ReadingCursors.{IsRising}
+use Rattle.block.specs.EncodedEntry.{Entry}
+use Rattle.table.specs.ReadingCursors.{EntriesRise}
 use Rattle.edit.specs.Version.{State}
 use Rattle.edit.specs.declared.meta.FileMeta.{FileMeta}
 use Rattle.edit.specs.declared.meta.NewFile.{NewFile}
 use Rattle.pick.specs.Ranges.{is_at_most, holds_user}
-use Rattle.reads.specs.Tables.{Numbered, table_entries, all_entries}
+use Rattle.reads.specs.Tables.{NumberedContents, table_entries, all_entries}
 use Rattle.reads.specs.Lawful.{IsFileOf, IsLawful, AreNewer}
 use Rattle.pick.proofs.Lists.{and_both}
 use Rattle.pick.proofs.UserOrders.{le_refl}
@@ -84,7 +84,7 @@ module _ (cmp : List ℕ → List ℕ → Ordering) (total : IsTotalOrder cmp) w
   pub less_upto : (a b : List ℕ) → internal_cmp cmp a b ≡ Less → IsUpTo cmp a b
   less_upto a b e = ap is_le e
 
-  module _ (tables : List Numbered) (f : FileMeta) (is : IsFileOf cmp tables f) where
+  module _ (tables : List NumberedContents) (f : FileMeta) (is : IsFileOf cmp tables f) where
     held : (e : Entry) → Contains (table_entries tables f.number) e → Contains is.table.entries e
     held e at = subst (λ (es : List Entry). Contains es e) (entries_are tables f.number is.table is.there) at
 
@@ -105,7 +105,7 @@ module _ (cmp : List ℕ → List ℕ → Ordering) (total : IsTotalOrder cmp) w
     pub range_rises : IsUpTo cmp f.smallest f.largest
     range_rises = of_first is.table.entries is.rising is.smallest is.largest
       where
-        of_first : (es : List Entry) → IsRising cmp es → option_map (λ e. e.key) (slice_get es 0) ≡ Some f.smallest → option_map (λ e. e.key) (slice_get es (length es - 1)) ≡ Some f.largest → IsUpTo cmp f.smallest f.largest
+        of_first : (es : List Entry) → EntriesRise cmp es → option_map (λ e. e.key) (slice_get es 0) ≡ Some f.smallest → option_map (λ e. e.key) (slice_get es (length es - 1)) ≡ Some f.largest → IsUpTo cmp f.smallest f.largest
         of_first [] rising first last = absurd cc
         of_first (e ∷ es) rising first last =
             let same : e.key ≡ f.smallest = cc in
@@ -125,7 +125,7 @@ module _ (cmp : List ℕ → List ℕ → Ordering) (total : IsTotalOrder cmp) w
     holds_own e at = and_both (is_at_most cmp (user_of f.smallest) (user_of e.key)) (is_at_most cmp (user_of e.key) (user_of f.largest)) (user_from e at) (user_to e at)
 
   -- a file of a lawful version that ends before another begins has the newer entries
-  pub before_newer : (v : State) (tables : List Numbered) → IsLawful cmp v tables → (f g : NewFile) → Contains v.files f → Contains v.files g → internal_cmp cmp f.meta.largest g.meta.smallest ≡ Less
+  pub before_newer : (v : State) (tables : List NumberedContents) → IsLawful cmp v tables → (f g : NewFile) → Contains v.files f → Contains v.files g → internal_cmp cmp f.meta.largest g.meta.smallest ≡ Less
       → AreNewer (table_entries tables f.meta.number) (table_entries tables g.meta.number)
   before_newer v tables lawful f g at there before = newer_of (table_entries tables f.meta.number) (table_entries tables g.meta.number) newer
     where

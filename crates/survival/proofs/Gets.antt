@@ -13,18 +13,18 @@ use Rattle.std.proofs.lemmas.List.Sorted.{Contains-permutation, IsPermutation-sy
 use Rattle.std.proofs.lemmas.Slice.Eq.{bytes_eq-Decides}
 use Rattle.ikey.specs.Key.{user_of, sequence_of}
 use Rattle.ikey.specs.Comparator.{IsExact}
-use Rattle.block.specs.Piece.{Entry}
+use Rattle.block.specs.EncodedEntry.{Entry}
 use Rattle.edit.specs.Version.{State}
 use Rattle.edit.specs.declared.meta.FileMeta.{FileMeta}
 use Rattle.edit.specs.declared.meta.NewFile.{NewFile}
-use Rattle.merge.specs.Merged.{joined}
-use Rattle.merge.specs.Union.{version_cmp, VersionsRise, IsUnion}
-use Rattle.pick.specs.Picked.{Picked, IsPicked}
+use Rattle.merge.specs.Merged.{entries_of_lists}
+use Rattle.merge.specs.Union.{key_version_cmp, VersionsRise, IsUnion}
+use Rattle.pick.specs.Picked.{PickedInputs, IsPicked}
 use Rattle.pick.specs.declared.picked.InputFile.{InputFile}
 use Rattle.reads.specs.Gets.{get_of}
 use Rattle.reads.specs.Lawful.{IsLawful}
 use Rattle.reads.specs.NewestFirst.{SequencesFall, AreThoseOf}
-use Rattle.reads.specs.Tables.{Numbered, table_entries, all_entries}
+use Rattle.reads.specs.Tables.{NumberedContents, table_entries, all_entries}
 use Rattle.reads.proofs.FallingEntries.{each_of, of_each, answers_newest_first}
 use Rattle.reads.proofs.Members.{first_or_later, later_in, first_in, none_in, in_filter, from_filter, in_flat_map, from_flat_map, in_map, from_map}
 use Rattle.reads.proofs.Orders.{less_is}
@@ -32,11 +32,11 @@ use Rattle.reads.proofs.Pairs.{Pairs}
 use Rattle.survival.specs.Together.{StandTogether, entries_read, files_above, files_taken, files_below}
 use Rattle.survival.proofs.FallingOrder.{IsLower, is_of, of_user, user_is, falls}
 use Rattle.survival.proofs.StandingTogether.{inputs_stand_together}
-use Rattle.keep.specs.Keeping.{is_same_user, keeps, kept_behind, kept}
+use Rattle.keep.specs.DropRule.{is_same_user, keeps, kept_behind, kept}
 use Rattle.keep.specs.Readable.{Readable, is_read}
 use Rattle.keep.proofs.Dropped.{one_key_law}
 use Rattle.keep.proofs.OneKey.{falls_behind, falls_front}
-use Rattle.survival.specs.GetsAfter.{staying, entries_of_inputs, HoldKept, GetsAfter}
+use Rattle.survival.specs.GetsAfter.{staying_files, entries_of_inputs, HoldKept, GetsAfter}
 
 -- ---- lists whose sequences fall
 
@@ -132,7 +132,7 @@ module _ (cmp : List ℕ → List ℕ → Ordering) (total : IsTotalOrder cmp) (
   then_less Greater p h = absurd cc
 
   -- an entry whose version is before another's has a lesser user key, or the same one and a greater sequence
-  users_rise : (a b : Entry) → version_cmp cmp a.key b.key ≡ Less → (cmp (user_of a.key) (user_of b.key) ≡ Less) ⊎ ((user_of a.key ≡ user_of b.key) × (sequence_of b.key < sequence_of a.key))
+  users_rise : (a b : Entry) → key_version_cmp cmp a.key b.key ≡ Less → (cmp (user_of a.key) (user_of b.key) ≡ Less) ⊎ ((user_of a.key ≡ user_of b.key) × (sequence_of b.key < sequence_of a.key))
   users_rise a b h =
       elim (then_less (cmp (user_of a.key) (user_of b.key)) (nat_cmp (sequence_of b.key) (sequence_of a.key)) h) [
         | inl less ↦ inl less
@@ -145,7 +145,7 @@ module _ (cmp : List ℕ → List ℕ → Ordering) (total : IsTotalOrder cmp) (
   pub rising_lower : (es : List Entry) → VersionsRise cmp es → Pairs IsLower es
   rising_lower [] h = tt
   rising_lower (e ∷ es) h = (
-    λ f at same. by_user f same (users_rise e f (each_of (λ (g : Entry). version_cmp cmp e.key g.key ≡ Less) es h.0 f at)),
+    λ f at same. by_user f same (users_rise e f (each_of (λ (g : Entry). key_version_cmp cmp e.key g.key ≡ Less) es h.0 f at)),
     rising_lower es h.1,
   )
     where
@@ -177,7 +177,7 @@ module _ (cmp : List ℕ → List ℕ → Ordering) (total : IsTotalOrder cmp) (
             ]
 
         later : user_of x.key ≡ user → ⊥
-        later same = by_user (users_rise e x (each_of (λ (g : Entry). version_cmp cmp e.key g.key ≡ Less) es rise.1.0 x at))
+        later same = by_user (users_rise e x (each_of (λ (g : Entry). key_version_cmp cmp e.key g.key ≡ Less) es rise.1.0 x at))
           where
             back : cmp (user_of p.key) (user_of x.key) ≡ Less → ⊥
             back less = not_itself (user_of p.key) (subst (λ (u : List ℕ). cmp (user_of p.key) u ≡ Less) (same ∙ sym own) less)
@@ -255,7 +255,7 @@ module _ (cmp : List ℕ → List ℕ → Ordering) (total : IsTotalOrder cmp) (
 
   -- ---- the gets
 
-  module _ (v : State) (tables : List Numbered) (level : ℕ) (p : Picked) (r : Readable) (union : List Entry) (after : State) (tables_after : List Numbered)
+  module _ (v : State) (tables : List NumberedContents) (level : ℕ) (p : PickedInputs) (r : Readable) (union : List Entry) (after : State) (tables_after : List NumberedContents)
       (lawful : IsLawful cmp v tables) (low : All (λ (f : NewFile). f.level ≤ 6) v.files) (picked : IsPicked cmp v level p)
       (is_union : IsUnion cmp (entries_of_inputs tables p) union) (hold : HoldKept cmp v tables p r union after tables_after)
       (user : List ℕ) (at : ℕ) (read : is_read r at ≡ true) where
@@ -278,13 +278,13 @@ module _ (cmp : List ℕ → List ℕ → Ordering) (total : IsTotalOrder cmp) (
         in_union e
         (in_flat_map (λ (list : List Entry). list) (entries_of_inputs tables p) (table_entries tables from.source.meta.number) e (in_map (λ (x : InputFile). table_entries tables x.meta.number) p.files from.source from.there) from.held)
       where
-        in_union : (x : Entry) → Contains (joined (entries_of_inputs tables p)) x → Contains union x
-        in_union x j = Contains-permutation (joined (entries_of_inputs tables p)) union x is_union.same j
+        in_union : (x : Entry) → Contains (entries_of_lists (entries_of_inputs tables p)) x → Contains union x
+        in_union x j = Contains-permutation (entries_of_lists (entries_of_inputs tables p)) union x is_union.same j
 
     joined_held : (e : Entry) → Contains union e → Contains (flat_map (λ (i : InputFile). table_entries tables i.meta.number) p.files) e
     joined_held e i =
         let lists = entries_of_inputs tables p in
-        let all = Contains-permutation union (joined lists) e (IsPermutation-sym (joined lists) union is_union.same) i in
+        let all = Contains-permutation union (entries_of_lists lists) e (IsPermutation-sym (entries_of_lists lists) union is_union.same) i in
         let from = from_flat_map (λ (list : List Entry). list) lists e all in
         let of = from_map (λ (x : InputFile). table_entries tables x.meta.number) p.files from.source from.there in
         in_flat_map (λ (x : InputFile). table_entries tables x.meta.number) p.files of.source e of.there (subst (λ (l : List Entry). Contains l e) (sym of.is) from.held)
@@ -326,7 +326,7 @@ module _ (cmp : List ℕ → List ℕ → Ordering) (total : IsTotalOrder cmp) (
       only = λ e i. only_side e (from_own e i);
     }
       where
-        each_side : (e : Entry) → user_of e.key ≡ user → Contains (all_entries tables (staying v p)) e ⊎ Contains (kept cmp r p.deeper union) e → Contains (above ++ below) e ⊎ Contains (kept cmp r p.deeper inputs) e
+        each_side : (e : Entry) → user_of e.key ≡ user → Contains (all_entries tables (staying_files v p)) e ⊎ Contains (kept cmp r p.deeper union) e → Contains (above ++ below) e ⊎ Contains (kept cmp r p.deeper inputs) e
         each_side e same (inl i) = inl (stand.of_others.each e i same)
         each_side e same (inr i) = inr (subst (λ (l : List Entry). Contains l e) kept_own (in_filter (is_of user) (kept cmp r p.deeper union) e (user_is user e same) i))
 

@@ -13,11 +13,11 @@ use Rattle.edit.specs.declared.meta.FileMeta.{FileMeta}
 use Rattle.edit.specs.declared.meta.NewFile.{NewFile}
 use Rattle.pick.specs.Ranges.{overlaps}
 use Rattle.pick.specs.Boundaries.{is_among, AreWithBoundaries}
-use Rattle.pick.specs.Picked.{Picked, IsPicked, input_at}
+use Rattle.pick.specs.Picked.{PickedInputs, IsPicked, input_at}
 use Rattle.pick.specs.declared.picked.InputFile.{InputFile}
 use Rattle.pick.proofs.Lists.{or_either}
-use Rattle.reads.specs.Lawful.{IsLawful, IsBelowNext}
-use Rattle.reads.specs.Tables.{Numbered}
+use Rattle.reads.specs.Lawful.{IsLawful, IsBelowNextFile}
+use Rattle.reads.specs.Tables.{NumberedContents}
 use Rattle.reads.proofs.Levels.{IsAtLevel, from_level}
 use Rattle.reads.proofs.LawfulVersions.{one_number}
 use Rattle.reads.proofs.Members.{later_in, first_in, from_filter, from_map}
@@ -38,7 +38,7 @@ any_passes p (x ∷ xs) h =
       | inr later ↦ (let rest = any_passes p xs later in record { item = rest.item; there = later_in x xs rest.item rest.there; passes = rest.passes })
     ]
 
-module _ (cmp : List ℕ → List ℕ → Ordering) (total : IsTotalOrder cmp) (v : State) (tables : List Numbered) (lawful : IsLawful cmp v tables) (level : ℕ) (p : Picked) (picked : IsPicked cmp v level p) where
+module _ (cmp : List ℕ → List ℕ → Ordering) (total : IsTotalOrder cmp) (v : State) (tables : List NumberedContents) (lawful : IsLawful cmp v tables) (level : ℕ) (p : PickedInputs) (picked : IsPicked cmp v level p) where
   -- the file of the version that an input is
   pub record IsInputAt (i : InputFile) : Type 0 where
     pub file : NewFile
@@ -87,10 +87,10 @@ module _ (cmp : List ℕ → List ℕ → Ordering) (total : IsTotalOrder cmp) (
       ap (λ (x : NewFile). x.level) (one_number v.files lawful.apart f g.file at g.there number) ∙ g.stands
 
 -- a number of a lawful version's file is below one that its next file isn't above
-below_by : (next : Option ℕ) (number first : ℕ) → IsBelowNext next number → ForSome next (λ n. n ≤ first) → number < first
+below_by : (next : Option ℕ) (number first : ℕ) → IsBelowNextFile next number → ForSome next (λ n. n ≤ first) → number < first
 below_by None number first below high = absurd below
 below_by (Some n) number first below high = let le : n ≤ first = high n refl in omega (arith, below, le)
 
-pub below_first : (cmp : List ℕ → List ℕ → Ordering) (v : State) (tables : List Numbered) (lawful : IsLawful cmp v tables) (first : ℕ) → ForSome v.next_file (λ next. next ≤ first) → (f : NewFile) → Contains v.files f → f.meta.number < first
+pub below_first : (cmp : List ℕ → List ℕ → Ordering) (v : State) (tables : List NumberedContents) (lawful : IsLawful cmp v tables) (first : ℕ) → ForSome v.next_file (λ next. next ≤ first) → (f : NewFile) → Contains v.files f → f.meta.number < first
 below_first cmp v tables lawful first high f at =
-    below_by v.next_file f.meta.number first (All-contains (λ (x : NewFile). IsBelowNext v.next_file x.meta.number) v.files f lawful.below_next at) high
+    below_by v.next_file f.meta.number first (All-contains (λ (x : NewFile). IsBelowNextFile v.next_file x.meta.number) v.files f lawful.below_next at) high

@@ -14,25 +14,25 @@ use Rattle.std.proofs.lemmas.Map.Keys.{IsDistinct-IsPermutation, apart_from_dist
 use Rattle.ikey.specs.Comparator.{IsExact}
 use Rattle.ikey.specs.Key.{IsInternalKey, user_of, sequence_of}
 use Rattle.ikey.specs.Order.{internal_cmp}
-use Rattle.block.specs.Piece.{Entry}
-use Rattle.block.specs.Building.{last_key}
+use Rattle.block.specs.EncodedEntry.{Entry}
+use Rattle.block.specs.BuilderView.{last_key}
 use Rattle.table.specs.Checked.{contents_in}
-use Rattle.table.specs.Reading.{Contents, contents_reading}
-use Rattle.table.specs.ReadingCursors.{IsRising}
+use Rattle.table.specs.TableContents.{Contents, contents_reading}
+use Rattle.table.specs.ReadingCursors.{EntriesRise}
 use Rattle.table.specs.ReadingEntries.{first_key}
 use Rattle.table.proofs.CheckedTables.{HasEntry, first_is, last_is}
 use Rattle.edit.specs.Version.{State}
 use Rattle.edit.specs.declared.meta.FileMeta.{FileMeta}
 use Rattle.edit.specs.declared.meta.NewFile.{NewFile}
-use Rattle.edit.proofs.Rising.{same_file, same_turned, distinct_apart}
+use Rattle.edit.proofs.RisingFiles.{same_file, same_turned, distinct_apart}
 use Rattle.edit.proofs.Tested.{not_is_true}
-use Rattle.merge.specs.Merged.{joined}
-use Rattle.pick.specs.Picked.{Picked, IsPicked}
+use Rattle.merge.specs.Merged.{entries_of_lists}
+use Rattle.pick.specs.Picked.{PickedInputs, IsPicked}
 use Rattle.pick.specs.declared.picked.InputFile.{InputFile}
 use Rattle.pick.proofs.Lists.{false_true}
 use Rattle.std.proofs.lemmas.Bool.{cases_lt}
-use Rattle.reads.specs.Lawful.{IsLawful, IsFileOf, IsBelowNext, AreDisjoint, AreDistinct, AreNewer, StandsAbove}
-use Rattle.reads.specs.Tables.{Numbered, table_of, table_entries, all_entries}
+use Rattle.reads.specs.Lawful.{IsLawful, IsFileOf, IsBelowNextFile, AreDisjoint, AreDistinct, AreNewer, StandsAbove}
+use Rattle.reads.specs.Tables.{NumberedContents, table_of_number, table_entries, all_entries}
 use Rattle.reads.proofs.Answers.{entries_are}
 use Rattle.reads.proofs.Members.{later_in, first_in, from_filter, in_flat_map, from_flat_map, in_map, from_map, IsFrom}
 use Rattle.reads.proofs.Newer.{newer_at, newer_of}
@@ -42,18 +42,18 @@ use Rattle.survival.proofs.Closing.{closed_inputs}
 use Rattle.survival.proofs.ClosedLevels.{in_level}
 use Rattle.survival.proofs.FallingOrder.{IsLower}
 use Rattle.survival.proofs.FileKeys.{below_upto, from_smallest, keys_total, to_largest, upto_below}
-use Rattle.keep.specs.Keeping.{keeps, kept_behind, kept}
+use Rattle.keep.specs.DropRule.{keeps, kept_behind, kept}
 use Rattle.keep.specs.Readable.{Readable, readable_of}
 use Rattle.cut.specs.Outputs.{all_of}
 use Rattle.request.specs.OutputTables.{Output, numbered_tables}
 use Rattle.request.specs.Request.{RequestView}
 use Rattle.request.specs.EditOf.{new_file, new_files}
 use Rattle.request.specs.OneThread.{Answer}
-use Rattle.survival.specs.GetsAfter.{staying, entries_of_inputs, HoldKept}
+use Rattle.survival.specs.GetsAfter.{staying_files, entries_of_inputs, HoldKept}
 use Rattle.survival.specs.EditAfter.{version_after}
 use Rattle.survival.specs.Over.{IsOver, AreWritten, output_entries, HoldOutputs}
-use Rattle.survival.specs.Survive.{output_table, tables_after, StandsAfter}
-use Rattle.survival.proofs.Applying.{apart_all, edit_applies, numbered_to}
+use Rattle.survival.specs.Survive.{output_table, tables_after, VersionAfterLaw}
+use Rattle.survival.proofs.AppliedEdit.{apart_all, edit_applies, numbered_to}
 use Rattle.survival.proofs.Gets.{kept_part, not_itself, rising_lower}
 use Rattle.survival.proofs.Inputs.{below_first, input_file, is_one}
 use Rattle.survival.proofs.Lookups.{LiesBelow, other_found, output_found, outputs_apart}
@@ -106,10 +106,10 @@ one_way x y (inl h) = h
 one_way x y (inr h) = turned x y h
 
 module _ (cmp : List ℕ → List ℕ → Ordering) (total : IsTotalOrder cmp) (exact : IsExact cmp) (separator_of : List ℕ → List ℕ → List ℕ) (successor_of : List ℕ → List ℕ)
-    (v : State) (tables : List Numbered) (level : ℕ) (r : RequestView) (answer : Answer)
+    (v : State) (tables : List NumberedContents) (level : ℕ) (r : RequestView) (answer : Answer)
     (lawful : IsLawful cmp v tables) (low : All (λ (f : NewFile). f.level ≤ 6) v.files) (picked : IsPicked cmp v level r.picked) (over : IsOver v tables r)
     (held : HoldOutputs cmp separator_of successor_of tables r answer) where
-  abbrev p : Picked
+  abbrev p : PickedInputs
   p = r.picked
 
   abbrev outputs : List Output
@@ -119,14 +119,14 @@ module _ (cmp : List ℕ → List ℕ → Ordering) (total : IsTotalOrder cmp) (
   after = version_after v r held.outputs
 
   -- the tables after, by the outputs
-  abbrev now : List Numbered
-  now = map (output_table cmp) (numbered_tables held.outputs) ++ filter (λ (t : Numbered). not (is_input r.picked t.number)) tables
+  abbrev now : List NumberedContents
+  now = map (output_table cmp) (numbered_tables held.outputs) ++ filter (λ (t : NumberedContents). not (is_input r.picked t.number)) tables
 
   abbrev readable : Readable
   readable = readable_of r.snapshots r.last_sequence
 
   now_is : tables_after cmp r.picked answer tables ≡ now
-  now_is = ap (λ (outputs : List (ℕ × List ℕ)). map (output_table cmp) outputs ++ filter (λ (t : Numbered). not (is_input r.picked t.number)) tables) held.answer_tables
+  now_is = ap (λ (outputs : List (ℕ × List ℕ)). map (output_table cmp) outputs ++ filter (λ (t : NumberedContents). not (is_input r.picked t.number)) tables) held.answer_tables
 
   closed : AreClosed cmp v tables r.picked
   closed = closed_inputs cmp total v tables level r.picked lawful low picked
@@ -136,45 +136,45 @@ module _ (cmp : List ℕ → List ℕ → Ordering) (total : IsTotalOrder cmp) (
 
   -- ---- the files after
 
-  permuted : IsPermutation (staying v r.picked ++ new_files r held.outputs) after.files
+  permuted : IsPermutation (staying_files v r.picked ++ new_files r held.outputs) after.files
   permuted = (edit_applies cmp total).files v tables level r held.outputs lawful picked over.numbers held.numbered
 
   -- a file that is an output
   abbrev IsOutput : NewFile → Type 0
   IsOutput f = (q : Output) × Contains held.outputs q × (new_file (r.picked.level + 1) q ≡ f)
 
-  side : (f : NewFile) → Contains after.files f → Contains (staying v r.picked) f ⊎ IsOutput f
+  side : (f : NewFile) → Contains after.files f → Contains (staying_files v r.picked) f ⊎ IsOutput f
   side f at =
-      let back = Contains-permutation after.files (staying v r.picked ++ new_files r held.outputs) f (IsPermutation-sym (staying v r.picked ++ new_files r held.outputs) after.files permuted) at in
-      elim (Contains-append_cases (staying v r.picked) (new_files r held.outputs) f back) [
+      let back = Contains-permutation after.files (staying_files v r.picked ++ new_files r held.outputs) f (IsPermutation-sym (staying_files v r.picked ++ new_files r held.outputs) after.files permuted) at in
+      elim (Contains-append_cases (staying_files v r.picked) (new_files r held.outputs) f back) [
         | inl i ↦ inl i
         | inr i ↦ (let x = from_map (new_file (r.picked.level + 1)) held.outputs f i in inr (x.source, x.there, x.is))
       ]
 
-  stays_after : (f : NewFile) → Contains (staying v r.picked) f → Contains after.files f
-  stays_after f at = Contains-permutation (staying v r.picked ++ new_files r held.outputs) after.files f permuted (Contains-append_left (staying v r.picked) (new_files r held.outputs) f at)
+  stays_after : (f : NewFile) → Contains (staying_files v r.picked) f → Contains after.files f
+  stays_after f at = Contains-permutation (staying_files v r.picked ++ new_files r held.outputs) after.files f permuted (Contains-append_left (staying_files v r.picked) (new_files r held.outputs) f at)
 
   output_after : (q : Output) → Contains outputs q → Contains after.files (new_file (r.picked.level + 1) q)
   output_after q at =
-      Contains-permutation (staying v r.picked ++ new_files r held.outputs) after.files (new_file (r.picked.level + 1) q) permuted
-      (Contains-append_right (staying v r.picked) (new_files r held.outputs) (new_file (r.picked.level + 1) q) (in_map (new_file (r.picked.level + 1)) held.outputs q at))
+      Contains-permutation (staying_files v r.picked ++ new_files r held.outputs) after.files (new_file (r.picked.level + 1) q) permuted
+      (Contains-append_right (staying_files v r.picked) (new_files r held.outputs) (new_file (r.picked.level + 1) q) (in_map (new_file (r.picked.level + 1)) held.outputs q at))
 
-  there : (f : NewFile) → Contains (staying v r.picked) f → Contains v.files f
+  there : (f : NewFile) → Contains (staying_files v r.picked) f → Contains v.files f
   there f at = (from_filter (λ (g : NewFile). not (is_input r.picked g.meta.number)) v.files f at).0
 
-  out : (f : NewFile) → Contains (staying v r.picked) f → is_input r.picked f.meta.number ≡ false
+  out : (f : NewFile) → Contains (staying_files v r.picked) f → is_input r.picked f.meta.number ≡ false
   out f at = not_is_true (is_input r.picked f.meta.number) (from_filter (λ (g : NewFile). not (is_input r.picked g.meta.number)) v.files f at).1
 
   -- ---- the tables after
 
-  old_table : (f : NewFile) → Contains (staying v r.picked) f → table_of now f.meta.number ≡ table_of tables f.meta.number
+  old_table : (f : NewFile) → Contains (staying_files v r.picked) f → table_of_number now f.meta.number ≡ table_of_number tables f.meta.number
   old_table f at = other_found cmp r.first_number held.outputs held.numbered r.picked tables f.meta.number (below_first cmp v tables lawful r.first_number over.numbers f (there f at)) (out f at)
 
-  old_entries : (f : NewFile) → Contains (staying v r.picked) f → table_entries now f.meta.number ≡ table_entries tables f.meta.number
+  old_entries : (f : NewFile) → Contains (staying_files v r.picked) f → table_entries now f.meta.number ≡ table_entries tables f.meta.number
   old_entries f at = ap (λ (o : Option Contents). option_map_or (λ (t : Contents). t.entries) o []) (old_table f at)
 
-  new_table : (q : Output) → Contains outputs q → table_of now q.number ≡ Some (contents_in cmp q.bytes)
-  new_table q at = output_found cmp r.first_number held.outputs held.numbered q at (filter (λ (t : Numbered). not (is_input r.picked t.number)) tables)
+  new_table : (q : Output) → Contains outputs q → table_of_number now q.number ≡ Some (contents_in cmp q.bytes)
+  new_table q at = output_found cmp r.first_number held.outputs held.numbered q at (filter (λ (t : NumberedContents). not (is_input r.picked t.number)) tables)
 
   new_entries : (q : Output) → Contains outputs q → table_entries now q.number ≡ q.entries
   new_entries q at = entries_are now q.number (contents_in cmp q.bytes) (new_table q at) ∙ (written q at).holds
@@ -189,7 +189,7 @@ module _ (cmp : List ℕ → List ℕ → Ordering) (total : IsTotalOrder cmp) (
   from_union : (e : Entry) → Contains held.union e → IsFromInput e
   from_union e at =
       let lists = entries_of_inputs tables r.picked in
-      let all = Contains-permutation held.union (joined lists) e (IsPermutation-sym (joined lists) held.union held.is_union.same) at in
+      let all = Contains-permutation held.union (entries_of_lists lists) e (IsPermutation-sym (entries_of_lists lists) held.union held.is_union.same) at in
       let from = from_flat_map (λ (list : List Entry). list) lists e all in
       let of = from_map (λ (x : InputFile). table_entries tables x.meta.number) r.picked.files from.source from.there in
       record { input = of.source; there_in = of.there; held_by = subst (λ (l : List Entry). Contains l e) (sym of.is) from.held }
@@ -216,13 +216,13 @@ module _ (cmp : List ℕ → List ℕ → Ordering) (total : IsTotalOrder cmp) (
         there = new_table q at;
         accepted = ap (contents_reading cmp) w.same ∙ w.reads;
         keys = All-from_recursion (λ (e : Entry). IsInternalKey e.key) contents.entries (subst (λ (es : List Entry). AllByRecursion (λ e. IsInternalKey e.key) es) (sym w.holds) w.keys);
-        rising = subst (IsRising cmp) (sym w.holds) w.rising;
+        rising = subst (EntriesRise cmp) (sym w.holds) w.rising;
         size = ap length (sym w.same);
         smallest = ap (λ (es : List Entry). option_map (λ (e : Entry). e.key) (slice_get es 0)) w.holds ∙ first_is q.entries (has_entry q.entries w.some);
         largest = ap (λ (es : List Entry). option_map (λ (e : Entry). e.key) (slice_get es (length es - 1))) w.holds ∙ last_is q.entries (has_entry q.entries w.some);
       }
 
-  of_stay : (f : NewFile) → Contains (staying v r.picked) f → IsFileOf cmp now f.meta
+  of_stay : (f : NewFile) → Contains (staying_files v r.picked) f → IsFileOf cmp now f.meta
   of_stay f at =
       let old : IsFileOf cmp tables f.meta = All-contains (λ (x : NewFile). IsFileOf cmp tables x.meta) v.files f lawful.files (there f at) in
       record {
@@ -236,7 +236,7 @@ module _ (cmp : List ℕ → List ℕ → Ordering) (total : IsTotalOrder cmp) (
         largest = old.largest;
       }
 
-  of_side : (f : NewFile) → Contains (staying v r.picked) f ⊎ IsOutput f → IsFileOf cmp now f.meta
+  of_side : (f : NewFile) → Contains (staying_files v r.picked) f ⊎ IsOutput f → IsFileOf cmp now f.meta
   of_side f (inl i) = of_stay f i
   of_side f (inr x) = subst (λ (g : NewFile). IsFileOf cmp now g.meta) x.2 (of_output x.0 x.1)
 
@@ -247,13 +247,13 @@ module _ (cmp : List ℕ → List ℕ → Ordering) (total : IsTotalOrder cmp) (
 
   distinct_after : IsDistinct same_file after.files
   distinct_after =
-      IsDistinct-IsPermutation same_file same_turned (staying v r.picked ++ new_files r held.outputs) after.files permuted (apart_all cmp total v tables level r held.outputs lawful picked over.numbers held.numbered)
+      IsDistinct-IsPermutation same_file same_turned (staying_files v r.picked ++ new_files r held.outputs) after.files permuted (apart_all cmp total v tables level r held.outputs lawful picked over.numbers held.numbered)
 
-  below_side : (f : NewFile) → Contains (staying v r.picked) f ⊎ IsOutput f → f.meta.number < r.first_number + length outputs
+  below_side : (f : NewFile) → Contains (staying_files v r.picked) f ⊎ IsOutput f → f.meta.number < r.first_number + length outputs
   below_side f (inl i) = let lt = below_first cmp v tables lawful r.first_number over.numbers f (there f i) in omega (arith, lt)
   below_side f (inr x) = subst (λ (g : NewFile). g.meta.number < r.first_number + length outputs) x.2 (numbered_to r.first_number held.outputs held.numbered x.0 x.1)
 
-  below_after : All (λ (f : NewFile). IsBelowNext after.next_file f.meta.number) after.files
+  below_after : All (λ (f : NewFile). IsBelowNextFile after.next_file f.meta.number) after.files
   below_after k d lt = let f = get_or after.files k d in below_side f (side f (Contains-get_or after.files k d lt))
 
   -- ---- ranges
@@ -262,7 +262,7 @@ module _ (cmp : List ℕ → List ℕ → Ordering) (total : IsTotalOrder cmp) (
   ends q at = has_ends q.entries (written q at).some
 
   -- a file that stays at the outputs' level lies before an output or behind it
-  beside : (f : NewFile) → Contains (staying v r.picked) f → f.level ≡ r.picked.level + 1 → (q : Output) → Contains outputs q
+  beside : (f : NewFile) → Contains (staying_files v r.picked) f → f.level ≡ r.picked.level + 1 → (q : Output) → Contains outputs q
       → (internal_cmp cmp f.meta.largest (first_key q.entries) ≡ Less) ⊎ (internal_cmp cmp (last_key [] q.entries) f.meta.smallest ≡ Less)
   beside f i own q at =
       elim (sides cmp total v tables lawful level r.picked picked f.meta (in_level cmp total v tables lawful f (there f i) (level + 1) (own ∙ ap (λ (n : ℕ). n + 1) picked.level_is)) (out f i)) [
@@ -301,7 +301,7 @@ module _ (cmp : List ℕ → List ℕ → Ordering) (total : IsTotalOrder cmp) (
         | inr below ↦ below
       ]
 
-  disjoint_sides : (f g : NewFile) → f.level ≡ g.level → 0 < f.level → f.meta.number ≢ g.meta.number → Contains (staying v r.picked) f ⊎ IsOutput f → Contains (staying v r.picked) g ⊎ IsOutput g → AreDisjoint cmp f.meta g.meta
+  disjoint_sides : (f g : NewFile) → f.level ≡ g.level → 0 < f.level → f.meta.number ≢ g.meta.number → Contains (staying_files v r.picked) f ⊎ IsOutput f → Contains (staying_files v r.picked) g ⊎ IsOutput g → AreDisjoint cmp f.meta g.meta
   disjoint_sides f g same deep differ (inl i) (inl j) = lawful.disjoint f g (there f i) (there g j) same deep differ
   disjoint_sides f g same deep differ (inl i) (inr y) =
       let own : f.level ≡ r.picked.level + 1 = same ∙ sym (ap (λ (h : NewFile). h.level) y.2) in
@@ -326,12 +326,12 @@ module _ (cmp : List ℕ → List ℕ → Ordering) (total : IsTotalOrder cmp) (
       let all : Pairs AreDistinct (flat_map (λ (l : List Entry). l) (output_entries held.outputs)) = subst (Pairs AreDistinct) (sym held.holds_kept) (kept_pairs cmp AreDistinct readable r.picked.deeper None held.union union) in
       pairs_part AreDistinct (λ (l : List Entry). l) (output_entries held.outputs) q.entries all (in_map (λ (x : Output). x.entries) held.outputs q at)
 
-  own_distinct : (f : NewFile) → Contains (staying v r.picked) f ⊎ IsOutput f → Pairs AreDistinct (table_entries now f.meta.number)
+  own_distinct : (f : NewFile) → Contains (staying_files v r.picked) f ⊎ IsOutput f → Pairs AreDistinct (table_entries now f.meta.number)
   own_distinct f (inl i) = subst (Pairs AreDistinct) (sym (old_entries f i)) (pairs_part AreDistinct (λ (g : NewFile). table_entries tables g.meta.number) v.files f all_distinct (there f i))
   own_distinct f (inr x) = subst (λ (g : NewFile). Pairs AreDistinct (table_entries now g.meta.number)) x.2 (subst (Pairs AreDistinct) (sym (new_entries x.0 x.1)) (output_distinct x.0 x.1))
 
   -- an entry of a file that stays, and one of an input
-  stay_input : (f : NewFile) → Contains (staying v r.picked) f → (x y : Entry) → Contains (table_entries tables f.meta.number) x → IsFromInput y → AreDistinct x y
+  stay_input : (f : NewFile) → Contains (staying_files v r.picked) f → (x y : Entry) → Contains (table_entries tables f.meta.number) x → IsFromInput y → AreDistinct x y
   stay_input f i x y own from =
       let g = input_file cmp total v tables lawful level r.picked picked from.input from.there_in in
       let numbers : g.file.meta.number ≡ from.input.meta.number = ap (λ (m : FileMeta). m.number) g.is in
@@ -344,7 +344,7 @@ module _ (cmp : List ℕ → List ℕ → Ordering) (total : IsTotalOrder cmp) (
   in_output q at h is e k = subst (λ (l : List Entry). Contains l e) (new_entries q at) (subst (λ (n : ℕ). Contains (table_entries now n) e) (sym (ap (λ (z : NewFile). z.meta.number) is)) k)
 
   cross : (f g : NewFile) → (f.meta.number ≡ g.meta.number → ⊥) → (x y : Entry) → Contains (table_entries now f.meta.number) x → Contains (table_entries now g.meta.number) y
-      → Contains (staying v r.picked) f ⊎ IsOutput f → Contains (staying v r.picked) g ⊎ IsOutput g → AreDistinct x y
+      → Contains (staying_files v r.picked) f ⊎ IsOutput f → Contains (staying_files v r.picked) g ⊎ IsOutput g → AreDistinct x y
   cross f g differ x y own also (inl i) (inl j) =
       one_way x y
       (pairs_of_two AreDistinct (λ (h : NewFile). table_entries tables h.meta.number) v.files f g x y (λ same. differ (ap (λ (h : NewFile). h.meta.number) same)) all_distinct (there f i) (there g j)
@@ -390,14 +390,14 @@ module _ (cmp : List ℕ → List ℕ → Ordering) (total : IsTotalOrder cmp) (
       newer_at (table_entries tables from.input.meta.number) (table_entries tables f.meta.number)
       (All-contains (λ (i : InputFile). AreNewer (table_entries tables i.meta.number) (table_entries tables f.meta.number)) r.picked.files from.input all from.there_in) x y from.held_by own same
 
-  stay_newer : (f : NewFile) → Contains (staying v r.picked) f → f.level < r.picked.level + 1 → IsNewerThanInputs tables r.picked f
+  stay_newer : (f : NewFile) → Contains (staying_files v r.picked) f → f.level < r.picked.level + 1 → IsNewerThanInputs tables r.picked f
   stay_newer f i lt = by_level (cases_lt f.level r.picked.level)
     where
       by_level : (f.level < r.picked.level) ⊎ (r.picked.level ≤ f.level) → IsNewerThanInputs tables r.picked f
       by_level (inl less) = closed.shallower f (there f i) less
       by_level (inr le) = closed.same_level f (there f i) (out f i) (omega (arith, lt, le))
 
-  newer_sides : (f g : NewFile) → StandsAbove f g → Contains (staying v r.picked) f ⊎ IsOutput f → Contains (staying v r.picked) g ⊎ IsOutput g → AreNewer (table_entries now f.meta.number) (table_entries now g.meta.number)
+  newer_sides : (f g : NewFile) → StandsAbove f g → Contains (staying_files v r.picked) f ⊎ IsOutput f → Contains (staying_files v r.picked) g ⊎ IsOutput g → AreNewer (table_entries now f.meta.number) (table_entries now g.meta.number)
   newer_sides f g above (inl i) (inl j) =
       subst (λ (l : List Entry). AreNewer l (table_entries now g.meta.number)) (sym (old_entries f i))
       (subst (AreNewer (table_entries tables f.meta.number)) (sym (old_entries g j)) (lawful.newer_above f g (there f i) (there g j) above))
@@ -431,9 +431,9 @@ module _ (cmp : List ℕ → List ℕ → Ordering) (total : IsTotalOrder cmp) (
   pub lawful_after : IsLawful cmp after (tables_after cmp r.picked answer tables)
   lawful_after = subst (IsLawful cmp after) (sym now_is) lawful_now
 
-  hold_staying : (e : Entry) → Contains (all_entries tables (staying v r.picked)) e → Contains (all_entries now after.files) e
+  hold_staying : (e : Entry) → Contains (all_entries tables (staying_files v r.picked)) e → Contains (all_entries now after.files) e
   hold_staying e at =
-      let from = from_flat_map (λ (f : NewFile). table_entries tables f.meta.number) (staying v r.picked) e at in
+      let from = from_flat_map (λ (f : NewFile). table_entries tables f.meta.number) (staying_files v r.picked) e at in
       in_flat_map (λ (f : NewFile). table_entries now f.meta.number) after.files from.source e (stays_after from.source from.there) (subst (λ (l : List Entry). Contains l e) (sym (old_entries from.source from.there)) from.held)
 
   hold_kept : (e : Entry) → Contains (kept cmp readable r.picked.deeper held.union) e → Contains (all_entries now after.files) e
@@ -443,20 +443,20 @@ module _ (cmp : List ℕ → List ℕ → Ordering) (total : IsTotalOrder cmp) (
       in_flat_map (λ (f : NewFile). table_entries now f.meta.number) after.files (new_file (r.picked.level + 1) q.source) e (output_after q.source q.there)
       (subst (λ (l : List Entry). Contains l e) (sym (new_entries q.source q.there)) (subst (λ (l : List Entry). Contains l e) (sym q.is) from.held))
 
-  hold_only : (e : Entry) → Contains (all_entries now after.files) e → Contains (all_entries tables (staying v r.picked)) e ⊎ Contains (kept cmp readable r.picked.deeper held.union) e
+  hold_only : (e : Entry) → Contains (all_entries now after.files) e → Contains (all_entries tables (staying_files v r.picked)) e ⊎ Contains (kept cmp readable r.picked.deeper held.union) e
   hold_only e at = by_side from.source from.held (side from.source from.there)
     where
       from : IsFrom (λ (f : NewFile). table_entries now f.meta.number) after.files e
       from = from_flat_map (λ (f : NewFile). table_entries now f.meta.number) after.files e at
 
-      by_side : (f : NewFile) → Contains (table_entries now f.meta.number) e → Contains (staying v r.picked) f ⊎ IsOutput f → Contains (all_entries tables (staying v r.picked)) e ⊎ Contains (kept cmp readable r.picked.deeper held.union) e
-      by_side f k (inl i) = inl (in_flat_map (λ (g : NewFile). table_entries tables g.meta.number) (staying v r.picked) f e i (subst (λ (l : List Entry). Contains l e) (old_entries f i) k))
+      by_side : (f : NewFile) → Contains (table_entries now f.meta.number) e → Contains (staying_files v r.picked) f ⊎ IsOutput f → Contains (all_entries tables (staying_files v r.picked)) e ⊎ Contains (kept cmp readable r.picked.deeper held.union) e
+      by_side f k (inl i) = inl (in_flat_map (λ (g : NewFile). table_entries tables g.meta.number) (staying_files v r.picked) f e i (subst (λ (l : List Entry). Contains l e) (old_entries f i) k))
       by_side f k (inr s) = inr (subst (λ (l : List Entry). Contains l e) held.holds_kept (in_all s.0 s.1 e (in_output s.0 s.1 f s.2 e k)))
 
   pub holds_after : HoldKept cmp v tables r.picked readable held.union after (tables_after cmp r.picked answer tables)
   holds_after = subst (HoldKept cmp v tables r.picked readable held.union after) (sym now_is) (record { holds_staying = hold_staying; holds_kept = hold_kept; only = hold_only })
 
-pub stands_after : (cmp : List ℕ → List ℕ → Ordering) → IsTotalOrder cmp → IsExact cmp → (separator_of : List ℕ → List ℕ → List ℕ) (successor_of : List ℕ → List ℕ) → StandsAfter cmp separator_of successor_of
+pub stands_after : (cmp : List ℕ → List ℕ → Ordering) → IsTotalOrder cmp → IsExact cmp → (separator_of : List ℕ → List ℕ → List ℕ) (successor_of : List ℕ → List ℕ) → VersionAfterLaw cmp separator_of successor_of
 stands_after cmp total exact separator_of successor_of = record {
   lawful = λ v tables level r answer lawful low picked over held. lawful_after cmp total exact separator_of successor_of v tables level r answer lawful low picked over held;
   holds = λ v tables level r answer lawful low picked over held. holds_after cmp total exact separator_of successor_of v tables level r answer lawful low picked over held;

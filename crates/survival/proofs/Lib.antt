@@ -10,9 +10,9 @@ pub mod StandingTogether
 pub mod RowFacts
 pub mod Gets
 pub mod Inputs
-pub mod Applying
+pub mod AppliedEdit
 pub mod Outputs
 pub mod Sides
 pub mod Lookups
 pub mod LawfulAfter
-pub mod Surviving
+pub mod SurvivingReads

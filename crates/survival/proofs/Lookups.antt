@@ -7,20 +7,20 @@ use Rattle.std.specs.declared.cmp.Ordering.{Ordering}
 use Rattle.std.specs.declared.cmp.Ordering.TheVariants.{Less}
 use Rattle.std.proofs.lemmas.Bool.{eqb-true, eq-eqb}
 use Rattle.ikey.specs.Key.{user_of}
-use Rattle.block.specs.Piece.{Entry}
+use Rattle.block.specs.EncodedEntry.{Entry}
 use Rattle.table.specs.Checked.{contents_in}
-use Rattle.pick.specs.Picked.{Picked}
+use Rattle.pick.specs.Picked.{PickedInputs}
 use Rattle.pick.proofs.Lists.{false_true}
-use Rattle.reads.specs.Tables.{Numbered, table_of}
+use Rattle.reads.specs.Tables.{NumberedContents, table_of_number}
 use Rattle.reads.proofs.FallingEntries.{each_of}
 use Rattle.reads.proofs.Members.{first_or_later, later_in, first_in, none_in, from_map, in_flat_map, in_map}
 use Rattle.survival.specs.Closed.{is_input}
 use Rattle.cut.specs.Outputs.{all_of, UsersRise}
 use Rattle.request.specs.OutputTables.{Output, numbered_tables}
-use Rattle.survival.specs.EditAfter.{AreNumbered}
+use Rattle.survival.specs.EditAfter.{AreNumberedFrom}
 use Rattle.survival.specs.Over.{output_entries}
 use Rattle.survival.specs.Survive.{output_table}
-use Rattle.survival.proofs.Applying.{numbered_from}
+use Rattle.survival.proofs.AppliedEdit.{numbered_from}
 
 find_past : {X : Type 0} (test : X → Bool) (xs ys : List X) → ((x : X) → Contains xs x → test x ≡ false) → find test (xs ++ ys) ≡ find test ys
 find_past test [] ys h = refl
@@ -45,21 +45,21 @@ not_equal m n h = by (eqb m n) refl
 
 module _ (cmp : List ℕ → List ℕ → Ordering) where
   -- an output's table is found under its number
-  find_output : (number : ℕ) (outputs : List Output) → AreNumbered number outputs → (q : Output) → Contains outputs q → (rest : List Numbered)
-      → find (λ (t : Numbered). eqb t.number q.number) (map (output_table cmp) (numbered_tables outputs) ++ rest) ≡ Some (output_table cmp (q.number, q.bytes))
+  find_output : (number : ℕ) (outputs : List Output) → AreNumberedFrom number outputs → (q : Output) → Contains outputs q → (rest : List NumberedContents)
+      → find (λ (t : NumberedContents). eqb t.number q.number) (map (output_table cmp) (numbered_tables outputs) ++ rest) ≡ Some (output_table cmp (q.number, q.bytes))
   find_output number [] numbered q at rest = absurd (none_in q at)
   find_output number (p ∷ ps) numbered q at rest = by_place (first_or_later p ps q at) (λ later. find_output (number + 1) ps numbered.1 q later rest)
     where
-      tables : List Numbered
+      tables : List NumberedContents
       tables = map (output_table cmp) (numbered_tables ps) ++ rest
 
-      own : q ≡ p → find (λ (t : Numbered). eqb t.number q.number) (output_table cmp (p.number, p.bytes) ∷ tables) ≡ Some (output_table cmp (q.number, q.bytes))
+      own : q ≡ p → find (λ (t : NumberedContents). eqb t.number q.number) (output_table cmp (p.number, p.bytes) ∷ tables) ≡ Some (output_table cmp (q.number, q.bytes))
       own same =
           let hit : eqb p.number q.number ≡ true = eq-eqb p.number q.number (ap (λ (x : Output). x.number) (sym same)) in
           rw hit (ap (λ (x : Output). Some (output_table cmp (x.number, x.bytes))) (sym same))
 
-      by_place : (q ≡ p) ⊎ Contains ps q → (Contains ps q → find (λ (t : Numbered). eqb t.number q.number) tables ≡ Some (output_table cmp (q.number, q.bytes)))
-          → find (λ (t : Numbered). eqb t.number q.number) (output_table cmp (p.number, p.bytes) ∷ tables) ≡ Some (output_table cmp (q.number, q.bytes))
+      by_place : (q ≡ p) ⊎ Contains ps q → (Contains ps q → find (λ (t : NumberedContents). eqb t.number q.number) tables ≡ Some (output_table cmp (q.number, q.bytes)))
+          → find (λ (t : NumberedContents). eqb t.number q.number) (output_table cmp (p.number, p.bytes) ∷ tables) ≡ Some (output_table cmp (q.number, q.bytes))
       by_place (inl same) later_found = own same
       by_place (inr later) later_found =
           let le = numbered_from (number + 1) ps numbered.1 q later in
@@ -67,27 +67,27 @@ module _ (cmp : List ℕ → List ℕ → Ordering) where
           let miss : eqb p.number q.number ≡ false = not_equal p.number q.number (λ same. omega (arith, le, is, same)) in
           rw miss (later_found later)
 
-  pub output_found : (number : ℕ) (outputs : List Output) → AreNumbered number outputs → (q : Output) → Contains outputs q → (rest : List Numbered)
-      → table_of (map (output_table cmp) (numbered_tables outputs) ++ rest) q.number ≡ Some (contents_in cmp q.bytes)
-  output_found number outputs numbered q at rest = ap (λ (o : Option Numbered). option_map (λ (t : Numbered). t.contents) o) (find_output number outputs numbered q at rest)
+  pub output_found : (number : ℕ) (outputs : List Output) → AreNumberedFrom number outputs → (q : Output) → Contains outputs q → (rest : List NumberedContents)
+      → table_of_number (map (output_table cmp) (numbered_tables outputs) ++ rest) q.number ≡ Some (contents_in cmp q.bytes)
+  output_found number outputs numbered q at rest = ap (λ (o : Option NumberedContents). option_map (λ (t : NumberedContents). t.contents) o) (find_output number outputs numbered q at rest)
 
   -- a table that stays is found as before
-  pub other_found : (number : ℕ) (outputs : List Output) → AreNumbered number outputs → (p : Picked) (tables : List Numbered) (n : ℕ) → n < number → is_input p n ≡ false
-      → table_of (map (output_table cmp) (numbered_tables outputs) ++ filter (λ (t : Numbered). not (is_input p t.number)) tables) n ≡ table_of tables n
+  pub other_found : (number : ℕ) (outputs : List Output) → AreNumberedFrom number outputs → (p : PickedInputs) (tables : List NumberedContents) (n : ℕ) → n < number → is_input p n ≡ false
+      → table_of_number (map (output_table cmp) (numbered_tables outputs) ++ filter (λ (t : NumberedContents). not (is_input p t.number)) tables) n ≡ table_of_number tables n
   other_found number outputs numbered p tables n lt out =
-      ap (λ (o : Option Numbered). option_map (λ (t : Numbered). t.contents) o)
-      (find_past (λ (t : Numbered). eqb t.number n) (map (output_table cmp) (numbered_tables outputs)) (filter (λ (t : Numbered). not (is_input p t.number)) tables) no_output
-      ∙ find_kept (λ (t : Numbered). eqb t.number n) (λ (t : Numbered). not (is_input p t.number)) stays tables)
+      ap (λ (o : Option NumberedContents). option_map (λ (t : NumberedContents). t.contents) o)
+      (find_past (λ (t : NumberedContents). eqb t.number n) (map (output_table cmp) (numbered_tables outputs)) (filter (λ (t : NumberedContents). not (is_input p t.number)) tables) no_output
+      ∙ find_kept (λ (t : NumberedContents). eqb t.number n) (λ (t : NumberedContents). not (is_input p t.number)) stays tables)
     where
-      no_output : (t : Numbered) → Contains (map (output_table cmp) (numbered_tables outputs)) t → eqb t.number n ≡ false
+      no_output : (t : NumberedContents) → Contains (map (output_table cmp) (numbered_tables outputs)) t → eqb t.number n ≡ false
       no_output t at =
           let x = from_map (output_table cmp) (numbered_tables outputs) t at in
           let q = from_map (λ (y : Output). (y.number, y.bytes)) outputs x.source x.there in
           let le = numbered_from number outputs numbered q.source q.there in
-          let is : q.source.number ≡ t.number = ap (λ (y : ℕ × List ℕ). y.0) q.is ∙ ap (λ (y : Numbered). y.number) x.is in
+          let is : q.source.number ≡ t.number = ap (λ (y : ℕ × List ℕ). y.0) q.is ∙ ap (λ (y : NumberedContents). y.number) x.is in
           not_equal t.number n (λ same. omega (arith, lt, le, is, same))
 
-      stays : (t : Numbered) → eqb t.number n ≡ true → not (is_input p t.number) ≡ true
+      stays : (t : NumberedContents) → eqb t.number n ≡ true → not (is_input p t.number) ≡ true
       stays t h = ap (λ (k : ℕ). not (is_input p k)) (eqb-true t.number n h) ∙ ap not out
 
   -- ---- outputs are apart

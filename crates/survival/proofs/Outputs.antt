@@ -16,13 +16,13 @@ use Rattle.coding.specs.declared.fault.FaultName.TheVariants.{Bounds, Duplicate,
 use Rattle.ikey.specs.Comparator.{IsExact}
 use Rattle.ikey.specs.Key.{IsInternalKey, user_of, sequence_of, kind_of, kind_number}
 use Rattle.ikey.specs.Order.{internal_cmp}
-use Rattle.block.specs.Piece.{Entry}
-use Rattle.table.specs.Reading.{Contents, DataBlock, blocks_of, contents_of, contents_reading, data_reading, entries_of, index_in}
+use Rattle.block.specs.EncodedEntry.{Entry}
+use Rattle.table.specs.TableContents.{Contents, DataBlock, blocks_of, contents_of, contents_reading, data_reading, entries_of, index_in}
 use Rattle.table.specs.ReadingEntries.{entries_test}
 use Rattle.table.specs.ReadingIndex.{index_reading}
 use Rattle.table.specs.ReadingBack.{IsWritable, ReadBackLaw}
-use Rattle.table.specs.ReadingCursors.{IsRising}
-use Rattle.table.specs.ReadingSteps.{pass}
+use Rattle.table.specs.ReadingCursors.{EntriesRise}
+use Rattle.table.specs.ReadingSteps.{test_result}
 use Rattle.table.specs.ReadingTables.{IsTable}
 use Rattle.table.specs.Table.{table}
 use Rattle.table.proofs.CheckedTables.{blocks_by, contents_are, contents_read, read_data}
@@ -32,17 +32,17 @@ use Rattle.edit.specs.Edit.{edit_bytes}
 use Rattle.edit.specs.Version.{State}
 use Rattle.edit.specs.declared.meta.FileMeta.{FileMeta}
 use Rattle.edit.specs.declared.meta.NewFile.{NewFile}
-use Rattle.merge.specs.Merged.{joined, merged}
-use Rattle.merge.specs.Union.{version_cmp, VersionsRise, IsUnion}
+use Rattle.merge.specs.Merged.{entries_of_lists, merged}
+use Rattle.merge.specs.Union.{key_version_cmp, VersionsRise, IsUnion}
 use Rattle.pick.specs.Picked.{IsPicked}
 use Rattle.pick.specs.declared.picked.InputFile.{InputFile}
 use Rattle.pick.proofs.Lists.{and_first, and_second}
 use Rattle.reads.specs.Lawful.{IsLawful, IsFileOf}
-use Rattle.reads.specs.Tables.{Numbered, table_of, table_entries}
+use Rattle.reads.specs.Tables.{NumberedContents, table_of_number, table_entries}
 use Rattle.reads.proofs.Answers.{entries_are}
 use Rattle.reads.proofs.FallingEntries.{each_of, of_each}
 use Rattle.reads.proofs.Members.{first_or_later, later_in, first_in, none_in, in_flat_map, from_flat_map, in_map, from_map}
-use Rattle.keep.specs.Keeping.{keeps, kept_behind, kept}
+use Rattle.keep.specs.DropRule.{keeps, kept_behind, kept}
 use Rattle.keep.specs.Readable.{Readable, readable_of}
 use Rattle.keep.specs.Marks.{heads}
 use Rattle.keep.specs.Runs.{are_distinct}
@@ -51,12 +51,12 @@ use Rattle.cut.specs.Outputs.{all_of, outputs, UsersRise}
 use Rattle.request.specs.OutputTables.{Output, data_block_count, numbered_tables, outputs_from, outputs_test}
 use Rattle.cut.proofs.Apart.{whole_law}
 use Rattle.request.specs.Request.{RequestView, below_request, request_test}
-use Rattle.request.specs.Inputs.{about, input_reading, inputs_reading, is_stated, union_reading}
+use Rattle.request.specs.Inputs.{result_at_input, input_reading, inputs_reading, table_matches_metadata, union_reading}
 use Rattle.request.specs.EditOf.{edit_of, new_files}
 use Rattle.request.specs.OneThread.{Answer, one_thread, outputs_answer, table_for}
 use Rattle.survival.specs.GetsAfter.{entries_of_inputs}
-use Rattle.survival.specs.EditAfter.{AreNumbered}
-use Rattle.survival.specs.Over.{bytes_of, IsOver, AreWritten, output_entries, HoldOutputs, OutputsHold}
+use Rattle.survival.specs.EditAfter.{AreNumberedFrom}
+use Rattle.survival.specs.Over.{input_bytes_of, IsOver, AreWritten, output_entries, HoldOutputs, OutputsHold}
 use Rattle.survival.proofs.Gets.{kept_part}
 use Rattle.survival.proofs.Inputs.{input_file}
 
@@ -82,7 +82,7 @@ value_in d (Err e) = d
 ok_is : {A : Type 0} (a b : A) → ok a ≡ ok b → a ≡ b
 ok_is a b h = ap (value_in a) h
 
-placed : {A : Type 0} (place : ℕ) (step : Result A Fault) (a : A) → about place step ≡ Ok a → step ≡ Ok a
+placed : {A : Type 0} (place : ℕ) (step : Result A Fault) (a : A) → result_at_input place step ≡ Ok a → step ≡ Ok a
 placed place (Ok x) a h = h
 placed place (Err e) a h = absurd cc
 
@@ -105,8 +105,8 @@ all_told p (y ∷ ys) h x at =
 -- what an input's bytes hold is what the version's table holds
 input_is : (cmp : List ℕ → List ℕ → Ordering) (f : FileMeta) (bytes : List ℕ) (table : Contents) (entries : List Entry) → contents_reading cmp bytes ≡ Ok table → input_reading cmp f bytes ≡ Ok entries → entries ≡ table.entries
 input_is cmp f bytes table entries is h =
-    let first = stepped (contents_reading cmp bytes) (λ (t : Contents). pass (is_stated f t) Bounds >>= λ _. Ok t.entries) entries h in
-    let second = stepped (pass (is_stated f first.value) Bounds) (λ _. Ok first.value.entries) entries first.goes_on in
+    let first = stepped (contents_reading cmp bytes) (λ (t : Contents). test_result (table_matches_metadata f t) Bounds >>= λ _. Ok t.entries) entries h in
+    let second = stepped (test_result (table_matches_metadata f first.value) Bounds) (λ _. Ok first.value.entries) entries first.goes_on in
     let same : table ≡ first.value = ok_is table first.value (sym is ∙ first.is) in
     sym (ok_is first.value.entries entries second.goes_on) ∙ sym (ap (λ (t : Contents). t.entries) same)
 
@@ -131,34 +131,34 @@ head_is a b xs ys h = ap (head_of a) h
 tail_is : {A : Type 0} (a b : A) (xs ys : List A) → a ∷ xs ≡ b ∷ ys → xs ≡ ys
 tail_is a b xs ys h = ap tail_of h
 
-inputs_are : (cmp : List ℕ → List ℕ → Ordering) (tables : List Numbered) (files : List InputFile) (given : List (List ℕ)) (place : ℕ) (inputs : List (List Entry)) → ((i : InputFile) → Contains files i → IsFileOf cmp tables i.meta)
-    → map (bytes_of tables) files ≡ map (λ b. Some b) given → inputs_reading cmp place files given ≡ Ok inputs → inputs ≡ map (λ (i : InputFile). table_entries tables i.meta.number) files
+inputs_are : (cmp : List ℕ → List ℕ → Ordering) (tables : List NumberedContents) (files : List InputFile) (given : List (List ℕ)) (place : ℕ) (inputs : List (List Entry)) → ((i : InputFile) → Contains files i → IsFileOf cmp tables i.meta)
+    → map (input_bytes_of tables) files ≡ map (λ b. Some b) given → inputs_reading cmp place files given ≡ Ok inputs → inputs ≡ map (λ (i : InputFile). table_entries tables i.meta.number) files
 inputs_are cmp tables [] [] place inputs are bytes h = sym (ok_is [] inputs h)
 inputs_are cmp tables [] (b ∷ given) place inputs are bytes h = absurd cc
 inputs_are cmp tables (i ∷ files) [] place inputs are bytes h = absurd cc
 inputs_are cmp tables (i ∷ files) (b ∷ given) place inputs are bytes h =
     let own = are i (first_in i files) in
-    let first = stepped (about place (input_reading cmp i.meta b)) (λ (entries : List Entry). inputs_reading cmp (place + 1) files given >>= λ rest. Ok (entries ∷ rest)) inputs h in
+    let first = stepped (result_at_input place (input_reading cmp i.meta b)) (λ (entries : List Entry). inputs_reading cmp (place + 1) files given >>= λ rest. Ok (entries ∷ rest)) inputs h in
     let second = stepped (inputs_reading cmp (place + 1) files given) (λ (rest : List (List Entry)). Ok (first.value ∷ rest)) inputs first.goes_on in
-    let there : bytes_of tables i ≡ Some own.table.bytes = ap (λ (o : Option Contents). option_map (λ (t : Contents). t.bytes) o) own.there in
-    let bytes_are : b ≡ own.table.bytes = some_is b own.table.bytes (sym (head_is (bytes_of tables i) (Some b) (map (bytes_of tables) files) (map (λ x. Some x) given) bytes) ∙ there) in
+    let there : input_bytes_of tables i ≡ Some own.table.bytes = ap (λ (o : Option Contents). option_map (λ (t : Contents). t.bytes) o) own.there in
+    let bytes_are : b ≡ own.table.bytes = some_is b own.table.bytes (sym (head_is (input_bytes_of tables i) (Some b) (map (input_bytes_of tables) files) (map (λ x. Some x) given) bytes) ∙ there) in
     let reads : contents_reading cmp b ≡ Ok own.table = ap (contents_reading cmp) bytes_are ∙ own.accepted in
     let entries : first.value ≡ table_entries tables i.meta.number = input_is cmp i.meta b own.table first.value reads (placed place (input_reading cmp i.meta b) first.value first.is) ∙ sym (entries_are tables i.meta.number own.table own.there) in
-    let rest = inputs_are cmp tables files given (place + 1) second.value (λ x at. are x (later_in i files x at)) (tail_is (bytes_of tables i) (Some b) (map (bytes_of tables) files) (map (λ x. Some x) given) bytes) second.is in
+    let rest = inputs_are cmp tables files given (place + 1) second.value (λ x at. are x (later_in i files x at)) (tail_is (input_bytes_of tables i) (Some b) (map (input_bytes_of tables) files) (map (λ x. Some x) given) bytes) second.is in
     sym (ok_is (first.value ∷ second.value) inputs second.goes_on) ∙ (ap (λ (e : List Entry). e ∷ second.value) entries ∙ ap (λ (es : List (List Entry)). table_entries tables i.meta.number ∷ es) rest)
 
 -- ---- the outputs
 
-module _ (table_of : List Entry → List ℕ) where
-  outputs_numbered : (number : ℕ) (qs : List (List Entry)) → AreNumbered number (outputs_from table_of number qs)
+module _ (table_of_number : List Entry → List ℕ) where
+  outputs_numbered : (number : ℕ) (qs : List (List Entry)) → AreNumberedFrom number (outputs_from table_of_number number qs)
   outputs_numbered number [] = tt
   outputs_numbered number (q ∷ qs) = (refl, outputs_numbered (number + 1) qs)
 
-  entries_are_cut : (number : ℕ) (qs : List (List Entry)) → output_entries (outputs_from table_of number qs) ≡ qs
+  entries_are_cut : (number : ℕ) (qs : List (List Entry)) → output_entries (outputs_from table_of_number number qs) ≡ qs
   entries_are_cut number [] = refl
   entries_are_cut number (q ∷ qs) = ap (λ (rest : List (List Entry)). q ∷ rest) (entries_are_cut (number + 1) qs)
 
-  bytes_are : (number : ℕ) (qs : List (List Entry)) → AllByRecursion (λ (w : Output). w.bytes ≡ table_of w.entries) (outputs_from table_of number qs)
+  bytes_are : (number : ℕ) (qs : List (List Entry)) → AllByRecursion (λ (w : Output). w.bytes ≡ table_of_number w.entries) (outputs_from table_of_number number qs)
   bytes_are number [] = tt
   bytes_are number (q ∷ qs) = (refl, bytes_are (number + 1) qs)
 
@@ -170,23 +170,23 @@ module _ (cmp : List ℕ → List ℕ → Ordering) where
   keys_rise_by Equal p q h = ap (λ x. ordering_then x q) h
   keys_rise_by Greater p q h = h
 
-  keys_rise : (a b : List ℕ) → version_cmp cmp a b ≡ Less → internal_cmp cmp a b ≡ Less
+  keys_rise : (a b : List ℕ) → key_version_cmp cmp a b ≡ Less → internal_cmp cmp a b ≡ Less
   unfolding internal_cmp
   keys_rise a b h =
       keys_rise_by (cmp (user_of a) (user_of b)) (nat_cmp (sequence_of b) (sequence_of a)) (nat_cmp (kind_number (kind_of b)) (kind_number (kind_of a))) h
 
-  pub union_rises : (es : List Entry) → VersionsRise cmp es → IsRising cmp es
+  pub union_rises : (es : List Entry) → VersionsRise cmp es → EntriesRise cmp es
   union_rises [] h = tt
   union_rises (e ∷ es) h = (
-    of_each (λ (f : Entry). internal_cmp cmp e.key f.key ≡ Less) es (λ f at. keys_rise e.key f.key (each_of (λ (g : Entry). version_cmp cmp e.key g.key ≡ Less) es h.0 f at)),
+    of_each (λ (f : Entry). internal_cmp cmp e.key f.key ≡ Less) es (λ f at. keys_rise e.key f.key (each_of (λ (g : Entry). key_version_cmp cmp e.key g.key ≡ Less) es h.0 f at)),
     union_rises es h.1,
   )
 
-  kept_rises : (r : Readable) (deeper : List FileMeta) (before : Option Entry) (es : List Entry) → IsRising cmp es → IsRising cmp (kept_behind cmp r deeper before es)
+  kept_rises : (r : Readable) (deeper : List FileMeta) (before : Option Entry) (es : List Entry) → EntriesRise cmp es → EntriesRise cmp (kept_behind cmp r deeper before es)
   kept_rises r deeper before [] h = tt
   kept_rises r deeper before (e ∷ es) h = around (keeps cmp r deeper before e) (kept_rises r deeper (Some e) es h.1)
     where
-      around : (b : Bool) → IsRising cmp (kept_behind cmp r deeper (Some e) es) → IsRising cmp ((if b then e ∷ [] else []) ++ kept_behind cmp r deeper (Some e) es)
+      around : (b : Bool) → EntriesRise cmp (kept_behind cmp r deeper (Some e) es) → EntriesRise cmp ((if b then e ∷ [] else []) ++ kept_behind cmp r deeper (Some e) es)
       around true rest = (
         of_each (λ (f : Entry). internal_cmp cmp e.key f.key ≡ Less) (kept_behind cmp r deeper (Some e) es)
             (λ f at. each_of (λ (g : Entry). internal_cmp cmp e.key g.key ≡ Less) es h.0 f (kept_part cmp r deeper (Some e) es f at)),
@@ -194,7 +194,7 @@ module _ (cmp : List ℕ → List ℕ → Ordering) where
       )
       around false rest = rest
 
-  rises_front : (xs ys : List Entry) → IsRising cmp (xs ++ ys) → IsRising cmp xs
+  rises_front : (xs ys : List Entry) → EntriesRise cmp (xs ++ ys) → EntriesRise cmp xs
   rises_front [] ys h = tt
   rises_front (x ∷ xs) ys h = (front xs h.0, rises_front xs ys h.1)
     where
@@ -202,15 +202,15 @@ module _ (cmp : List ℕ → List ℕ → Ordering) where
       front [] k = tt
       front (z ∷ zs) k = (k.0, front zs k.1)
 
-  rises_behind : (xs ys : List Entry) → IsRising cmp (xs ++ ys) → IsRising cmp ys
+  rises_behind : (xs ys : List Entry) → EntriesRise cmp (xs ++ ys) → EntriesRise cmp ys
   rises_behind [] ys h = h
   rises_behind (x ∷ xs) ys h = rises_behind xs ys h.1
 
-  pub part_rises : (qs : List (List Entry)) → IsRising cmp (all_of qs) → (q : List Entry) → Contains qs q → IsRising cmp q
+  pub part_rises : (qs : List (List Entry)) → EntriesRise cmp (all_of qs) → (q : List Entry) → Contains qs q → EntriesRise cmp q
   part_rises [] h q at = absurd (none_in q at)
   part_rises (x ∷ xs) h q at =
       elim (first_or_later x xs q at) [
-        | inl same ↦ subst (IsRising cmp) (sym same) (rises_front x (all_of xs) h)
+        | inl same ↦ subst (EntriesRise cmp) (sym same) (rises_front x (all_of xs) h)
         | inr later ↦ part_rises xs (rises_behind x (all_of xs) h) q later
       ]
 
@@ -261,7 +261,7 @@ has_outputs r ws answer h =
     let in_limits : Bool = list_all is_short ws && nat_le (data_block_count r.options ws) (2 ^ 40) in
     let made : Answer = record { tables = numbered_tables ws; edit = edit_bytes (edit_of r (new_files r ws)) } in
     let all = stepped (outputs_test r.options r.first_number ws) (λ _. Ok made) answer h in
-    let numbers = stepped (pass (nat_lt (r.first_number + length ws) (2 ^ 64)) Numbers) (λ _. pass in_limits TooLarge) all.value all.is in
+    let numbers = stepped (test_result (nat_lt (r.first_number + length ws) (2 ^ 64)) Numbers) (λ _. test_result in_limits TooLarge) all.value all.is in
     let each = and_first (list_all is_short ws) (nat_le (data_block_count r.options ws) (2 ^ 40)) (passed in_limits TooLarge all.value numbers.goes_on) in
     record {
       few = below_told (r.first_number + length ws) (2 ^ 64) (passed (nat_lt (r.first_number + length ws) (2 ^ 64)) Numbers numbers.value numbers.is);
@@ -270,7 +270,7 @@ has_outputs r ws answer h =
     }
 
 module _ (cmp : List ℕ → List ℕ → Ordering) (total : IsTotalOrder cmp) (exact : IsExact cmp) (separator_of : List ℕ → List ℕ → List ℕ) (successor_of : List ℕ → List ℕ) (reads_back : ReadBackLaw cmp separator_of successor_of)
-    (v : State) (tables : List Numbered) (level : ℕ) (r : RequestView) (answer : Answer)
+    (v : State) (tables : List NumberedContents) (level : ℕ) (r : RequestView) (answer : Answer)
     (lawful : IsLawful cmp v tables) (picked : IsPicked cmp v level r.picked) (over : IsOver v tables r) (answers : one_thread cmp separator_of successor_of r ≡ Ok answer) where
   abbrev written_by : List Entry → List ℕ
   written_by = table_for cmp separator_of successor_of r
@@ -315,7 +315,7 @@ module _ (cmp : List ℕ → List ℕ → Ordering) (total : IsTotalOrder cmp) (
   in_union : (P : Entry → Type 0) → ((i : InputFile) → Contains r.picked.files i → (e : Entry) → Contains (table_entries tables i.meta.number) e → P e) → (e : Entry) → Contains union e → P e
   in_union P each e at =
       let lists = entries_of_inputs tables r.picked in
-      let all = Contains-permutation union (joined lists) e (IsPermutation-sym (joined lists) union is_union.same) at in
+      let all = Contains-permutation union (entries_of_lists lists) e (IsPermutation-sym (entries_of_lists lists) union is_union.same) at in
       let from = from_flat_map (λ (list : List Entry). list) lists e all in
       let of = from_map (λ (x : InputFile). table_entries tables x.meta.number) r.picked.files from.source from.there in
       each of.source of.there e (subst (λ (l : List Entry). Contains l e) (sym of.is) from.held)
@@ -351,7 +351,7 @@ module _ (cmp : List ℕ → List ℕ → Ordering) (total : IsTotalOrder cmp) (
     some = each_of (λ (x : List Entry). x ≢ []) (cut union) cut_some q at;
     keys = of_each (λ (e : Entry). IsInternalKey e.key) q (λ e i. key_of e (from_cut q at e i));
     values = of_each (λ (e : Entry). length e.value ≤ 16777215) q (λ e i. value_of e (from_cut q at e i));
-    rising = part_rises cmp (cut union) (subst (IsRising cmp) (sym cut_all) (kept_rises cmp readable r.picked.deeper None union (union_rises cmp union is_union.rising))) q at;
+    rising = part_rises cmp (cut union) (subst (EntriesRise cmp) (sym cut_all) (kept_rises cmp readable r.picked.deeper None union (union_rises cmp union is_union.rising))) q at;
   }
 
   of_outputs : HasOutputs r ws answer

@@ -6,18 +6,18 @@ use Rattle.std.specs.Cmp.{IsTotalOrder}
 use Rattle.std.specs.declared.cmp.Ordering.{Ordering}
 use Rattle.std.proofs.lemmas.List.Elements.{filter-append}
 use Rattle.std.proofs.lemmas.Grind.{flat_map-append}
-use Rattle.block.specs.Piece.{Entry}
+use Rattle.block.specs.EncodedEntry.{Entry}
 use Rattle.edit.specs.Version.{State}
 use Rattle.edit.specs.declared.meta.FileMeta.{FileMeta}
 use Rattle.reads.specs.Lawful.{IsLawful}
-use Rattle.reads.specs.Tables.{Numbered, table_entries}
+use Rattle.reads.specs.Tables.{NumberedContents, table_entries}
 use Rattle.reads.proofs.Members.{first_in, later_in, from_filter, from_flat_map}
 use Rattle.reads.proofs.Pairs.{Pairs}
 use Rattle.survival.specs.Together.{entries_read}
 use Rattle.survival.proofs.FallingOrder.{is_of, of_user}
 use Rattle.survival.proofs.ReadOrder.{IsNewer}
 
-pub read-append : (tables : List Numbered) (user : List ℕ) (xs ys : List FileMeta) → entries_read tables user (xs ++ ys) ≡ entries_read tables user xs ++ entries_read tables user ys
+pub read-append : (tables : List NumberedContents) (user : List ℕ) (xs ys : List FileMeta) → entries_read tables user (xs ++ ys) ≡ entries_read tables user xs ++ entries_read tables user ys
 read-append tables user xs ys =
     let of : FileMeta → List Entry = λ m. table_entries tables m.number in
     ap (filter (is_of user)) (flat_map-append of xs ys) ∙ filter-append (is_of user) (flat_map of xs) (flat_map of ys)
@@ -33,19 +33,19 @@ swapped (x ∷ a) [] c h = refl
 swapped (x ∷ a) (y ∷ b) c h = absurd (h x y (first_in x a) (first_in y b))
 
 -- the file that an entry of a user key is from
-pub record IsRead (tables : List Numbered) (user : List ℕ) (files : List FileMeta) (e : Entry) : Type 0 where
+pub record IsRead (tables : List NumberedContents) (user : List ℕ) (files : List FileMeta) (e : Entry) : Type 0 where
   pub file : FileMeta
   pub there : Contains files file
   pub held : Contains (table_entries tables file.number) e
   pub own : is_of user e ≡ true
 
-pub from_read : (tables : List Numbered) (user : List ℕ) (files : List FileMeta) (e : Entry) → Contains (entries_read tables user files) e → IsRead tables user files e
+pub from_read : (tables : List NumberedContents) (user : List ℕ) (files : List FileMeta) (e : Entry) → Contains (entries_read tables user files) e → IsRead tables user files e
 from_read tables user files e at =
     let kept = from_filter (is_of user) (flat_map (λ (m : FileMeta). table_entries tables m.number) files) e at in
     let from = from_flat_map (λ (m : FileMeta). table_entries tables m.number) files e kept.0 in
     record { file = from.source; there = from.there; held = from.held; own = kept.1 }
 
-module _ (cmp : List ℕ → List ℕ → Ordering) (total : IsTotalOrder cmp) (v : State) (tables : List Numbered) (lawful : IsLawful cmp v tables) (user : List ℕ) (taken : FileMeta → Bool) where
+module _ (cmp : List ℕ → List ℕ → Ordering) (total : IsTotalOrder cmp) (v : State) (tables : List NumberedContents) (lawful : IsLawful cmp v tables) (user : List ℕ) (taken : FileMeta → Bool) where
   abbrev stays : FileMeta → Bool
   stays f = not (taken f)
 

@@ -11,18 +11,18 @@ use Rattle.std.proofs.lemmas.List.Elements.{Contains-append_left, Contains-appen
 use Rattle.std.proofs.lemmas.List.Sorted.{Contains-permutation, IsPermutation-sym}
 use Rattle.ikey.specs.Key.{user_of, sequence_of}
 use Rattle.ikey.specs.Order.{internal_cmp}
-use Rattle.block.specs.Piece.{Entry}
+use Rattle.block.specs.EncodedEntry.{Entry}
 use Rattle.edit.specs.Version.{State}
-use Rattle.edit.specs.VersionOrder.{version_cmp, in_version_order, files_at, level_files}
+use Rattle.edit.specs.VersionOrder.{file_cmp, in_version_order, files_at, level_files}
 use Rattle.edit.specs.declared.meta.FileMeta.{FileMeta}
 use Rattle.edit.specs.declared.meta.NewFile.{NewFile}
 use Rattle.edit.proofs.Tested.{eqb-sym, is_eq-nat_cmp}
 use Rattle.edit.proofs.Inserted.{sorted_all, all_permute}
-use Rattle.edit.proofs.Sorting.{version_cmp-total, same_number, distinct_at, order_permutes}
+use Rattle.edit.proofs.SortedFiles.{version_cmp-total, same_number, distinct_at, order_permutes}
 use Rattle.pick.proofs.Lists.{one_alone, cases}
 use Rattle.pick.proofs.UserOrders.{le_trans}
 use Rattle.reads.specs.Lawful.{IsLawful, AreNewer}
-use Rattle.reads.specs.Tables.{Numbered, table_entries}
+use Rattle.reads.specs.Tables.{NumberedContents, table_entries}
 use Rattle.reads.proofs.FallingEntries.{each_of}
 use Rattle.reads.proofs.Levels.{IsAtLevel, from_level, at_level, is_in}
 use Rattle.reads.proofs.Members.{later_in, first_in, none_in}
@@ -66,7 +66,7 @@ number_ties f g e = eqb-sym f.number g.number ∙ sym (is_eq-nat_cmp g.number f.
 number_flips : (f g : FileMeta) → same_number f g ≡ same_number g f
 number_flips f g = eqb-sym f.number g.number
 
-module _ (cmp : List ℕ → List ℕ → Ordering) (total : IsTotalOrder cmp) (v : State) (tables : List Numbered) (lawful : IsLawful cmp v tables) where
+module _ (cmp : List ℕ → List ℕ → Ordering) (total : IsTotalOrder cmp) (v : State) (tables : List NumberedContents) (lawful : IsLawful cmp v tables) where
   -- a file's entries are newer than another's
   abbrev pub IsNewer : FileMeta → FileMeta → Type 0
   IsNewer f g = (a b : Entry) → Contains (table_entries tables f.number) a → Contains (table_entries tables g.number) b → user_of a.key ≡ user_of b.key → sequence_of b.key < sequence_of a.key
@@ -104,7 +104,7 @@ module _ (cmp : List ℕ → List ℕ → Ordering) (total : IsTotalOrder cmp) (
       let above : b.file.meta.number < a.file.meta.number = subst (λ (x : FileMeta). x.number < a.file.meta.number) (sym b.is) (subst (λ (x : FileMeta). g.number < x.number) (sym a.is) lt) in
       of_files f g a.file b.file a.is b.is (lawful.newer_above a.file b.file a.there b.there (inr (a.stands, b.stands, above)))
 
-  later_newer : (n : ℕ) (f g : FileMeta) → Contains (level_files cmp v (suc n)) f → Contains (level_files cmp v (suc n)) g → version_cmp cmp f g ≡ Less → IsNewer f g
+  later_newer : (n : ℕ) (f g : FileMeta) → Contains (level_files cmp v (suc n)) f → Contains (level_files cmp v (suc n)) g → file_cmp cmp f g ≡ Less → IsNewer f g
   later_newer n f g i j less = of_side (level_disjoint cmp total v tables lawful (suc n) (omega arith) f g (is_in files f i) (is_in files g j) (other (cases (same_number f g))))
     where
       files : List FileMeta
@@ -118,8 +118,8 @@ module _ (cmp : List ℕ → List ℕ → Ordering) (total : IsTotalOrder cmp) (
 
       not_itself : f ≡ g → ⊥
       not_itself same =
-          let tied : version_cmp cmp f f ≡ Equal = tied_itself (version_cmp-total total) f in
-          let less_too : version_cmp cmp f f ≡ Less = ap (version_cmp cmp f) same ∙ less in
+          let tied : file_cmp cmp f f ≡ Equal = tied_itself (version_cmp-total total) f in
+          let less_too : file_cmp cmp f f ≡ Less = ap (file_cmp cmp f) same ∙ less in
           let both : Less ≡ Equal = sym less_too ∙ tied in absurd cc
 
       other : (same_number f g ≡ true) ⊎ (same_number f g ≡ false) → same_number f g ≡ false
@@ -147,7 +147,7 @@ module _ (cmp : List ℕ → List ℕ → Ordering) (total : IsTotalOrder cmp) (
 
   level_order : (n : ℕ) → Pairs IsNewer (level_read cmp v n)
   level_order zero = sorted_pairs newer_number IsNewer (level_read cmp v 0) (sorted_all newer_number number_order [] (files_at v.files 0) (none_sorted newer_number)) zeroth_newer
-  level_order (suc n) = sorted_pairs (version_cmp cmp) IsNewer (level_files cmp v (suc n)) (level_of cmp total v tables lawful (suc n)).rise (later_newer n)
+  level_order (suc n) = sorted_pairs (file_cmp cmp) IsNewer (level_files cmp v (suc n)) (level_of cmp total v tables lawful (suc n)).rise (later_newer n)
 
   -- ---- several levels
 

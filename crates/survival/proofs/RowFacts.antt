@@ -12,7 +12,7 @@ use Rattle.reads.specs.Tables.{table_entries}
 use Rattle.reads.proofs.Members.{first_in, later_in}
 use Rattle.reads.proofs.Newer.{newer_at}
 use Rattle.survival.specs.Closed.{AreClosed}
-use Rattle.survival.specs.Row.{key_at, file_at, entry_at, two_files, two_tables, first_alone}
+use Rattle.survival.specs.Row.{key_of_sequence, file_at, entry_of_sequence, two_files, two_tables, first_alone}
 
 abbrev first_file : NewFile
 first_file = record { level = 1; meta = file_at 8 10 }
@@ -28,8 +28,8 @@ not_closed cmp closed =
     let all = closed.same_level second_file (later_in first_file (second_file ∷ []) second_file (first_in second_file [])) refl refl in
     let newer : AreNewer (table_entries two_tables 9) (table_entries two_tables 8) =
     All-contains (λ (i : InputFile). AreNewer (table_entries two_tables 9) (table_entries two_tables i.meta.number)) (the_input ∷ []) the_input all (first_in the_input []) in
-    let five : sequence_of (key_at 5) ≡ 5 = sequence_of-internal_key (117 ∷ []) 5 Put (omega arith) in
-    let ten : sequence_of (key_at 10) ≡ 10 = sequence_of-internal_key (117 ∷ []) 10 Put (omega arith) in
-    let same : user_of (key_at 5) ≡ user_of (key_at 10) = user_of-internal_key (117 ∷ []) 5 Put ∙ sym (user_of-internal_key (117 ∷ []) 10 Put) in
-    let lt = newer_at (table_entries two_tables 9) (table_entries two_tables 8) newer (entry_at 5) (entry_at 10) (first_in (entry_at 5) []) (first_in (entry_at 10) []) same in
+    let five : sequence_of (key_of_sequence 5) ≡ 5 = sequence_of-internal_key (117 ∷ []) 5 Put (omega arith) in
+    let ten : sequence_of (key_of_sequence 10) ≡ 10 = sequence_of-internal_key (117 ∷ []) 10 Put (omega arith) in
+    let same : user_of (key_of_sequence 5) ≡ user_of (key_of_sequence 10) = user_of-internal_key (117 ∷ []) 5 Put ∙ sym (user_of-internal_key (117 ∷ []) 10 Put) in
+    let lt = newer_at (table_entries two_tables 9) (table_entries two_tables 8) newer (entry_of_sequence 5) (entry_of_sequence 10) (first_in (entry_of_sequence 5) []) (first_in (entry_of_sequence 10) []) same in
     absurd (omega arith)

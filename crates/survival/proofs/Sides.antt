@@ -11,16 +11,16 @@ use Rattle.ikey.specs.Order.{internal_cmp}
 use Rattle.edit.specs.Version.{State}
 use Rattle.edit.specs.VersionOrder.{level_files}
 use Rattle.edit.specs.declared.meta.FileMeta.{FileMeta}
-use Rattle.edit.proofs.Sorting.{same_number}
+use Rattle.edit.proofs.SortedFiles.{same_number}
 use Rattle.pick.specs.Boundaries.{goes_on, is_among, largest_key, next_boundary, IsChain}
-use Rattle.pick.specs.Picked.{Picked, IsPicked, input_at}
-use Rattle.pick.specs.Ranges.{is_at_most, begins_by, ends_from, overlaps}
+use Rattle.pick.specs.Picked.{PickedInputs, IsPicked, input_at}
+use Rattle.pick.specs.Ranges.{is_at_most, begins_by, ends_at_or_after, overlaps}
 use Rattle.pick.specs.declared.picked.InputFile.{InputFile}
 use Rattle.pick.proofs.Chains.{is_next}
 use Rattle.pick.proofs.Lists.{IsIn, and_first, and_second, false_true, filter_in, find_some, in_back, in_either, in_front, in_filter as filtered}
 use Rattle.pick.proofs.UserOrders.{le_trans}
 use Rattle.reads.specs.Lawful.{IsLawful, AreDisjoint}
-use Rattle.reads.specs.Tables.{Numbered}
+use Rattle.reads.specs.Tables.{NumberedContents}
 use Rattle.reads.proofs.Levels.{contains_in, is_in}
 use Rattle.reads.proofs.Members.{from_filter, in_filter}
 use Rattle.survival.specs.Closed.{is_input}
@@ -113,7 +113,7 @@ module _ (cmp : List ℕ → List ℕ → Ordering) (total : IsTotalOrder cmp) w
                 record { file = goes.last; there = goes.there; behind = (keys_total cmp total).trans goes.last.largest g.largest l.smallest up over }
             of_side (inr (inr j)) = absurd j
 
-  module _ (v : State) (tables : List Numbered) (lawful : IsLawful cmp v tables) (level : ℕ) (p : Picked) (picked : IsPicked cmp v level p) (f : FileMeta) (at : IsIn (level_files cmp v (level + 1)) f) (out : is_input p f.number ≡ false) where
+  module _ (v : State) (tables : List NumberedContents) (lawful : IsLawful cmp v tables) (level : ℕ) (p : PickedInputs) (picked : IsPicked cmp v level p) (f : FileMeta) (at : IsIn (level_files cmp v (level + 1)) f) (out : is_input p f.number ≡ false) where
     abbrev files : List FileMeta
     files = level_files cmp v (level + 1)
 
@@ -185,7 +185,7 @@ module _ (cmp : List ℕ → List ℕ → Ordering) (total : IsTotalOrder cmp) w
           of_side (inr before) = before
           of_side (inl behind) =
               let over = (filter_in (overlaps cmp picked.upper) files l i).1 in
-              let begins = and_first (begins_by cmp picked.upper (user_of l.largest)) (ends_from cmp picked.upper (user_of l.smallest)) over in
+              let begins = and_first (begins_by cmp picked.upper (user_of l.largest)) (ends_at_or_after cmp picked.upper (user_of l.smallest)) over in
               let le : is_at_most cmp (user_of l.largest) (user_of f.largest) ≡ true =
               le_trans cmp total (user_of l.largest) (user_of f.smallest) (user_of f.largest) (user_upto cmp total l.largest f.smallest (less_upto cmp total l.largest f.smallest behind)) own in
               false_true (begins_by cmp picked.upper (user_of f.largest)) (begins_on cmp total picked.upper (user_of l.largest) (user_of f.largest) begins le) left
@@ -202,7 +202,7 @@ module _ (cmp : List ℕ → List ℕ → Ordering) (total : IsTotalOrder cmp) w
 
     -- ---- behind the upper inputs
 
-    module _ (right : ends_from cmp picked.upper (user_of f.smallest) ≡ false) where
+    module _ (right : ends_at_or_after cmp picked.upper (user_of f.smallest) ≡ false) where
       behind_upper : (g : FileMeta) → Contains picked.upper g → Behind g
       behind_upper g i =
           users_below g.largest f.smallest
@@ -215,10 +215,10 @@ module _ (cmp : List ℕ → List ℕ → Ordering) (total : IsTotalOrder cmp) w
           of_side (inl behind) = behind
           of_side (inr before) =
               let over = (filter_in (overlaps cmp picked.upper) files l i).1 in
-              let ends = and_second (begins_by cmp picked.upper (user_of l.largest)) (ends_from cmp picked.upper (user_of l.smallest)) over in
+              let ends = and_second (begins_by cmp picked.upper (user_of l.largest)) (ends_at_or_after cmp picked.upper (user_of l.smallest)) over in
               let le : is_at_most cmp (user_of f.smallest) (user_of l.smallest) ≡ true =
               le_trans cmp total (user_of f.smallest) (user_of f.largest) (user_of l.smallest) own (user_upto cmp total f.largest l.smallest (less_upto cmp total f.largest l.smallest before)) in
-              false_true (ends_from cmp picked.upper (user_of f.smallest)) (ends_on cmp total picked.upper (user_of l.smallest) (user_of f.smallest) ends le) right
+              false_true (ends_at_or_after cmp picked.upper (user_of f.smallest)) (ends_on cmp total picked.upper (user_of l.smallest) (user_of f.smallest) ends le) right
 
       -- a boundary file behind files that it lies behind
       behind_next : (chosen : List FileMeta) (g : FileMeta) → ((c : FileMeta) → IsIn chosen c → IsIn (overlapping ++ added) c) → ((c : FileMeta) → IsIn chosen c → Behind c) → IsIn (overlapping ++ added) g → goes_on cmp (largest_key cmp chosen) g ≡ true → Behind g
@@ -263,7 +263,7 @@ module _ (cmp : List ℕ → List ℕ → Ordering) (total : IsTotalOrder cmp) w
 
     pub sides : All (λ (i : InputFile). internal_cmp cmp f.largest i.meta.smallest ≡ Less) p.files ⊎ All (λ (i : InputFile). internal_cmp cmp i.meta.largest f.smallest ≡ Less) p.files
     sides =
-        elim (both_false (begins_by cmp picked.upper (user_of f.largest)) (ends_from cmp picked.upper (user_of f.smallest)) no_overlap) [
+        elim (both_false (begins_by cmp picked.upper (user_of f.largest)) (ends_at_or_after cmp picked.upper (user_of f.smallest)) no_overlap) [
           | inl left ↦ inl (all_inputs level picked.upper picked.lower p.files picked.files_are Before (before_upper left) (before_lower left))
           | inr right ↦ inr (all_inputs level picked.upper picked.lower p.files picked.files_are Behind (behind_upper right) (behind_lower right))
         ]

@@ -8,17 +8,17 @@ use Rattle.std.proofs.lemmas.Bool.{cases_lt}
 use Rattle.std.proofs.lemmas.Bool.Decides.{Decides-eqb}
 use Rattle.std.proofs.lemmas.List.Elements.{All-contains, Contains-append_left, Contains-append_right, Contains-append_cases}
 use Rattle.ikey.specs.Key.{user_of}
-use Rattle.block.specs.Piece.{Entry}
+use Rattle.block.specs.EncodedEntry.{Entry}
 use Rattle.edit.specs.Version.{State}
 use Rattle.edit.specs.declared.meta.FileMeta.{FileMeta}
 use Rattle.edit.specs.declared.meta.NewFile.{NewFile}
 use Rattle.pick.specs.declared.picked.InputFile.{InputFile}
-use Rattle.pick.specs.Picked.{Picked, IsPicked}
+use Rattle.pick.specs.Picked.{PickedInputs, IsPicked}
 use Rattle.pick.specs.Ranges.{is_in_none}
 use Rattle.pick.proofs.Lists.{cases, false_true}
 use Rattle.reads.specs.Lawful.{IsLawful, AreNewer}
 use Rattle.reads.specs.NewestFirst.{SequencesFall, AreOf, AreThoseOf}
-use Rattle.reads.specs.Tables.{Numbered, table_entries, all_entries}
+use Rattle.reads.specs.Tables.{NumberedContents, table_entries, all_entries}
 use Rattle.reads.proofs.FallingEntries.{of_each, answers_newest_first}
 use Rattle.reads.proofs.Members.{first_in, later_in, in_filter, from_filter, in_flat_map, from_flat_map}
 use Rattle.reads.proofs.Newer.{newer_at}
@@ -54,7 +54,7 @@ not_first : (b : Bool) → not b ≡ true → b ≡ false
 not_first true h = absurd cc
 not_first false h = refl
 
-module _ (cmp : List ℕ → List ℕ → Ordering) (total : IsTotalOrder cmp) (v : State) (tables : List Numbered) (level : ℕ) (p : Picked) (user : List ℕ)
+module _ (cmp : List ℕ → List ℕ → Ordering) (total : IsTotalOrder cmp) (v : State) (tables : List NumberedContents) (level : ℕ) (p : PickedInputs) (user : List ℕ)
     (lawful : IsLawful cmp v tables) (low : All (λ (f : NewFile). f.level ≤ 6) v.files) (picked : IsPicked cmp v level p) where
   closed : AreClosed cmp v tables p
   closed = closed_inputs cmp total v tables level p lawful low picked

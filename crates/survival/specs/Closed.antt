@@ -4,40 +4,40 @@ use Rattle.std.specs.Prelude.{◌≡◌, ℕ, ◌+◌, ◌≤◌, ◌<◌, nat_e
 use Rattle.std.specs.List.{All, list_any}
 use Rattle.std.specs.declared.cmp.Ordering.{Ordering}
 use Rattle.ikey.specs.Key.{user_of}
-use Rattle.block.specs.Piece.{Entry}
+use Rattle.block.specs.EncodedEntry.{Entry}
 use Rattle.edit.specs.Version.{State}
 use Rattle.edit.specs.declared.meta.FileMeta.{FileMeta}
 use Rattle.edit.specs.declared.meta.NewFile.{NewFile}
 use Rattle.pick.specs.declared.picked.InputFile.{InputFile}
-use Rattle.pick.specs.Ranges.{begins_by, ends_from, is_in_none}
-use Rattle.pick.specs.Picked.{Picked, IsPicked}
-use Rattle.reads.specs.Tables.{Numbered, table_entries}
+use Rattle.pick.specs.Ranges.{begins_by, ends_at_or_after, is_in_none}
+use Rattle.pick.specs.Picked.{PickedInputs, IsPicked}
+use Rattle.reads.specs.Tables.{NumberedContents, table_entries}
 use Rattle.reads.specs.Lawful.{AreNewer, IsLawful}
 
 -- whether a file of this number is an input
-abbrev pub is_input : Picked → ℕ → Bool
+abbrev pub is_input : PickedInputs → ℕ → Bool
 is_input p number = list_any (λ (i : InputFile). nat_eq i.meta.number number) p.files
 
 -- the inputs at the compaction's level
-abbrev pub upper_inputs : Picked → List FileMeta
+abbrev pub upper_inputs : PickedInputs → List FileMeta
 upper_inputs p = map (λ (i : InputFile). i.meta) (filter (λ (i : InputFile). nat_eq i.level p.level) p.files)
 
 -- whether a user key is in the range of files, from the least of their user keys to the greatest
 abbrev pub is_within : (List ℕ → List ℕ → Ordering) → List FileMeta → List ℕ → Bool
-is_within cmp files user = begins_by cmp files user && ends_from cmp files user
+is_within cmp files user = begins_by cmp files user && ends_at_or_after cmp files user
 
 -- of each user key, a file's entries are newer than the inputs'
-abbrev pub IsNewerThanInputs : List Numbered → Picked → NewFile → Type 0
+abbrev pub IsNewerThanInputs : List NumberedContents → PickedInputs → NewFile → Type 0
 IsNewerThanInputs tables p f =
     All (λ (i : InputFile). AreNewer (table_entries tables f.meta.number) (table_entries tables i.meta.number)) p.files
 
 -- of each user key, a file's entries are older than the inputs'
-abbrev pub IsOlderThanInputs : List Numbered → Picked → NewFile → Type 0
+abbrev pub IsOlderThanInputs : List NumberedContents → PickedInputs → NewFile → Type 0
 IsOlderThanInputs tables p f =
     All (λ (i : InputFile). AreNewer (table_entries tables i.meta.number) (table_entries tables f.meta.number)) p.files
 
 -- Closed inputs of a compaction of a level:
-pub record AreClosed (cmp : List ℕ → List ℕ → Ordering) (v : State) (tables : List Numbered) (p : Picked) : Type 0 where
+pub record AreClosed (cmp : List ℕ → List ℕ → Ordering) (v : State) (tables : List NumberedContents) (p : PickedInputs) : Type 0 where
   -- a file of the level that stays has, of the inputs' user keys, only newer entries;
   pub same_level : (f : NewFile) → Contains v.files f → is_input p f.meta.number ≡ false → f.level ≡ p.level
       → IsNewerThanInputs tables p f
@@ -58,6 +58,6 @@ pub record AreClosed (cmp : List ℕ → List ℕ → Ordering) (v : State) (tab
 -- the picked inputs of each lawful version are closed, if its files are at levels up to 6
 abbrev pub ClosedInputs : (List ℕ → List ℕ → Ordering) → Type 0
 ClosedInputs cmp =
-    (v : State) (tables : List Numbered) (level : ℕ) (p : Picked) →
+    (v : State) (tables : List NumberedContents) (level : ℕ) (p : PickedInputs) →
     IsLawful cmp v tables → All (λ (f : NewFile). f.level ≤ 6) v.files → IsPicked cmp v level p →
     AreClosed cmp v tables p

@@ -6,11 +6,11 @@ use Rattle.std.specs.declared.cmp.Ordering.{Ordering}
 use Rattle.edit.specs.Version.{State, applied, with_file, with_pointer}
 use Rattle.pick.specs.Picked.{IsPicked}
 use Rattle.reads.specs.Lawful.{IsLawful}
-use Rattle.reads.specs.Tables.{Numbered}
+use Rattle.reads.specs.Tables.{NumberedContents}
 use Rattle.request.specs.Request.{RequestView}
 use Rattle.request.specs.OutputTables.{Output}
 use Rattle.request.specs.EditOf.{edit_of, new_files}
-use Rattle.survival.specs.GetsAfter.{staying}
+use Rattle.survival.specs.GetsAfter.{staying_files}
 
 -- the version with the request's counters, its compact pointer, the files that stay and the outputs
 abbrev pub version_after : State → RequestView → List Output → State
@@ -20,20 +20,20 @@ version_after v r outputs = record {
   next_file = Some (r.first_number + length outputs);
   last_sequence = Some r.last_sequence;
   pointers = with_pointer v.pointers (record { level = r.picked.level; key = r.picked.pointer.key });
-  files = fold with_file (staying v r.picked) (new_files r outputs);
+  files = fold with_file (staying_files v r.picked) (new_files r outputs);
 }
 
 -- the outputs have consecutive numbers from `number` on
-abbrev pub AreNumbered : ℕ → List Output → Type 0
-AreNumbered number [] = Unit {0}
-AreNumbered number (w ∷ ws) = (w.number ≡ number) × AreNumbered (number + 1) ws
+abbrev pub AreNumberedFrom : ℕ → List Output → Type 0
+AreNumberedFrom number [] = Unit {0}
+AreNumberedFrom number (w ∷ ws) = (w.number ≡ number) × AreNumberedFrom (number + 1) ws
 
 -- If the inputs were picked from a lawful version and the outputs are numbered from its next file
 -- on, the edit applies and makes that version. Its files are those that stay, and the outputs.
 pub record EditApplies (cmp : List ℕ → List ℕ → Ordering) : Type 0 where
-  pub applies : (v : State) (tables : List Numbered) (level : ℕ) (r : RequestView) (outputs : List Output) →
-      IsLawful cmp v tables → IsPicked cmp v level r.picked → ForSome v.next_file (λ next. next ≤ r.first_number) → AreNumbered r.first_number outputs →
+  pub applies : (v : State) (tables : List NumberedContents) (level : ℕ) (r : RequestView) (outputs : List Output) →
+      IsLawful cmp v tables → IsPicked cmp v level r.picked → ForSome v.next_file (λ next. next ≤ r.first_number) → AreNumberedFrom r.first_number outputs →
       applied v (edit_of r (new_files r outputs)) ≡ Some (version_after v r outputs)
-  pub files : (v : State) (tables : List Numbered) (level : ℕ) (r : RequestView) (outputs : List Output) →
-      IsLawful cmp v tables → IsPicked cmp v level r.picked → ForSome v.next_file (λ next. next ≤ r.first_number) → AreNumbered r.first_number outputs →
-      IsPermutation (staying v r.picked ++ new_files r outputs) (version_after v r outputs).files
+  pub files : (v : State) (tables : List NumberedContents) (level : ℕ) (r : RequestView) (outputs : List Output) →
+      IsLawful cmp v tables → IsPicked cmp v level r.picked → ForSome v.next_file (λ next. next ≤ r.first_number) → AreNumberedFrom r.first_number outputs →
+      IsPermutation (staying_files v r.picked ++ new_files r outputs) (version_after v r outputs).files

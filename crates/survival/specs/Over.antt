@@ -4,18 +4,18 @@ use Rattle.std.specs.List.{All, AllByRecursion}
 use Rattle.std.specs.Option.{option_map, ForSome}
 use Rattle.std.specs.declared.cmp.Ordering.{Ordering}
 use Rattle.ikey.specs.Key.{IsInternalKey}
-use Rattle.block.specs.Piece.{Entry}
+use Rattle.block.specs.EncodedEntry.{Entry}
 use Rattle.table.specs.Checked.{contents_in}
-use Rattle.table.specs.Reading.{Contents, contents_reading}
-use Rattle.table.specs.ReadingCursors.{IsRising}
+use Rattle.table.specs.TableContents.{Contents, contents_reading}
+use Rattle.table.specs.ReadingCursors.{EntriesRise}
 use Rattle.edit.specs.Edit.{edit_bytes}
 use Rattle.edit.specs.Version.{State}
 use Rattle.merge.specs.Union.{IsUnion}
 use Rattle.pick.specs.Picked.{IsPicked}
 use Rattle.pick.specs.declared.picked.InputFile.{InputFile}
 use Rattle.reads.specs.Lawful.{IsLawful}
-use Rattle.reads.specs.Tables.{Numbered, table_of}
-use Rattle.keep.specs.Keeping.{kept}
+use Rattle.reads.specs.Tables.{NumberedContents, table_of_number}
+use Rattle.keep.specs.DropRule.{kept}
 use Rattle.keep.specs.Readable.{readable_of}
 use Rattle.cut.specs.Outputs.{all_of, UsersRise}
 use Rattle.request.specs.Request.{RequestView, request_test}
@@ -23,16 +23,16 @@ use Rattle.request.specs.OutputTables.{Output, numbered_tables}
 use Rattle.request.specs.EditOf.{edit_of, new_files}
 use Rattle.request.specs.OneThread.{Answer, one_thread, table_for}
 use Rattle.survival.specs.GetsAfter.{entries_of_inputs}
-use Rattle.survival.specs.EditAfter.{AreNumbered}
+use Rattle.survival.specs.EditAfter.{AreNumberedFrom}
 
 -- the bytes of an input's table, if the version's tables have one
-abbrev pub bytes_of : List Numbered → InputFile → Option (List ℕ)
-bytes_of tables i = option_map (λ (t : Contents). t.bytes) (table_of tables i.meta.number)
+abbrev pub input_bytes_of : List NumberedContents → InputFile → Option (List ℕ)
+input_bytes_of tables i = option_map (λ (t : Contents). t.bytes) (table_of_number tables i.meta.number)
 
 -- A request is over a version with its tables: it has the bytes of the inputs' tables in order,
 -- numbers its outputs from the version's next file on, and its log numbers are below 2 ^ 64.
-pub record IsOver (v : State) (tables : List Numbered) (r : RequestView) : Type 0 where
-  pub bytes : map (bytes_of tables) r.picked.files ≡ map (λ b. Some b) r.tables
+pub record IsOver (v : State) (tables : List NumberedContents) (r : RequestView) : Type 0 where
+  pub bytes : map (input_bytes_of tables) r.picked.files ≡ map (λ b. Some b) r.tables
   pub numbers : ForSome v.next_file (λ next. next ≤ r.first_number)
   pub log_number : r.log_number < 2 ^ 64
   pub previous_log : r.previous_log < 2 ^ 64
@@ -42,7 +42,7 @@ pub record IsOver (v : State) (tables : List Numbered) (r : RequestView) : Type 
 pub record AreWritten (cmp : List ℕ → List ℕ → Ordering) (bytes : List ℕ) (entries : List Entry) : Type 0 where
   pub some : entries ≢ []
   pub keys : AllByRecursion (λ e. IsInternalKey e.key) entries
-  pub rising : IsRising cmp entries
+  pub rising : EntriesRise cmp entries
   pub small : length bytes ≤ 2 ^ 30
   pub reads : contents_reading cmp bytes ≡ Ok (contents_in cmp bytes)
   pub same : (contents_in cmp bytes).bytes ≡ bytes
@@ -56,12 +56,12 @@ output_entries outputs = map (λ (w : Output). w.entries) outputs
 -- outputs are numbered from the first number on and hold what is kept of the union, no user key in
 -- two of them. Each is written as a table, and the edit is that of the outputs.
 pub record HoldOutputs (cmp : List ℕ → List ℕ → Ordering) (separator_of : List ℕ → List ℕ → List ℕ) (successor_of : List ℕ → List ℕ)
-    (tables : List Numbered) (r : RequestView) (answer : Answer) : Type 0 where
+    (tables : List NumberedContents) (r : RequestView) (answer : Answer) : Type 0 where
   pub tested : request_test cmp r ≡ Ok tt
   pub union : List Entry
   pub outputs : List Output
   pub is_union : IsUnion cmp (entries_of_inputs tables r.picked) union
-  pub numbered : AreNumbered r.first_number outputs
+  pub numbered : AreNumberedFrom r.first_number outputs
   pub few : r.first_number + length outputs < 2 ^ 64
   pub holds_kept : all_of (output_entries outputs) ≡ kept cmp (readable_of r.snapshots r.last_sequence) r.picked.deeper union
   pub users : UsersRise cmp (output_entries outputs)
@@ -74,6 +74,6 @@ pub record HoldOutputs (cmp : List ℕ → List ℕ → Ordering) (separator_of 
 -- request is over it
 abbrev pub OutputsHold : (List ℕ → List ℕ → Ordering) → (List ℕ → List ℕ → List ℕ) → (List ℕ → List ℕ) → Type 0
 OutputsHold cmp separator_of successor_of =
-    (v : State) (tables : List Numbered) (level : ℕ) (r : RequestView) (answer : Answer) →
+    (v : State) (tables : List NumberedContents) (level : ℕ) (r : RequestView) (answer : Answer) →
     IsLawful cmp v tables → IsPicked cmp v level r.picked → IsOver v tables r → one_thread cmp separator_of successor_of r ≡ Ok answer →
     HoldOutputs cmp separator_of successor_of tables r answer

@@ -2,27 +2,27 @@
 use Rattle.std.specs.Prelude.{ℕ, List, [], ◌∷◌, None, Some}
 use Rattle.ikey.specs.Key.{internal_key}
 use Rattle.ikey.specs.declared.kind.Kind.TheVariants.{Put}
-use Rattle.block.specs.Piece.{Entry}
+use Rattle.block.specs.EncodedEntry.{Entry}
 use Rattle.edit.specs.Version.{State}
 use Rattle.edit.specs.declared.meta.FileMeta.{FileMeta}
-use Rattle.pick.specs.Picked.{Picked}
-use Rattle.reads.specs.Tables.{Numbered}
+use Rattle.pick.specs.Picked.{PickedInputs}
+use Rattle.reads.specs.Tables.{NumberedContents}
 
 -- the key of u, which is the byte 117, at a sequence
-abbrev pub key_at : ℕ → List ℕ
-key_at sequence = internal_key (117 ∷ []) sequence Put
+abbrev pub key_of_sequence : ℕ → List ℕ
+key_of_sequence sequence = internal_key (117 ∷ []) sequence Put
 
 -- a file that has only u at this sequence
 abbrev pub file_at : ℕ → ℕ → FileMeta
-file_at number sequence = record { number = number; size = 113; smallest = key_at sequence; largest = key_at sequence }
+file_at number sequence = record { number = number; size = 113; smallest = key_of_sequence sequence; largest = key_of_sequence sequence }
 
 -- its entry
-abbrev pub entry_at : ℕ → Entry
-entry_at sequence = record { key = key_at sequence; value = [] }
+abbrev pub entry_of_sequence : ℕ → Entry
+entry_of_sequence sequence = record { key = key_of_sequence sequence; value = [] }
 
 -- its table
-abbrev pub table_at : ℕ → ℕ → Numbered
-table_at number sequence = record { number = number; contents = record { bytes = []; entries = entry_at sequence ∷ []; index_users = [] } }
+abbrev pub table_at : ℕ → ℕ → NumberedContents
+table_at number sequence = record { number = number; contents = record { bytes = []; entries = entry_of_sequence sequence ∷ []; index_users = [] } }
 
 -- A has number 8, B has number 9
 abbrev pub two_files : State
@@ -36,15 +36,15 @@ two_files = record {
 }
 
 -- the tables of A and B
-abbrev pub two_tables : List Numbered
+abbrev pub two_tables : List NumberedContents
 two_tables = table_at 8 10 ∷ table_at 9 5 ∷ []
 
 -- A alone as the inputs of level 1
-abbrev pub first_alone : Picked
+abbrev pub first_alone : PickedInputs
 first_alone = record {
   level = 1;
   files = record { level = 1; meta = file_at 8 10 } ∷ [];
   grandparents = [];
   deeper = [];
-  pointer = record { level = 1; key = key_at 10 };
+  pointer = record { level = 1; key = key_of_sequence 10 };
 }

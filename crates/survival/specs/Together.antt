@@ -7,18 +7,18 @@ use Rattle.std.specs.Str.{bytes_eq}
 use Rattle.std.specs.BTreeSet.{insert_key}
 use Rattle.std.specs.declared.cmp.Ordering.{Ordering}
 use Rattle.ikey.specs.Key.{user_of}
-use Rattle.block.specs.Piece.{Entry}
+use Rattle.block.specs.EncodedEntry.{Entry}
 use Rattle.edit.specs.Version.{State}
 use Rattle.edit.specs.VersionOrder.{files_at, level_files}
 use Rattle.edit.specs.declared.meta.FileMeta.{FileMeta}
 use Rattle.edit.specs.declared.meta.NewFile.{NewFile}
 use Rattle.pick.specs.declared.picked.InputFile.{InputFile}
 use Rattle.pick.specs.Ranges.{is_in_none}
-use Rattle.pick.specs.Picked.{Picked, IsPicked}
+use Rattle.pick.specs.Picked.{PickedInputs, IsPicked}
 use Rattle.reads.specs.Gets.{get_of}
 use Rattle.reads.specs.Lawful.{IsLawful}
 use Rattle.reads.specs.NewestFirst.{SequencesFall, AreOf, AreThoseOf, answer_at}
-use Rattle.reads.specs.Tables.{Numbered, table_entries, all_entries}
+use Rattle.reads.specs.Tables.{NumberedContents, table_entries, all_entries}
 use Rattle.survival.specs.Closed.{is_input}
 
 -- files by falling number
@@ -37,24 +37,24 @@ files_read cmp v level zero = []
 files_read cmp v level (suc n) = level_read cmp v level ++ files_read cmp v (level + 1) n
 
 -- the entries of a user key in files that are read in this order
-abbrev pub entries_read : List Numbered → List ℕ → List FileMeta → List Entry
+abbrev pub entries_read : List NumberedContents → List ℕ → List FileMeta → List Entry
 entries_read tables user files =
     filter (λ e. bytes_eq (user_of e.key) user) (flat_map (λ f. table_entries tables f.number) files)
 
 -- the files above the inputs: those of the levels down to the inputs' lower one that stay
-abbrev pub files_above : (List ℕ → List ℕ → Ordering) → State → Picked → List FileMeta
+abbrev pub files_above : (List ℕ → List ℕ → Ordering) → State → PickedInputs → List FileMeta
 files_above cmp v p = filter (λ f. not (is_input p f.number)) (files_read cmp v 0 (p.level + 2))
 
 -- the inputs, as they are read
-abbrev pub files_taken : (List ℕ → List ℕ → Ordering) → State → Picked → List FileMeta
+abbrev pub files_taken : (List ℕ → List ℕ → Ordering) → State → PickedInputs → List FileMeta
 files_taken cmp v p = filter (λ f. is_input p f.number) (files_read cmp v 0 (p.level + 2))
 
 -- the files below the inputs: all of deeper levels
-abbrev pub files_below : (List ℕ → List ℕ → Ordering) → State → Picked → List FileMeta
+abbrev pub files_below : (List ℕ → List ℕ → Ordering) → State → PickedInputs → List FileMeta
 files_below cmp v p = files_read cmp v (p.level + 2) (5 - p.level)
 
 -- The entries of a user key in a version's files:
-pub record StandTogether (cmp : List ℕ → List ℕ → Ordering) (v : State) (tables : List Numbered) (p : Picked)
+pub record StandTogether (cmp : List ℕ → List ℕ → Ordering) (v : State) (tables : List NumberedContents) (p : PickedInputs)
     (user : List ℕ) (above inputs below : List Entry) : Type 0 where
   -- as they are read they are those above the inputs, those of the inputs, and those below;
   pub read : entries_read tables user (files_read cmp v 0 7) ≡ above ++ (inputs ++ below)
@@ -73,7 +73,7 @@ pub record StandTogether (cmp : List ℕ → List ℕ → Ordering) (v : State) 
 -- so they are in each lawful version with files at levels up to 6 and picked inputs
 abbrev pub InputsStandTogether : (List ℕ → List ℕ → Ordering) → Type 0
 InputsStandTogether cmp =
-    (v : State) (tables : List Numbered) (level : ℕ) (p : Picked) (user : List ℕ) →
+    (v : State) (tables : List NumberedContents) (level : ℕ) (p : PickedInputs) (user : List ℕ) →
     IsLawful cmp v tables → All (λ (f : NewFile). f.level ≤ 6) v.files → IsPicked cmp v level p →
     StandTogether cmp v tables p user (entries_read tables user (files_above cmp v p))
     (entries_read tables user (files_taken cmp v p)) (entries_read tables user (files_below cmp v p))

@@ -7,7 +7,7 @@
 ghost use Rattle.survival.specs.EditAfter.{EditApplies};
 ghost use Rattle.survival.specs.GetsAfter.{GetsAfter};
 ghost use Rattle.survival.specs.Over.{OutputsHold};
-ghost use Rattle.survival.specs.Survive.{ReadsSurvive, StandsAfter};
+ghost use Rattle.survival.specs.Survive.{ReadsSurvive, VersionAfterLaw};
 
 use ikey::Comparator;
 
@@ -33,7 +33,7 @@ pub fn outputs_hold<C: Comparator>()
 /// The law that the version after is lawful with its new tables, and holds what is kept. A call
 /// does nothing.
 pub fn stands_after<C: Comparator>()
-    ensures { StandsAfter C.cmp C.separator_of C.successor_of }
+    ensures { VersionAfterLaw C.cmp C.separator_of C.successor_of }
 {}
 
 /// The law that reads survive, for each answer of one thread. A call does nothing.

@@ -4,33 +4,33 @@ use Rattle.std.specs.List.{flat_map, AllByRecursion}
 use Rattle.std.proofs.Math.Seq.{take-append_seam}
 use Rattle.std.proofs.lemmas.List.{drop_at}
 use Rattle.byteorder.specs.Endian.{little_bytes, little_number}
-use Rattle.block.specs.Piece.{Entry, Piece, piece_bytes, restarts_of, block_bytes}
+use Rattle.block.specs.EncodedEntry.{Entry, EncodedEntry, encoded_entry_bytes, restarts_of, block_bytes}
 use Rattle.block.specs.Behind.{entries_behind}
-use Rattle.block.specs.Writing.{pieces_from, block}
-use Rattle.block.specs.Parts.{IsSplit}
+use Rattle.block.specs.BlockFormat.{encoded_entries_from, block}
+use Rattle.block.specs.Parts.{HasBlockParts}
 use Rattle.block.proofs.Restarts.{words, length-words}
 use Rattle.block.proofs.Splits.{split_count}
 use Rattle.block.proofs.Pieces.{AreWide-of, entries_behind-pieces}
 use Rattle.block.proofs.Written.{AreOfBlock-pieces_from, entries_after-pieces_from}
 use Rattle.block.proofs.Built.{length-restarts_of}
-use Rattle.frame.specs.Trailer.{stored, trailer_bytes}
+use Rattle.frame.specs.Trailer.{stored_block, trailer_bytes}
 use Rattle.frame.proofs.Stored.{length-stored}
 use Rattle.table.specs.declared.flushed_block.FlushedBlock.{FlushedBlock}
 use Rattle.table.specs.Table.{IndexKeys, stored_blocks}
 use Rattle.table.specs.Flushed.{index_before}
-use Rattle.table.specs.Kept.{block_entries, blocks_in}
+use Rattle.table.specs.BuilderState.{block_entries, blocks_in}
 
 -- a block gives the entries back
 pub block_entries-block : (r : ℕ) (q : List Entry) → length (block r q) ≤ 2 ^ 31 → block_entries (block r q) ≡ q
 unfolding block_entries block
 block_entries-block r q fits =
-    let ps : List Piece = pieces_from r 0 [] q in
-    let area : List ℕ = flat_map piece_bytes ps in
+    let ps : List EncodedEntry = encoded_entries_from r 0 [] q in
+    let area : List ℕ = flat_map encoded_entry_bytes ps in
     let bytes : List ℕ = block_bytes ps in
     let lawful = AreOfBlock-pieces_from r q fits in
     let count : length (restarts_of ps) < 2 ^ 32 = lawful.restarts.0 in
     let some : 0 < length (restarts_of ps) = omega (arith, length-restarts_of r q) in
-    let split : IsSplit bytes area (words (restarts_of ps)) = record { count = length (restarts_of ps); some = some; fits = count; len = length-words (restarts_of ps); whole = refl } in
+    let split : HasBlockParts bytes area (words (restarts_of ps)) = record { count = length (restarts_of ps); some = some; fits = count; len = length-words (restarts_of ps); whole = refl } in
     let c = split_count bytes area (words (restarts_of ps)) split in
     let at : length bytes - (4 * little_number 4 (drop (length bytes - 4) bytes) + 4) ≡ length area = omega (arith, c.0, c.1) in
     ap (λ (n : ℕ). entries_behind [] (take n bytes)) at
@@ -48,11 +48,11 @@ blocks_in-stored r [] h = refl
 blocks_in-stored r (p ∷ ps) h =
     let b : List ℕ = block r p in
     let rest : List ℕ = stored_blocks r ps in
-    let grouped : stored b ++ rest ≡ b ++ (trailer_bytes b ++ rest) = append_assoc b (trailer_bytes b) rest in
-    let front : take (length b) (stored b ++ rest) ≡ b = ap (take (length b)) grouped ∙ take-append_seam b (trailer_bytes b ++ rest) in
-    let behind : drop (length b + 5) (stored b ++ rest) ≡ rest = drop_at (stored b) rest (length b + 5) (length-stored b) in
-    ap (λ (x : List ℕ). block_entries x ∷ blocks_in (drop (length b + 5) (stored b ++ rest)) (sizes_of r ps)) front
-    ∙ ap (λ (x : List Entry). x ∷ blocks_in (drop (length b + 5) (stored b ++ rest)) (sizes_of r ps)) (block_entries-block r p h.0)
+    let grouped : stored_block b ++ rest ≡ b ++ (trailer_bytes b ++ rest) = append_assoc b (trailer_bytes b) rest in
+    let front : take (length b) (stored_block b ++ rest) ≡ b = ap (take (length b)) grouped ∙ take-append_seam b (trailer_bytes b ++ rest) in
+    let behind : drop (length b + 5) (stored_block b ++ rest) ≡ rest = drop_at (stored_block b) rest (length b + 5) (length-stored b) in
+    ap (λ (x : List ℕ). block_entries x ∷ blocks_in (drop (length b + 5) (stored_block b ++ rest)) (sizes_of r ps)) front
+    ∙ ap (λ (x : List Entry). x ∷ blocks_in (drop (length b + 5) (stored_block b ++ rest)) (sizes_of r ps)) (block_entries-block r p h.0)
     ∙ ap (λ (x : List ℕ). p ∷ blocks_in x (sizes_of r ps)) behind
     ∙ ap (λ (x : List (List Entry)). p ∷ x) (blocks_in-stored r ps h.1)
 

@@ -8,14 +8,14 @@ use Rattle.coding.specs.Answers.{EqualOrMemory, ◌>>=◌}
 use Rattle.coding.specs.declared.fault.Fault.{Fault}
 use Rattle.coding.specs.declared.fault.FaultName.TheVariants.{Empty, Index}
 use Rattle.coding.proofs.Binds.{done, bind_ok, ok_is}
-use Rattle.block.specs.Piece.{Entry}
-use Rattle.block.specs.Building.{last_key}
+use Rattle.block.specs.EncodedEntry.{Entry}
+use Rattle.block.specs.BuilderView.{last_key}
 use Rattle.ikey.specs.Key.{user_of}
-use Rattle.table.specs.ReadingSteps.{pass}
+use Rattle.table.specs.ReadingSteps.{test_result}
 use Rattle.table.specs.ReadingEntries.{first_key, key_behind, is_some_list, data_test}
 use Rattle.table.specs.Ends.{Ends, ends_of}
 use Rattle.table.specs.ReadingIndex.{IndexEntry, block_in, index_reading}
-use Rattle.table.specs.Reading.{DataBlock, blocks_reading, index_fits, data_reading, index_in, blocks_of, entries_of, Contents, contents_of, contents_reading, table_reading}
+use Rattle.table.specs.TableContents.{DataBlock, blocks_reading, index_fits, data_reading, index_in, blocks_of, entries_of, Contents, contents_of, contents_reading, table_reading}
 use Rattle.table.specs.Checked.{contents_in}
 use Rattle.table.specs.SoundTables.{IsChecked}
 use Rattle.table.specs.ReadingTables.{IsTable}
@@ -70,19 +70,19 @@ pub record ReadData (cmp : List ℕ → List ℕ → Ordering) (index : List Ind
   pub read : blocks_reading cmp None index ≡ Ok blocks
   pub fits : index_fits cmp None blocks ≡ true
 
-passed : (b : Bool) (x : Unit {0}) → pass b Empty ≡ Ok x → b ≡ true
+passed : (b : Bool) (x : Unit {0}) → test_result b Empty ≡ Ok x → b ≡ true
 passed true x h = refl
 passed false x h = absurd cc
 
-fitted : (b : Bool) (x : Unit {0}) → pass b Index ≡ Ok x → b ≡ true
+fitted : (b : Bool) (x : Unit {0}) → test_result b Index ≡ Ok x → b ≡ true
 fitted true x h = refl
 fitted false x h = absurd cc
 
 pub read_data : (cmp : List ℕ → List ℕ → Ordering) (index : List IndexEntry) (blocks : List DataBlock) → data_reading cmp index ≡ Ok blocks → ReadData cmp index blocks
 read_data cmp index blocks h =
-    let a = bind_ok (pass (is_some_list index) Empty) _ blocks h in
+    let a = bind_ok (test_result (is_some_list index) Empty) _ blocks h in
     let b = bind_ok (blocks_reading cmp None index) _ blocks a.2 in
-    let d = bind_ok (pass (index_fits cmp None b.0) Index) (λ _. done b.0) blocks b.2 in
+    let d = bind_ok (test_result (index_fits cmp None b.0) Index) (λ _. done b.0) blocks b.2 in
     let same : b.0 ≡ blocks = ok_is _ _ d.2 in
     record {
       some = passed (is_some_list index) a.0 a.1;

@@ -7,14 +7,14 @@ use Rattle.coding.specs.Answers.{◌>>=◌}
 use Rattle.coding.specs.declared.fault.Fault.{Fault}
 use Rattle.coding.specs.declared.fault.FaultName.TheVariants.{Index}
 use Rattle.coding.proofs.Binds.{done, failed, bind_ok, ok_is}
-use Rattle.block.specs.Piece.{Entry}
-use Rattle.block.specs.Building.{last_key}
+use Rattle.block.specs.EncodedEntry.{Entry}
+use Rattle.block.specs.BuilderView.{last_key}
 use Rattle.ikey.specs.Order.{internal_cmp}
-use Rattle.table.specs.ReadingSteps.{pass}
+use Rattle.table.specs.ReadingSteps.{test_result}
 use Rattle.table.specs.ReadingEntries.{first_key, key_behind, is_above, data_test}
 use Rattle.table.specs.Ends.{Ends, ends_reading, ends_of}
 use Rattle.table.specs.ReadingIndex.{IndexEntry, block_in}
-use Rattle.table.specs.Reading.{DataBlock, blocks_reading, is_between, index_fits, data_reading, entries_of}
+use Rattle.table.specs.TableContents.{DataBlock, blocks_reading, is_between_index_keys, index_fits, data_reading, entries_of}
 
 pub last_key-append : (before : List ℕ) (es fs : List Entry) → last_key before (es ++ fs) ≡ last_key (last_key before es) fs
 last_key-append before [] fs = refl
@@ -41,7 +41,7 @@ abbrev pub all_ends : (List ℕ → List ℕ → Ordering) → List IndexEntry �
 all_ends cmp index = result_map_both ends_of (λ e. e) (data_reading cmp index)
 
 abbrev finished : Bool → Ends → Result Ends Fault
-finished fits x = pass fits Index >>= λ _. Ok x
+finished fits x = test_result fits Index >>= λ _. Ok x
 
 -- those of all data blocks where these are of the blocks so far, this is their last index key, and all index keys before
 -- fit or don't
@@ -57,24 +57,24 @@ turned false false b = refl
 
 -- one more block, by what is read of those behind it
 more_by : (cmp : List ℕ → List ℕ → Ordering) (x : Ends) (below : List ℕ) (fits : Bool) (key : List ℕ) (e : Entry) (es : List Entry) (r : Result (List DataBlock) Fault) → let b : DataBlock = record { index_key = key; entries = e ∷ es } in
-    (r >>= λ bs. finished ((is_between cmp (Some below) b && fits) && index_fits cmp (Some key) bs) (record { smallest = x.smallest; largest = last_key (last_key e.key es) (entries_of bs) }))
+    (r >>= λ bs. finished ((is_between_index_keys cmp (Some below) b && fits) && index_fits cmp (Some key) bs) (record { smallest = x.smallest; largest = last_key (last_key e.key es) (entries_of bs) }))
     ≡ ((r >>= λ bs. Ok (b ∷ bs)) >>= λ bs. finished (fits && index_fits cmp (Some below) bs) (record { smallest = x.smallest; largest = last_key x.largest (entries_of bs) }))
 more_by cmp x below fits key e es (Err d) = refl
 more_by cmp x below fits key e es (Ok bs) =
     let b : DataBlock = record { index_key = key; entries = e ∷ es } in
-    ap (λ (t : Bool). finished t (record { smallest = x.smallest; largest = last_key (last_key e.key es) (entries_of bs) })) (sym (turned fits (is_between cmp (Some below) b) (index_fits cmp (Some key) bs)))
+    ap (λ (t : Bool). finished t (record { smallest = x.smallest; largest = last_key (last_key e.key es) (entries_of bs) })) (sym (turned fits (is_between_index_keys cmp (Some below) b) (index_fits cmp (Some key) bs)))
     ∙ ap (λ (k : List ℕ). finished (fits && index_fits cmp (Some below) (b ∷ bs)) (record { smallest = x.smallest; largest = k })) (sym (last_key-append e.key es (entries_of bs)))
 
 first_by : (cmp : List ℕ → List ℕ → Ordering) (key : List ℕ) (e : Entry) (es : List Entry) (r : Result (List DataBlock) Fault) → let b : DataBlock = record { index_key = key; entries = e ∷ es } in
-    (r >>= λ bs. finished (is_between cmp None b && index_fits cmp (Some key) bs) (record { smallest = e.key; largest = last_key (last_key e.key es) (entries_of bs) }))
-    ≡ result_map_both ends_of (λ f. f) ((r >>= λ bs. Ok (b ∷ bs)) >>= λ bs. pass (index_fits cmp None bs) Index >>= λ _. Ok bs)
+    (r >>= λ bs. finished (is_between_index_keys cmp None b && index_fits cmp (Some key) bs) (record { smallest = e.key; largest = last_key (last_key e.key es) (entries_of bs) }))
+    ≡ result_map_both ends_of (λ f. f) ((r >>= λ bs. Ok (b ∷ bs)) >>= λ bs. test_result (index_fits cmp None bs) Index >>= λ _. Ok bs)
 first_by cmp key e es (Err d) = refl
 first_by cmp key e es (Ok bs) =
     let b : DataBlock = record { index_key = key; entries = e ∷ es } in
     ap (λ (k : List ℕ). finished (index_fits cmp None (b ∷ bs)) (record { smallest = e.key; largest = k })) (sym (last_key-append e.key es (entries_of bs)))
     ∙ by (index_fits cmp None (b ∷ bs))
   where
-    by : (t : Bool) → finished t (ends_of (record { index_key = key; entries = e ∷ es } ∷ bs)) ≡ result_map_both ends_of (λ f. f) (pass t Index >>= λ _. done (record { index_key = key; entries = e ∷ es } ∷ bs))
+    by : (t : Bool) → finished t (ends_of (record { index_key = key; entries = e ∷ es } ∷ bs)) ≡ result_map_both ends_of (λ f. f) (test_result t Index >>= λ _. done (record { index_key = key; entries = e ∷ es } ∷ bs))
     by true = refl
     by false = refl
 
@@ -107,7 +107,7 @@ blocks_begin cmp i is q y e s =
     of_block [] e t = absurd cc
     of_block (f ∷ fs) e t =
         first_by cmp i.key f fs (blocks_reading cmp (Some (last_key f.key fs)) is)
-        ∙ sym (ap (λ (r : Result (List DataBlock) Fault). result_map_both ends_of (λ f. f) (r >>= λ bs. pass (index_fits cmp None bs) Index >>= λ _. Ok bs)) (first_read cmp None i is (f ∷ fs) e t))
+        ∙ sym (ap (λ (r : Result (List DataBlock) Fault). result_map_both ends_of (λ f. f) (r >>= λ bs. test_result (index_fits cmp None bs) Index >>= λ _. Ok bs)) (first_read cmp None i is (f ∷ fs) e t))
 
 -- ---- refusals
 
@@ -125,7 +125,7 @@ in_rest : (cmp : List ℕ → List ℕ → Ordering) (x : Ends) (below : List �
 in_rest cmp x below fits index d h = ap (λ (r : Result (List DataBlock) Fault). r >>= λ bs. finished (fits && index_fits cmp (Some below) bs) (record { smallest = x.smallest; largest = last_key x.largest (entries_of bs) })) h
 
 in_all : (cmp : List ℕ → List ℕ → Ordering) (i : IndexEntry) (is : List IndexEntry) (d : Fault) → blocks_reading cmp None (i ∷ is) ≡ Err d → all_ends cmp (i ∷ is) ≡ Err d
-in_all cmp i is d h = ap (λ (r : Result (List DataBlock) Fault). result_map_both ends_of (λ f. f) (r >>= λ bs. pass (index_fits cmp None bs) Index >>= λ _. Ok bs)) h
+in_all cmp i is d h = ap (λ (r : Result (List DataBlock) Fault). result_map_both ends_of (λ f. f) (r >>= λ bs. test_result (index_fits cmp None bs) Index >>= λ _. Ok bs)) h
 
 pub first_block_refused : (cmp : List ℕ → List ℕ → Ordering) (i : IndexEntry) (is : List IndexEntry) (d : Fault) → block_in i.stored ≡ Err d → all_ends cmp (i ∷ is) ≡ Err d
 first_block_refused cmp i is d e = in_all cmp i is d (block_refused cmp None i is d e)

@@ -11,16 +11,16 @@ use Rattle.coding.specs.declared.fault.Fault.{Fault}
 use Rattle.coding.specs.declared.fault.FaultName.{FaultName}
 use Rattle.coding.specs.declared.fault.FaultName.TheVariants.{Key, TooLarge, Order, Empty}
 use Rattle.coding.proofs.Binds.{done, bind_ok, ok_is}
-use Rattle.block.specs.Piece.{Entry}
+use Rattle.block.specs.EncodedEntry.{Entry}
 use Rattle.ikey.specs.Key.{tag_of, internal_key_reading}
 use Rattle.ikey.specs.Order.{internal_cmp}
 use Rattle.ikey.proofs.Ordered.{internal_cmp-total}
-use Rattle.table.specs.ReadingSteps.{pass}
+use Rattle.table.specs.ReadingSteps.{test_result}
 use Rattle.table.specs.ReadingEntries.{is_above, key_behind, entry_test, entries_test, is_some_list, data_test, HaveKeys}
 use Rattle.table.specs.ReadingIndex.{IndexEntry}
-use Rattle.table.specs.Reading.{DataBlock, blocks_reading, entries_of}
-use Rattle.table.specs.ReadingCursors.{IsRising, entries_from}
-use Rattle.table.specs.Seeking.{first_is_below}
+use Rattle.table.specs.TableContents.{DataBlock, blocks_reading, entries_of}
+use Rattle.table.specs.ReadingCursors.{EntriesRise, entries_from}
+use Rattle.table.specs.RestartSearch.{first_is_below}
 use Rattle.table.proofs.CheckedTables.{read_block}
 
 -- ---- one entry
@@ -35,7 +35,7 @@ three false false false d e f x y h = ok_is x y h
 pub key_same : (key k : List ℕ) → internal_key_reading key ≡ Ok k → key ≡ k
 key_same key k h = three (nat_lt (length key) 8) (nat_lt 1 (tag_of key % 256)) (nat_lt (65535 + 8) (length key)) (fault Key) (fault Key) (fault TooLarge) key k h
 
-pub passed : (b : Bool) (n : FaultName) (x : Unit {0}) → pass b n ≡ Ok x → b ≡ true
+pub passed : (b : Bool) (n : FaultName) (x : Unit {0}) → test_result b n ≡ Ok x → b ≡ true
 passed true n x h = refl
 passed false n x h = absurd cc
 
@@ -48,7 +48,7 @@ pub record Passed (cmp : List ℕ → List ℕ → Ordering) (before : Option (L
 pub passed_entry : (cmp : List ℕ → List ℕ → Ordering) (before : Option (List ℕ)) (e : Entry) (x : Unit {0}) → entry_test cmp before e ≡ Ok x → Passed cmp before e
 passed_entry cmp before e x h =
     let a = bind_ok (internal_key_reading e.key) _ x h in
-    let b = bind_ok (pass (nat_le (length e.value) 16777215) TooLarge) _ x a.2 in
+    let b = bind_ok (test_result (nat_le (length e.value) 16777215) TooLarge) _ x a.2 in
     record {
       key = a.1 ∙ ap (λ (k : List ℕ). done k) (sym (key_same e.key a.0 a.1));
       value = leb-true (length e.value) 16777215 (passed (nat_le (length e.value) 16777215) TooLarge b.0 b.1);
@@ -83,7 +83,7 @@ entries_test-append cmp before (e ∷ es) fs h q =
 
 -- the entries of a data block
 pub data_tests : (cmp : List ℕ → List ℕ → Ordering) (before : Option (List ℕ)) (es : List Entry) → data_test cmp before es ≡ Ok tt → entries_test cmp before es ≡ Ok tt
-data_tests cmp before es h = (bind_ok (pass (is_some_list es) Empty) (λ _. entries_test cmp before es) tt h).2
+data_tests cmp before es h = (bind_ok (test_result (is_some_list es) Empty) (λ _. entries_test cmp before es) tt h).2
 
 -- the entries of all data blocks pass one after the other
 pub all_tests : (cmp : List ℕ → List ℕ → Ordering) (before : Option (List ℕ)) (index : List IndexEntry) (blocks : List DataBlock) → blocks_reading cmp before index ≡ Ok blocks → entries_test cmp before (entries_of blocks) ≡ Ok tt
@@ -115,7 +115,7 @@ all_above cmp (Some before) e es total h q =
     let first : internal_cmp cmp before e.key ≡ Less = less_is (internal_cmp cmp before e.key) h in
     (first, weaker (λ f. internal_cmp cmp e.key f.key ≡ Less) (λ f. internal_cmp cmp before f.key ≡ Less) (λ f more. (internal_cmp-total total).trans before e.key f.key first more) es q)
 
-rising_by : (cmp : List ℕ → List ℕ → Ordering) (before : Option (List ℕ)) (es : List Entry) → IsTotalOrder cmp → entries_test cmp before es ≡ Ok tt → AllAbove cmp before es × IsRising cmp es
+rising_by : (cmp : List ℕ → List ℕ → Ordering) (before : Option (List ℕ)) (es : List Entry) → IsTotalOrder cmp → entries_test cmp before es ≡ Ok tt → AllAbove cmp before es × EntriesRise cmp es
 rising_by cmp None [] total h = (tt, tt)
 rising_by cmp (Some before) [] total h = (tt, tt)
 rising_by cmp before (e ∷ es) total h =
@@ -123,7 +123,7 @@ rising_by cmp before (e ∷ es) total h =
     let more = rising_by cmp (Some e.key) es total p.behind in
     (all_above cmp before e es total p.first.above more.0, (more.0, more.1))
 
-pub rising : (cmp : List ℕ → List ℕ → Ordering) (before : Option (List ℕ)) (es : List Entry) → IsTotalOrder cmp → entries_test cmp before es ≡ Ok tt → IsRising cmp es
+pub rising : (cmp : List ℕ → List ℕ → Ordering) (before : Option (List ℕ)) (es : List Entry) → IsTotalOrder cmp → entries_test cmp before es ≡ Ok tt → EntriesRise cmp es
 rising cmp before es total h = (rising_by cmp before es total h).1
 
 -- ---- the first entries go

@@ -2,7 +2,7 @@
 use Rattle.std.proofs.Common.{◌≡◌, ℕ, zero, suc, ◌+◌, ◌-◌, ◌<◌, ◌≤◌, List, [], ◌∷◌, ◌++◌, length, get_or, take, drop, refl, sym, ap, subst, ◌∙◌, arith}
 use Rattle.std.proofs.lemmas.List.{take-append-le, drop-append-le, length-append, length-drop, drop-drop}
 use Rattle.std.proofs.Math.Seq.{take-append_seam, drop-append_seam}
-use Rattle.table.specs.KeyLists.{cut_at, AreEnds, start_of}
+use Rattle.table.specs.KeyLists.{cut_at, AreKeyEnds, start_of}
 
 -- there is a key for each end
 pub counted : (from : ℕ) (ends bytes : List ℕ) → length (cut_at from ends bytes) ≡ length ends
@@ -22,7 +22,7 @@ drop_all (suc n) [] is = absurd (omega arith)
 drop_all (suc n) (x ∷ xs) is = drop_all n xs (omega arith)
 
 -- one more key stands behind the others
-pub cut_pushed : (from : ℕ) (ends bytes key : List ℕ) (to : ℕ) → AreEnds from ends bytes → to ≡ from + length bytes + length key → cut_at from (ends ++ to ∷ []) (bytes ++ key) ≡ cut_at from ends bytes ++ key ∷ []
+pub cut_pushed : (from : ℕ) (ends bytes key : List ℕ) (to : ℕ) → AreKeyEnds from ends bytes → to ≡ from + length bytes + length key → cut_at from (ends ++ to ∷ []) (bytes ++ key) ≡ cut_at from ends bytes ++ key ∷ []
 cut_pushed from [] bytes key to are is =
     let none : length bytes ≡ 0 = ap length are in
     let alone : bytes ++ key ≡ key = ap (λ (l : List ℕ). l ++ key) are in
@@ -32,7 +32,7 @@ cut_pushed from (end ∷ ends) bytes key to are is =
     let rest = cut_pushed end ends (drop (end - from) bytes) key to are.2 (omega (arith, are.0, are.1, length-drop (end - from) bytes)) in
     rw (take-append-le (end - from) bytes key within, drop-append-le (end - from) bytes key within, rest) refl
 
-pub ends_pushed : (from : ℕ) (ends bytes key : List ℕ) (to : ℕ) → AreEnds from ends bytes → to ≡ from + length bytes + length key → AreEnds from (ends ++ to ∷ []) (bytes ++ key)
+pub ends_pushed : (from : ℕ) (ends bytes key : List ℕ) (to : ℕ) → AreKeyEnds from ends bytes → to ≡ from + length bytes + length key → AreKeyEnds from (ends ++ to ∷ []) (bytes ++ key)
 ends_pushed from [] bytes key to are is =
     let none : length bytes ≡ 0 = ap length are in
     let alone : bytes ++ key ≡ key = ap (λ (l : List ℕ). l ++ key) are in
@@ -41,7 +41,7 @@ ends_pushed from [] bytes key to are is =
 ends_pushed from (end ∷ ends) bytes key to are is =
     let within : end - from ≤ length bytes = omega (arith, are.0, are.1) in
     let rest = ends_pushed end ends (drop (end - from) bytes) key to are.2 (omega (arith, are.0, are.1, length-drop (end - from) bytes)) in
-    (are.0, omega (arith, are.1, length-append bytes key), subst (AreEnds end (ends ++ to ∷ [])) (sym (drop-append-le (end - from) bytes key within)) rest)
+    (are.0, omega (arith, are.1, length-append bytes key), subst (AreKeyEnds end (ends ++ to ∷ [])) (sym (drop-append-le (end - from) bytes key within)) rest)
 
 -- it begins where the key before it ends
 pub start_is : (from : ℕ) (ends : List ℕ) (i : ℕ) → i < length ends → start_of from ends (suc i) ≡ get_or ends i 0
@@ -56,7 +56,7 @@ pub record IsCutAt (from : ℕ) (ends bytes : List ℕ) (i start : ℕ) : Type 0
   pub within : get_or ends i 0 ≤ from + length bytes
   pub key : get_or (cut_at from ends bytes) i [] ≡ take (get_or ends i 0 - start) (drop (start - from) bytes)
 
-pub cut_found : (from : ℕ) (ends bytes : List ℕ) (i : ℕ) → AreEnds from ends bytes → i < length ends → IsCutAt from ends bytes i (start_of from ends i)
+pub cut_found : (from : ℕ) (ends bytes : List ℕ) (i : ℕ) → AreKeyEnds from ends bytes → i < length ends → IsCutAt from ends bytes i (start_of from ends i)
 cut_found from [] bytes i are less = absurd (omega arith)
 cut_found from (end ∷ ends) bytes zero are less =
     let here : 0 ≡ from - from = omega arith in
@@ -78,7 +78,7 @@ cut_found from (end ∷ ends) bytes (suc i) are less =
     }
 
 -- the same, of all bytes
-pub cut_is : (ends bytes : List ℕ) (i : ℕ) → AreEnds 0 ends bytes → i < length ends → take (get_or ends i 0 - start_of 0 ends i) (drop (start_of 0 ends i) bytes) ≡ get_or (cut_at 0 ends bytes) i []
+pub cut_is : (ends bytes : List ℕ) (i : ℕ) → AreKeyEnds 0 ends bytes → i < length ends → take (get_or ends i 0 - start_of 0 ends i) (drop (start_of 0 ends i) bytes) ≡ get_or (cut_at 0 ends bytes) i []
 cut_is ends bytes i are less =
     let start = start_of 0 ends i in
     let found = cut_found 0 ends bytes i are less in

@@ -10,19 +10,19 @@ use Rattle.coding.specs.Answers.{◌>>=◌}
 use Rattle.coding.specs.declared.fault.Fault.{Fault}
 use Rattle.coding.specs.declared.fault.FaultName.TheVariants.{TooLarge, Order, Empty}
 use Rattle.coding.proofs.Binds.{done, bind_ok, ok_is}
-use Rattle.block.specs.Piece.{Entry}
-use Rattle.block.specs.Building.{last_key}
+use Rattle.block.specs.EncodedEntry.{Entry}
+use Rattle.block.specs.BuilderView.{last_key}
 use Rattle.ikey.specs.Key.{internal_key_reading}
 use Rattle.ikey.specs.Order.{internal_cmp}
 use Rattle.frame.specs.declared.handle.BlockHandle.{BlockHandle}
 use Rattle.frame.specs.Handle.{handle_bytes, handle_reading, HandleBehind}
 use Rattle.frame.proofs.Handles.{handle_reading-spelled, reads_handle}
-use Rattle.table.specs.ReadingSteps.{pass}
+use Rattle.table.specs.ReadingSteps.{test_result}
 use Rattle.table.specs.ReadingEntries.{first_key, is_above, key_behind, entry_test, entries_test, is_some_list, data_test, HaveKeys}
 use Rattle.table.specs.ReadingIndex.{IndexEntry, handle_alone, one_handle, stored_at, block_in, index_entry, index_reading}
-use Rattle.table.specs.Reading.{DataBlock, blocks_reading, is_between, index_fits, entries_of}
-use Rattle.table.specs.ReadingCursors.{IsRising}
-use Rattle.table.specs.ReadingTables.{AreNamed, IsBelowNext, AreBetween, AreBytes}
+use Rattle.table.specs.TableContents.{DataBlock, blocks_reading, is_between_index_keys, index_fits, entries_of}
+use Rattle.table.specs.ReadingCursors.{EntriesRise}
+use Rattle.table.specs.ReadingTables.{AreNamed, IsBelowNextBlock, AreBetween, AreBytes}
 use Rattle.block.proofs.BlockReadings.{both, join}
 use Rattle.table.proofs.CheckedTables.{read_block}
 use Rattle.table.proofs.EntryTests.{AllAbove, less_is, key_same, passes, behind_again}
@@ -38,12 +38,12 @@ above_first : (cmp : List ℕ → List ℕ → Ordering) (before : Option (List 
 above_first cmp None e es h = refl
 above_first cmp (Some k) e es h = ap is_lt h.0
 
-pub tests_of : (cmp : List ℕ → List ℕ → Ordering) (before : Option (List ℕ)) (es : List Entry) → HaveKeys es → AllByRecursion (λ e. length e.value ≤ 16777215) es → AllAbove cmp before es → IsRising cmp es → entries_test cmp before es ≡ Ok tt
+pub tests_of : (cmp : List ℕ → List ℕ → Ordering) (before : Option (List ℕ)) (es : List Entry) → HaveKeys es → AllByRecursion (λ e. length e.value ≤ 16777215) es → AllAbove cmp before es → EntriesRise cmp es → entries_test cmp before es ≡ Ok tt
 tests_of cmp before [] keys values above rising = refl
 tests_of cmp before (e ∷ es) keys values above rising =
     let first : entry_test cmp before e ≡ Ok tt =
-    bind_is (internal_key_reading e.key) e.key (λ _. pass (nat_le (length e.value) 16777215) TooLarge >>= λ _. pass (is_above cmp before e.key) Order) (done tt) keys.0
-    (ap (λ (b : Bool). pass b TooLarge >>= λ _. pass (is_above cmp before e.key) Order) (le-leb (length e.value) 16777215 values.0) ∙ ap (λ (b : Bool). pass b Order) (above_first cmp before e es above)) in
+    bind_is (internal_key_reading e.key) e.key (λ _. test_result (nat_le (length e.value) 16777215) TooLarge >>= λ _. test_result (is_above cmp before e.key) Order) (done tt) keys.0
+    (ap (λ (b : Bool). test_result b TooLarge >>= λ _. test_result (is_above cmp before e.key) Order) (le-leb (length e.value) 16777215 values.0) ∙ ap (λ (b : Bool). test_result b Order) (above_first cmp before e es above)) in
     ap (λ (r : Result (Unit {0}) Fault). r >>= λ _. entries_test cmp (Some e.key) es) first
     ∙ tests_of cmp (Some e.key) es keys.1 values.1 rising.0 rising.1
 
@@ -111,7 +111,7 @@ blocks_read cmp before [] (b ∷ bs) h t = absurd h
 blocks_read cmp before (i ∷ is) [] h t = absurd h
 blocks_read cmp before (i ∷ is) (b ∷ bs) h t =
     let s = splits cmp before b.entries (entries_of bs) t in
-    let tests : data_test cmp before b.entries ≡ Ok tt = ap (λ (x : Bool). pass x Empty >>= λ _. entries_test cmp before b.entries) h.2 ∙ s.front in
+    let tests : data_test cmp before b.entries ≡ Ok tt = ap (λ (x : Bool). test_result x Empty >>= λ _. entries_test cmp before b.entries) h.2 ∙ s.front in
     bind_is (block_in i.stored) b.entries (λ q. data_test cmp before q >>= λ _. blocks_reading cmp (key_behind before q) is >>= λ others. Ok (record { index_key = i.key; entries = q } ∷ others)) (done (b ∷ bs)) h.1
     (bind_is (data_test cmp before b.entries) tt (λ _. blocks_reading cmp (key_behind before b.entries) is >>= λ others. Ok (record { index_key = i.key; entries = b.entries } ∷ others)) (done (b ∷ bs)) tests
     (bind_is (blocks_reading cmp (key_behind before b.entries) is) bs (λ others. Ok (record { index_key = i.key; entries = b.entries } ∷ others)) (done (b ∷ bs)) (blocks_read cmp (key_behind before b.entries) is bs h.3 s.rest)
@@ -169,7 +169,7 @@ read_named cmp bytes (e ∷ es) before index bs fits h k =
 -- the first block, where there is one, is above this index key, where there is one
 abbrev pub IsAboveNext : (List ℕ → List ℕ → Ordering) → Option (List ℕ) → List DataBlock → Type 0
 IsAboveNext cmp None bs = Unit {0}
-IsAboveNext cmp (Some key) bs = IsBelowNext cmp key bs
+IsAboveNext cmp (Some key) bs = IsBelowNextBlock cmp key bs
 
 not_greater : (o : Ordering) → not (is_gt o) ≡ true → o ≢ Greater
 not_greater Less h e = absurd cc
@@ -196,7 +196,7 @@ no_next cmp (Some k) = tt
 pub fits_between : (cmp : List ℕ → List ℕ → Ordering) (below : Option (List ℕ)) (bs : List DataBlock) → index_fits cmp below bs ≡ true → IsAboveNext cmp below bs × AreBetween cmp bs
 fits_between cmp below [] h = (no_next cmp below, tt)
 fits_between cmp below (b ∷ bs) h =
-    let a = both (is_between cmp below b) (index_fits cmp (Some b.index_key) bs) h in
+    let a = both (is_between_index_keys cmp below b) (index_fits cmp (Some b.index_key) bs) h in
     let c = both (is_above cmp below (first_key b.entries)) (not (is_gt (internal_cmp cmp (last_key [] b.entries) b.index_key))) a.0 in
     let more = fits_between cmp (Some b.index_key) bs a.1 in
     (above_next cmp below b bs c.0, (not_greater (internal_cmp cmp (last_key [] b.entries) b.index_key) c.1, more.0, more.1))
@@ -204,6 +204,6 @@ fits_between cmp below (b ∷ bs) h =
 pub between_fits : (cmp : List ℕ → List ℕ → Ordering) (below : Option (List ℕ)) (bs : List DataBlock) → IsAboveNext cmp below bs → AreBetween cmp bs → index_fits cmp below bs ≡ true
 between_fits cmp below [] above h = refl
 between_fits cmp below (b ∷ bs) above h =
-    join (is_between cmp below b) (index_fits cmp (Some b.index_key) bs)
+    join (is_between_index_keys cmp below b) (index_fits cmp (Some b.index_key) bs)
     (join (is_above cmp below (first_key b.entries)) (not (is_gt (internal_cmp cmp (last_key [] b.entries) b.index_key))) (is_above_next cmp below b bs above) (is_not_greater (internal_cmp cmp (last_key [] b.entries) b.index_key) h.0))
     (between_fits cmp (Some b.index_key) bs h.1 h.2)

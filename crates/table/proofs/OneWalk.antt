@@ -4,7 +4,7 @@ use Rattle.std.specs.Prelude.{IfOk, IsOk}
 use Rattle.std.specs.declared.cmp.Ordering.{Ordering}
 use Rattle.coding.specs.Answers.{EqualOrMemory, FailsOrMemory, ◌>>=◌}
 use Rattle.coding.specs.declared.fault.Fault.{Fault}
-use Rattle.block.specs.Piece.{Entry}
+use Rattle.block.specs.EncodedEntry.{Entry}
 use Rattle.table.specs.Ends.{Ends, ends_reading}
 use Rattle.table.proofs.Refused.{memory_alone}
 use Rattle.table.proofs.Steps.{fails_map}

@@ -4,12 +4,12 @@ use Rattle.std.specs.List.{AllByRecursion}
 use Rattle.std.specs.Ordering.{is_le}
 use Rattle.std.specs.declared.cmp.Ordering.{Ordering}
 use Rattle.std.specs.declared.cmp.Ordering.TheVariants.{Less}
-use Rattle.block.specs.Piece.{Entry}
+use Rattle.block.specs.EncodedEntry.{Entry}
 use Rattle.ikey.specs.Order.{internal_cmp}
-use Rattle.table.specs.ReadingCursors.{IsRising, NeverFalls, LeavesFrom}
+use Rattle.table.specs.ReadingCursors.{EntriesRise, NeverFalls, LeavesFrom}
 
 -- entries that rise strictly never fall
-pub rising_never_falls : (cmp : List ℕ → List ℕ → Ordering) (es : List Entry) → IsRising cmp es → NeverFalls cmp es
+pub rising_never_falls : (cmp : List ℕ → List ℕ → Ordering) (es : List Entry) → EntriesRise cmp es → NeverFalls cmp es
 rising_never_falls cmp [] rises = tt
 rising_never_falls cmp (e ∷ es) rises = (all_at_least es rises.0, rising_never_falls cmp es rises.1)
   where

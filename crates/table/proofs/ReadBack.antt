@@ -8,24 +8,24 @@ use Rattle.ikey.specs.Key.{IsInternalKey}
 use Rattle.ikey.specs.Comparator.{IsBetween}
 use Rattle.ikey.specs.Order.{internal_cmp}
 use Rattle.ikey.proofs.Keys.{internal_key_reading-Ok}
-use Rattle.block.specs.Piece.{Entry}
-use Rattle.block.specs.Writing.{block}
-use Rattle.block.specs.Building.{last_key}
+use Rattle.block.specs.EncodedEntry.{Entry}
+use Rattle.block.specs.BlockFormat.{block}
+use Rattle.block.specs.BuilderView.{last_key}
 use Rattle.block.proofs.Written.{block_reads_back}
 use Rattle.block.proofs.Sizes.{length-block-nil}
-use Rattle.frame.specs.Trailer.{stored}
+use Rattle.frame.specs.Trailer.{stored_block}
 use Rattle.frame.specs.Footer.{handles_bytes, footer_bytes, magic}
 use Rattle.frame.specs.declared.footer.Footer.{Footer}
 use Rattle.frame.proofs.Stored.{length-stored}
 use Rattle.frame.proofs.Footers.{length-handles_bytes, length-footer_bytes}
 use Rattle.table.specs.declared.options.Options.{Options}
 use Rattle.table.specs.DataBlocks.{data_blocks, AreDataBlocks}
-use Rattle.table.specs.Kept.{entries_of_parts}
-use Rattle.table.specs.Table.{IndexKeys, index_key, index_from, stored_blocks, metaindex, footer_at, closing, table_of}
+use Rattle.table.specs.BuilderState.{entries_of_parts}
+use Rattle.table.specs.Table.{IndexKeys, index_key, index_from, stored_blocks, metaindex, footer_at, closing_bytes, table_of_blocks}
 use Rattle.table.specs.ReadingEntries.{first_key, HaveKeys}
-use Rattle.table.specs.ReadingCursors.{IsRising}
-use Rattle.table.specs.Reading.{DataBlock, entries_of}
-use Rattle.table.specs.ReadingTables.{StandsAt, EndsWith, AreNamed, AreBetween, IsTable}
+use Rattle.table.specs.ReadingCursors.{EntriesRise}
+use Rattle.table.specs.TableContents.{DataBlock, entries_of}
+use Rattle.table.specs.ReadingTables.{IsStoredAt, EndsWith, AreNamed, AreBetween, IsTable}
 use Rattle.table.specs.ReadingBack.{IsWritable}
 use Rattle.table.proofs.Indexes.{length-closing}
 use Rattle.table.proofs.Cuts.{are_data_blocks}
@@ -64,9 +64,9 @@ are_named keys r bytes [] a c at whole at_is room small lawful some = tt
 are_named keys r bytes (p ∷ ps) a c at whole at_is room small lawful some =
     let b : List ℕ = block r p in
     let rest : List ℕ = stored_blocks r ps in
-    let here : bytes ≡ a ++ (stored b ++ (rest ++ c)) = whole ∙ ap (λ (x : List ℕ). a ++ x) (append_assoc (stored b) rest c) in
-    let there : bytes ≡ (a ++ stored b) ++ (rest ++ c) = here ∙ sym (append_assoc a (stored b) (rest ++ c)) in
-    let len : length bytes ≡ length a + (length b + 5) + length rest + length c = omega (arith, ap length here, length-append a (stored b ++ (rest ++ c)), length-append (stored b) (rest ++ c), length-append rest c, length-stored b) in (
+    let here : bytes ≡ a ++ (stored_block b ++ (rest ++ c)) = whole ∙ ap (λ (x : List ℕ). a ++ x) (append_assoc (stored_block b) rest c) in
+    let there : bytes ≡ (a ++ stored_block b) ++ (rest ++ c) = here ∙ sym (append_assoc a (stored_block b) (rest ++ c)) in
+    let len : length bytes ≡ length a + (length b + 5) + length rest + length c = omega (arith, ap length here, length-append a (stored_block b ++ (rest ++ c)), length-append (stored_block b) (rest ++ c), length-append rest c, length-stored b) in (
       record {
         handle = record { offset = at; size = length b };
         key = refl;
@@ -84,24 +84,24 @@ are_named keys r bytes (p ∷ ps) a c at whole at_is room small lawful some =
         };
         some = some_entry p some.0;
       },
-      are_named keys r bytes ps (a ++ stored b) c (at + length b + 5) there (omega (arith, length-append a (stored b), length-stored b)) room small lawful.1 some.1,
+      are_named keys r bytes ps (a ++ stored_block b) c (at + length b + 5) there (omega (arith, length-append a (stored_block b), length-stored b)) room small lawful.1 some.1,
     )
 
 -- ---- the index keys lie between the blocks
 
 -- of keys that rise, the first of a part is above the last of the part before it
-rising_across : (cmp : List ℕ → List ℕ → Ordering) (p n rest : List Entry) → p ≢ [] → n ≢ [] → IsRising cmp (p ++ (n ++ rest)) → internal_cmp cmp (last_key [] p) (first_key n) ≡ Less
+rising_across : (cmp : List ℕ → List ℕ → Ordering) (p n rest : List Entry) → p ≢ [] → n ≢ [] → EntriesRise cmp (p ++ (n ++ rest)) → internal_cmp cmp (last_key [] p) (first_key n) ≡ Less
 rising_across cmp [] n rest some next h = absurd (some refl)
 rising_across cmp (e ∷ []) [] rest some next h = absurd (next refl)
 rising_across cmp (e ∷ []) (x ∷ xs) rest some next h = h.0.0
 rising_across cmp (e ∷ f ∷ es) n rest some next h =
     rising_across cmp (f ∷ es) n rest (λ no. absurd (cc)) next h.1
 
-rising_behind : (cmp : List ℕ → List ℕ → Ordering) (p rest : List Entry) → IsRising cmp (p ++ rest) → IsRising cmp rest
+rising_behind : (cmp : List ℕ → List ℕ → Ordering) (p rest : List Entry) → EntriesRise cmp (p ++ rest) → EntriesRise cmp rest
 rising_behind cmp [] rest h = h
 rising_behind cmp (e ∷ es) rest h = rising_behind cmp es rest h.1
 
-are_between : (cmp : List ℕ → List ℕ → Ordering) (keys : IndexKeys) (parts : List (List Entry)) → KeepOrder cmp keys → HaveEntries parts → IsRising cmp (entries_of_parts parts) → AreBetween cmp (blocks_of_parts keys parts)
+are_between : (cmp : List ℕ → List ℕ → Ordering) (keys : IndexKeys) (parts : List (List Entry)) → KeepOrder cmp keys → HaveEntries parts → EntriesRise cmp (entries_of_parts parts) → AreBetween cmp (blocks_of_parts keys parts)
 are_between cmp keys [] laws some h = tt
 are_between cmp keys (p ∷ []) laws some h = (laws.above (last_key [] p), tt, tt)
 are_between cmp keys (p ∷ n ∷ ps) laws some h =
@@ -169,32 +169,32 @@ ends_with bytes before f whole =
 -- what stands behind the data blocks
 record Closed (bytes stored_bytes : List ℕ) (index : List Entry) (f : Footer) : Type 0 where
   ends : EndsWith bytes f
-  metaindex_block : StandsAt bytes f.metaindex []
-  index_block : StandsAt bytes f.index index
+  metaindex_block : IsStoredAt bytes f.metaindex []
+  index_block : IsStoredAt bytes f.index index
 
-is_closed : (bytes front : List ℕ) (index : List Entry) → bytes ≡ front ++ closing (length front) index → length bytes ≤ 2 ^ 30 → Closed bytes front index (footer_at (length front) (length (block 1 index)))
-unfolding closing
+is_closed : (bytes front : List ℕ) (index : List Entry) → bytes ≡ front ++ closing_bytes (length front) index → length bytes ≤ 2 ^ 30 → Closed bytes front index (footer_at (length front) (length (block 1 index)))
+unfolding closing_bytes
 is_closed bytes front index whole small =
-    let m : List ℕ = stored metaindex in
+    let m : List ℕ = stored_block metaindex in
     let b : List ℕ = block 1 index in
     let f : Footer = footer_at (length front) (length b) in
     let last : List ℕ = footer_bytes f in
     let none : length metaindex ≡ 8 = length-block-nil 1 in
     let footer_len : length last ≡ 48 = length-footer_bytes f in
     let len : length bytes ≡ length front + (length metaindex + 5) + (length b + 5) + 48 =
-    omega (arith, ap length whole, length-append front (m ++ (stored b ++ last)), length-append m (stored b ++ last), length-append (stored b) last, length-stored metaindex, length-stored b) in
-    let before : bytes ≡ (front ++ m) ++ (stored b ++ last) = whole ∙ sym (append_assoc front m (stored b ++ last)) in
-    let all : bytes ≡ ((front ++ m) ++ stored b) ++ last = before ∙ sym (append_assoc (front ++ m) (stored b) last) in
+    omega (arith, ap length whole, length-append front (m ++ (stored_block b ++ last)), length-append m (stored_block b ++ last), length-append (stored_block b) last, length-stored metaindex, length-stored b) in
+    let before : bytes ≡ (front ++ m) ++ (stored_block b ++ last) = whole ∙ sym (append_assoc front m (stored_block b ++ last)) in
+    let all : bytes ≡ ((front ++ m) ++ stored_block b) ++ last = before ∙ sym (append_assoc (front ++ m) (stored_block b) last) in
     record {
-      ends = ends_with bytes ((front ++ m) ++ stored b) f all;
+      ends = ends_with bytes ((front ++ m) ++ stored_block b) f all;
       metaindex_block = record {
         before = front;
         contents = metaindex;
-        behind = stored b ++ last;
+        behind = stored_block b ++ last;
         whole = whole;
         offset = refl;
         size = refl;
-        footer = omega (arith, length-append (stored b) last);
+        footer = omega (arith, length-append (stored_block b) last);
         block = block_reads_back 1 [] (omega arith);
       };
       index_block = record {
@@ -211,7 +211,7 @@ is_closed bytes front index whole small =
 
 -- ---- the whole
 
-pub is_table : (cmp : List ℕ → List ℕ → Ordering) (keys : IndexKeys) (o : Options) (q : List Entry) (bytes : List ℕ) → KeepOrder cmp keys → IsWritable cmp q → bytes ≡ table_of keys o.restart_interval (data_blocks o q) → length bytes ≤ 2 ^ 30 → IsTable cmp bytes q
+pub is_table : (cmp : List ℕ → List ℕ → Ordering) (keys : IndexKeys) (o : Options) (q : List Entry) (bytes : List ℕ) → KeepOrder cmp keys → IsWritable cmp q → bytes ≡ table_of_blocks keys o.restart_interval (data_blocks o q) → length bytes ≤ 2 ^ 30 → IsTable cmp bytes q
 is_table cmp keys o q bytes laws w whole small =
     let r : ℕ = o.restart_interval in
     let parts : List (List Entry) = data_blocks o q in
@@ -229,9 +229,9 @@ is_table cmp keys o q bytes laws w whole small =
       ends = end.ends;
       metaindex_block = end.metaindex_block;
       index_block = end.index_block;
-      named = are_named keys r bytes parts [] (closing (length front) index) 0 whole refl (omega (arith, length-closing (length front) index)) small lawful cut.1;
+      named = are_named keys r bytes parts [] (closing_bytes (length front) index) 0 whole refl (omega (arith, length-closing (length front) index)) small lawful cut.1;
       some = some_blocks keys parts (λ none. w.some (sym cut.0 ∙ none));
-      between = are_between cmp keys parts laws cut.1 (subst (IsRising cmp) (sym cut.0) w.rising);
+      between = are_between cmp keys parts laws cut.1 (subst (EntriesRise cmp) (sym cut.0) w.rising);
       whole = entries_again keys parts ∙ cut.0;
       keys = keys_read q w.keys;
       values = w.values;

@@ -8,12 +8,12 @@ use Rattle.std.specs.Ordering.{is_lt}
 use Rattle.std.specs.declared.cmp.Ordering.{Ordering}
 use Rattle.std.specs.declared.cmp.Ordering.TheVariants.{Less}
 use Rattle.std.proofs.lemmas.Option.{get_or_from_slice_get, same_Some}
-use Rattle.block.specs.Piece.{Entry}
-use Rattle.block.specs.Sound.{Sound}
+use Rattle.block.specs.EncodedEntry.{Entry}
+use Rattle.block.specs.Sound.{BlockView}
 use Rattle.ikey.specs.Order.{internal_cmp}
 use Rattle.ikey.proofs.Ordered.{internal_cmp-total}
-use Rattle.table.specs.ReadingCursors.{IsRising, entries_from}
-use Rattle.table.specs.Seeking.{first_is_below, restart_is_below, IsLastBelow}
+use Rattle.table.specs.ReadingCursors.{EntriesRise, entries_from}
+use Rattle.table.specs.RestartSearch.{first_is_below, restart_is_below, IsLastBelow}
 use Rattle.table.specs.ReadingEntries.{HaveKeys}
 use Rattle.ikey.specs.Key.{internal_key_reading}
 use Rattle.table.proofs.EntryTests.{less_is}
@@ -28,7 +28,7 @@ first_below cmp target e (f ∷ es) zero total above below = (internal_cmp-total
 first_below cmp target e (f ∷ es) (suc place) total above below = first_below cmp target e es place total above.1 below
 
 -- so is each that stands before it
-pub before_below : (cmp : List ℕ → List ℕ → Ordering) (target : List ℕ) (es : List Entry) (place later : ℕ) → IsTotalOrder cmp → IsRising cmp es → place ≤ later → first_is_below cmp target (drop later es) ≡ true → first_is_below cmp target (drop place es) ≡ true
+pub before_below : (cmp : List ℕ → List ℕ → Ordering) (target : List ℕ) (es : List Entry) (place later : ℕ) → IsTotalOrder cmp → EntriesRise cmp es → place ≤ later → first_is_below cmp target (drop later es) ≡ true → first_is_below cmp target (drop place es) ≡ true
 before_below cmp target es zero zero total rises le below = below
 before_below cmp target es (suc place) zero total rises le below = absurd (omega arith)
 before_below cmp target [] place (suc later) total rises le below = absurd cc
@@ -36,7 +36,7 @@ before_below cmp target (e ∷ es) zero (suc later) total rises le below = ap is
 before_below cmp target (e ∷ es) (suc place) (suc later) total rises le below = before_below cmp target es place later total rises.1 (omega arith) below
 
 -- a walk that begins at an entry below an internal key comes to the same entries
-pub from_place : (cmp : List ℕ → List ℕ → Ordering) (target : List ℕ) (es : List Entry) (place : ℕ) → IsTotalOrder cmp → IsRising cmp es → first_is_below cmp target (drop place es) ≡ true → entries_from cmp target (drop place es) ≡ entries_from cmp target es
+pub from_place : (cmp : List ℕ → List ℕ → Ordering) (target : List ℕ) (es : List Entry) (place : ℕ) → IsTotalOrder cmp → EntriesRise cmp es → first_is_below cmp target (drop place es) ≡ true → entries_from cmp target (drop place es) ≡ entries_from cmp target es
 from_place cmp target es zero total rises below = refl
 from_place cmp target [] (suc place) total rises below = refl
 from_place cmp target (e ∷ es) (suc place) total rises below =
@@ -67,16 +67,16 @@ key_reads (e ∷ es) (suc place) key keys h = key_reads es place key keys.1 h
 
 -- What is known of restarts between two: the first of them is the first of all or has its key below an internal key, and
 -- from the other on no key is below it.
-pub record IsWithin (cmp : List ℕ → List ℕ → Ordering) (target : List ℕ) (block : Sound) (restart end : ℕ) : Type 0 where
+pub record IsWithin (cmp : List ℕ → List ℕ → Ordering) (target : List ℕ) (block : BlockView) (restart end : ℕ) : Type 0 where
   pub order : restart < end
   pub within : end ≤ length block.restarts
   pub below : 0 < restart → restart_is_below cmp target block restart ≡ true
   pub last : (later : ℕ) → end ≤ later → later < length block.restarts → restart_is_below cmp target block later ≡ false
 
-pub search_begins : (cmp : List ℕ → List ℕ → Ordering) (target : List ℕ) (block : Sound) (count : ℕ) → count ≡ length block.restarts → 0 < count → IsWithin cmp target block 0 count
+pub search_begins : (cmp : List ℕ → List ℕ → Ordering) (target : List ℕ) (block : BlockView) (count : ℕ) → count ≡ length block.restarts → 0 < count → IsWithin cmp target block 0 count
 search_begins cmp target block count same some = record { order = some; within = omega (arith, same); below = λ h. absurd (omega arith); last = λ later le lt. absurd (omega (arith, same)) }
 
-pub search_rises : (cmp : List ℕ → List ℕ → Ordering) (target : List ℕ) (block : Sound) (restart end middle : ℕ) → IsWithin cmp target block restart end → middle < end → restart_is_below cmp target block middle ≡ true → IsWithin cmp target block middle end
+pub search_rises : (cmp : List ℕ → List ℕ → Ordering) (target : List ℕ) (block : BlockView) (restart end middle : ℕ) → IsWithin cmp target block restart end → middle < end → restart_is_below cmp target block middle ≡ true → IsWithin cmp target block middle end
 search_rises cmp target block restart end middle w lt below = record { order = lt; within = w.within; below = λ h. below; last = w.last }
 
 -- restarts point at rising places
@@ -99,7 +99,7 @@ not_below : (b : Bool) → (b ≡ true → ⊥) → b ≡ false
 not_below true h = absurd (h refl)
 not_below false h = refl
 
-pub search_falls : (cmp : List ℕ → List ℕ → Ordering) (target : List ℕ) (block : Sound) (restart end middle : ℕ) → IsTotalOrder cmp → IsRising cmp block.entries → IsStrictlyIncreasing block.restarts
+pub search_falls : (cmp : List ℕ → List ℕ → Ordering) (target : List ℕ) (block : BlockView) (restart end middle : ℕ) → IsTotalOrder cmp → EntriesRise cmp block.entries → IsStrictlyIncreasing block.restarts
     → IsWithin cmp target block restart end → restart < middle → middle < end → restart_is_below cmp target block middle ≡ false → IsWithin cmp target block restart middle
 search_falls cmp target block restart end middle total rises places w order lt above = record {
   order = order;
@@ -110,11 +110,11 @@ search_falls cmp target block restart end middle total rises places w order lt a
 }
 
 -- between two neighbours it is the first
-pub search_ends : (cmp : List ℕ → List ℕ → Ordering) (target : List ℕ) (block : Sound) (restart end : ℕ) → IsWithin cmp target block restart end → end ≤ restart + 1 → IsLastBelow cmp target block restart
+pub search_ends : (cmp : List ℕ → List ℕ → Ordering) (target : List ℕ) (block : BlockView) (restart end : ℕ) → IsWithin cmp target block restart end → end ≤ restart + 1 → IsLastBelow cmp target block restart
 search_ends cmp target block restart end w le = record { within = omega (arith, w.order, w.within); below = w.below; last = λ later above within. w.last later (omega (arith, le)) within }
 
 -- what stands before it is below the internal key
-pub last_from : (cmp : List ℕ → List ℕ → Ordering) (target : List ℕ) (block : Sound) (restart : ℕ) → IsTotalOrder cmp → IsRising cmp block.entries → slice_get block.restarts 0 ≡ Some 0 → IsLastBelow cmp target block restart
+pub last_from : (cmp : List ℕ → List ℕ → Ordering) (target : List ℕ) (block : BlockView) (restart : ℕ) → IsTotalOrder cmp → EntriesRise cmp block.entries → slice_get block.restarts 0 ≡ Some 0 → IsLastBelow cmp target block restart
     → entries_from cmp target (drop (get_or block.restarts restart 0) block.entries) ≡ entries_from cmp target block.entries
 last_from cmp target block zero total rises first last = ap (λ (place : ℕ). entries_from cmp target (drop place block.entries)) (get_or_from_slice_get block.restarts 0 0 0 first)
 last_from cmp target block (suc restart) total rises first last = from_place cmp target block.entries (get_or block.restarts (suc restart) 0) total rises (last.below (omega arith))

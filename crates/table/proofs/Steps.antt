@@ -10,8 +10,8 @@ use Rattle.coding.specs.declared.fault.Fault.{Fault}
 use Rattle.coding.specs.declared.fault.FaultName.TheVariants.{Block}
 use Rattle.coding.proofs.Refusals.{FailsOrMemory-from, unless_from}
 use Rattle.coding.proofs.Binds.{done, failed}
-use Rattle.block.specs.Piece.{Entry, IsBlock}
-use Rattle.block.specs.Building.{last_key}
+use Rattle.block.specs.EncodedEntry.{Entry, IsBlock}
+use Rattle.block.specs.BuilderView.{last_key}
 use Rattle.block.specs.ReadingBlocks.{block_reading}
 use Rattle.table.specs.ReadingEntries.{first_key, entry_test, entries_test}
 use Rattle.table.specs.Ends.{ends_reading}

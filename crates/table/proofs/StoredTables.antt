@@ -10,18 +10,18 @@ use Rattle.coding.specs.Answers.{and_then, fault, ◌>>=◌}
 use Rattle.coding.specs.declared.fault.Fault.{Fault}
 use Rattle.coding.specs.declared.fault.FaultName.TheVariants.{Magic, Handle, Range}
 use Rattle.coding.proofs.Binds.{done, bind_ok, ok_is}
-use Rattle.block.specs.Piece.{Entry}
+use Rattle.block.specs.EncodedEntry.{Entry}
 use Rattle.coding.proofs.Bytes.{IsBytes-take, IsBytes-drop}
 use Rattle.frame.specs.declared.handle.BlockHandle.{BlockHandle}
 use Rattle.frame.specs.declared.footer.Footer.{Footer}
 use Rattle.frame.specs.Handle.{handle_bytes, handle_reading, HandleBehind}
-use Rattle.frame.specs.Trailer.{stored, stored_reading}
+use Rattle.frame.specs.Trailer.{stored_block, stored_reading}
 use Rattle.frame.specs.Footer.{handles_bytes, magic, handles_reading, footer_reading}
 use Rattle.frame.proofs.Handles.{handle_reading-spelled, reads_handle, found_first}
 use Rattle.frame.proofs.Stored.{length-stored, stored_again, only_stored}
 use Rattle.block.specs.ReadingBlocks.{block_reading}
 use Rattle.table.specs.ReadingIndex.{stored_at, block_in}
-use Rattle.table.specs.ReadingTables.{StandsAt, EndsWith, AreBytes}
+use Rattle.table.specs.ReadingTables.{IsStoredAt, EndsWith, AreBytes}
 use Rattle.block.proofs.BlockReadings.{reads_blocks}
 
 -- a step that did not fail
@@ -40,9 +40,9 @@ pub record ReadAt (bytes : List ℕ) (handle : BlockHandle) (q : List Entry) : T
   pub at : stored_at bytes handle ≡ Ok bytes_there
   pub entries : block_in bytes_there ≡ Ok q
 
-pub stands_read : (bytes : List ℕ) (handle : BlockHandle) (q : List Entry) → StandsAt bytes handle q → ReadAt bytes handle q
+pub stands_read : (bytes : List ℕ) (handle : BlockHandle) (q : List Entry) → IsStoredAt bytes handle q → ReadAt bytes handle q
 stands_read bytes handle q s =
-    let there : List ℕ = stored s.contents in
+    let there : List ℕ = stored_block s.contents in
     let long : length there ≡ length s.contents + 5 = length-stored s.contents in
     let len : length bytes ≡ length s.before + (length there + length s.behind) = omega (arith, ap length s.whole, length-append s.before (there ++ s.behind), length-append there s.behind) in
     let test : nat_le (handle.offset + handle.size + 5 + 48) (length bytes) ≡ true = le-leb (handle.offset + handle.size + 5 + 48) (length bytes) (omega (arith, long, len, s.offset, s.size, s.footer)) in
@@ -59,12 +59,12 @@ pub record Fits (handle : BlockHandle) : Type 0 where
   pub offset : handle.offset < 2 ^ 64
   pub size : handle.size < 2 ^ 64
 
-pub stands_fit : (bytes : List ℕ) (handle : BlockHandle) (q : List Entry) → length bytes ≤ 2 ^ 30 → StandsAt bytes handle q → Fits handle
+pub stands_fit : (bytes : List ℕ) (handle : BlockHandle) (q : List Entry) → length bytes ≤ 2 ^ 30 → IsStoredAt bytes handle q → Fits handle
 stands_fit bytes handle q small s =
-    let len : length bytes ≡ length s.before + (length (stored s.contents) + length s.behind) = omega (arith, ap length s.whole, length-append s.before (stored s.contents ++ s.behind), length-append (stored s.contents) s.behind) in
+    let len : length bytes ≡ length s.before + (length (stored_block s.contents) + length s.behind) = omega (arith, ap length s.whole, length-append s.before (stored_block s.contents ++ s.behind), length-append (stored_block s.contents) s.behind) in
     record { offset = omega (arith, len, s.offset, small); size = omega (arith, len, length-stored s.contents, s.size, small) }
 
-pub read_stands : (bytes : List ℕ) (handle : BlockHandle) (there : List ℕ) (q : List Entry) → AreBytes bytes → stored_at bytes handle ≡ Ok there → block_in there ≡ Ok q → StandsAt bytes handle q
+pub read_stands : (bytes : List ℕ) (handle : BlockHandle) (there : List ℕ) (q : List Entry) → AreBytes bytes → stored_at bytes handle ≡ Ok there → block_in there ≡ Ok q → IsStoredAt bytes handle q
 read_stands bytes handle there q fits at h =
     let o = handle.offset in
     let n = handle.size + 5 in
@@ -73,7 +73,7 @@ read_stands bytes handle there q fits at h =
     let a = bind_ok (stored_reading there) block_reading q h in
     let long : length there ≡ n = sym (ap length g.1) ∙ length-take-le n (drop o bytes) (omega (arith, length-drop o bytes, le)) in
     let lawful : AreBytes there = subst AreBytes g.1 (IsBytes-take n (drop o bytes) (IsBytes-drop o bytes fits)) in
-    let same : there ≡ stored a.0 = only_stored there a.0 (omega (arith, long)) lawful a.1 in
+    let same : there ≡ stored_block a.0 = only_stored there a.0 (omega (arith, long)) lawful a.1 in
     record {
       before = take o bytes;
       contents = a.0;

@@ -7,15 +7,15 @@ use Rattle.std.proofs.lemmas.Bool.{leb-true, le-leb}
 use Rattle.coding.specs.Answers.{◌>>=◌}
 use Rattle.coding.specs.declared.fault.FaultName.TheVariants.{Size, Short, Empty, Index}
 use Rattle.coding.proofs.Binds.{done, bind_ok, ok_is}
-use Rattle.block.specs.Piece.{Entry}
+use Rattle.block.specs.EncodedEntry.{Entry}
 use Rattle.frame.specs.declared.footer.Footer.{Footer}
 use Rattle.frame.specs.Footer.{footer_reading}
-use Rattle.table.specs.ReadingSteps.{pass}
+use Rattle.table.specs.ReadingSteps.{test_result}
 use Rattle.table.specs.ReadingEntries.{is_some_list, entries_test, HaveKeys}
-use Rattle.table.specs.ReadingCursors.{IsRising}
+use Rattle.table.specs.ReadingCursors.{EntriesRise}
 use Rattle.table.specs.ReadingIndex.{IndexEntry, stored_at, block_in, index_reading}
-use Rattle.table.specs.Reading.{DataBlock, blocks_reading, index_fits, data_reading, index_in, blocks_of, entries_of, table_reading}
-use Rattle.table.specs.ReadingTables.{StandsAt, EndsWith, IsTable, AreBytes, ReadsTables}
+use Rattle.table.specs.TableContents.{DataBlock, blocks_reading, index_fits, data_reading, index_in, blocks_of, entries_of, table_reading}
+use Rattle.table.specs.ReadingTables.{IsStoredAt, EndsWith, IsTable, AreBytes, ReadsTables}
 use Rattle.table.proofs.CheckedTables.{blocks_by, read_block, read_data}
 use Rattle.table.proofs.EntryTests.{passed, have_keys, all_tests, rising}
 use Rattle.table.proofs.StoredTables.{bind_is, stands_read, stands_fit, read_stands, ends_read, read_ends, long_footer}
@@ -29,13 +29,13 @@ record HasIndex (bytes : List ℕ) (index : List Entry) : Type 0 where
   ignored : List Entry
   small : length bytes ≤ 2 ^ 30
   ends : EndsWith bytes footer
-  metaindex_block : StandsAt bytes footer.metaindex ignored
-  index_block : StandsAt bytes footer.index index
+  metaindex_block : IsStoredAt bytes footer.metaindex ignored
+  index_block : IsStoredAt bytes footer.index index
 
 index_found : (bytes : List ℕ) (index : List Entry) → AreBytes bytes → index_in bytes ≡ Ok index → HasIndex bytes index
 index_found bytes index fits h =
-    let a = bind_ok (pass (nat_le (length bytes) (2 ^ 30)) Size) _ index h in
-    let b = bind_ok (pass (nat_le 48 (length bytes)) Short) _ index a.2 in
+    let a = bind_ok (test_result (nat_le (length bytes) (2 ^ 30)) Size) _ index h in
+    let b = bind_ok (test_result (nat_le 48 (length bytes)) Short) _ index a.2 in
     let f = bind_ok (footer_reading (drop (length bytes - 48) bytes)) _ index b.2 in
     let m = bind_ok (stored_at bytes f.0.metaindex) _ index f.2 in
     let i = bind_ok (stored_at bytes f.0.index) _ index m.2 in
@@ -54,8 +54,8 @@ index_read bytes index k =
     let m = stands_read bytes k.footer.metaindex k.ignored k.metaindex_block in
     let i = stands_read bytes k.footer.index index k.index_block in
     let footer = ends_read bytes k.footer k.ends (stands_fit bytes k.footer.metaindex k.ignored k.small k.metaindex_block) (stands_fit bytes k.footer.index index k.small k.index_block) in
-    ap (λ (b : Bool). pass b Size >>= λ _. pass (nat_le 48 (length bytes)) Short >>= λ _. footer_reading (drop (length bytes - 48) bytes) >>= λ f. stored_at bytes f.metaindex >>= λ x. stored_at bytes f.index >>= λ y. block_in x >>= λ _. block_in y) (le-leb (length bytes) (2 ^ 30) k.small)
-    ∙ ap (λ (b : Bool). pass b Short >>= λ _. footer_reading (drop (length bytes - 48) bytes) >>= λ f. stored_at bytes f.metaindex >>= λ x. stored_at bytes f.index >>= λ y. block_in x >>= λ _. block_in y) (le-leb 48 (length bytes) (long_footer bytes k.footer k.ends))
+    ap (λ (b : Bool). test_result b Size >>= λ _. test_result (nat_le 48 (length bytes)) Short >>= λ _. footer_reading (drop (length bytes - 48) bytes) >>= λ f. stored_at bytes f.metaindex >>= λ x. stored_at bytes f.index >>= λ y. block_in x >>= λ _. block_in y) (le-leb (length bytes) (2 ^ 30) k.small)
+    ∙ ap (λ (b : Bool). test_result b Short >>= λ _. footer_reading (drop (length bytes - 48) bytes) >>= λ f. stored_at bytes f.metaindex >>= λ x. stored_at bytes f.index >>= λ y. block_in x >>= λ _. block_in y) (le-leb 48 (length bytes) (long_footer bytes k.footer k.ends))
     ∙ bind_is (footer_reading (drop (length bytes - 48) bytes)) k.footer (λ f. stored_at bytes f.metaindex >>= λ x. stored_at bytes f.index >>= λ y. block_in x >>= λ _. block_in y) (done index) footer
     (bind_is (stored_at bytes k.footer.metaindex) m.bytes_there (λ x. stored_at bytes k.footer.index >>= λ y. block_in x >>= λ _. block_in y) (done index) m.at
     (bind_is (stored_at bytes k.footer.index) i.bytes_there (λ y. block_in m.bytes_there >>= λ _. block_in y) (done index) i.at
@@ -98,7 +98,7 @@ found cmp total bytes entries fits h =
       whole = whole;
       keys = subst HaveKeys whole (have_keys cmp None (entries_of t.0) tests);
       values = subst (λ (es : List Entry). AllByRecursion (λ e. length e.value ≤ 16777215) es) whole (values_of cmp None (entries_of t.0) tests);
-      rising = subst (IsRising cmp) whole (rising cmp None (entries_of t.0) total tests);
+      rising = subst (EntriesRise cmp) whole (rising cmp None (entries_of t.0) total tests);
     }
 
 only : (cmp : List ℕ → List ℕ → Ordering) (bytes : List ℕ) (entries : List Entry) → IsTable cmp bytes entries → table_reading cmp bytes ≡ Ok entries
@@ -108,9 +108,9 @@ only cmp bytes entries t =
     let tests : entries_test cmp None (entries_of t.blocks) ≡ Ok tt = subst (λ (es : List Entry). entries_test cmp None es ≡ Ok tt) (sym t.whole) (tests_of cmp None entries t.keys t.values tt t.rising) in
     let read : blocks_reading cmp None n.index ≡ Ok t.blocks = blocks_read cmp None n.index t.blocks n.holds tests in
     let inside : data_reading cmp n.index ≡ Ok t.blocks =
-    ap (λ (b : Bool). pass b Empty >>= λ _. blocks_reading cmp None n.index >>= λ bs. pass (index_fits cmp None bs) Index >>= λ _. Ok bs) (some_index n.index t.blocks n.holds t.some)
-    ∙ bind_is (blocks_reading cmp None n.index) t.blocks (λ bs. pass (index_fits cmp None bs) Index >>= λ _. Ok bs) (done t.blocks) read
-    (ap (λ (b : Bool). pass b Index >>= λ _. done t.blocks) (between_fits cmp None t.blocks tt t.between)) in
+    ap (λ (b : Bool). test_result b Empty >>= λ _. blocks_reading cmp None n.index >>= λ bs. test_result (index_fits cmp None bs) Index >>= λ _. Ok bs) (some_index n.index t.blocks n.holds t.some)
+    ∙ bind_is (blocks_reading cmp None n.index) t.blocks (λ bs. test_result (index_fits cmp None bs) Index >>= λ _. Ok bs) (done t.blocks) read
+    (ap (λ (b : Bool). test_result b Index >>= λ _. done t.blocks) (between_fits cmp None t.blocks tt t.between)) in
     let blocks : blocks_of cmp bytes ≡ Ok t.blocks = blocks_by cmp bytes
     ∙ bind_is (index_in bytes) t.index (λ q. index_reading bytes q >>= λ is. data_reading cmp is) (done t.blocks) index
     (bind_is (index_reading bytes t.index) n.index (λ is. data_reading cmp is) (done t.blocks) n.read inside) in

@@ -14,8 +14,8 @@ use Rattle.std.proofs.lemmas.Option.{same_Some, none-some}
 use Rattle.coding.specs.Answers.{◌>>=◌}
 use Rattle.coding.specs.declared.fault.Fault.{Fault}
 use Rattle.coding.proofs.Binds.{done, bind_ok, ok_is}
-use Rattle.block.specs.Piece.{Entry, IsBlock}
-use Rattle.block.specs.Building.{last_key}
+use Rattle.block.specs.EncodedEntry.{Entry, IsBlock}
+use Rattle.block.specs.BuilderView.{last_key}
 use Rattle.ikey.specs.Key.{internal_key_reading, user_of}
 use Rattle.ikey.specs.Order.{internal_cmp}
 use Rattle.ikey.proofs.Ordered.{internal_cmp-total}
@@ -25,12 +25,12 @@ use Rattle.frame.specs.Trailer.{stored_reading}
 use Rattle.block.specs.ReadingBlocks.{block_reading}
 use Rattle.table.specs.ReadingEntries.{first_key, is_above, key_behind, is_some_list, data_test, HaveKeys}
 use Rattle.table.specs.ReadingIndex.{IndexEntry, handle_alone, one_handle, stored_at, block_in, index_entry, index_reading}
-use Rattle.table.specs.Reading.{DataBlock, blocks_reading, is_between, index_fits, entries_of, Contents}
+use Rattle.table.specs.TableContents.{DataBlock, blocks_reading, is_between_index_keys, index_fits, entries_of, Contents}
 use Rattle.table.specs.Checked.{contents_in}
 use Rattle.table.specs.SoundTables.{IsChecked}
-use Rattle.table.specs.ReadingCursors.{IsRising, entries_from}
-use Rattle.table.specs.Seeking.{first_is_below}
-use Rattle.table.specs.Walking.{block_named, entries_named, all_named, NamesBlock, Indexes, IsLeft}
+use Rattle.table.specs.ReadingCursors.{EntriesRise, entries_from}
+use Rattle.table.specs.RestartSearch.{first_is_below}
+use Rattle.table.specs.IndexWalk.{block_named, entries_named, all_named, NamesBlock, Indexes, IsWalkLeft}
 use Rattle.block.proofs.BlockReadings.{both, reads_blocks}
 use Rattle.table.proofs.Searches.{from_place}
 use Rattle.table.proofs.CheckedTables.{read_block, read_data, blocks_are, contents_are, users_of}
@@ -89,7 +89,7 @@ before_within cmp a b k total lt le = of_order (internal_cmp cmp b k) refl le
     of_order Greater e le = absurd cc
 
 -- keys that rise to one that is not above another
-all_within : (cmp : List ℕ → List ℕ → Ordering) (k : List ℕ) (es : List Entry) → IsTotalOrder cmp → IsRising cmp es → is_le (internal_cmp cmp (last_key [] es) k) ≡ true → AllByRecursion (λ e. is_le (internal_cmp cmp e.key k) ≡ true) es
+all_within : (cmp : List ℕ → List ℕ → Ordering) (k : List ℕ) (es : List Entry) → IsTotalOrder cmp → EntriesRise cmp es → is_le (internal_cmp cmp (last_key [] es) k) ≡ true → AllByRecursion (λ e. is_le (internal_cmp cmp e.key k) ≡ true) es
 all_within cmp k [] total rises le = tt
 all_within cmp k (e ∷ []) total rises le = (le, tt)
 all_within cmp k (e ∷ f ∷ es) total rises le =
@@ -113,7 +113,7 @@ names_block cmp bytes before i x q total r block tests last =
       block = r.block ∙ block ∙ ap (λ (es : List Entry). done es) (sym named);
       some = subst (λ (es : List Entry). 0 < length es) (sym named) (some_entries cmp before q tests);
       keys = subst HaveKeys (sym named) (have_keys cmp before q passed);
-      rising = subst (IsRising cmp) (sym named) (rising cmp before q total passed);
+      rising = subst (EntriesRise cmp) (sym named) (rising cmp before q total passed);
       within = subst (AllByRecursion (λ e. is_le (internal_cmp cmp e.key i.key) ≡ true)) (sym named) (all_within cmp i.key q total (rising cmp before q total passed) le);
     }
 
@@ -131,7 +131,7 @@ none_above cmp (Some b) = tt
 record NameAll (cmp : List ℕ → List ℕ → Ordering) (bytes : List ℕ) (below : Option (List ℕ)) (es : List Entry) (blocks : List DataBlock) : Type 0 where
   each : AllByRecursion (NamesBlock cmp bytes) es
   above : AllAbove cmp below es
-  keys_rise : IsRising cmp es
+  keys_rise : EntriesRise cmp es
   whole : all_named bytes es ≡ entries_of blocks
 
 name_all : (cmp : List ℕ → List ℕ → Ordering) (bytes : List ℕ) (before below : Option (List ℕ)) (es : List Entry) (index : List IndexEntry) (blocks : List DataBlock) → IsTotalOrder cmp → index_reading bytes es ≡ Ok index → blocks_reading cmp before index ≡ Ok blocks → index_fits cmp below blocks ≡ true
@@ -144,7 +144,7 @@ name_all cmp bytes before below (e ∷ es) index blocks total h k fits =
     let c = bind_ok (index_reading bytes es) (λ xs. Ok (a.0 ∷ xs)) index a.2 in
     let r = read_block cmp before a.0 c.0 blocks (ap (blocks_reading cmp before) (ok_is (a.0 ∷ c.0) index c.2) ∙ k) in
     let b : DataBlock = record { index_key = a.0.key; entries = r.entries } in
-    let f = both (is_between cmp below b) (index_fits cmp (Some a.0.key) r.others) (subst (λ (bs : List DataBlock). index_fits cmp below bs ≡ true) (sym r.same) fits) in
+    let f = both (is_between_index_keys cmp below b) (index_fits cmp (Some a.0.key) r.others) (subst (λ (bs : List DataBlock). index_fits cmp below bs ≡ true) (sym r.same) fits) in
     let g = both (is_above cmp below (first_key r.entries)) (not (is_gt (internal_cmp cmp (last_key [] r.entries) a.0.key))) f.0 in
     let read = reads bytes e a.0 a.1 in
     let here : entries_named bytes e ≡ r.entries = named_entries bytes e r.entries (read.block ∙ r.block) in
@@ -324,7 +324,7 @@ names_from cmp bytes target (i ∷ is) total h = by_order (internal_cmp cmp i.ke
     by_order Equal e more = (h, refl)
     by_order Greater e more = (h, refl)
 
-pub seek_begins : (cmp : List ℕ → List ℕ → Ordering) (bytes target : List ℕ) (names block index total : List Entry) → IsTotalOrder cmp → IsLeft cmp bytes names block index → block ++ all_named bytes index ≡ total → first_is_below cmp target total ≡ true
+pub seek_begins : (cmp : List ℕ → List ℕ → Ordering) (bytes target : List ℕ) (names block index total : List Entry) → IsTotalOrder cmp → IsWalkLeft cmp bytes names block index → block ++ all_named bytes index ≡ total → first_is_below cmp target total ≡ true
     → Seeks cmp bytes target [] (entries_from cmp target names) (entries_from cmp target total)
 seek_begins cmp bytes target names block index total laws k same below =
     let left : total ≡ drop k.passed (all_named bytes names) = sym same ∙ k.behind in
@@ -374,8 +374,8 @@ seek_ends cmp bytes target block index total k ended = of_block block ended k.re
         ap (all_named bytes) none ∙ sym (ap (λ (q : List Entry). entries_from cmp target (all_named bytes q)) none) ∙ h
     of_block (e ∷ es) ended h = h
 
-pub seek_leaves : (cmp : List ℕ → List ℕ → Ordering) (bytes target : List ℕ) (names old_block old_index block index total : List Entry) → IsLeft cmp bytes names old_block old_index → old_block ++ all_named bytes old_index ≡ total
-    → Seeks cmp bytes target block index (entries_from cmp target total) → (block ≡ [] → index ≡ []) → IsLeft cmp bytes names block index
+pub seek_leaves : (cmp : List ℕ → List ℕ → Ordering) (bytes target : List ℕ) (names old_block old_index block index total : List Entry) → IsWalkLeft cmp bytes names old_block old_index → old_block ++ all_named bytes old_index ≡ total
+    → Seeks cmp bytes target block index (entries_from cmp target total) → (block ≡ [] → index ≡ []) → IsWalkLeft cmp bytes names block index
 seek_leaves cmp bytes target names old_block old_index block index total old same k ended =
     let more = from_drops cmp target total in
     record {
@@ -389,14 +389,14 @@ seek_leaves cmp bytes target names old_block old_index block index total old sam
 
 -- ---- the walk's other facts
 
-drop_rises : (cmp : List ℕ → List ℕ → Ordering) (n : ℕ) (q : List Entry) → IsRising cmp q → IsRising cmp (drop n q)
+drop_rises : (cmp : List ℕ → List ℕ → Ordering) (n : ℕ) (q : List Entry) → EntriesRise cmp q → EntriesRise cmp (drop n q)
 drop_rises cmp zero q h = h
 drop_rises cmp (suc n) [] h = tt
 drop_rises cmp (suc n) (e ∷ q) h = drop_rises cmp n q h.1
 
 -- what is left rises
-pub left_rises : (cmp : List ℕ → List ℕ → Ordering) (bytes : List ℕ) (names block index total : List Entry) → IsLeft cmp bytes names block index → block ++ all_named bytes index ≡ total → IsRising cmp total
-left_rises cmp bytes names block index total k same = subst (IsRising cmp) (sym k.behind ∙ same) (drop_rises cmp k.passed (all_named bytes names) k.all.rising)
+pub left_rises : (cmp : List ℕ → List ℕ → Ordering) (bytes : List ℕ) (names block index total : List Entry) → IsWalkLeft cmp bytes names block index → block ++ all_named bytes index ≡ total → EntriesRise cmp total
+left_rises cmp bytes names block index total k same = subst (EntriesRise cmp) (sym k.behind ∙ same) (drop_rises cmp k.passed (all_named bytes names) k.all.rising)
 
 -- the first of these entries of the index names a data block
 pub first_named : (cmp : List ℕ → List ℕ → Ordering) (bytes : List ℕ) (index : List Entry) (value : List ℕ) → AllByRecursion (NamesBlock cmp bytes) index → option_map (λ e. e.value) (slice_get index 0) ≡ Some value → IsOk (block_named bytes value)
@@ -404,14 +404,14 @@ first_named cmp bytes [] value h first = absurd (none-some value first)
 first_named cmp bytes (i ∷ is) value h first =
     subst (λ (v : List ℕ). IsOk (block_named bytes v)) (same_Some i.value value first) (subst (λ (r : Result (List Entry) Fault). IsOk r) (sym h.0.block) refl)
 
-pub first_data : (cmp : List ℕ → List ℕ → Ordering) (bytes : List ℕ) (index : List Entry) (value : List ℕ) (q : List Entry) → AllByRecursion (NamesBlock cmp bytes) index → option_map (λ e. e.value) (slice_get index 0) ≡ Some value → block_named bytes value ≡ Ok q → HaveKeys q × IsRising cmp q
+pub first_data : (cmp : List ℕ → List ℕ → Ordering) (bytes : List ℕ) (index : List Entry) (value : List ℕ) (q : List Entry) → AllByRecursion (NamesBlock cmp bytes) index → option_map (λ e. e.value) (slice_get index 0) ≡ Some value → block_named bytes value ≡ Ok q → HaveKeys q × EntriesRise cmp q
 first_data cmp bytes [] value q h first named = absurd (none-some value first)
 first_data cmp bytes (i ∷ is) value q h first named =
     let here : entries_named bytes i ≡ q = named_entries bytes i q (ap (block_named bytes) (same_Some i.value value first) ∙ named) in
-    (subst HaveKeys here h.0.keys, subst (IsRising cmp) here h.0.rising)
+    (subst HaveKeys here h.0.keys, subst (EntriesRise cmp) here h.0.rising)
 
 -- an entry is taken off
-left_behind : (cmp : List ℕ → List ℕ → Ordering) (bytes : List ℕ) (names block index : List Entry) → IsLeft cmp bytes names block index → 0 < length block → (drop 1 block ≡ [] → index ≡ []) → IsLeft cmp bytes names (drop 1 block) index
+left_behind : (cmp : List ℕ → List ℕ → Ordering) (bytes : List ℕ) (names block index : List Entry) → IsWalkLeft cmp bytes names block index → 0 < length block → (drop 1 block ≡ [] → index ≡ []) → IsWalkLeft cmp bytes names (drop 1 block) index
 left_behind cmp bytes names [] index k some ended = absurd (omega arith)
 left_behind cmp bytes names (e ∷ es) index k some ended = record {
   all = k.all;
@@ -423,13 +423,13 @@ left_behind cmp bytes names (e ∷ es) index k some ended = record {
 }
 
 -- and none where that is refused
-pub left_advanced : {T E : Type 0} (cmp : List ℕ → List ℕ → Ordering) (bytes : List ℕ) (names block index new : List Entry) (r : Result T E) → IsLeft cmp bytes names block index → 0 < length block → (drop 1 block ≡ [] → index ≡ [])
-    → OnOk r (new ≡ drop 1 block) → OnErr r (new ≡ block) → IsLeft cmp bytes names new index
-left_advanced cmp bytes names block index new (Ok x) k some ended ok err = subst (λ (b : List Entry). IsLeft cmp bytes names b index) (sym ok) (left_behind cmp bytes names block index k some ended)
-left_advanced cmp bytes names block index new (Err e) k some ended ok err = subst (λ (b : List Entry). IsLeft cmp bytes names b index) (sym err) k
+pub left_advanced : {T E : Type 0} (cmp : List ℕ → List ℕ → Ordering) (bytes : List ℕ) (names block index new : List Entry) (r : Result T E) → IsWalkLeft cmp bytes names block index → 0 < length block → (drop 1 block ≡ [] → index ≡ [])
+    → OnOk r (new ≡ drop 1 block) → OnErr r (new ≡ block) → IsWalkLeft cmp bytes names new index
+left_advanced cmp bytes names block index new (Ok x) k some ended ok err = subst (λ (b : List Entry). IsWalkLeft cmp bytes names b index) (sym ok) (left_behind cmp bytes names block index k some ended)
+left_advanced cmp bytes names block index new (Err e) k some ended ok err = subst (λ (b : List Entry). IsWalkLeft cmp bytes names b index) (sym err) k
 
 -- something is left of a block where something is left at all
-pub some_left : (cmp : List ℕ → List ℕ → Ordering) (bytes : List ℕ) (names block index total : List Entry) → IsLeft cmp bytes names block index → block ++ all_named bytes index ≡ total → 0 < length total → 0 < length block
+pub some_left : (cmp : List ℕ → List ℕ → Ordering) (bytes : List ℕ) (names block index total : List Entry) → IsWalkLeft cmp bytes names block index → block ++ all_named bytes index ≡ total → 0 < length total → 0 < length block
 some_left cmp bytes names [] index total k same some =
     let none : all_named bytes index ≡ [] = ap (all_named bytes) (k.ended refl) in
     absurd (omega (arith, ap length none, ap length same))
@@ -441,7 +441,7 @@ not_last b [] last h some none = omega arith
 not_last b (e ∷ es) last h some none = true≢false (sym (last (ap (λ (q : List Entry). suc (length q)) none)) ∙ h)
 
 -- the last entry of a block is taken off, and the next block is entered
-pub left_enters : (cmp : List ℕ → List ℕ → Ordering) (bytes : List ℕ) (names block index : List Entry) (value : List ℕ) (q : List Entry) → IsLeft cmp bytes names block index → length block ≡ 1 → option_map (λ e. e.value) (slice_get index 0) ≡ Some value → block_named bytes value ≡ Ok q → IsLeft cmp bytes names q (drop 1 index)
+pub left_enters : (cmp : List ℕ → List ℕ → Ordering) (bytes : List ℕ) (names block index : List Entry) (value : List ℕ) (q : List Entry) → IsWalkLeft cmp bytes names block index → length block ≡ 1 → option_map (λ e. e.value) (slice_get index 0) ≡ Some value → block_named bytes value ≡ Ok q → IsWalkLeft cmp bytes names q (drop 1 index)
 left_enters cmp bytes names block [] value q k one first named = absurd (none-some value first)
 left_enters cmp bytes names [] (i ∷ is) value q k one first named = absurd (omega (arith, one))
 left_enters cmp bytes names (e ∷ f ∷ es) (i ∷ is) value q k one first named = absurd (omega (arith, one))
@@ -457,12 +457,12 @@ left_enters cmp bytes names (e ∷ []) (i ∷ is) value q k one first named =
     }
 
 -- all of a table is left
-pub left_all : (cmp : List ℕ → List ℕ → Ordering) (bytes : List ℕ) (names entries : List Entry) (value : List ℕ) (q : List Entry) → Indexes cmp bytes names entries → option_map (λ e. e.value) (slice_get names 0) ≡ Some value → block_named bytes value ≡ Ok q → IsLeft cmp bytes names q (drop 1 names)
+pub left_all : (cmp : List ℕ → List ℕ → Ordering) (bytes : List ℕ) (names entries : List Entry) (value : List ℕ) (q : List Entry) → Indexes cmp bytes names entries → option_map (λ e. e.value) (slice_get names 0) ≡ Some value → block_named bytes value ≡ Ok q → IsWalkLeft cmp bytes names q (drop 1 names)
 left_all cmp bytes [] entries value q x first h = absurd (none-some value first)
 left_all cmp bytes (i ∷ is) entries value q x first h =
     let here : entries_named bytes i ≡ q = named_entries bytes i q (ap (block_named bytes) (same_Some i.value value first) ∙ h) in
     record {
-      all = record { some = x.some; named = x.named; keys_rise = x.keys_rise; whole = refl; rising = subst (IsRising cmp) (sym x.whole) x.rising };
+      all = record { some = x.some; named = x.named; keys_rise = x.keys_rise; whole = refl; rising = subst (EntriesRise cmp) (sym x.whole) x.rising };
       keys = subst HaveKeys here x.named.0.keys;
       named = x.named.1;
       passed = 0;

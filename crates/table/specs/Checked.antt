@@ -2,7 +2,7 @@
 use Rattle.std.specs.Prelude.{ℕ, List, []}
 use Rattle.std.specs.Result.{result_unwrap_or}
 use Rattle.std.specs.declared.cmp.Ordering.{Ordering}
-use Rattle.table.specs.Reading.{Contents, contents_of, contents_reading}
+use Rattle.table.specs.TableContents.{Contents, contents_of, contents_reading}
 
 -- what bytes hold as a table; if they are invalid, the bytes without an entry
 abbrev pub contents_in : (List ℕ → List ℕ → Ordering) → List ℕ → Contents

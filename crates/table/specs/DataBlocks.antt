@@ -2,8 +2,8 @@
 -- its bytes reach the block size; the last one may stay below it.
 use Rattle.std.specs.Prelude.{◌≡◌, ◌≢◌, ℕ, ◌+◌, ◌<◌, nat_le, Bool, true, false, if◌then◌else◌, List, [], ◌∷◌, ◌++◌, length, take, ◌⊎◌, ◌↔◌}
 use Rattle.std.specs.List.{sum_by}
-use Rattle.block.specs.Piece.{Entry}
-use Rattle.block.specs.Writing.{block}
+use Rattle.block.specs.EncodedEntry.{Entry}
+use Rattle.block.specs.BlockFormat.{block}
 use Rattle.table.specs.declared.options.Options.{Options}
 
 -- whether there is an entry, and the block of the entries has reached the block size

@@ -3,11 +3,11 @@ use Rattle.std.specs.Prelude.{ℕ, List, [], Option, Result, Ok}
 use Rattle.std.specs.declared.cmp.Ordering.{Ordering}
 use Rattle.coding.specs.Answers.{◌>>=◌}
 use Rattle.coding.specs.declared.fault.Fault.{Fault}
-use Rattle.block.specs.Piece.{Entry}
-use Rattle.block.specs.Building.{last_key}
+use Rattle.block.specs.EncodedEntry.{Entry}
+use Rattle.block.specs.BuilderView.{last_key}
 use Rattle.table.specs.ReadingEntries.{first_key, data_test}
 use Rattle.table.specs.ReadingIndex.{block_in}
-use Rattle.table.specs.Reading.{DataBlock, entries_of}
+use Rattle.table.specs.TableContents.{DataBlock, entries_of}
 
 -- the first and the last key of entries
 pub record Ends : Type 0 where

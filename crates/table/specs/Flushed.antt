@@ -1,15 +1,15 @@
 -- The data blocks that were flushed, and their index entries.
 use Rattle.std.specs.Prelude.{ℕ, ◌+◌, List, [], ◌∷◌, map, length}
-use Rattle.block.specs.Piece.{Entry}
-use Rattle.block.specs.Writing.{block}
-use Rattle.block.specs.Building.{last_key}
+use Rattle.block.specs.EncodedEntry.{Entry}
+use Rattle.block.specs.BlockFormat.{block}
+use Rattle.block.specs.BuilderView.{last_key}
 use Rattle.table.specs.declared.flushed_block.FlushedBlock.{FlushedBlock}
 use Rattle.table.specs.Table.{IndexKeys, handle_entry}
 use Rattle.table.specs.ReadingEntries.{first_key}
 
 -- what the index has of a block at this offset and of this size
-abbrev pub entry_at : List ℕ → ℕ → ℕ → FlushedBlock
-entry_at key offset size = record { key = key; handle = record { offset = offset; size = size } }
+abbrev pub flushed_block_at : List ℕ → ℕ → ℕ → FlushedBlock
+flushed_block_at key offset size = record { key = key; handle = record { offset = offset; size = size } }
 
 -- the index entries as they are written
 abbrev pub index_entries : List FlushedBlock → List Entry
@@ -25,5 +25,5 @@ next_key (p ∷ ps) behind = first_key p
 abbrev pub index_before : IndexKeys → ℕ → ℕ → List (List Entry) → List ℕ → List FlushedBlock
 index_before keys interval at [] behind = []
 index_before keys interval at (p ∷ ps) behind =
-    entry_at (keys.between (last_key [] p) (next_key ps behind)) at (length (block interval p))
+    flushed_block_at (keys.between (last_key [] p) (next_key ps behind)) at (length (block interval p))
     ∷ index_before keys interval (at + length (block interval p) + 5) ps behind

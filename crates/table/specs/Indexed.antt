@@ -8,5 +8,5 @@ abbrev pub index_entry_of : IndexedBlock → IndexEntry
 index_entry_of p = record { key = p.key; stored = p.stored.now }
 
 -- the index entries, as contracts see them
-abbrev pub index_of : List IndexedBlock → List IndexEntry
-index_of ps = map index_entry_of ps
+abbrev pub index_entries_of : List IndexedBlock → List IndexEntry
+index_entries_of ps = map index_entry_of ps

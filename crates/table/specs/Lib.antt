@@ -2,11 +2,11 @@
 pub mod Options
 pub mod DataBlocks
 pub mod Table
-pub mod Building
+pub mod BuilderView
 pub mod ReadingSteps
 pub mod ReadingEntries
 pub mod ReadingIndex
-pub mod Reading
+pub mod TableContents
 pub mod ReadingTables
 pub mod ReadingBack
 pub mod ReadingCursors
@@ -14,9 +14,9 @@ pub mod Checked
 -- serves proofs alone
 pub mod KeyLists
 pub mod Flushed
-pub mod Kept
+pub mod BuilderState
 pub mod Indexed
 pub mod Ends
 pub mod SoundTables
-pub mod Walking
-pub mod Seeking
+pub mod IndexWalk
+pub mod RestartSearch

@@ -4,13 +4,13 @@ use Rattle.std.specs.List.{AllByRecursion}
 use Rattle.std.specs.Ordering.{is_le, is_lt}
 use Rattle.std.specs.declared.cmp.Ordering.{Ordering}
 use Rattle.std.specs.declared.cmp.Ordering.TheVariants.{Less}
-use Rattle.block.specs.Piece.{Entry}
+use Rattle.block.specs.EncodedEntry.{Entry}
 use Rattle.ikey.specs.Order.{internal_cmp}
 
 -- each entry's internal key is below those of all later ones
-abbrev pub IsRising : (List ℕ → List ℕ → Ordering) → List Entry → Type 0
-IsRising cmp [] = Unit {0}
-IsRising cmp (e ∷ es) = AllByRecursion (λ f. internal_cmp cmp e.key f.key ≡ Less) es × IsRising cmp es
+abbrev pub EntriesRise : (List ℕ → List ℕ → Ordering) → List Entry → Type 0
+EntriesRise cmp [] = Unit {0}
+EntriesRise cmp (e ∷ es) = AllByRecursion (λ f. internal_cmp cmp e.key f.key ≡ Less) es × EntriesRise cmp es
 
 -- each entry's internal key is at or below those of all later ones
 abbrev pub NeverFalls : (List ℕ → List ℕ → Ordering) → List Entry → Type 0

@@ -6,11 +6,11 @@ use Rattle.std.specs.declared.cmp.Ordering.{Ordering}
 use Rattle.coding.specs.Answers.{◌>>=◌}
 use Rattle.coding.specs.declared.fault.Fault.{Fault}
 use Rattle.coding.specs.declared.fault.FaultName.TheVariants.{TooLarge, Order, Empty}
-use Rattle.block.specs.Piece.{Entry}
-use Rattle.block.specs.Building.{last_key}
+use Rattle.block.specs.EncodedEntry.{Entry}
+use Rattle.block.specs.BuilderView.{last_key}
 use Rattle.ikey.specs.Key.{internal_key_reading}
 use Rattle.ikey.specs.Order.{internal_cmp}
-use Rattle.table.specs.ReadingSteps.{pass}
+use Rattle.table.specs.ReadingSteps.{test_result}
 
 -- the key of the first entry
 abbrev pub first_key : List Entry → List ℕ
@@ -33,8 +33,8 @@ is_above cmp (Some before) key = is_lt (internal_cmp cmp before key)
 abbrev pub entry_test : (List ℕ → List ℕ → Ordering) → Option (List ℕ) → Entry → Result (Unit {0}) Fault
 entry_test cmp before e = do
   _ ← internal_key_reading e.key
-  _ ← pass (nat_le (length e.value) 16777215) TooLarge
-  pass (is_above cmp before e.key) Order
+  _ ← test_result (nat_le (length e.value) 16777215) TooLarge
+  test_result (is_above cmp before e.key) Order
 
 -- each entry passes its tests after the one before it, the first after the key `before`
 abbrev pub entries_test : (List ℕ → List ℕ → Ordering) → Option (List ℕ) → List Entry → Result (Unit {0}) Fault
@@ -52,7 +52,7 @@ is_some_list (x ∷ xs) = true
 -- tests
 abbrev pub data_test : (List ℕ → List ℕ → Ordering) → Option (List ℕ) → List Entry → Result (Unit {0}) Fault
 data_test cmp before entries = do
-  _ ← pass (is_some_list entries) Empty
+  _ ← test_result (is_some_list entries) Empty
   entries_test cmp before entries
 
 -- each key is an internal key

@@ -5,5 +5,5 @@ use Rattle.coding.specs.declared.fault.Fault.{Fault}
 use Rattle.coding.specs.declared.fault.FaultName.{FaultName}
 
 -- a test, which is refused by this name if it fails
-abbrev pub pass : Bool → FaultName → Result (Unit {0}) Fault
-pass holds name = if holds then Ok tt else Err (fault name)
+abbrev pub test_result : Bool → FaultName → Result (Unit {0}) Fault
+test_result holds name = if holds then Ok tt else Err (fault name)

@@ -4,25 +4,25 @@ use Rattle.std.specs.Prelude.{◌≡◌, ◌≢◌, ℕ, ◌<◌, ◌≤◌, ◌
 use Rattle.std.specs.List.{AllByRecursion}
 use Rattle.std.specs.declared.cmp.Ordering.{Ordering}
 use Rattle.std.specs.declared.cmp.Ordering.TheVariants.{Less, Greater}
-use Rattle.block.specs.Piece.{Entry, IsBlock}
-use Rattle.block.specs.Building.{last_key}
+use Rattle.block.specs.EncodedEntry.{Entry, IsBlock}
+use Rattle.block.specs.BuilderView.{last_key}
 use Rattle.ikey.specs.Key.{internal_key_reading}
 use Rattle.ikey.specs.Order.{internal_cmp}
 use Rattle.frame.specs.declared.handle.BlockHandle.{BlockHandle}
 use Rattle.frame.specs.declared.footer.Footer.{Footer}
 use Rattle.frame.specs.Handle.{handle_bytes}
-use Rattle.frame.specs.Trailer.{stored}
+use Rattle.frame.specs.Trailer.{stored_block}
 use Rattle.frame.specs.Footer.{handles_bytes, magic}
 use Rattle.table.specs.ReadingEntries.{first_key, HaveKeys}
-use Rattle.table.specs.ReadingCursors.{IsRising}
-use Rattle.table.specs.Reading.{DataBlock, entries_of, table_reading}
+use Rattle.table.specs.ReadingCursors.{EntriesRise}
+use Rattle.table.specs.TableContents.{DataBlock, entries_of, table_reading}
 
 -- a block of these entries is stored where the handle says, before the 48 bytes of a footer
-pub record StandsAt (bytes : List ℕ) (handle : BlockHandle) (entries : List Entry) : Type 0 where
+pub record IsStoredAt (bytes : List ℕ) (handle : BlockHandle) (entries : List Entry) : Type 0 where
   pub before : List ℕ
   pub contents : List ℕ
   pub behind : List ℕ
-  pub whole : bytes ≡ before ++ (stored contents ++ behind)
+  pub whole : bytes ≡ before ++ (stored_block contents ++ behind)
   pub offset : length before ≡ handle.offset
   pub size : length contents ≡ handle.size
   pub footer : 48 ≤ length behind
@@ -42,7 +42,7 @@ pub record IsNamed (bytes : List ℕ) (e : Entry) (b : DataBlock) : Type 0 where
   pub key : e.key ≡ b.index_key
   pub is_key : internal_key_reading e.key ≡ Ok e.key
   pub value : e.value ≡ handle_bytes handle.offset handle.size
-  pub block : StandsAt bytes handle b.entries
+  pub block : IsStoredAt bytes handle b.entries
   pub some : 0 < length b.entries
 
 -- the entries of the index name these blocks, one each
@@ -52,14 +52,14 @@ AreNamed bytes (e ∷ es) (b ∷ bs) = IsNamed bytes e b × AreNamed bytes es bs
 AreNamed bytes _ _ = ⊥
 
 -- a key of the index is below the first key of the next block, if there is one
-abbrev pub IsBelowNext : (List ℕ → List ℕ → Ordering) → List ℕ → List DataBlock → Type 0
-IsBelowNext cmp key [] = Unit {0}
-IsBelowNext cmp key (b ∷ bs) = internal_cmp cmp key (first_key b.entries) ≡ Less
+abbrev pub IsBelowNextBlock : (List ℕ → List ℕ → Ordering) → List ℕ → List DataBlock → Type 0
+IsBelowNextBlock cmp key [] = Unit {0}
+IsBelowNextBlock cmp key (b ∷ bs) = internal_cmp cmp key (first_key b.entries) ≡ Less
 
 -- each key of the index is at or above its block's last key, and below the next block's first key
 abbrev pub AreBetween : (List ℕ → List ℕ → Ordering) → List DataBlock → Type 0
 AreBetween cmp [] = Unit {0}
-AreBetween cmp (b ∷ bs) = (internal_cmp cmp (last_key [] b.entries) b.index_key ≢ Greater) × IsBelowNext cmp b.index_key bs × AreBetween cmp bs
+AreBetween cmp (b ∷ bs) = (internal_cmp cmp (last_key [] b.entries) b.index_key ≢ Greater) × IsBelowNextBlock cmp b.index_key bs × AreBetween cmp bs
 
 -- The bytes are a table of these entries. The metaindex is a block of any entries.
 pub record IsTable (cmp : List ℕ → List ℕ → Ordering) (bytes : List ℕ) (entries : List Entry) : Type 0 where
@@ -69,15 +69,15 @@ pub record IsTable (cmp : List ℕ → List ℕ → Ordering) (bytes : List ℕ)
   pub blocks : List DataBlock
   pub small : length bytes ≤ 2 ^ 30
   pub ends : EndsWith bytes footer
-  pub metaindex_block : StandsAt bytes footer.metaindex ignored
-  pub index_block : StandsAt bytes footer.index index
+  pub metaindex_block : IsStoredAt bytes footer.metaindex ignored
+  pub index_block : IsStoredAt bytes footer.index index
   pub named : AreNamed bytes index blocks
   pub some : 0 < length blocks
   pub between : AreBetween cmp blocks
   pub whole : entries_of blocks ≡ entries
   pub keys : HaveKeys entries
   pub values : AllByRecursion (λ e. length e.value ≤ 16777215) entries
-  pub rising : IsRising cmp entries
+  pub rising : EntriesRise cmp entries
 
 -- each number is a byte
 abbrev pub AreBytes : List ℕ → Type 0

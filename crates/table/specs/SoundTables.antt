@@ -1,11 +1,11 @@
 -- What is kept of a table that was checked.
 use Rattle.std.specs.Prelude.{◌≡◌, ℕ, List, [], Ok}
 use Rattle.std.specs.declared.cmp.Ordering.{Ordering}
-use Rattle.block.specs.Piece.{Entry}
-use Rattle.block.specs.Building.{last_key}
+use Rattle.block.specs.EncodedEntry.{Entry}
+use Rattle.block.specs.BuilderView.{last_key}
 use Rattle.table.specs.ReadingEntries.{first_key}
 use Rattle.table.specs.ReadingIndex.{IndexEntry, index_reading}
-use Rattle.table.specs.Reading.{DataBlock, index_in, data_reading, entries_of}
+use Rattle.table.specs.TableContents.{DataBlock, index_in, data_reading, entries_of}
 
 -- The bytes have an index block of these entries, and data blocks that begin with the first of
 -- these keys and end with the second.

@@ -7,11 +7,11 @@ use Rattle.coding.specs.Answers.{fault}
 use Rattle.coding.specs.declared.fault.Fault.{Fault}
 use Rattle.coding.specs.declared.fault.FaultName.TheVariants.{TooLarge}
 use Rattle.ikey.specs.Short.{internal_separator_of, internal_successor_of}
-use Rattle.block.specs.Piece.{Entry}
-use Rattle.block.specs.Writing.{block}
-use Rattle.block.specs.Building.{last_key}
+use Rattle.block.specs.EncodedEntry.{Entry}
+use Rattle.block.specs.BlockFormat.{block}
+use Rattle.block.specs.BuilderView.{last_key}
 use Rattle.frame.specs.Handle.{handle_bytes}
-use Rattle.frame.specs.Trailer.{stored}
+use Rattle.frame.specs.Trailer.{stored_block}
 use Rattle.frame.specs.Footer.{footer_bytes}
 use Rattle.frame.specs.declared.footer.Footer.{Footer}
 use Rattle.table.specs.declared.options.Options.{Options}
@@ -48,7 +48,7 @@ index_from keys interval at (p ∷ ps) =
 
 -- data blocks, each with its trailer
 abbrev pub stored_blocks : ℕ → List (List Entry) → List ℕ
-stored_blocks interval parts = flat_map (λ p. stored (block interval p)) parts
+stored_blocks interval parts = flat_map (λ p. stored_block (block interval p)) parts
 
 -- the metaindex: the block without entries
 abbrev pub metaindex : List ℕ
@@ -62,18 +62,18 @@ footer_at at size = record {
 }
 
 -- what comes after the data blocks: the metaindex, the index and the footer
-unfoldable pub closing : ℕ → List Entry → List ℕ
-closing at index = stored metaindex ++ (stored (block 1 index) ++ footer_bytes (footer_at at (length (block 1 index))))
+unfoldable pub closing_bytes : ℕ → List Entry → List ℕ
+closing_bytes at index = stored_block metaindex ++ (stored_block (block 1 index) ++ footer_bytes (footer_at at (length (block 1 index))))
 
 -- the table of these data blocks
-abbrev pub table_of : IndexKeys → ℕ → List (List Entry) → List ℕ
-table_of keys interval parts =
-    stored_blocks interval parts ++ closing (length (stored_blocks interval parts)) (index_from keys interval 0 parts)
+abbrev pub table_of_blocks : IndexKeys → ℕ → List (List Entry) → List ℕ
+table_of_blocks keys interval parts =
+    stored_blocks interval parts ++ closing_bytes (length (stored_blocks interval parts)) (index_from keys interval 0 parts)
 
 -- the table of a list
 unfoldable pub table : (List ℕ → List ℕ → Ordering) → (List ℕ → List ℕ → List ℕ) → (List ℕ → List ℕ) → Options → List Entry → List ℕ
 table cmp separator_of successor_of o q =
-    table_of (index_keys cmp separator_of successor_of) o.restart_interval (data_blocks o q)
+    table_of_blocks (index_keys cmp separator_of successor_of) o.restart_interval (data_blocks o q)
 
 -- the bytes; TooLarge if they are more than 2 ^ 30
 abbrev pub within_limit : List ℕ → Result (List ℕ) Fault

@@ -3,7 +3,7 @@
 ghost use Rattle.std.specs.Prelude.{◌≡◌, ◌≤◌, ◌<◌, ◌^◌, ◌↔◌, [], length, IsTrue, OnOk, OnErr, IfErr};
 ghost use Rattle.coding.specs.Answers.{EqualOrMemory, fault};
 ghost use Rattle.coding.specs.declared.fault.FaultName.TheVariants.{Memory};
-ghost use Rattle.block.specs.Building.{with_entry};
+ghost use Rattle.block.specs.BuilderView.{with_entry};
 ghost use Rattle.table.specs.Options.{AreInLimits};
 ghost use Rattle.table.specs.DataBlocks.{flushed, is_full};
 ghost use Rattle.table.specs.Table.{table, within_limit};
@@ -37,8 +37,8 @@ pub struct TableBuilder<C: Comparator> {
 
 impl<C: Comparator> Model for TableBuilder<C> {
     ghost use Rattle.table.specs.Table.{index_keys};
-    ghost use Rattle.table.specs.Building.{TableBuilding};
-    ghost use Rattle.table.specs.Kept.{entries_so_far, IsKept, IsSpare};
+    ghost use Rattle.table.specs.BuilderView.{TableBuilding};
+    ghost use Rattle.table.specs.BuilderState.{entries_so_far, IsAnyTableBuilder, IsSpare};
 
     ghost Value = { TableBuilding };
 
@@ -48,12 +48,12 @@ impl<C: Comparator> Model for TableBuilder<C> {
     } };
 
     ghost invariant = { λ b.
-        IsKept (index_keys C.cmp C.separator_of C.successor_of) b.options b.flushed.bytes.items b.flushed.index.items b.block
+        IsAnyTableBuilder (index_keys C.cmp C.separator_of C.successor_of) b.options b.flushed.bytes.items b.flushed.index.items b.block
         × IsSpare b.options b.next };
 }
 
 impl<C: Comparator> TableBuilder<C> {
-    ghost use Rattle.table.specs.Building.{IsAboveLast};
+    ghost use Rattle.table.specs.BuilderView.{IsAboveLast};
 
     /// A table without entries. Takes no memory.
     pub fn new(alloc: Global, options: Options) -> TableBuilder<C>

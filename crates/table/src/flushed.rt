@@ -4,14 +4,14 @@ ghost use Rattle.std.specs.Prelude.{◌≡◌, ◌≤◌, ◌<◌, ◌^◌, ◌+
 ghost use Rattle.std.specs.Prelude.{OnOk, OnErr, IsOkUnless, Ok};
 ghost use Rattle.coding.specs.Answers.{EqualOrMemory, UnlessMemory, fault};
 ghost use Rattle.coding.specs.declared.fault.FaultName.TheVariants.{Memory, TooLarge};
-ghost use Rattle.block.specs.Writing.{block};
-ghost use Rattle.frame.specs.Trailer.{stored};
-ghost use Rattle.table.specs.Flushed.{entry_at, index_entries};
-ghost use Rattle.table.specs.Table.{closing, within_limit};
+ghost use Rattle.block.specs.BlockFormat.{block};
+ghost use Rattle.frame.specs.Trailer.{stored_block};
+ghost use Rattle.table.specs.Flushed.{flushed_block_at, index_entries};
+ghost use Rattle.table.specs.Table.{closing_bytes, within_limit};
 
-use crate::checking::MAX_TABLE_LEN;
 use crate::flushed_block::FlushedBlock;
 use crate::layout::{push_closing, push_index_entry, push_stored};
+use crate::table_check::MAX_TABLE_LEN;
 use block::BlockBuilder;
 use coding::{Fault, FaultName};
 use frame::{FOOTER_LEN, TRAILER_LEN};
@@ -39,12 +39,12 @@ impl Flushed {
     /// The only fault is Memory, which leaves the blocks unchanged.
     pub fn push(&mut self, key: KeyBuf, builder: &BlockBuilder, file_size: u64) -> Result<(), Fault>
         ensures bytes { OnOk result
-            (self.new.bytes.items ≡ self.old.bytes.items ++ stored
+            (self.new.bytes.items ≡ self.old.bytes.items ++ stored_block
             (block builder.now.interval builder.now.entries)) }
         ensures index { OnOk result
             (self.new.index.items
             ≡ self.old.index.items
-            ++ entry_at key (length self.old.bytes.items) (length
+            ++ flushed_block_at key (length self.old.bytes.items) (length
             (block builder.now.interval builder.now.entries)) ∷ []) }
         ensures bytes_stay { OnErr result (self.new.bytes.items ≡ self.old.bytes.items) }
         ensures index_stays { OnErr result (self.new.index.items ≡ self.old.index.items) }
@@ -67,7 +67,7 @@ impl Flushed {
     pub fn finish(self, alloc: Global) -> Result<Vec<u8>, Fault>
         ensures { EqualOrMemory (λ v. v.items) result
             (within_limit (self.bytes.items
-            ++ closing (length self.bytes.items) (index_entries self.index.items))) }
+            ++ closing_bytes (length self.bytes.items) (index_entries self.index.items))) }
     {
         let Flushed { mut bytes, index } = self;
         let index = index_block(alloc, &index)?;

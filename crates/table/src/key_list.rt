@@ -2,7 +2,7 @@
 
 ghost use Rattle.std.specs.Prelude.{◌≡◌, ◌+◌, ◌<◌, ◌↔◌, [], ◌∷◌, ◌++◌, length, slice_index_or, IsTrue, OnOk, OnErr, IsOkUnless};
 ghost use Rattle.coding.specs.Answers.{fault};
-ghost use Rattle.table.specs.KeyLists.{cut_at, AreEnds, start_of};
+ghost use Rattle.table.specs.KeyLists.{cut_at, AreKeyEnds, start_of};
 ghost use Rattle.coding.specs.declared.fault.FaultName.TheVariants.{Memory};
 
 use coding::Fault;
@@ -21,13 +21,13 @@ pub struct KeyList {
 
 impl Model for KeyList {
     ghost use Rattle.std.specs.Prelude.{ℕ, List};
-    ghost use Rattle.table.specs.KeyLists.{cut_at, AreEnds};
+    ghost use Rattle.table.specs.KeyLists.{cut_at, AreKeyEnds};
 
     ghost Value = { List (List ℕ) };
 
     ghost view = { λ k. cut_at 0 k.ends.items k.bytes.items };
 
-    ghost invariant = { λ k. AreEnds 0 k.ends.items k.bytes.items };
+    ghost invariant = { λ k. AreKeyEnds 0 k.ends.items k.bytes.items };
 }
 
 impl KeyList {
@@ -76,7 +76,7 @@ impl KeyList {
 
 /// The key at `place`, if `bytes` are cut at `ends`.
 fn cut<'k>(bytes: &'k [u8], ends: &[usize], place: usize) -> &'k [u8]
-    requires ends { AreEnds 0 ends.now bytes.now }
+    requires ends { AreKeyEnds 0 ends.now bytes.now }
     requires inside { place < length ends.now }
     ensures { result.now ≡ slice_index_or (cut_at 0 ends.now bytes.now) place [] }
 {

@@ -31,9 +31,9 @@ ghost use Rattle.std.specs.Prelude.{◌≡◌, ◌≤◌, ◌^◌, ◌++◌, ◌
 ghost use Rattle.std.specs.Prelude.{OnOk, OnErr, IsOkUnless};
 ghost use Rattle.coding.specs.Answers.{fault};
 ghost use Rattle.coding.specs.declared.fault.FaultName.TheVariants.{Memory};
-ghost use Rattle.block.specs.Writing.{block};
-ghost use Rattle.frame.specs.Trailer.{stored};
-ghost use Rattle.table.specs.Table.{closing, handle_entry};
+ghost use Rattle.block.specs.BlockFormat.{block};
+ghost use Rattle.frame.specs.Trailer.{stored_block};
+ghost use Rattle.table.specs.Table.{closing_bytes, handle_entry};
 
 use block::BlockBuilder;
 use coding::Fault;
@@ -45,7 +45,7 @@ use std::alloc::Global;
 /// The only fault is Memory, which leaves `out` unchanged.
 pub fn push_stored(out: &mut Vec<u8>, builder: &BlockBuilder) -> Result<BlockHandle, Fault>
     ensures ok { OnOk result (out.new.items
-        ≡ out.old.items ++ stored (block builder.now.interval builder.now.entries)) }
+        ≡ out.old.items ++ stored_block (block builder.now.interval builder.now.entries)) }
     ensures handle { IfOk result (λ h. h ≡ record {
       offset = length out.old.items;
       size = length (block builder.now.interval builder.now.entries);
@@ -98,7 +98,7 @@ pub fn push_index_entry(
 pub fn push_closing(alloc: Global, out: &mut Vec<u8>, index: &BlockBuilder) -> Result<(), Fault>
     requires { index.now.interval ≡ 1 }
     ensures ok { OnOk result (out.new.items
-        ≡ out.old.items ++ closing (length out.old.items) index.now.entries) }
+        ≡ out.old.items ++ closing_bytes (length out.old.items) index.now.entries) }
     ensures err { OnErr result (take (length out.old.items) out.new.items ≡ out.old.items) }
     ensures memory { IsOkUnless result (fault Memory) }
 {

@@ -12,27 +12,27 @@
 //! No contract says how much of a table a seek reads, or how much memory a cursor takes.
 #![tactic(auto)]
 
+mod block_walk;
 mod builder;
-mod checking;
 mod cursor;
 mod flushed;
 mod flushed_block;
 mod indexed_block;
 mod key_list;
-mod laws;
 mod layout;
-mod naming;
+mod named_block;
 mod options;
 mod sound_table;
+mod table_check;
 mod table_cursor;
-mod walking;
+mod table_laws;
 
 pub use builder::TableBuilder;
-pub use checking::{MAX_TABLE_LEN, MAX_VALUE_LEN, check, reads_tables};
 pub use cursor::{Cursor, Entries};
 pub use key_list::KeyList;
-pub use laws::{data_blocks_law, table_reads_back};
 pub use layout::{push_closing, push_index_entry, push_stored};
 pub use options::Options;
 pub use sound_table::SoundTable;
+pub use table_check::{MAX_TABLE_LEN, MAX_VALUE_LEN, check, reads_tables};
 pub use table_cursor::TableCursor;
+pub use table_laws::{data_blocks_law, table_reads_back};

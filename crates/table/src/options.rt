@@ -2,7 +2,7 @@
 
 ghost use Rattle.std.specs.Prelude.{◌≡◌, ◌↔◌, IsTrue};
 
-use crate::checking::MAX_TABLE_LEN;
+use crate::table_check::MAX_TABLE_LEN;
 
 /// The options of a writer of tables. Each has its limits.
 #[derive(Clone, Copy, Debug, PartialEq, Eq)]

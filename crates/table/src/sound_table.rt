@@ -3,10 +3,10 @@
 ghost use Rattle.std.specs.Prelude.{◌≡◌, ◌-◌, map, Ok, Some, slice_get, length};
 ghost use Rattle.std.specs.Option.{option_map};
 ghost use Rattle.coding.specs.Answers.{EqualOrMemory};
-ghost use Rattle.table.specs.Reading.{contents_reading};
+ghost use Rattle.table.specs.TableContents.{contents_reading};
 
+use crate::block_walk::first_key;
 use crate::key_list::KeyList;
-use crate::walking::first_key;
 use block::{BlockCursor, SoundBlock};
 use coding::Fault;
 use ikey::{Comparator, InternalKey, KeyBuf};
@@ -27,7 +27,7 @@ pub struct SoundTable<'a, C: Comparator> {
 
 impl<'a, C: Comparator> Model for SoundTable<'a, C> {
     ghost use Rattle.table.specs.Checked.{contents_in};
-    ghost use Rattle.table.specs.Reading.{Contents};
+    ghost use Rattle.table.specs.TableContents.{Contents};
     ghost use Rattle.table.specs.SoundTables.{IsChecked};
 
     ghost Value = { Contents };
@@ -39,7 +39,7 @@ impl<'a, C: Comparator> Model for SoundTable<'a, C> {
 
 impl<'a, C: Comparator> SoundTable<'a, C> {
     ghost use Rattle.table.specs.SoundTables.{IsChecked};
-    ghost use Rattle.table.specs.Walking.{Indexes};
+    ghost use Rattle.table.specs.IndexWalk.{Indexes};
 
     /// The bytes of the table, which read as what contracts see of it.
     pub fn bytes(&self) -> &'a [u8]

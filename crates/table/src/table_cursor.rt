@@ -4,13 +4,13 @@ ghost use Rattle.std.specs.Prelude.{◌≡◌, ◌<◌, ◌↔◌, List, true, l
 ghost use Rattle.std.specs.Option.{option_map};
 ghost use Rattle.coding.specs.Answers.{EqualOrMemory, fault};
 ghost use Rattle.coding.specs.declared.fault.FaultName.TheVariants.{Memory};
-ghost use Rattle.table.specs.ReadingCursors.{IsRising, NeverFalls, entries_from, LeavesFrom};
-ghost use Rattle.table.specs.Seeking.{first_is_below};
+ghost use Rattle.table.specs.ReadingCursors.{EntriesRise, NeverFalls, entries_from, LeavesFrom};
+ghost use Rattle.table.specs.RestartSearch.{first_is_below};
 
+use crate::block_walk::{entries_from, first_key, is_below};
 use crate::cursor::{Cursor, Entries};
-use crate::naming::block_named;
+use crate::named_block::block_named;
 use crate::sound_table::SoundTable;
-use crate::walking::{entries_from, first_key, is_below};
 use block::{BlockCursor, SoundBlock};
 use coding::Fault;
 use ikey::{Comparator, InternalKey};
@@ -36,14 +36,14 @@ pub struct TableCursor<'a, C: Comparator> {
 
 impl<'a, C: Comparator> Model for TableCursor<'a, C> {
     ghost use Rattle.std.specs.Prelude.{List, ◌++◌};
-    ghost use Rattle.block.specs.Piece.{Entry};
-    ghost use Rattle.table.specs.Walking.{all_named, IsLeft};
+    ghost use Rattle.block.specs.EncodedEntry.{Entry};
+    ghost use Rattle.table.specs.IndexWalk.{all_named, IsWalkLeft};
 
     ghost Value = { List Entry };
 
     ghost view = { λ t. t.block ++ all_named t.bytes.now t.index };
 
-    ghost invariant = { λ t. IsLeft C.cmp t.bytes.now t.index_block.entries t.block t.index };
+    ghost invariant = { λ t. IsWalkLeft C.cmp t.bytes.now t.index_block.entries t.block t.index };
 }
 
 impl<'a, C: Comparator> TableCursor<'a, C> {
@@ -102,7 +102,7 @@ impl<'a, C: Comparator> Cursor<'a, C> for TableCursor<'a, C> {
     fn valid(&self) -> bool
         ensures some { IsTrue result ↔ (0 < length self.now) }
         ensures ordered { NeverFalls C.cmp self.now }
-        ensures rising { IsRising C.cmp self.now }
+        ensures rising { EntriesRise C.cmp self.now }
     {
         self.block.valid()
     }

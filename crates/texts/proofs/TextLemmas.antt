@@ -8,7 +8,7 @@ use Rattle.hex.specs.Hex.{IsBytes, decode_of, decode_pairs, encode_lower, encode
 use Rattle.hex.specs.declared.error.FromHexError.{FromHexError}
 use Rattle.hex.specs.declared.error.FromHexError.TheVariants.{OddLength}
 use Rattle.hex.proofs.HexLemmas.{decode_of-encode_lower, decode_of-even, length-encode_with}
-use Rattle.texts.specs.Text.{StandsFor, answered, bytes_of_digits, bytes_of_text, nothing_text, text_of_bytes}
+use Rattle.texts.specs.Text.{StandsFor, hex_answer, bytes_of_digits, bytes_of_text, nothing_text, text_of_bytes}
 use Rattle.texts.proofs.DigitLemmas.{decode_pairs-lower, lower-decode_pairs}
 
 -- the text of bytes stands for them
@@ -44,7 +44,7 @@ no_hyphen c d text bytes h = step (bytes_eq (c ∷ d ∷ text) nothing_text) ref
     step false s = h
 
 -- what an answer with a value is
-answered-ok : (r : Result (List ℕ) FromHexError) (bytes : List ℕ) → answered r ≡ Some bytes → r ≡ Ok bytes
+answered-ok : (r : Result (List ℕ) FromHexError) (bytes : List ℕ) → hex_answer r ≡ Some bytes → r ≡ Ok bytes
 answered-ok (Ok xs) bytes e = ap (λ (o : Option (List ℕ)). Ok (unwrap_or o [])) e
 answered-ok (Err f) bytes e = cc e
 
@@ -94,7 +94,7 @@ bytes_of_text-StandsFor (c ∷ d ∷ text) (b ∷ bytes) fits h =
     let encoded = length-encode_with lower_digits bytes in
     let even : length (c ∷ d ∷ text) % 2 ≡ 0 = omega arith in
     let read : decode_of (c ∷ d ∷ text) ≡ Ok (b ∷ bytes) = decode_of-even (c ∷ d ∷ text) even ∙ decode_pairs-lower 0 (c ∷ d ∷ text) (b ∷ bytes) fits h in
-    no_hyphen c d text (b ∷ bytes) (ap answered read)
+    no_hyphen c d text (b ∷ bytes) (ap hex_answer read)
 
 -- A text is read as the bytes that it stands for.
 pub bytes_of_text_meaning : (text bytes : List ℕ) → IsBytes bytes → (bytes_of_text text ≡ Some bytes) ↔ StandsFor text bytes

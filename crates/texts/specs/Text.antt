@@ -16,14 +16,14 @@ text_of_bytes [] = nothing_text
 text_of_bytes (b ∷ bytes) = encode_lower (b ∷ bytes)
 
 -- the value of an answer; None for any error
-abbrev pub answered : Result (List ℕ) FromHexError → Option (List ℕ)
-answered (Ok bytes) = Some bytes
-answered (Err e) = None
+abbrev pub hex_answer : Result (List ℕ) FromHexError → Option (List ℕ)
+hex_answer (Ok bytes) = Some bytes
+hex_answer (Err e) = None
 
 -- the bytes of a text of hexadecimal digits of either case; None for the empty text and every other
 abbrev pub bytes_of_digits : List ℕ → Option (List ℕ)
 bytes_of_digits [] = None
-bytes_of_digits (c ∷ text) = answered (decode_of (c ∷ text))
+bytes_of_digits (c ∷ text) = hex_answer (decode_of (c ∷ text))
 
 -- the bytes that a text stands for, `-` being no bytes; None if it stands for none
 abbrev pub bytes_of_text : List ℕ → Option (List ℕ)

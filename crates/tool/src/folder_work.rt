@@ -1,9 +1,9 @@
 //! The work on a folder, from its path to what is printed.
 
-use crate::explaining::in_words;
+use crate::explanations::in_words;
 use crate::files;
 use crate::progress_line::ProgressLine;
-use crate::telling::Telling;
+use crate::reporter::Telling;
 use account::text;
 use coding::Fault;
 use commands::{Question, answer_opened, bottom, manifest_lines, next_level};

@@ -6,12 +6,12 @@
 //! tell.
 #![tactic(auto)]
 
-mod explaining;
+mod explanations;
 mod files;
 mod folder_work;
 mod program;
 mod progress_line;
-mod telling;
+mod reporter;
 
 pub use commands::{bottom, dump, get_dir, manifest, next_level, progress_text, status, verify};
 pub use folder::{Disk, Folder, FolderFault, Order, load, open};

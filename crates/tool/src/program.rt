@@ -2,7 +2,7 @@
 
 use crate::files;
 use crate::folder_work::{compact_folder, print_lines, print_value, print_verdict, print_version};
-use crate::telling::Telling;
+use crate::reporter::Telling;
 use coding::{Fault, FaultName};
 use commands::{dump, status};
 use folder::WholeFiles;

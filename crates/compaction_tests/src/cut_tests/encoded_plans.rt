@@ -1,8 +1,8 @@
 //! The outputs of plans, and the tables made of their pieces.
 
 ghost use Rattle.std.specs.Prelude.{◌≡◌, map, IfOk};
-ghost use Rattle.cut.specs.Plan.{encoded};
-ghost use Rattle.cut.specs.Planning.{lists_in};
+ghost use Rattle.cut.specs.Plan.{encoded_pieces};
+ghost use Rattle.cut.specs.OutputPlan.{lists_in};
 
 use crate::cut_tests::merged_runs::{picked, plan_of, runs_of};
 use crate::cut_tests::rows::{ALL, Answer, Output, REPEATED, ROWS, Row};
@@ -18,7 +18,7 @@ use std::test::*;
 
 /// The pieces of a plan, in the order of their jobs.
 fn encoded(alloc: Global, plan: &Plan<'_, '_, Bytewise>) -> Result<Vec<Vec<u8>>, Fault>
-    ensures { IfOk result (λ pieces. map (λ p. p.items) pieces.items ≡ encoded plan.now.options (lists_in plan.now.outputs)) }
+    ensures { IfOk result (λ pieces. map (λ p. p.items) pieces.items ≡ encoded_pieces plan.now.options (lists_in plan.now.outputs)) }
 {
     let mut pieces = Vec::new(alloc);
     for job in 0..plan.jobs() {

@@ -1,5 +1,5 @@
 use Rattle.std.proofs.Common.{arith}
-use Rattle.cut.specs.Planning.{lists_in}
+use Rattle.cut.specs.OutputPlan.{lists_in}
 use Rattle.cut.proofs.Collected.{one_collected, all_collected}
 use Rattle.bench.proofs.ranges.pieces_of.Goals as goal
 

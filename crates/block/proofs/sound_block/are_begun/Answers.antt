@@ -1,7 +1,7 @@
 use Rattle.std.proofs.Common.{◌≡◌, true, List, ℕ, [], length, sym, subst, ap, ◌∙◌, arith}
 use Rattle.std.proofs.lemmas.List.{nil_from_length}
 use Rattle.std.proofs.lemmas.Bool.{eqb-true, eqb-false, eq-eqb}
-use Rattle.block.specs.Kept.{IsArea}
+use Rattle.block.specs.BuilderState.{IsArea}
 use Rattle.block.proofs.Areas.{is_area_nil, area_nil, begins_with_zero}
 use Rattle.block.proofs.sound_block.are_begun.Goals as goal
 

@@ -1,6 +1,6 @@
 use Rattle.std.proofs.Common.{◌≡◌, ◌<◌, None, length, get_or, ◌∙◌, sym, ap, subst, arith, rules, length-set, get_or-set_other, length-append, List, ◌∷◌, []}
-use Rattle.board.specs.Running.{IsResult}
-use Rattle.board.proofs.Placing.{not_empty, read_is, holds_more}
+use Rattle.board.specs.RunAnswer.{IsResult}
+use Rattle.board.proofs.ResultPlaces.{not_empty, read_is, holds_more}
 use Rattle.board.proofs.places.take_all.Goals as goal
 
 pub unreachable-requires : goal.unreachable-requires

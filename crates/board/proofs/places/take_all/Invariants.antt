@@ -1,5 +1,5 @@
 use Rattle.std.proofs.Common.{◌≡◌, ◌<◌, ◌≤◌, ℕ, None, length, get_or, vec_capacity}
-use Rattle.board.specs.Running.{IsResult}
+use Rattle.board.specs.RunAnswer.{IsResult}
 use Rattle.board.proofs.places.take_all.Given as goal
 
 abbrev pub invariant-loop-i : goal.invariant-loop-i

@@ -1,9 +1,9 @@
 use Rattle.std.proofs.Common.{◌≡◌, ◌<◌, ◌∙◌, ℕ, List, Option, None, length, replicate, vec_len, sym, ap, subst, arith, rules}
 use Rattle.std.proofs.Math.ListN.{length-replicate}
 use Rattle.board.specs.Progress.{Progress}
-use Rattle.board.specs.Running.{IsRefused}
-use Rattle.board.specs.Working.{IsFiled}
-use Rattle.board.proofs.Filing.{files_none, refused_least, each_placed}
+use Rattle.board.specs.RunAnswer.{IsRefused}
+use Rattle.board.specs.WorkerResult.{IsFiled}
+use Rattle.board.proofs.WorkerResults.{files_none, refused_least, each_placed}
 use Rattle.board.proofs.pool.run_board.Goals as goal
 
 pub file_all-refused-requires-clause-places : goal.file_all-refused-requires-clause-places

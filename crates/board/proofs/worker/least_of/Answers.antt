@@ -1,6 +1,6 @@
 use Rattle.std.proofs.Common.{Some, subst, arith}
-use Rattle.board.specs.Working.{IsLeastFailed}
-use Rattle.board.proofs.Filing.{least_left, least_right}
+use Rattle.board.specs.WorkerResult.{IsLeastFailed}
+use Rattle.board.proofs.WorkerResults.{least_left, least_right}
 use Rattle.board.proofs.worker.least_of.Goals as goal
 
 pub returns-then-job-next : goal.returns-then-job-next

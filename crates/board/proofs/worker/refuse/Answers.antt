@@ -1,7 +1,7 @@
 use Rattle.std.proofs.Common.{ℕ, ◌∷◌, ◌++◌, [], ap, sym, subst, refl}
 use Rattle.board.specs.Progress.{Progress}
-use Rattle.board.specs.Running.{IsFaultOf}
-use Rattle.board.specs.Working.{IsLeastFailed}
+use Rattle.board.specs.RunAnswer.{IsFaultOf}
+use Rattle.board.specs.WorkerResult.{IsLeastFailed}
 use Rattle.board.proofs.Workings.{least_one, works_fail}
 use Rattle.board.proofs.worker.refuse.Goals as goal
 

@@ -1,5 +1,5 @@
 use Rattle.std.proofs.Common.{◌-◌, [], length}
-use Rattle.board.specs.Working.{IsWorking}
+use Rattle.board.specs.WorkerResult.{IsWorking}
 use Rattle.board.proofs.worker.serve.Given as goal
 
 abbrev pub invariant-loop-job : goal.invariant-loop-job

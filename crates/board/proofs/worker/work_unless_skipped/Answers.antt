@@ -1,6 +1,6 @@
 use Rattle.std.proofs.Common.{ℕ, [], ◌∷◌, ◌++◌, refl, subst, ap, ◌∙◌}
 use Rattle.board.specs.Progress.{Progress, after_done}
-use Rattle.board.specs.Running.{IsResult}
+use Rattle.board.specs.RunAnswer.{IsResult}
 use Rattle.board.proofs.Workings.{works_skip, works_done}
 use Rattle.board.proofs.worker.work_unless_skipped.Goals as goal
 

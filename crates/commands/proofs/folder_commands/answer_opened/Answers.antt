@@ -1,5 +1,5 @@
 use Rattle.std.proofs.Common.{subst, sym}
-use Rattle.folder.specs.Opening.{FolderAnswers}
+use Rattle.folder.specs.OpenAnswer.{FolderAnswers}
 use Rattle.folder.specs.Orders.{order_cmp}
 use Rattle.folder.specs.declared.order.Order.{Order}
 use Rattle.commands.specs.FolderLines.{IsLineOfVersion}

@@ -1,7 +1,7 @@
 use Rattle.std.proofs.Common.{arith}
 use Rattle.folder.proofs.OpeningLemmas.{hands_on}
 use Rattle.folder.proofs.ReportLemmas.{reads_then, reports_handed, reports_then}
-use Rattle.folder.specs.Opening.{IsOpened}
+use Rattle.folder.specs.OpenAnswer.{IsOpened}
 use Rattle.commands.proofs.FolderLineLemmas.{not_opened, opened_answer}
 use Rattle.commands.specs.FolderLines.{IsLineOfFolder}
 use Rattle.commands.specs.Questions.{line_of}

@@ -5,7 +5,7 @@ use Rattle.folder.proofs.LoadingLemmas.{table_of}
 use Rattle.folder.proofs.OpeningLemmas.{answers_alone, hands_on}
 use Rattle.folder.proofs.ReportLemmas.{reports_after, reports_handed}
 use Rattle.folder.specs.Levels.{file_numbers}
-use Rattle.folder.specs.Loading.{IsLoaded}
+use Rattle.folder.specs.LoadedTables.{IsLoaded}
 use Rattle.commands.proofs.FolderLineLemmas.{not_loaded, told_in, told_no_device}
 use Rattle.commands.specs.FolderLines.{IsLineOfLoaded, IsLineOfVersion}
 use Rattle.commands.specs.Questions.{line_of}

@@ -1,7 +1,7 @@
 use Rattle.std.proofs.Common.{◌≡◌, Ok, Err, refl, arith}
 use Rattle.folder.proofs.OpeningLemmas.{answers_alone, hands_on}
 use Rattle.folder.proofs.ReportLemmas.{reports_after, reports_handed}
-use Rattle.folder.specs.Opening.{IsOpened}
+use Rattle.folder.specs.OpenAnswer.{IsOpened}
 use Rattle.commands.proofs.ShowingLemmas.{lines_device, lines_hold}
 use Rattle.commands.specs.Lines.{IsShown, version_lines}
 use Rattle.commands.proofs.folder_commands.manifest.Goals as goal

@@ -3,13 +3,13 @@ use Rattle.std.proofs.lemmas.Result.{err_from_is_err_and}
 use Rattle.coding.specs.declared.fault.Fault.{Fault}
 use Rattle.coding.specs.Answers.{◌>>=◌, FailsOrMemory}
 use Rattle.coding.proofs.Refusals.{FailsOrMemory-from}
-use Rattle.block.specs.Piece.{Entry}
-use Rattle.table.specs.Reading.{Contents}
+use Rattle.block.specs.EncodedEntry.{Entry}
+use Rattle.table.specs.TableContents.{Contents}
 use Rattle.pick.specs.declared.picked.InputFile.{InputFile}
 use Rattle.request.specs.Inputs.{inputs_reading}
 use Rattle.request.specs.OneThread.{Answer, one_thread}
 use Rattle.request.specs.Request.{RequestView, request_in}
-use Rattle.compact.specs.Runs.{by_workers}
+use Rattle.compact.specs.RangeMerges.{by_workers}
 use Rattle.compact.proofs.Joined.{answer_is, inputs_are, refused_input, refused_test}
 use Rattle.compact.proofs.compaction.compact.Goals as goal
 

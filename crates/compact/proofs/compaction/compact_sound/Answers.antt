@@ -3,9 +3,9 @@ use Rattle.std.proofs.lemmas.Result.{err_from_is_err_and}
 use Rattle.std.specs.List.Sorted.{IsStrictlyIncreasing}
 use Rattle.coding.specs.declared.fault.Fault.{Fault}
 use Rattle.coding.specs.Answers.{EqualOrMemory, FailsOrMemory}
-use Rattle.block.specs.Piece.{Entry}
+use Rattle.block.specs.EncodedEntry.{Entry}
 use Rattle.table.specs.Table.{table}
-use Rattle.keep.specs.Marks.{Below, below_of}
+use Rattle.keep.specs.Marks.{CompactionContext, context_of}
 use Rattle.keep.specs.Readable.{listed_of}
 use Rattle.keep.specs.Runs.{Run, joined_run}
 use Rattle.cut.specs.Outputs.{outputs_of}
@@ -13,7 +13,7 @@ use Rattle.request.specs.OneThread.{Answer}
 use Rattle.request.specs.Request.{RequestView, request_in, below_request}
 use Rattle.compact.specs.Answered.{answer_in}
 use Rattle.compact.specs.Written.{written_of}
-use Rattle.compact.specs.Runs.{by_workers, runs_reading}
+use Rattle.compact.specs.RangeMerges.{by_workers, runs_reading}
 use Rattle.compact.proofs.Joined.{whole_answer, refused_answer}
 use Rattle.compact.proofs.compaction.compact_sound.Goals as goal
 
@@ -29,14 +29,14 @@ returns-in_err-runs g c =
     let cmp = g.C.Comparator.cmp in
     let r : RequestView = request_in c.args.request.now in
     let inputs : List (List Entry) = map (λ t. t.entries) c.args.tables.now in
-    let below : Below = below_of c.listed-listed.result.now c.floor-floor.result c.args.request.now.picked.now in
+    let below : CompactionContext = context_of c.listed-listed.result.now c.floor-floor.result c.args.request.now.picked.now in
     let same : below ≡ below_request r =
-    ap (λ (l : List ℕ). below_of l c.floor-floor.result c.args.request.now.picked.now) c.listed-listed.ensures
-    ∙ ap (λ (n : ℕ). below_of (listed_of c.args.request.now.snapshots) n c.args.request.now.picked.now) c.floor-floor.ensures in
+    ap (λ (l : List ℕ). context_of l c.floor-floor.result c.args.request.now.picked.now) c.listed-listed.ensures
+    ∙ ap (λ (n : ℕ). context_of (listed_of c.args.request.now.snapshots) n c.args.request.now.picked.now) c.floor-floor.ensures in
     let p = err_from_is_err_and c.from_residual.result c.from_residual.ensures.1 in
     rw (p.1, p.2)
     (refused_answer cmp g.C.Comparator.separator_of g.C.Comparator.successor_of r inputs c.args.workers c.requires.some c.requires.limited c.requires.tested c.requires.read c.args.split.now
-    c.in_err-runs.field-0.0 (subst (λ (b : Below). FailsOrMemory c.in_err-runs.field-0.0 (by_workers c.args.workers (runs_reading cmp b c.args.split.now inputs))) same c.in_err-runs.ensures))
+    c.in_err-runs.field-0.0 (subst (λ (b : CompactionContext). FailsOrMemory c.in_err-runs.field-0.0 (by_workers c.args.workers (runs_reading cmp b c.args.split.now inputs))) same c.in_err-runs.ensures))
 
 pub returns : goal.returns
 returns g c =
@@ -45,13 +45,13 @@ returns g c =
     let successor_of = g.C.Comparator.successor_of in
     let r : RequestView = request_in c.args.request.now in
     let inputs : List (List Entry) = map (λ t. t.entries) c.args.tables.now in
-    let below : Below = below_of c.listed-listed.result.now c.floor-floor.result c.args.request.now.picked.now in
+    let below : CompactionContext = context_of c.listed-listed.result.now c.floor-floor.result c.args.request.now.picked.now in
     let same : below ≡ below_request r =
-    ap (λ (l : List ℕ). below_of l c.floor-floor.result c.args.request.now.picked.now) c.listed-listed.ensures
-    ∙ ap (λ (n : ℕ). below_of (listed_of c.args.request.now.snapshots) n c.args.request.now.picked.now) c.floor-floor.ensures in
+    ap (λ (l : List ℕ). context_of l c.floor-floor.result c.args.request.now.picked.now) c.listed-listed.ensures
+    ∙ ap (λ (n : ℕ). context_of (listed_of c.args.request.now.snapshots) n c.args.request.now.picked.now) c.floor-floor.ensures in
     let runs : List Run = c.in_ok-runs.runs.items in
     let merged : by_workers c.args.workers (runs_reading cmp (below_request r) c.args.split.now inputs) ≡ Ok runs =
-    subst (λ (b : Below). by_workers c.args.workers (runs_reading cmp b c.args.split.now inputs) ≡ Ok runs) same c.in_ok-runs.ensures in
+    subst (λ (b : CompactionContext). by_workers c.args.workers (runs_reading cmp b c.args.split.now inputs) ≡ Ok runs) same c.in_ok-runs.ensures in
     let whole = whole_answer cmp separator_of successor_of r inputs c.args.workers c.requires.some c.requires.limited c.requires.tested c.requires.read c.args.split.now
     c.distinct_law.ensures c.ranges_cut.ensures c.split_law.ensures runs merged in
     let lent : c.deref.result.now ≡ runs = c.deref.ensures.value in

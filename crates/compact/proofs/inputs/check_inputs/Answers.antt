@@ -3,11 +3,11 @@ use Rattle.std.proofs.lemmas.List.{length-map}
 use Rattle.std.proofs.lemmas.Result.{err_from_is_err_and}
 use Rattle.coding.specs.Answers.{FailsOrMemory}
 use Rattle.coding.specs.declared.fault.Fault.{Fault}
-use Rattle.block.specs.Piece.{Entry}
-use Rattle.board.specs.Running.{fault_of_run}
-use Rattle.compact.specs.Runs.{by_workers}
+use Rattle.block.specs.EncodedEntry.{Entry}
+use Rattle.board.specs.RunAnswer.{fault_of_run}
+use Rattle.compact.specs.RangeMerges.{by_workers}
 use Rattle.compact.specs.JobAnswers.{input_answers}
-use Rattle.compact.proofs.Working.{run_gives, run_fails}
+use Rattle.compact.proofs.WorkerAnswers.{run_gives, run_fails}
 use Rattle.compact.proofs.InputAnswers.{answers_length, inputs_collected}
 use Rattle.compact.proofs.inputs.check_inputs.Goals as goal
 

@@ -3,14 +3,14 @@ use mathlib.Core.List.{not-mem-nil}
 use Rattle.std.proofs.lemmas.Result.{err_from_is_err_and}
 use Rattle.coding.specs.Answers.{FailsOrMemory}
 use Rattle.coding.specs.declared.fault.Fault.{Fault}
-use Rattle.block.specs.Piece.{Entry}
-use Rattle.table.specs.Reading.{Contents}
-use Rattle.keep.specs.Marks.{Below, below_of}
+use Rattle.block.specs.EncodedEntry.{Entry}
+use Rattle.table.specs.TableContents.{Contents}
+use Rattle.keep.specs.Marks.{CompactionContext, context_of}
 use Rattle.keep.specs.Runs.{Run}
-use Rattle.board.specs.Running.{fault_of_run}
-use Rattle.compact.specs.Runs.{by_workers, runs_reading}
+use Rattle.board.specs.RunAnswer.{fault_of_run}
+use Rattle.compact.specs.RangeMerges.{by_workers, runs_reading}
 use Rattle.compact.specs.JobAnswers.{range_answers}
-use Rattle.compact.proofs.Working.{run_gives, run_fails}
+use Rattle.compact.proofs.WorkerAnswers.{run_gives, run_fails}
 use Rattle.compact.proofs.RangeAnswers.{ranges_collected, range_answers_length, map_same}
 use Rattle.compact.proofs.ranges.merge_ranges.Goals as goal
 
@@ -20,7 +20,7 @@ run_list runs = Ok runs
 pub returns-in_err-run : goal.returns-in_err-run
 returns-in_err-run g c =
     let cmp = g.C.Comparator.cmp in
-    let below : Below = below_of c.args.listed.now c.args.floor c.args.inputs.now in
+    let below : CompactionContext = context_of c.args.listed.now c.args.floor c.args.inputs.now in
     let tables : List (List Entry) = map (λ t. t.now.entries) c.deref.result.now in
     let same : tables ≡ map (λ t. t.entries) c.args.tables.now = ap (map (λ (t : Bor Contents). t.now.entries)) c.deref.ensures.value ∙ c.in_ok-tables.ensures.tables in
     let p = err_from_is_err_and c.from_residual-in_err-run.result c.from_residual-in_err-run.ensures.1 in
@@ -34,7 +34,7 @@ returns-in_err-run g c =
 pub returns : goal.returns
 returns g c =
     let cmp = g.C.Comparator.cmp in
-    let below : Below = below_of c.args.listed.now c.args.floor c.args.inputs.now in
+    let below : CompactionContext = context_of c.args.listed.now c.args.floor c.args.inputs.now in
     let tables : List (List Entry) = map (λ t. t.now.entries) c.deref.result.now in
     let same : tables ≡ map (λ t. t.entries) c.args.tables.now = ap (map (λ (t : Bor Contents). t.now.entries)) c.deref.ensures.value ∙ c.in_ok-tables.ensures.tables in
     let answers : List (Result Run Fault) = range_answers cmp below c.args.split.now tables in

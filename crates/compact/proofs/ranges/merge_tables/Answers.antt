@@ -1,9 +1,9 @@
 use Rattle.std.proofs.Common.{List, Result, map, ap, subst, ◌∙◌}
 use Rattle.coding.specs.Answers.{EqualOrMemory}
 use Rattle.coding.specs.declared.fault.Fault.{Fault}
-use Rattle.block.specs.Piece.{Entry}
+use Rattle.block.specs.EncodedEntry.{Entry}
 use Rattle.split.specs.Ranges.{KeyRange, key_range}
-use Rattle.keep.specs.Marks.{Below, below_of}
+use Rattle.keep.specs.Marks.{CompactionContext, context_of}
 use Rattle.keep.specs.Runs.{Run, range_run}
 use Rattle.keep.proofs.Reaching.{run_same}
 use Rattle.compact.proofs.RangeAnswers.{map_same}
@@ -12,7 +12,7 @@ use Rattle.compact.proofs.ranges.merge_tables.Goals as goal
 pub returns : goal.returns
 returns g c =
     let cmp = g.C.Comparator.cmp in
-    let below : Below = below_of c.args.listed.now c.args.floor c.args.inputs.now in
+    let below : CompactionContext = context_of c.args.listed.now c.args.floor c.args.inputs.now in
     let range : KeyRange = key_range c.args.range in
     let cursors : List (List Entry) = c.in_ok-cursors.cursors.items in
     subst (λ (a : Result Run Fault). EqualOrMemory (λ (r : Run). r) c.merge_range.result a)

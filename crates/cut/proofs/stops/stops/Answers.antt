@@ -6,7 +6,7 @@ use Rattle.keep.specs.declared.mark.Mark.{Mark}
 use Rattle.keep.specs.Runs.{Run, joined_marks, moved_mark}
 use Rattle.cut.specs.declared.stops.Overlap.{Overlap}
 use Rattle.cut.specs.declared.stops.Stopping.{Stopping}
-use Rattle.cut.specs.Stopping.{stops_since, all_stops}
+use Rattle.cut.specs.OverlapStops.{stops_since, all_stops}
 use Rattle.cut.proofs.stops.stops.Goals as goal
 
 none_since : (gs : List FileMeta) (size : ℕ) (o : Option Overlap) → stops_since gs size o [] ≡ []

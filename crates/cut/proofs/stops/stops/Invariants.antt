@@ -1,7 +1,7 @@
 use Rattle.std.proofs.Common.{◌≡◌, ◌*◌, ◌≤◌, drop}
 use Rattle.keep.specs.Runs.{joined_marks}
 use Rattle.cut.specs.Stops.{stops}
-use Rattle.cut.specs.Stopping.{all_stops, AreCounted}
+use Rattle.cut.specs.OverlapStops.{all_stops, AreCounted}
 use Rattle.cut.proofs.stops.stops.Given as goal
 
 abbrev pub invariant-loop-run : goal.invariant-loop-run

@@ -3,8 +3,8 @@ use Rattle.coding.specs.Varint.{varint}
 use Rattle.table.specs.Table.{IndexKeys, index_keys}
 use Rattle.keep.proofs.OnAnswers.{same_ok}
 use Rattle.encoding.specs.declared.planned_block.PlannedBlock.{PlannedBlock}
-use Rattle.cut.specs.Sizes.{saturated, piece_size}
-use Rattle.cut.specs.TableLength.{key_at}
+use Rattle.cut.specs.Sizes.{saturated_length, encoded_entry_size}
+use Rattle.cut.specs.TableLength.{planned_index_key}
 use Rattle.cut.proofs.TableLengths.{IsIndexLen, index_len_more, index_len_all}
 use Rattle.cut.proofs.table_len.index_len.Goals as goal
 
@@ -15,13 +15,13 @@ loop-place-preserved g c =
     let is = sym c.index-blocks-place.is in
     let key : List ℕ = c.bytes.result.now in
     let handle : ℕ = c.varint_len.result + c.varint_len-in-loop-place.result in
-    let key_is : key ≡ key_at keys (drop c.loop-place.place c.args.blocks.now) = c.bytes.ensures ∙ c.as_key.ensures ∙ sym (same_ok _ _ c.in_ok-key.ensures) in
+    let key_is : key ≡ planned_index_key keys (drop c.loop-place.place c.args.blocks.now) = c.bytes.ensures ∙ c.as_key.ensures ∙ sym (same_ok _ _ c.in_ok-key.ensures) in
     let handle_is : handle ≡ length (varint c.loop-place.offset) + length (varint b.len) =
     ap (λ (n : ℕ). n + c.varint_len-in-loop-place.result) c.varint_len.ensures.value
     ∙ ap (λ (n : ℕ). length (varint c.loop-place.offset) + n) (subst (λ (x : PlannedBlock). c.varint_len-in-loop-place.result ≡ length (varint x.len)) is c.varint_len-in-loop-place.ensures.value) in
-    let len : c.saturating_add-len.result ≡ min (min (c.loop-place.len + saturated (piece_size 0 (length key) handle)) (2 ^ 64 - 1) + 4) (2 ^ 64 - 1) =
+    let len : c.saturating_add-len.result ≡ min (min (c.loop-place.len + saturated_length (encoded_entry_size 0 (length key) handle)) (2 ^ 64 - 1) + 4) (2 ^ 64 - 1) =
     c.saturating_add-len.ensures
-    ∙ ap (λ (n : ℕ). min (n + 4) (2 ^ 64 - 1)) (c.saturating_add.ensures ∙ ap (λ (n : ℕ). min (c.loop-place.len + n) (2 ^ 64 - 1)) c.piece_len-piece.ensures) in
+    ∙ ap (λ (n : ℕ). min (n + 4) (2 ^ 64 - 1)) (c.saturating_add.ensures ∙ ap (λ (n : ℕ). min (c.loop-place.len + n) (2 ^ 64 - 1)) c.encoded_entry_len-piece.ensures) in
     let next : IsIndexLen keys c.args.blocks.now (c.loop-place.place + 1) (c.loop-place.offset + (b.len + 5)) c.saturating_add-len.result =
     subst (IsIndexLen keys c.args.blocks.now (c.loop-place.place + 1) (c.loop-place.offset + (b.len + 5))) (sym len)
     (index_len_more keys c.args.blocks.now c.loop-place.place c.loop-place.offset c.loop-place.len b key handle (omega (arith, c.loop-place-test.true)) is key_is handle_is c.loop-place.invariant) in

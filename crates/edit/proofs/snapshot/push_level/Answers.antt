@@ -1,7 +1,7 @@
 use Rattle.std.proofs.Common.{◌++◌, Bor, List, map, sym, ap, ◌∙◌}
 use Rattle.edit.specs.VersionOrder.{at_level, in_version_order, files_at}
 use Rattle.edit.specs.declared.meta.FileMeta.{FileMeta}
-use Rattle.edit.proofs.Sorting.{lent, metas_are}
+use Rattle.edit.proofs.SortedFiles.{lent, metas_are}
 use Rattle.edit.proofs.Snapshots.{lent_at_level}
 use Rattle.edit.proofs.snapshot.push_level.Goals as goal
 

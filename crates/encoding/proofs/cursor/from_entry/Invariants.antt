@@ -1,10 +1,10 @@
 use Rattle.std.proofs.Common.{length, drop, ◌-◌, ◌≡◌, ◌≤◌}
-use Rattle.encoding.specs.Standing.{kept_of}
+use Rattle.encoding.specs.RunPlace.{kept_of_runs}
 use Rattle.encoding.proofs.cursor.from_entry.Given as goal
 
 abbrev pub invariant-loop-passed : goal.invariant-loop-passed
 invariant-loop-passed l =
-    (kept_of (drop l.passed l.runs) ≡ kept_of l.fn.runs)
+    (kept_of_runs (drop l.passed l.runs) ≡ kept_of_runs l.fn.runs)
     × (l.passed ≤ length l.runs)
 
 abbrev pub decreases-loop-passed : goal.decreases-loop-passed

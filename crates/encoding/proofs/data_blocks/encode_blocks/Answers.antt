@@ -2,9 +2,9 @@ use Rattle.std.proofs.Common.{◌≡◌, ◌-◌, ◌<◌, ◌≤◌, ◌++◌, 
 use Rattle.std.specs.Prelude.{flat_map}
 use Rattle.std.proofs.lemmas.List.{take_all, take_rest, drop_at}
 use Rattle.std.proofs.lemmas.List.Folds.{flat_map-map}
-use Rattle.block.specs.Piece.{Entry}
-use Rattle.block.specs.Writing.{block}
-use Rattle.frame.specs.Trailer.{stored, trailer_bytes}
+use Rattle.block.specs.EncodedEntry.{Entry}
+use Rattle.block.specs.BlockFormat.{block}
+use Rattle.frame.specs.Trailer.{stored_block, trailer_bytes}
 use Rattle.table.proofs.Refused.{fine}
 use Rattle.encoding.specs.declared.planned_block.PlannedBlock.{PlannedBlock}
 use Rattle.encoding.proofs.Listed.{listed_more}
@@ -23,12 +23,12 @@ loop-block-preserved c =
     let all : whole ≡ front ++ own = c.deref.ensures.value ∙ pushed in
     let at : length front ≡ start = omega (arith, c.len-start.ensures) in
     let contents : take (length whole - start) (drop start whole) ≡ own = take_rest whole start ∙ ap (drop start) all ∙ drop_at front own start at in
-    let added : c.push.new.out.items ≡ front ++ stored own =
+    let added : c.push.new.out.items ≡ front ++ stored_block own =
     c.in_ok-push.ensures.ok
     ∙ ap (λ (xs : List ℕ). c.push_block.new.out.items ++ xs) (c.of.ensures ∙ ap trailer_bytes contents)
     ∙ ap (λ (xs : List ℕ). xs ++ trailer_bytes own) pushed
     ∙ append_assoc front own (trailer_bytes own) in
-    listed_more (λ (x : PlannedBlock). stored (block r x.entries.entries)) c.args.blocks.now c.loop-block.block-index b [] front c.push.new.out.items (stored own) lt (sym c.block-item.is) c.loop-block.invariant refl added
+    listed_more (λ (x : PlannedBlock). stored_block (block r x.entries.entries)) c.args.blocks.now c.loop-block.block-index b [] front c.push.new.out.items (stored_block own) lt (sym c.block-item.is) c.loop-block.invariant refl added
 
 pub returns : goal.returns
 returns c =
@@ -36,6 +36,6 @@ returns c =
     let r : ℕ = c.args.interval in
     let end : length blocks ≤ c.loop-block.block-index = omega (arith, c.loop-block-test.false) in
     ap fine
-    (flat_map-map (λ (p : List Entry). stored (block r p)) (λ (b : PlannedBlock). b.entries.entries) blocks
-    ∙ ap (flat_map (λ (b : PlannedBlock). stored (block r b.entries.entries))) (sym (take_all c.loop-block.block-index blocks end))
+    (flat_map-map (λ (p : List Entry). stored_block (block r p)) (λ (b : PlannedBlock). b.entries.entries) blocks
+    ∙ ap (flat_map (λ (b : PlannedBlock). stored_block (block r b.entries.entries))) (sym (take_all c.loop-block.block-index blocks end))
     ∙ sym c.loop-block.invariant)

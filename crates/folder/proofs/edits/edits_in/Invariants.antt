@@ -1,6 +1,6 @@
 use Rattle.std.proofs.Common.{All, map, take}
-use Rattle.logrec.specs.Reading.{lists}
-use Rattle.edit.specs.Edit.{HasLevels, edit_in}
+use Rattle.logrec.specs.LogReader.{lists}
+use Rattle.edit.specs.Edit.{HasValidLevels, edit_in}
 use Rattle.folder.specs.Manifest.{AreEdits}
 use Rattle.folder.proofs.edits.edits_in.Given as goal
 
@@ -8,5 +8,5 @@ use Rattle.folder.proofs.edits.edits_in.Given as goal
 abbrev pub invariant-loop-record : goal.invariant-loop-record
 invariant-loop-record l = record {
   read : AreEdits (lists (take l.record-index l.records)) (map edit_in l.edits.items);
-  levels : All (λ e. HasLevels (edit_in e)) l.edits.items;
+  levels : All (λ e. HasValidLevels (edit_in e)) l.edits.items;
 }

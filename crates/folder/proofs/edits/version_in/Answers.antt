@@ -1,7 +1,7 @@
 use Rattle.std.proofs.Common.{ℕ, List, Ok, Err, map, subst}
 use Rattle.std.specs.Global.{Vec}
 use Rattle.coding.specs.Answers.{UnlessMemory}
-use Rattle.logrec.specs.Reading.{lists}
+use Rattle.logrec.specs.LogReader.{lists}
 use Rattle.edit.specs.Edit.{edit_in}
 use Rattle.folder.specs.Manifest.{IsEditsAnswer, IsManifestAnswer, version_from}
 use Rattle.folder.proofs.ManifestLemmas.{edits_answer, given_answer, handed_on, no_edits}

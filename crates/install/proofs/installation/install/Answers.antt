@@ -1,6 +1,6 @@
 use Rattle.std.proofs.Common.{◌≡◌, ◌<◌, ◌^◌, ℕ, List, refl, ap, ◌∙◌, arith, rules}
 use Rattle.folder.proofs.ReportLemmas.{reports_steady, stopped_device}
-use Rattle.install.specs.Install.{install_calls, manifest_bytes, tables_after, tables_in}
+use Rattle.install.specs.Install.{install_calls, manifest_bytes, next_version_tables, tables_in}
 use Rattle.install.proofs.Installed.{survives, undone}
 use Rattle.install.proofs.Parts.{hands_none, runs_same}
 use Rattle.install.proofs.installation.install.Goals as goal
@@ -12,7 +12,7 @@ returns-in_err-manifest-clause-runs g c =
 
 pub returns-in_err-manifest-clause-survives : goal.returns-in_err-manifest-clause-survives
 returns-in_err-manifest-clause-survives g c order next tables h =
-    undone _ g.C.Comparator.cmp order c.args.version.now next tables (tables_after g.C.Comparator.cmp next (tables_in c.args.outcome.now.tables.items) tables) (g.F.Folder.calls c.args.folder.now) (g.F.Folder.tells c.args.folder.now) c.from_residual.result c.from_residual.ensures.1
+    undone _ g.C.Comparator.cmp order c.args.version.now next tables (next_version_tables g.C.Comparator.cmp next (tables_in c.args.outcome.now.tables.items) tables) (g.F.Folder.calls c.args.folder.now) (g.F.Folder.tells c.args.folder.now) c.from_residual.result c.from_residual.ensures.1
 
 pub returns-clause-survives : goal.returns-clause-survives
 returns-clause-survives g c order next tables h =

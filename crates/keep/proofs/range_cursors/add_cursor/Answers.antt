@@ -1,6 +1,6 @@
 use Rattle.std.proofs.Common.{List, ◌++◌, ap, ◌∙◌}
-use Rattle.block.specs.Piece.{Entry}
-use Rattle.merge.specs.Merged.{joined}
+use Rattle.block.specs.EncodedEntry.{Entry}
+use Rattle.merge.specs.Merged.{entries_of_lists}
 use Rattle.split.specs.Ranges.{KeyRange, key_range}
 use Rattle.keep.specs.InRange.{entries_in}
 use Rattle.keep.proofs.Reaching.{in_pushed, in_left_out}
@@ -16,5 +16,5 @@ returns-clause-held g c =
     let range : KeyRange = key_range c.args.range in
     let olds : List (List Entry) = c.args.cursors.now.items in
     let cursor : List Entry = c.in_ok-cursor.cursor in
-    ap (λ (ls : List (List Entry)). entries_in cmp range (joined ls)) c.in_ok-push.ensures.items
-    ∙ in_pushed cmp g.met.C.Comparator.total range olds cursor ∙ ap (λ (es : List Entry). entries_in cmp range (joined olds) ++ es) c.in_ok-cursor.ensures.held
+    ap (λ (ls : List (List Entry)). entries_in cmp range (entries_of_lists ls)) c.in_ok-push.ensures.items
+    ∙ in_pushed cmp g.met.C.Comparator.total range olds cursor ∙ ap (λ (es : List Entry). entries_in cmp range (entries_of_lists olds) ++ es) c.in_ok-cursor.ensures.held

@@ -1,6 +1,6 @@
 use Rattle.std.proofs.Common.{◌++◌, List, map, take, sym, ap, ◌∙◌, arith}
-use Rattle.block.specs.Piece.{Entry}
-use Rattle.merge.specs.Merged.{joined}
+use Rattle.block.specs.EncodedEntry.{Entry}
+use Rattle.merge.specs.Merged.{entries_of_lists}
 use Rattle.split.specs.Ranges.{KeyRange, key_range}
 use Rattle.keep.specs.InRange.{entries_in}
 use Rattle.keep.proofs.Reaching.{in_pushed, map_next}
@@ -14,4 +14,4 @@ loop-table-preserved g c =
     let old : List Entry = c.table-item.result.now.entries in
     let front = map_next (λ t. t.now.entries) c.args.tables.now c.loop-table.table-index c.table-item.result (omega arith) c.table-item.is in
     c.in_ok-add_cursor.ensures.held ∙ ap (λ (es : List Entry). es ++ entries_in cmp range old) c.loop-table.invariant
-    ∙ sym (in_pushed cmp g.met.C.Comparator.total range olds old) ∙ ap (λ (ls : List (List Entry)). entries_in cmp range (joined ls)) (sym front)
+    ∙ sym (in_pushed cmp g.met.C.Comparator.total range olds old) ∙ ap (λ (ls : List (List Entry)). entries_in cmp range (entries_of_lists ls)) (sym front)

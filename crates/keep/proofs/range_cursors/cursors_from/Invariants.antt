@@ -1,10 +1,10 @@
 use Rattle.std.proofs.Common.{◌≡◌, map, take}
-use Rattle.merge.specs.Merged.{joined}
+use Rattle.merge.specs.Merged.{entries_of_lists}
 use Rattle.split.specs.Ranges.{key_range}
 use Rattle.keep.specs.InRange.{entries_in}
 use Rattle.keep.proofs.range_cursors.cursors_from.Given as goal
 
 abbrev pub invariant-loop-table : goal.invariant-loop-table
 invariant-loop-table g l =
-    entries_in g.C.Comparator.cmp (key_range l.range) (joined l.cursors.items)
-    ≡ entries_in g.C.Comparator.cmp (key_range l.range) (joined (map (λ t. t.now.entries) (take l.table-index l.tables)))
+    entries_in g.C.Comparator.cmp (key_range l.range) (entries_of_lists l.cursors.items)
+    ≡ entries_in g.C.Comparator.cmp (key_range l.range) (entries_of_lists (map (λ t. t.now.entries) (take l.table-index l.tables)))

@@ -1,6 +1,6 @@
 use Rattle.std.proofs.Common.{◌≡◌, Some, rules}
 use Rattle.std.specs.Prelude.{slice_get}
-use Rattle.keep.proofs.Searching.{first_of_all}
+use Rattle.keep.proofs.RisingSearch.{first_of_all}
 use Rattle.keep.proofs.rule.is_below_all.Goals as goal
 
 pub returns-in-Some : goal.returns-in-Some

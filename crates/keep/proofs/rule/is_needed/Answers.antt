@@ -3,7 +3,7 @@ use Rattle.std.proofs.Common.{◌≡◌, length, refl, true, false, Some, None, 
 use Rattle.std.specs.Prelude.{slice_get, nat_lt}
 use Rattle.std.specs.List.Sorted.{IsPartitionPoint}
 use Rattle.std.proofs.lemmas.List.Sorted.{IsPartitionPoint-from_clause}
-use Rattle.keep.proofs.Searching.{needed_at, needed_none, partitioned}
+use Rattle.keep.proofs.RisingSearch.{needed_at, needed_none, partitioned}
 use Rattle.keep.proofs.rule.is_needed.Goals as goal
 
 pub returns-in-Some : goal.returns-in-Some

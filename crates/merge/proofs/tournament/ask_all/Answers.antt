@@ -1,7 +1,7 @@
 use Rattle.std.proofs.Common.{List, length, map, ◌≤◌, subst, arith}
 use Rattle.std.specs.List.{AllByRecursion}
 use Rattle.std.proofs.lemmas.List.{take_all, length-map}
-use Rattle.block.specs.Piece.{Entry}
+use Rattle.block.specs.EncodedEntry.{Entry}
 use Rattle.table.specs.ReadingCursors.{NeverFalls}
 use Rattle.merge.proofs.Leasts.{at_place}
 use Rattle.merge.proofs.Tournaments.{all_take_next}

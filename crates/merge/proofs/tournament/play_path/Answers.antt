@@ -1,9 +1,9 @@
 use Rattle.std.proofs.Common.{List, ℕ, true, false, Option, Some, length, map, get_or, refl, sym, ap, subst, ◌∙◌, ◌≡◌, ◌+◌, ◌<◌, ◌/◌, arith, get_or-set_same}
 use Rattle.std.specs.Option.{option_map}
 use Rattle.std.proofs.lemmas.List.{length-map}
-use Rattle.block.specs.Piece.{Entry}
+use Rattle.block.specs.EncodedEntry.{Entry}
 use Rattle.ikey.specs.declared.key.InternalKey.{InternalKey}
-use Rattle.merge.specs.Tournament.{first_key, IsWinner}
+use Rattle.merge.specs.Tournament.{first_key_at, IsWinner}
 use Rattle.merge.proofs.Tournaments.{all_played_up, beside_within, best_alone, first_wins, path_next}
 use Rattle.merge.proofs.tournament.play_path.Goals.{in-Some+then-comes_first, in-Some+else-comes_first, in_default}
 use Rattle.merge.proofs.tournament.play_path.Goals as goal
@@ -34,16 +34,16 @@ loop-node-preserved g c =
     let other : ℕ = get_or winners c.beside.result 0 in
     let best_low : best < length lists = subst (λ n. n < length lists) (sym c.loop-node.invariant.here) (subst (λ n. get_or winners node 0 < n) (sym count) (before.bracket.within node (omega (arith, size, before.low)))) in
     let other_low : other < length lists = subst (λ n. other < n) (sym count) (before.bracket.within c.beside.result (omega (arith, size, high))) in
-    let IsDecided = λ (n : ℕ) (o : Option InternalKey). IsWinner cmp lists best other n × (bytes_of o ≡ first_key lists n) in
+    let IsDecided = λ (n : ℕ) (o : Option InternalKey). IsWinner cmp lists best other n × (bytes_of o ≡ first_key_at lists n) in
     let decided : IsDecided c.match-key_at.best c.match-key_at.best_key =
     elim c.match-key_at.branch [
       | in-Some+then-comes_first w ↦
-          let second : Some w.in-Some.key.bytes.now ≡ first_key lists other = sym (ap bytes_of w.in-Some.is) ∙ c.key_at.ensures in
+          let second : Some w.in-Some.key.bytes.now ≡ first_key_at lists other = sym (ap bytes_of w.in-Some.is) ∙ c.key_at.ensures in
           let wins : IsWinner cmp lists best other other =
           first_wins cmp total lists best other best_low other_low w.in-Some.key.bytes.now second (bytes_of c.loop-node.best_key) true c.loop-node.invariant.key (sym w.if-comes_first.true ∙ w.comes_first.ensures) in
           subst (λ n. IsDecided n c.match-key_at.best_key) (sym w.best-is) (subst (λ (o : Option InternalKey). IsDecided other o) (sym w.best_key-is) (wins, second))
       | in-Some+else-comes_first w ↦
-          let second : Some w.in-Some.key.bytes.now ≡ first_key lists other = sym (ap bytes_of w.in-Some.is) ∙ c.key_at.ensures in
+          let second : Some w.in-Some.key.bytes.now ≡ first_key_at lists other = sym (ap bytes_of w.in-Some.is) ∙ c.key_at.ensures in
           let wins : IsWinner cmp lists best other best =
           first_wins cmp total lists best other best_low other_low w.in-Some.key.bytes.now second (bytes_of c.loop-node.best_key) false c.loop-node.invariant.key (sym w.if-comes_first.false ∙ w.comes_first.ensures) in
           subst (λ n. IsDecided n c.match-key_at.best_key) (sym w.best-is) (subst (λ (o : Option InternalKey). IsDecided best o) (sym w.best_key-is) (wins, c.loop-node.invariant.key))

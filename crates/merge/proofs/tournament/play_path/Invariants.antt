@@ -1,7 +1,7 @@
 use Rattle.std.proofs.Common.{◌≡◌, map, length, get_or}
 use Rattle.std.specs.Option.{option_map}
 use Rattle.ikey.specs.declared.key.InternalKey.{InternalKey}
-use Rattle.merge.specs.Tournament.{first_key}
+use Rattle.merge.specs.Tournament.{first_key_at}
 use Rattle.merge.proofs.Tournaments.{IsOnPath}
 use Rattle.merge.proofs.tournament.play_path.Given as goal
 
@@ -10,7 +10,7 @@ abbrev pub invariant-loop-node : goal.invariant-loop-node
 invariant-loop-node g l = record {
   path : IsOnPath g.C.Comparator.cmp (map g.S.Entries.remaining l.cursors) (length l.cursors) l.winners l.node;
   here : l.best ≡ get_or l.winners l.node 0;
-  key : option_map (λ (key : InternalKey). key.bytes.now) l.best_key ≡ first_key (map g.S.Entries.remaining l.cursors) l.best;
+  key : option_map (λ (key : InternalKey). key.bytes.now) l.best_key ≡ first_key_at (map g.S.Entries.remaining l.cursors) l.best;
 }
 
 abbrev pub decreases-loop-node : goal.decreases-loop-node

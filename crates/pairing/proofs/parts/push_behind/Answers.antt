@@ -2,16 +2,16 @@ use Rattle.std.proofs.Common.{◌≡◌, ℕ, Bool, true, false, List, Option, N
 use Rattle.coding.specs.Answers.{UnlessMemory, fault}
 use Rattle.coding.specs.declared.fault.Fault.{Fault}
 use Rattle.coding.specs.declared.fault.FaultName.TheVariants.{Memory}
-use Rattle.pairing.specs.Merging.{is_behind, tested_entries}
-use Rattle.pairing.specs.Testing.{last_key}
+use Rattle.pairing.specs.TestedUnion.{is_behind, tested_entries}
+use Rattle.pairing.specs.EntryTests.{last_key_or}
 use Rattle.pairing.specs.declared.tested.TestedEntry.{TestedEntry}
 use Rattle.pairing.proofs.parts.push_behind.Goals as goal
 
 -- what the test answers, by the entries that were there
-tested_by : (ts us : List TestedEntry) (last : Option (List ℕ)) (key : List ℕ) (answer wanted : Bool) → last ≡ last_key None (tested_entries ts) → ts ≡ us → answer ≡ is_behind last key → answer ≡ wanted
-    → is_behind (last_key None (tested_entries us)) key ≡ wanted
+tested_by : (ts us : List TestedEntry) (last : Option (List ℕ)) (key : List ℕ) (answer wanted : Bool) → last ≡ last_key_or None (tested_entries ts) → ts ≡ us → answer ≡ is_behind last key → answer ≡ wanted
+    → is_behind (last_key_or None (tested_entries us)) key ≡ wanted
 tested_by ts us last key answer wanted l same is w =
-    ap (λ (x : Option (List ℕ)). is_behind x key) (sym (l ∙ ap (λ (x : List TestedEntry). last_key None (tested_entries x)) same)) ∙ sym is ∙ w
+    ap (λ (x : Option (List ℕ)). is_behind x key) (sym (l ∙ ap (λ (x : List TestedEntry). last_key_or None (tested_entries x)) same)) ∙ sym is ∙ w
 
 -- what holds, holds where a call succeeds
 on_any : {X E : Type 0} (r : Result X E) (P : Type 0) → P → OnOk r P

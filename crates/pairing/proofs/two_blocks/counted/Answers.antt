@@ -4,9 +4,9 @@ use Rattle.std.proofs.lemmas.Result.{err_from_is_err_and}
 use Rattle.coding.specs.Answers.{UnlessMemory, ◌>>=◌}
 use Rattle.coding.specs.declared.fault.Fault.{Fault}
 use Rattle.coding.proofs.Refusals.{unless_from}
-use Rattle.block.specs.Piece.{Entry}
-use Rattle.pairing.specs.Blocks.{block_within, counted}
-use Rattle.pairing.specs.Merging.{tested_entry, tested_entries}
+use Rattle.block.specs.EncodedEntry.{Entry}
+use Rattle.pairing.specs.Blocks.{block_within, counted_block}
+use Rattle.pairing.specs.TestedUnion.{tested_entry, tested_entries}
 use Rattle.pairing.proofs.two_blocks.counted.Goals as goal
 
 pub returns-in_err-block : goal.returns-in_err-block
@@ -14,9 +14,9 @@ returns-in_err-block c =
     let p = err_from_is_err_and c.from_residual.result c.from_residual.ensures.1 in
     let es : List Entry = tested_entries c.args.entries.now in
     let e : Fault = c.in_err-block.field-0.0 in
-    let answer : UnlessMemory e (counted es ≡ Err e) =
-    unless_from e (block_within es ≡ Err e) (counted es ≡ Err e) (λ same. ap (λ (r : Result (List ℕ) Fault). r >>= λ bytes. Ok (length es, bytes)) same) c.in_err-block.ensures in
-    rw (p.1) (subst (λ (f : Fault). UnlessMemory f (counted es ≡ Err f)) (sym p.2) answer)
+    let answer : UnlessMemory e (counted_block es ≡ Err e) =
+    unless_from e (block_within es ≡ Err e) (counted_block es ≡ Err e) (λ same. ap (λ (r : Result (List ℕ) Fault). r >>= λ bytes. Ok (length es, bytes)) same) c.in_err-block.ensures in
+    rw (p.1) (subst (λ (f : Fault). UnlessMemory f (counted_block es ≡ Err f)) (sym p.2) answer)
 
 pub returns : goal.returns
 returns c =

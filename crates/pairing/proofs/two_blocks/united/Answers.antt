@@ -1,10 +1,10 @@
 use Rattle.std.proofs.Common.{Err, refl, arith, map}
 use Rattle.std.proofs.lemmas.Result.{err_from_is_err_and}
-use Rattle.board.specs.Running.{fault_of_run}
-use Rattle.board.proofs.Collecting.{results_collected, fault_collected}
-use Rattle.pairing.specs.Merging.{tested_entries, unions_of}
+use Rattle.board.specs.RunAnswer.{fault_of_run}
+use Rattle.board.proofs.CollectedAnswers.{results_collected, fault_collected}
+use Rattle.pairing.specs.TestedUnion.{tested_entries, unions_of}
 use Rattle.pairing.proofs.Unions.{Cut, left_never_falls, right_never_falls}
-use Rattle.pairing.proofs.Answering.{ranges_answer, refused_answer, joined_answer}
+use Rattle.pairing.proofs.FileAnswers.{ranges_answer, refused_answer, joined_answer}
 use Rattle.pairing.proofs.two_blocks.united.Goals as goal
 
 pub new-requires-clause-ordered_a : goal.new-requires-clause-ordered_a

@@ -1,6 +1,6 @@
 use Rattle.std.proofs.Common.{◌≡◌, ◌++◌, ◌≤◌, ◌^◌, length, drop}
-use Rattle.block.specs.Writing.{block}
-use Rattle.pairing.specs.Merging.{tested_entries}
+use Rattle.block.specs.BlockFormat.{block}
+use Rattle.pairing.specs.TestedUnion.{tested_entries}
 use Rattle.pairing.proofs.two_blocks.written.Given as goal
 
 abbrev pub invariant-loop-entry : goal.invariant-loop-entry

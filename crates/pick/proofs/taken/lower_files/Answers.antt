@@ -4,7 +4,7 @@ use Rattle.edit.specs.VersionOrder.{level_files}
 use Rattle.edit.specs.declared.meta.FileMeta.{FileMeta}
 use Rattle.pick.specs.Choices.{is_in}
 use Rattle.pick.proofs.Lists.{lent}
-use Rattle.pick.proofs.Choosing.{lower_is}
+use Rattle.pick.proofs.ChosenInputs.{lower_is}
 use Rattle.pick.proofs.taken.lower_files.Goals as goal
 
 pub returns-clause-lower : goal.returns-clause-lower

@@ -11,7 +11,7 @@ use Rattle.pick.specs.Chosen.{first_file}
 use Rattle.pick.specs.Choices.{is_chosen, boundary_pass, IsGrown}
 use Rattle.pick.specs.declared.choice.Choice.{Choice}
 use Rattle.pick.proofs.Lists.{lent}
-use Rattle.pick.proofs.Choosing.{upper_one, upper_around, upper_none}
+use Rattle.pick.proofs.ChosenInputs.{upper_one, upper_around, upper_none}
 use Rattle.pick.proofs.taken.upper_files.Goals as goal
 use Rattle.pick.proofs.taken.upper_files.Goals.{in-0, in_default-level}
 

@@ -3,7 +3,7 @@ use Rattle.std.specs.List.{All}
 use Rattle.std.proofs.lemmas.List.{take_all}
 use Rattle.std.proofs.lemmas.List.Elements.{All-more}
 use Rattle.reads.specs.declared.level_file.LevelFile.{LevelFile}
-use Rattle.reads.specs.Checking.{IsStatedFile}
+use Rattle.reads.specs.FileChecks.{IsStatedFile}
 use Rattle.reads.proofs.lawfulness.are_as_stated.Goals as goal
 
 pub loop-file-preserved : goal.loop-file-preserved

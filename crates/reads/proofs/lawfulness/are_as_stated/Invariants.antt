@@ -1,6 +1,6 @@
 use Rattle.std.proofs.Common.{take}
 use Rattle.std.specs.List.{All}
-use Rattle.reads.specs.Checking.{IsStatedFile}
+use Rattle.reads.specs.FileChecks.{IsStatedFile}
 use Rattle.reads.proofs.lawfulness.are_as_stated.Given as goal
 
 abbrev pub invariant-loop-file : goal.invariant-loop-file

@@ -1,10 +1,10 @@
 use Rattle.std.proofs.Common.{◌≡◌, ℕ, ◌+◌, ◌<◌, true}
 use Rattle.std.specs.Prelude.{slice_index_or}
 use Rattle.reads.specs.declared.level_file.LevelFile.{LevelFile}
-use Rattle.reads.specs.Checking.{file_in, stands_before}
+use Rattle.reads.specs.FileChecks.{level_file_in, stands_before}
 use Rattle.reads.proofs.lawfulness.are_in_turn.Given as goal
 
 -- each file so far stands before the one behind it
 abbrev pub invariant-loop-place : goal.invariant-loop-place
 invariant-loop-place g l =
-    (k : ℕ) (d : LevelFile) → k + 1 < l.place → stands_before g.C.Comparator.cmp (file_in (slice_index_or l.files k d)) (file_in (slice_index_or l.files (k + 1) d)) ≡ true
+    (k : ℕ) (d : LevelFile) → k + 1 < l.place → stands_before g.C.Comparator.cmp (level_file_in (slice_index_or l.files k d)) (level_file_in (slice_index_or l.files (k + 1) d)) ≡ true

@@ -2,13 +2,13 @@ use Rattle.std.proofs.Common.{rules}
 use Rattle.std.specs.Ordering.{is_lt}
 use Rattle.std.proofs.lemmas.List.Sorted.{answers_always, ranks_by}
 use Rattle.reads.specs.declared.level_file.LevelFile.{LevelFile}
-use Rattle.reads.specs.Checking.{file_in, standing_cmp}
+use Rattle.reads.specs.FileChecks.{level_file_in, standing_cmp}
 use Rattle.reads.proofs.Apart.{listed_again}
-use Rattle.reads.proofs.Standing.{standing_cmp-total}
+use Rattle.reads.proofs.FileOrder.{standing_cmp-total}
 use Rattle.reads.proofs.lawfulness.listed_files.Goals as goal
 
 pub returns-clause-listed : goal.returns-clause-listed
 returns-clause-listed g c = record {
   all = listed_again c.args.version.now.files c.in_ok-files.files.items c.sort_unstable_by.new.self.items c.sort_unstable_by.ensures.permutation c.in_ok-files.ensures.all;
-  sorted = c.sort_unstable_by.ensures.sorted (λ (f g' : LevelFile). is_lt (standing_cmp g.C.Comparator.cmp (file_in f) (file_in g'))) (ranks_by (standing_cmp-total g.met.C.Comparator.total) file_in) (answers_always _ _ _ (λ f a r k h. search rules));
+  sorted = c.sort_unstable_by.ensures.sorted (λ (f g' : LevelFile). is_lt (standing_cmp g.C.Comparator.cmp (level_file_in f) (level_file_in g'))) (ranks_by (standing_cmp-total g.met.C.Comparator.total) level_file_in) (answers_always _ _ _ (λ f a r k h. search rules));
 }

@@ -1,12 +1,12 @@
 use Rattle.std.proofs.Common.{Bor, Vec, Global, ◌≡◌, ℕ, List, Option, map, sym, subst, ◌∙◌, ap}
 use Rattle.std.specs.List.{All}
-use Rattle.block.specs.Piece.{Entry}
-use Rattle.table.specs.Reading.{Contents}
+use Rattle.block.specs.EncodedEntry.{Entry}
+use Rattle.table.specs.TableContents.{Contents}
 use Rattle.reads.specs.declared.level_file.LevelFile.{LevelFile}
 use Rattle.reads.specs.Tables.{table_entries}
-use Rattle.reads.specs.Checking.{IsStatedFile, AreListed, AreInTurn}
+use Rattle.reads.specs.FileChecks.{IsStatedFile, AreListed, AreInTurn}
 use Rattle.reads.specs.Lawful.{IsUnlawful}
-use Rattle.reads.specs.Standing.{AreStanding}
+use Rattle.reads.specs.TableOrder.{AreStanding}
 use Rattle.reads.proofs.Got.{given_or_memory}
 use Rattle.reads.proofs.Listed.{each_there, listed_lawful, not_lawful, listed_stated, listed_in_turn, listed_fall}
 use Rattle.reads.proofs.lawfulness.standing_among.Goals as goal

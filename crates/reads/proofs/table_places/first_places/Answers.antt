@@ -1,18 +1,18 @@
 use Rattle.std.proofs.Common.{◌≡◌, ◌-◌, ◌<◌, ℕ, suc, List, length, refl, sym, subst, arith}
 use Rattle.std.specs.BTreeMap.{insert_entry}
 use Rattle.std.specs.Ordering.{nat_cmp}
-use Rattle.reads.specs.Tables.{Numbered}
+use Rattle.reads.specs.Tables.{NumberedContents}
 use Rattle.reads.proofs.Places.{ArePlacesFrom, none_placed, one_placed}
 use Rattle.reads.proofs.table_places.first_places.Goals as goal
 
 pub loop-place-init : goal.loop-place-init
 loop-place-init g c =
-    let tables : List Numbered = c.args.tables.now in
+    let tables : List NumberedContents = c.args.tables.now in
     (subst (λ (es : List (ℕ × ℕ)). ArePlacesFrom tables es (length tables)) (sym c.new-places.ensures.empty) (none_placed tables (length tables) refl), omega arith)
 
 pub loop-place-preserved : goal.loop-place-preserved
 loop-place-preserved g c =
-    let tables : List Numbered = c.args.tables.now in
+    let tables : List NumberedContents = c.args.tables.now in
     let before : ℕ = c.loop-place.place in
     let next : before ≡ suc (before - 1) = omega (arith, c.loop-place-test.true) in
     let within : before - 1 < length tables = omega (arith, c.loop-place-test.true, c.loop-place.invariant.1) in

@@ -1,7 +1,7 @@
 use Rattle.std.proofs.Common.{rules}
 use Rattle.std.specs.Ordering.{is_lt}
 use Rattle.std.proofs.lemmas.List.Sorted.{answers_always}
-use Rattle.split.proofs.Rising.{rising_if}
+use Rattle.split.proofs.RisingKeys.{rising_if}
 use Rattle.split.proofs.split.is_rising.Goals as goal
 
 pub returns : goal.returns

@@ -3,13 +3,13 @@ use Rattle.edit.specs.Version.{State}
 use Rattle.folder.proofs.CountLemmas.{count_later, later_still, read_same}
 use Rattle.folder.proofs.OpeningLemmas.{hands_on}
 use Rattle.folder.proofs.ReportLemmas.{reports_failed, reports_handed, reports_on, reports_then}
-use Rattle.folder.specs.Opening.{IsOpened}
+use Rattle.folder.specs.OpenAnswer.{IsOpened}
 use Rattle.folder.specs.Orders.{order_cmp, order_separator, order_successor}
 use Rattle.folder.specs.ReadsAs.{IsHeldIn}
 use Rattle.folder.specs.declared.order.Order.{Order}
 use Rattle.store.specs.Answers.{IsFolderCompacted, IsVersionCompacted}
 use Rattle.store.proofs.Flow.{answers_behind, first_refused, no_value, opened_in, told_still}
-use Rattle.store.proofs.Installing.{sync_refused, sync_told, synced_left, synced_still}
+use Rattle.store.proofs.InstallPart.{sync_refused, sync_told, synced_left, synced_still}
 use Rattle.store.proofs.folder_compaction.compact_dir.Goals as goal
 
 pub returns-in_err-sync_folder-clause-left : goal.returns-in_err-sync_folder-clause-left

@@ -5,14 +5,14 @@ use Rattle.coding.specs.declared.fault.Fault.{Fault}
 use Rattle.folder.proofs.OpeningLemmas.{hands_on, refuses}
 use Rattle.folder.proofs.ReportLemmas.{device_handed, reports_after, reports_handed, reports_then}
 use Rattle.folder.specs.Levels.{file_numbers}
-use Rattle.folder.specs.Loading.{IsLoaded}
+use Rattle.folder.specs.LoadedTables.{IsLoaded}
 use Rattle.folder.specs.ReadsAs.{IsHeldIn}
 use Rattle.install.specs.Install.{tables_in}
 use Rattle.compact.specs.Answered.{answer_in}
 use Rattle.store.specs.Answers.{IsLoadedCompacted, IsVersionCompacted}
-use Rattle.store.specs.Compaction.{Compacted}
+use Rattle.store.specs.Compaction.{VersionCompaction}
 use Rattle.store.proofs.Flow.{first_passed, first_refused, loaded_in, never_device, no_value, stopped_on}
-use Rattle.store.proofs.Installing.{Promises, reads_as, refused_ok, refused_on, stopped_named, valued_on, version_left}
+use Rattle.store.proofs.InstallPart.{Promises, reads_as, refused_ok, refused_on, stopped_named, valued_on, version_left}
 use Rattle.store.proofs.NoDevice.{loaded_other}
 use Rattle.store.proofs.folder_compaction.compact_version.Goals as goal
 
@@ -76,7 +76,7 @@ returns-in_err-install-clause-left g c files order told named opened =
     let q = c.from_residual-in_err-install.result in
     let e = c.in_err-install.field-0.0 in
     let h = c.from_residual-in_err-install.ensures.1 in
-    let done = subst (λ (ts : List (ℕ × Vec ℕ)). Compacted order cmp g.C.Comparator.separator_of g.C.Comparator.successor_of v (tables_in ts) c.args.level s answer lines) c.deref.ensures.value (c.in_ok-compacted.ensures.compacted order) in
+    let done = subst (λ (ts : List (ℕ × Vec ℕ)). VersionCompaction order cmp g.C.Comparator.separator_of g.C.Comparator.successor_of v (tables_in ts) c.args.level s answer lines) c.deref.ensures.value (c.in_ok-compacted.ensures.compacted order) in
     let promises = subst (λ (n : ℕ). Promises name cmp v n answer (calls c.load.new.folder) (calls c.install.new.folder) (tells c.load.new.folder) (tells c.install.new.folder) c.install.result) c.manifest_of.ensures c.install.ensures.survives in
     version_left name order cmp g.C.Comparator.separator_of g.C.Comparator.successor_of files v loaded c.args.level s answer lines
     (calls c.args.folder.now) (calls c.load.new.folder) (calls c.install.new.folder) (tells c.args.folder.now) (tells c.load.new.folder) (tells c.install.new.folder) c.install.result q
@@ -108,7 +108,7 @@ returns-clause-left g c files order told named opened =
     let answer = answer_in c.in_ok-compacted.compacted.outcome in
     let lines = c.in_ok-compacted.compacted.lines.items in
     let q : Result (Vec ℕ) Fault = Ok c.in_ok-compacted.compacted.lines in
-    let done = subst (λ (ts : List (ℕ × Vec ℕ)). Compacted order cmp g.C.Comparator.separator_of g.C.Comparator.successor_of v (tables_in ts) c.args.level s answer lines) c.deref.ensures.value (c.in_ok-compacted.ensures.compacted order) in
+    let done = subst (λ (ts : List (ℕ × Vec ℕ)). VersionCompaction order cmp g.C.Comparator.separator_of g.C.Comparator.successor_of v (tables_in ts) c.args.level s answer lines) c.deref.ensures.value (c.in_ok-compacted.ensures.compacted order) in
     let promises = subst (λ (n : ℕ). Promises name cmp v n answer (calls c.load.new.folder) (calls c.install.new.folder) (tells c.load.new.folder) (tells c.install.new.folder) c.install.result) c.manifest_of.ensures c.install.ensures.survives in
     version_left name order cmp g.C.Comparator.separator_of g.C.Comparator.successor_of files v loaded c.args.level s answer lines
     (calls c.args.folder.now) (calls c.load.new.folder) (calls c.install.new.folder) (tells c.args.folder.now) (tells c.load.new.folder) (tells c.install.new.folder) c.install.result q

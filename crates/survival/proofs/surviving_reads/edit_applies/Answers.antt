@@ -1,4 +1,4 @@
-use Rattle.survival.proofs.Applying as lemma
+use Rattle.survival.proofs.AppliedEdit as lemma
 use Rattle.survival.proofs.surviving_reads.edit_applies.Goals as goal
 
 pub returns : goal.returns

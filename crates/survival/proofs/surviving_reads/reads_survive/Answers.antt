@@ -3,7 +3,7 @@ use Rattle.ikey.proofs.Shortened.{internal_separator_of-between, internal_succes
 use Rattle.table.specs.Table.{index_keys, table}
 use Rattle.table.specs.ReadingBack.{ReadBackLaw}
 use Rattle.table.proofs.ReadBack.{KeepOrder, is_table}
-use Rattle.survival.proofs.Surviving as lemma
+use Rattle.survival.proofs.SurvivingReads as lemma
 use Rattle.survival.proofs.surviving_reads.reads_survive.Goals as goal
 
 pub returns : goal.returns

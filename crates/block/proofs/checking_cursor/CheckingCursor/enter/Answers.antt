@@ -4,7 +4,7 @@ use Rattle.std.proofs.lemmas.Bool.{eqb-true, eqb-false}
 use Rattle.coding.specs.declared.fault.Fault.{Fault}
 use Rattle.coding.proofs.Binds.{failed}
 use Rattle.coding.proofs.Refusals.{FailsOrMemory-from}
-use Rattle.block.specs.Piece.{key_after}
+use Rattle.block.specs.EncodedEntry.{key_after}
 use Rattle.block.specs.Front.{front_field}
 use Rattle.block.specs.Behind.{entries_behind}
 use Rattle.block.specs.ReadingBlocks.{block_reading}
@@ -38,27 +38,27 @@ returns-then-is_empty-clause-ahead c =
 pub returns-then-is_empty-clause-all : goal.returns-then-is_empty-clause-all
 returns-then-is_empty-clause-all c = same_entries c.args.bytes.now c.in-Some.parts.area.now c.in-Some.parts.restarts.now c.in-Some.ensures.found
 
-pub returns-in_default-next_piece-clause-refused : goal.returns-in_default-next_piece-clause-refused
-returns-in_default-next_piece-clause-refused c =
+pub returns-in_default-next_entry-clause-refused : goal.returns-in_default-next_entry-clause-refused
+returns-in_default-next_entry-clause-refused c =
     let area = c.in-Some.parts.area.now in
     let restarts = c.in-Some.parts.restarts.now in
     let some : area ≢ [] = λ e. eqb-false _ _ (sym c.is_empty.ensures ∙ c.if-is_empty.false) (ap length e) in
-    FailsOrMemory-from c.of-in_default-next_piece.result (block_reading c.args.bytes.now)
-    (not_area c.args.bytes.now area restarts c.in-Some.ensures.found (c.in_default-next_piece.ensures.none restarts some (kept_none area restarts some)) ∙ ap (λ (f : Fault). failed f) (sym c.of-in_default-next_piece.ensures))
+    FailsOrMemory-from c.of-in_default-next_entry.result (block_reading c.args.bytes.now)
+    (not_area c.args.bytes.now area restarts c.in-Some.ensures.found (c.in_default-next_entry.ensures.none restarts some (kept_none area restarts some)) ∙ ap (λ (f : Fault). failed f) (sym c.of-in_default-next_entry.ensures))
 
 pub invariant_of-self-2 : goal.invariant_of-self-2
 invariant_of-self-2 c =
     let area = c.in-Some.parts.area.now in
     let restarts = c.in-Some.parts.restarts.now in
     let some : area ≢ [] = λ e. eqb-false _ _ (sym c.is_empty.ensures ∙ c.if-is_empty.false) (ap length e) in
-    passes_first c.args.bytes.now area restarts (front_field c.in-Some-next_piece.first.piece) c.in-Some-next_piece.first.pending.now c.replace_end.new.key.items c.in-Some.ensures.found (c.are_begun.ensures.begins c.if-not-are_begun.false) some c.in-Some-next_piece.ensures.next c.in_ok-replace_end.ensures.ok
+    passes_first c.args.bytes.now area restarts (front_field c.in-Some-next_entry.first.piece) c.in-Some-next_entry.first.pending.now c.replace_end.new.key.items c.in-Some.ensures.found (c.are_begun.ensures.begins c.if-not-are_begun.false) some c.in-Some-next_entry.ensures.next c.in_ok-replace_end.ensures.ok
 
 pub returns-clause-ahead : goal.returns-clause-ahead
 returns-clause-ahead c =
-    let piece = front_field c.in-Some-next_piece.first.piece in
+    let piece = front_field c.in-Some-next_entry.first.piece in
     let key : c.replace_end.new.key.items ≡ key_after [] piece.field = c.in_ok-replace_end.ensures.ok ∙ sym (first_key_whole piece.field) in
-    ap (λ (k : List ℕ). record { key = k; value = c.in-Some-next_piece.first.piece.value.now } ∷ entries_behind k c.in-Some-next_piece.first.piece.rest.now) key
-    ∙ sym (one_behind [] c.in-Some.parts.area.now piece c.in-Some-next_piece.ensures.next.read)
+    ap (λ (k : List ℕ). record { key = k; value = c.in-Some-next_entry.first.piece.value.now } ∷ entries_behind k c.in-Some-next_entry.first.piece.rest.now) key
+    ∙ sym (one_behind [] c.in-Some.parts.area.now piece c.in-Some-next_entry.ensures.next.read)
 
 pub returns-clause-all : goal.returns-clause-all
 returns-clause-all c = same_entries c.args.bytes.now c.in-Some.parts.area.now c.in-Some.parts.restarts.now c.in-Some.ensures.found

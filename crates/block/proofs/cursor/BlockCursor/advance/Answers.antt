@@ -1,14 +1,14 @@
 use Rattle.std.proofs.Common.{◌≡◌, List, ℕ, ◌∷◌, ap, subst, sym, ◌∙◌}
-use Rattle.block.specs.Piece.{Entry}
+use Rattle.block.specs.EncodedEntry.{Entry}
 use Rattle.block.specs.Front.{front_field}
-use Rattle.block.specs.Behind.{entries_behind, ArePiecesBehind}
+use Rattle.block.specs.Behind.{entries_behind, AreEncodedEntriesAfter}
 use Rattle.block.proofs.Walks.{steps, advanced}
 use Rattle.block.proofs.cursor.BlockCursor.advance.Goals as goal
 
 pub invariant_of-self-2 : goal.invariant_of-self-2
 invariant_of-self-2 c =
     let s = steps c.self.inside.key.items c.self.inside.rest.now (front_field c.in-Some.piece) c.self.invariant (sym c.in-Some.ensures) in
-    subst (λ (key : List ℕ). ArePiecesBehind key c.in-Some.piece.rest.now) (sym c.in_ok-replace_end.ensures.ok) s.behind
+    subst (λ (key : List ℕ). AreEncodedEntriesAfter key c.in-Some.piece.rest.now) (sym c.in_ok-replace_end.ensures.ok) s.behind
 
 pub returns-clause-ok : goal.returns-clause-ok
 returns-clause-ok c =

@@ -1,7 +1,7 @@
 use Rattle.std.proofs.Common.{◌≡◌, List, ℕ, [], ◌∷◌, ap, subst, sym, ◌∙◌}
-use Rattle.block.specs.Piece.{key_after}
+use Rattle.block.specs.EncodedEntry.{key_after}
 use Rattle.block.specs.Front.{front_field}
-use Rattle.block.specs.Behind.{entries_behind, ArePiecesBehind}
+use Rattle.block.specs.Behind.{entries_behind, AreEncodedEntriesAfter}
 use Rattle.block.proofs.Walks.{ends, steps, first_key_whole}
 use Rattle.block.proofs.cursor.BlockCursor.enter.Goals as goal
 
@@ -12,7 +12,7 @@ pub invariant_of-self-2 : goal.invariant_of-self-2
 invariant_of-self-2 c =
     let s = steps [] c.area.result.now (front_field c.in-Some.first) c.area.ensures.pieces (sym c.in-Some.ensures) in
     let key : c.replace_end.new.key.items ≡ key_after [] (front_field c.in-Some.first).field = c.in_ok-replace_end.ensures.ok ∙ sym (first_key_whole (front_field c.in-Some.first).field) in
-    subst (λ (key : List ℕ). ArePiecesBehind key c.in-Some.first.rest.now) (sym key) s.behind
+    subst (λ (key : List ℕ). AreEncodedEntriesAfter key c.in-Some.first.rest.now) (sym key) s.behind
 
 pub returns-clause-ok : goal.returns-clause-ok
 returns-clause-ok c =

@@ -1,6 +1,6 @@
 use Rattle.std.proofs.Common.{◌<◌, ◌-◌, ◌≡◌, sym, ap, ◌∙◌, arith}
 use Rattle.board.specs.declared.rule.Extent.{Extent}
-use Rattle.board.specs.Progress.{unused, unused_seats}
+use Rattle.board.specs.Progress.{unused_seat, unused_seats}
 use Rattle.board.specs.Seats.{layout}
 use Rattle.board.proofs.Moves.{splits_as}
 use Rattle.board.proofs.Workings.{all_made}
@@ -21,5 +21,5 @@ returns c =
     let b = layout made.table_id n w in
     let last : c.loop-number.number ≡ w - 1 = omega (arith, c.loop-number-test.false, c.loop-number.auto.number-end) in
     let same : layout made.table_id made.key.jobs made.key.seats ≡ b = ap (λ (e : Extent). layout made.table_id e.jobs e.seats) c.in_ok-table.ensures.2 in
-    let seat : c.new-2.result ≡ unused b (w - 1) = c.new-2.ensures ∙ ap (λ t. unused (layout t n w) (w - 1)) i.board in
+    let seat : c.new-2.result ≡ unused_seat b (w - 1) = c.new-2.ensures ∙ ap (λ t. unused_seat (layout t n w) (w - 1)) i.board in
     (same, all_made b w c.loop-number.number c.loop-number.all.items c.push-2.new.self.items c.new-2.result c.requires.few.0 last i.made seat c.in_ok-push-2.ensures.items ∙ ap (λ l. unused_seats l w) (sym same))

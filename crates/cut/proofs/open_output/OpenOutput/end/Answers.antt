@@ -2,7 +2,7 @@ use Rattle.std.proofs.Common.{◌≡◌, [], ◌∷◌, ◌++◌, ap, subst, ◌
 use Rattle.std.proofs.lemmas.Bool.{both_ways}
 use Rattle.table.specs.DataBlocks.{data_blocks}
 use Rattle.encoding.specs.declared.planned_block.PlannedBlock.{PlannedBlock}
-use Rattle.cut.specs.Opened.{Opened, parts_of}
+use Rattle.cut.specs.Opened.{OutputInProgress, parts_of}
 use Rattle.cut.proofs.Opened.{blocks_some, blocks_none}
 use Rattle.cut.proofs.open_output.OpenOutput.end.Goals as goal
 use Rattle.cut.proofs.open_output.OpenOutput.end.Goals.{then-not-is_empty, else-not-is_empty}
@@ -10,7 +10,7 @@ use Rattle.cut.proofs.open_output.OpenOutput.end.Goals.{then-not-is_empty, else-
 pub returns-clause-blocks : goal.returns-clause-blocks
 returns-clause-blocks c =
     let was = c.self.inside in
-    subst (λ (s : Opened). parts_of c.replace.result.items ≡ data_blocks s.options s.entries) c.self.view_is
+    subst (λ (s : OutputInProgress). parts_of c.replace.result.items ≡ data_blocks s.options s.entries) c.self.view_is
     (elim c.if-not-is_empty.branch [
       | then-not-is_empty w ↦
           let b : PlannedBlock = w.end-block.result in

@@ -1,7 +1,7 @@
 use Rattle.std.proofs.Common.{◌≡◌, List, ◌++◌, map, drop}
 use Rattle.keep.specs.declared.mark.Mark.{Mark}
 use Rattle.keep.specs.Runs.{moved_mark}
-use Rattle.cut.specs.Stopping.{all_stops, AreCounted}
+use Rattle.cut.specs.OverlapStops.{all_stops, AreCounted}
 use Rattle.cut.proofs.stops.Stopping.pass_all.Given as goal
 
 abbrev pub invariant-loop-mark : goal.invariant-loop-mark

@@ -3,10 +3,10 @@ use Rattle.std.specs.Global.{Vec}
 use Rattle.coding.specs.Answers.{EqualOrMemory}
 use Rattle.table.specs.Table.{IndexKeys, index_keys, table}
 use Rattle.cut.specs.declared.planned_output.PlannedOutput.{PlannedOutput}
-use Rattle.cut.specs.Assembling.{AreReady, tables_of}
+use Rattle.cut.specs.PlanTables.{AreReady, tables_of}
 use Rattle.cut.specs.Divided.{piece_limit}
-use Rattle.cut.specs.Plan.{assembled, encoded}
-use Rattle.cut.specs.Planning.{PlanSeen, block_count, planned_of, lists_in}
+use Rattle.cut.specs.Plan.{plan_tables, encoded_pieces}
+use Rattle.cut.specs.OutputPlan.{PlanSeen, block_count, planned_of, lists_in}
 use Rattle.cut.proofs.ReadyPieces.{counts_len, plan_ready, tables_are}
 use Rattle.cut.proofs.whole_plan.Plan.assemble.Goals as goal
 
@@ -20,7 +20,7 @@ assemble_all-requires-clause-ready g c =
     let was = c.self.inside in
     let keys : IndexKeys = index_keys g.C.Comparator.cmp g.C.Comparator.separator_of g.C.Comparator.successor_of in
     let bytes : List (List ℕ) = map (λ (p : Vec ℕ). p.items) c.args.pieces.items in
-    let asked : bytes ≡ encoded was.options (lists_in (map planned_of was.outputs.items)) = subst (λ (s : PlanSeen). bytes ≡ encoded s.options (lists_in s.outputs)) (sym c.self.view_is) c.requires in
+    let asked : bytes ≡ encoded_pieces was.options (lists_in (map planned_of was.outputs.items)) = subst (λ (s : PlanSeen). bytes ≡ encoded_pieces s.options (lists_in s.outputs)) (sym c.self.view_is) c.requires in
     let ready : AreReady keys was.options.restart_interval was.outputs.items was.counts.items bytes =
     subst (AreReady keys was.options.restart_interval was.outputs.items was.counts.items) (sym asked)
     (plan_ready g.C.Comparator.cmp g.C.Comparator.separator_of g.C.Comparator.successor_of was.options was.outputs.items was.pieces.items was.counts.items c.self.invariant) in
@@ -35,7 +35,7 @@ returns g c =
     let successor_of = g.C.Comparator.successor_of in
     let keys : IndexKeys = index_keys cmp separator_of successor_of in
     let seen : ℕ × Vec ℕ → ℕ × List ℕ = λ t. (t.0, t.1.items) in
-    let tables : tables_of keys was.options.restart_interval c.deref.result.now ≡ assembled (table cmp separator_of successor_of was.options) (map planned_of was.outputs.items) =
+    let tables : tables_of keys was.options.restart_interval c.deref.result.now ≡ plan_tables (table cmp separator_of successor_of was.options) (map planned_of was.outputs.items) =
     ap (tables_of keys was.options.restart_interval) c.deref.ensures.value ∙ tables_are cmp separator_of successor_of was.options was.outputs.items c.self.invariant.each in
-    subst (λ (s : PlanSeen). EqualOrMemory (λ ts. map seen ts.items) c.assemble_all.result (Ok (assembled (table cmp separator_of successor_of s.options) s.outputs))) c.self.view_is
+    subst (λ (s : PlanSeen). EqualOrMemory (λ ts. map seen ts.items) c.assemble_all.result (Ok (plan_tables (table cmp separator_of successor_of s.options) s.outputs))) c.self.view_is
     (subst (λ (ts : List (ℕ × List ℕ)). EqualOrMemory (λ v. map seen v.items) c.assemble_all.result (Ok ts)) tables c.assemble_all.ensures)

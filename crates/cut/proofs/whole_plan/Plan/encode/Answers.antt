@@ -1,15 +1,15 @@
 use Rattle.std.proofs.Common.{◌≡◌, ◌<◌, ◌≤◌, List, length, map, sym, ap, subst, ◌∙◌, arith}
 use Rattle.std.specs.Prelude.{slice_get, slice_range, Some, IfOk}
 use Rattle.std.specs.List.{AllByRecursion}
-use Rattle.block.specs.Writing.{block}
+use Rattle.block.specs.BlockFormat.{block}
 use Rattle.table.specs.Table.{stored_blocks, table}
 use Rattle.encoding.specs.declared.planned_block.PlannedBlock.{PlannedBlock}
 use Rattle.cut.specs.declared.piece.Piece.{Piece}
 use Rattle.cut.specs.declared.planned_output.PlannedOutput.{PlannedOutput}
 use Rattle.cut.specs.Divided.{blocks_at, piece_blocks}
 use Rattle.cut.specs.Opened.{parts_of}
-use Rattle.cut.specs.Plan.{jobs, encoded}
-use Rattle.cut.specs.Planning.{PlanSeen, IsPlannedOutput, planned_of, lists_in}
+use Rattle.cut.specs.Plan.{jobs, encoded_pieces}
+use Rattle.cut.specs.OutputPlan.{PlanSeen, IsPlannedOutput, planned_of, lists_in}
 use Rattle.cut.proofs.PlanPieces.{IsPlace, all_range, at, block_short, blocks_here, bytes_are, piece_at, plan_jobs, plan_place}
 use Rattle.cut.proofs.whole_plan.Plan.encode.Goals as goal
 
@@ -66,8 +66,8 @@ returns-clause-ok g c =
     plan_place g.C.Comparator.cmp g.C.Comparator.separator_of g.C.Comparator.successor_of was.options was.outputs.items was.pieces.items was.counts.items c.args.job p c.self.invariant lt (sym c.index-piece.ensures) in
     let blocks : blocks_at was.outputs.items p.output ≡ c.deref.result.now = blocks_here was.outputs.items p.output q place.output (sym c.index-output.ensures) ∙ sym c.deref.ensures.value in
     let range : piece_blocks was.outputs.items p ≡ c.range_of-blocks.result.now = ap (λ (bs : List PlannedBlock). slice_range bs p.from p.to) blocks ∙ sym c.range_of-blocks.ensures in
-    let found : slice_get (encoded was.options (lists_in (map planned_of was.outputs.items))) c.args.job ≡ Some (stored_blocks was.options.restart_interval (parts_of c.range_of-blocks.result.now)) =
+    let found : slice_get (encoded_pieces was.options (lists_in (map planned_of was.outputs.items))) c.args.job ≡ Some (stored_blocks was.options.restart_interval (parts_of c.range_of-blocks.result.now)) =
     piece_at g.C.Comparator.cmp g.C.Comparator.separator_of g.C.Comparator.successor_of was.options was.outputs.items was.pieces.items was.counts.items c.args.job p c.self.invariant lt (sym c.index-piece.ensures)
     ∙ ap (λ (bs : List PlannedBlock). Some (stored_blocks was.options.restart_interval (parts_of bs))) range in
-    subst (λ (s : PlanSeen). IfOk c.encode_blocks.result (λ bytes. slice_get (encoded s.options (lists_in s.outputs)) c.args.job ≡ Some bytes.items)) c.self.view_is
-    (bytes_are c.encode_blocks.result (stored_blocks was.options.restart_interval (parts_of c.range_of-blocks.result.now)) (slice_get (encoded was.options (lists_in (map planned_of was.outputs.items))) c.args.job) c.encode_blocks.ensures found)
+    subst (λ (s : PlanSeen). IfOk c.encode_blocks.result (λ bytes. slice_get (encoded_pieces s.options (lists_in s.outputs)) c.args.job ≡ Some bytes.items)) c.self.view_is
+    (bytes_are c.encode_blocks.result (stored_blocks was.options.restart_interval (parts_of c.range_of-blocks.result.now)) (slice_get (encoded_pieces was.options (lists_in (map planned_of was.outputs.items))) c.args.job) c.encode_blocks.ensures found)

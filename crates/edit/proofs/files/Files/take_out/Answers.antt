@@ -1,7 +1,7 @@
 use Rattle.std.proofs.Common.{◌<◌, ℕ, List, [], ◌∷◌, vec_len, slice_get, sym, ap, subst, ◌∙◌}
 use Rattle.std.proofs.lemmas.Option.{slice_get_read}
 use Rattle.edit.specs.FilePlaces.{AreFilePlaces, with_place_of}
-use Rattle.edit.specs.Version.{has_place, kept_files}
+use Rattle.edit.specs.Version.{has_place, undeleted_files}
 use Rattle.edit.specs.declared.meta.NewFile.{NewFile}
 use Rattle.edit.proofs.Places.{is_within}
 use Rattle.edit.proofs.Moved.{TakesOne, is_swapped, left_as, placed_left, stands_there, stands_nowhere, others_left}
@@ -58,7 +58,7 @@ returns-in-Some-clause-others c =
     let as_set = left_as after ps c.remove.new.self.entries c.set_place.new.places.entries number spot
     (c.set_place.ensures ∙ ap (λ (fs : List NewFile). with_place_of (slice_get fs spot) spot c.remove.new.self.entries) c.deref.ensures.value) c.remove.ensures.entries in
     let stands = stands_there files ps c.args.place spot c.swap_remove-file.result c.self.invariant under (slice_get_read files (vec_len c.self.inside.files) spot c.swap_remove-file.result c.self.inside.files.ok.0 low c.swap_remove-file.ensures.value) in
-    λ yes. others_left files after ps c.set_place.new.places.entries c.args.place spot (vec_len c.swap_remove-file.new.self) left_so as_set (sym stands ∙ yes) ∙ ap (kept_files (c.args.place ∷ [])) c.self.view_is
+    λ yes. others_left files after ps c.set_place.new.places.entries c.args.place spot (vec_len c.swap_remove-file.new.self) left_so as_set (sym stands ∙ yes) ∙ ap (undeleted_files (c.args.place ∷ [])) c.self.view_is
 
 pub returns-in-None-clause-there : goal.returns-in-None-clause-there
 returns-in-None-clause-there c =

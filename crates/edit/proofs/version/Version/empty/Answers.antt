@@ -1,4 +1,4 @@
-use Rattle.edit.proofs.Rising.{empty_holds}
+use Rattle.edit.proofs.RisingFiles.{empty_holds}
 use Rattle.edit.proofs.version.Version.empty.Goals as goal
 
 pub invariant_of-result : goal.invariant_of-result

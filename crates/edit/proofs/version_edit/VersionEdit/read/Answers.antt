@@ -1,7 +1,7 @@
 use Rattle.std.proofs.Common.{◌≢◌, [], length, sym, ap, ◌∙◌, arith}
 use Rattle.std.proofs.lemmas.Result.{err_from_is_err_and}
 use Rattle.std.proofs.lemmas.Bool.{eqb-false}
-use Rattle.edit.specs.Edit.{IsRefused, edit_in}
+use Rattle.edit.specs.Edit.{IsEditRefused, edit_in}
 use Rattle.edit.specs.CodeFields.{field_in}
 use Rattle.edit.proofs.Edits.{reads_begin, reads_on, reads_refused, field_shorter}
 use Rattle.coding.proofs.Refusals.{unless}
@@ -14,7 +14,7 @@ pub returns-in_err-field-clause-refused : goal.returns-in_err-field-clause-refus
 returns-in_err-field-clause-refused c =
     let p = err_from_is_err_and c.from_residual.result c.from_residual.ensures.1 in
     let some : c.loop-rest.rest.now ≢ [] = λ e. eqb-false _ _ (sym c.is_empty.ensures ∙ c.loop-rest-test.true) (ap length e) in
-    rw (p.1, p.2) (unless c.in_err-field.field-0.0 (IsRefused c.args.bytes.now c.in_err-field.field-0.0)
+    rw (p.1, p.2) (unless c.in_err-field.field-0.0 (IsEditRefused c.args.bytes.now c.in_err-field.field-0.0)
     (reads_refused c.args.bytes.now (edit_in c.loop-rest.edit) c.loop-rest.rest.now c.in_err-field.field-0.0 c.loop-rest.invariant some (sym c.in_err-field.ensures)))
 
 pub loop-rest-smaller : goal.loop-rest-smaller

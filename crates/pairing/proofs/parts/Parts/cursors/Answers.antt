@@ -1,10 +1,10 @@
 use Rattle.std.proofs.Common.{List, subst}
 use Rattle.std.specs.List.{AllByRecursion}
-use Rattle.block.specs.Piece.{Entry}
-use Rattle.merge.specs.Merged.{joined}
-use Rattle.pairing.specs.Merging.{IsLimited}
+use Rattle.block.specs.EncodedEntry.{Entry}
+use Rattle.merge.specs.Merged.{entries_of_lists}
+use Rattle.pairing.specs.TestedUnion.{IsLimited}
 use Rattle.pairing.proofs.RangeUnions.{joined_limited}
 use Rattle.pairing.proofs.parts.Parts.cursors.Goals as goal
 
 pub returns-clause-limited : goal.returns-clause-limited
-returns-clause-limited c = subst (λ (lists : List (List Entry)). AllByRecursion IsLimited (joined lists)) c.self.view_is (joined_limited c.self.inside.a.now c.self.inside.b.now)
+returns-clause-limited c = subst (λ (lists : List (List Entry)). AllByRecursion IsLimited (entries_of_lists lists)) c.self.view_is (joined_limited c.self.inside.a.now c.self.inside.b.now)

@@ -4,12 +4,12 @@ use Rattle.coding.specs.Answers.{UnlessMemory, fault}
 use Rattle.coding.specs.declared.fault.Fault.{Fault}
 use Rattle.coding.specs.declared.fault.FaultName.TheVariants.{Duplicate}
 use Rattle.coding.proofs.Refusals.{unless_from}
-use Rattle.block.specs.Piece.{Entry}
+use Rattle.block.specs.EncodedEntry.{Entry}
 use Rattle.ikey.specs.Bytewise.{bytewise_cmp}
 use Rattle.table.proofs.Walks.{none_valid}
 use Rattle.merge.specs.Merged.{merged}
-use Rattle.pairing.specs.Merging.{tested_entries, is_behind, distinct_after, union_of}
-use Rattle.pairing.specs.Testing.{last_key}
+use Rattle.pairing.specs.TestedUnion.{tested_entries, is_behind, distinct_after, union_of}
+use Rattle.pairing.specs.EntryTests.{last_key_or}
 use Rattle.pairing.proofs.TestedLists.{with_front, first_entry}
 use Rattle.pairing.proofs.RangeUnions.{begins_with, begins_behind, goes_on_behind, ends_behind, is_done_behind, merged_limited, first_limited, rest_limited}
 use Rattle.pairing.proofs.parts.Parts.union.Goals as goal
@@ -29,7 +29,7 @@ returns-in_err-push_behind c =
     let key = c.key.result.bytes.now in
     let e : Fault = c.in_err-push_behind.field-0.0 in
     let answer : UnlessMemory e (union_of c.args.self.now ≡ Err e) =
-    unless_from e ((is_behind (last_key None run) key ≡ false) × (e ≡ fault Duplicate)) (union_of c.args.self.now ≡ Err e)
+    unless_from e ((is_behind (last_key_or None run) key ≡ false) × (e ≡ fault Duplicate)) (union_of c.args.self.now ≡ Err e)
     (λ refused. ends_behind run (merged bytewise_cmp c.loop-alloc.merging) key (union_of c.args.self.now) c.key.ensures refused.0 c.loop-alloc.invariant.so_far ∙ ap (λ (f : Fault). Err f) (sym refused.1))
     c.in_err-push_behind.ensures.refused in
     rw (p.1) (subst (λ (f : Fault). UnlessMemory f (union_of c.args.self.now ≡ Err f)) (sym p.2) answer)
@@ -48,8 +48,8 @@ loop-alloc-preserved c =
     let first = first_entry q key value c.key.ensures c.value.ensures in
     let on = goes_on_behind run q key value (union_of c.args.self.now) first c.in_ok-push_behind.ensures.behind c.loop-alloc.invariant.so_far in
     record {
-      so_far = subst (λ (es : List Entry). with_front es (distinct_after (last_key None es) (merged bytewise_cmp c.advance.new.self)) ≡ union_of c.args.self.now) (sym c.in_ok-push_behind.ensures.ok)
-          (subst (λ (es : List Entry). with_front (run ++ entry ∷ []) (distinct_after (last_key None (run ++ entry ∷ [])) es) ≡ union_of c.args.self.now) (sym c.in_ok-advance.ensures.ok) on);
+      so_far = subst (λ (es : List Entry). with_front es (distinct_after (last_key_or None es) (merged bytewise_cmp c.advance.new.self)) ≡ union_of c.args.self.now) (sym c.in_ok-push_behind.ensures.ok)
+          (subst (λ (es : List Entry). with_front (run ++ entry ∷ []) (distinct_after (last_key_or None (run ++ entry ∷ [])) es) ≡ union_of c.args.self.now) (sym c.in_ok-advance.ensures.ok) on);
       limited = rest_limited q (merged bytewise_cmp c.advance.new.self) c.in_ok-advance.ensures.ok c.loop-alloc.invariant.limited;
     }
 

@@ -2,14 +2,14 @@ use Rattle.std.proofs.Common.{◌≡◌, length, None}
 use Rattle.std.specs.List.{AllByRecursion}
 use Rattle.ikey.specs.Bytewise.{bytewise_cmp}
 use Rattle.merge.specs.Merged.{merged}
-use Rattle.pairing.specs.Merging.{tested_entries, distinct_after, union_of, IsLimited}
-use Rattle.pairing.specs.Testing.{last_key}
+use Rattle.pairing.specs.TestedUnion.{tested_entries, distinct_after, union_of, IsLimited}
+use Rattle.pairing.specs.EntryTests.{last_key_or}
 use Rattle.pairing.proofs.TestedLists.{with_front}
 use Rattle.pairing.proofs.parts.Parts.union.Given as goal
 
 abbrev pub invariant-loop-alloc : goal.invariant-loop-alloc
 invariant-loop-alloc l = record {
-  so_far : with_front (tested_entries l.union.items) (distinct_after (last_key None (tested_entries l.union.items)) (merged bytewise_cmp l.merging)) ≡ union_of l.self;
+  so_far : with_front (tested_entries l.union.items) (distinct_after (last_key_or None (tested_entries l.union.items)) (merged bytewise_cmp l.merging)) ≡ union_of l.self;
   limited : AllByRecursion IsLimited (merged bytewise_cmp l.merging);
 }
 

@@ -2,7 +2,7 @@ use Rattle.std.proofs.Common.{◌≡◌, ℕ, List, map, sym, ap, subst, ◌∙�
 use Rattle.std.specs.Prelude.{Contains}
 use Rattle.std.specs.List.{flat_map}
 use Rattle.coding.proofs.Binds.{ok_is}
-use Rattle.split.specs.Choosing.{index_users_of, IsListOf, IsAtPlaceBelow}
+use Rattle.split.specs.SplitChoice.{index_users_of, IsListOf, IsAtPlaceBelow}
 use Rattle.split.proofs.Lent.{lent_users}
 use Rattle.split.proofs.split.Split.choose.Goals as goal
 

@@ -1,14 +1,14 @@
 use Rattle.std.proofs.Common.{◌≡◌, ℕ, List, [], ◌++◌, ◌∷◌, length, sym, ap, subst, refl, ◌∙◌}
-use Rattle.block.specs.Piece.{Entry}
-use Rattle.block.specs.Writing.{block}
-use Rattle.block.specs.Building.{Building, last_key, with_entry}
+use Rattle.block.specs.EncodedEntry.{Entry}
+use Rattle.block.specs.BlockFormat.{block}
+use Rattle.block.specs.BuilderView.{BlockBuilding, last_key, with_entry}
 use Rattle.ikey.specs.Short.{internal_separator_of}
 use Rattle.table.specs.declared.options.Options.{Options}
 use Rattle.table.specs.Table.{index_keys}
 use Rattle.table.specs.declared.flushed_block.FlushedBlock.{FlushedBlock}
-use Rattle.table.specs.Flushed.{entry_at}
-use Rattle.table.specs.Building.{TableBuilding}
-use Rattle.table.specs.Kept.{entries_so_far, IsKept}
+use Rattle.table.specs.Flushed.{flushed_block_at}
+use Rattle.table.specs.BuilderView.{TableBuilding}
+use Rattle.table.specs.BuilderState.{entries_so_far, IsAnyTableBuilder}
 use Rattle.table.proofs.Builds.{Adds, first_fits, open_fits, grows, flushes}
 use Rattle.table.proofs.Refused.{ok_is}
 use Rattle.table.proofs.builder.TableBuilder.add.Given.{Over}
@@ -26,7 +26,7 @@ add-requires g c =
 
 pub add-requires-2 : goal.add-requires-2
 add-requires-2 g c =
-    first_fits c.self.inside.next c.args.key.bytes.now c.args.value.now (ap (λ (b : Building). b.entries) c.self.invariant.1) c.args.key.lawful c.requires.value_fits
+    first_fits c.self.inside.next c.args.key.bytes.now c.args.value.now (ap (λ (b : BlockBuilding). b.entries) c.self.invariant.1) c.args.key.lawful c.requires.value_fits
 
 -- ---- the entry goes into the open block
 
@@ -62,19 +62,19 @@ begun g c =
     flushes keys was.options was.flushed.bytes.items was.flushed.index.items was.block key c.args.value.now _ _ _ _ c.self.invariant.0 (sym c.is_full.ensures ∙ c.if-not-is_full.false) c.args.key.lawful c.requires.value_fits
     refl
     c.in_default.ensures.bytes
-    (c.in_default.ensures.index ∙ ap (λ (k : List ℕ). was.flushed.index.items ++ entry_at k (length was.flushed.bytes.items) size ∷ []) between)
-    (c.in_ok-add-2.ensures.ok ∙ ap (λ (b : Building). record { interval = b.interval; entries = with_entry b.entries key c.args.value.now }) c.self.invariant.1)
+    (c.in_default.ensures.index ∙ ap (λ (k : List ℕ). was.flushed.index.items ++ flushed_block_at k (length was.flushed.bytes.items) size ∷ []) between)
+    (c.in_ok-add-2.ensures.ok ∙ ap (λ (b : BlockBuilding). record { interval = b.interval; entries = with_entry b.entries key c.args.value.now }) c.self.invariant.1)
 
 pub invariant_of-self-2 : goal.invariant_of-self-2
 invariant_of-self-2 g c =
-    let spare = c.clear-2.ensures ∙ ap (λ (b : Building). record { interval = b.interval; entries = [] }) c.swap.ensures.y_after ∙ ap (λ (n : ℕ). record { interval = n; entries = [] }) c.self.invariant.0.1.interval_is in
+    let spare = c.clear-2.ensures ∙ ap (λ (b : BlockBuilding). record { interval = b.interval; entries = [] }) c.swap.ensures.y_after ∙ ap (λ (n : ℕ). record { interval = n; entries = [] }) c.self.invariant.0.1.interval_is in
     rw (c.swap.ensures.x_after) ((begun g c).kept, spare)
 
 pub returns-clause-ok : goal.returns-clause-ok
 returns-clause-ok g c =
     let bytes = c.push.new.self.bytes.items in
     let index = c.push.new.self.index.items in
-    ap (λ (b : Building). seen c.self.inside.options (entries_so_far bytes index b.entries)) c.swap.ensures.x_after
+    ap (λ (b : BlockBuilding). seen c.self.inside.options (entries_so_far bytes index b.entries)) c.swap.ensures.x_after
     ∙ ap (seen c.self.inside.options) (begun g c).entries
     ∙ ap (λ (b : TableBuilding). seen b.options (with_entry b.entries c.args.key.bytes.now c.args.value.now)) c.self.view_is
 
@@ -87,10 +87,10 @@ pub invariant_of-self-in-Err : goal.invariant_of-self-in-Err
 invariant_of-self-in-Err g c =
     let was = c.self.inside in
     let keys = index_keys g.C.Comparator.cmp g.C.Comparator.separator_of g.C.Comparator.successor_of in
-    let added = c.in_ok-add-2.ensures.ok ∙ ap (λ (b : Building). record { interval = b.interval; entries = with_entry b.entries c.args.key.bytes.now c.args.value.now }) c.self.invariant.1 in (
-      subst (λ (b : List ℕ). IsKept keys was.options b c.push.new.self.index.items was.block) (sym c.in-Err.ensures.bytes_stay)
-          (subst (λ (i : List FlushedBlock). IsKept keys was.options was.flushed.bytes.items i was.block) (sym c.in-Err.ensures.index_stays) c.self.invariant.0),
-      c.clear.ensures ∙ ap (λ (b : Building). record { interval = b.interval; entries = [] }) added,
+    let added = c.in_ok-add-2.ensures.ok ∙ ap (λ (b : BlockBuilding). record { interval = b.interval; entries = with_entry b.entries c.args.key.bytes.now c.args.value.now }) c.self.invariant.1 in (
+      subst (λ (b : List ℕ). IsAnyTableBuilder keys was.options b c.push.new.self.index.items was.block) (sym c.in-Err.ensures.bytes_stay)
+          (subst (λ (i : List FlushedBlock). IsAnyTableBuilder keys was.options was.flushed.bytes.items i was.block) (sym c.in-Err.ensures.index_stays) c.self.invariant.0),
+      c.clear.ensures ∙ ap (λ (b : BlockBuilding). record { interval = b.interval; entries = [] }) added,
     )
 
 pub returns-in-Err-clause-err : goal.returns-in-Err-clause-err

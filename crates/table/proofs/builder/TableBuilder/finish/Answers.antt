@@ -1,12 +1,12 @@
 use Rattle.std.proofs.Common.{◌≡◌, ◌++◌, ◌∷◌, [], ℕ, List, length, refl, sym, ap, subst, ◌∙◌}
 use Rattle.coding.specs.Answers.{EqualOrMemory}
-use Rattle.block.specs.Writing.{block}
-use Rattle.block.specs.Building.{last_key}
+use Rattle.block.specs.BlockFormat.{block}
+use Rattle.block.specs.BuilderView.{last_key}
 use Rattle.ikey.specs.Short.{internal_successor_of}
 use Rattle.table.specs.Table.{index_keys, table, within_limit}
-use Rattle.table.specs.Flushed.{entry_at}
-use Rattle.table.specs.Building.{TableBuilding}
-use Rattle.table.specs.Kept.{entries_so_far}
+use Rattle.table.specs.Flushed.{flushed_block_at}
+use Rattle.table.specs.BuilderView.{TableBuilding}
+use Rattle.table.specs.BuilderState.{entries_so_far}
 use Rattle.table.proofs.Closes.{closed, closed_is, closes_last, closes_none, some_length}
 use Rattle.table.proofs.Refused.{ok_is}
 use Rattle.table.proofs.builder.TableBuilder.finish.Goals as goal
@@ -25,7 +25,7 @@ returns g c =
           let size : ℕ = length (block was.block.interval was.block.entries) in
           closed_is _ _ _ _
           (ap (λ f. f.bytes.items) w.flushed-is ∙ w.in_ok-push.ensures.bytes)
-          (ap (λ f. f.index.items) w.flushed-is ∙ w.in_ok-push.ensures.index ∙ ap (λ (k : List ℕ). was.flushed.index.items ++ entry_at k (length was.flushed.bytes.items) size ∷ []) above)
+          (ap (λ f. f.index.items) w.flushed-is ∙ w.in_ok-push.ensures.index ∙ ap (λ (k : List ℕ). was.flushed.index.items ++ flushed_block_at k (length was.flushed.bytes.items) size ∷ []) above)
           ∙ closes_last keys was.options was.flushed.bytes.items was.flushed.index.items was.block.interval was.block.entries c.self.invariant.0.0 c.self.invariant.0.1 (some_length was.block.entries w.if-not-is_empty.ensures.1)
       | else-not-is_empty w ↦
           closed_is _ _ _ _ (ap (λ f. f.bytes.items) w.flushed-is) (ap (λ f. f.index.items) w.flushed-is)

@@ -1,7 +1,7 @@
 use Rattle.std.proofs.Common.{◌≡◌, ℕ, ◌+◌, cond, length, refl, sym, ap, ◌∙◌, arith}
-use Rattle.block.specs.Writing.{block}
+use Rattle.block.specs.BlockFormat.{block}
 use Rattle.table.specs.Table.{index_keys}
-use Rattle.table.specs.Building.{TableBuilding}
+use Rattle.table.specs.BuilderView.{TableBuilding}
 use Rattle.table.specs.DataBlocks.{flushed}
 use Rattle.table.proofs.Closes.{flushed-kept}
 use Rattle.table.proofs.builder.TableBuilder.flushed.Goals as goal

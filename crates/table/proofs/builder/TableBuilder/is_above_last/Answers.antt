@@ -1,8 +1,8 @@
 use Rattle.std.proofs.Common.{[], List, ℕ, length, refl, sym, ap, subst, ◌∙◌}
 use Rattle.ikey.specs.Order.{internal_cmp}
-use Rattle.block.specs.Building.{last_key}
+use Rattle.block.specs.BuilderView.{last_key}
 use Rattle.table.specs.Table.{index_keys}
-use Rattle.table.specs.Building.{TableBuilding, IsAboveLast}
+use Rattle.table.specs.BuilderView.{TableBuilding, IsAboveLast}
 use Rattle.table.proofs.Closes.{above_kept, above_none, some_length, less_by_test}
 use Rattle.table.proofs.builder.TableBuilder.is_above_last.Goals as goal
 

@@ -1,6 +1,6 @@
 use Rattle.std.proofs.Common.{[], refl}
 use Rattle.table.specs.Table.{index_keys}
-use Rattle.table.specs.Kept.{entries_so_far}
+use Rattle.table.specs.BuilderState.{entries_so_far}
 use Rattle.table.proofs.Builds.{IsBuilt-nil}
 use Rattle.table.proofs.builder.TableBuilder.new.Goals as goal
 

@@ -1,12 +1,12 @@
 use Rattle.std.proofs.Common.{◌≡◌, ◌<◌, ℕ, List, length, get_or, [], sym, ap, subst, ◌∙◌, arith}
-use Rattle.table.specs.KeyLists.{cut_at, AreEnds}
+use Rattle.table.specs.KeyLists.{cut_at, AreKeyEnds}
 use Rattle.table.proofs.KeyLists.{counted}
 use Rattle.table.proofs.key_list.KeyList.get.Goals as goal
 
 pub cut-requires-clause-ends : goal.cut-requires-clause-ends
 cut-requires-clause-ends c =
-    subst (λ (ends : List ℕ). AreEnds 0 ends c.deref.result.now) (sym c.deref-2.ensures.value)
-    (subst (λ (bytes : List ℕ). AreEnds 0 c.self.inside.ends.items bytes) (sym c.deref.ensures.value) c.self.invariant)
+    subst (λ (ends : List ℕ). AreKeyEnds 0 ends c.deref.result.now) (sym c.deref-2.ensures.value)
+    (subst (λ (bytes : List ℕ). AreKeyEnds 0 c.self.inside.ends.items bytes) (sym c.deref.ensures.value) c.self.invariant)
 
 pub cut-requires-clause-inside : goal.cut-requires-clause-inside
 cut-requires-clause-inside c =

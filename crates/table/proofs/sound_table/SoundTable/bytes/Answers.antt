@@ -1,7 +1,7 @@
 use Rattle.std.proofs.Common.{◌≡◌, ℕ, List, Ok, sym, ap, subst, ◌∙◌}
 use Rattle.std.specs.Prelude.{Result}
 use Rattle.coding.specs.declared.fault.Fault.{Fault}
-use Rattle.table.specs.Reading.{Contents, contents_reading}
+use Rattle.table.specs.TableContents.{Contents, contents_reading}
 use Rattle.table.proofs.CheckedTables.{blocks_are, contents_are, contents_read}
 use Rattle.table.proofs.sound_table.SoundTable.bytes.Goals as goal
 

@@ -1,10 +1,10 @@
 use Rattle.std.proofs.Common.{◌≡◌, ◌++◌, ◌∷◌, [], ℕ, List, map, length, drop, refl, sym, ap, subst, ◌∙◌, arith}
 use Rattle.std.proofs.lemmas.List.{append-nil, map_push, nil_from_length, length-drop}
 use Rattle.coding.proofs.Binds.{done}
-use Rattle.block.specs.Piece.{Entry}
+use Rattle.block.specs.EncodedEntry.{Entry}
 use Rattle.ikey.specs.Key.{user_of}
 use Rattle.table.specs.ReadingEntries.{HaveKeys}
-use Rattle.table.specs.Reading.{Contents}
+use Rattle.table.specs.TableContents.{Contents}
 use Rattle.table.proofs.CheckedTables.{users_are}
 use Rattle.table.proofs.Walks.{indexes, keys_behind, named_keys, none_valid, users_go_on, users_named}
 use Rattle.table.proofs.sound_table.SoundTable.index_users.Goals as goal

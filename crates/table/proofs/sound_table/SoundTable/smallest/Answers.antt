@@ -1,8 +1,8 @@
 use Rattle.std.proofs.Common.{◌≡◌, ℕ, List, Some, sym, ap, ◌∙◌}
 use Rattle.std.specs.Prelude.{slice_get}
 use Rattle.std.specs.Option.{option_map}
-use Rattle.block.specs.Piece.{Entry}
-use Rattle.table.specs.Reading.{Contents, entries_of}
+use Rattle.block.specs.EncodedEntry.{Entry}
+use Rattle.table.specs.TableContents.{Contents, entries_of}
 use Rattle.table.proofs.CheckedTables.{blocks_are, contents_are, some_entry, first_is}
 use Rattle.table.proofs.sound_table.SoundTable.smallest.Goals as goal
 

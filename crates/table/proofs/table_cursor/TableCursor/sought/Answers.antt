@@ -1,9 +1,9 @@
 use Rattle.std.proofs.Common.{[], List, length, drop, sym, ap, subst, arith}
 use Rattle.std.proofs.lemmas.List.{nil_from_length, length-drop}
-use Rattle.block.specs.Piece.{Entry}
-use Rattle.block.specs.Sound.{Sound}
+use Rattle.block.specs.EncodedEntry.{Entry}
+use Rattle.block.specs.Sound.{BlockView}
 use Rattle.table.specs.ReadingCursors.{entries_from}
-use Rattle.table.specs.Walking.{IsLeft}
+use Rattle.table.specs.IndexWalk.{IsWalkLeft}
 use Rattle.table.proofs.Walks.{Seeks, seek_begins, seek_enters, seek_ends, seek_leaves, first_data, first_named, named_keys, none_valid, some_valid}
 use Rattle.table.proofs.table_cursor.TableCursor.sought.Goals as goal
 use Rattle.table.proofs.table_cursor.TableCursor.sought.Goals.{then-loop-index-test+else-valid, else-loop-index-test}
@@ -36,7 +36,7 @@ invariant_of-result g c =
     let cmp = g.C.Comparator.cmp in
     let bytes = c.self.inside.bytes.now in
     let target = c.args.target.bytes.now in
-    subst (λ (b : Sound). IsLeft cmp bytes b.entries c.loop-index.block c.loop-index.index) (sym c.copy.ensures)
+    subst (λ (b : BlockView). IsWalkLeft cmp bytes b.entries c.loop-index.block c.loop-index.index) (sym c.copy.ensures)
     (seek_leaves cmp bytes target c.self.inside.index_block.entries c.self.inside.block c.self.inside.index c.loop-index.block c.loop-index.index c.args.self.now c.self.invariant c.self.view_is c.loop-index.invariant (λ none.
     elim c.loop-index-test.branch [
       | then-loop-index-test+else-valid w ↦ nil_from_length c.loop-index.index (none_valid w.valid-in-loop-index.result c.loop-index.index w.valid-in-loop-index.ensures.1 w.if-valid.false)

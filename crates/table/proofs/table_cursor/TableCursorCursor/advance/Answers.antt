@@ -3,8 +3,8 @@ use Rattle.std.specs.Prelude.{slice_get}
 use Rattle.std.specs.Option.{option_map}
 use Rattle.std.proofs.lemmas.List.{nil_from_length}
 use Rattle.std.proofs.lemmas.Option.{same_Some, none-some}
-use Rattle.block.specs.Piece.{Entry}
-use Rattle.table.specs.Walking.{block_named, entries_named, all_named, IsLeft}
+use Rattle.block.specs.EncodedEntry.{Entry}
+use Rattle.table.specs.IndexWalk.{block_named, entries_named, all_named, IsWalkLeft}
 use Rattle.table.proofs.Walks.{first_named, named_entries, left_advanced, left_enters, some_left, not_last, none_valid}
 use Rattle.table.proofs.table_cursor.TableCursorCursor.advance.Goals as goal
 use Rattle.table.proofs.table_cursor.TableCursorCursor.advance.Goals.{then-not-is_last-via-then-not-is_last, then-not-is_last-via-else-not-is_last+then-not-valid}
@@ -32,8 +32,8 @@ invariant_of-self-2 g c =
     let cmp = g.C.Comparator.cmp in
     let bytes = c.self.inside.bytes.now in
     let names = c.self.inside.index_block.entries in
-    subst (λ (i : List Entry). IsLeft cmp bytes names c.in_ok-next.next i) (sym c.in_ok-advance.ensures.ok)
-    (subst (λ (b : List Entry). IsLeft cmp bytes names b (drop 1 c.self.inside.index)) (sym c.in_ok-next.ensures.all)
+    subst (λ (i : List Entry). IsWalkLeft cmp bytes names c.in_ok-next.next i) (sym c.in_ok-advance.ensures.ok)
+    (subst (λ (b : List Entry). IsWalkLeft cmp bytes names b (drop 1 c.self.inside.index)) (sym c.in_ok-next.ensures.all)
     (left_enters cmp bytes names c.self.inside.block c.self.inside.index c.value.result.now c.block_named.result.entries c.self.invariant (c.is_last.ensures.0 c.if-not-is_last.false) c.value.ensures c.block_named.ensures))
 
 -- the last entry of a block is taken off, and the next block is entered
@@ -53,7 +53,7 @@ advance-requires g c = some_left g.C.Comparator.cmp c.self.inside.bytes.now c.se
 
 pub invariant_of-self-in_err-advance : goal.invariant_of-self-in_err-advance
 invariant_of-self-in_err-advance g c =
-    subst (λ (i : List Entry). IsLeft g.C.Comparator.cmp c.self.inside.bytes.now c.self.inside.index_block.entries c.self.inside.block i) (sym c.in_err-advance.ensures.err) c.self.invariant
+    subst (λ (i : List Entry). IsWalkLeft g.C.Comparator.cmp c.self.inside.bytes.now c.self.inside.index_block.entries c.self.inside.block i) (sym c.in_err-advance.ensures.err) c.self.invariant
 
 pub value-requires : goal.value-requires
 value-requires g c = c.valid.ensures.0 c.if-not-valid.false

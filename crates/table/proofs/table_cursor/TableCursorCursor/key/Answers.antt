@@ -1,8 +1,8 @@
 use Rattle.std.proofs.Common.{◌≡◌, ◌<◌, ℕ, List, [], ◌∷◌, ◌++◌, length, Some, sym, ap, ◌∙◌, arith}
 use Rattle.std.specs.Prelude.{slice_get}
 use Rattle.std.specs.Option.{option_map}
-use Rattle.block.specs.Piece.{Entry}
-use Rattle.table.specs.Walking.{all_named}
+use Rattle.block.specs.EncodedEntry.{Entry}
+use Rattle.table.specs.IndexWalk.{all_named}
 use Rattle.table.proofs.Walks.{some_left}
 use Rattle.table.proofs.table_cursor.TableCursorCursor.key.Goals as goal
 

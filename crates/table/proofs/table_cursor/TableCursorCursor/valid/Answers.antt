@@ -1,6 +1,6 @@
 use Rattle.std.proofs.Common.{length, ap, arith}
 use Rattle.std.proofs.lemmas.List.{length-append}
-use Rattle.table.specs.Walking.{all_named}
+use Rattle.table.specs.IndexWalk.{all_named}
 use Rattle.table.proofs.Orders.{rising_never_falls}
 use Rattle.table.proofs.Walks.{left_rises, some_left}
 use Rattle.table.proofs.table_cursor.TableCursorCursor.valid.Goals as goal

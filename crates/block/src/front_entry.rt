@@ -1,0 +1,78 @@
+//! One entry as it is stored in a block.
+
+ghost use Rattle.std.specs.Prelude.{◌≡◌, ◌<◌, ◌^◌};
+ghost use Rattle.std.specs.Option.{option_map};
+ghost use Rattle.block.specs.EntryFormat.{length_at, entry_of_lengths, encoded_entry_at};
+ghost use Rattle.block.specs.Front.{front_field};
+
+use crate::front::{FrontEntry, FrontLength};
+use coding::read_u32_varint;
+
+/// The entry at the front of bytes, if there is one.
+#[inline]
+pub(crate) fn front_entry_at(bytes: &[u8]) -> Option<FrontEntry<'_>>
+    ensures { option_map front_field result ≡ encoded_entry_at bytes.now }
+{
+    match bytes {
+        // Most lengths have one byte.
+        [shared, unshared, value, behind @ ..]
+            if *shared < 128 && *unshared < 128 && *value < 128 => {
+            entry_of_lengths(
+                *shared as usize,
+                *unshared as usize,
+                *value as usize,
+                behind,
+            )
+        }
+        _ => front_entry_by_varints(bytes),
+    }
+}
+
+/// The entry at the front of bytes, whose lengths may have several bytes.
+#[tactic(auto, unfolding(crate::specs::EntryFormat::encoded_entry_at))]
+fn front_entry_by_varints(bytes: &[u8]) -> Option<FrontEntry<'_>>
+    ensures { option_map front_field result ≡ encoded_entry_at bytes.now }
+{
+    let shared = length_at(bytes)?;
+    let unshared = length_at(shared.rest)?;
+    let value = length_at(unshared.rest)?;
+    entry_of_lengths(shared.length, unshared.length, value.length, value.rest)
+}
+
+/// The entry of these lengths, if `bytes` begin with the unshared bytes of its key and its value.
+#[inline]
+fn entry_of_lengths(
+    shared: usize,
+    unshared: usize,
+    value: usize,
+    bytes: &[u8],
+) -> Option<FrontEntry<'_>>
+    requires shared { shared < 2 ^ 32 }
+    requires unshared { unshared < 2 ^ 32 }
+    requires value { value < 2 ^ 32 }
+    ensures { option_map front_field result ≡ entry_of_lengths shared unshared value bytes.now }
+{
+    if bytes.len() < unshared + value {
+        return None;
+    }
+    let (unshared, bytes) = bytes.split_at(unshared);
+    let (value, rest) = bytes.split_at(value);
+    Some(FrontEntry {
+        shared,
+        unshared,
+        value,
+        rest,
+    })
+}
+
+/// The length at the front of bytes: a varint below 2^32.
+fn length_at(bytes: &[u8]) -> Option<FrontLength<'_>>
+    ensures { option_map (λ x. record { field = x.length; rest = x.rest.now }) result ≡ length_at bytes.now }
+{
+    let (number, used) = read_u32_varint(bytes)?;
+    let (_, rest) = bytes.split_at(used);
+    Some(FrontLength {
+        length: number as usize,
+        rest,
+    })
+}

@@ -1,0 +1,103 @@
+//! Whether the entries of a version's tables fall, by ranges of user keys.
+
+ghost use Rattle.std.specs.Prelude.{◌≡◌, ◌↔◌, ◌+◌, ◌<◌, ◌≤◌, true, length, map, IfOk, IfErr};
+ghost use Rattle.std.specs.List.{list_all};
+ghost use Rattle.coding.specs.Answers.{fault};
+ghost use Rattle.coding.specs.declared.fault.FaultName.TheVariants.{Memory};
+ghost use Rattle.merge.specs.Merged.{entries_of_lists};
+ghost use Rattle.split.specs.Ranges.{IsCover};
+ghost use Rattle.reads.specs.TableOrder.{AreFalling};
+ghost use Rattle.checks.specs.RangeOrder.{TellsRange};
+
+use board::{Gate, Labour, run};
+use coding::Fault;
+use ikey::{Comparator, SharedComparator};
+use keep::cursors_from;
+use reads::falls_in;
+use split::Split;
+use std::alloc::Global;
+use std::thread::Threads;
+use table::SoundTable;
+
+/// The tables, walked in the ranges of a split, each range a job.
+#[derive(Drop)]
+struct Falls<'r, 't, C: Comparator + 'static> {
+    alloc: Global,
+    tables: &'r [&'r SoundTable<'t, C>],
+    split: &'r Split<C>,
+}
+
+impl<'r, 't, C: Comparator + 't + 'static> Labour for Falls<'r, 't, C> {
+    type Out = bool;
+
+    ghost use Rattle.std.specs.Prelude.{◌+◌, None, length, map};
+    ghost use Rattle.checks.specs.RangeOrder.{TellsRange};
+
+    ghost jobs = { λ s. length s.split.now + 1 };
+
+    ghost refusal = { λ s job. None };
+
+    ghost gives = { λ s job out. TellsRange C.cmp s.split.now (map (λ t. t.now.entries) s.tables.now) job out };
+
+    fn work(&self, job: u64) -> Result<bool, Fault> {
+        falls_at(self.alloc, self.tables, self.split, job)
+    }
+}
+
+/// Whether, for each user key, sequences strictly decrease if the tables are read one after the
+/// other.
+///
+/// The ranges of the split are walked by 1 to 64 workers, a range a job. The only fault is Memory.
+pub(crate) fn entries_fall<'t, C: SharedComparator + 'static, G: Gate + Sync, R: Threads + Sync>(
+    rt: &R,
+    alloc: Global,
+    tables: &[&SoundTable<'t, C>],
+    split: &Split<C>,
+    workers: u64,
+    gate: &G,
+) -> Result<bool, Fault>
+    requires some { 0 < workers }
+    requires few { workers ≤ 64 }
+    ensures falls { IfOk result (λ falls. (falls ≡ true) ↔ AreFalling (entries_of_lists (map (λ t. t.now.entries) tables.now))) }
+    ensures memory { IfErr result (λ e. e ≡ fault Memory) }
+{
+    let labour = Falls {
+        alloc,
+        tables,
+        split,
+    };
+    let found = run(rt, alloc, &labour, count_ranges(split), workers, gate)?;
+    Ok(are_all_true(&found))
+}
+
+/// How many ranges a split has.
+fn count_ranges<C: Comparator>(split: &Split<C>) -> u64
+    ensures number { result ≡ length split.now + 1 }
+    ensures few { result ≤ 4096 }
+    ensures cover { IsCover C.cmp split.now }
+{
+    split.len()
+}
+
+/// Whether each of them is true.
+fn are_all_true(found: &[bool]) -> bool
+    ensures { result ≡ list_all (λ b. b) found.now }
+{
+    found.iter().all(|it| *it)
+}
+
+/// Whether the entries of the tables fall in the range of this number. The only fault is Memory.
+fn falls_at<'t, C: Comparator + 't>(
+    alloc: Global,
+    tables: &[&SoundTable<'t, C>],
+    split: &Split<C>,
+    number: u64,
+) -> Result<bool, Fault>
+    requires { number < length split.now + 1 }
+    ensures falls { IfOk result (TellsRange C.cmp split.now (map (λ t. t.now.entries) tables.now) number) }
+    ensures memory { IfErr result (λ e. e ≡ fault Memory) }
+{
+    let range = split.range(number);
+    let cursors = cursors_from(alloc, tables, range)?;
+    Ok(falls_in(alloc, cursors, range)?)
+}

@@ -1,0 +1,45 @@
+//! The outputs of a plan, written by workers.
+
+ghost use Rattle.std.specs.Prelude.{◌≡◌, ◌+◌, ◌<◌, ◌≤◌, ◌^◌, true, length, Ok};
+ghost use Rattle.coding.specs.Answers.{EqualOrMemory};
+ghost use Rattle.table.specs.Table.{table};
+ghost use Rattle.pick.specs.Picked.{picked_in};
+ghost use Rattle.request.specs.Request.{has_levels, request_in};
+ghost use Rattle.compact.specs.Answered.{answer_in};
+ghost use Rattle.compact.specs.Written.{answer_of};
+
+use crate::edit_bytes::edit_bytes;
+use crate::piece_encoder::encode_pieces;
+use board::Gate;
+use coding::Fault;
+use cut::Plan;
+use edit::Outcome;
+use ikey::SharedComparator;
+use request::Request;
+use std::alloc::Global;
+use std::thread::Threads;
+
+/// Encodes the pieces of a plan by 1 to 64 workers, joins them to the tables of the outputs, and
+/// makes the edit.
+///
+/// The only fault is `Memory`.
+pub(crate) fn write_plan<'p, C: SharedComparator + 'static, G: Gate + Sync, R: Threads + Sync>(
+    rt: &R,
+    alloc: Global,
+    request: &Request<'_>,
+    plan: &'p Plan<'p, 'p, C>,
+    workers: u64,
+    gate: &G,
+) -> Result<Outcome, Fault>
+    requires some { 1 ≤ workers }
+    requires limited { workers ≤ 64 }
+    requires fits { request.now.first_number + length plan.now.outputs < 2 ^ 64 }
+    requires levels { has_levels (picked_in request.now.picked.now) ≡ true }
+    ensures { EqualOrMemory answer_in result
+        (Ok (answer_of (table C.cmp C.separator_of C.successor_of plan.now.options) (request_in request.now) plan.now.outputs)) }
+{
+    let pieces = encode_pieces(rt, alloc, plan, workers, gate)?;
+    let edit = edit_bytes(alloc, request, plan)?;
+    let tables = plan.assemble(alloc, pieces)?;
+    Ok(Outcome { tables, edit })
+}

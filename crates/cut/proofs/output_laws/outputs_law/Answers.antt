@@ -1,0 +1,5 @@
+use Rattle.cut.proofs.SegmentOutputs.{outputs_law as law}
+use Rattle.cut.proofs.output_laws.outputs_law.Goals as goal
+
+pub returns : goal.returns
+returns g c = law g.C.Comparator.cmp g.met.C.Comparator.total g.met.C.Comparator.exact

@@ -1,0 +1,11 @@
+use Rattle.std.proofs.Common.{◌≡◌, ◌+◌, length}
+use Rattle.table.specs.Table.{index_keys}
+use Rattle.cut.specs.OutputPlan.{numbered_from}
+use Rattle.cut.specs.TableLength.{table_size}
+use Rattle.cut.proofs.output_plan.numbered.Given as goal
+
+abbrev pub invariant-loop-blocks : goal.invariant-loop-blocks
+invariant-loop-blocks g l = record {
+  outputs : l.outputs.items ≡ numbered_from (table_size (index_keys g.C.Comparator.cmp g.C.Comparator.separator_of g.C.Comparator.successor_of)) l.first_number l.yielded;
+  number : l.number ≡ l.first_number + length l.yielded;
+}

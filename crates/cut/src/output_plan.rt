@@ -1,0 +1,148 @@
+//! Planning the outputs of a compaction.
+
+ghost use Rattle.std.specs.Prelude.{◌≡◌, ◌≢◌, ◌+◌, ◌^◌, ◌<◌, ◌≤◌, ◌&&◌, nat_le, [], length, IfOk, IfErr};
+ghost use Rattle.std.specs.List.{AllByRecursion, list_all};
+ghost use Rattle.coding.specs.Answers.{EqualOrMemory, fault};
+ghost use Rattle.coding.specs.declared.fault.FaultName.TheVariants.{Memory};
+ghost use Rattle.table.specs.Options.{AreInLimits};
+ghost use Rattle.table.specs.Table.{index_keys, table};
+ghost use Rattle.keep.specs.Runs.{joined_run};
+ghost use Rattle.cut.specs.Divided.{places_all, counts_all, piece_limit};
+ghost use Rattle.cut.specs.Outputs.{outputs_of};
+ghost use Rattle.cut.specs.Plan.{plan_of};
+ghost use Rattle.cut.specs.OutputPlan.{HaveEntries, block_count, numbered_from};
+ghost use Rattle.cut.specs.Sizes.{saturated_length};
+ghost use Rattle.cut.specs.TableLength.{lens_of, table_size};
+
+use crate::output_cuts::outputs;
+use crate::piece_division::{Division, pieces_of};
+use crate::planned_output::PlannedOutput;
+use crate::table_len::table_len;
+use crate::whole_plan::Plan;
+use coding::{Fault, FaultName};
+use edit::FileMeta;
+use encoding::PlannedBlock;
+use ikey::Comparator;
+use keep::RangeRun;
+use std::alloc::Global;
+use std::marker::PhantomData;
+use table::{MAX_TABLE_LEN, Options};
+
+/// The greatest number of data blocks in all outputs of a plan, 2^40.
+pub const MAX_BLOCKS: u64 = 1 << 40;
+
+/// If all outputs together have fewer data blocks than this, each block is a piece.
+const FEW_BLOCKS: u64 = 64;
+
+/// Else a piece ends with the block at which its bytes reach this many.
+const PIECE_LEN: u64 = 1 << 22;
+
+/// The plan of the outputs of a compaction, of the runs of all its ranges in order. It doesn't
+/// depend on how the entries were dealt out to ranges. `grandparents` are the files that the marks
+/// of the runs count. Outputs are numbered from `first_number` on.
+///
+/// Faults: the first of these, or Memory.
+///
+/// 1. Numbers: the number after the last output's exceeds 2^64 - 1.
+/// 2. TooLarge: a table would have more than 2^30 bytes, or all outputs together more than 2^40
+///    data blocks.
+pub fn plan<'r, 'a, C: Comparator>(
+    alloc: Global,
+    runs: &'r [RangeRun<'a>],
+    grandparents: &[FileMeta],
+    options: Options,
+    first_number: u64,
+) -> Result<Plan<'r, 'a, C>, Fault>
+    requires { AreInLimits options }
+    ensures outputs { EqualOrMemory (λ p. p.outputs) result
+        (plan_of (table C.cmp C.separator_of C.successor_of options) options first_number
+        (outputs_of grandparents.now options (joined_run runs.now))) }
+    ensures options { IfOk result (λ p. p.options ≡ options) }
+{
+    let ended = outputs(alloc, runs, grandparents, options)?;
+    if ended.len() as u64 > u64::MAX - first_number {
+        return Err(Fault::of(FaultName::Numbers));
+    }
+    let outputs = numbered::<C>(alloc, ended, first_number)?;
+    if !are_small(&outputs) {
+        return Err(Fault::of(FaultName::TooLarge));
+    }
+    let division = divided(alloc, &outputs)?;
+    Ok(Plan {
+        options,
+        outputs,
+        pieces: division.pieces,
+        counts: division.counts,
+        order: PhantomData,
+    })
+}
+
+/// The outputs of these data blocks, numbered from `first_number` on. A length of more than 2^30
+/// bytes is given as 2^30 + 1. The only fault is Memory.
+fn numbered<'r, 'a, C: Comparator>(
+    alloc: Global,
+    ended: Vec<Vec<PlannedBlock<'r, 'a>>>,
+    first_number: u64,
+) -> Result<Vec<PlannedOutput<'r, 'a>>, Fault>
+    requires fits { first_number + length ended.items < 2 ^ 64 }
+    requires some { AllByRecursion (λ blocks. HaveEntries blocks.items) ended.items }
+    ensures ok { IfOk result (λ outputs. outputs.items
+        ≡ numbered_from (table_size (index_keys C.cmp C.separator_of C.successor_of)) first_number ended.entry.items) }
+    ensures memory { IfErr result (λ e. e ≡ fault Memory) }
+{
+    let mut outputs = Vec::new(alloc);
+    let mut number = first_number;
+    for blocks in ended {
+        let len = table_len::<C>(alloc, &blocks)?;
+        outputs.push(PlannedOutput {
+            number,
+            blocks,
+            len,
+        })?;
+        number += 1;
+    }
+    Ok(outputs)
+}
+
+/// Whether each output has at most 2^30 bytes, and all have at most 2^40 data blocks together.
+fn are_small(outputs: &[PlannedOutput<'_, '_>]) -> bool
+    ensures { result ≡ (list_all (λ p. nat_le p.len (2 ^ 30)) outputs.now && nat_le (block_count outputs.now) (2 ^ 40)) }
+{
+    are_short(outputs) && count_blocks(outputs) <= MAX_BLOCKS
+}
+
+/// Whether each output has at most 2^30 bytes.
+fn are_short(outputs: &[PlannedOutput<'_, '_>]) -> bool
+    ensures { result ≡ list_all (λ p. nat_le p.len (2 ^ 30)) outputs.now }
+{
+    let limit = MAX_TABLE_LEN as u64;
+    outputs.iter().all(|output| output.len <= limit)
+}
+
+/// The number of data blocks of all outputs; 2^64 - 1 if there are more.
+fn count_blocks(outputs: &[PlannedOutput<'_, '_>]) -> u64
+    ensures { result ≡ saturated_length (block_count outputs.now) }
+{
+    let mut count: u64 = 0;
+    for output in outputs {
+        count = count.saturating_add(output.blocks.len() as u64);
+    }
+    count
+}
+
+/// The pieces of outputs, in order. The only fault is Memory.
+fn divided(alloc: Global, outputs: &[PlannedOutput<'_, '_>]) -> Result<Division, Fault>
+    requires { AllByRecursion (λ p. lens_of p.blocks.items ≤ 2 ^ 30) outputs.now }
+    ensures pieces { IfOk result (λ division. division.pieces.items
+        ≡ places_all (piece_limit (block_count outputs.now)) 0 outputs.now) }
+    ensures counts { IfOk result (λ division. division.counts.items
+        ≡ counts_all (piece_limit (block_count outputs.now)) 0 outputs.now) }
+    ensures memory { IfErr result (λ e. e ≡ fault Memory) }
+{
+    let limit = if count_blocks(outputs) < FEW_BLOCKS {
+        0
+    } else {
+        PIECE_LEN
+    };
+    pieces_of(alloc, outputs, limit)
+}

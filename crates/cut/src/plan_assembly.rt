@@ -1,0 +1,63 @@
+//! The tables of a plan, joined of its encoded pieces.
+//!
+//! Pieces are in the order of their jobs, whatever the order in which workers encoded them. So the
+//! first output has the first ones, as many as it has pieces, and so on.
+
+ghost use Rattle.std.specs.Prelude.{◌≡◌, length, take, drop, map, IfOk, IfErr, Ok, OnOk};
+ghost use Rattle.std.specs.Vec.Iter.{into_iter_items};
+ghost use Rattle.coding.specs.Answers.{EqualOrMemory, fault};
+ghost use Rattle.coding.specs.declared.fault.FaultName.TheVariants.{Memory};
+ghost use Rattle.table.specs.Table.{index_keys};
+ghost use Rattle.cut.specs.PlanTables.{AreReady, tables_of};
+
+use crate::planned_output::PlannedOutput;
+use coding::Fault;
+use encoding::assemble_table;
+use ikey::Comparator;
+use std::alloc::Global;
+use std::vec::IntoIter;
+
+/// Takes off the first `count` pieces, or all if there are fewer. The only fault is Memory.
+fn take_front(
+    alloc: Global,
+    rest: &mut IntoIter<Vec<u8>>,
+    count: usize,
+) -> Result<Vec<Vec<u8>>, Fault>
+    ensures taken { IfOk result (λ own. own.items ≡ take count (into_iter_items rest.old)) }
+    ensures left { OnOk result (into_iter_items rest.new ≡ drop count (into_iter_items rest.old)) }
+    ensures memory { IfErr result (λ e. e ≡ fault Memory) }
+{
+    let mut own = Vec::new(alloc);
+    while own.len() < count {
+        let Some(piece) = rest.next() else {
+            return Ok(own);
+        };
+        own.push(piece)?;
+    }
+    Ok(own)
+}
+
+/// The number and the table of each output. Output i has `counts[i]` of the pieces. The only fault
+/// is Memory.
+pub(crate) fn assemble_all<C: Comparator>(
+    alloc: Global,
+    outputs: &[PlannedOutput<'_, '_>],
+    counts: &[usize],
+    interval: u64,
+    pieces: Vec<Vec<u8>>,
+) -> Result<Vec<(u64, Vec<u8>)>, Fault>
+    requires counts { length counts.now ≡ length outputs.now }
+    requires ready { AreReady (index_keys C.cmp C.separator_of C.successor_of) interval outputs.now counts.now
+        (map (λ p. p.items) pieces.items) }
+    ensures { EqualOrMemory (λ tables. map (λ t. (t.0, t.1.items)) tables.items) result
+        (Ok (tables_of (index_keys C.cmp C.separator_of C.successor_of) interval outputs.now)) }
+{
+    let mut rest = pieces.into_iter();
+    let mut tables = Vec::new(alloc);
+    for (place, output) in outputs.iter().enumerate() {
+        let own = take_front(alloc, &mut rest, counts[place])?;
+        let bytes = assemble_table::<C>(alloc, &output.blocks, interval, own)?;
+        tables.push((output.number, bytes))?;
+    }
+    Ok(tables)
+}

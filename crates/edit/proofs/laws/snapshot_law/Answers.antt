@@ -1,5 +1,0 @@
-use Rattle.edit.proofs.Remade.{remade}
-use Rattle.edit.proofs.laws.snapshot_law.Goals as goal
-
-pub returns : goal.returns
-returns g c = λ name v h. remade g.met.C.Comparator.total name v h

@@ -1,0 +1,53 @@
+//! Opening a folder.
+
+ghost use Rattle.folder.specs.OpenAnswer.{FolderAnswers, IsHeld, IsOpened};
+ghost use Rattle.folder.specs.Reports.{OnlyReads, ReportsDevice};
+
+use crate::edits::version_in;
+use crate::folder::Folder;
+use crate::names::{CURRENT, manifest_name, number_in_current};
+use crate::order::Order;
+use coding::{Fault, FaultName};
+use edit::Version;
+use std::alloc::Global;
+
+/// The order and the version of a folder: CURRENT names a manifest, whose edits give them. It only
+/// reads.
+///
+/// The first that applies:
+///
+/// - Missing: there is no CURRENT.
+/// - Apply: CURRENT holds anything but a manifest's name and one newline.
+/// - Missing: that manifest is missing.
+/// - LogShape or LogChecksum: the manifest's bytes are no log.
+/// - EditTag or EditField: of the first record that is no edit.
+/// - Comparator: no record names one, or the first name is neither order's.
+/// - Comparator or Apply: of the first edit that doesn't fit what the earlier ones made.
+/// - Apply: log number, next file or last sequence was never set, or the manifest's number isn't
+///   below next file.
+///
+/// A previous log number that was never set stays unset. If the device fails a call, the answer is
+/// Device and no further call is made. Memory may come at any point.
+pub fn open<F: Folder>(alloc: Global, folder: &mut F) -> Result<(Order, Version), Fault>
+    ensures answer { FolderAnswers (λ r. (r.0, r.1)) (F.failed folder.old) (F.failed folder.new) result (IsOpened (F.tells folder.old)) }
+    ensures device { ReportsDevice F.Folder folder.old folder.new result }
+    ensures reads { OnlyReads F.Folder folder.old folder.new }
+{
+    let current = held(folder, CURRENT)?;
+    let number = number_in_current(alloc, &current)?;
+    let name = manifest_name(alloc, number)?;
+    let manifest = held(folder, name.as_str())?;
+    version_in(alloc, number, &manifest)
+}
+
+/// The bytes of a file. Missing if no file has this `name`.
+pub(crate) fn held<F: Folder>(folder: &mut F, name: &str) -> Result<Vec<u8>, Fault>
+    ensures answer { FolderAnswers (λ v. v.items) (F.failed folder.old) (F.failed folder.new) result (IsHeld (F.tells folder.old) name.now) }
+    ensures device { ReportsDevice F.Folder folder.old folder.new result }
+    ensures reads { OnlyReads F.Folder folder.old folder.new }
+{
+    match folder.read(name)? {
+        Some(bytes) => Ok(bytes),
+        None => Err(Fault::of(FaultName::Missing)),
+    }
+}

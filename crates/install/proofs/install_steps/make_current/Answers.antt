@@ -1,0 +1,19 @@
+use Rattle.std.proofs.Common.{◌∷◌, [], List, ℕ, codes, string_bytes, ap}
+use Rattle.folder.specs.Calls.{FolderSynced, Renamed}
+use Rattle.folder.specs.declared.folder.FolderFault.{FolderFault}
+use Rattle.folder.proofs.RunLemmas.{runs_one, runs_then}
+use Rattle.install.proofs.Parts.{runs_same}
+use Rattle.install.proofs.install_steps.make_current.Goals as goal
+
+pub returns-clause-runs : goal.returns-clause-runs
+returns-clause-runs g c =
+    let calls = g.F.Folder.calls in
+    let tells = g.F.Folder.tells in
+    let a = c.args.folder.now in
+    let b = c.rename.new.self in
+    let d = c.sync_folder.new.self in
+    let named = Renamed (string_bytes c.args.name.now) (codes "CURRENT") in
+    runs_then {E = FolderFault} (named ∷ []) (FolderSynced ∷ []) (calls a) (calls b) (calls d) (tells a) (tells b) (tells d) c.in_ok-rename.field-0 c.sync_folder.result
+    (runs_same (Renamed c.as_str.result.now (codes "CURRENT") ∷ []) (named ∷ []) (calls a) (calls b) (tells a) (tells b) _ (ap (λ (n : List ℕ). Renamed n (codes "CURRENT") ∷ []) c.as_str.ensures.value)
+    (runs_one (Renamed c.as_str.result.now (codes "CURRENT")) (calls a) (calls b) (tells a) (tells b) _ c.in_ok-rename.ensures.calls c.in_ok-rename.ensures.change))
+    (runs_one FolderSynced (calls b) (calls d) (tells b) (tells d) c.sync_folder.result c.sync_folder.ensures.calls c.sync_folder.ensures.change)

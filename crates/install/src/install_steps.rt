@@ -1,0 +1,131 @@
+//! The parts of an installation, of at most four calls each.
+
+ghost use Rattle.std.specs.Prelude.{◌≡◌, ◌∷◌, ◌++◌, [], ◌≤◌, ℕ, List, IfErr, OnOk, codes, string_bytes};
+ghost use Rattle.std.specs.declared.cmp.Ordering.{Ordering};
+ghost use Rattle.edit.specs.Version.{State};
+ghost use Rattle.folder.specs.Calls.{Done, FolderSynced, Renamed};
+ghost use Rattle.folder.specs.Crash.{Leads, LeavesOnly, World};
+ghost use Rattle.folder.specs.Free.{IsFree};
+ghost use Rattle.folder.specs.ReadsAs.{IsSettled, ReadsAs, StandsAs};
+ghost use Rattle.folder.specs.Written.{IsWritten};
+ghost use Rattle.folder.specs.declared.order.Order.{Order};
+ghost use Rattle.coding.specs.Answers.{UnlessMemory};
+ghost use Rattle.folder.specs.CallSequence.{MakesCalls};
+ghost use Rattle.folder.specs.Folder.{failures_after};
+ghost use Rattle.folder.specs.OpenAnswer.{IsStopped, StopsAtDevice};
+ghost use Rattle.install.specs.Install.{AlwaysStandsAs, current_calls, table_calls, tables_in, temporary_calls, write_calls};
+ghost use Rattle.folder.specs.Names.{current_text, temporary_name};
+
+use coding::Fault;
+use folder::{CURRENT, Folder, FolderFault, current_text, table_name, temporary_name};
+use std::alloc::Global;
+
+/// Makes a file and syncs it.
+pub(crate) fn write<F: Folder>(folder: &mut F, name: &str, bytes: &[u8]) -> Result<(), FolderFault>
+    ensures runs { MakesCalls (write_calls name.now bytes.now) (F.calls folder.old) (F.calls folder.new) (F.tells folder.old) (F.tells folder.new) result }
+    // If the name is free, a crash at any moment leaves the version before.
+    ensures before { (cmp : List ℕ → List ℕ → Ordering) (order : Order) (v : State) (tables : List (ℕ × List ℕ)) → IsFree cmp v name.now
+        → (start : World) → AlwaysStandsAs cmp order v tables start (F.calls folder.old)
+        → LeavesOnly start (F.calls folder.old) (F.calls folder.new) (ReadsAs cmp order v tables) }
+    // At Ok the folder stands for that version, and the file is written.
+    ensures written { (cmp : List ℕ → List ℕ → Ordering) (order : Order) (v : State) (tables : List (ℕ × List ℕ)) → IsFree cmp v name.now
+        → (start : World) → AlwaysStandsAs cmp order v tables start (F.calls folder.old)
+        → OnOk result ((w : World) → Leads start (F.calls folder.new) w → StandsAs cmp order v tables w × IsWritten w (name.now, bytes.now)) }
+    ensures failures { F.failed folder.new ≡ failures_after (F.failed folder.old) result }
+{
+    make_file(folder, name, bytes)
+}
+
+/// Makes and syncs each table under the name of its number.
+pub(crate) fn write_tables<F: Folder>(
+    alloc: Global,
+    folder: &mut F,
+    tables: &[(u64, Vec<u8>)],
+) -> Result<(), Fault>
+    ensures runs { MakesCalls (table_calls (tables_in tables.now))
+        (F.calls folder.old) (F.calls folder.new) (F.tells folder.old) (F.tells folder.new) result }
+    ensures refused { IfErr result (λ e. UnlessMemory e (IsStopped (F.failed folder.old) (F.failed folder.new) e)) }
+    ensures at_once { StopsAtDevice (F.failed folder.old) (F.failed folder.new) result }
+    ensures later { F.failed folder.old ≤ F.failed folder.new }
+{
+    for (number, bytes) in tables {
+        let name = table_name(alloc, *number)?;
+        write(folder, name.as_str(), bytes)?;
+    }
+    Ok(())
+}
+
+/// Makes and syncs CURRENT's text under its temporary name, and syncs the folder.
+pub(crate) fn write_temporary<F: Folder>(
+    alloc: Global,
+    folder: &mut F,
+    number: u64,
+) -> Result<(), Fault>
+    ensures runs { MakesCalls (temporary_calls number)
+        (F.calls folder.old) (F.calls folder.new) (F.tells folder.old) (F.tells folder.new) result }
+    // If the name is free, a crash at any moment leaves the version before.
+    ensures before { (cmp : List ℕ → List ℕ → Ordering) (order : Order) (v : State) (tables : List (ℕ × List ℕ))
+        → IsFree cmp v (temporary_name number) → (start : World) → AlwaysStandsAs cmp order v tables start (F.calls folder.old)
+        → LeavesOnly start (F.calls folder.old) (F.calls folder.new) (ReadsAs cmp order v tables) }
+    // At Ok the folder stands for that version, and the file is written and settled.
+    ensures written { (cmp : List ℕ → List ℕ → Ordering) (order : Order) (v : State) (tables : List (ℕ × List ℕ))
+        → IsFree cmp v (temporary_name number) → (start : World) → AlwaysStandsAs cmp order v tables start (F.calls folder.old)
+        → OnOk result ((w : World) → Leads start (F.calls folder.new) w
+        → StandsAs cmp order v tables w × IsWritten w (temporary_name number, current_text number)
+        × IsSettled w (temporary_name number)) }
+    ensures refused { IfErr result (λ e. UnlessMemory e (IsStopped (F.failed folder.old) (F.failed folder.new) e)) }
+    ensures at_once { StopsAtDevice (F.failed folder.old) (F.failed folder.new) result }
+    ensures later { F.failed folder.old ≤ F.failed folder.new }
+{
+    make_temporary(alloc, folder, number)
+}
+
+/// Renames the file of the temporary name to CURRENT, and syncs the folder.
+pub(crate) fn name_current<F: Folder>(
+    alloc: Global,
+    folder: &mut F,
+    number: u64,
+) -> Result<(), Fault>
+    ensures runs { MakesCalls (current_calls number) (F.calls folder.old) (F.calls folder.new) (F.tells folder.old) (F.tells folder.new) result }
+    ensures refused { IfErr result (λ e. UnlessMemory e (IsStopped (F.failed folder.old) (F.failed folder.new) e)) }
+    ensures at_once { StopsAtDevice (F.failed folder.old) (F.failed folder.new) result }
+    ensures later { F.failed folder.old ≤ F.failed folder.new }
+{
+    let name = temporary_name(alloc, number)?;
+    Ok(make_current(folder, &name)?)
+}
+
+/// Renames the file of this `name` to CURRENT, and syncs the folder.
+fn make_current<F: Folder>(folder: &mut F, name: &String) -> Result<(), FolderFault>
+    ensures runs { MakesCalls (Renamed (string_bytes name.now) (codes "CURRENT") ∷ FolderSynced ∷ [])
+        (F.calls folder.old) (F.calls folder.new) (F.tells folder.old) (F.tells folder.new) result }
+    // At Ok both calls were made, and no others.
+    ensures both { OnOk result (F.calls folder.new ≡ F.calls folder.old ++ Done (Renamed (string_bytes name.now) (codes "CURRENT")) ∷ Done FolderSynced ∷ []) }
+    ensures failures { F.failed folder.new ≡ failures_after (F.failed folder.old) result }
+{
+    folder.rename(name.as_str(), CURRENT)?;
+    folder.sync_folder()
+}
+
+/// Makes a file and syncs it.
+fn make_file<F: Folder>(folder: &mut F, name: &str, bytes: &[u8]) -> Result<(), FolderFault>
+    ensures runs { MakesCalls (write_calls name.now bytes.now) (F.calls folder.old) (F.calls folder.new) (F.tells folder.old) (F.tells folder.new) result }
+    ensures failures { F.failed folder.new ≡ failures_after (F.failed folder.old) result }
+{
+    folder.create(name, bytes)?;
+    folder.sync(name)
+}
+
+/// Makes and syncs CURRENT's text under its temporary name, and syncs the folder.
+fn make_temporary<F: Folder>(alloc: Global, folder: &mut F, number: u64) -> Result<(), Fault>
+    ensures runs { MakesCalls (temporary_calls number)
+        (F.calls folder.old) (F.calls folder.new) (F.tells folder.old) (F.tells folder.new) result }
+    ensures refused { IfErr result (λ e. UnlessMemory e (IsStopped (F.failed folder.old) (F.failed folder.new) e)) }
+    ensures at_once { StopsAtDevice (F.failed folder.old) (F.failed folder.new) result }
+    ensures later { F.failed folder.old ≤ F.failed folder.new }
+{
+    let name = temporary_name(alloc, number)?;
+    let text = current_text(alloc, number)?;
+    write(folder, name.as_str(), text.as_bytes())?;
+    Ok(folder.sync_folder()?)
+}

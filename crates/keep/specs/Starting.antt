@@ -1,8 +1,0 @@
--- How entries begin.
-use Rattle.std.specs.Prelude.{Bool, false, List, [], ◌∷◌}
-use Rattle.block.specs.Piece.{Entry}
-
--- whether there is a first entry, and it passes a test
-abbrev pub first_is : (Entry → Bool) → List Entry → Bool
-first_is test [] = false
-first_is test (e ∷ es) = test e

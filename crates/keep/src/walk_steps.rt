@@ -1,0 +1,86 @@
+//! What one entry does to a walk.
+
+ghost use Rattle.std.specs.Prelude.{◌≡◌, ◌≤◌, true, false, [], OnOk, IsOkUnless, IfErr, None};
+ghost use Rattle.coding.specs.Answers.{fault, UnlessMemory};
+ghost use Rattle.coding.specs.declared.fault.FaultName.TheVariants.{Memory, Duplicate};
+ghost use Rattle.ikey.specs.Key.{user_of};
+ghost use Rattle.keep.specs.Marks.{grandparents_below, LargestRise};
+ghost use Rattle.keep.specs.Versions.{newer_of};
+ghost use Rattle.keep.specs.RangeWalk.{is_repeated, sets_mark, walk_after_first, walk_after};
+
+use crate::grandparents::count_below;
+use crate::last_version::LastVersion;
+use crate::range_run::RangeRun;
+use crate::rule::Rule;
+use crate::walk::Walk;
+use coding::{Fault, FaultName};
+use ikey::{Comparator, InternalKey};
+use std::alloc::Global;
+
+impl<'a> Walk<'a> {
+    /// A walk before the first entry.
+    pub fn new(alloc: Global) -> Walk<'a>
+        ensures { result ≡ record { run = record { kept = []; marks = [] }; last = None; passed = 0 } }
+    {
+        Walk {
+            run: RangeRun::new(alloc),
+            last: LastVersion::none(alloc),
+            passed: 0,
+        }
+    }
+
+    /// Whether the first entry of a user key, with `below` grandparents below it, sets a mark.
+    fn sets_mark(&self, below: usize) -> bool
+        ensures { result ≡ sets_mark self.now.last self.now.passed below }
+    {
+        self.last.is_none() || below != self.passed
+    }
+
+    /// The first entry of a user key. Counts the grandparents below it, and sets a mark if the
+    /// number differs from that of the user key before or if it is the first of the range. The only
+    /// fault is Memory.
+    fn begin<C: Comparator>(&mut self, rule: &Rule<'_>, key: &InternalKey<'_>) -> Result<(), Fault>
+        requires passed { self.old.passed ≤ grandparents_below C.cmp rule.now.grandparents key.now.bytes.now }
+        requires rising { LargestRise C.cmp rule.now.grandparents }
+        ensures ok { OnOk result (self.new ≡ walk_after_first C.cmp rule.now self.old key.now.bytes.now) }
+        ensures memory { IsOkUnless result (fault Memory) }
+    {
+        let below = count_below::<C>(&rule.inputs.grandparents, self.passed, key);
+        if self.sets_mark(below) {
+            self.run.push_mark(below)?;
+        }
+        self.passed = below;
+        Ok(())
+    }
+
+    /// Walks the next entry: it is kept or dropped. Faults: Duplicate if it has the user key and
+    /// the sequence of the previous entry, else only Memory.
+    pub fn step<C: Comparator>(
+        &mut self,
+        rule: &Rule<'_>,
+        key: InternalKey<'_>,
+        value: &'a [u8],
+    ) -> Result<(), Fault>
+        requires passed { self.old.passed ≤ grandparents_below C.cmp rule.now.grandparents key.bytes.now }
+        requires rising { LargestRise C.cmp rule.now.grandparents }
+        ensures new { OnOk result (self.new ≡ walk_after C.cmp rule.now self.old (record { key = key.entry.bytes.now; value = value.now })) }
+        ensures ok { OnOk result (is_repeated (newer_of self.old.last (user_of key.entry.bytes.now)) key.entry.bytes.now ≡ false) }
+        ensures refused { IfErr result (λ e. UnlessMemory e
+            ((e ≡ fault Duplicate)
+            × (is_repeated (newer_of self.old.last (user_of key.entry.bytes.now)) key.entry.bytes.now ≡ true))) }
+    {
+        let newer = self.last.newer_of(key.user());
+        match newer {
+            Some(sequence) => {
+                if sequence == key.sequence() {
+                    return Err(Fault::of(FaultName::Duplicate));
+                }
+            }
+            None => self.begin::<C>(rule, &key)?,
+        }
+        if rule.keeps::<C>(newer, &key) {
+            self.run.push(key, value)?;
+        }
+        self.last.set(key)
+    }
+}

@@ -1,5 +1,0 @@
-use Rattle.reads.proofs.Levels.{HaveTables}
-use Rattle.reads.proofs.finding.tables_test.Given as goal
-
-abbrev pub invariant-loop-level : goal.invariant-loop-level
-invariant-loop-level g l = HaveTables l.tables l.version.files l.level

@@ -1,5 +1,0 @@
-use Rattle.reads.proofs.FallingEntries as lemma
-use Rattle.reads.proofs.laws.answers_newest_first.Goals as goal
-
-pub returns : goal.returns
-returns c = lemma.answers_newest_first

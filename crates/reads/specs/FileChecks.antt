@@ -1,0 +1,102 @@
+-- What is tested of a version's files, one by one and in order.
+use Rattle.std.specs.Prelude.{◌≡◌, ℕ, ◌+◌, ◌-◌, ◌<◌, nat_lt, nat_le, nat_eq, Bool, true, false, not, ◌&&◌, ◌||◌, if◌then◌else◌, List, length, map, slice_get, slice_index_or, Option, Some, None, Ok, AllPairs, Contains}
+use Rattle.std.specs.List.{IsDistinct}
+use Rattle.std.specs.Option.{option_map, option_map_or}
+use Rattle.std.specs.List.Sorted.{IsSortedBy}
+use Rattle.std.specs.Ordering.{nat_cmp, ordering_then, is_lt}
+use Rattle.std.specs.declared.cmp.Ordering.{Ordering}
+use Rattle.std.specs.Str.{bytes_eq}
+use Rattle.ikey.specs.Key.{user_of, sequence_of}
+use Rattle.ikey.specs.Order.{internal_cmp}
+use Rattle.table.specs.TableContents.{Contents, contents_reading}
+use Rattle.table.specs.ReadingCursors.{EntriesRise}
+use Rattle.split.specs.Ranges.{KeyRange}
+use Rattle.edit.specs.Version.{are_apart}
+use Rattle.edit.specs.declared.meta.FileMeta.{FileMeta}
+use Rattle.edit.specs.declared.meta.NewFile.{NewFile}
+use Rattle.reads.specs.declared.level_file.LevelFile.{LevelFile}
+use Rattle.reads.specs.Bounds.{has_bounds}
+use Rattle.reads.specs.Tables.{NumberedContents, table_of_number, table_entries}
+use Rattle.reads.specs.Lawful.{IsFileOf, IsBelowNextFile, AreDistinct}
+
+-- a file and its level
+abbrev pub level_file_in : LevelFile → NewFile
+level_file_in f = record { level = f.level; meta = f.meta.now }
+
+-- whether a user key is at or after a range's lower bound, if it has one
+abbrev pub is_from : (List ℕ → List ℕ → Ordering) → KeyRange → List ℕ → Bool
+is_from cmp range user = option_map_or (λ lower. not (is_lt (cmp user lower))) range.lower true
+
+-- whether a user key is before a range's upper bound, if it has one
+abbrev pub is_before_end : (List ℕ → List ℕ → Ordering) → KeyRange → List ℕ → Bool
+is_before_end cmp range user = option_map_or (λ upper. is_lt (cmp user upper)) range.upper true
+
+-- Whether the next key in a merge breaks the order after the last one: it has the same user key,
+-- and comes from an earlier list or has no lower sequence.
+abbrev pub steps_back : List ℕ → ℕ → List ℕ → ℕ → Bool
+steps_back last place key next = bytes_eq (user_of key) (user_of last) && (nat_lt next place || nat_le (sequence_of last) (sequence_of key))
+
+-- whether a number is below next file; false if next file was never set
+abbrev pub is_below : Option ℕ → ℕ → Bool
+is_below None number = false
+is_below (Some next) number = nat_lt number next
+
+-- whether the version states this length, first key and last key of a file, and its number is below
+-- next file
+abbrev pub matches_metadata : Option ℕ → FileMeta → ℕ → List ℕ → List ℕ → Bool
+matches_metadata next f size smallest largest =
+    is_below next f.number && has_bounds f size smallest largest
+
+-- a file's table is what the version states, and its number is below next file
+pub record IsStatedFile (cmp : List ℕ → List ℕ → Ordering) (tables : List NumberedContents) (next : Option ℕ) (f : FileMeta) : Type 0 where
+  pub table : Contents
+  pub there : table_of_number tables f.number ≡ Some table
+  pub accepted : contents_reading cmp table.bytes ≡ Ok table
+  pub rising : EntriesRise cmp table.entries
+  pub size : f.size ≡ length table.bytes
+  pub smallest : option_map (λ e. e.key) (slice_get table.entries 0) ≡ Some f.smallest
+  pub largest : option_map (λ e. e.key) (slice_get table.entries (length table.entries - 1)) ≡ Some f.largest
+  pub below_next : IsBelowNextFile next f.number
+
+-- what is asked of each file alone
+pub record IsSoundFile (cmp : List ℕ → List ℕ → Ordering) (tables : List NumberedContents) (next : Option ℕ) (f : FileMeta) : Type 0 where
+  pub file : IsFileOf cmp tables f
+  pub below_next : IsBelowNextFile next f.number
+  pub distinct : AllPairs AreDistinct (table_entries tables f.number)
+
+-- Whether a file comes before another. It is at a shallower level; or both are at level 0, and it
+-- has the higher number; or both are at one level from 1 on, and its range of internal keys is
+-- below that of the other.
+abbrev pub stands_before : (List ℕ → List ℕ → Ordering) → NewFile → NewFile → Bool
+stands_before cmp f g =
+    nat_lt f.level g.level
+    || (nat_eq f.level g.level && (if nat_eq f.level 0 then nat_lt g.meta.number f.meta.number else is_lt (internal_cmp cmp f.meta.largest g.meta.smallest)))
+
+-- whether two files have one number
+abbrev pub same_file : NewFile → NewFile → Bool
+same_file f g = nat_eq f.meta.number g.meta.number
+
+-- the listed files are all files of a version, each once, and no two have one number
+pub record AreAll (files listed : List NewFile) : Type 0 where
+  pub apart : are_apart files ≡ true
+  pub distinct : IsDistinct same_file listed
+  pub all : (f : NewFile) → Contains files f → Contains listed f
+  pub only : (f : NewFile) → Contains listed f → Contains files f
+
+-- the number of a file of level 0; 0 for the others
+abbrev pub rank_of : NewFile → ℕ
+rank_of f = if nat_eq f.level 0 then f.meta.number else 0
+
+-- The order of files, newer entries first: by level, at level 0 by falling number, at each other
+-- level by smallest key.
+abbrev pub standing_cmp : (List ℕ → List ℕ → Ordering) → NewFile → NewFile → Ordering
+standing_cmp cmp f g = ordering_then (nat_cmp f.level g.level) (ordering_then (nat_cmp (rank_of g) (rank_of f)) (internal_cmp cmp f.meta.smallest g.meta.smallest))
+
+-- the listed files are all files of a version, in that order
+pub record AreListed (cmp : List ℕ → List ℕ → Ordering) (files : List NewFile) (listed : List LevelFile) : Type 0 where
+  pub all : AreAll files (map level_file_in listed)
+  pub sorted : IsSortedBy (λ f g. is_lt (standing_cmp cmp (level_file_in f) (level_file_in g))) listed
+
+-- each file comes before the next one
+abbrev pub AreInTurn : (List ℕ → List ℕ → Ordering) → List LevelFile → Type 0
+AreInTurn cmp listed = (k : ℕ) (d : LevelFile) → k + 1 < length listed → stands_before cmp (level_file_in (slice_index_or listed k d)) (level_file_in (slice_index_or listed (k + 1) d)) ≡ true

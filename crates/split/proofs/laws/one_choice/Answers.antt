@@ -1,5 +1,0 @@
-use Rattle.split.proofs.OneChoice.{one_choice_law}
-use Rattle.split.proofs.laws.one_choice.Goals as goal
-
-pub returns : goal.returns
-returns g c = one_choice_law g.C.Comparator.cmp g.met.C.Comparator.total

@@ -1,0 +1,96 @@
+//! Boundaries taken from the index keys of tables.
+
+ghost use Rattle.std.specs.Prelude.{◌≡◌, ◌*◌, ◌/◌, ◌<◌, ◌≤◌, ◌++◌, Ok, map, length, Contains, IfOk, OnOk, IsOkUnless};
+ghost use Rattle.std.specs.List.{flat_map};
+ghost use Rattle.coding.specs.Answers.{EqualOrMemory, fault};
+ghost use Rattle.coding.specs.declared.fault.FaultName.TheVariants.{Memory};
+ghost use Rattle.split.specs.Boundaries.{KeysRise};
+ghost use Rattle.split.specs.SplitChoice.{IsListOf, IsAtPlaceBelow};
+
+use coding::Fault;
+use ikey::Comparator;
+use std::alloc::Global;
+use table::{KeyList, SoundTable};
+
+/// The user keys of each table's index. The only fault is Memory.
+pub(crate) fn index_lists<C: Comparator>(
+    alloc: Global,
+    tables: &[SoundTable<'_, C>],
+) -> Result<Vec<KeyList>, Fault>
+    ensures { EqualOrMemory (λ lists. lists.items) result (Ok (map (λ table. table.index_users) tables.now)) }
+{
+    let mut lists = Vec::with_capacity(alloc, tables.len())?;
+    for table in tables {
+        lists.push(table.index_keys(alloc)?)?;
+    }
+    Ok(lists)
+}
+
+/// Appends the keys of a list, without copying them. The only fault is Memory.
+fn push_lent<'k>(keys: &mut Vec<&'k [u8]>, list: &'k KeyList) -> Result<(), Fault>
+    ensures ok { OnOk result (map (λ key. key.now) keys.new.items ≡ map (λ key. key.now) keys.old.items ++ list.now) }
+    ensures memory { IsOkUnless result (fault Memory) }
+{
+    for place in 0..list.len() {
+        keys.push(list.get(place))?;
+    }
+    Ok(())
+}
+
+/// The keys of all lists, without copying them. The only fault is Memory.
+pub(crate) fn lent_keys<'k>(alloc: Global, lists: &'k [KeyList]) -> Result<Vec<&'k [u8]>, Fault>
+    ensures { EqualOrMemory (λ keys. map (λ key. key.now) keys.items) result (Ok (flat_map (λ list. list) lists.now)) }
+{
+    let mut keys = Vec::new(alloc);
+    for list in lists {
+        push_lent(&mut keys, list)?;
+    }
+    Ok(keys)
+}
+
+/// The keys in order, each once. The only fault is Memory.
+///
+/// The keys of each table are in order already, so a stable sort has only to merge them.
+pub(crate) fn each_once<'k, C: Comparator>(mut keys: Vec<&'k [u8]>) -> Result<Vec<&'k [u8]>, Fault>
+    ensures once { IfOk result (λ once. IsListOf C.cmp (Contains (map (λ key. key.now) keys.entry.items)) (map (λ key. key.now) once.items)) }
+    ensures memory { IsOkUnless result (fault Memory) }
+{
+    keys.sort_by(|key, other| C::compare(key, other))?;
+    keys.dedup();
+    Ok(keys)
+}
+
+/// The keys at the places of the boundaries, each once. The only fault is Memory.
+pub(crate) fn at_places<C: Comparator>(
+    alloc: Global,
+    keys: &[&[u8]],
+    want: u64,
+) -> Result<Vec<Vec<u8>>, Fault>
+    requires least { 0 < want }
+    requires most { want ≤ 4096 }
+    requires rising { KeysRise C.cmp (map (λ key. key.now) keys.now) }
+    ensures few { IfOk result (λ boundaries. length boundaries.items < want) }
+    ensures places { IfOk result (λ boundaries.
+        IsListOf C.cmp (IsAtPlaceBelow (map (λ key. key.now) keys.now) want want) (map (λ key. key.items) boundaries.items)) }
+    ensures memory { IsOkUnless result (fault Memory) }
+{
+    let mut boundaries = Vec::new(alloc);
+    let mut free = 0;
+    for number in 1..want {
+        let place = place_of(number, keys.len(), want);
+        if free <= place && place < keys.len() {
+            boundaries.push(Vec::from_slice(alloc, keys[place])?)?;
+            free = place + 1;
+        }
+    }
+    Ok(boundaries)
+}
+
+/// The place of boundary `number` among `count` keys, if `want` ranges are wanted.
+fn place_of(number: u64, count: usize, want: u64) -> usize
+    requires number { number < want }
+    requires want { want ≤ 4096 }
+    ensures { result ≡ number * count / want }
+{
+    (u128::from(number) * count as u128 / u128::from(want)) as usize
+}

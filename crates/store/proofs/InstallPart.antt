@@ -1,0 +1,154 @@
+-- The installation of a compaction, as a part of the call.
+use Rattle.std.proofs.Common.{◌≡◌, ℕ, false, List, [], ◌∷◌, ◌++◌, Option, Result, Ok, Err, IfErr, IfOk, IsErrAnd, OnOk, refl, sym, ap, subst, ◌∙◌, inl, inr}
+use Rattle.std.specs.Global.{Vec}
+use Rattle.std.specs.declared.cmp.Ordering.{Ordering}
+use Rattle.coding.specs.Answers.{UnlessMemory, fault}
+use Rattle.coding.specs.declared.fault.Fault.{Fault}
+use Rattle.coding.specs.declared.fault.FaultName.TheVariants.{Device}
+use Rattle.coding.proofs.Refusals.{unless_from}
+use Rattle.edit.specs.Version.{State}
+use Rattle.folder.specs.Calls.{Done, Files, FolderSynced, FolderView, Step, Tells, TellsAfter, step_of}
+use Rattle.folder.specs.Crash.{call_of}
+use Rattle.folder.proofs.LoadingLemmas.{told_since}
+use Rattle.folder.specs.Folder.{TellsSame}
+use Rattle.folder.specs.Levels.{file_numbers}
+use Rattle.folder.specs.LoadedTables.{IsLoaded}
+use Rattle.folder.specs.Manifest.{order_name}
+use Rattle.folder.specs.OpenAnswer.{IsOpened, IsStopped}
+use Rattle.folder.specs.ReadsAs.{IsHeldIn, ReadsAs}
+use Rattle.folder.specs.declared.folder.FolderFault.{FolderFault}
+use Rattle.folder.specs.declared.order.Order.{Order}
+use Rattle.install.specs.Install.{IsEditedBy, SurvivesCrash, next_version_tables}
+use Rattle.request.specs.OneThread.{Answer}
+use Rattle.store.specs.FolderRequest.{manifest_of}
+use Rattle.store.specs.Compaction.{VersionCompaction, IsInstalled, IsFolderLeft, IsVersionLeft, next_of}
+use Rattle.folder.specs.Orders.{order_cmp, order_separator, order_successor}
+use Rattle.store.specs.declared.settings.Settings.{Settings}
+
+-- what survives of one answer does of another one that is a value where the first is
+survives_on : {T E U G : Type 0} (cmp : List ℕ → List ℕ → Ordering) (order : Order) (v next : State) (tables tables' : List (ℕ × List ℕ)) (before after : List Step) (old middle new : List ℕ → Option (List ℕ) → Type 0) (r : Result T E) (q : Result U G)
+    → ((P : Type 0) → OnOk r P → OnOk q P) → ((files : Files) → Tells old files → Tells middle files)
+    → SurvivesCrash cmp order v tables next tables' before after middle new r → SurvivesCrash cmp order v tables next tables' before after old new q
+survives_on cmp order v next tables tables' before after old middle new r q f told h = record {
+  any_moment = h.any_moment;
+  installed = λ start stands. f _ (h.installed start stands);
+  read = λ files tells reads. let x = h.read files (told files tells) reads in (x.0, x.1, x.2, f _ x.3);
+}
+
+-- what the version and its tables read as
+pub reads_as : (cmp : List ℕ → List ℕ → Ordering) (order : Order) (v : State) (loaded : List (ℕ × List ℕ)) (files : Files) → IsOpened (IsHeldIn files) (Ok (order, v)) → IsLoaded (IsHeldIn files) (file_numbers cmp v) (Ok loaded) → ReadsAs cmp order v loaded files
+reads_as cmp order v loaded files opened loads = record { opened = opened; loaded = loads }
+
+-- what an installation promises of each edited version
+abbrev pub Promises : {T : Type 0} → List ℕ → (List ℕ → List ℕ → Ordering) → State → ℕ → Answer → List Step → List Step → (List ℕ → Option (List ℕ) → Type 0) → (List ℕ → Option (List ℕ) → Type 0) → Result T Fault → Type 0
+Promises name cmp v number answer before after old new r =
+    (order : Order) (next : State) (tables : List (ℕ × List ℕ)) → IsEditedBy name cmp order v number answer.tables answer.edit next
+    → SurvivesCrash cmp order v tables next (next_version_tables cmp next answer.tables tables) before after old new r
+
+pub installed_by : {T : Type 0} (name : List ℕ) (order : Order) (cmp : List ℕ → List ℕ → Ordering) (separator_of : List ℕ → List ℕ → List ℕ) (successor_of : List ℕ → List ℕ) (files : Files) (v : State) (loaded : List (ℕ × List ℕ)) (level : ℕ) (s : Settings) (answer : Answer) (lines : List ℕ)
+    (before after : List Step) (old middle new : List ℕ → Option (List ℕ) → Type 0) (r : Result T Fault) (q : Result (Vec ℕ) Fault)
+    → order_name order ≡ name → ReadsAs cmp order v loaded files → VersionCompaction order cmp separator_of successor_of v loaded level s answer lines → ((P : Type 0) → OnOk r P → OnOk q P) → TellsSame old middle
+    → IfOk q (λ text. text.items ≡ lines) → IfErr q (λ e. UnlessMemory e (e ≡ fault Device)) → Promises name cmp v (manifest_of v) answer before after middle new r
+    → IsInstalled order cmp separator_of successor_of files level s before after old new q
+installed_by name order cmp separator_of successor_of files v loaded level s answer lines before after old middle new r q named reads done f same printed refused promises =
+    let edited = subst (λ (n : List ℕ). IsEditedBy n cmp order v (manifest_of v) answer.tables answer.edit done.edited.next) named done.edited.edited in
+    record {
+      compaction = record { version = v; loaded = loaded; reads = reads; answer = answer; lines = lines; compacted = done };
+      survives = survives_on cmp order v done.edited.next loaded (next_version_tables cmp done.edited.next answer.tables loaded) before after old middle new r q f
+          (λ files tells name held. (λ h. (tells name held).0 ((same name held).1 h), λ h. (same name held).0 ((tells name held).1 h)))
+          (promises order done.edited.next loaded edited);
+      printed = printed;
+      refused = refused;
+    }
+
+-- a refusal of the installation is Device or Memory
+pub stopped_named : {T : Type 0} (before now : ℕ) (r : Result T Fault) (e : Fault) → IsErrAnd r (λ f. f ≡ e) → UnlessMemory e (IsStopped before now e) → IfErr r (λ f. UnlessMemory f (f ≡ fault Device))
+stopped_named before now (Ok x) e h given = absurd h
+stopped_named before now (Err f) e h given =
+    subst (λ (x : Fault). UnlessMemory x (x ≡ fault Device)) (sym h) (unless_from e (IsStopped before now e) (e ≡ fault Device) (λ s. s.0) given)
+
+-- what holds at a value of a call that was refused holds of each answer
+pub refused_on : {T U : Type 0} (r : Result T Fault) (q : Result U Fault) (e : Fault) (P : Type 0) → IsErrAnd q (λ f. f ≡ e) → OnOk r P → OnOk q P
+refused_on r (Ok x) e P h given = absurd h
+refused_on r (Err f) e P h given = tt
+
+-- a call that was refused answers no value
+pub refused_ok : {T : Type 0} (q : Result T Fault) (e : Fault) (P : T → Type 0) → IsErrAnd q (λ f. f ≡ e) → IfOk q P
+refused_ok (Ok x) e P h = absurd h
+refused_ok (Err f) e P h = tt
+
+pub valued_on : {T U : Type 0} (r : Result T Fault) (x : T) (q : Result U Fault) (P : Type 0) → r ≡ Ok x → OnOk r P → OnOk q P
+valued_on r x (Ok y) P is given = subst (λ (a : Result _ Fault). OnOk a P) is given
+valued_on r x (Err e) P is given = tt
+
+-- ---- opened and synced folders
+
+still : (old new : List ℕ → Option (List ℕ) → Type 0) → TellsSame old new → (files : Files) → Tells old files → Tells new files
+still old new same files tells name held = (λ h. (tells name held).0 ((same name held).1 h), λ h. (same name held).0 ((tells name held).1 h))
+
+-- an installation, told from earlier calls on
+installed_since : (order : Order) (cmp : List ℕ → List ℕ → Ordering) (separator_of : List ℕ → List ℕ → List ℕ) (successor_of : List ℕ → List ℕ) (files : Files) (level : ℕ) (s : Settings)
+    (first before after : List Step) (zero old new : List ℕ → Option (List ℕ) → Type 0) (r : Result (Vec ℕ) Fault) → before ≡ first → ((files : Files) → Tells zero files → Tells old files)
+    → IsInstalled order cmp separator_of successor_of files level s before after old new r → IsInstalled order cmp separator_of successor_of files level s first after zero new r
+installed_since order cmp separator_of successor_of files level s first before after zero old new r is told i = record {
+  compaction = i.compaction;
+  survives = subst (λ (b : List Step). SurvivesCrash cmp order i.compaction.version i.compaction.loaded (next_of i.compaction) (next_version_tables cmp (next_of i.compaction) i.compaction.answer.tables i.compaction.loaded) b after zero new r) is
+      (survives_on cmp order i.compaction.version (next_of i.compaction) i.compaction.loaded (next_version_tables cmp (next_of i.compaction) i.compaction.answer.tables i.compaction.loaded) before after zero old new r r (λ P x. x) told i.survives);
+  printed = i.printed;
+  refused = i.refused;
+}
+
+-- a sync of the folder changes nothing of what may be read
+pub sync_told : {T : Type 0} (r : Result T FolderFault) (old new : List ℕ → Option (List ℕ) → Type 0) → TellsAfter (step_of FolderSynced r) old new → (files : Files) → Tells old files → Tells new files
+sync_told (Ok x) old new change files tells =
+    let s = change (record { files = files; synced = λ name. false }) tells in
+    subst (λ (t : FolderView). Tells new t.files) s.1 s.2
+sync_told (Err e) old new change files tells =
+    let s = change (record { files = files; synced = λ name. false }) tells in
+    subst (λ (t : FolderView). Tells new t.files) s.1 s.2
+
+sync_call : {T : Type 0} (r : Result T FolderFault) → call_of (step_of FolderSynced r) ≡ FolderSynced
+sync_call (Ok x) = refl
+sync_call (Err e) = refl
+
+-- the sync was refused
+pub sync_refused : {T : Type 0} (files : Files) (level : ℕ) (s : Settings) (before after : List Step) (old new : List ℕ → Option (List ℕ) → Type 0) (r : Result T FolderFault) (q : Result (Vec ℕ) Fault)
+    → after ≡ before ++ step_of FolderSynced r ∷ [] → TellsAfter (step_of FolderSynced r) old new → OnOk q ⊥ → IsFolderLeft files level s before after old new q
+sync_refused files level s before after old new r q calls change refused =
+    inl (record { step = step_of FolderSynced r; call = sync_call r; calls = calls; same = sync_told r old new change; refused = refused })
+
+-- it was synced, and nothing was called that writes
+pub synced_still : {T : Type 0} (files : Files) (level : ℕ) (s : Settings) (first before after : List Step) (zero old new : List ℕ → Option (List ℕ) → Type 0) (r : Result T FolderFault) (q : Result (Vec ℕ) Fault)
+    → before ≡ first ++ step_of FolderSynced r ∷ [] → TellsAfter (step_of FolderSynced r) zero old → after ≡ before → TellsSame old new → OnOk q ⊥ → IsFolderLeft files level s first after zero new q
+synced_still files level s first before after zero old new r q calls change no_more same refused =
+    inl (record {
+      step = step_of FolderSynced r;
+      call = sync_call r;
+      calls = no_more ∙ calls;
+      same = λ fs tells. still old new same fs (sync_told r zero old change fs tells);
+      refused = refused;
+    })
+
+-- what is left of a folder that was synced and opened
+pub synced_left : {T : Type 0} (order : Order) (files : Files) (level : ℕ) (s : Settings) (first synced before after : List Step) (zero middle old new : List ℕ → Option (List ℕ) → Type 0)
+    (r : Result T FolderFault) (x : T) (q : Result (Vec ℕ) Fault) → r ≡ Ok x → synced ≡ first ++ step_of FolderSynced r ∷ [] → TellsAfter (step_of FolderSynced r) zero middle → before ≡ synced → TellsSame middle old
+    → IsVersionLeft order (order_cmp order) (order_separator order) (order_successor order) files level s before after old new q → IsFolderLeft files level s first after zero new q
+synced_left order files level s first synced before after zero middle old new r x q done calls change is same (inl u) =
+    synced_still files level s first synced after zero middle new r q calls change (u.calls ∙ is) (told_since middle old new same u.same) u.refused
+synced_left order files level s first synced before after zero middle old new r x q done calls change is same (inr i) =
+    let begun : before ≡ first ++ Done FolderSynced ∷ [] = is ∙ calls ∙ ap (λ (a : Result _ FolderFault). first ++ step_of FolderSynced a ∷ []) done in
+    inr (
+      order,
+      installed_since order (order_cmp order) (order_separator order) (order_successor order) files level s (first ++ Done FolderSynced ∷ []) before after zero old new q begun
+          (λ fs tells. still middle old same fs (sync_told r zero middle change fs tells)) i,
+    )
+
+-- what is left of a folder whose version was compacted
+pub version_left : {T : Type 0} (name : List ℕ) (order : Order) (cmp : List ℕ → List ℕ → Ordering) (separator_of : List ℕ → List ℕ → List ℕ) (successor_of : List ℕ → List ℕ) (files : Files) (v : State) (loaded : List (ℕ × List ℕ)) (level : ℕ) (s : Settings) (answer : Answer) (lines : List ℕ)
+    (first before after : List Step) (zero old new : List ℕ → Option (List ℕ) → Type 0) (r : Result T Fault) (q : Result (Vec ℕ) Fault)
+    → order_name order ≡ name → ReadsAs cmp order v loaded files → VersionCompaction order cmp separator_of successor_of v loaded level s answer lines → ((P : Type 0) → OnOk r P → OnOk q P) → before ≡ first → TellsSame zero old
+    → IfOk q (λ text. text.items ≡ lines) → IfErr q (λ e. UnlessMemory e (e ≡ fault Device)) → Promises name cmp v (manifest_of v) answer before after old new r
+    → IsVersionLeft order cmp separator_of successor_of files level s first after zero new q
+version_left name order cmp separator_of successor_of files v loaded level s answer lines first before after zero old new r q named reads done f is same printed refused promises =
+    inr (installed_since order cmp separator_of successor_of files level s first before after zero old new q is (still zero old same)
+    (installed_by name order cmp separator_of successor_of files v loaded level s answer lines before after old old new r q named reads done f (λ n held. (λ h. h, λ h. h)) printed refused promises))

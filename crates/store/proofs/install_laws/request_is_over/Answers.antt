@@ -1,0 +1,5 @@
+use Rattle.store.proofs.Over as lemma
+use Rattle.store.proofs.install_laws.request_is_over.Goals as goal
+
+pub returns : goal.returns
+returns g c = λ v loaded tables level p s checked lawful picked log previous. lemma.is_over g.C.Comparator.cmp g.met.C.Comparator.total v loaded tables level p checked lawful picked s log previous

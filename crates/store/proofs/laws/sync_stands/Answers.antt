@@ -1,5 +1,0 @@
-use Rattle.store.proofs.Synced as lemma
-use Rattle.store.proofs.laws.sync_stands.Goals as goal
-
-pub returns : goal.returns
-returns c = lemma.sync_stands

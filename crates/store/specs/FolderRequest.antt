@@ -1,0 +1,50 @@
+-- What is asked of a compaction, if a folder holds this version and these tables.
+use Rattle.std.specs.Prelude.{ℕ, ◌+◌, ◌-◌, ◌^◌, nat_le, nat_lt, ◌&&◌, List, map, unwrap_or, Result, Ok}
+use Rattle.std.specs.declared.cmp.Ordering.{Ordering}
+use Rattle.coding.specs.Answers.{◌>>=◌}
+use Rattle.coding.specs.declared.fault.Fault.{Fault}
+use Rattle.coding.specs.declared.fault.FaultName.TheVariants.{Numbers, SplitCount}
+use Rattle.table.specs.ReadingSteps.{test_result}
+use Rattle.edit.specs.Version.{State}
+use Rattle.pick.specs.Picked.{PickedInputs}
+use Rattle.pick.specs.declared.picked.InputFile.{InputFile}
+use Rattle.install.specs.Install.{table_bytes_of}
+use Rattle.request.specs.OneThread.{Answer, compaction_result}
+use Rattle.request.specs.Request.{RequestView}
+use Rattle.store.specs.declared.settings.Settings.{Settings}
+
+-- The number of the new manifest: the version's next file. Each version that a folder opens as has
+-- one.
+abbrev pub manifest_of : State → ℕ
+manifest_of v = unwrap_or v.next_file 0
+
+-- the version's last sequence
+abbrev pub last_of : State → ℕ
+last_of v = unwrap_or v.last_sequence 0
+
+-- The request for these inputs: the bytes loaded of each, the version's counters, and for the
+-- outputs the numbers after the manifest's. A previous log number that was never set is 0.
+abbrev pub request_of : State → List (ℕ × List ℕ) → PickedInputs → Settings → RequestView
+request_of v loaded p s = record {
+  picked = p;
+  tables = map (λ (i : InputFile). table_bytes_of loaded i.meta.number) p.files;
+  snapshots = s.snapshots;
+  first_number = manifest_of v + 1;
+  log_number = unwrap_or v.log_number 0;
+  previous_log = unwrap_or v.previous_log 0;
+  last_sequence = last_of v;
+  options = s.options;
+}
+
+-- that request, or Numbers if no number is left after the manifest's
+abbrev pub numbered_request : State → List (ℕ × List ℕ) → PickedInputs → Settings → Result RequestView Fault
+numbered_request v loaded p s = test_result (nat_lt (manifest_of v) (2 ^ 64 - 1)) Numbers >>= λ _. Ok (request_of v loaded p s)
+
+-- What a compaction of these inputs answers: SplitCount if the ranges are outside 1 to 4,096, then
+-- Numbers if no number is left after the manifest's, then what the request for them answers.
+abbrev pub compaction_of : (List ℕ → List ℕ → Ordering) → (List ℕ → List ℕ → List ℕ) → (List ℕ → List ℕ)
+    → State → List (ℕ × List ℕ) → PickedInputs → Settings → Result Answer Fault
+compaction_of cmp separator_of successor_of v loaded p s = do
+  _ ← test_result (nat_le 1 s.ranges && nat_le s.ranges 4096) SplitCount
+  r ← numbered_request v loaded p s
+  compaction_result cmp separator_of successor_of s.workers r

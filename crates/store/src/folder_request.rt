@@ -1,0 +1,52 @@
+//! What is asked of a compaction by the version and the tables that a folder holds.
+
+ghost use Rattle.std.specs.Prelude.{◌≡◌, ◌<◌, ◌^◌, ℕ, List, map, unwrap_or, IfOk};
+ghost use Rattle.coding.specs.Answers.{EqualOrMemory};
+ghost use Rattle.install.specs.Install.{table_bytes_of};
+ghost use Rattle.pick.specs.Picked.{picked_in};
+ghost use Rattle.request.specs.Request.{request_in};
+ghost use Rattle.store.specs.FolderRequest.{manifest_of, numbered_request};
+
+use crate::settings::Settings;
+use coding::{Fault, FaultName};
+use edit::Version;
+use pick::Inputs;
+use request::Request;
+
+/// The number of the new manifest: the version's next file.
+pub(crate) fn manifest_of(version: &Version) -> u64
+    ensures { result ≡ manifest_of version.now }
+{
+    version.next_file().unwrap_or(0)
+}
+
+/// The request for the `picked` inputs of `version`, whose tables these are. `Numbers` if next file
+/// is 2^64 - 1, so that no number is left after the manifest's. It takes no memory.
+pub(crate) fn request_of<'a>(
+    version: &Version,
+    picked: &'a Inputs,
+    tables: &'a [&'a [u8]],
+    settings: &Settings<'a>,
+) -> Result<Request<'a>, Fault>
+    ensures asked { (loaded : List (ℕ × List ℕ)) →
+        map (λ t. t.now) tables.now ≡ map (λ i. table_bytes_of loaded i.meta.number) picked.now.files.items →
+        EqualOrMemory request_in result (numbered_request version.now loaded (picked_in picked.now) settings.now) }
+    ensures lent { IfOk result (λ r. (r.picked.now ≡ picked.now) × (r.tables.now ≡ tables.now)) }
+    ensures logs { (unwrap_or version.now.log_number 0 < 2 ^ 64) × (unwrap_or version.now.previous_log 0 < 2 ^ 64) }
+{
+    let log_number = version.log_number().unwrap_or(0);
+    let previous_log = version.previous_log().unwrap_or(0);
+    let Some(first_number) = manifest_of(version).checked_add(1) else {
+        return Err(Fault::of(FaultName::Numbers));
+    };
+    Ok(Request {
+        picked,
+        tables,
+        snapshots: settings.snapshots,
+        first_number,
+        log_number,
+        previous_log,
+        last_sequence: version.last_sequence().unwrap_or(0),
+        options: settings.options,
+    })
+}

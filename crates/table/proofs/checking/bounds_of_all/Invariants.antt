@@ -1,7 +1,0 @@
-use Rattle.std.proofs.Common.{◌≡◌, drop}
-use Rattle.table.specs.Indexed.{index_of}
-use Rattle.table.proofs.DataSteps.{all_ends, rest_ends}
-use Rattle.table.proofs.checking.bounds_of_all.Given as goal
-
-abbrev pub invariant-loop-entry : goal.invariant-loop-entry
-invariant-loop-entry g l = rest_ends g.C.Comparator.cmp (record { smallest = l.bounds.smallest; largest = l.bounds.largest }) l.below l.fits (index_of (drop l.entry-index l.others)) ≡ all_ends g.C.Comparator.cmp (index_of l.index)

@@ -1,5 +1,0 @@
-use Rattle.table.proofs.Cuts.{data_blocks_law}
-use Rattle.table.proofs.laws.data_blocks_law.Goals as goal
-
-pub returns : goal.returns
-returns c = data_blocks_law

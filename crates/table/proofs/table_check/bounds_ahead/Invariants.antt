@@ -1,0 +1,16 @@
+use Rattle.std.proofs.Common.{◌≡◌, [], length, Some}
+use Rattle.std.specs.Option.{option_map}
+use Rattle.block.specs.BuilderView.{last_key}
+use Rattle.table.specs.ReadingEntries.{entries_test}
+use Rattle.table.proofs.table_check.bounds_ahead.Given as goal
+
+abbrev pub invariant-loop-largest : goal.invariant-loop-largest
+invariant-loop-largest g l = record {
+  bytes : l.cursor.bytes ≡ l.fn.cursor.bytes;
+  all : l.cursor.all ≡ l.fn.cursor.all;
+  tests : entries_test g.C.Comparator.cmp (Some l.largest) l.cursor.ahead ≡ entries_test g.C.Comparator.cmp (option_map (λ key. key.bytes.now) l.fn.before) l.fn.cursor.ahead;
+  last : last_key l.largest l.cursor.ahead ≡ last_key [] l.fn.cursor.ahead;
+}
+
+abbrev pub decreases-loop-largest : goal.decreases-loop-largest
+decreases-loop-largest g l = length l.cursor.ahead

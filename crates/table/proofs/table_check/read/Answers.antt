@@ -1,0 +1,51 @@
+use Rattle.std.proofs.Common.{List, sym, ap, ◌∙◌}
+use Rattle.std.proofs.lemmas.Result.{err_from_is_err_and}
+use Rattle.table.specs.Ends.{Ends}
+use Rattle.table.specs.ReadingIndex.{IndexEntry, index_reading}
+use Rattle.table.specs.TableContents.{index_in, contents_reading}
+use Rattle.table.specs.Indexed.{index_entries_of}
+use Rattle.table.specs.declared.indexed_block.IndexedBlock.{IndexedBlock}
+use Rattle.table.proofs.Steps.{fails_map, handed_on}
+use Rattle.table.proofs.DataSteps.{all_ends}
+use Rattle.table.proofs.CheckedTables.{index_refused, entries_refused, ends_refused, checked}
+use Rattle.table.proofs.table_check.read.Goals as goal
+
+pub returns-in_err-block : goal.returns-in_err-block
+returns-in_err-block g c =
+    let p = err_from_is_err_and c.from_residual.result c.from_residual.ensures.1 in
+    let cmp = g.C.Comparator.cmp in
+    let bytes = c.args.bytes.now in
+    let d = c.in_err-block.field-0.0 in
+    handed_on (λ t. t) c.from_residual.result p.0 d (contents_reading cmp bytes) p.1 p.2
+    (fails_map d (index_in bytes) (contents_reading cmp bytes) (λ h. index_refused cmp bytes d h) c.in_err-block.ensures)
+
+pub returns-in_err-index : goal.returns-in_err-index
+returns-in_err-index g c =
+    let p = err_from_is_err_and c.from_residual-in_err-index.result c.from_residual-in_err-index.ensures.1 in
+    let cmp = g.C.Comparator.cmp in
+    let bytes = c.args.bytes.now in
+    let d = c.in_err-index.field-0.0 in
+    let named = c.in_ok-block.block.entries in
+    handed_on (λ t. t) c.from_residual-in_err-index.result p.0 d (contents_reading cmp bytes) p.1 p.2
+    (fails_map d (index_reading bytes named) (contents_reading cmp bytes) (λ h. entries_refused cmp bytes named d c.in_ok-block.ensures h) c.in_err-index.ensures)
+
+pub returns-in_err-bounds : goal.returns-in_err-bounds
+returns-in_err-bounds g c =
+    let p = err_from_is_err_and c.from_residual-in_err-bounds.result c.from_residual-in_err-bounds.ensures.1 in
+    let cmp = g.C.Comparator.cmp in
+    let bytes = c.args.bytes.now in
+    let d = c.in_err-bounds.field-0.0 in
+    let named = c.in_ok-block.block.entries in
+    let index : List IndexEntry = index_entries_of c.in_ok-index.index.items in
+    let lent = ap (λ (xs : List IndexedBlock). all_ends cmp (index_entries_of xs)) c.deref.ensures.value in
+    handed_on (λ t. t) c.from_residual-in_err-bounds.result p.0 d (contents_reading cmp bytes) p.1 p.2
+    (fails_map d (all_ends cmp (index_entries_of c.deref.result.now)) (contents_reading cmp bytes) (λ h. ends_refused cmp bytes named index d c.in_ok-block.ensures c.in_ok-index.ensures (sym lent ∙ h)) c.in_err-bounds.ensures)
+
+pub of-requires : goal.of-requires
+of-requires g c =
+    let cmp = g.C.Comparator.cmp in
+    let bytes = c.args.bytes.now in
+    let index : List IndexEntry = index_entries_of c.in_ok-index.index.items in
+    let x : Ends = record { smallest = c.in_ok-bounds.bounds.smallest; largest = c.in_ok-bounds.bounds.largest } in
+    let lent = ap (λ (xs : List IndexedBlock). all_ends cmp (index_entries_of xs)) c.deref.ensures.value in
+    checked cmp bytes c.in_ok-block.block.entries index x c.in_ok-block.ensures c.in_ok-index.ensures (sym lent ∙ c.in_ok-bounds.ensures)

@@ -1,0 +1,289 @@
+//! Which bytes are a table: the tests of a reader.
+
+ghost use Rattle.std.specs.Prelude.{◌≡◌, ◌≤◌, ◌&&◌, not, IfOk, OnOk, IsOk, List, length, Ok};
+ghost use Rattle.std.specs.Option.{option_map};
+ghost use Rattle.std.specs.Ordering.{is_gt};
+ghost use Rattle.std.specs.Result.{result_map_both};
+ghost use Rattle.coding.specs.Answers.{EqualOrMemory};
+ghost use Rattle.block.specs.EncodedEntry.{Entry};
+ghost use Rattle.block.specs.ReadingBlocks.{block_reading};
+ghost use Rattle.ikey.specs.Order.{internal_cmp};
+ghost use Rattle.table.specs.ReadingTables.{IsTable, ReadsTables};
+ghost use Rattle.table.specs.ReadingEntries.{is_above, entry_test};
+ghost use Rattle.table.specs.ReadingIndex.{stored_at, block_in, index_entry, index_reading};
+ghost use Rattle.table.specs.TableContents.{data_reading, index_in, contents_reading};
+ghost use Rattle.table.specs.Ends.{ends_of, ends_reading, stored_ends};
+ghost use Rattle.table.specs.Indexed.{index_entry_of, index_entries_of};
+
+use crate::indexed_block::IndexedBlock;
+use crate::sound_table::{Bounds, SoundTable};
+use block::{BlockCursor, CheckingCursor, SoundBlock};
+use coding::{Fault, FaultName};
+use frame::{BlockHandle, FOOTER_LEN, Footer, TRAILER_LEN, contents};
+use ikey::{Comparator, InternalKey, KeyBuf};
+use std::alloc::Global;
+use std::cmp::Ordering;
+
+/// The greatest length of a table, 2^30 bytes.
+pub const MAX_TABLE_LEN: usize = 1 << 30;
+
+/// The greatest length of a value, 2^24 - 1 bytes.
+pub const MAX_VALUE_LEN: usize = 16_777_215;
+
+/// Reads bytes as a table: one list of entries, whose internal keys rise strictly. `layout.rt`
+/// shows the format. What the metaindex holds isn't read.
+///
+/// Other bytes are refused by the first of these tests that fails:
+///
+/// 1. they are at most 2^30: `Size`;
+/// 2. they are at least 48: `Short`;
+/// 3. the last 8 are the magic: `Magic`;
+/// 4. both handles of the footer have a reading: `Handle`; the rest up to 40 bytes isn't tested;
+/// 5. the metaindex, and then the index, is before the footer: `Range`;
+/// 6. the metaindex is a stored block: (1);
+/// 7. the index is a stored block: (1);
+/// 8. of each entry of the index in order: the key is an internal key: `Key`; its user key has at
+///    most 65,535 bytes: `TooLarge`; the value is one handle: `Handle`; what it points at is before
+///    the footer: `Range`;
+/// 9. the index has an entry: `Empty`;
+/// 10. of each data block in the order of the index: it is a stored block: (1); it has an entry:
+///     `Empty`; and of each entry in order: the key is an internal key: `Key`; its user key has at
+///     most 65,535 bytes and the value at most 16,777,215: `TooLarge`; the key is above the one
+///     before it in the table: `Order`;
+/// 11. each key of the index is at or above its block's last key, and below the next block's first:
+///     `Index`.
+///
+/// (1) Its checksum is that of contents and type: `Trailer`; the type isn't 1, which is Snappy's:
+///     `Compressed`; it is 0: `BlockType`; the contents are a block: `Block`.
+///
+/// Or the fault is Memory. It reads each data block once, and keeps two keys; on the way it takes
+/// the memory of the index keys. What a footer or an index claims is compared with the bytes that
+/// are there before memory is asked for.
+pub fn check<C: Comparator>(alloc: Global, bytes: &[u8]) -> Result<SoundTable<'_, C>, Fault>
+    // The bytes are a table of what is read.
+    ensures found { IfOk result (λ table. IsTable C.cmp bytes.now table.entries) }
+    // A table is read, unless memory runs out.
+    ensures only { (entries : List Entry) → IsTable C.cmp bytes.now entries
+        → EqualOrMemory (λ table. table.entries) result (Ok entries) }
+    // Which refusal it is, and all that is read.
+    ensures exact { EqualOrMemory (λ table. table) result (contents_reading C.cmp bytes.now) }
+{
+    read(alloc, bytes)
+}
+
+/// The law that bytes read as a table exactly if they are one. A call does nothing.
+pub fn reads_tables<C: Comparator>()
+    ensures { ReadsTables C.cmp }
+{}
+
+/// The table that the bytes are, or the first test that they fail.
+fn read<C: Comparator>(alloc: Global, bytes: &[u8]) -> Result<SoundTable<'_, C>, Fault>
+    ensures { EqualOrMemory (λ table. table) result (contents_reading C.cmp bytes.now) }
+{
+    let block = index_in(bytes)?;
+    let index = indexed_blocks(alloc, bytes, &block)?;
+    let bounds = bounds_of_all::<C>(alloc, &index)?;
+    Ok(SoundTable::of(bytes, block, bounds))
+}
+
+/// The stored block that `handle` points at; Range unless it is before the footer.
+pub(crate) fn stored_at(bytes: &[u8], handle: BlockHandle) -> Result<&[u8], Fault>
+    ensures reading { result_map_both (λ stored. stored.now) (λ e. e) result ≡ stored_at bytes.now handle }
+    ensures long { IfOk result (λ stored. 5 ≤ length stored.now) }
+{
+    let Some(room) = bytes.len().checked_sub(FOOTER_LEN + TRAILER_LEN) else {
+        return Err(Fault::of(FaultName::Range));
+    };
+    if handle.size > room as u64 || handle.offset > room as u64 - handle.size {
+        return Err(Fault::of(FaultName::Range));
+    }
+    let offset = handle.offset as usize;
+    let (_, behind) = bytes.split_at(offset);
+    let (stored, _) = behind.split_at(handle.size as usize + TRAILER_LEN);
+    Ok(stored)
+}
+
+/// The block in stored bytes, or the first test that they fail.
+fn block_in(stored: &[u8]) -> Result<SoundBlock<'_>, Fault>
+    requires { 5 ≤ length stored.now }
+    ensures { EqualOrMemory (λ block. block.entries) result (block_in stored.now) }
+{
+    block::check(contents(stored)?)
+}
+
+/// The index block, or the first test that the footer, the metaindex block or the index block
+/// fails.
+fn index_in(bytes: &[u8]) -> Result<SoundBlock<'_>, Fault>
+    ensures { EqualOrMemory (λ block. block.entries) result (index_in bytes.now) }
+{
+    if bytes.len() > MAX_TABLE_LEN {
+        return Err(Fault::of(FaultName::Size));
+    }
+    if bytes.len() < FOOTER_LEN {
+        return Err(Fault::of(FaultName::Short));
+    }
+    let (_, footer) = bytes.split_at(bytes.len() - FOOTER_LEN);
+    let footer = Footer::read(footer)?;
+    let metaindex = stored_at(bytes, footer.metaindex)?;
+    let index = stored_at(bytes, footer.index)?;
+    block_in(metaindex)?;
+    block_in(index)
+}
+
+/// What an entry of the index names, or the first test that it fails.
+fn indexed_block<'a>(
+    alloc: Global,
+    bytes: &'a [u8],
+    key: &[u8],
+    value: &[u8],
+) -> Result<IndexedBlock<'a>, Fault>
+    ensures { EqualOrMemory index_entry_of result (index_entry bytes.now (record { key = key.now; value = value.now })) }
+{
+    let key = InternalKey::parse(key)?;
+    let Some(found) = BlockHandle::read(value) else {
+        return Err(Fault::of(FaultName::Handle));
+    };
+    if !found.rest.is_empty() {
+        return Err(Fault::of(FaultName::Handle));
+    }
+    let stored = stored_at(bytes, found.handle)?;
+    Ok(IndexedBlock {
+        key: KeyBuf::of(alloc, key)?,
+        stored,
+    })
+}
+
+/// What each entry of the index names, or the first test that one fails.
+fn indexed_blocks<'a>(
+    alloc: Global,
+    bytes: &'a [u8],
+    index: &SoundBlock<'_>,
+) -> Result<Vec<IndexedBlock<'a>>, Fault>
+    ensures { EqualOrMemory (λ v. index_entries_of v.items) result (index_reading bytes.now index.now.entries) }
+{
+    let mut cursor = BlockCursor::new(alloc, index)?;
+    let mut all: Vec<IndexedBlock<'a>> = Vec::new(alloc);
+    while cursor.valid() {
+        all.push(indexed_block(alloc, bytes, cursor.key(), cursor.value())?)?;
+        cursor.advance()?;
+    }
+    Ok(all)
+}
+
+/// Tests an entry after the key `before`, and answers its key.
+fn test_entry<'k, C: Comparator>(
+    before: Option<InternalKey<'_>>,
+    key: &'k [u8],
+    value: &[u8],
+) -> Result<InternalKey<'k>, Fault>
+    ensures test { result_map_both (λ key. tt) (λ e. e) result
+        ≡ entry_test C.cmp (option_map (λ key. key.bytes.now) before.entry) (record { key = key.now; value = value.now }) }
+    ensures key { IfOk result (λ found. found.bytes.now ≡ key.now) }
+{
+    let key = InternalKey::parse(key)?;
+    if value.len() > MAX_VALUE_LEN {
+        return Err(Fault::of(FaultName::TooLarge));
+    }
+    match before {
+        Some(before) if before.compare::<C>(&key) != Ordering::Less => Err(Fault::of(
+            FaultName::Order,
+        )),
+        _ => Ok(key),
+    }
+}
+
+/// The first and the last key of the entries still to come, after the key `before`, if they are of
+/// a block and pass their tests. A fault of an entry may be answered although the bytes are no
+/// block.
+fn bounds_ahead<C: Comparator>(
+    alloc: Global,
+    cursor: &mut CheckingCursor<'_>,
+    before: Option<InternalKey<'_>>,
+) -> Result<Bounds, Fault>
+    ensures block { OnOk result (block_reading cursor.old.bytes ≡ Ok cursor.old.all) }
+    ensures ends { IsOk (block_reading cursor.old.bytes)
+        → EqualOrMemory (λ b. record { smallest = b.smallest; largest = b.largest }) result
+        (ends_reading C.cmp (option_map (λ key. key.bytes.now) before.entry) cursor.old.ahead) }
+{
+    if !cursor.valid() {
+        return Err(Fault::of(FaultName::Empty));
+    }
+    let first = test_entry::<C>(before, cursor.key(), cursor.value())?;
+    let smallest = KeyBuf::of(alloc, first)?;
+    let mut largest = KeyBuf::of(alloc, first)?;
+    cursor.advance()?;
+    while cursor.valid() {
+        let key = test_entry::<C>(Some(largest.as_key()), cursor.key(), cursor.value())?;
+        largest.set(key)?;
+        cursor.advance()?;
+    }
+    Ok(Bounds { smallest, largest })
+}
+
+/// The first and the last key of a stored data block after the key `before`, or the first test that
+/// it fails. `cursor` walks over it, wherever it was before.
+fn bounds_of<'a, C: Comparator>(
+    alloc: Global,
+    cursor: &mut CheckingCursor<'a>,
+    stored: &'a [u8],
+    before: Option<InternalKey<'_>>,
+) -> Result<Bounds, Fault>
+    requires { 5 ≤ length stored.now }
+    ensures { EqualOrMemory (λ b. record { smallest = b.smallest; largest = b.largest }) result
+        (stored_ends C.cmp (option_map (λ key. key.bytes.now) before.entry) stored.now) }
+{
+    let bytes = contents(stored)?;
+    cursor.enter(bytes)?;
+    match bounds_ahead::<C>(alloc, cursor, before) {
+        Ok(bounds) => Ok(bounds),
+        Err(refused) => {
+            // What is wrong with the block itself comes first.
+            block::check(bytes)?;
+            Err(refused)
+        }
+    }
+}
+
+/// Whether a block with these bounds is above the index key before it, and none of its keys is
+/// above its own index key.
+fn is_between<C: Comparator>(below: Option<&KeyBuf>, bounds: &Bounds, key: &KeyBuf) -> bool
+    ensures { result
+        ≡ (is_above C.cmp (option_map (λ key. key.now) below.entry) bounds.now.smallest
+        && not (is_gt (internal_cmp C.cmp bounds.now.largest key.now))) }
+{
+    let above = match below {
+        Some(below) => below.as_key().compare::<C>(&bounds.smallest.as_key()) == Ordering::Less,
+        None => true,
+    };
+    above && bounds.largest.as_key().compare::<C>(&key.as_key()) != Ordering::Greater
+}
+
+/// The first and the last key of the data blocks that the index names, or the first test that they
+/// or the index keys among them fail.
+fn bounds_of_all<'a, C: Comparator>(
+    alloc: Global,
+    index: &[IndexedBlock<'a>],
+) -> Result<Bounds, Fault>
+    ensures { EqualOrMemory (λ b. record { smallest = b.smallest; largest = b.largest }) result
+        (result_map_both ends_of (λ e. e) (data_reading C.cmp (index_entries_of index.now))) }
+{
+    let Some((first, others)) = index.split_first() else {
+        return Err(Fault::of(FaultName::Empty));
+    };
+    // One cursor walks all blocks, so the memory of its key is asked for once.
+    let mut cursor = CheckingCursor::none(alloc);
+    let mut bounds = bounds_of::<C>(alloc, &mut cursor, first.stored, None)?;
+    let mut fits = is_between::<C>(None, &bounds, &first.key);
+    let mut below = &first.key;
+    for entry in others {
+        let before = Some(bounds.largest.as_key());
+        let next = bounds_of::<C>(alloc, &mut cursor, entry.stored, before)?;
+        fits = is_between::<C>(Some(below), &next, &entry.key) && fits;
+        below = &entry.key;
+        bounds.largest = next.largest;
+    }
+    if !fits {
+        return Err(Fault::of(FaultName::Index));
+    }
+    Ok(bounds)
+}

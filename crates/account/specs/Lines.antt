@@ -9,7 +9,8 @@ use Rattle.account.specs.declared.numbers.RangeEntries.{RangeEntries}
 
 -- what comes after the bar of a level's inputs
 abbrev pub files_text : LevelInputs → List ℕ
-files_text l = codes " level " ++ decimal l.level ++ codes ": " ++ decimal l.files ++ codes " files, " ++ decimal l.bytes ++ codes " bytes\n"
+files_text l = codes " level " ++ decimal l.level ++ codes ": " ++ decimal l.files
+    ++ codes " files, " ++ decimal l.bytes ++ codes " bytes\n"
 
 -- the line of a level's inputs; `most` is the largest number of bytes of a level
 abbrev pub level_line : ℕ → LevelInputs → List ℕ
@@ -21,7 +22,8 @@ level_lines inputs = flat_map (level_line (largest_number (map (λ l. l.bytes) i
 
 -- the line of a range; `most` is the largest number of entries of a range
 abbrev pub range_line : ℕ → RangeEntries → List ℕ
-range_line most r = bar r.entries most ++ codes " range " ++ decimal r.number ++ codes ": " ++ decimal r.entries ++ codes " entries\n"
+range_line most r = bar r.entries most ++ codes " range " ++ decimal r.number ++ codes ": "
+    ++ decimal r.entries ++ codes " entries\n"
 
 -- a line for each range
 abbrev pub range_lines : List RangeEntries → List ℕ
@@ -33,20 +35,25 @@ kept_line most kept = bar kept most ++ codes " kept: " ++ decimal kept ++ codes 
 
 -- the line of the dropped entries
 abbrev pub dropped_line : ℕ → ℕ → List ℕ
-dropped_line most dropped = bar dropped most ++ codes " dropped: " ++ decimal dropped ++ codes " entries\n"
+dropped_line most dropped = bar dropped most ++ codes " dropped: " ++ decimal dropped
+    ++ codes " entries\n"
 
 -- both lines, measured by the larger number
 abbrev pub entry_lines : ℕ → ℕ → List ℕ
-entry_lines kept dropped = kept_line (max kept dropped) kept ++ dropped_line (max kept dropped) dropped
+entry_lines kept dropped = kept_line (max kept dropped) kept
+    ++ dropped_line (max kept dropped) dropped
 
 -- the line of an output; `most` is the largest number of bytes of an output
 abbrev pub output_bar_line : ℕ → Output → List ℕ
-output_bar_line most o = bar o.bytes most ++ codes " output " ++ decimal o.number ++ codes ": " ++ decimal o.bytes ++ codes " bytes\n"
+output_bar_line most o = bar o.bytes most ++ codes " output " ++ decimal o.number ++ codes ": "
+    ++ decimal o.bytes ++ codes " bytes\n"
 
 -- a line for each output
 abbrev pub output_lines : List Output → List ℕ
-output_lines outputs = flat_map (output_bar_line (largest_number (map (λ o. o.bytes) outputs))) outputs
+output_lines outputs = flat_map (output_bar_line (largest_number (map (λ o. o.bytes) outputs)))
+    outputs
 
 -- the inputs by level, the ranges, what was kept and dropped, and the outputs
 abbrev pub account_lines : Account → List ℕ
-account_lines a = level_lines a.inputs.items ++ range_lines a.ranges.items ++ entry_lines a.kept a.dropped ++ output_lines a.outputs.items
+account_lines a = level_lines a.inputs.items ++ range_lines a.ranges.items
+    ++ entry_lines a.kept a.dropped ++ output_lines a.outputs.items

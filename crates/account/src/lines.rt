@@ -5,7 +5,9 @@ ghost use Rattle.std.specs.List.{flat_map};
 ghost use Rattle.coding.specs.Answers.{EqualOrMemory, fault};
 ghost use Rattle.coding.specs.declared.fault.FaultName.TheVariants.{Memory};
 ghost use Rattle.account.specs.Bars.{largest_number};
-ghost use Rattle.account.specs.Lines.{account_lines, dropped_line, entry_lines, files_text, kept_line, level_line, level_lines, output_bar_line, output_lines, range_line, range_lines};
+ghost use Rattle.account.specs.Lines.{account_lines, dropped_line, entry_lines, files_text};
+ghost use Rattle.account.specs.Lines.{kept_line, level_line, level_lines, output_bar_line};
+ghost use Rattle.account.specs.Lines.{output_lines, range_line, range_lines};
 
 use crate::bars::bar;
 use crate::numbers::{Account, LevelInputs, Output, RangeEntries};
@@ -31,7 +33,8 @@ pub fn text(alloc: Global, account: &Account) -> Result<String, Fault>
 
 /// Appends the lines of the inputs.
 fn push_levels(alloc: Global, text: &mut String, inputs: &[LevelInputs]) -> Result<(), Fault>
-    ensures ok { OnOk result (string_bytes text.new ≡ string_bytes text.old ++ level_lines inputs.now) }
+    ensures ok { OnOk result (string_bytes text.new ≡ string_bytes text.old
+        ++ level_lines inputs.now) }
     ensures memory { IfErr result (λ e. e ≡ fault Memory) }
 {
     let most = most_bytes_in(inputs);
@@ -54,7 +57,8 @@ fn most_bytes_in(inputs: &[LevelInputs]) -> u64
 
 /// Appends the line of a level's inputs.
 fn push_level(alloc: Global, text: &mut String, level: LevelInputs, most: u64) -> Result<(), Fault>
-    ensures ok { OnOk result (string_bytes text.new ≡ string_bytes text.old ++ level_line most level) }
+    ensures ok { OnOk result (string_bytes text.new ≡ string_bytes text.old
+        ++ level_line most level) }
     ensures memory { IfErr result (λ e. e ≡ fault Memory) }
 {
     let bar = bar(alloc, level.bytes, most)?;
@@ -78,7 +82,8 @@ fn push_files(text: &mut String, level: LevelInputs) -> Result<(), Fault>
 
 /// Appends the lines of the ranges.
 fn push_ranges(alloc: Global, text: &mut String, ranges: &[RangeEntries]) -> Result<(), Fault>
-    ensures ok { OnOk result (string_bytes text.new ≡ string_bytes text.old ++ range_lines ranges.now) }
+    ensures ok { OnOk result (string_bytes text.new ≡ string_bytes text.old
+        ++ range_lines ranges.now) }
     ensures memory { IfErr result (λ e. e ≡ fault Memory) }
 {
     let most = most_entries_in(ranges);
@@ -101,7 +106,8 @@ fn most_entries_in(ranges: &[RangeEntries]) -> u64
 
 /// Appends the line of a range.
 fn push_range(alloc: Global, text: &mut String, range: RangeEntries, most: u64) -> Result<(), Fault>
-    ensures ok { OnOk result (string_bytes text.new ≡ string_bytes text.old ++ range_line most range) }
+    ensures ok { OnOk result (string_bytes text.new ≡ string_bytes text.old
+        ++ range_line most range) }
     ensures memory { IfErr result (λ e. e ≡ fault Memory) }
 {
     let RangeEntries { number, entries } = range;
@@ -112,7 +118,8 @@ fn push_range(alloc: Global, text: &mut String, range: RangeEntries, most: u64) 
 
 /// Appends the lines of the kept and the dropped entries.
 fn push_entries(alloc: Global, text: &mut String, kept: u64, dropped: u64) -> Result<(), Fault>
-    ensures ok { OnOk result (string_bytes text.new ≡ string_bytes text.old ++ entry_lines kept dropped) }
+    ensures ok { OnOk result (string_bytes text.new ≡ string_bytes text.old
+        ++ entry_lines kept dropped) }
     ensures memory { IfErr result (λ e. e ≡ fault Memory) }
 {
     let most = kept.max(dropped);
@@ -122,7 +129,8 @@ fn push_entries(alloc: Global, text: &mut String, kept: u64, dropped: u64) -> Re
 
 /// Appends the line of the kept entries.
 fn push_kept(alloc: Global, text: &mut String, kept: u64, most: u64) -> Result<(), Fault>
-    ensures ok { OnOk result (string_bytes text.new ≡ string_bytes text.old ++ kept_line most kept) }
+    ensures ok { OnOk result (string_bytes text.new ≡ string_bytes text.old
+        ++ kept_line most kept) }
     ensures memory { IfErr result (λ e. e ≡ fault Memory) }
 {
     let bar = bar(alloc, kept, most)?;
@@ -132,7 +140,8 @@ fn push_kept(alloc: Global, text: &mut String, kept: u64, most: u64) -> Result<(
 
 /// Appends the line of the dropped entries.
 fn push_dropped(alloc: Global, text: &mut String, dropped: u64, most: u64) -> Result<(), Fault>
-    ensures ok { OnOk result (string_bytes text.new ≡ string_bytes text.old ++ dropped_line most dropped) }
+    ensures ok { OnOk result (string_bytes text.new ≡ string_bytes text.old
+        ++ dropped_line most dropped) }
     ensures memory { IfErr result (λ e. e ≡ fault Memory) }
 {
     let bar = bar(alloc, dropped, most)?;
@@ -142,7 +151,8 @@ fn push_dropped(alloc: Global, text: &mut String, dropped: u64, most: u64) -> Re
 
 /// Appends the lines of the outputs.
 fn push_outputs(alloc: Global, text: &mut String, outputs: &[Output]) -> Result<(), Fault>
-    ensures ok { OnOk result (string_bytes text.new ≡ string_bytes text.old ++ output_lines outputs.now) }
+    ensures ok { OnOk result (string_bytes text.new ≡ string_bytes text.old
+        ++ output_lines outputs.now) }
     ensures memory { IfErr result (λ e. e ≡ fault Memory) }
 {
     let most = most_bytes_of(outputs);
@@ -165,7 +175,8 @@ fn most_bytes_of(outputs: &[Output]) -> u64
 
 /// Appends the line of an output.
 fn push_output(alloc: Global, text: &mut String, output: Output, most: u64) -> Result<(), Fault>
-    ensures ok { OnOk result (string_bytes text.new ≡ string_bytes text.old ++ output_bar_line most output) }
+    ensures ok { OnOk result (string_bytes text.new ≡ string_bytes text.old
+        ++ output_bar_line most output) }
     ensures memory { IfErr result (λ e. e ≡ fault Memory) }
 {
     let Output { number, bytes } = output;

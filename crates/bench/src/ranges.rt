@@ -107,7 +107,8 @@ fn table_bytes(plan: &Plan<'_, '_, Bytewise>) -> usize {
 
 /// The pieces of a plan, in the order of their jobs.
 pub fn pieces_of(alloc: Global, plan: &Plan<'_, '_, Bytewise>) -> Result<Vec<Vec<u8>>, Fault>
-    ensures { IfOk result (λ pieces. map (λ p. p.items) pieces.items ≡ encoded_pieces plan.now.options (lists_in plan.now.outputs)) }
+    ensures { IfOk result (λ pieces. map (λ p. p.items) pieces.items
+        ≡ encoded_pieces plan.now.options (lists_in plan.now.outputs)) }
 {
     let mut pieces = Vec::new(alloc);
     for job in 0..plan.jobs() {

@@ -1,5 +1,6 @@
 -- The one block that is written of a list of entries.
-use Rattle.std.specs.Prelude.{ℕ, ◌+◌, ◌%◌, nat_eq, ◌==◌, true, false, if◌then◌else◌, List, [], ◌∷◌, drop}
+use Rattle.std.specs.Prelude.{ℕ, ◌+◌, ◌%◌, nat_eq, ◌==◌, true, false, if◌then◌else◌, List, [], ◌∷◌}
+use Rattle.std.specs.Prelude.{drop}
 use Rattle.std.specs.List.{common_prefix_len}
 use Rattle.block.specs.EncodedEntry.{Entry, EncodedEntry, block_bytes}
 
@@ -20,7 +21,8 @@ encoded_entry_of interval place before e =
 -- the encoded entries of entries, the first of them at place `place` and after the key `before`
 abbrev pub encoded_entries_from : ℕ → ℕ → List ℕ → List Entry → List EncodedEntry
 encoded_entries_from interval place before [] = []
-encoded_entries_from interval place before (e ∷ es) = encoded_entry_of interval place before e ∷ encoded_entries_from interval (place + 1) e.key es
+encoded_entries_from interval place before (e ∷ es) =
+    encoded_entry_of interval place before e ∷ encoded_entries_from interval (place + 1) e.key es
 
 -- the block of a list at a restart interval
 unfoldable pub block : ℕ → List Entry → List ℕ

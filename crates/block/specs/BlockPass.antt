@@ -2,7 +2,8 @@
 use Rattle.std.specs.Prelude.{◌≡◌, ℕ, ◌+◌, ◌-◌, ◌^◌, ◌<◌, ◌≤◌, List, [], ◌∷◌, ◌++◌, length, Some}
 use Rattle.std.specs.List.{flat_map, AllByRecursion}
 use Rattle.byteorder.specs.Endian.{little_bytes}
-use Rattle.block.specs.EncodedEntry.{EncodedEntry, encoded_entry_bytes, restarts_from, AreEncodedEntries, BeginsWithRestart}
+use Rattle.block.specs.EncodedEntry.{EncodedEntry, encoded_entry_bytes, restarts_from}
+use Rattle.block.specs.EncodedEntry.{AreEncodedEntries, BeginsWithRestart}
 use Rattle.block.specs.EntryFormat.{FieldReading, encoded_entry_at}
 use Rattle.block.specs.BuilderState.{IsArea}
 use Rattle.block.specs.Parts.{BeginsWith}
@@ -41,7 +42,10 @@ pub record PassState (area restarts rest pending : List ℕ) (key_len : ℕ) : T
 
 -- The next encoded entry, and the restarts after it: it shares no more than the key before it has,
 -- and a pass goes on after it.
-pub record IsNextEncodedEntry (area rest pending : List ℕ) (key_len : ℕ) (x : FieldReading EncodedEntry) (others : List ℕ) : Type 0 where
+pub record IsNextEncodedEntry (area rest pending : List ℕ) (key_len : ℕ)
+    (x : FieldReading EncodedEntry) (others : List ℕ) : Type 0 where
   pub read : encoded_entry_at rest ≡ Some x
   pub shared : x.field.shared ≤ key_len
-  pub kept : (restarts : List ℕ) → BeginsWith restarts 0 → PassState area restarts rest pending key_len → PassState area restarts x.rest others (x.field.shared + length x.field.unshared)
+  pub kept : (restarts : List ℕ) → BeginsWith restarts 0 →
+      PassState area restarts rest pending key_len →
+      PassState area restarts x.rest others (x.field.shared + length x.field.unshared)

@@ -2,7 +2,8 @@
 use Rattle.std.specs.Prelude.{◌≡◌, ℕ, ◌%◌, ◌≤◌, ◌^◌, List, [], map, length, take}
 use Rattle.std.specs.List.{flat_map}
 use Rattle.byteorder.specs.Endian.{little_bytes}
-use Rattle.block.specs.EncodedEntry.{Entry, EncodedEntry, AreOfBlock, encoded_entry_bytes, restarts_from, restarts_of}
+use Rattle.block.specs.EncodedEntry.{Entry, EncodedEntry, AreOfBlock, encoded_entry_bytes}
+use Rattle.block.specs.EncodedEntry.{restarts_from, restarts_of}
 use Rattle.block.specs.BlockFormat.{encoded_entries_from, block}
 use Rattle.block.specs.BuilderView.{last_key}
 use Rattle.block.specs.Sound.{BlockView, numbers_in}
@@ -10,7 +11,9 @@ use Rattle.block.specs.Behind.{entries_behind}
 
 -- the bytes before the restarts, and those of the restarts, are of a block
 abbrev pub IsArea : List ℕ → List ℕ → Type 0
-IsArea area restarts = (ps : List EncodedEntry) × AreOfBlock ps × (area ≡ flat_map encoded_entry_bytes ps) × (restarts ≡ flat_map (little_bytes 4) (restarts_of ps))
+IsArea area restarts = (ps : List EncodedEntry) × AreOfBlock ps
+    × (area ≡ flat_map encoded_entry_bytes ps)
+    × (restarts ≡ flat_map (little_bytes 4) (restarts_of ps))
 
 -- how many entries come before this offset
 abbrev pub entries_before : List ℕ → ℕ → ℕ
@@ -25,10 +28,12 @@ sound_in area restarts = record {
 
 -- What is kept of these entries: their encoded entries, the offsets of the restarts, the last key,
 -- and the number of entries after the last whole interval. Their block has at most 2 ^ 31 bytes.
-pub record IsBlockBuilder (interval : ℕ) (entries : List Entry) (pieces restarts last : List ℕ) (since : ℕ) : Type 0 where
+pub record IsBlockBuilder (interval : ℕ) (entries : List Entry) (pieces restarts last : List ℕ)
+    (since : ℕ) : Type 0 where
   pub interval_pos : 1 ≤ interval
   pub interval_le : interval ≤ 1024
-  pub pieces_are : pieces ≡ flat_map encoded_entry_bytes (encoded_entries_from interval 0 [] entries)
+  pub pieces_are : pieces
+      ≡ flat_map encoded_entry_bytes (encoded_entries_from interval 0 [] entries)
   pub restarts_are : restarts ≡ restarts_from 0 (encoded_entries_from interval 0 [] entries)
   pub last_is : last ≡ last_key [] entries
   pub since_is : since ≡ length entries % interval

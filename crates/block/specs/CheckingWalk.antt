@@ -12,7 +12,8 @@ abbrev pub checking_of : Inside → BlockChecking
 checking_of c = record {
   bytes = c.bytes.now;
   all = entries_behind [] c.area.now;
-  ahead = if c.valid then record { key = c.key.items; value = c.value.now } ∷ entries_behind c.key.items c.rest.now else [];
+  ahead = if c.valid then record { key = c.key.items; value = c.value.now } ∷ entries_behind
+      c.key.items c.rest.now else [];
 }
 
 -- The bytes up to the place pass the tests. If no entry is there, all of them do.

@@ -1,5 +1,6 @@
 -- What a block is made of: encoded entries, then restarts, then the count of restarts.
-use Rattle.std.specs.Prelude.{◌≡◌, ℕ, ◌+◌, ◌<◌, ◌≤◌, ◌^◌, Bool, true, if◌then◌else◌, List, [], ◌∷◌, ◌++◌, length, take}
+use Rattle.std.specs.Prelude.{◌≡◌, ℕ, ◌+◌, ◌<◌, ◌≤◌, ◌^◌, Bool, true, if◌then◌else◌, List, [], ◌∷◌}
+use Rattle.std.specs.Prelude.{◌++◌, length, take}
 use Rattle.std.specs.List.{flat_map, AllByRecursion}
 use Rattle.byteorder.specs.Endian.{little_bytes}
 use Rattle.coding.specs.Varint.{varint}
@@ -19,7 +20,8 @@ pub record EncodedEntry : Type 0 where
 
 -- an entry's bytes: three lengths, the unshared bytes of its key, and its value
 abbrev pub encoded_entry_bytes : EncodedEntry → List ℕ
-encoded_entry_bytes p = varint p.shared ++ (varint (length p.unshared) ++ (varint (length p.value) ++ (p.unshared ++ p.value)))
+encoded_entry_bytes p = varint p.shared
+    ++ (varint (length p.unshared) ++ (varint (length p.value) ++ (p.unshared ++ p.value)))
 
 -- the key of an encoded entry after the key `before`: its shared first bytes, then the unshared
 -- ones
@@ -29,13 +31,15 @@ key_after before p = take p.shared before ++ p.unshared
 -- the entries of encoded entries, the first of which comes after the key `before`
 abbrev pub entries_after : List ℕ → List EncodedEntry → List Entry
 entries_after before [] = []
-entries_after before (p ∷ ps) = record { key = key_after before p; value = p.value } ∷ entries_after (key_after before p) ps
+entries_after before (p ∷ ps) = record { key = key_after before p; value = p.value } ∷ entries_after
+    (key_after before p) ps
 
 -- the offsets of the encoded entries that restarts point at, the first encoded entry being at
 -- offset `at`
 abbrev pub restarts_from : ℕ → List EncodedEntry → List ℕ
 restarts_from at [] = []
-restarts_from at (p ∷ ps) = (if p.is_restart then at ∷ [] else []) ++ restarts_from (at + length (encoded_entry_bytes p)) ps
+restarts_from at (p ∷ ps) = (if p.is_restart then at ∷ [] else [])
+    ++ restarts_from (at + length (encoded_entry_bytes p)) ps
 
 -- the restarts of a block; without entries it has the one restart 0
 abbrev pub restarts_of : List EncodedEntry → List ℕ
@@ -62,7 +66,8 @@ pub record IsEncodedEntryAfter (before : ℕ) (p : EncodedEntry) : Type 0 where
 -- each encoded entry may come after the key before it, the first after a key of length `before`
 abbrev pub AreEncodedEntries : ℕ → List EncodedEntry → Type 0
 AreEncodedEntries before [] = Unit {0}
-AreEncodedEntries before (p ∷ ps) = IsEncodedEntryAfter before p × AreEncodedEntries (p.shared + length p.unshared) ps
+AreEncodedEntries before (p ∷ ps) = IsEncodedEntryAfter before p
+    × AreEncodedEntries (p.shared + length p.unshared) ps
 
 -- a restart points at the first encoded entry, if there is one
 abbrev pub BeginsWithRestart : List EncodedEntry → Type 0
@@ -74,8 +79,10 @@ BeginsWithRestart (p ∷ ps) = p.is_restart ≡ true
 pub record AreOfBlock (ps : List EncodedEntry) : Type 0 where
   pub pieces : AreEncodedEntries 0 ps
   pub first : BeginsWithRestart ps
-  pub restarts : AllByRecursion (λ restart. restart < 2 ^ 32) (length (restarts_of ps) ∷ restarts_of ps)
+  pub restarts : AllByRecursion (λ restart. restart < 2 ^ 32)
+      (length (restarts_of ps) ∷ restarts_of ps)
 
 -- The bytes are a block of these entries, with any lawful sharing and any lawful restarts.
 abbrev pub IsBlock : List ℕ → List Entry → Type 0
-IsBlock bytes entries = (ps : List EncodedEntry) × AreOfBlock ps × (bytes ≡ block_bytes ps) × (entries_after [] ps ≡ entries)
+IsBlock bytes entries = (ps : List EncodedEntry) × AreOfBlock ps × (bytes ≡ block_bytes ps)
+    × (entries_after [] ps ≡ entries)

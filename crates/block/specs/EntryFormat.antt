@@ -1,5 +1,6 @@
 -- The encoded entry at the front of a block's bytes.
-use Rattle.std.specs.Prelude.{ℕ, ◌+◌, ◌^◌, nat_le, false, if◌then◌else◌, List, length, take, drop, Option, Some, None}
+use Rattle.std.specs.Prelude.{ℕ, ◌+◌, ◌^◌, nat_le, false, if◌then◌else◌, List, length, take, drop}
+use Rattle.std.specs.Prelude.{Option, Some, None}
 use Rattle.coding.specs.Answers.{and_then}
 use Rattle.coding.specs.Varint.{varint_reading}
 use Rattle.block.specs.EncodedEntry.{EncodedEntry}
@@ -11,7 +12,9 @@ pub record FieldReading (A : Type 0) : Type 0 where
 
 -- the length at the front of bytes: a varint below 2 ^ 32
 abbrev pub length_at : List ℕ → Option (FieldReading ℕ)
-length_at bytes = and_then (varint_reading (2 ^ 32) bytes) (λ x. Some (record { field = x.0; rest = drop x.1 bytes }))
+length_at bytes =
+    and_then (varint_reading (2 ^ 32) bytes)
+    (λ x. Some (record { field = x.0; rest = drop x.1 bytes }))
 
 -- the encoded entry of these lengths, if the bytes begin with the unshared bytes of its key and its
 -- value

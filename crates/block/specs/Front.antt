@@ -7,6 +7,12 @@ use Rattle.block.specs.declared.front.FrontEntry.{FrontEntry}
 -- the encoded entry, and the bytes after it
 abbrev pub front_field : FrontEntry → FieldReading EncodedEntry
 front_field p = record {
-  field = record { is_restart = false; shared = p.shared; unshared = p.unshared.now; value = p.value.now };
+  field = record {
+    is_restart = false;
+    shared = p.shared;
+    unshared = p.unshared.now;
+    value =
+        p.value.now;
+  };
   rest = p.rest.now;
 }

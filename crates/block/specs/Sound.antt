@@ -12,7 +12,8 @@ pub record BlockView : Type 0 where
 -- `place`
 abbrev pub restart_places_from : ℕ → List EncodedEntry → List ℕ
 restart_places_from place [] = []
-restart_places_from place (p ∷ ps) = (if p.is_restart then place ∷ [] else []) ++ restart_places_from (place + 1) ps
+restart_places_from place (p ∷ ps) = (if p.is_restart then place ∷ [] else [])
+    ++ restart_places_from (place + 1) ps
 
 -- the places of a block's restarts; without entries the one restart is at place 0
 abbrev pub places_of : List EncodedEntry → List ℕ
@@ -21,7 +22,8 @@ places_of (p ∷ ps) = restart_places_from 0 (p ∷ ps)
 
 -- The bytes are a block whose restarts point at the entries at these places.
 abbrev pub PointsAt : List ℕ → List ℕ → Type 0
-PointsAt bytes places = (ps : List EncodedEntry) × AreOfBlock ps × (bytes ≡ block_bytes ps) × (places_of ps ≡ places)
+PointsAt bytes places = (ps : List EncodedEntry) × AreOfBlock ps × (bytes ≡ block_bytes ps)
+    × (places_of ps ≡ places)
 
 -- the numbers in bytes, four bytes each, the lowest first
 abbrev pub numbers_in : List ℕ → List ℕ

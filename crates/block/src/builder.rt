@@ -70,7 +70,8 @@ impl BlockBuilder {
     /// Requires that the block then has at most 2^31 bytes. One entry adds at most 34 to the bytes
     /// of its key and value. The only fault is Memory, which leaves the builder unchanged.
     pub fn add(&mut self, key: &[u8], value: &[u8]) -> Result<(), Fault>
-        requires { length (block self.old.interval (with_entry self.old.entries key.now value.now)) ≤ 2 ^ 31 }
+        requires { length (block self.old.interval (with_entry self.old.entries key.now value.now))
+            ≤ 2 ^ 31 }
         ensures ok { OnOk result (self.new ≡ record {
           interval = self.old.interval;
           entries = with_entry self.old.entries key.now value.now;

@@ -1,6 +1,7 @@
 //! The walk over bytes that may be a block.
 
-ghost use Rattle.std.specs.Prelude.{◌≡◌, ◌<◌, ◌↔◌, [], false, length, drop, slice_get, IsTrue, IfOk, IfErr, OnOk, OnErr, Some, Ok};
+ghost use Rattle.std.specs.Prelude.{◌≡◌, ◌<◌, ◌↔◌, [], false, length, drop, slice_get, IsTrue};
+ghost use Rattle.std.specs.Prelude.{IfOk, IfErr, OnOk, OnErr, Some, Ok};
 ghost use Rattle.std.specs.Option.{option_map};
 ghost use Rattle.coding.specs.Answers.{FailsOrMemory};
 ghost use Rattle.block.specs.ReadingBlocks.{block_reading};
@@ -65,7 +66,8 @@ impl<'a> CheckingCursor<'a> {
     pub fn enter(&mut self, bytes: &'a [u8]) -> Result<(), Fault>
         ensures bytes { OnOk result (self.new.bytes ≡ bytes.now) }
         ensures ahead { OnOk result (self.new.ahead ≡ self.new.all) }
-        ensures all { OnOk result (IfOk (block_reading bytes.now) (λ entries. self.new.all ≡ entries)) }
+        ensures all { OnOk result
+            (IfOk (block_reading bytes.now) (λ entries. self.new.all ≡ entries)) }
         ensures err { OnErr result (self.new ≡ self.old) }
         ensures refused { IfErr result (λ e. FailsOrMemory e (block_reading bytes.now)) }
     {

@@ -1,6 +1,8 @@
 //! The walk over the entries of a block.
 
-ghost use Rattle.std.specs.Prelude.{◌≡◌, ◌<◌, ◌↔◌, [], length, IsTrue, IfOk, OnOk, OnErr, IsOkUnless, IfErr, slice_get, slice_index, Some, take, drop, ◌++◌};
+ghost use Rattle.std.specs.Prelude.{◌≡◌, ◌<◌, ◌↔◌, [], length, IsTrue, IfOk, OnOk, OnErr};
+ghost use Rattle.std.specs.Prelude.{IsOkUnless, IfErr, slice_get, slice_index, Some, take, drop};
+ghost use Rattle.std.specs.Prelude.{◌++◌};
 ghost use Rattle.std.specs.Option.{option_map};
 ghost use Rattle.block.specs.Behind.{entries_behind, AreEncodedEntriesAfter};
 ghost use Rattle.coding.specs.Answers.{fault};
@@ -51,7 +53,8 @@ impl<'a> BlockCursor<'a> {
     /// memory of one key. The only fault is Memory.
     pub fn at(alloc: Global, block: &SoundBlock<'a>, restart: u64) -> Result<BlockCursor<'a>, Fault>
         requires { restart < length block.now.restarts }
-        ensures from { IfOk result (λ cursor. cursor ≡ drop (slice_index block.now.restarts restart) block.now.entries) }
+        ensures from { IfOk result (λ cursor. cursor
+            ≡ drop (slice_index block.now.restarts restart) block.now.entries) }
         ensures memory { IfErr result (λ e. e ≡ fault Memory) }
     {
         BlockCursor::over(alloc, block.area_from(restart))

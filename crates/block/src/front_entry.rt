@@ -67,7 +67,8 @@ fn entry_of_lengths(
 
 /// The length at the front of bytes: a varint below 2^32.
 fn length_at(bytes: &[u8]) -> Option<FrontLength<'_>>
-    ensures { option_map (λ x. record { field = x.length; rest = x.rest.now }) result ≡ length_at bytes.now }
+    ensures { option_map (λ x. record { field = x.length; rest = x.rest.now }) result
+        ≡ length_at bytes.now }
 {
     let (number, used) = read_u32_varint(bytes)?;
     let (_, rest) = bytes.split_at(used);

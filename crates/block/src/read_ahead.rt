@@ -40,7 +40,8 @@ impl ReadAhead {
     pub(crate) fn reach(&mut self, rest: &[u8])
         ensures before { self.old.left < length rest.now → self.new ≡ self.old }
         ensures left { length rest.now ≤ self.old.left → self.new.left ≡ length rest.now - 1024 }
-        ensures folded { length rest.now ≤ self.old.left → self.new.folded ≡ folded_lines (min (length rest.now) 1024 / 64) rest.now }
+        ensures folded { length rest.now ≤ self.old.left →
+            self.new.folded ≡ folded_lines (min (length rest.now) 1024 / 64) rest.now }
     {
         if rest.len() <= self.left {
             let window_len = rest.len().min(WINDOW_LEN);

@@ -1,6 +1,8 @@
 //! Which bytes are a block: the tests of a reader.
 
-ghost use Rattle.std.specs.Prelude.{◌≡◌, ◌≢◌, ◌<◌, ◌≤◌, ◌^◌, ◌↔◌, [], length, drop, slice_get, slice_index, Some, IsTrue, IfSome, IfNone, IfOk, IsOkAnd, IfErr, List, ℕ};
+ghost use Rattle.std.specs.Prelude.{◌≡◌, ◌≢◌, ◌<◌, ◌≤◌, ◌^◌, ◌↔◌, [], length, drop, slice_get};
+ghost use Rattle.std.specs.Prelude.{slice_index, Some, IsTrue, IfSome, IfNone, IfOk, IsOkAnd};
+ghost use Rattle.std.specs.Prelude.{IfErr, List, ℕ};
 ghost use Rattle.std.specs.List.{All};
 ghost use Rattle.std.specs.Option.{option_map};
 ghost use Rattle.std.specs.List.Sorted.{IsStrictlyIncreasing};
@@ -51,7 +53,8 @@ impl<'a> SoundBlock<'a> {
         ensures some { 0 < result }
         ensures first { slice_get self.now.restarts 0 ≡ Some 0 }
         ensures rising { IsStrictlyIncreasing self.now.restarts }
-        ensures within { 0 < length self.now.entries → All (λ place. place < length self.now.entries) self.now.restarts }
+        ensures within { 0 < length self.now.entries →
+            All (λ place. place < length self.now.entries) self.now.restarts }
     {
         (self.restarts.len() / RESTART_LEN) as u64
     }
@@ -63,7 +66,8 @@ impl<'a> SoundBlock<'a> {
     pub fn key_at(&self, restart: u64) -> Option<&'a [u8]>
         requires { restart < length self.now.restarts }
         ensures { option_map (λ key. key.now) result
-            ≡ option_map (λ e. e.key) (slice_get self.now.entries (slice_index self.now.restarts restart)) }
+            ≡ option_map (λ e. e.key)
+            (slice_get self.now.entries (slice_index self.now.restarts restart)) }
     {
         let piece = front_entry_at(self.area_from(restart))?;
         Some(piece.unshared)
@@ -90,7 +94,8 @@ impl<'a> SoundBlock<'a> {
     /// The bytes from the entry at a restart up to the restarts.
     pub(crate) fn area_from(&self, restart: u64) -> &'a [u8]
         requires { restart < length self.now.restarts }
-        ensures entries { entries_behind [] result.now ≡ drop (slice_index self.now.restarts restart) self.now.entries }
+        ensures entries { entries_behind [] result.now
+            ≡ drop (slice_index self.now.restarts restart) self.now.entries }
         ensures pieces { AreEncodedEntriesAfter [] result.now }
     {
         let (_, numbers) = self.restarts.split_at(restart as usize * RESTART_LEN);
@@ -120,7 +125,8 @@ impl<'a> SoundBlock<'a> {
 pub fn check(bytes: &[u8]) -> Result<SoundBlock<'_>, Fault>
     ensures found { IfOk result (λ block. IsBlock bytes.now block.entries) }
     ensures places { IfOk result (λ block. PointsAt bytes.now block.restarts) }
-    ensures only { (entries : List Entry) → IsBlock bytes.now entries → IsOkAnd result (λ block. block.entries ≡ entries) }
+    ensures only { (entries : List Entry) → IsBlock bytes.now entries →
+        IsOkAnd result (λ block. block.entries ≡ entries) }
     ensures refused { IfErr result (λ e. e ≡ fault Block) }
 {
     let Some(parts) = split(bytes) else {
@@ -164,8 +170,10 @@ pub(crate) struct Parts<'a> {
 /// The bytes before the restarts, and those of the restarts. None if the bytes have no such parts:
 /// at least one restart, and then their count.
 pub(crate) fn split(bytes: &[u8]) -> Option<Parts<'_>>
-    ensures found { IfSome result (λ parts. HasBlockParts bytes.now parts.area.now parts.restarts.now) }
-    ensures none { IfNone result ((area restarts : List ℕ) → HasBlockParts bytes.now area restarts → ⊥) }
+    ensures found { IfSome result
+        (λ parts. HasBlockParts bytes.now parts.area.now parts.restarts.now) }
+    ensures none { IfNone result ((area restarts : List ℕ) → HasBlockParts bytes.now area restarts →
+        ⊥) }
 {
     if bytes.len() < RESTART_LEN {
         return None;
@@ -220,8 +228,10 @@ pub(crate) fn next_entry<'a>(
 ) -> Option<NextEntry<'a>>
     requires { length rest.now ≤ length area.now }
     ensures next { IfSome result (λ next.
-        IsNextEncodedEntry area.now rest.now pending.now key_len (front_field next.piece) next.pending.now) }
-    ensures none { IfNone result ((restarts : List ℕ) → rest.now ≢ [] → PassState area.now restarts rest.now pending.now key_len
+        IsNextEncodedEntry area.now rest.now pending.now key_len (front_field next.piece)
+        next.pending.now) }
+    ensures none { IfNone result ((restarts : List ℕ) → rest.now ≢ [] →
+        PassState area.now restarts rest.now pending.now key_len
         → IsArea area.now restarts → ⊥) }
 {
     let at = area.len() - rest.len();

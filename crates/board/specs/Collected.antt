@@ -6,7 +6,8 @@ use Rattle.coding.specs.Answers.{◌>>=◌}
 -- the values of all answers in order, or the first refusal
 abbrev pub collected_results : {B : Type 0} → List (Result B Fault) → Result (List B) Fault
 collected_results [] = Ok []
-collected_results (answer ∷ rest) = answer >>= λ value. collected_results rest >>= λ values. Ok (value ∷ values)
+collected_results (answer ∷ rest) = answer >>= λ value. collected_results rest >>=
+    λ values. Ok (value ∷ values)
 
 -- the fault of an answer, if it is a refusal
 abbrev pub fault_in : {B : Type 0} → Option (Result B Fault) → Option Fault

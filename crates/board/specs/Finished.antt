@@ -34,7 +34,8 @@ HasSpentAll p = (x : ℕ) → times x p.drawn ≤ times x p.done + times x p.fai
 
 -- the tally counts what was done, failed and skipped at these seats
 abbrev pub CountsOf : List Progress → Tally → Type 0
-CountsOf ps t = (t.done ≡ length (all_done ps)) × (t.failed ≡ length (all_failed ps)) × (t.skipped ≡ length (all_skipped ps))
+CountsOf ps t = (t.done ≡ length (all_done ps)) × (t.failed ≡ length (all_failed ps))
+    × (t.skipped ≡ length (all_skipped ps))
 
 -- the least of the numbers; None if there is none
 abbrev pub IsLeastOf : List ℕ → Option ℕ → Type 0
@@ -48,7 +49,9 @@ IsLeastOf xs (Some y) = (0 < times y xs) × ((x : ℕ) → 0 < times x xs → y 
 pub record IsFinished (board : Layout) (ps : List Progress) (found : Option ℕ) : Type 0 where
   pub once : (x : ℕ) → times x (all_drawn ps) ≤ 1
   pub below : (x : ℕ) → 0 < times x (all_drawn ps) → x < board.jobs
-  pub all : HasEachShare board.seats (all_empty ps) → (x : ℕ) → x < board.jobs → times x (all_drawn ps) ≡ 1
+  pub all : HasEachShare board.seats (all_empty ps) → (x : ℕ) → x < board.jobs →
+      times x (all_drawn ps) ≡ 1
   pub least : IsLeastOf (all_failed ps) found
-  pub looked : (x : ℕ) → 0 < times x (all_looked ps) → (x ≡ no_fault) ⊎ (0 < times x (all_failed ps))
+  pub looked : (x : ℕ) → 0 < times x (all_looked ps) →
+      (x ≡ no_fault) ⊎ (0 < times x (all_failed ps))
   pub skipped : (x : ℕ) → 0 < times x (all_skipped ps) → (y : ℕ) × (found ≡ Some y) × (y < x)

@@ -3,7 +3,8 @@ use Rattle.std.specs.Prelude.{◌≡◌, ℕ, ◌<◌, ◌≤◌, List, length, 
 use Rattle.board.specs.declared.gathered.Gathered.{Gathered}
 use Rattle.board.specs.Shares.{times}
 use Rattle.board.specs.Progress.{Layout, Progress}
-use Rattle.board.specs.Finished.{all_drawn, all_empty, all_failed, all_looked, all_skipped, all_done, times_spent}
+use Rattle.board.specs.Finished.{all_drawn, all_empty, all_failed, all_looked, all_skipped}
+use Rattle.board.specs.Finished.{all_done, times_spent}
 use Rattle.board.specs.Seats.{layout}
 
 -- the greatest count
@@ -21,4 +22,6 @@ pub record Gathers (of : Layout) (g : Gathered) (ps : List Progress) : Type 0 wh
   pub looked : (x : ℕ) → times x g.token.me.0.looked ≡ times x (all_looked ps)
   pub skipped : (x : ℕ) → times x g.token.me.0.skipped ≡ times x (all_skipped ps)
   pub spent : (x : ℕ) → times_spent x ps ≤ times x (all_drawn ps)
-  pub counts : (g.done ≡ min (length (all_done ps)) greatest_count) × (g.failed ≡ min (length (all_failed ps)) greatest_count) × (g.skipped ≡ min (length (all_skipped ps)) greatest_count)
+  pub counts : (g.done ≡ min (length (all_done ps)) greatest_count)
+      × (g.failed ≡ min (length (all_failed ps)) greatest_count)
+      × (g.skipped ≡ min (length (all_skipped ps)) greatest_count)

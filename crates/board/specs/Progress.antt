@@ -1,5 +1,6 @@
 -- What was done at a seat, and what each call adds to it.
-use Rattle.std.specs.Prelude.{◌≡◌, ℕ, zero, suc, ◌+◌, ◌<◌, ◌≤◌, List, [], ◌∷◌, ◌++◌, length, Option, None, Some}
+use Rattle.std.specs.Prelude.{◌≡◌, ℕ, zero, suc, ◌+◌, ◌<◌, ◌≤◌, List, [], ◌∷◌, ◌++◌, length, Option}
+use Rattle.std.specs.Prelude.{None, Some}
 use Rattle.atomic_table.specs.Seated.{TableId}
 use Rattle.board.specs.Shares.{times, IsInShare, share_in_turn}
 
@@ -23,7 +24,18 @@ pub record Progress : Type 0 where
 
 -- a seat at which nothing was done
 abbrev pub unused_seat : Layout → ℕ → Progress
-unused_seat board number = record { board = board; number = number; drawn = []; empty = []; failed = []; looked = []; skipped = []; done = [] }
+unused_seat board number =
+    record {
+      board = board;
+      number = number;
+      drawn = [];
+      empty = [];
+      failed = [];
+      looked =
+          [];
+      skipped = [];
+      done = [];
+    }
 
 -- the first m seats of a board at which nothing was done
 abbrev pub unused_seats : Layout → ℕ → List Progress
@@ -48,8 +60,10 @@ after_draw p drawn empty = record p { drawn = drawn; empty = empty }
 pub record DrawsJob (p : Progress) (x : ℕ) (q : Progress) : Type 0 where
   pub drawn : q ≡ after_draw p (p.drawn ++ x ∷ []) q.empty
   pub new : (x < p.board.jobs) × (times x p.drawn ≡ 0)
-  pub empty : SeesInTurn p × (length p.empty ≤ length q.empty) × SeesInTurn q × (length q.empty < p.board.seats)
-  pub share : IsInShare p.board.jobs p.board.seats (share_in_turn p.board.seats p.number (length q.empty)) x
+  pub empty : SeesInTurn p × (length p.empty ≤ length q.empty) × SeesInTurn q
+      × (length q.empty < p.board.seats)
+  pub share : IsInShare p.board.jobs p.board.seats
+      (share_in_turn p.board.seats p.number (length q.empty)) x
 
 -- the list has each share of w
 abbrev pub HasEachShare : ℕ → List ℕ → Type 0

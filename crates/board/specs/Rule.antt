@@ -1,5 +1,6 @@
 -- The rule of a board: how the words and the views of all seats hang together.
-use Rattle.std.specs.Prelude.{◌≡◌, ◌⊎◌, ℕ, ◌+◌, ◌^◌, ◌<◌, ◌≤◌, List, [], ◌∷◌, ◌++◌, length, slice_index, slice_set, replicate, cond, ltb}
+use Rattle.std.specs.Prelude.{◌≡◌, ◌⊎◌, ℕ, ◌+◌, ◌^◌, ◌<◌, ◌≤◌, List, [], ◌∷◌, ◌++◌, length}
+use Rattle.std.specs.Prelude.{slice_index, slice_set, replicate, cond, ltb}
 use mathlib.Core.Option.{some}
 use lib.ListN.{get_elem?}
 use Rattle.atomic_table.specs.Table.{State, Me, Step}
@@ -11,7 +12,18 @@ use Rattle.board.specs.Words.{total, once_below, share_len, word_of, claims_of, 
 
 -- `parts` seats at which nothing was done
 abbrev pub fresh_view : ℕ → ℕ → ℕ → SeatView
-fresh_view parts jobs seats = record { parts = parts; jobs = jobs; seats = seats; drawn = []; empty = []; failed = []; looked = []; skipped = [] }
+fresh_view parts jobs seats =
+    record {
+      parts = parts;
+      jobs = jobs;
+      seats = seats;
+      drawn = [];
+      empty = [];
+      failed =
+          [];
+      looked = [];
+      skipped = [];
+    }
 
 abbrev pub view_after_draw : SeatView → ℕ → SeatView
 view_after_draw v x = record v { drawn = v.drawn ++ x ∷ [] }
@@ -42,7 +54,8 @@ gathered_views v w = record {
 }
 
 abbrev pub HasNoLists : SeatView → Type 0
-HasNoLists v = (v.drawn ≡ []) × (v.empty ≡ []) × (v.failed ≡ []) × (v.looked ≡ []) × (v.skipped ≡ [])
+HasNoLists v = (v.drawn ≡ []) × (v.empty ≡ []) × (v.failed ≡ []) × (v.looked ≡ [])
+    × (v.skipped ≡ [])
 
 -- What holds of one view. A view of no seat was joined into another one, and has no lists.
 pub record Fits (n w : ℕ) (v : SeatView) : Type 0 where
@@ -90,7 +103,8 @@ fault_of words = slice_index words 64
 pub record KeepsFailed (n : ℕ) (words : List ℕ) (views : List SeatView) : Type 0 where
   pub found : (fault_of words ≡ no_fault) ⊎ (0 < times_failed (fault_of words) views)
   pub least : (x : ℕ) → 0 < times_failed x views → (x < n) × (fault_of words ≤ x)
-  pub looked : (x : ℕ) → 0 < times_looked x views → (fault_of words ≤ x) × ((x ≡ no_fault) ⊎ (0 < times_failed x views))
+  pub looked : (x : ℕ) → 0 < times_looked x views →
+      (fault_of words ≤ x) × ((x ≡ no_fault) ⊎ (0 < times_failed x views))
 
 -- each number skipped is above the least one failed
 pub record KeepsSkipped (words : List ℕ) (views : List SeatView) : Type 0 where
@@ -110,7 +124,8 @@ TableKeepsRule e s = BoardRule e.jobs e.seats s.words s.views
 -- the share empty.
 pub record Claims (v : SeatView) (k c : ℕ) (v' : SeatView) : Type 0 where
   pub drew : c < share_len v.jobs v.seats k → v' ≡ view_after_draw v (start v.jobs v.seats k + c)
-  pub new : c < share_len v.jobs v.seats k → (start v.jobs v.seats k + c < v.jobs) × (times (start v.jobs v.seats k + c) v.drawn ≡ 0)
+  pub new : c < share_len v.jobs v.seats k → (start v.jobs v.seats k + c < v.jobs)
+      × (times (start v.jobs v.seats k + c) v.drawn ≡ 0)
   pub empty : share_len v.jobs v.seats k ≤ c → v' ≡ saw_empty v k
 
 -- the fault word found is at most each number that the view failed or saw
@@ -119,29 +134,37 @@ pub record IsLeastFound (v : SeatView) (found : ℕ) : Type 0 where
   pub looked : (x : ℕ) → 0 < times x v.looked → (found ≤ x) × ((x ≡ no_fault) ⊎ (x < v.jobs))
 
 -- a claim of the share that has this word
-abbrev pub StepClaims : Step (Unit {0}) → Me (Unit {0}) SeatView → ℕ → Me (Unit {0}) SeatView → Type 0
-StepClaims st m c m' = ((k : ℕ) → k < m.0.seats → st.word ≡ word_of m.0.seats k → Claims m.0 k c m'.0) × (m'.1 ≡ m.1)
+abbrev pub StepClaims : Step (Unit {0}) → Me (Unit {0}) SeatView → ℕ → Me (Unit {0}) SeatView →
+    Type 0
+StepClaims st m c m' = ((k : ℕ) → k < m.0.seats → st.word ≡ word_of m.0.seats k →
+    Claims m.0 k c m'.0) × (m'.1 ≡ m.1)
 
 -- a settle: the operand failed
-abbrev pub StepSettles : Step (Unit {0}) → Me (Unit {0}) SeatView → ℕ → Me (Unit {0}) SeatView → Type 0
+abbrev pub StepSettles : Step (Unit {0}) → Me (Unit {0}) SeatView → ℕ → Me (Unit {0}) SeatView →
+    Type 0
 StepSettles st m found m' = (m'.0 ≡ has_failed m.0 st.first) × (m'.1 ≡ m.1)
 
 -- a look at the fault word
-abbrev pub StepLooks : Step (Unit {0}) → Me (Unit {0}) SeatView → ℕ → Me (Unit {0}) SeatView → Type 0
+abbrev pub StepLooks : Step (Unit {0}) → Me (Unit {0}) SeatView → ℕ → Me (Unit {0}) SeatView →
+    Type 0
 StepLooks st m found m' = (m'.0 ≡ has_looked m.0 found) × IsLeastFound m.0 found × (m'.1 ≡ m.1)
 
 -- the view after a look for job x, which is skipped if it is above what was found
 abbrev pub has_looked_for : SeatView → ℕ → ℕ → SeatView
-has_looked_for v x found = cond (ltb found x) (has_skipped (has_looked v found) x) (has_looked v found)
+has_looked_for v x found = cond (ltb found x) (has_skipped (has_looked v found) x)
+    (has_looked v found)
 
 -- a look for job x at the fault word
-abbrev pub StepSkips : ℕ → Step (Unit {0}) → Me (Unit {0}) SeatView → ℕ → Me (Unit {0}) SeatView → Type 0
-StepSkips x st m found m' = (m'.0 ≡ has_looked_for m.0 x found) × IsLeastFound m.0 found × (m'.1 ≡ m.1)
+abbrev pub StepSkips : ℕ → Step (Unit {0}) → Me (Unit {0}) SeatView → ℕ → Me (Unit {0}) SeatView →
+    Type 0
+StepSkips x st m found m' = (m'.0 ≡ has_looked_for m.0 x found) × IsLeastFound m.0 found
+    × (m'.1 ≡ m.1)
 
 -- what holds of a view that has the lists of all seats, and of the fault word
 pub record IsWhole (v : SeatView) (fault : ℕ) : Type 0 where
   pub once : (x : ℕ) → times x v.drawn ≤ once_below x v.jobs
-  pub all : ((k : ℕ) → k < v.seats → 0 < times k v.empty) → (x : ℕ) → times x v.drawn ≡ once_below x v.jobs
+  pub all : ((k : ℕ) → k < v.seats → 0 < times k v.empty) → (x : ℕ) →
+      times x v.drawn ≡ once_below x v.jobs
   pub found : (fault ≡ no_fault) ⊎ (0 < times fault v.failed)
   pub least : (x : ℕ) → 0 < times x v.failed → (x < v.jobs) × (fault ≤ x)
   pub looked : (x : ℕ) → 0 < times x v.looked → (x ≡ no_fault) ⊎ (0 < times x v.failed)

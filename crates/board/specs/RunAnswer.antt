@@ -1,7 +1,8 @@
 -- What a labour states of its jobs, and what a run answers.
 use Rattle.std.specs.Prelude.{◌≡◌, ℕ, ◌<◌, List, Option, None, Some, length, slice_index_or}
 use Rattle.coding.specs.declared.fault.Fault.{Fault}
-use Rattle.coding.specs.declared.fault.FaultName.TheVariants.{Workers as NamedWorkers, Memory as NamedMemory}
+use Rattle.coding.specs.declared.fault.FaultName.TheVariants.{Workers as NamedWorkers}
+use Rattle.coding.specs.declared.fault.FaultName.TheVariants.{Memory as NamedMemory}
 use Rattle.coding.specs.Answers.{UnlessMemory, fault}
 use Rattle.board.specs.declared.pool.RunFault.{RunFault}
 

@@ -14,7 +14,18 @@ layout table jobs seats = record { table = table; jobs = jobs; seats = seats }
 
 -- what was done at a seat: its view, and the jobs done
 abbrev pub progress_of : TableId → ℕ → SeatView → List ℕ → Progress
-progress_of table number v done = record { board = layout table v.jobs v.seats; number = number; drawn = v.drawn; empty = v.empty; failed = v.failed; looked = v.looked; skipped = v.skipped; done = done }
+progress_of table number v done =
+    record {
+      board = layout table v.jobs v.seats;
+      number = number;
+      drawn = v.drawn;
+      empty =
+          v.empty;
+      failed = v.failed;
+      looked = v.looked;
+      skipped = v.skipped;
+      done = done;
+    }
 
 -- a seat of this board at which nothing was done
 pub record IsUnused (of : Layout) (p : Progress) : Type 0 where
@@ -40,8 +51,10 @@ pub record IsShare (jobs seats k : ℕ) (s : Share) : Type 0 where
 
 -- What was spent at a seat was drawn there, each number once. The counts are the lengths of the
 -- lists.
-pub record IsCounted (v : SeatView) (done : List ℕ) (done_count failed_count skipped_count : ℕ) : Type 0 where
+pub record IsCounted (v : SeatView) (done : List ℕ) (done_count failed_count skipped_count : ℕ)
+    : Type 0 where
   pub within : (x : ℕ) → 0 < times x v.drawn → x < v.jobs
   pub once : (x : ℕ) → times x v.drawn ≤ 1
   pub spent : (x : ℕ) → times x done + times x v.failed + times x v.skipped ≤ times x v.drawn
-  pub counts : (done_count ≡ length done) × (failed_count ≡ length v.failed) × (skipped_count ≡ length v.skipped)
+  pub counts : (done_count ≡ length done) × (failed_count ≡ length v.failed)
+      × (skipped_count ≡ length v.skipped)

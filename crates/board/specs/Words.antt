@@ -1,5 +1,6 @@
 -- Which numbers were claimed, by the claim words.
-use Rattle.std.specs.Prelude.{ℕ, suc, zero, ◌+◌, ◌-◌, ◌*◌, ◌/◌, min, cond, ltb, leb, ◌&&◌, List, [], ◌∷◌, slice_index}
+use Rattle.std.specs.Prelude.{ℕ, suc, zero, ◌+◌, ◌-◌, ◌*◌, ◌/◌, min, cond, ltb, leb, ◌&&◌, List, []}
+use Rattle.std.specs.Prelude.{◌∷◌, slice_index}
 use Rattle.board.specs.Shares.{start}
 
 -- the sum of f over the list
@@ -32,4 +33,5 @@ claim_count_in first x k c = cond (leb (first k) x && ltb x (min (first k + c) (
 -- times
 abbrev pub claim_count : (ℕ → ℕ) → (ℕ → ℕ) → ℕ → ℕ → ℕ
 claim_count first claims x zero = 0
-claim_count first claims x (suc k) = claim_count first claims x k + claim_count_in first x k (claims k)
+claim_count first claims x (suc k) = claim_count first claims x k + claim_count_in first x k
+    (claims k)

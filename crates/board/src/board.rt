@@ -1,12 +1,17 @@
 // The board that threads share.
-ghost use Rattle.std.specs.Prelude.{◌≡◌, ◌≢◌, ℕ, ◌+◌, ◌≤◌, ◌<◌, ◌^◌, ◌⊎◌, ◌↔◌, [], Err, IfOk, IfErr, IfSome, IfNone, All, List, ◌∷◌, length, vec_len};
+ghost use Rattle.std.specs.Prelude.{◌≡◌, ◌≢◌, ℕ, ◌+◌, ◌≤◌, ◌<◌, ◌^◌, ◌⊎◌, ◌↔◌, [], Err, IfOk};
+ghost use Rattle.std.specs.Prelude.{IfErr, IfSome, IfNone, All, List, ◌∷◌, length, vec_len};
 ghost use Rattle.coding.specs.Answers.{fault};
-ghost use Rattle.coding.specs.declared.fault.FaultName.TheVariants.{Workers as NamedWorkers, Memory as NamedMemory};
+ghost use Rattle.coding.specs.declared.fault.FaultName.TheVariants.{Workers as NamedWorkers};
+ghost use Rattle.coding.specs.declared.fault.FaultName.TheVariants.{Memory as NamedMemory};
 ghost use Rattle.board.specs.Shares.{IsInShare, times};
-ghost use Rattle.board.specs.Progress.{no_fault, Progress, unused_seats, DrawsJob, DrawsNone, IsUnspent, after_done, after_fail, after_look, after_skip, IsAtMostSeen, fault_word};
+ghost use Rattle.board.specs.Progress.{no_fault, Progress, unused_seats, DrawsJob, DrawsNone};
+ghost use Rattle.board.specs.Progress.{IsUnspent, after_done, after_fail, after_look, after_skip};
+ghost use Rattle.board.specs.Progress.{IsAtMostSeen, fault_word};
 ghost use Rattle.board.specs.Finished.{CountsOf, HasSpentAll, IsFinished, times_spent, all_drawn};
 ghost use Rattle.board.specs.Words.{once_below};
-ghost use Rattle.board.specs.Rule.{fresh_view, view_after_draw, saw_empty, opening_words, has_looked, IsLeastFound, IsWhole, has_looked_for};
+ghost use Rattle.board.specs.Rule.{fresh_view, view_after_draw, saw_empty, opening_words};
+ghost use Rattle.board.specs.Rule.{has_looked, IsLeastFound, IsWhole, has_looked_for};
 ghost use Rattle.board.specs.Seats.{layout, IsShare};
 ghost use Rattle.board.specs.GatheredSeats.{Gathers};
 
@@ -262,7 +267,8 @@ impl Board {
     fn look(&self, token: &mut Token<(), SeatView>) -> u64
         requires board { token.old.table_id ≡ self.now.table }
         requires seats { 0 < token.old.me.0.parts }
-        ensures token { (token.new.table_id ≡ token.old.table_id) × (token.new.me.1 ≡ token.old.me.1) }
+        ensures token { (token.new.table_id ≡ token.old.table_id)
+            × (token.new.me.1 ≡ token.old.me.1) }
         ensures looks { token.new.me.0 ≡ has_looked token.old.me.0 result }
         ensures least { IsLeastFound token.old.me.0 result }
     {
@@ -274,7 +280,8 @@ impl Board {
         requires board { token.old.table_id ≡ self.now.table }
         requires seats { 0 < token.old.me.0.parts }
         requires job { number ≡ J.job }
-        ensures token { (token.new.table_id ≡ token.old.table_id) × (token.new.me.1 ≡ token.old.me.1) }
+        ensures token { (token.new.table_id ≡ token.old.table_id)
+            × (token.new.me.1 ≡ token.old.me.1) }
         ensures looks { token.new.me.0 ≡ has_looked_for token.old.me.0 number result }
         ensures least { IsLeastFound token.old.me.0 result }
     {
@@ -288,11 +295,13 @@ impl Board {
         requires share { IsShare token.old.me.0.jobs token.old.me.0.seats share.number share }
         requires left { (share.number < token.old.me.0.seats)
             × (times share.number token.old.me.0.empty < token.old.me.0.parts) }
-        ensures token { (token.new.table_id ≡ token.old.table_id) × (token.new.me.1 ≡ token.old.me.1) }
+        ensures token { (token.new.table_id ≡ token.old.table_id)
+            × (token.new.me.1 ≡ token.old.me.1) }
         ensures number { IfSome result (λ x.
             (token.new.me.0 ≡ view_after_draw token.old.me.0 x)
             × IsInShare token.old.me.0.jobs token.old.me.0.seats share.number x) }
-        ensures new { IfSome result (λ x. (x < token.old.me.0.jobs) × (times x token.old.me.0.drawn ≡ 0)) }
+        ensures new { IfSome result (λ x. (x < token.old.me.0.jobs)
+            × (times x token.old.me.0.drawn ≡ 0)) }
         ensures none { IfNone result (token.new.me.0 ≡ saw_empty token.old.me.0 share.number) }
     {
         let found = self
@@ -328,7 +337,8 @@ fn make_table(
 >
     requires few { (0 < extent.seats) × (extent.seats ≤ 64) × (extent.jobs ≤ 2 ^ 40) }
     ensures { IfOk result (λ t.
-        (t.0.shared.table_id.words ≡ 65) × (t.0.shared.table_id.slots ≡ 0) × (t.0.shared.key ≡ extent)
+        (t.0.shared.table_id.words ≡ 65) × (t.0.shared.table_id.slots ≡ 0)
+        × (t.0.shared.key ≡ extent)
         × (t.1.table_id ≡ t.0.shared.table_id)
         × (t.1.me ≡ (fresh_view extent.seats extent.jobs extent.seats, []))) }
 {

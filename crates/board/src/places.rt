@@ -20,7 +20,8 @@ where
     ensures placed { IsPlaced (L.refusal labour.now) (L.gives labour.now) places.new.items }
     ensures len { length places.new.items ≡ length places.old.items }
     ensures kept { (i : ℕ) → HasPlace places.old.items i → HasPlace places.new.items i }
-    ensures new { (i : ℕ) → 0 < times i (map (λ r. r.0) results.items) → HasPlace places.new.items i }
+    ensures new { (i : ℕ) → 0 < times i (map (λ r. r.0) results.items) →
+        HasPlace places.new.items i }
 {
     let _ = labour;
     while let Some((number, out)) = results.pop() {
@@ -40,7 +41,8 @@ where
     requires placed { IsPlaced (L.refusal labour.now) (L.gives labour.now) places.items }
     requires each { (i : ℕ) → i < length places.items → HasPlace places.items i }
     requires room { (results.items ≡ []) × (length places.items ≤ vec_capacity results) }
-    ensures { AreResults (L.refusal labour.now) (L.gives labour.now) (length places.items) result.items }
+    ensures { AreResults (L.refusal labour.now) (L.gives labour.now) (length places.items)
+        result.items }
 {
     let _ = labour;
     for i in 0..places.len() {

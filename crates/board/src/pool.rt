@@ -1,5 +1,6 @@
 // All jobs of a labour, done by several workers.
-ghost use Rattle.std.specs.Prelude.{◌≡◌, ◌⊎◌, ◌↔◌, ◌<◌, ◌≤◌, ◌^◌, ℕ, [], None, Err, IfOk, IfErr, All, replicate, vec_len, vec_capacity};
+ghost use Rattle.std.specs.Prelude.{◌≡◌, ◌⊎◌, ◌↔◌, ◌<◌, ◌≤◌, ◌^◌, ℕ, [], None, Err, IfOk, IfErr};
+ghost use Rattle.std.specs.Prelude.{All, replicate, vec_len, vec_capacity};
 ghost use Rattle.coding.specs.declared.fault.Fault.{Fault};
 ghost use Rattle.board.specs.declared.pool.RunFault.{RunFault};
 ghost use Rattle.board.specs.RunAnswer.{AreResults, IsRefused};
@@ -55,7 +56,8 @@ where
     L::Out: Drop + Send,
     requires few { jobs ≤ 2 ^ 40 }
     requires within { jobs ≤ L.jobs labour.now }
-    ensures ok { IfOk result (λ v. AreResults (L.refusal labour.now) (L.gives labour.now) jobs v.items) }
+    ensures ok { IfOk result
+        (λ v. AreResults (L.refusal labour.now) (L.gives labour.now) jobs v.items) }
     ensures workers { (result ≡ Err RunFault.Workers) ↔ ((workers ≡ 0) ⊎ (64 < workers)) }
     ensures refused { (job : ℕ) (fault : Fault) → result ≡ Err (RunFault.Job job fault)
         → IsRefused (L.refusal labour.now) (L.gives labour.now) jobs job fault }
@@ -101,7 +103,8 @@ where
     L::Out: Drop + Send,
     requires jobs { (board.jobs ≡ jobs) × (jobs ≤ 2 ^ 40) }
     requires within { jobs ≤ L.jobs labour.now }
-    requires seats { All (IsUnused board) seats.items × (vec_len seats ≡ board.seats) × (0 < board.seats) }
+    requires seats { All (IsUnused board) seats.items × (vec_len seats ≡ board.seats)
+        × (0 < board.seats) }
     ensures ok { IfOk result (λ o. IfOk o (λ v.
         AreResults (L.refusal labour.now) (L.gives labour.now) jobs v.items)) }
     ensures refused { IfOk result (λ o. IfErr o (λ r.
@@ -140,7 +143,8 @@ fn file_all<L: Labour>(
 ) -> Option<(u64, Fault)>
 where
     L::Out: Drop,
-    requires shifts { All (IsShift (L.refusal labour.now) (L.gives labour.now) board.now) shifts.items }
+    requires shifts { All (IsShift (L.refusal labour.now) (L.gives labour.now) board.now)
+        shifts.items }
     requires places { IsFiled (L.refusal labour.now) (L.gives labour.now) board.now
         seats.old.items places.old.items None }
     requires room { (seats.old.items ≡ []) × (vec_len shifts ≤ vec_capacity seats.old) }

@@ -7,11 +7,14 @@ use Rattle.table.specs.TableContents.{contents_reading}
 use Rattle.reads.specs.Tables.{NumberedContents}
 
 -- the table of a number, or the first test that its bytes fail
-abbrev pub numbered_reading : (List ℕ → List ℕ → Ordering) → ℕ × List ℕ → Result NumberedContents Fault
-numbered_reading cmp table = contents_reading cmp table.1 >>= λ contents. Ok (record { number = table.0; contents = contents })
+abbrev pub numbered_reading : (List ℕ → List ℕ → Ordering) → ℕ × List ℕ →
+    Result NumberedContents Fault
+numbered_reading cmp table = contents_reading cmp table.1 >>=
+    λ contents. Ok (record { number = table.0; contents = contents })
 
 -- all tables in order, or the refusal of the first that is invalid
-abbrev pub tables_reading : (List ℕ → List ℕ → Ordering) → List (ℕ × List ℕ) → Result (List NumberedContents) Fault
+abbrev pub tables_reading : (List ℕ → List ℕ → Ordering) → List (ℕ × List ℕ) →
+    Result (List NumberedContents) Fault
 tables_reading cmp [] = Ok []
 tables_reading cmp (t ∷ ts) = do
   first ← numbered_reading cmp t
@@ -19,5 +22,6 @@ tables_reading cmp (t ∷ ts) = do
   Ok (first ∷ others)
 
 -- the answer for each table by itself
-abbrev pub table_answers : (List ℕ → List ℕ → Ordering) → List (ℕ × List ℕ) → List (Result NumberedContents Fault)
+abbrev pub table_answers : (List ℕ → List ℕ → Ordering) → List (ℕ × List ℕ) →
+    List (Result NumberedContents Fault)
 table_answers cmp tables = map (numbered_reading cmp) tables

@@ -29,7 +29,8 @@ pub fn check_tables<'t, C: SharedComparator, G: Gate + Sync, R: Threads + Sync>(
 ) -> Result<Vec<NumberedTable<'t, C>>, Fault>
     requires some { 0 < workers }
     requires few { workers ≤ 64 }
-    ensures { EqualOrMemory (λ v. v.items) result (tables_reading C.cmp (map (λ t. (t.0, t.1.items)) loaded.now)) }
+    ensures { EqualOrMemory (λ v. v.items) result
+        (tables_reading C.cmp (map (λ t. (t.0, t.1.items)) loaded.now)) }
 {
     let mut tables = Vec::new(alloc);
     let mut rest = loaded;

@@ -37,7 +37,8 @@ impl<'r, 't, C: Comparator + 't + 'static> Labour for Falls<'r, 't, C> {
 
     ghost refusal = { λ s job. None };
 
-    ghost gives = { λ s job out. TellsRange C.cmp s.split.now (map (λ t. t.now.entries) s.tables.now) job out };
+    ghost gives = { λ s job out. TellsRange C.cmp s.split.now (map (λ t. t.now.entries) s.tables.now) job
+        out };
 
     fn work(&self, job: u64) -> Result<bool, Fault> {
         falls_at(self.alloc, self.tables, self.split, job)
@@ -58,7 +59,8 @@ pub(crate) fn entries_fall<'t, C: SharedComparator + 'static, G: Gate + Sync, R:
 ) -> Result<bool, Fault>
     requires some { 0 < workers }
     requires few { workers ≤ 64 }
-    ensures falls { IfOk result (λ falls. (falls ≡ true) ↔ AreFalling (entries_of_lists (map (λ t. t.now.entries) tables.now))) }
+    ensures falls { IfOk result (λ falls. (falls ≡ true)
+        ↔ AreFalling (entries_of_lists (map (λ t. t.now.entries) tables.now))) }
     ensures memory { IfErr result (λ e. e ≡ fault Memory) }
 {
     let labour = Falls {
@@ -94,7 +96,8 @@ fn falls_at<'t, C: Comparator + 't>(
     number: u64,
 ) -> Result<bool, Fault>
     requires { number < length split.now + 1 }
-    ensures falls { IfOk result (TellsRange C.cmp split.now (map (λ t. t.now.entries) tables.now) number) }
+    ensures falls { IfOk result
+        (TellsRange C.cmp split.now (map (λ t. t.now.entries) tables.now) number) }
     ensures memory { IfErr result (λ e. e ≡ fault Memory) }
 {
     let range = split.range(number);

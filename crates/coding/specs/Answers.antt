@@ -2,7 +2,16 @@
 use Rattle.std.specs.Prelude.{◌≡◌, ℕ, Option, Some, None, Result, Ok, Err}
 use Rattle.coding.specs.declared.fault.Fault.{Fault}
 use Rattle.coding.specs.declared.fault.FaultName.{FaultName}
-use Rattle.coding.specs.declared.fault.FaultName.TheVariants.{NoInput, Level, Options, SplitOrder, SplitCount, Workers, Snapshot, Size, Short, Magic, Handle, Range, Trailer, Compressed, BlockType, Block, Key, Index, Order, Empty, Bounds, Duplicate, Numbers, TooLarge, SnapshotList, LogChecksum, LogShape, EditTag, EditField, Comparator, Apply, Lawless, Device, Missing, Locked, Changed, Memory}
+use Rattle.coding.specs.declared.fault.FaultName.TheVariants.{NoInput, Level, Options, SplitOrder}
+use Rattle.coding.specs.declared.fault.FaultName.TheVariants.{SplitCount, Workers, Snapshot, Size}
+use Rattle.coding.specs.declared.fault.FaultName.TheVariants.{Short, Magic, Handle, Range, Trailer}
+use Rattle.coding.specs.declared.fault.FaultName.TheVariants.{Compressed, BlockType, Block, Key}
+use Rattle.coding.specs.declared.fault.FaultName.TheVariants.{Index, Order, Empty, Bounds}
+use Rattle.coding.specs.declared.fault.FaultName.TheVariants.{Duplicate, Numbers, TooLarge}
+use Rattle.coding.specs.declared.fault.FaultName.TheVariants.{SnapshotList, LogChecksum, LogShape}
+use Rattle.coding.specs.declared.fault.FaultName.TheVariants.{EditTag, EditField, Comparator, Apply}
+use Rattle.coding.specs.declared.fault.FaultName.TheVariants.{Lawless, Device, Missing, Locked}
+use Rattle.coding.specs.declared.fault.FaultName.TheVariants.{Changed, Memory}
 
 -- the fault of this name, about no input
 abbrev pub fault : FaultName → Fault
@@ -78,15 +87,19 @@ and_then None f = None
 and_then (Some x) f = f x
 
 -- The call's result, seen by view, is an answer as IsAnswer says, or Memory.
-abbrev pub HoldsOrMemory : {X Y : Type 0} → (X → Y) → Result X Fault → (Result Y Fault → Type 0) → Type 0
+abbrev pub HoldsOrMemory : {X Y : Type 0} → (X → Y) → Result X Fault → (Result Y Fault → Type 0) →
+    Type 0
 HoldsOrMemory view (Ok x) IsAnswer = IsAnswer (Ok (view x))
 HoldsOrMemory view (Err e) IsAnswer = UnlessMemory e (IsAnswer (Err e))
 
 -- the answer after a first one: IsNext of its value, or the same refusal
-abbrev pub Follows : {A B : Type 0} → (A → Result B Fault → Type 0) → Result A Fault → Result B Fault → Type 0
+abbrev pub Follows : {A B : Type 0} → (A → Result B Fault → Type 0) → Result A Fault →
+    Result B Fault → Type 0
 Follows IsNext (Ok x) answer = IsNext x answer
 Follows IsNext (Err e) answer = answer ≡ Err e
 
 -- the answer of two steps, one after the other
-abbrev pub IsThen : {A B : Type 0} → (Result A Fault → Type 0) → (A → Result B Fault → Type 0) → Result B Fault → Type 0
-IsThen {A} IsFirst IsNext answer = (first : Result A Fault) × (IsFirst first × Follows IsNext first answer)
+abbrev pub IsThen : {A B : Type 0} → (Result A Fault → Type 0) → (A → Result B Fault → Type 0) →
+    Result B Fault → Type 0
+IsThen {A} IsFirst IsNext answer = (first : Result A Fault)
+    × (IsFirst first × Follows IsNext first answer)

@@ -2,7 +2,9 @@
 --
 -- A coefficient is a Bool, true for 1. A polynomial is the list of its coefficients, that of the
 -- highest power first. So n coefficients are a polynomial of a degree below n.
-use Rattle.std.specs.Prelude.{◌≡◌, ℕ, zero, suc, ◌+◌, ◌-◌, ◌*◌, ◌/◌, ◌%◌, ◌^◌, ◌≤◌, ◌↔◌, Bool, true, false, not, nat_eq, if◌then◌else◌, List, [], ◌∷◌, ◌++◌, length, map, take, drop, replicate, reverse}
+use Rattle.std.specs.Prelude.{◌≡◌, ℕ, zero, suc, ◌+◌, ◌-◌, ◌*◌, ◌/◌, ◌%◌, ◌^◌, ◌≤◌, ◌↔◌, Bool, true}
+use Rattle.std.specs.Prelude.{false, not, nat_eq, if◌then◌else◌, List, [], ◌∷◌, ◌++◌, length, map}
+use Rattle.std.specs.Prelude.{take, drop, replicate, reverse}
 
 -- the n lowest bits of a number, the lowest first
 abbrev pub low_bits : ℕ → ℕ → List Bool

@@ -11,7 +11,8 @@ mod tables;
 
 ghost use Rattle.std.specs.Prelude.{◌≡◌, ℕ, ◌+◌, ◌^◌, ◌<◌, ◌++◌, bit_xor};
 ghost use Rattle.coding.specs.Crc.{RemainderLaw, bits_of, crc32c, masked};
-ghost use Rattle.coding.specs.CrcRegister.{register_after_bits, register_of_lanes, register_after_steps};
+ghost use Rattle.coding.specs.CrcRegister.{register_after_bits, register_of_lanes};
+ghost use Rattle.coding.specs.CrcRegister.{register_after_steps};
 ghost use Rattle.std.specs.List.{concat};
 
 use tables::{AFTER_FIFTEEN, AFTER_FOURTEEN, AFTER_ONE, AFTER_SIXTEEN, AFTER_THIRTEEN};
@@ -150,7 +151,8 @@ impl Lanes {
     #[inline(always)]
     fn of(chunk: &[u8; 16]) -> Lanes
         ensures { (register : ℕ) →
-            register_after_bits register (bits_of chunk.now) ≡ register_of_lanes (record result { first = bit_xor register result.first }) }
+            register_after_bits register (bits_of chunk.now)
+            ≡ register_of_lanes (record result { first = bit_xor register result.first }) }
     {
         Lanes {
             first: u32::from_le_bytes([chunk[0], chunk[1], chunk[2], chunk[3]]),
@@ -174,7 +176,8 @@ impl Lanes {
     /// The words after one more chunk.
     #[inline(always)]
     fn with(self, chunk: &[u8; 16]) -> Lanes
-        ensures { register_of_lanes result ≡ register_after_bits (register_of_lanes self) (bits_of chunk.now) }
+        ensures { register_of_lanes result
+            ≡ register_after_bits (register_of_lanes self) (bits_of chunk.now) }
     {
         let words = Lanes::of(chunk);
         Lanes {
@@ -187,7 +190,8 @@ impl Lanes {
 
     /// The words after more chunks.
     fn over(mut self, chunks: &[[u8; 16]]) -> Lanes
-        ensures { register_of_lanes result ≡ register_after_bits (register_of_lanes self) (bits_of (concat chunks.now)) }
+        ensures { register_of_lanes result
+            ≡ register_after_bits (register_of_lanes self) (bits_of (concat chunks.now)) }
     {
         for chunk in chunks {
             self = self.with(chunk);

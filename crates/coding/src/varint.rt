@@ -7,9 +7,11 @@
 //!    bytes whose number exceeds its width, or that end within the spelling.
 //! 3. Bytes after the spelling are not looked at.
 
-ghost use Rattle.std.specs.Prelude.{◌≡◌, ℕ, ◌<◌, ◌≤◌, ◌^◌, ◌↔◌, ◌⊎◌, List, ◌∷◌, ◌++◌, length, OnOk, OnErr, IsOkUnless, Some};
+ghost use Rattle.std.specs.Prelude.{◌≡◌, ℕ, ◌<◌, ◌≤◌, ◌^◌, ◌↔◌, ◌⊎◌, List, ◌∷◌, ◌++◌, length, OnOk};
+ghost use Rattle.std.specs.Prelude.{OnErr, IsOkUnless, Some};
 ghost use Rattle.coding.specs.Answers.{fault};
-ghost use Rattle.coding.specs.Varint.{IsGroups, varint, front_number, varint_reading, length_prefixed};
+ghost use Rattle.coding.specs.Varint.{IsGroups, varint, front_number, varint_reading};
+ghost use Rattle.coding.specs.Varint.{length_prefixed};
 ghost use Rattle.coding.specs.declared.fault.FaultName.TheVariants.{Memory};
 
 use crate::fault::Fault;
@@ -88,11 +90,13 @@ pub fn one_reading()
         → IsGroups (varint number) × (front_number (varint number) ≡ number) }
     // Any other groups for the number are longer.
     ensures shortest { (bytes : List ℕ) → IsGroups bytes → front_number bytes < 2 ^ 64 →
-        (bytes ≡ varint (front_number bytes)) ⊎ (length (varint (front_number bytes)) < length bytes) }
+        (bytes ≡ varint (front_number bytes))
+        ⊎ (length (varint (front_number bytes)) < length bytes) }
     // A reading finds the spelling at the front, and only that.
     ensures read { (limit : ℕ) (bytes : List ℕ) (number used : ℕ) → limit ≤ 2 ^ 64 →
         (varint_reading limit bytes ≡ Some (number, used)) ↔
-        ((number < limit) × (used ≡ length (varint number)) × ((rest : List ℕ) × (bytes ≡ varint number ++ rest))) }
+        ((number < limit) × (used ≡ length (varint number))
+        × ((rest : List ℕ) × (bytes ≡ varint number ++ rest))) }
     // What follows a spelling is not part of it.
     ensures apart { (x y : ℕ) (a b : List ℕ) → x < 2 ^ 64 → y < 2 ^ 64
         → varint x ++ a ≡ varint y ++ b → (x ≡ y) × (a ≡ b) }

@@ -20,4 +20,5 @@ IsBottom v bottom = (1 ≤ bottom) × (bottom ≤ 6) × ((bottom ≡ 1) ⊎ (IsE
 -- the first level above the bottom that has a file, if there is one
 abbrev pub IsNextLevel : State → ℕ → Option ℕ → Type 0
 IsNextLevel v bottom None = (level : ℕ) → level < bottom → IsEmptyLevel v level
-IsNextLevel v bottom (Some next) = (next < bottom) × (IsEmptyLevel v next → ⊥) × ((level : ℕ) → level < next → IsEmptyLevel v level)
+IsNextLevel v bottom (Some next) = (next < bottom) × (IsEmptyLevel v next → ⊥)
+    × ((level : ℕ) → level < next → IsEmptyLevel v level)

@@ -19,7 +19,8 @@ change_text Delete value = codes " del\n"
 
 -- `KEY SEQ put VALUE` or `KEY SEQ del`
 abbrev pub dump_line : Entry → List ℕ
-dump_line e = text_of_bytes (user_of e.key) ++ (codes " " ++ (decimal (sequence_of e.key) ++ change_text (kind_of e.key) e.value))
+dump_line e = text_of_bytes (user_of e.key)
+    ++ (codes " " ++ (decimal (sequence_of e.key) ++ change_text (kind_of e.key) e.value))
 
 -- one line for each entry, in order
 abbrev pub dump_lines : List Entry → List ℕ

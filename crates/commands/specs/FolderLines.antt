@@ -1,5 +1,6 @@
 -- The lines of the commands that read the tables of a folder.
-use Rattle.std.specs.Prelude.{◌≡◌, ℕ, List, ◌++◌, codes, decimal, length, Option, Some, None, unwrap_or, Result, Ok}
+use Rattle.std.specs.Prelude.{◌≡◌, ℕ, List, ◌++◌, codes, decimal, length, Option, Some, None}
+use Rattle.std.specs.Prelude.{unwrap_or, Result, Ok}
 use Rattle.std.specs.List.{flat_map}
 use Rattle.std.specs.declared.cmp.Ordering.{Ordering}
 use Rattle.coding.specs.Answers.{IsThen}
@@ -15,16 +16,23 @@ use Rattle.folder.specs.Orders.{order_cmp}
 use Rattle.texts.specs.Text.{text_of_bytes}
 
 -- the line of the tables, if the version is lawful with them
-abbrev pub IsLineOfLoaded : (List ℕ → List ℕ → Ordering) → State → List (ℕ × List ℕ) → (List NumberedContents → List ℕ) → Result (List ℕ) Fault → Type 0
-IsLineOfLoaded cmp v loaded line_of = IsThen (IsLawfulTables cmp v loaded) (λ tables answer. answer ≡ Ok (line_of tables))
+abbrev pub IsLineOfLoaded : (List ℕ → List ℕ → Ordering) → State → List (ℕ × List ℕ) →
+    (List NumberedContents → List ℕ) → Result (List ℕ) Fault → Type 0
+IsLineOfLoaded cmp v loaded line_of = IsThen (IsLawfulTables cmp v loaded) (λ tables answer. answer
+    ≡ Ok (line_of tables))
 
 -- the same with tables in a folder: first all of them are read, by level and in version order
-abbrev pub IsLineOfVersion : (List ℕ → Option (List ℕ) → Type 0) → (List ℕ → List ℕ → Ordering) → State → (List NumberedContents → List ℕ) → Result (List ℕ) Fault → Type 0
-IsLineOfVersion tells cmp v line_of = IsThen (IsLoaded tells (file_numbers cmp v)) (λ loaded. IsLineOfLoaded cmp v loaded line_of)
+abbrev pub IsLineOfVersion : (List ℕ → Option (List ℕ) → Type 0) → (List ℕ → List ℕ → Ordering) →
+    State → (List NumberedContents → List ℕ) → Result (List ℕ) Fault → Type 0
+IsLineOfVersion tells cmp v line_of =
+    IsThen (IsLoaded tells (file_numbers cmp v)) (λ loaded. IsLineOfLoaded cmp v loaded line_of)
 
 -- the same of the version that a folder opens as
-abbrev pub IsLineOfFolder : (List ℕ → Option (List ℕ) → Type 0) → (State → List NumberedContents → List ℕ) → Result (List ℕ) Fault → Type 0
-IsLineOfFolder tells line_of = IsThen (IsOpened tells) (λ opened. IsLineOfVersion tells (order_cmp opened.0) opened.1 (line_of opened.1))
+abbrev pub IsLineOfFolder : (List ℕ → Option (List ℕ) → Type 0) →
+    (State → List NumberedContents → List ℕ) → Result (List ℕ) Fault → Type 0
+IsLineOfFolder tells line_of =
+    IsThen (IsOpened tells)
+    (λ opened. IsLineOfVersion tells (order_cmp opened.0) opened.1 (line_of opened.1))
 
 -- the number of entries in all these tables
 abbrev pub entry_count : List NumberedContents → ℕ
@@ -32,7 +40,8 @@ entry_count tables = length (flat_map (λ t. t.contents.entries) tables)
 
 -- `lawful: F files, E entries`
 abbrev pub lawful_line : ℕ → ℕ → List ℕ
-lawful_line files entries = codes "lawful: " ++ decimal files ++ codes " files, " ++ decimal entries ++ codes " entries\n"
+lawful_line files entries = codes "lawful: " ++ decimal files ++ codes " files, " ++ decimal entries
+    ++ codes " entries\n"
 
 -- that line for tables, one for each file of a version
 abbrev pub verified_line : List NumberedContents → List ℕ

@@ -27,13 +27,15 @@ comparator_line order = codes "comparator " ++ order_name order ++ codes "\n"
 -- the lines of the comparator and the counters
 abbrev pub head_lines : Order → State → List ℕ
 head_lines order v =
-    comparator_line order ++ number_line (codes "log") v.log_number ++ number_line (codes "previous") v.previous_log
+    comparator_line order ++ number_line (codes "log") v.log_number
+    ++ number_line (codes "previous") v.previous_log
     ++ number_line (codes "next") v.next_file ++ number_line (codes "last") v.last_sequence
 
 -- the line of a level's compact pointer: user key, sequence and type
 abbrev pub pointer_line : ℕ → List ℕ → List ℕ
 pointer_line level key =
-    codes "pointer " ++ decimal level ++ codes " " ++ text_of_bytes (user_of key) ++ codes " " ++ decimal (sequence_of key) ++ codes " "
+    codes "pointer " ++ decimal level ++ codes " " ++ text_of_bytes (user_of key) ++ codes " "
+    ++ decimal (sequence_of key) ++ codes " "
     ++ decimal (kind_number (kind_of key)) ++ codes "\n"
 
 -- the line of a level's compact pointer, if it has one
@@ -42,7 +44,8 @@ pointer_lines v level = option_map_or (pointer_line level) (pointer_of v level) 
 
 -- the line of a file
 abbrev pub file_line : ℕ → FileMeta → List ℕ
-file_line level f = codes "file " ++ decimal level ++ codes " " ++ decimal f.number ++ codes " " ++ decimal f.size ++ codes "\n"
+file_line level f = codes "file " ++ decimal level ++ codes " " ++ decimal f.number ++ codes " "
+    ++ decimal f.size ++ codes "\n"
 
 -- the lines of a level's files, in version order
 abbrev pub file_lines : (List ℕ → List ℕ → Ordering) → State → ℕ → List ℕ
@@ -51,7 +54,8 @@ file_lines cmp v level = flat_map (file_line level) (level_files cmp v level)
 -- the comparator and the counters, then the pointers by level, then the files by level and in this
 -- version order
 abbrev pub lines_by : Order → (List ℕ → List ℕ → Ordering) → State → List ℕ
-lines_by order cmp v = head_lines order v ++ all_levels (pointer_lines v) ++ all_levels (file_lines cmp v)
+lines_by order cmp v = head_lines order v ++ all_levels (pointer_lines v)
+    ++ all_levels (file_lines cmp v)
 
 -- the same with files in the order's own version order
 abbrev pub version_lines : Order → State → List ℕ
@@ -59,4 +63,5 @@ version_lines order v = lines_by order (order_cmp order) v
 
 -- a folder is opened, and these are the lines of what that gives
 abbrev pub IsShown : (List ℕ → Option (List ℕ) → Type 0) → Result (List ℕ) Fault → Type 0
-IsShown tells = IsThen (IsOpened tells) (λ opened answer. answer ≡ Ok (version_lines opened.0 opened.1))
+IsShown tells =
+    IsThen (IsOpened tells) (λ opened answer. answer ≡ Ok (version_lines opened.0 opened.1))

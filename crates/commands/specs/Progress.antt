@@ -17,5 +17,6 @@ second_part Compact = codes "pieces encoded"
 -- `jobs` jobs: `ranges merged: 3 of 8`. In the second: `pieces encoded: 12`.
 abbrev pub progress_text : Work → ℕ → ℕ → List ℕ
 progress_text work jobs done =
-    if nat_le done jobs then first_part work ++ codes ": " ++ decimal done ++ codes " of " ++ decimal jobs
+    if nat_le done jobs then first_part work ++ codes ": " ++ decimal done ++ codes " of "
+    ++ decimal jobs
     else second_part work ++ codes ": " ++ decimal (done - jobs)

@@ -5,7 +5,8 @@ ghost use Rattle.coding.specs.Answers.{EqualOrMemory, HoldsOrMemory};
 ghost use Rattle.folder.specs.OpenAnswer.{FolderAnswers};
 ghost use Rattle.folder.specs.Orders.{order_cmp};
 ghost use Rattle.folder.specs.Reports.{OnlyReads, ReportsDevice};
-ghost use Rattle.commands.specs.FolderLines.{IsLineOfFolder, IsLineOfLoaded, IsLineOfVersion, got_line, verified_line};
+ghost use Rattle.commands.specs.FolderLines.{IsLineOfFolder, IsLineOfLoaded, IsLineOfVersion};
+ghost use Rattle.commands.specs.FolderLines.{got_line, verified_line};
 ghost use Rattle.commands.specs.Lines.{IsShown, version_lines};
 ghost use Rattle.commands.specs.Questions.{line_of};
 

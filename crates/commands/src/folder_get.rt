@@ -26,7 +26,8 @@ pub(crate) fn got<C: SharedComparator + 'static, W: Watch + Sync, R: Threads + S
     watch: &W,
 ) -> Result<Vec<u8>, Fault>
     ensures { HoldsOrMemory (λ v. v.items) result
-        (IsLineOfLoaded C.cmp version.now (map (λ t. (t.0, t.1.items)) loaded.now) (got_line key.now at version.now)) }
+        (IsLineOfLoaded C.cmp version.now (map (λ t. (t.0, t.1.items)) loaded.now)
+        (got_line key.now at version.now)) }
 {
     watch.begin(Work::Check, loaded.len() as u64);
     let tables = lawful_tables::<C, W, R>(rt, alloc, version, loaded, WORKERS, watch)?;
@@ -45,7 +46,8 @@ fn sequence_at(version: &Version, at: Option<u64>) -> u64
 
 /// The line of a value, or of none.
 fn value_line(alloc: Global, value: Option<&[u8]>) -> Result<Vec<u8>, Fault>
-    ensures { EqualOrMemory (λ v. v.items) result (Ok (value_line (option_map (λ bytes. bytes.now) value.entry))) }
+    ensures { EqualOrMemory (λ v. v.items) result
+        (Ok (value_line (option_map (λ bytes. bytes.now) value.entry))) }
 {
     let Some(bytes) = value else {
         return Ok(Vec::from_slice(alloc, b"none\n")?);

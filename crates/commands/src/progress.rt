@@ -1,6 +1,7 @@
 //! The text of a line of progress.
 
-ghost use Rattle.std.specs.Prelude.{◌≡◌, ◌++◌, ◌-◌, ◌<◌, codes, decimal, Ok, IfErr, OnOk, string_bytes};
+ghost use Rattle.std.specs.Prelude.{◌≡◌, ◌++◌, ◌-◌, ◌<◌, codes, decimal, Ok, IfErr, OnOk};
+ghost use Rattle.std.specs.Prelude.{string_bytes};
 ghost use Rattle.coding.specs.Answers.{EqualOrMemory, fault};
 ghost use Rattle.coding.specs.declared.fault.FaultName.TheVariants.{Memory};
 ghost use Rattle.commands.specs.Progress.{first_part, progress_text, second_part};
@@ -47,7 +48,8 @@ fn second_part(work: Work) -> &'static str
 /// Appends that `done` of `jobs` jobs are done.
 fn push_of(text: &mut String, part: &str, done: u64, jobs: u64) -> Result<(), Fault>
     ensures ok { OnOk result (string_bytes text.new
-        ≡ string_bytes text.old ++ (part.now ++ codes ": " ++ decimal done ++ codes " of " ++ decimal jobs)) }
+        ≡ string_bytes text.old
+        ++ (part.now ++ codes ": " ++ decimal done ++ codes " of " ++ decimal jobs)) }
     ensures memory { IfErr result (λ e. e ≡ fault Memory) }
 {
     write!(text, "{part}: {done} of {jobs}")?;

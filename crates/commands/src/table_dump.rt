@@ -40,7 +40,8 @@ fn push_lines(
     out: &mut String,
     table: &SoundTable<'_, Bytewise>,
 ) -> Result<(), Fault>
-    ensures ok { OnOk result (string_bytes out.new ≡ string_bytes out.old ++ dump_lines table.now.entries) }
+    ensures ok { OnOk result (string_bytes out.new ≡ string_bytes out.old
+        ++ dump_lines table.now.entries) }
     ensures memory { IfErr result (λ e. e ≡ fault Memory) }
 {
     let mut cursor = TableCursor::new(alloc, table)?;
@@ -57,7 +58,8 @@ fn push_next(
     cursor: &mut TableCursor<'_, Bytewise>,
 ) -> Result<(), Fault>
     requires { 0 < length cursor.old }
-    ensures line { OnOk result (string_bytes out.new ++ dump_lines cursor.new ≡ string_bytes out.old ++ dump_lines cursor.old) }
+    ensures line { OnOk result (string_bytes out.new ++ dump_lines cursor.new ≡ string_bytes out.old
+        ++ dump_lines cursor.old) }
     ensures rest { OnOk result (cursor.new ≡ drop 1 cursor.old) }
     ensures memory { IfErr result (λ e. e ≡ fault Memory) }
 {

@@ -5,7 +5,8 @@ ghost use Rattle.std.specs.List.{flat_map};
 ghost use Rattle.coding.specs.Answers.{EqualOrMemory, fault};
 ghost use Rattle.coding.specs.declared.fault.FaultName.TheVariants.{Memory};
 ghost use Rattle.folder.specs.Levels.{all_levels};
-ghost use Rattle.commands.specs.Lines.{comparator_line, file_line, file_lines, head_lines, number_line, lines_by, pointer_line, pointer_lines};
+ghost use Rattle.commands.specs.Lines.{comparator_line, file_line, file_lines, head_lines};
+ghost use Rattle.commands.specs.Lines.{number_line, lines_by, pointer_line, pointer_lines};
 
 use coding::Fault;
 use edit::{FileMeta, Version};
@@ -35,7 +36,8 @@ pub(crate) fn version_lines<C: Comparator>(
 
 /// Appends the lines of the comparator and the counters.
 fn push_head(text: &mut String, order: Order, version: &Version) -> Result<(), Fault>
-    ensures ok { OnOk result (string_bytes text.new ≡ string_bytes text.old ++ head_lines order version.now) }
+    ensures ok { OnOk result (string_bytes text.new ≡ string_bytes text.old
+        ++ head_lines order version.now) }
     ensures memory { IfErr result (λ e. e ≡ fault Memory) }
 {
     push_comparator(text, order)?;
@@ -48,7 +50,8 @@ fn push_head(text: &mut String, order: Order, version: &Version) -> Result<(), F
 
 /// Appends the line of the comparator.
 fn push_comparator(text: &mut String, order: Order) -> Result<(), Fault>
-    ensures ok { OnOk result (string_bytes text.new ≡ string_bytes text.old ++ comparator_line order) }
+    ensures ok { OnOk result (string_bytes text.new ≡ string_bytes text.old
+        ++ comparator_line order) }
     ensures memory { IfErr result (λ e. e ≡ fault Memory) }
 {
     let name = order.name();
@@ -58,7 +61,8 @@ fn push_comparator(text: &mut String, order: Order) -> Result<(), Fault>
 
 /// Appends the line of a counter. One that was never set is 0.
 fn push_number(text: &mut String, word: &str, number: Option<u64>) -> Result<(), Fault>
-    ensures ok { OnOk result (string_bytes text.new ≡ string_bytes text.old ++ number_line word.now number) }
+    ensures ok { OnOk result (string_bytes text.new ≡ string_bytes text.old
+        ++ number_line word.now number) }
     ensures memory { IfErr result (λ e. e ≡ fault Memory) }
 {
     let number = number.unwrap_or(0);
@@ -68,7 +72,8 @@ fn push_number(text: &mut String, word: &str, number: Option<u64>) -> Result<(),
 
 /// Appends the lines of the compact pointers, by level.
 fn push_pointers(alloc: Global, text: &mut String, version: &Version) -> Result<(), Fault>
-    ensures ok { OnOk result (string_bytes text.new ≡ string_bytes text.old ++ all_levels (pointer_lines version.now)) }
+    ensures ok { OnOk result (string_bytes text.new ≡ string_bytes text.old
+        ++ all_levels (pointer_lines version.now)) }
     ensures memory { IfErr result (λ e. e ≡ fault Memory) }
 {
     for level in 0..7 {
@@ -85,7 +90,8 @@ fn push_pointer_of(
     level: u64,
 ) -> Result<(), Fault>
     requires { level ≤ 6 }
-    ensures ok { OnOk result (string_bytes text.new ≡ string_bytes text.old ++ pointer_lines version.now level) }
+    ensures ok { OnOk result (string_bytes text.new ≡ string_bytes text.old
+        ++ pointer_lines version.now level) }
     ensures memory { IfErr result (λ e. e ≡ fault Memory) }
 {
     match version.pointer(level) {
@@ -96,7 +102,8 @@ fn push_pointer_of(
 
 /// Appends the line of a compact pointer.
 fn push_pointer(alloc: Global, text: &mut String, level: u64, key: &KeyBuf) -> Result<(), Fault>
-    ensures ok { OnOk result (string_bytes text.new ≡ string_bytes text.old ++ pointer_line level key.now) }
+    ensures ok { OnOk result (string_bytes text.new ≡ string_bytes text.old
+        ++ pointer_line level key.now) }
     ensures memory { IfErr result (λ e. e ≡ fault Memory) }
 {
     let key = key.as_key();
@@ -113,7 +120,8 @@ fn push_files<C: Comparator>(
     text: &mut String,
     version: &Version,
 ) -> Result<(), Fault>
-    ensures ok { OnOk result (string_bytes text.new ≡ string_bytes text.old ++ all_levels (file_lines C.cmp version.now)) }
+    ensures ok { OnOk result (string_bytes text.new ≡ string_bytes text.old
+        ++ all_levels (file_lines C.cmp version.now)) }
     ensures memory { IfErr result (λ e. e ≡ fault Memory) }
 {
     for level in 0..7 {
@@ -124,7 +132,8 @@ fn push_files<C: Comparator>(
 
 /// Appends the lines of a level's files.
 fn push_files_of(text: &mut String, level: u64, files: &[&FileMeta]) -> Result<(), Fault>
-    ensures ok { OnOk result (string_bytes text.new ≡ string_bytes text.old ++ flat_map (λ f. file_line level f.now) files.now) }
+    ensures ok { OnOk result (string_bytes text.new ≡ string_bytes text.old
+        ++ flat_map (λ f. file_line level f.now) files.now) }
     ensures memory { IfErr result (λ e. e ≡ fault Memory) }
 {
     text.reserve(files.len().saturating_mul(MAX_FILE_LINE))?;
@@ -136,7 +145,8 @@ fn push_files_of(text: &mut String, level: u64, files: &[&FileMeta]) -> Result<(
 
 /// Appends the line of a file.
 fn push_file(text: &mut String, level: u64, file: &FileMeta) -> Result<(), Fault>
-    ensures ok { OnOk result (string_bytes text.new ≡ string_bytes text.old ++ file_line level file.now) }
+    ensures ok { OnOk result (string_bytes text.new ≡ string_bytes text.old
+        ++ file_line level file.now) }
     ensures memory { IfErr result (λ e. e ≡ fault Memory) }
 {
     let number = file.number;

@@ -44,7 +44,8 @@ fn lawful_line(alloc: Global, files: usize, entries: u128) -> Result<Vec<u8>, Fa
 
 /// Appends that line.
 fn push_lawful(text: &mut String, files: usize, entries: u128) -> Result<(), Fault>
-    ensures ok { OnOk result (string_bytes text.new ≡ string_bytes text.old ++ lawful_line files entries) }
+    ensures ok { OnOk result (string_bytes text.new ≡ string_bytes text.old
+        ++ lawful_line files entries) }
     ensures memory { IfErr result (λ e. e ≡ fault Memory) }
 {
     writeln!(text, "lawful: {files} files, {entries} entries")?;

@@ -6,4 +6,8 @@ use Rattle.request.specs.OneThread.{Answer}
 
 -- the tables with their numbers, and the bytes of the edit, of the code's outcome
 abbrev pub answer_in : Outcome → Answer
-answer_in o = record { tables = map (λ (t : ℕ × Vec ℕ). (t.0, t.1.items)) o.tables.items; edit = o.edit.items }
+answer_in o = record {
+  tables = map (λ (t : ℕ × Vec ℕ). (t.0, t.1.items)) o.tables.items;
+  edit =
+      o.edit.items;
+}

@@ -18,7 +18,8 @@ input_answers cmp place (i ∷ is) (bytes ∷ others) =
 input_answers cmp place _ _ = []
 
 -- the answer for each range between boundaries
-abbrev pub range_answers : (List ℕ → List ℕ → Ordering) → CompactionContext → List (List ℕ) → List (List Entry)
+abbrev pub range_answers : (List ℕ → List ℕ → Ordering) → CompactionContext → List (List ℕ) →
+    List (List Entry)
     → List (Result Run Fault)
 range_answers cmp b boundaries inputs = map (range_run cmp b inputs) (ranges_of boundaries)
 

@@ -12,9 +12,12 @@ use Rattle.request.specs.Inputs.{union_reading}
 
 -- what a run by this many workers answers: Workers if they are outside 1 to 64, else this
 abbrev pub by_workers : {A : Type 0} → ℕ → Result A Fault → Result A Fault
-by_workers workers answer = test_result (nat_le 1 workers && nat_le workers 64) Workers >>= λ _. answer
+by_workers workers answer = test_result (nat_le 1 workers && nat_le workers 64) Workers >>=
+    λ _. answer
 
 -- the runs of the ranges between boundaries over the union of the inputs, or Duplicate if a user
 -- key has one sequence twice
-abbrev pub runs_reading : (List ℕ → List ℕ → Ordering) → CompactionContext → List (List ℕ) → List (List Entry) → Result (List Run) Fault
-runs_reading cmp b boundaries inputs = union_reading cmp inputs >>= λ union. Ok (runs_of cmp b boundaries union)
+abbrev pub runs_reading : (List ℕ → List ℕ → Ordering) → CompactionContext → List (List ℕ) →
+    List (List Entry) → Result (List Run) Fault
+runs_reading cmp b boundaries inputs = union_reading cmp inputs >>=
+    λ union. Ok (runs_of cmp b boundaries union)

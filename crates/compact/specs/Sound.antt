@@ -11,4 +11,5 @@ abbrev pub AreInputs : (List ℕ → List ℕ → Ordering) → List InputFile �
 AreInputs cmp [] [] = Unit {0}
 AreInputs cmp [] (t ∷ ts) = ⊥
 AreInputs cmp (i ∷ is) [] = ⊥
-AreInputs cmp (i ∷ is) (t ∷ ts) = (contents_reading cmp t.bytes ≡ Ok t) × ((table_matches_metadata i.meta t ≡ true) × AreInputs cmp is ts)
+AreInputs cmp (i ∷ is) (t ∷ ts) = (contents_reading cmp t.bytes ≡ Ok t)
+    × ((table_matches_metadata i.meta t ≡ true) × AreInputs cmp is ts)

@@ -31,7 +31,11 @@ planned_files r plan = map (planned_file (r.picked.level + 1)) plan
 -- the answer of planned outputs, with the table of each
 abbrev pub answer_of : (List Entry → List ℕ) → RequestView → List OutputView → Answer
 answer_of table_of r plan =
-    record { tables = plan_tables table_of plan; edit = edit_bytes (edit_of r (planned_files r plan)) }
+    record {
+      tables = plan_tables table_of plan;
+      edit =
+          edit_bytes (edit_of r (planned_files r plan));
+    }
 
 -- the answer for the entries of the outputs: the plan's refusal, or the answer of the plan
 abbrev pub written_of : (List Entry → List ℕ) → RequestView → List (List Entry)

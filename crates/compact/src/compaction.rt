@@ -60,8 +60,10 @@ pub fn compact<'a, C: SharedComparator + 'static, G: Gate + Sync, R: Threads + S
     workers: u64,
     gate: &G,
 ) -> Result<Outcome, Fault>
-    ensures same { EqualOrMemory answer_in result (compaction_result C.cmp C.separator_of C.successor_of workers (request_in request.now)) }
-    ensures reads { IfOk result (λ outcome. LeavesReads C.cmp (request_in request.now) (answer_in outcome)) }
+    ensures same { EqualOrMemory answer_in result
+        (compaction_result C.cmp C.separator_of C.successor_of workers (request_in request.now)) }
+    ensures reads { IfOk result
+        (λ outcome. LeavesReads C.cmp (request_in request.now) (answer_in outcome)) }
 {
     passed_law::<C>();
     check_workers(workers)?;
@@ -93,10 +95,13 @@ pub fn compact_tables<'t, C: SharedComparator + 'static, G: Gate + Sync, R: Thre
     workers: u64,
     gate: &G,
 ) -> Result<Outcome, Fault>
-    requires read { inputs_reading C.cmp 0 request.now.picked.now.files.items (map (λ t. t.now) request.now.tables.now)
+    requires read { inputs_reading C.cmp 0 request.now.picked.now.files.items
+        (map (λ t. t.now) request.now.tables.now)
         ≡ Ok (map (λ t. t.entries) tables.now) }
-    ensures same { EqualOrMemory answer_in result (compaction_result C.cmp C.separator_of C.successor_of workers (request_in request.now)) }
-    ensures reads { IfOk result (λ outcome. LeavesReads C.cmp (request_in request.now) (answer_in outcome)) }
+    ensures same { EqualOrMemory answer_in result
+        (compaction_result C.cmp C.separator_of C.successor_of workers (request_in request.now)) }
+    ensures reads { IfOk result
+        (λ outcome. LeavesReads C.cmp (request_in request.now) (answer_in outcome)) }
 {
     reads_survive::<C>();
     check_workers(workers)?;
@@ -117,9 +122,11 @@ fn compact_sound<'t, C: SharedComparator + 'static, G: Gate + Sync, R: Threads +
     requires some { 1 ≤ workers }
     requires limited { workers ≤ 64 }
     requires tested { request_test C.cmp (request_in request.now) ≡ Ok tt }
-    requires read { inputs_reading C.cmp 0 request.now.picked.now.files.items (map (λ t. t.now) request.now.tables.now)
+    requires read { inputs_reading C.cmp 0 request.now.picked.now.files.items
+        (map (λ t. t.now) request.now.tables.now)
         ≡ Ok (map (λ t. t.entries) tables.now) }
-    ensures { EqualOrMemory answer_in result (one_thread C.cmp C.separator_of C.successor_of (request_in request.now)) }
+    ensures { EqualOrMemory answer_in result
+        (one_thread C.cmp C.separator_of C.successor_of (request_in request.now)) }
 {
     distinct_law::<C>();
     ranges_cut::<C>();
@@ -148,8 +155,10 @@ fn write_runs<'r, 'a, C: SharedComparator + 'static, G: Gate + Sync, R: Threads 
     requires limits { AreInLimits request.now.options }
     requires levels { has_levels (picked_in request.now.picked.now) ≡ true }
     ensures { EqualOrMemory answer_in result
-        (written_of (table C.cmp C.separator_of C.successor_of request.now.options) (request_in request.now)
-        (outputs_of request.now.picked.now.grandparents.items request.now.options (joined_run runs.now))) }
+        (written_of (table C.cmp C.separator_of C.successor_of request.now.options)
+        (request_in request.now)
+        (outputs_of request.now.picked.now.grandparents.items request.now.options
+        (joined_run runs.now))) }
 {
     let grandparents = &request.picked.grandparents;
     let plan = plan::<C>(

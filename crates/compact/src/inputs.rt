@@ -3,7 +3,8 @@
 ghost use Rattle.std.specs.Prelude.{◌≡◌, ◌<◌, ◌≤◌, List, length, map, slice_get, Some, Result};
 ghost use Rattle.coding.specs.Answers.{EqualOrMemory, FailsOrMemory};
 ghost use Rattle.block.specs.EncodedEntry.{Entry};
-ghost use Rattle.request.specs.Inputs.{result_at_input, table_matches_metadata, input_reading, inputs_reading};
+ghost use Rattle.request.specs.Inputs.{result_at_input, table_matches_metadata, input_reading};
+ghost use Rattle.request.specs.Inputs.{inputs_reading};
 ghost use Rattle.compact.specs.RangeMerges.{by_workers};
 ghost use Rattle.compact.specs.JobAnswers.{input_answers};
 
@@ -36,9 +37,11 @@ impl<'r, 't, C: Comparator> Labour for Checks<'r, 't, C> {
 
     ghost jobs = { λ s. length (input_answers C.cmp 0 s.files.now (map (λ t. t.now) s.tables.now)) };
 
-    ghost refusal = { λ s job. refusal_at (input_answers C.cmp 0 s.files.now (map (λ t. t.now) s.tables.now)) job };
+    ghost refusal = { λ s job. refusal_at (input_answers C.cmp 0 s.files.now (map (λ t. t.now) s.tables.now))
+        job };
 
-    ghost gives = { λ s job out. HasValue (input_answers C.cmp 0 s.files.now (map (λ t. t.now) s.tables.now)) job out.entries };
+    ghost gives = { λ s job out. HasValue
+        (input_answers C.cmp 0 s.files.now (map (λ t. t.now) s.tables.now)) job out.entries };
 
     fn work(&self, job: u64) -> Result<SoundTable<'t, C>, Fault> {
         check_at(self.alloc, self.files, self.tables, job)
@@ -88,7 +91,8 @@ fn check_at<'t, C: Comparator>(
     requires files { job < length files.now }
     requires tables { job < length tables.now }
     ensures { (answer : Result (List Entry) _)
-        → slice_get (input_answers C.cmp 0 files.now (map (λ t. t.now) tables.now)) job ≡ Some answer
+        → slice_get (input_answers C.cmp 0 files.now (map (λ t. t.now) tables.now)) job
+        ≡ Some answer
         → EqualOrMemory (λ t. t.entries) result answer }
 {
     let place = job as usize;
@@ -102,7 +106,8 @@ fn check_input<'t, C: Comparator>(
     bytes: &'t [u8],
     place: u64,
 ) -> Result<SoundTable<'t, C>, Fault>
-    ensures { EqualOrMemory (λ t. t.entries) result (result_at_input place (input_reading C.cmp input.now.meta bytes.now)) }
+    ensures { EqualOrMemory (λ t. t.entries) result
+        (result_at_input place (input_reading C.cmp input.now.meta bytes.now)) }
 {
     match read_input::<C>(alloc, &input.meta, bytes) {
         Ok(table) => Ok(table),
@@ -112,7 +117,8 @@ fn check_input<'t, C: Comparator>(
 
 /// The fault, about the input at a place. Memory is about no input.
 fn about(fault: Fault, place: u64) -> Fault
-    ensures { (answer : Result (List Entry) _) → FailsOrMemory fault answer → FailsOrMemory result (result_at_input place answer) }
+    ensures { (answer : Result (List Entry) _) → FailsOrMemory fault answer →
+        FailsOrMemory result (result_at_input place answer) }
 {
     if fault == Fault::of(FaultName::Memory) {
         return fault;

@@ -45,7 +45,8 @@ impl<'r, 't, C: Comparator + 'static> Model for Merges<'r, 't, C> {
       inputs = map (λ t. t.now.entries) s.tables.now;
     } };
 
-    ghost invariant = { λ s. IsStrictlyIncreasing s.listed.now × LargestRise C.cmp s.inputs.now.grandparents.items };
+    ghost invariant = { λ s. IsStrictlyIncreasing s.listed.now
+        × LargestRise C.cmp s.inputs.now.grandparents.items };
 }
 
 impl<'r, 't, C: Comparator + 't + 'static> Labour for Merges<'r, 't, C> {
@@ -59,7 +60,8 @@ impl<'r, 't, C: Comparator + 't + 'static> Labour for Merges<'r, 't, C> {
 
     ghost refusal = { λ s job. refusal_at (range_answers C.cmp s.below s.boundaries s.inputs) job };
 
-    ghost gives = { λ s job out. HasValue (range_answers C.cmp s.below s.boundaries s.inputs) job out };
+    ghost gives = { λ s job out. HasValue (range_answers C.cmp s.below s.boundaries s.inputs) job
+        out };
 
     fn work(&self, job: u64) -> Result<RangeRun<'t>, Fault> {
         let range = self.split.range(job);

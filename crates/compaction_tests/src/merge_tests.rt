@@ -150,7 +150,12 @@ const ROWS: &[Row] = &[
     Row {
         name: "as many cursors as a compaction may have, of one entry each",
         lists: &[ONE_EACH; 64],
-        walked: b"axaxaxaxaxaxaxaxaxaxaxaxaxaxaxaxaxaxaxaxaxaxaxaxaxaxaxaxaxaxaxaxaxaxaxaxaxaxaxaxaxaxaxaxaxaxaxaxaxaxaxaxaxaxaxaxaxaxaxaxaxaxaxaxu2u2u2u2u2u2u2u2u2u2u2u2u2u2u2u2u2u2u2u2u2u2u2u2u2u2u2u2u2u2u2u2u2u2u2u2u2u2u2u2u2u2u2u2u2u2u2u2u2u2u2u2u2u2u2u2u2u2u2u2u2u2u2u2u1u3u1u3u1u3u1u3u1u3u1u3u1u3u1u3u1u3u1u3u1u3u1u3u1u3u1u3u1u3u1u3u1u3u1u3u1u3u1u3u1u3u1u3u1u3u1u3u1u3u1u3u1u3u1u3u1u3u1u3u1u3u1u3u1u3u1u3u1u3u1u3u1u3u1u3u1u3u1u3u1u3u1u3u1u3u1u3u1u3u1u3u1u3u1u3u1u3u1u3u1u3u1u3u1u3u1u3u1u3u1u3u1u3u1u3u1u3u1u3u1u3u1u3u1u3u1u3",
+        walked: b"axaxaxaxaxaxaxaxaxaxaxaxaxaxaxaxaxaxaxaxaxaxaxaxaxaxaxaxaxaxaxaxaxaxaxaxaxaxaxaxa\
+            xaxaxaxaxaxaxaxaxaxaxaxaxaxaxaxaxaxaxaxaxaxaxaxu2u2u2u2u2u2u2u2u2u2u2u2u2u2u2u2u2u2u2u2\
+            u2u2u2u2u2u2u2u2u2u2u2u2u2u2u2u2u2u2u2u2u2u2u2u2u2u2u2u2u2u2u2u2u2u2u2u2u2u2u2u2u2u2u2u\
+            2u1u3u1u3u1u3u1u3u1u3u1u3u1u3u1u3u1u3u1u3u1u3u1u3u1u3u1u3u1u3u1u3u1u3u1u3u1u3u1u3u1u3u1\
+            u3u1u3u1u3u1u3u1u3u1u3u1u3u1u3u1u3u1u3u1u3u1u3u1u3u1u3u1u3u1u3u1u3u1u3u1u3u1u3u1u3u1u3u\
+            1u3u1u3u1u3u1u3u1u3u1u3u1u3u1u3u1u3u1u3u1u3u1u3u1u3u1u3u1u3u1u3u1u3u1u3u1u3u1u3u1u3",
         next: None,
     },
 ];

@@ -1,5 +1,6 @@
 -- A data block that is measured entry by entry, before any of its bytes is made.
-use Rattle.std.specs.Prelude.{◌≡◌, ℕ, ◌+◌, ◌-◌, ◌%◌, ◌^◌, ◌≤◌, nat_eq, ◌==◌, ◌&&◌, if◌then◌else◌, List, ◌++◌, length, take, drop, Option, Some, None}
+use Rattle.std.specs.Prelude.{◌≡◌, ℕ, ◌+◌, ◌-◌, ◌%◌, ◌^◌, ◌≤◌, nat_eq, ◌==◌, ◌&&◌, if◌then◌else◌}
+use Rattle.std.specs.Prelude.{List, ◌++◌, length, take, drop, Option, Some, None}
 use Rattle.std.specs.List.{common_prefix_len, last_or}
 use Rattle.std.specs.Option.{is_some, option_map}
 use Rattle.block.specs.EncodedEntry.{Entry}
@@ -14,7 +15,12 @@ pub record BlockInProgress : Type 0 where
 
 -- the open block after n more entries
 abbrev pub block_after_entries : ℕ → BlockInProgress → BlockInProgress
-block_after_entries n m = record { interval = m.interval; entries = m.entries ++ take n m.behind; behind = drop n m.behind }
+block_after_entries n m = record {
+  interval = m.interval;
+  entries = m.entries
+      ++ take n m.behind;
+  behind = drop n m.behind;
+}
 
 -- What is kept of the block of these entries: its length, and the number of entries after the last
 -- whole interval. There are at most 2 ^ 64 - 1 entries.
@@ -46,5 +52,6 @@ left_out_len since before key = if since == 0 then 0 else shared_with before key
 -- and is not the first.
 abbrev pub added_size : ℕ → Option (List ℕ) → List ℕ → ℕ → ℕ
 added_size since before key value =
-    encoded_entry_size (left_out_len since before key) (length key - left_out_len since before key) value
+    encoded_entry_size (left_out_len since before key) (length key - left_out_len since before key)
+    value
     + (if since == 0 && is_some before then 4 else 0)

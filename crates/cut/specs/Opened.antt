@@ -46,13 +46,15 @@ ends_by o q (e ∷ es) = ends_before o q e
 
 -- What is kept of an open output: its full data blocks, their bytes, its last key and the open
 -- block. Whatever entries are still to come, its data blocks begin with the full ones.
-pub record IsOpen (o : Options) (blocks : List PlannedBlock) (flushed : ℕ) (last : Option (List ℕ)) (open_one : BlockInProgress) : Type 0 where
+pub record IsOpen (o : Options) (blocks : List PlannedBlock) (flushed : ℕ) (last : Option (List ℕ))
+    (open_one : BlockInProgress) : Type 0 where
   pub limits : AreInLimits o
   pub interval : open_one.interval ≡ o.restart_interval
   pub part : is_full o open_one.entries ≡ false
   pub full : AllByRecursion (IsFlushed o) blocks
   pub lens : AllByRecursion (HasLen o) blocks
   pub cuts : (rest : List Entry) →
-      blocks_behind o [] ((entries_in_blocks blocks ++ open_one.entries) ++ rest) ≡ parts_of blocks ++ blocks_behind o open_one.entries rest
+      blocks_behind o [] ((entries_in_blocks blocks ++ open_one.entries) ++ rest) ≡ parts_of blocks
+      ++ blocks_behind o open_one.entries rest
   pub flushed_is : flushed ≡ saturated_length (stored_len o.restart_interval (parts_of blocks))
   pub last_is : last ≡ last_entry_key (entries_in_blocks blocks ++ open_one.entries)

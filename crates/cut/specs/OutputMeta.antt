@@ -13,5 +13,6 @@ pub record IsMetaOf (p : OutputView) (m : OutputMeta) : Type 0 where
   pub entries : m.entries ≡ saturated_length (length p.entries)
   pub blocks : m.blocks ≡ length p.blocks
   pub len : m.len ≡ p.length
-  pub smallest : option_map (λ (e : Entry). e.key) (slice_get p.entries 0) ≡ Some m.smallest.bytes.now
+  pub smallest : option_map (λ (e : Entry). e.key) (slice_get p.entries 0)
+      ≡ Some m.smallest.bytes.now
   pub largest : last_entry_key p.entries ≡ Some m.largest.bytes.now

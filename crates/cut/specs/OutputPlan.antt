@@ -33,9 +33,12 @@ pub record HaveEntries (blocks : List PlannedBlock) : Type 0 where
   pub some : AllByRecursion (λ (b : PlannedBlock). b.entries.entries ≢ []) blocks
 
 -- outputs of these data blocks, numbered from `number` on; `size_of` tells the length of a table
-abbrev pub numbered_from : (List PlannedBlock → ℕ) → ℕ → List (Vec PlannedBlock) → List PlannedOutput
+abbrev pub numbered_from : (List PlannedBlock → ℕ) → ℕ → List (Vec PlannedBlock) →
+    List PlannedOutput
 numbered_from size_of number [] = []
-numbered_from size_of number (b ∷ bs) = record { number = number; blocks = b; len = size_of b.items } ∷ numbered_from size_of (number + 1) bs
+numbered_from size_of number (b ∷ bs) =
+    record { number = number; blocks = b; len = size_of b.items } ∷ numbered_from size_of
+    (number + 1) bs
 
 -- how many data blocks all outputs have
 abbrev pub block_count : List PlannedOutput → ℕ
@@ -43,7 +46,8 @@ block_count outputs = sum_by (λ (p : PlannedOutput). length p.blocks.items) out
 
 -- an output of a plan: its blocks are the data blocks of their entries, and its length, at most 2 ^
 -- 30, is that of its table
-pub record IsPlannedOutput (table_of : List Entry → List ℕ) (o : Options) (p : PlannedOutput) : Type 0 where
+pub record IsPlannedOutput (table_of : List Entry → List ℕ) (o : Options) (p : PlannedOutput) : Type
+    0 where
   pub planned : ArePlanned o p.blocks.items
   pub some : HaveEntries p.blocks.items
   pub len_is : p.len ≡ length (table_of (entries_in_blocks p.blocks.items))
@@ -54,7 +58,8 @@ abbrev pub lists_in : List OutputView → List (List Entry)
 lists_in outputs = map (λ (p : OutputView). p.entries) outputs
 
 -- what a plan keeps: outputs in their limits, their pieces, and how many pieces each output has
-pub record IsPlan (table_of : List Entry → List ℕ) (o : Options) (outputs : List PlannedOutput) (pieces : List Piece) (counts : List ℕ) : Type 0 where
+pub record IsPlan (table_of : List Entry → List ℕ) (o : Options) (outputs : List PlannedOutput)
+    (pieces : List Piece) (counts : List ℕ) : Type 0 where
   pub limits : AreInLimits o
   pub each : AllByRecursion (IsPlannedOutput table_of o) outputs
   pub few : block_count outputs ≤ 2 ^ 40

@@ -1,6 +1,7 @@
 -- The outputs of a compaction, as lists of entries. All kept entries of a user key go to one
 -- output.
-use Rattle.std.specs.Prelude.{◌≡◌, ◌≢◌, ◌⊎◌, ◌↔◌, ℕ, ◌-◌, ◌<◌, ◌≤◌, nat_le, Bool, false, not, ◌&&◌, if◌then◌else◌, List, [], ◌∷◌, ◌++◌, length, take, drop, flat_map}
+use Rattle.std.specs.Prelude.{◌≡◌, ◌≢◌, ◌⊎◌, ◌↔◌, ℕ, ◌-◌, ◌<◌, ◌≤◌, nat_le, Bool, false, not, ◌&&◌}
+use Rattle.std.specs.Prelude.{if◌then◌else◌, List, [], ◌∷◌, ◌++◌, length, take, drop, flat_map}
 use Rattle.std.specs.List.{AllByRecursion}
 use Rattle.std.specs.Str.{bytes_eq}
 use Rattle.std.specs.declared.cmp.Ordering.{Ordering}
@@ -21,19 +22,22 @@ use Rattle.cut.specs.Stops.{stops}
 -- the segments of entries between stops, with `from` entries before them
 abbrev pub segments : ℕ → List ℕ → List Entry → List (List Entry)
 segments from [] es = es ∷ []
-segments from (stop ∷ stops) es = take (stop - from) es ∷ segments stop stops (drop (stop - from) es)
+segments from (stop ∷ stops) es =
+    take (stop - from) es ∷ segments stop stops (drop (stop - from) es)
 
 -- Whether an output of these entries ends before the next one: its flushed blocks have reached the
 -- maximal file size, and the next entry has another user key. The open block isn't counted.
 abbrev pub ends_before : Options → List Entry → Entry → Bool
 ends_before o [] next = false
-ends_before o (e ∷ es) next = nat_le o.file_size (flushed o (e ∷ es)) && not (bytes_eq (user_of (last_key e.key es)) (user_of next.key))
+ends_before o (e ∷ es) next = nat_le o.file_size (flushed o (e ∷ es))
+    && not (bytes_eq (user_of (last_key e.key es)) (user_of next.key))
 
 -- the outputs of the rest of a segment, if the open output has the entries `latest`
 abbrev pub outputs_behind : Options → List Entry → List Entry → List (List Entry)
 outputs_behind o latest [] = open_block latest
 outputs_behind o latest (e ∷ es) =
-    if ends_before o latest e then latest ∷ outputs_behind o (e ∷ []) es else outputs_behind o (latest ++ e ∷ []) es
+    if ends_before o latest e then latest ∷ outputs_behind o (e ∷ []) es else outputs_behind o
+    (latest ++ e ∷ []) es
 
 -- the outputs of the kept entries of a segment
 abbrev pub outputs_in : Options → List Entry → List (List Entry)
@@ -41,12 +45,16 @@ outputs_in o segment = outputs_behind o [] segment
 
 -- the outputs of kept entries, cut at the stops of their marks and then by size
 abbrev pub outputs_of : List FileMeta → Options → Run → List (List Entry)
-outputs_of grandparents o run = flat_map (outputs_in o) (segments 0 (stops grandparents o.file_size run.marks) run.kept)
+outputs_of grandparents o run =
+    flat_map (outputs_in o) (segments 0 (stops grandparents o.file_size run.marks) run.kept)
 
 -- The outputs of a compaction of the union of its inputs. The stops at the first entries of all
 -- user keys cut the union into segments, and the kept entries of each are cut into outputs by size.
-abbrev pub outputs : (List ℕ → List ℕ → Ordering) → CompactionContext → Options → List Entry → List (List Entry)
-outputs cmp b o union = outputs_of b.grandparents o (record { kept = kept cmp b.readable b.deeper union; marks = heads cmp b union })
+abbrev pub outputs : (List ℕ → List ℕ → Ordering) → CompactionContext → Options → List Entry →
+    List (List Entry)
+outputs cmp b o union =
+    outputs_of b.grandparents o
+    (record { kept = kept cmp b.readable b.deeper union; marks = heads cmp b union })
 
 -- An output of entries q may end before the rest: its flushed blocks have reached the maximal file
 -- size, and no entry of the rest has the user key of its last one.
@@ -64,7 +72,8 @@ pub record IsOutput (o : Options) (q rest : List Entry) : Type 0 where
 -- the parts are the outputs of a segment: the first is one, with the entries of the others after it
 abbrev pub AreOutputs : Options → List Entry → List (List Entry) → Type 0
 AreOutputs o segment [] = segment ≡ []
-AreOutputs o segment (q ∷ qs) = (rest : List Entry) × (segment ≡ q ++ rest) × IsOutput o q rest × AreOutputs o rest qs
+AreOutputs o segment (q ∷ qs) = (rest : List Entry) × (segment ≡ q ++ rest) × IsOutput o q rest
+    × AreOutputs o rest qs
 
 -- the entries of parts, one part after the other
 abbrev pub all_of : List (List Entry) → List Entry
@@ -72,7 +81,8 @@ all_of parts = flat_map (λ q. q) parts
 
 -- the user keys of the first entries are below those of the second
 abbrev pub AreBelow : (List ℕ → List ℕ → Ordering) → List Entry → List Entry → Type 0
-AreBelow cmp xs ys = AllByRecursion (λ x. AllByRecursion (λ y. cmp (user_of x.key) (user_of y.key) ≡ Less) ys) xs
+AreBelow cmp xs ys =
+    AllByRecursion (λ x. AllByRecursion (λ y. cmp (user_of x.key) (user_of y.key) ≡ Less) ys) xs
 
 -- the user keys of each part are below those of all later parts, so no user key is in two
 abbrev pub UsersRise : (List ℕ → List ℕ → Ordering) → List (List Entry) → Type 0
@@ -82,9 +92,12 @@ UsersRise cmp (q ∷ qs) = AreBelow cmp q (all_of qs) × UsersRise cmp qs
 -- Whole: the outputs are the kept entries, cut into parts of which none is empty, and all kept
 -- entries of a user key go to one.
 pub record WholeLaw (cmp : List ℕ → List ℕ → Ordering) : Type 0 where
-  pub all : (grandparents : List FileMeta) (o : Options) (run : Run) → all_of (outputs_of grandparents o run) ≡ run.kept
-  pub some : (grandparents : List FileMeta) (o : Options) (run : Run) → AllByRecursion (λ q. q ≢ []) (outputs_of grandparents o run)
-  pub users : (b : CompactionContext) (o : Options) (union : List Entry) → VersionsRise cmp union → UsersRise cmp (outputs cmp b o union)
+  pub all : (grandparents : List FileMeta) (o : Options) (run : Run) →
+      all_of (outputs_of grandparents o run) ≡ run.kept
+  pub some : (grandparents : List FileMeta) (o : Options) (run : Run) →
+      AllByRecursion (λ q. q ≢ []) (outputs_of grandparents o run)
+  pub users : (b : CompactionContext) (o : Options) (union : List Entry) → VersionsRise cmp union →
+      UsersRise cmp (outputs cmp b o union)
 
 -- a segment whose entries are in order has these outputs and no others
 abbrev pub OutputsLaw : (List ℕ → List ℕ → Ordering) → Type 0
@@ -95,5 +108,7 @@ OutputsLaw cmp =
 -- the runs of the ranges of a split have together the outputs of the union
 abbrev pub RangesCutLaw : (List ℕ → List ℕ → Ordering) → Type 0
 RangesCutLaw cmp =
-    (b : CompactionContext) (o : Options) (boundaries : List (List ℕ)) (union : List Entry) → IsSplit cmp boundaries → VersionsRise cmp union →
-    outputs_of b.grandparents o (joined_run (runs_of cmp b boundaries union)) ≡ outputs cmp b o union
+    (b : CompactionContext) (o : Options) (boundaries : List (List ℕ)) (union : List Entry) →
+    IsSplit cmp boundaries → VersionsRise cmp union →
+    outputs_of b.grandparents o (joined_run (runs_of cmp b boundaries union))
+    ≡ outputs cmp b o union

@@ -1,5 +1,6 @@
 -- How the stops at marks are found, mark by mark.
-use Rattle.std.specs.Prelude.{◌≡◌, ℕ, ◌+◌, ◌-◌, ◌*◌, ◌≤◌, nat_lt, if◌then◌else◌, List, ◌++◌, Option, Some, None, IfSome}
+use Rattle.std.specs.Prelude.{◌≡◌, ℕ, ◌+◌, ◌-◌, ◌*◌, ◌≤◌, nat_lt, if◌then◌else◌, List, ◌++◌, Option}
+use Rattle.std.specs.Prelude.{Some, None, IfSome}
 use Rattle.edit.specs.declared.meta.FileMeta.{FileMeta}
 use Rattle.keep.specs.declared.mark.Mark.{Mark}
 use Rattle.cut.specs.declared.stops.Overlap.{Overlap}
@@ -17,12 +18,14 @@ stops_since grandparents file_size (Some o) ms = stops_behind grandparents file_
 
 -- the stops found so far, and those at the marks that are left
 abbrev pub all_stops : List FileMeta → ℕ → Stopping → List Mark → List ℕ
-all_stops grandparents file_size s rest = s.places.items ++ stops_since grandparents file_size s.overlap rest
+all_stops grandparents file_size s rest = s.places.items
+    ++ stops_since grandparents file_size s.overlap rest
 
 -- The room is what the counted grandparents leave of 10 times the maximal file size.
-pub record HasOverlapRoom (grandparents : List FileMeta) (file_size : ℕ) (o : Overlap) : Type 0 where
-  pub rises : o.since ≤ o.counted
-  pub room : o.room + size_between grandparents o.since o.counted ≡ 10 * file_size
+pub record HasOverlapRoom (grandparents : List FileMeta) (file_size : ℕ) (o : Overlap) : Type 0
+  where
+    pub rises : o.since ≤ o.counted
+    pub room : o.room + size_between grandparents o.since o.counted ≡ 10 * file_size
 
 -- the same, if there is a stop or a first mark
 abbrev pub AreCounted : List FileMeta → ℕ → Stopping → Type 0

@@ -1,6 +1,7 @@
 -- The plan of the outputs: numbers, data blocks, exact lengths, and the pieces that are to be
 -- encoded.
-use Rattle.std.specs.Prelude.{◌≡◌, ℕ, ◌+◌, ◌^◌, nat_lt, nat_le, ◌&&◌, if◌then◌else◌, List, [], ◌∷◌, ◌++◌, length, map, flat_map, Result, Ok}
+use Rattle.std.specs.Prelude.{◌≡◌, ℕ, ◌+◌, ◌^◌, nat_lt, nat_le, ◌&&◌, if◌then◌else◌, List, [], ◌∷◌}
+use Rattle.std.specs.Prelude.{◌++◌, length, map, flat_map, Result, Ok}
 use Rattle.std.specs.List.{list_all}
 use Rattle.std.specs.declared.cmp.Ordering.{Ordering}
 use Rattle.coding.specs.Answers.{◌>>=◌}
@@ -30,7 +31,13 @@ block_ends_from at (p ∷ ps) = (at + length p) ∷ block_ends_from (at + length
 abbrev pub planned_from : (List Entry → List ℕ) → Options → ℕ → List (List Entry) → List OutputView
 planned_from table_of o number [] = []
 planned_from table_of o number (q ∷ qs) =
-    record { number = number; entries = q; blocks = block_ends_from 0 (data_blocks o q); length = length (table_of q) }
+    record {
+      number = number;
+      entries = q;
+      blocks = block_ends_from 0 (data_blocks o q);
+      length =
+          length (table_of q);
+    }
     ∷ planned_from table_of o (number + 1) qs
 
 -- the data blocks of all outputs, in order
@@ -39,10 +46,12 @@ parts o outputs = flat_map (data_blocks o) outputs
 
 -- The plan of outputs, numbered from `first` on. Numbers if the number after the last exceeds 2 ^
 -- 64 - 1; else TooLarge if a table exceeds 2 ^ 30 bytes or there are more than 2 ^ 40 data blocks.
-abbrev pub plan_of : (List Entry → List ℕ) → Options → ℕ → List (List Entry) → Result (List OutputView) Fault
+abbrev pub plan_of : (List Entry → List ℕ) → Options → ℕ → List (List Entry) →
+    Result (List OutputView) Fault
 plan_of table_of o first outputs = do
   _ ← test_result (nat_lt (first + length outputs) (2 ^ 64)) Numbers
-  _ ← test_result (list_all (λ q. nat_le (length (table_of q)) (2 ^ 30)) outputs && nat_le (length (parts o outputs)) (2 ^ 40)) TooLarge
+  _ ← test_result (list_all (λ q. nat_le (length (table_of q)) (2 ^ 30)) outputs
+      && nat_le (length (parts o outputs)) (2 ^ 40)) TooLarge
   Ok (planned_from table_of o first outputs)
 
 -- the number of each output, and its table
@@ -71,7 +80,8 @@ pieces_behind size interval latest (p ∷ ps) =
 -- piece; else a piece ends with the block at which its bytes reach 2 ^ 22.
 abbrev pub pieces_in : Options → ℕ → List Entry → List (List (List Entry))
 pieces_in o blocks q =
-    if nat_lt blocks 64 then map (λ p. p ∷ []) (data_blocks o q) else pieces_behind (2 ^ 22) o.restart_interval [] (data_blocks o q)
+    if nat_lt blocks 64 then map (λ p. p ∷ []) (data_blocks o q) else pieces_behind (2 ^ 22)
+    o.restart_interval [] (data_blocks o q)
 
 -- the pieces of all outputs, in order
 abbrev pub pieces : Options → List (List Entry) → List (List (List Entry))
@@ -89,8 +99,11 @@ encoded_pieces o outputs = map (stored_blocks o.restart_interval) (pieces o outp
 -- output, one after the other, and what closes its table are its table.
 abbrev pub PiecesLaw : Type 0
 PiecesLaw =
-    (cmp : List ℕ → List ℕ → Ordering) (separator_of : List ℕ → List ℕ → List ℕ) (successor_of : List ℕ → List ℕ)
+    (cmp : List ℕ → List ℕ → Ordering) (separator_of : List ℕ → List ℕ →
+    List ℕ) (successor_of : List ℕ → List ℕ)
     (o : Options) (blocks : ℕ) (q : List Entry) →
     let bytes = flat_map (stored_blocks o.restart_interval) (pieces_in o blocks q) in
     table cmp separator_of successor_of o q
-    ≡ bytes ++ closing_bytes (length bytes) (index_from (index_keys cmp separator_of successor_of) o.restart_interval 0 (data_blocks o q))
+    ≡ bytes ++ closing_bytes (length bytes)
+    (index_from (index_keys cmp separator_of successor_of) o.restart_interval 0
+    (data_blocks o q))

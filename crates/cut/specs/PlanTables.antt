@@ -7,7 +7,8 @@ use Rattle.cut.specs.declared.planned_output.PlannedOutput.{PlannedOutput}
 use Rattle.cut.specs.Opened.{parts_of}
 
 -- an output whose table can be joined of these pieces
-pub record IsReady (keys : IndexKeys) (interval : ℕ) (p : PlannedOutput) (pieces : List (List ℕ)) : Type 0 where
+pub record IsReady (keys : IndexKeys) (interval : ℕ) (p : PlannedOutput) (pieces : List (List ℕ))
+    : Type 0 where
   pub planned : AllByRecursion (IsPlanned interval) p.blocks.items
   pub fits : length (table_of_blocks keys interval (parts_of p.blocks.items)) ≤ 2 ^ 30
   pub bytes : flat_map (λ piece. piece) pieces ≡ stored_blocks interval (parts_of p.blocks.items)
@@ -16,8 +17,11 @@ pub record IsReady (keys : IndexKeys) (interval : ℕ) (p : PlannedOutput) (piec
 abbrev pub AreReady : IndexKeys → ℕ → List PlannedOutput → List ℕ → List (List ℕ) → Type 0
 AreReady keys interval [] counts pieces = Unit {0}
 AreReady keys interval (p ∷ ps) [] pieces = ⊥
-AreReady keys interval (p ∷ ps) (n ∷ ns) pieces = IsReady keys interval p (take n pieces) × AreReady keys interval ps ns (drop n pieces)
+AreReady keys interval (p ∷ ps) (n ∷ ns) pieces = IsReady keys interval p (take n pieces)
+    × AreReady keys interval ps ns (drop n pieces)
 
 -- the number and the table of each output
 abbrev pub tables_of : IndexKeys → ℕ → List PlannedOutput → List (ℕ × List ℕ)
-tables_of keys interval outputs = map (λ (p : PlannedOutput). (p.number, table_of_blocks keys interval (parts_of p.blocks.items))) outputs
+tables_of keys interval outputs =
+    map (λ (p : PlannedOutput). (p.number, table_of_blocks keys interval (parts_of p.blocks.items)))
+    outputs

@@ -68,15 +68,18 @@ pub record SegmentsLaw (cmp : List ℕ → List ℕ → Ordering) : Type 0 where
       AreSegments cmp grandparents file_size union segments →
       AreSegments cmp grandparents file_size union others →
       segments ≡ others
-  pub all_kept : (b : CompactionContext) (file_size : ℕ) (union : List Entry) (segments : List (List Entry)) →
+  pub all_kept : (b : CompactionContext) (file_size : ℕ) (union : List Entry)
+      (segments : List (List Entry)) →
       AreSegments cmp b.grandparents file_size union segments →
       kept cmp b.readable b.deeper union
       ≡ flat_map (λ segment. kept cmp b.readable b.deeper segment) segments
-  pub all_outputs : (b : CompactionContext) (o : Options) (union : List Entry) (segments : List (List Entry)) →
+  pub all_outputs : (b : CompactionContext) (o : Options) (union : List Entry)
+      (segments : List (List Entry)) →
       AreSegments cmp b.grandparents o.file_size union segments →
       outputs cmp b o union
       ≡ flat_map (λ segment. outputs_in o (kept cmp b.readable b.deeper segment)) segments
-  pub each_output : (b : CompactionContext) (o : Options) (union : List Entry) (segments : List (List Entry)) →
+  pub each_output : (b : CompactionContext) (o : Options) (union : List Entry)
+      (segments : List (List Entry)) →
       VersionsRise cmp union → AreSegments cmp b.grandparents o.file_size union segments →
       AllByRecursion
       (λ segment. AreOutputs o (kept cmp b.readable b.deeper segment)

@@ -8,4 +8,5 @@ saturated_length n = min n (2 ^ 64 - 1)
 
 -- the length of an entry in a block, by the lengths of its parts
 abbrev pub encoded_entry_size : ℕ → ℕ → ℕ → ℕ
-encoded_entry_size shared unshared value = length (varint shared) + length (varint unshared) + length (varint value) + unshared + value
+encoded_entry_size shared unshared value = length (varint shared) + length (varint unshared) +
+    length (varint value) + unshared + value

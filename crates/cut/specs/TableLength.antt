@@ -24,12 +24,14 @@ planned_index_key keys (b ∷ bs) = index_key keys b.entries.entries (parts_of b
 -- the index entries of planned data blocks, the first of which is at offset `at`
 abbrev pub planned_index_entries : IndexKeys → ℕ → List PlannedBlock → List Entry
 planned_index_entries keys at [] = []
-planned_index_entries keys at (b ∷ bs) = handle_entry (planned_index_key keys (b ∷ bs)) at b.len ∷ planned_index_entries keys (at + b.len + 5) bs
+planned_index_entries keys at (b ∷ bs) = handle_entry (planned_index_key keys (b ∷ bs)) at b.len ∷
+    planned_index_entries keys (at + b.len + 5) bs
 
 -- the length of the table of planned data blocks, or 2 ^ 30 + 1 if it is more than 2 ^ 30
 abbrev pub table_size : IndexKeys → List PlannedBlock → ℕ
 table_size keys blocks =
-    if nat_lt (2 ^ 30) (lens_of blocks) then 2 ^ 30 + 1 else capped_length (lens_of blocks + 66 + length (block 1 (planned_index_entries keys 0 blocks)))
+    if nat_lt (2 ^ 30) (lens_of blocks) then 2 ^ 30 + 1 else capped_length
+    (lens_of blocks + 66 + length (block 1 (planned_index_entries keys 0 blocks)))
 
 -- the bytes that entries take in a block in which a restart points at each
 abbrev pub index_sizes : List Entry → ℕ

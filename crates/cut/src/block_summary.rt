@@ -27,7 +27,8 @@ fn count_entries(blocks: &[PlannedBlock<'_, '_>]) -> u64
 /// The first key of data blocks.
 fn first_key<'r>(blocks: &[PlannedBlock<'r, '_>]) -> InternalKey<'r>
     requires { HaveEntries blocks.now }
-    ensures { option_map (λ e. e.key) (slice_get (entries_in_blocks blocks.now) 0) ≡ Some result.bytes.now }
+    ensures { option_map (λ e. e.key) (slice_get (entries_in_blocks blocks.now) 0)
+        ≡ Some result.bytes.now }
 {
     let first = blocks[0].entries.first();
     first.key()

@@ -1,12 +1,14 @@
 //! The data block of a plan that takes the next entry.
 
-ghost use Rattle.std.specs.Prelude.{◌≡◌, ◌≢◌, ℕ, ◌↔◌, ◌-◌, ◌^◌, ◌≤◌, ◌<◌, false, [], length, IsTrue};
+ghost use Rattle.std.specs.Prelude.{◌≡◌, ◌≢◌, ℕ, ◌↔◌, ◌-◌, ◌^◌, ◌≤◌, ◌<◌, false, [], length};
+ghost use Rattle.std.specs.Prelude.{IsTrue};
 ghost use Rattle.std.specs.Option.{option_map};
 ghost use Rattle.block.specs.BlockFormat.{block};
 ghost use Rattle.table.specs.DataBlocks.{is_full};
 ghost use Rattle.table.specs.Options.{AreInLimits};
 ghost use Rattle.cut.specs.Sizes.{saturated_length};
-ghost use Rattle.cut.specs.Metered.{block_after_entries, last_entry_key, next_since, left_out_len, added_size};
+ghost use Rattle.cut.specs.Metered.{block_after_entries, last_entry_key, next_since, left_out_len};
+ghost use Rattle.cut.specs.Metered.{added_size};
 
 use crate::lengths::encoded_entry_len;
 use coding::common_len;
@@ -38,7 +40,12 @@ impl<'r, 'a> Model for OpenBlock<'r, 'a> {
 
     ghost Value = { BlockInProgress };
 
-    ghost view = { λ b. record { interval = b.interval; entries = b.slice.entries; behind = b.slice.behind } };
+    ghost view = { λ b. record {
+      interval = b.interval;
+      entries = b.slice.entries;
+      behind =
+          b.slice.behind;
+    } };
 
     ghost invariant = { λ b. IsMetered b.interval b.slice.entries b.len b.since };
 }
@@ -47,7 +54,8 @@ impl<'r, 'a> Model for OpenBlock<'r, 'a> {
 /// number of entries after the last whole interval, is 0, for then a restart points at it.
 #[inline(always)]
 fn left_out(since: u64, before: Option<InternalKey<'_>>, key: InternalKey<'_>) -> usize
-    ensures value { result ≡ left_out_len since (option_map (λ k. k.bytes.now) before.entry) key.entry.bytes.now }
+    ensures value { result
+        ≡ left_out_len since (option_map (λ k. k.bytes.now) before.entry) key.entry.bytes.now }
     ensures within { result ≤ length key.entry.bytes.now }
 {
     if since == 0 {
@@ -64,7 +72,9 @@ fn left_out(since: u64, before: Option<InternalKey<'_>>, key: InternalKey<'_>) -
 #[inline(always)]
 fn added_len(since: u64, before: Option<InternalKey<'_>>, key: InternalKey<'_>, value: &[u8]) -> u64
     ensures { result
-        ≡ saturated_length (added_size since (option_map (λ k. k.bytes.now) before.entry) key.entry.bytes.now (length value.now)) }
+        ≡ saturated_length
+        (added_size since (option_map (λ k. k.bytes.now) before.entry) key.entry.bytes.now
+        (length value.now)) }
 {
     let shared = left_out(since, before, key);
     let piece = encoded_entry_len(shared, key.bytes().len() - shared, value.len());
@@ -124,7 +134,8 @@ impl<'r, 'a> OpenBlock<'r, 'a> {
         ensures new { self.new ≡ block_after_entries result self.old }
         ensures most { result ≤ most }
         ensures within { result ≤ length self.old.behind }
-        ensures part { (n : ℕ) → n < result → is_full options (block_after_entries n self.old).entries ≡ false }
+        ensures part { (n : ℕ) → n < result →
+            is_full options (block_after_entries n self.old).entries ≡ false }
     {
         // What each entry changes is in variables of the loop, so that none of it is written back
         // before the loop's end.
@@ -160,7 +171,8 @@ impl<'r, 'a> OpenBlock<'r, 'a> {
         ensures some { 0 < result }
         ensures most { result ≤ most }
         ensures within { result ≤ length self.old.behind }
-        ensures part { (n : ℕ) → 0 < n → n < result → is_full options (block_after_entries n self.old).entries ≡ false }
+        ensures part { (n : ℕ) → 0 < n → n < result →
+            is_full options (block_after_entries n self.old).entries ≡ false }
     {
         self.push();
         1 + self.fill(options, most - 1)
@@ -198,8 +210,10 @@ impl<'r, 'a> OpenBlock<'r, 'a> {
     /// Ends the block and answers it, and begins another one after it. Takes no memory.
     pub fn end(&mut self) -> PlannedBlock<'r, 'a>
         ensures entries { result.entries.entries ≡ self.old.entries }
-        ensures len { result.len ≡ saturated_length (length (block self.old.interval self.old.entries)) }
-        ensures new { self.new ≡ record { interval = self.old.interval; entries = []; behind = self.old.behind } }
+        ensures len { result.len
+            ≡ saturated_length (length (block self.old.interval self.old.entries)) }
+        ensures new { self.new
+            ≡ record { interval = self.old.interval; entries = []; behind = self.old.behind } }
     {
         let entries = self.slice.part();
         self.slice = EntrySpan::at(self.slice.behind());

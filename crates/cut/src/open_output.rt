@@ -7,7 +7,8 @@
 //! (2) The entry's user key is not that of the last entry. Why: so all entries of a user key are in
 //!     one output.
 
-ghost use Rattle.std.specs.Prelude.{◌≡◌, ℕ, ◌↔◌, ◌<◌, ◌≤◌, false, List, [], ◌++◌, length, take, drop, IsTrue, OnOk, IfOk, IfErr};
+ghost use Rattle.std.specs.Prelude.{◌≡◌, ℕ, ◌↔◌, ◌<◌, ◌≤◌, false, List, [], ◌++◌, length, take};
+ghost use Rattle.std.specs.Prelude.{drop, IsTrue, OnOk, IfOk, IfErr};
 ghost use Rattle.std.specs.List.{AllByRecursion};
 ghost use Rattle.coding.specs.Answers.{fault};
 ghost use Rattle.coding.specs.declared.fault.FaultName.TheVariants.{Memory};
@@ -54,7 +55,8 @@ impl<'r, 'a> Model for OpenOutput<'r, 'a> {
       behind = w.current.behind;
     } };
 
-    ghost invariant = { λ w. IsOpen w.options w.blocks.items w.flushed (option_map (λ key. key.bytes.now) w.last) w.current };
+    ghost invariant = { λ w. IsOpen w.options w.blocks.items w.flushed
+        (option_map (λ key. key.bytes.now) w.last) w.current };
 }
 
 impl<'r, 'a> OpenOutput<'r, 'a> {
@@ -95,7 +97,8 @@ impl<'r, 'a> OpenOutput<'r, 'a> {
         ensures most { IfOk result (λ taken. taken ≤ most) }
         ensures left { IfOk result (λ taken. (rest : List Entry) →
             outputs_behind self.old.options (self.old.entries ++ take taken self.old.behind) rest
-            ≡ outputs_behind self.old.options self.old.entries (take taken self.old.behind ++ rest)) }
+            ≡ outputs_behind self.old.options self.old.entries (take taken self.old.behind
+            ++ rest)) }
         ensures options { self.new.options ≡ self.old.options }
         ensures memory { IfErr result (λ e. e ≡ fault Memory) }
     {
@@ -133,9 +136,12 @@ impl<'r, 'a> OpenOutput<'r, 'a> {
     /// Ends the output and answers its data blocks, none if it has no entry; and begins another one
     /// after it. The only fault is Memory.
     pub fn end(&mut self, alloc: Global) -> Result<Vec<PlannedBlock<'r, 'a>>, Fault>
-        ensures blocks { IfOk result (λ blocks. parts_of blocks.items ≡ data_blocks self.old.options self.old.entries) }
-        ensures lens { IfOk result (λ blocks. AllByRecursion (HasLen self.old.options) blocks.items) }
-        ensures new { OnOk result (self.new ≡ record { options = self.old.options; entries = []; behind = self.old.behind }) }
+        ensures blocks { IfOk result (λ blocks. parts_of blocks.items
+            ≡ data_blocks self.old.options self.old.entries) }
+        ensures lens { IfOk result
+            (λ blocks. AllByRecursion (HasLen self.old.options) blocks.items) }
+        ensures new { OnOk result (self.new
+            ≡ record { options = self.old.options; entries = []; behind = self.old.behind }) }
         ensures options { self.new.options ≡ self.old.options }
         ensures memory { IfErr result (λ e. e ≡ fault Memory) }
     {

@@ -8,7 +8,8 @@
 //! So all kept entries of a user key go to one output, however many they are, and no two outputs
 //! share a user key.
 
-ghost use Rattle.std.specs.Prelude.{◌≡◌, ◌<◌, ◌≤◌, ◌↔◌, List, [], ◌++◌, length, take, drop, map, flat_map, IsTrue, OnOk, IfOk, IfErr, IsOkUnless};
+ghost use Rattle.std.specs.Prelude.{◌≡◌, ◌<◌, ◌≤◌, ◌↔◌, List, [], ◌++◌, length, take, drop, map};
+ghost use Rattle.std.specs.Prelude.{flat_map, IsTrue, OnOk, IfOk, IfErr, IsOkUnless};
 ghost use Rattle.std.specs.List.{AllByRecursion};
 ghost use Rattle.coding.specs.Answers.{fault};
 ghost use Rattle.coding.specs.declared.fault.FaultName.TheVariants.{Memory};
@@ -54,14 +55,16 @@ impl<'r, 'a> Model for Cutting<'r, 'a> {
       behind = c.latest.behind;
     } };
 
-    ghost invariant = { λ c. AllByRecursion (λ blocks. ArePlanned c.latest.options blocks.items) c.ended.items };
+    ghost invariant = { λ c. AllByRecursion (λ blocks. ArePlanned c.latest.options blocks.items)
+        c.ended.items };
 }
 
 impl<'r, 'a> Cutting<'r, 'a> {
     /// No outputs yet, before the entries from `place` on. Takes no memory.
     fn new(alloc: Global, options: Options, place: EntryCursor<'r, 'a>) -> Cutting<'r, 'a>
         requires { AreInLimits options }
-        ensures { result ≡ record { options = options; outputs = []; latest = []; behind = place.entry } }
+        ensures { result
+            ≡ record { options = options; outputs = []; latest = []; behind = place.entry } }
     {
         Cutting {
             alloc,
@@ -100,7 +103,8 @@ impl<'r, 'a> Cutting<'r, 'a> {
         requires any { 0 < length self.old.behind }
         requires most { 0 < most }
         ensures left { IfOk result (λ taken. (rest : List Entry) →
-            outputs_left self.new rest ≡ outputs_left self.old (take taken self.old.behind ++ rest)) }
+            outputs_left self.new rest
+            ≡ outputs_left self.old (take taken self.old.behind ++ rest)) }
         ensures behind { IfOk result (λ taken. self.new.behind ≡ drop taken self.old.behind) }
         ensures some { IfOk result (λ taken. 0 < taken) }
         ensures most { IfOk result (λ taken. taken ≤ most) }
@@ -152,7 +156,8 @@ impl<'r, 'a> Cutting<'r, 'a> {
     fn cut(&mut self, stops: &[u128]) -> Result<(), Fault>
         requires { self.old.latest ≡ [] }
         ensures outputs { OnOk result (self.new.outputs
-            ≡ self.old.outputs ++ flat_map (outputs_in self.old.options) (segments 0 stops.now self.old.behind)) }
+            ≡ self.old.outputs
+            ++ flat_map (outputs_in self.old.options) (segments 0 stops.now self.old.behind)) }
         ensures options { OnOk result (self.new.options ≡ self.old.options) }
         ensures memory { IsOkUnless result (fault Memory) }
     {
@@ -166,8 +171,10 @@ impl<'r, 'a> Cutting<'r, 'a> {
 
     /// The data blocks of the outputs that have ended.
     fn into_ended(self) -> Vec<Vec<PlannedBlock<'r, 'a>>>
-        ensures entries { map (λ blocks. entries_in_blocks blocks.items) result.items ≡ self.entry.outputs }
-        ensures planned { AllByRecursion (λ blocks. ArePlanned self.entry.options blocks.items) result.items }
+        ensures entries { map (λ blocks. entries_in_blocks blocks.items) result.items
+            ≡ self.entry.outputs }
+        ensures planned { AllByRecursion (λ blocks. ArePlanned self.entry.options blocks.items)
+            result.items }
     {
         self.ended
     }
@@ -182,8 +189,10 @@ pub(crate) fn outputs<'r, 'a>(
 ) -> Result<Vec<Vec<PlannedBlock<'r, 'a>>>, Fault>
     requires { AreInLimits options }
     ensures entries { IfOk result (λ outputs.
-        map (λ blocks. entries_in_blocks blocks.items) outputs.items ≡ outputs_of grandparents.now options (joined_run runs.now)) }
-    ensures planned { IfOk result (λ outputs. AllByRecursion (λ blocks. ArePlanned options blocks.items) outputs.items) }
+        map (λ blocks. entries_in_blocks blocks.items) outputs.items
+        ≡ outputs_of grandparents.now options (joined_run runs.now)) }
+    ensures planned { IfOk result
+        (λ outputs. AllByRecursion (λ blocks. ArePlanned options blocks.items) outputs.items) }
     ensures memory { IfErr result (λ e. e ≡ fault Memory) }
 {
     let stops = stops(alloc, runs, grandparents, options.file_size)?;

@@ -1,6 +1,7 @@
 //! Planning the outputs of a compaction.
 
-ghost use Rattle.std.specs.Prelude.{◌≡◌, ◌≢◌, ◌+◌, ◌^◌, ◌<◌, ◌≤◌, ◌&&◌, nat_le, [], length, IfOk, IfErr};
+ghost use Rattle.std.specs.Prelude.{◌≡◌, ◌≢◌, ◌+◌, ◌^◌, ◌<◌, ◌≤◌, ◌&&◌, nat_le, [], length, IfOk};
+ghost use Rattle.std.specs.Prelude.{IfErr};
 ghost use Rattle.std.specs.List.{AllByRecursion, list_all};
 ghost use Rattle.coding.specs.Answers.{EqualOrMemory, fault};
 ghost use Rattle.coding.specs.declared.fault.FaultName.TheVariants.{Memory};
@@ -87,7 +88,8 @@ fn numbered<'r, 'a, C: Comparator>(
     requires fits { first_number + length ended.items < 2 ^ 64 }
     requires some { AllByRecursion (λ blocks. HaveEntries blocks.items) ended.items }
     ensures ok { IfOk result (λ outputs. outputs.items
-        ≡ numbered_from (table_size (index_keys C.cmp C.separator_of C.successor_of)) first_number ended.entry.items) }
+        ≡ numbered_from (table_size (index_keys C.cmp C.separator_of C.successor_of)) first_number
+        ended.entry.items) }
     ensures memory { IfErr result (λ e. e ≡ fault Memory) }
 {
     let mut outputs = Vec::new(alloc);
@@ -106,7 +108,9 @@ fn numbered<'r, 'a, C: Comparator>(
 
 /// Whether each output has at most 2^30 bytes, and all have at most 2^40 data blocks together.
 fn are_small(outputs: &[PlannedOutput<'_, '_>]) -> bool
-    ensures { result ≡ (list_all (λ p. nat_le p.len (2 ^ 30)) outputs.now && nat_le (block_count outputs.now) (2 ^ 40)) }
+    ensures { result
+        ≡ (list_all (λ p. nat_le p.len (2 ^ 30)) outputs.now
+        && nat_le (block_count outputs.now) (2 ^ 40)) }
 {
     are_short(outputs) && count_blocks(outputs) <= MAX_BLOCKS
 }

@@ -30,8 +30,10 @@ fn push_pieces(
     limit: u64,
 ) -> Result<usize, Fault>
     requires { lens_of blocks.now ≤ 2 ^ 30 }
-    ensures ok { OnOk result (pieces.new.items ≡ pieces.old.items ++ piece_places_from output limit 0 0 0 blocks.now) }
-    ensures count { IfOk result (λ count. count ≡ length (piece_places_from output limit 0 0 0 blocks.now)) }
+    ensures ok { OnOk result (pieces.new.items ≡ pieces.old.items
+        ++ piece_places_from output limit 0 0 0 blocks.now) }
+    ensures count { IfOk result (λ count. count
+        ≡ length (piece_places_from output limit 0 0 0 blocks.now)) }
     ensures memory { IfErr result (λ e. e ≡ fault Memory) }
 {
     let mut count = 0;
@@ -70,8 +72,10 @@ pub(crate) fn pieces_of(
     limit: u64,
 ) -> Result<Division, Fault>
     requires { AllByRecursion (λ p. lens_of p.blocks.items ≤ 2 ^ 30) outputs.now }
-    ensures pieces { IfOk result (λ division. division.pieces.items ≡ places_all limit 0 outputs.now) }
-    ensures counts { IfOk result (λ division. division.counts.items ≡ counts_all limit 0 outputs.now) }
+    ensures pieces { IfOk result (λ division. division.pieces.items
+        ≡ places_all limit 0 outputs.now) }
+    ensures counts { IfOk result (λ division. division.counts.items
+        ≡ counts_all limit 0 outputs.now) }
     ensures memory { IfErr result (λ e. e ≡ fault Memory) }
 {
     let mut pieces = Vec::new(alloc);

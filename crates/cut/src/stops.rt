@@ -19,7 +19,8 @@
 //! ones do: the marks of the runs say how many grandparents are below each. Only a stop begins the
 //! count anew; the end of an output by its size does not.
 
-ghost use Rattle.std.specs.Prelude.{◌≡◌, ◌+◌, ◌*◌, ◌^◌, ◌≤◌, max, List, ◌∷◌, ◌++◌, map, OnOk, IsOkUnless, Ok};
+ghost use Rattle.std.specs.Prelude.{◌≡◌, ◌+◌, ◌*◌, ◌^◌, ◌≤◌, max, List, ◌∷◌, ◌++◌, map, OnOk};
+ghost use Rattle.std.specs.Prelude.{IsOkUnless, Ok};
 ghost use Rattle.std.specs.List.{sum_by};
 ghost use Rattle.std.specs.Option.{option_map};
 ghost use Rattle.coding.specs.Answers.{EqualOrMemory, fault};
@@ -99,7 +100,13 @@ impl Overlap {
     /// What is passed at a mark with `below` grandparents below it; None if there is a stop.
     fn at(self, grandparents: &[FileMeta], below: usize) -> Option<Overlap>
         ensures { result
-            ≡ option_map (λ room. record { since = self.since; counted = max self.counted below; room = room })
+            ≡ option_map
+            (λ room. record {
+              since = self.since;
+              counted = max self.counted below;
+              room =
+                  room;
+            })
             (room_left self.room (size_between grandparents.now self.counted below)) }
     {
         let room = room_past(grandparents, self.counted, below, self.room)?;
@@ -158,7 +165,8 @@ impl Stopping {
         requires counted { AreCounted grandparents.now file_size self.old }
         ensures ok { OnOk result ((rest : List Mark) →
             all_stops grandparents.now file_size self.new rest
-            ≡ all_stops grandparents.now file_size self.old (map (moved_mark passed) marks.now ++ rest)) }
+            ≡ all_stops grandparents.now file_size self.old (map (moved_mark passed) marks.now
+            ++ rest)) }
         ensures counted { OnOk result (AreCounted grandparents.now file_size self.new) }
         ensures memory { IsOkUnless result (fault Memory) }
     {

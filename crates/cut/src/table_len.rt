@@ -13,7 +13,8 @@ ghost use Rattle.coding.specs.Answers.{EqualOrMemory};
 ghost use Rattle.block.specs.BlockFormat.{block};
 ghost use Rattle.table.specs.Table.{index_keys};
 ghost use Rattle.cut.specs.Sizes.{saturated_length};
-ghost use Rattle.cut.specs.TableLength.{planned_index_entries, planned_index_key, lens_of, table_size};
+ghost use Rattle.cut.specs.TableLength.{planned_index_entries, planned_index_key, lens_of};
+ghost use Rattle.cut.specs.TableLength.{table_size};
 
 use crate::lengths::{encoded_entry_len, varint_len};
 use coding::Fault;
@@ -52,7 +53,8 @@ fn index_key<C: Comparator>(
     requires within { place < length blocks.now }
     requires some { AllByRecursion (λ b. b.entries.entries ≢ []) blocks.now }
     ensures { EqualOrMemory (λ key. key) result
-        (Ok (planned_index_key (index_keys C.cmp C.separator_of C.successor_of) (drop place blocks.now))) }
+        (Ok (planned_index_key (index_keys C.cmp C.separator_of C.successor_of)
+        (drop place blocks.now))) }
 {
     let Some(last) = blocks[place].entries.last_key() else {
         unreachable!()
@@ -70,7 +72,10 @@ fn index_len<C: Comparator>(alloc: Global, blocks: &[PlannedBlock<'_, '_>]) -> R
     requires some { AllByRecursion (λ b. b.entries.entries ≢ []) blocks.now }
     requires short { lens_of blocks.now ≤ 2 ^ 30 }
     ensures { EqualOrMemory (λ len. len) result
-        (Ok (saturated_length (length (block 1 (planned_index_entries (index_keys C.cmp C.separator_of C.successor_of) 0 blocks.now))))) }
+        (Ok (saturated_length
+        (length (block 1
+        (planned_index_entries (index_keys C.cmp C.separator_of C.successor_of) 0
+        blocks.now))))) }
 {
     let mut len = RESTART_LEN;
     let mut offset = 0;

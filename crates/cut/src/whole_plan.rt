@@ -1,6 +1,7 @@
 //! A plan that is made.
 
-ghost use Rattle.std.specs.Prelude.{◌≡◌, ◌<◌, ◌≤◌, ◌^◌, ◌↔◌, [], length, slice_get, slice_range, IfSome, IfOk, IfErr, IsTrue, Ok, Some, map};
+ghost use Rattle.std.specs.Prelude.{◌≡◌, ◌<◌, ◌≤◌, ◌^◌, ◌↔◌, [], length, slice_get, slice_range};
+ghost use Rattle.std.specs.Prelude.{IfSome, IfOk, IfErr, IsTrue, Ok, Some, map};
 ghost use Rattle.coding.specs.Answers.{EqualOrMemory, fault};
 ghost use Rattle.coding.specs.declared.fault.FaultName.TheVariants.{Memory};
 ghost use Rattle.table.specs.Table.{table};
@@ -46,7 +47,8 @@ impl<'r, 'a, C: Comparator> Model for Plan<'r, 'a, C> {
 
     ghost view = { λ p. record { options = p.options; outputs = map planned_of p.outputs.items } };
 
-    ghost invariant = { λ p. IsPlan (table C.cmp C.separator_of C.successor_of p.options) p.options p.outputs.items p.pieces.items p.counts.items };
+    ghost invariant = { λ p. IsPlan (table C.cmp C.separator_of C.successor_of p.options) p.options
+        p.outputs.items p.pieces.items p.counts.items };
 }
 
 /// The blocks at places `from` to before `to`.
@@ -95,7 +97,8 @@ impl<'r, 'a, C: Comparator> Plan<'r, 'a, C> {
     pub fn encode(&self, alloc: Global, job: u64) -> Result<Vec<u8>, Fault>
         requires { job < jobs self.now.options (lists_in self.now.outputs) }
         ensures ok { IfOk result (λ bytes.
-            slice_get (encoded_pieces self.now.options (lists_in self.now.outputs)) job ≡ Some bytes.items) }
+            slice_get (encoded_pieces self.now.options (lists_in self.now.outputs)) job
+            ≡ Some bytes.items) }
         ensures memory { IfErr result (λ e. e ≡ fault Memory) }
     {
         let piece = self.pieces[job as usize];
@@ -118,9 +121,11 @@ impl<'r, 'a, C: Comparator> Plan<'r, 'a, C> {
         alloc: Global,
         pieces: Vec<Vec<u8>>,
     ) -> Result<Vec<(u64, Vec<u8>)>, Fault>
-        requires { map (λ p. p.items) pieces.items ≡ encoded_pieces self.now.options (lists_in self.now.outputs) }
+        requires { map (λ p. p.items) pieces.items
+            ≡ encoded_pieces self.now.options (lists_in self.now.outputs) }
         ensures { EqualOrMemory (λ tables. map (λ t. (t.0, t.1.items)) tables.items) result
-            (Ok (plan_tables (table C.cmp C.separator_of C.successor_of self.now.options) self.now.outputs)) }
+            (Ok (plan_tables (table C.cmp C.separator_of C.successor_of self.now.options)
+            self.now.outputs)) }
     {
         let interval = self.options.restart_interval;
         assemble_all::<C>(alloc, &self.outputs, &self.counts, interval, pieces)

@@ -1,5 +1,6 @@
 -- A field of the code as contracts see it.
-use Rattle.edit.specs.Field.{Field, SetComparator, SetLogNumber, SetPreviousLog, SetNextFile, SetLastSequence, SetPointer, DeleteFile, AddFile}
+use Rattle.edit.specs.Field.{Field, SetComparator, SetLogNumber, SetPreviousLog, SetNextFile}
+use Rattle.edit.specs.Field.{SetLastSequence, SetPointer, DeleteFile, AddFile}
 use Rattle.edit.specs.declared.field.Field as lent
 use Rattle.edit.specs.declared.field.Field.TheVariants as lent_field
 use Rattle.edit.specs.declared.meta.NewFile.{NewFile}
@@ -13,7 +14,13 @@ pointer_in p = record { level = p.level; key = p.key.bytes.now }
 abbrev pub file_in : FileContent → NewFile
 file_in f = record {
   level = f.level;
-  meta = record { number = f.number; size = f.size; smallest = f.smallest.bytes.now; largest = f.largest.bytes.now };
+  meta = record {
+    number = f.number;
+    size = f.size;
+    smallest = f.smallest.bytes.now;
+    largest =
+        f.largest.bytes.now;
+  };
 }
 
 -- the field that a field of the code stands for

@@ -1,5 +1,6 @@
 -- Version edits: what their fields set, their bytes, and which bytes are refused.
-use Rattle.std.specs.Prelude.{◌≡◌, ◌≢◌, ◌^◌, ℕ, ◌<◌, ◌≤◌, length, List, [], ◌∷◌, ◌++◌, map, fold, Option, Some, None, if◌then◌else◌}
+use Rattle.std.specs.Prelude.{◌≡◌, ◌≢◌, ◌^◌, ℕ, ◌<◌, ◌≤◌, length, List, [], ◌∷◌, ◌++◌, map, fold}
+use Rattle.std.specs.Prelude.{Option, Some, None, if◌then◌else◌}
 use Rattle.std.specs.List.{flat_map, AllByRecursion, All}
 use Rattle.std.specs.Option.{option_map, option_to_list, option_map_or, is_none, ForSome}
 use Rattle.std.specs.Ordering.{nat_cmp, ordering_then}
@@ -10,7 +11,8 @@ use Rattle.coding.specs.Answers.{fault}
 use Rattle.coding.specs.Varint.{varint_reading}
 use Rattle.coding.specs.declared.fault.Fault.{Fault}
 use Rattle.coding.specs.declared.fault.FaultName.TheVariants.{EditTag, EditField}
-use Rattle.edit.specs.Field.{Field, SetComparator, SetLogNumber, SetPreviousLog, SetNextFile, SetLastSequence, SetPointer, DeleteFile, AddFile, spelling, IsField}
+use Rattle.edit.specs.Field.{Field, SetComparator, SetLogNumber, SetPreviousLog, SetNextFile}
+use Rattle.edit.specs.Field.{SetLastSequence, SetPointer, DeleteFile, AddFile, spelling, IsField}
 use Rattle.edit.specs.Tag.{listed_tag}
 use Rattle.edit.specs.declared.meta.NewFile.{NewFile}
 use Rattle.edit.specs.declared.meta.CompactPointer.{CompactPointer}
@@ -85,7 +87,8 @@ settings_of e =
 
 -- the fields of an edit in the order in which they are written
 abbrev pub fields_of : Edit → List Field
-fields_of e = settings_of e ++ map SetPointer e.pointers ++ map DeleteFile e.deleted ++ map AddFile e.added
+fields_of e = settings_of e ++ map SetPointer e.pointers ++ map DeleteFile e.deleted
+    ++ map AddFile e.added
 
 -- the bytes of an edit: the spellings of its fields
 abbrev pub edit_bytes : Edit → List ℕ
@@ -95,7 +98,8 @@ edit_bytes e = flat_map spelling (fields_of e)
 -- else EditField.
 abbrev pub field_fault : List ℕ → Fault
 field_fault bytes =
-    option_map_or (λ tag. if is_none (listed_tag tag.0) then fault EditTag else fault EditField) (varint_reading (2 ^ 32) bytes) (fault EditField)
+    option_map_or (λ tag. if is_none (listed_tag tag.0) then fault EditTag else fault EditField)
+    (varint_reading (2 ^ 32) bytes) (fault EditField)
 
 -- The bytes are refused with this fault: after some fields there are bytes left that begin with no
 -- field.
@@ -105,7 +109,8 @@ pub record IsEditRefused (bytes : List ℕ) (e : Fault) : Type 0 where
   pub lawful : AllByRecursion IsField read
   pub parts : bytes ≡ flat_map spelling read ++ rest
   pub some : rest ≢ []
-  pub no_field : (field : Field) (behind : List ℕ) → IsField field → rest ≡ spelling field ++ behind → ⊥
+  pub no_field : (field : Field) (behind : List ℕ) → IsField field →
+      rest ≡ spelling field ++ behind → ⊥
   pub named : e ≡ field_fault rest
 
 -- the edit of the code

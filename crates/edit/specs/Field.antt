@@ -7,7 +7,8 @@ use Rattle.edit.specs.declared.meta.NewFile.{NewFile}
 use Rattle.edit.specs.declared.meta.CompactPointer.{CompactPointer}
 use Rattle.edit.specs.declared.meta.DeletedFile.{DeletedFile}
 use Rattle.edit.specs.declared.tag.Tag.{Tag}
-use Rattle.edit.specs.declared.tag.Tag.TheVariants.{Comparator, LogNumber, NextFile, LastSequence, Pointer, Deleted, Added, PreviousLog}
+use Rattle.edit.specs.declared.tag.Tag.TheVariants.{Comparator, LogNumber, NextFile, LastSequence}
+use Rattle.edit.specs.declared.tag.Tag.TheVariants.{Pointer, Deleted, Added, PreviousLog}
 
 -- a field, by what it changes in an edit
 pub data Field : Type 0 where
@@ -41,7 +42,10 @@ content (SetLastSequence number) = varint number
 content (SetPointer pointer) = varint pointer.level ++ length_prefixed pointer.key
 content (DeleteFile file) = varint file.level ++ varint file.number
 content (AddFile file) =
-    varint file.level ++ (varint file.meta.number ++ (varint file.meta.size ++ (length_prefixed file.meta.smallest ++ length_prefixed file.meta.largest)))
+    varint file.level
+    ++ (varint file.meta.number
+    ++ (varint file.meta.size
+    ++ (length_prefixed file.meta.smallest ++ length_prefixed file.meta.largest)))
 
 -- a field's bytes: its tag, and then its content
 abbrev pub spelling : Field → List ℕ
@@ -57,4 +61,5 @@ IsField (SetLastSequence number) = number < 2 ^ 64
 IsField (SetPointer pointer) = (pointer.level ≤ 6) × IsInternalKey pointer.key
 IsField (DeleteFile file) = (file.level ≤ 6) × (file.number < 2 ^ 64)
 IsField (AddFile file) =
-    (file.level ≤ 6) × (file.meta.number < 2 ^ 64) × (file.meta.size < 2 ^ 64) × IsInternalKey file.meta.smallest × IsInternalKey file.meta.largest
+    (file.level ≤ 6) × (file.meta.number < 2 ^ 64) × (file.meta.size < 2 ^ 64)
+    × IsInternalKey file.meta.smallest × IsInternalKey file.meta.largest

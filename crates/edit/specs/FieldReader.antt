@@ -1,5 +1,6 @@
 -- Reading one field at the front of bytes, and the bytes after it.
-use Rattle.std.specs.Prelude.{ℕ, ◌^◌, nat_lt, List, length, take, drop, Option, Some, None, Result, Err, if◌then◌else◌}
+use Rattle.std.specs.Prelude.{ℕ, ◌^◌, nat_lt, List, length, take, drop, Option, Some, None, Result}
+use Rattle.std.specs.Prelude.{Err, if◌then◌else◌}
 use Rattle.std.specs.Option.{option_map, option_map_or, ok_or}
 use Rattle.std.specs.Result.{is_ok}
 use Rattle.std.specs.Str.{is_utf8}
@@ -8,10 +9,12 @@ use Rattle.coding.specs.Varint.{varint_reading}
 use Rattle.coding.specs.declared.fault.Fault.{Fault}
 use Rattle.coding.specs.declared.fault.FaultName.TheVariants.{EditTag, EditField}
 use Rattle.ikey.specs.Key.{internal_key_reading}
-use Rattle.edit.specs.Field.{Field, SetComparator, SetLogNumber, SetPreviousLog, SetNextFile, SetLastSequence, SetPointer, DeleteFile, AddFile}
+use Rattle.edit.specs.Field.{Field, SetComparator, SetLogNumber, SetPreviousLog, SetNextFile}
+use Rattle.edit.specs.Field.{SetLastSequence, SetPointer, DeleteFile, AddFile}
 use Rattle.edit.specs.Tag.{listed_tag}
 use Rattle.edit.specs.declared.tag.Tag.{Tag}
-use Rattle.edit.specs.declared.tag.Tag.TheVariants.{Comparator, LogNumber, NextFile, LastSequence, Pointer, Deleted, Added, PreviousLog}
+use Rattle.edit.specs.declared.tag.Tag.TheVariants.{Comparator, LogNumber, NextFile, LastSequence}
+use Rattle.edit.specs.declared.tag.Tag.TheVariants.{Pointer, Deleted, Added, PreviousLog}
 
 infixl 10 ◌>>=◌
 -- the ? of the logic
@@ -69,7 +72,13 @@ added_at bytes = do
   Some (
     AddFile (record {
       level = level.0;
-      meta = record { number = number.0; size = size.0; smallest = smallest.0; largest = largest.0 };
+      meta = record {
+        number = number.0;
+        size = size.0;
+        smallest = smallest.0;
+        largest =
+            largest.0;
+      };
     }),
     largest.1,
   )
@@ -92,7 +101,8 @@ content_at PreviousLog bytes = number_field SetPreviousLog bytes
 -- the content after a tag's number: EditTag if the number is no tag, EditField if the content isn't
 -- there
 abbrev pub tagged_at : ℕ × List ℕ → Result (Field × List ℕ) Fault
-tagged_at number = option_map_or (λ tag. ok_or (content_at tag number.1) (fault EditField)) (listed_tag number.0) (Err (fault EditTag))
+tagged_at number = option_map_or (λ tag. ok_or (content_at tag number.1) (fault EditField))
+    (listed_tag number.0) (Err (fault EditTag))
 
 -- the field at the front, and the bytes after it; else EditTag or EditField
 unfoldable pub field_at : List ℕ → Result (Field × List ℕ) Fault

@@ -29,7 +29,8 @@ with_found n (Some f) es = (n, f) ∷ es
 -- each number with the file at its place
 abbrev pub numbered_files : List NewFile → List (ℕ × ℕ) → List (ℕ × NewFile)
 numbered_files files [] = []
-numbered_files files (p ∷ places) = with_found p.0 (slice_get files p.1) (numbered_files files places)
+numbered_files files (p ∷ places) =
+    with_found p.0 (slice_get files p.1) (numbered_files files places)
 
 -- the numbers of files, with places that count from i
 abbrev pub file_places_from : ℕ → List NewFile → List (ℕ × ℕ)

@@ -1,7 +1,8 @@
 -- The tags of a version edit's fields.
 use Rattle.std.specs.Prelude.{ℕ, nat_eq, List, [], ◌∷◌, find, Option}
 use Rattle.edit.specs.declared.tag.Tag.{Tag}
-use Rattle.edit.specs.declared.tag.Tag.TheVariants.{Comparator, LogNumber, NextFile, LastSequence, Pointer, Deleted, Added, PreviousLog}
+use Rattle.edit.specs.declared.tag.Tag.TheVariants.{Comparator, LogNumber, NextFile, LastSequence}
+use Rattle.edit.specs.declared.tag.Tag.TheVariants.{Pointer, Deleted, Added, PreviousLog}
 
 -- the number of each tag
 abbrev pub tag_number : Tag → ℕ
@@ -15,7 +16,8 @@ tag_number Added = 7
 tag_number PreviousLog = 9
 
 abbrev pub tags : List Tag
-tags = Comparator ∷ LogNumber ∷ NextFile ∷ LastSequence ∷ Pointer ∷ Deleted ∷ Added ∷ PreviousLog ∷ []
+tags = Comparator ∷ LogNumber ∷ NextFile ∷ LastSequence ∷ Pointer ∷ Deleted ∷ Added ∷ PreviousLog ∷
+    []
 
 -- the tag of a number; None if no tag has it
 abbrev pub listed_tag : ℕ → Option Tag

@@ -1,5 +1,7 @@
 -- Versions: files at their levels, counters and compact pointers; and the version after an edit.
-use Rattle.std.specs.Prelude.{◌≡◌, ℕ, ◌≤◌, nat_eq, Bool, true, false, not, ◌&&◌, ◌==◌, if◌then◌else◌, List, [], ◌∷◌, filter, fold, Option, Some, None, Result, Err}
+use Rattle.std.specs.Prelude.{◌≡◌, ℕ, ◌≤◌, nat_eq, Bool, true, false, not, ◌&&◌, ◌==◌}
+use Rattle.std.specs.Prelude.{if◌then◌else◌, List, [], ◌∷◌, filter, fold, Option, Some, None}
+use Rattle.std.specs.Prelude.{Result, Err}
 use Rattle.std.specs.List.{All, list_any, list_all}
 use Rattle.std.specs.List.Sorted.{IsStrictlySortedBy}
 use Rattle.std.specs.Option.{option_map, option_map_or, option_or, ok_or}
@@ -89,7 +91,9 @@ with_file files f = insert_key number_cmp files f
 -- - a new file has the number of one that stays.
 abbrev pub files_after : List NewFile → List DeletedFile → List NewFile → Option (List NewFile)
 files_after files deleted added =
-    if list_all (has_place files) deleted && are_new (undeleted_files deleted files) added then Some (fold with_file (undeleted_files deleted files) added) else None
+    if list_all (has_place files) deleted
+    && are_new (undeleted_files deleted files) added then Some
+    (fold with_file (undeleted_files deleted files) added) else None
 
 -- the pointers after a new one, which replaces that of its level
 abbrev pub with_pointer : List (ℕ × List ℕ) → CompactPointer → List (ℕ × List ℕ)
@@ -115,7 +119,8 @@ names_another name e = option_map_or (λ other. not (bytes_eq other name)) e.com
 -- the version after an edit, by the comparator of this name: Comparator if it names another, else
 -- Apply if it doesn't fit
 abbrev pub applied_by : List ℕ → State → Edit → Result State Fault
-applied_by name v e = if names_another name e then Err (fault Comparator) else ok_or (applied v e) (fault Apply)
+applied_by name v e = if names_another name e then Err (fault Comparator) else ok_or (applied v e)
+    (fault Apply)
 
 -- the levels of files and pointers are from 0 to 6
 pub record AreLevelled (pointers : List (ℕ × List ℕ)) (files : List NewFile) : Type 0 where

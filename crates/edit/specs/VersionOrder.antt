@@ -1,5 +1,6 @@
 -- Version order, and the edit that makes a version of an empty one.
-use Rattle.std.specs.Prelude.{ℕ, zero, suc, ◌+◌, nat_eq, List, [], ◌++◌, map, filter, fold, Some, None}
+use Rattle.std.specs.Prelude.{ℕ, zero, suc, ◌+◌, nat_eq, List, [], ◌++◌, map, filter, fold, Some}
+use Rattle.std.specs.Prelude.{None}
 use Rattle.std.specs.Ordering.{nat_cmp, ordering_then}
 use Rattle.std.specs.BTreeSet.{insert_key}
 use Rattle.std.specs.declared.cmp.Ordering.{Ordering}
@@ -12,7 +13,8 @@ use Rattle.edit.specs.declared.meta.CompactPointer.{CompactPointer}
 
 -- version order: by smallest internal key, then number
 abbrev pub file_cmp : (List ℕ → List ℕ → Ordering) → FileMeta → FileMeta → Ordering
-file_cmp cmp a b = ordering_then (internal_cmp cmp a.smallest b.smallest) (nat_cmp a.number b.number)
+file_cmp cmp a b = ordering_then (internal_cmp cmp a.smallest b.smallest)
+    (nat_cmp a.number b.number)
 
 -- files in version order
 abbrev pub in_version_order : (List ℕ → List ℕ → Ordering) → List FileMeta → List FileMeta
@@ -20,7 +22,8 @@ in_version_order cmp files = fold (insert_key (file_cmp cmp)) [] files
 
 -- the files at a level
 abbrev pub files_at : List NewFile → ℕ → List FileMeta
-files_at files level = map (λ (f : NewFile). f.meta) (filter (λ (f : NewFile). nat_eq f.level level) files)
+files_at files level =
+    map (λ (f : NewFile). f.meta) (filter (λ (f : NewFile). nat_eq f.level level) files)
 
 -- the files of a level of a version, in version order
 abbrev pub level_files : (List ℕ → List ℕ → Ordering) → State → ℕ → List FileMeta
@@ -33,7 +36,9 @@ at_level level f = record { level = level; meta = f }
 -- all files of the n levels from this one on as new files, by level and in version order
 unfoldable pub added_from : (List ℕ → List ℕ → Ordering) → List NewFile → ℕ → ℕ → List NewFile
 added_from cmp files level zero = []
-added_from cmp files level (suc n) = map (at_level level) (in_version_order cmp (files_at files level)) ++ added_from cmp files (level + 1) n
+added_from cmp files level (suc n) =
+    map (at_level level) (in_version_order cmp (files_at files level))
+    ++ added_from cmp files (level + 1) n
 
 -- a level and its key as a compact pointer
 abbrev pub pointer_entry : ℕ × List ℕ → CompactPointer

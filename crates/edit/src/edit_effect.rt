@@ -1,11 +1,13 @@
 //! What an edit makes of the files and the compact pointers of a version.
 
-ghost use Rattle.std.specs.Prelude.{◌≡◌, true, false, if◌then◌else◌, Some, None, fold, IfOk, IfErr, OnOk};
+ghost use Rattle.std.specs.Prelude.{◌≡◌, true, false, if◌then◌else◌, Some, None, fold, IfOk, IfErr};
+ghost use Rattle.std.specs.Prelude.{OnOk};
 ghost use Rattle.std.specs.List.{list_all};
 ghost use Rattle.std.specs.Option.{ok_or};
 ghost use Rattle.coding.specs.Answers.{EqualOrMemory, fault};
 ghost use Rattle.coding.specs.declared.fault.FaultName.TheVariants.{Apply, Memory};
-ghost use Rattle.edit.specs.Version.{files_after, undeleted_files, has_place, are_new, with_file, with_pointer};
+ghost use Rattle.edit.specs.Version.{files_after, undeleted_files, has_place, are_new, with_file};
+ghost use Rattle.edit.specs.Version.{with_pointer};
 
 use crate::files::Files;
 use crate::meta::{CompactPointer, DeletedFile, NewFile};
@@ -50,7 +52,8 @@ fn take_out_all(files: &mut Files, deleted: &BTreeSet<DeletedFile>) -> Result<()
 /// fault is Memory.
 fn put_in_all(files: Files, added: Vec<NewFile>) -> Result<Files, Fault>
     ensures { EqualOrMemory (λ v. v) result
-        (ok_or (if are_new files added.items then Some (fold with_file files added.items) else None) (fault Apply)) }
+        (ok_or (if are_new files added.items then Some (fold with_file files added.items) else None)
+        (fault Apply)) }
 {
     files.with_all(added)?.ok_or(Fault::of(FaultName::Apply))
 }

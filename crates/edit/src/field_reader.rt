@@ -4,7 +4,8 @@ ghost use Rattle.std.specs.Prelude.{◌≡◌, ◌^◌};
 ghost use Rattle.std.specs.Option.{option_map};
 ghost use Rattle.std.specs.Result.{result_map_both};
 ghost use Rattle.edit.specs.CodeFields.{field_in};
-ghost use Rattle.edit.specs.FieldReader.{varint_at, slice_at, level_at, text_at, key_at, pointer_at, deleted_at, added_at, content_at, field_at};
+ghost use Rattle.edit.specs.FieldReader.{varint_at, slice_at, level_at, text_at, key_at};
+ghost use Rattle.edit.specs.FieldReader.{pointer_at, deleted_at, added_at, content_at, field_at};
 
 use crate::field::{Field, FileContent, PointerContent};
 use crate::meta::{DeletedFile, LEVELS};

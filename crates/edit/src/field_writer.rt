@@ -1,6 +1,7 @@
 //! Writing the fields of an edit. The only fault of these calls is Memory.
 
-ghost use Rattle.std.specs.Prelude.{◌≡◌, ◌++◌, ◌<◌, ◌≤◌, ◌^◌, length, map, [], OnOk, IsOkUnless, All, IfSome};
+ghost use Rattle.std.specs.Prelude.{◌≡◌, ◌++◌, ◌<◌, ◌≤◌, ◌^◌, length, map, [], OnOk, IsOkUnless};
+ghost use Rattle.std.specs.Prelude.{All, IfSome};
 ghost use Rattle.std.specs.List.{flat_map, AllByRecursion};
 ghost use Rattle.std.specs.List.Sorted.{IsStrictlySortedBy};
 ghost use Rattle.std.specs.Option.{ForSome, option_map, option_map_or};
@@ -9,7 +10,8 @@ ghost use Rattle.coding.specs.Answers.{fault};
 ghost use Rattle.coding.specs.Varint.{varint};
 ghost use Rattle.coding.specs.declared.fault.FaultName.TheVariants.{Memory};
 ghost use Rattle.edit.specs.Edit.{deleted_cmp, optional_field};
-ghost use Rattle.edit.specs.Field.{IsField, SetComparator, SetPointer, DeleteFile, AddFile, spelling};
+ghost use Rattle.edit.specs.Field.{IsField, SetComparator, SetPointer, DeleteFile, AddFile};
+ghost use Rattle.edit.specs.Field.{spelling};
 ghost use Rattle.edit.specs.Tag.{tag_number};
 
 use crate::meta::{CompactPointer, DeletedFile, NewFile};
@@ -21,7 +23,9 @@ use std::collections::BTreeSet;
 pub(crate) fn push_comparator(out: &mut Vec<u8>, name: &Option<String>) -> Result<(), Fault>
     requires { ForSome (option_map string_bytes name.now) (λ n. length n < 2 ^ 32) }
     ensures ok { OnOk result (out.new.items ≡
-        out.old.items ++ flat_map spelling (optional_field SetComparator (option_map string_bytes name.now))) }
+        out.old.items
+        ++ flat_map spelling
+        (optional_field SetComparator (option_map string_bytes name.now))) }
     ensures lawful { OnOk result
         (AllByRecursion IsField (optional_field SetComparator (option_map string_bytes name.now))) }
     ensures memory { IsOkUnless result (fault Memory) }

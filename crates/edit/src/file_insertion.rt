@@ -31,7 +31,8 @@ pub(crate) fn insert_all(
 ) -> Result<(), Fault>
     requires { first + length files.now < 2 ^ 64 }
     ensures ok { OnOk result
-        (places.new.entries ≡ fold with_place places.old.entries (file_places_from first files.now)) }
+        (places.new.entries
+        ≡ fold with_place places.old.entries (file_places_from first files.now)) }
     ensures memory { IfErr result (λ e. e ≡ fault Memory) }
 {
     if files.len() <= FEW.max(places.len() / SHARE) {
@@ -49,7 +50,8 @@ fn insert_each(
 ) -> Result<(), Fault>
     requires { first + length files.now < 2 ^ 64 }
     ensures ok { OnOk result
-        (places.new.entries ≡ fold with_place places.old.entries (file_places_from first files.now)) }
+        (places.new.entries
+        ≡ fold with_place places.old.entries (file_places_from first files.now)) }
     ensures memory { IfErr result (λ e. e ≡ fault Memory) }
 {
     let mut place = first;
@@ -70,7 +72,8 @@ fn insert_together(
     requires room { first + length files.now < 2 ^ 64 }
     requires ordered { IsOrdered nat_cmp places.old }
     ensures ok { OnOk result
-        (places.new.entries ≡ fold with_place places.old.entries (file_places_from first files.now)) }
+        (places.new.entries
+        ≡ fold with_place places.old.entries (file_places_from first files.now)) }
     ensures memory { IfErr result (λ e. e ≡ fault Memory) }
 {
     let entries = numbered(alloc, first, files)?;

@@ -1,6 +1,7 @@
 //! The files of a version, by their numbers.
 
-ghost use Rattle.std.specs.Prelude.{◌≡◌, ◌++◌, true, length, map, fold, if◌then◌else◌, [], ◌∷◌, Some, None, Ok, slice_get, IfOk, IfErr};
+ghost use Rattle.std.specs.Prelude.{◌≡◌, ◌++◌, true, length, map, fold, if◌then◌else◌, [], ◌∷◌};
+ghost use Rattle.std.specs.Prelude.{Some, None, Ok, slice_get, IfOk, IfErr};
 ghost use Rattle.coding.specs.Answers.{EqualOrMemory, fault};
 ghost use Rattle.coding.specs.declared.fault.FaultName.TheVariants.{Memory};
 ghost use Rattle.edit.specs.FilePlaces.{with_place_of};
@@ -57,7 +58,8 @@ impl Files {
     /// many come together.
     pub fn with_all(self, added: Vec<NewFile>) -> Result<Option<Files>, Fault>
         ensures { EqualOrMemory (λ files. files) result
-            (Ok (if are_new self added.items then Some (fold with_file self added.items) else None)) }
+            (Ok (if are_new self added.items then Some (fold with_file self added.items) else
+            None)) }
     {
         let mut places = self.places;
         let wanted = places.len() + added.len();

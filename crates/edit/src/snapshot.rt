@@ -4,7 +4,8 @@ ghost use Rattle.std.specs.Prelude.{◌≡◌, ◌++◌, ℕ, List, map, true, I
 ghost use Rattle.coding.specs.Answers.{fault};
 ghost use Rattle.coding.specs.declared.fault.FaultName.TheVariants.{Memory};
 ghost use Rattle.edit.specs.Version.{are_apart};
-ghost use Rattle.edit.specs.VersionOrder.{in_version_order, files_at, pointer_entry, at_level, added_from};
+ghost use Rattle.edit.specs.VersionOrder.{in_version_order, files_at, pointer_entry, at_level};
+ghost use Rattle.edit.specs.VersionOrder.{added_from};
 
 use crate::files::Files;
 use crate::meta::{CompactPointer, FileMeta, LEVELS, NewFile};
@@ -52,7 +53,8 @@ fn push_level<C: Comparator>(
     level: u64,
 ) -> Result<(), Fault>
     ensures ok { OnOk result (added.new.items ≡
-        added.old.items ++ map (at_level level) (in_version_order C.cmp (files_at files.now level))) }
+        added.old.items
+        ++ map (at_level level) (in_version_order C.cmp (files_at files.now level))) }
     ensures memory { IfErr result (λ e. e ≡ fault Memory) }
 {
     let ordered = ordered_at::<C>(alloc, files, level)?;

@@ -43,7 +43,8 @@ pub struct VersionEdit {
 
 impl VersionEdit {
     ghost use Rattle.edit.specs.Version.{names_another};
-    ghost use Rattle.edit.specs.Edit.{Edit, IsEdit, IsEditRefused, HasValidLevels, HasShortName, edit_in, edit_bytes, settings_of, empty_edit, with_field};
+    ghost use Rattle.edit.specs.Edit.{Edit, IsEdit, IsEditRefused, HasValidLevels, HasShortName};
+    ghost use Rattle.edit.specs.Edit.{edit_in, edit_bytes, settings_of, empty_edit, with_field};
 
     /// The edit that changes nothing.
     pub fn empty(alloc: Global) -> VersionEdit

@@ -50,7 +50,9 @@ fn push_entries(
     requires none { restarts.old.items ≡ [] }
     requires fits { length (block interval entries.now.entries) ≤ 2 ^ 31 }
     ensures bytes { OnOk result (out.new.items
-        ≡ out.old.items ++ flat_map encoded_entry_bytes (encoded_entries_from interval 0 [] entries.now.entries)) }
+        ≡ out.old.items
+        ++ flat_map encoded_entry_bytes
+        (encoded_entries_from interval 0 [] entries.now.entries)) }
     ensures restarts { OnOk result (restarts.new.items
         ≡ restarts_from 0 (encoded_entries_from interval 0 [] entries.now.entries)) }
     ensures memory { IsOkUnless result (fault Memory) }

@@ -31,7 +31,8 @@ impl<'r, 'a> EntryRef<'r, 'a> {
     /// The `len` entries from `start` on. Takes no memory.
     pub(crate) fn new(start: EntryCursor<'r, 'a>, len: u64) -> EntryRef<'r, 'a>
         requires { len ≤ length start }
-        ensures { result ≡ record { entries = take len start.entry; behind = drop len start.entry } }
+        ensures { result
+            ≡ record { entries = take len start.entry; behind = drop len start.entry } }
     {
         EntryRef { start, len }
     }

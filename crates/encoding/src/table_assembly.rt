@@ -29,7 +29,8 @@ pub fn assemble_table<C: Comparator>(
     requires planned { AllByRecursion (IsPlanned interval) blocks.now }
     requires pieces { flat_map (λ p. p.items) pieces.items
         ≡ stored_blocks interval (parts_of blocks.now) }
-    requires fits { length (table_of_blocks (index_keys C.cmp C.separator_of C.successor_of) interval
+    requires fits { length
+        (table_of_blocks (index_keys C.cmp C.separator_of C.successor_of) interval
         (parts_of blocks.now)) ≤ 2 ^ 30 }
     ensures { EqualOrMemory (λ v. v.items) result
         (Ok (table_of_blocks (index_keys C.cmp C.separator_of C.successor_of) interval

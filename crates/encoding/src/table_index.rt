@@ -24,7 +24,8 @@ pub(crate) fn index_block<C: Comparator>(
     interval: u64,
 ) -> Result<BlockBuilder, Fault>
     requires planned { AllByRecursion (IsPlanned interval) blocks.now }
-    requires fits { length (table_of_blocks (index_keys C.cmp C.separator_of C.successor_of) interval
+    requires fits { length
+        (table_of_blocks (index_keys C.cmp C.separator_of C.successor_of) interval
         (parts_of blocks.now)) ≤ 2 ^ 30 }
     ensures index { IfOk result (λ b. b ≡ record {
       interval = 1;

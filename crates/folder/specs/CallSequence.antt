@@ -5,7 +5,9 @@ use Rattle.folder.specs.Calls.{Call, Done, FolderView, Shows, Step, Tells, Tried
 -- The steps of these calls in their order, up to one that failed, or ended earlier without one.
 abbrev pub AreMade : List Call → List Step → Type 0
 AreMade [] steps = steps ≡ []
-AreMade (call ∷ calls) steps = (steps ≡ []) ⊎ ((steps ≡ Tried call ∷ []) ⊎ ((rest : List Step) × (steps ≡ Done call ∷ rest) × AreMade calls rest))
+AreMade (call ∷ calls) steps = (steps ≡ [])
+    ⊎ ((steps ≡ Tried call ∷ [])
+    ⊎ ((rest : List Step) × (steps ≡ Done call ∷ rest) × AreMade calls rest))
 
 -- The steps of these calls under a function's answer: at Ok all of them were done.
 abbrev pub AreMadeBy : {T E : Type 0} → List Call → List Step → Result T E → Type 0
@@ -18,8 +20,10 @@ ShowsAll [] s last = last ≡ s
 ShowsAll (step ∷ steps) s last = (next : FolderView) × Shows step s next × ShowsAll steps next last
 
 -- what steps change of what a folder tells
-abbrev pub TellsThrough : List Step → (List ℕ → Option (List ℕ) → Type 0) → (List ℕ → Option (List ℕ) → Type 0) → Type 0
-TellsThrough steps old new = (s : FolderView) → Tells old s.files → (last : FolderView) × ShowsAll steps s last × Tells new last.files
+abbrev pub TellsThrough : List Step → (List ℕ → Option (List ℕ) → Type 0) →
+    (List ℕ → Option (List ℕ) → Type 0) → Type 0
+TellsThrough steps old new = (s : FolderView) → Tells old s.files →
+    (last : FolderView) × ShowsAll steps s last × Tells new last.files
 
 -- A function makes these calls in their order, each once and no others, up to one that fails. At Ok
 -- all were done.

@@ -1,5 +1,6 @@
 -- The calls that write to a folder, and what they change.
-use Rattle.std.specs.Prelude.{◌≡◌, ◌⊎◌, ◌↔◌, ℕ, Bool, true, false, if◌then◌else◌, List, Option, Some, None, Result, Ok, Err}
+use Rattle.std.specs.Prelude.{◌≡◌, ◌⊎◌, ◌↔◌, ℕ, Bool, true, false, if◌then◌else◌, List, Option}
+use Rattle.std.specs.Prelude.{Some, None, Result, Ok, Err}
 use Rattle.std.specs.Str.{bytes_eq}
 use Rattle.folder.specs.declared.folder.FolderFault.{FolderFault}
 
@@ -39,19 +40,22 @@ pub record FolderView : Type 0 where
   pub synced : List ℕ → Bool
 
 abbrev pub with_contents : FolderView → List ℕ → Option (List ℕ) → FolderView
-with_contents s name held = record { files = with_value s.files name held; synced = with_value s.synced name false }
+with_contents s name held =
+    record { files = with_value s.files name held; synced = with_value s.synced name false }
 
 abbrev pub with_synced : FolderView → List ℕ → FolderView
 with_synced s name = record { files = s.files; synced = with_value s.synced name true }
 
 abbrev pub with_renamed : FolderView → List ℕ → List ℕ → FolderView
-with_renamed s from to = record { files = with_moved None s.files from to; synced = with_moved false s.synced from to }
+with_renamed s from to =
+    record { files = with_moved None s.files from to; synced = with_moved false s.synced from to }
 
 -- What a step changes if no crash comes. A call that failed may have made a file of any bytes or
 -- none, or renamed one or not.
 abbrev pub Shows : Step → FolderView → FolderView → Type 0
 Shows (Done (Created name bytes)) s next = next ≡ with_contents s name (Some bytes)
-Shows (Tried (Created name bytes)) s next = (held : Option (List ℕ)) × (next ≡ with_contents s name held)
+Shows (Tried (Created name bytes)) s next = (held : Option (List ℕ))
+    × (next ≡ with_contents s name held)
 Shows (Done (Renamed from to)) s next = next ≡ with_renamed s from to
 Shows (Tried (Renamed from to)) s next = (next ≡ s) ⊎ (next ≡ with_renamed s from to)
 Shows (Done (Synced name)) s next = next ≡ with_synced s name
@@ -64,5 +68,7 @@ abbrev pub Tells : (List ℕ → Option (List ℕ) → Type 0) → Files → Typ
 Tells tells files = (name : List ℕ) (held : Option (List ℕ)) → tells name held ↔ (files name ≡ held)
 
 -- What a step changes of what a folder tells. Nothing is said of a folder that tells no files.
-abbrev pub TellsAfter : Step → (List ℕ → Option (List ℕ) → Type 0) → (List ℕ → Option (List ℕ) → Type 0) → Type 0
-TellsAfter step old new = (s : FolderView) → Tells old s.files → (next : FolderView) × Shows step s next × Tells new next.files
+abbrev pub TellsAfter : Step → (List ℕ → Option (List ℕ) → Type 0) →
+    (List ℕ → Option (List ℕ) → Type 0) → Type 0
+TellsAfter step old new = (s : FolderView) → Tells old s.files →
+    (next : FolderView) × Shows step s next × Tells new next.files

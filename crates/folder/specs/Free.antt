@@ -10,6 +10,7 @@ use Rattle.folder.specs.ReadsAs.{IsOneOf}
 -- the name is not CURRENT, not a manifest's of the version, and not one of its tables'
 pub record IsFree (cmp : List ℕ → List ℕ → Ordering) (v : State) (name : List ℕ) : Type 0 where
   pub current : name ≢ codes "CURRENT"
-  pub manifest : (number : ℕ) → number < 2 ^ 64 → is_complete number v ≡ true → name ≢ manifest_name number
+  pub manifest : (number : ℕ) → number < 2 ^ 64 → is_complete number v ≡ true →
+      name ≢ manifest_name number
   pub table : (number : ℕ) → IsOneOf (file_numbers cmp v) number → name ≢ table_name number
   pub old_table : (number : ℕ) → IsOneOf (file_numbers cmp v) number → name ≢ old_table_name number

@@ -1,5 +1,6 @@
 -- What the bytes of a manifest say: a log of edits, which give a version.
-use Rattle.std.specs.Prelude.{◌≡◌, ℕ, nat_lt, Bool, ◌&&◌, false, if◌then◌else◌, List, [], ◌∷◌, ◌++◌, Option, None, is_some, Result, Ok, Err}
+use Rattle.std.specs.Prelude.{◌≡◌, ℕ, nat_lt, Bool, ◌&&◌, false, if◌then◌else◌, List, [], ◌∷◌, ◌++◌}
+use Rattle.std.specs.Prelude.{Option, None, is_some, Result, Ok, Err}
 use Rattle.std.specs.List.{AllZip}
 use Rattle.std.specs.Option.{option_map_or, option_or}
 use Rattle.std.specs.Str.{bytes_eq}
@@ -46,7 +47,8 @@ order_name Shortlex = shortlex_name
 -- the order of a comparator's name, or Comparator if it is neither of the two
 abbrev pub order_named : List ℕ → Result Order Fault
 order_named text =
-    if bytes_eq text bytewise_name then Ok Bytewise else if bytes_eq text shortlex_name then Ok Shortlex else Err (fault name.Comparator)
+    if bytes_eq text bytewise_name then Ok Bytewise else if bytes_eq text shortlex_name then Ok
+    Shortlex else Err (fault name.Comparator)
 
 -- the order of the first name, or Comparator if no edit has one
 abbrev pub order_of : List Edit → Result Order Fault
@@ -55,11 +57,13 @@ order_of edits = option_map_or order_named (first_name edits) (Err (fault name.C
 -- the version after all edits, applied one after the other by the comparator of this name
 abbrev pub version_after_edits : List ℕ → State → List Edit → Result State Fault
 version_after_edits text v [] = Ok v
-version_after_edits text v (e ∷ edits) = applied_by text v e >>= λ w. version_after_edits text w edits
+version_after_edits text v (e ∷ edits) = applied_by text v e >>=
+    λ w. version_after_edits text w edits
 
 -- whether log number, last sequence and next file were set, and this number is below next file
 abbrev pub is_complete : ℕ → State → Bool
-is_complete number v = is_some v.log_number && is_some v.last_sequence && option_map_or (nat_lt number) v.next_file false
+is_complete number v = is_some v.log_number && is_some v.last_sequence
+    && option_map_or (nat_lt number) v.next_file false
 
 -- the order and the version that the edits of the manifest of this number give, or Apply if the
 -- version isn't complete

@@ -1,9 +1,12 @@
 -- Opening a folder: what is read in which order, and how failures of the device are answered.
-use Rattle.std.specs.Prelude.{◌≡◌, ◌⊎◌, ℕ, ◌<◌, List, codes, Option, Some, None, Result, Ok, Err, IsErrOf}
+use Rattle.std.specs.Prelude.{◌≡◌, ◌⊎◌, ℕ, ◌<◌, List, codes, Option, Some, None, Result, Ok, Err}
+use Rattle.std.specs.Prelude.{IsErrOf}
 use Rattle.coding.specs.Answers.{UnlessMemory, fault, IsThen}
 use Rattle.coding.specs.declared.fault.Fault.{Fault}
 use Rattle.coding.specs.declared.fault.FaultName.{FaultName}
-use Rattle.coding.specs.declared.fault.FaultName.TheVariants.{LogChecksum, LogShape, EditTag, EditField, Comparator, Apply, Device, Missing}
+use Rattle.coding.specs.declared.fault.FaultName.TheVariants.{LogChecksum, LogShape, EditTag}
+use Rattle.coding.specs.declared.fault.FaultName.TheVariants.{EditField, Comparator, Apply, Device}
+use Rattle.coding.specs.declared.fault.FaultName.TheVariants.{Missing}
 use Rattle.edit.specs.Version.{State}
 use Rattle.folder.specs.Folder.{DeviceFailed}
 use Rattle.folder.specs.Manifest.{IsManifestAnswer}
@@ -24,9 +27,11 @@ StopsAtDevice before now result = before < now → IsErrOf result (fault Device)
 
 -- A call on a folder has this answer, seen by view, or Device if the device failed during the call.
 -- Memory aside. The count of failures was `before`, and is `now` after the call.
-abbrev pub FolderAnswers : {X Y : Type 0} → (X → Y) → ℕ → ℕ → Result X Fault → (Result Y Fault → Type 0) → Type 0
+abbrev pub FolderAnswers : {X Y : Type 0} → (X → Y) → ℕ → ℕ → Result X Fault →
+    (Result Y Fault → Type 0) → Type 0
 FolderAnswers view before now (Ok x) IsAnswer = IsAnswer (Ok (view x))
-FolderAnswers view before now (Err e) IsAnswer = UnlessMemory e (IsStopped before now e ⊎ IsAnswer (Err e))
+FolderAnswers view before now (Err e) IsAnswer =
+    UnlessMemory e (IsStopped before now e ⊎ IsAnswer (Err e))
 
 -- the bytes under a name, or Missing if there is no file
 abbrev pub IsHeld : (List ℕ → Option (List ℕ) → Type 0) → List ℕ → Result (List ℕ) Fault → Type 0

@@ -7,7 +7,8 @@ use Rattle.folder.specs.declared.folder.Folder.{Ghosts}
 
 -- Device is answered only if the device failed during the call. If the count of failures rose,
 -- Device is the answer. The count never falls.
-pub record ReportsDevice {F X : Type 0} (g : Ghosts F) (old new : F) (result : Result X Fault) : Type 0 where
+pub record ReportsDevice {F X : Type 0} (g : Ghosts F) (old new : F) (result : Result X Fault)
+    : Type 0 where
   pub device : IfErr result (HasDeviceFailed (g.failed old) (g.failed new))
   pub at_once : StopsAtDevice (g.failed old) (g.failed new) result
   pub later : g.failed old ≤ g.failed new

@@ -29,7 +29,8 @@ use std::alloc::Global;
 /// A previous log number that was never set stays unset. If the device fails a call, the answer is
 /// Device and no further call is made. Memory may come at any point.
 pub fn open<F: Folder>(alloc: Global, folder: &mut F) -> Result<(Order, Version), Fault>
-    ensures answer { FolderAnswers (λ r. (r.0, r.1)) (F.failed folder.old) (F.failed folder.new) result (IsOpened (F.tells folder.old)) }
+    ensures answer { FolderAnswers (λ r. (r.0, r.1)) (F.failed folder.old) (F.failed folder.new)
+        result (IsOpened (F.tells folder.old)) }
     ensures device { ReportsDevice F.Folder folder.old folder.new result }
     ensures reads { OnlyReads F.Folder folder.old folder.new }
 {
@@ -42,7 +43,8 @@ pub fn open<F: Folder>(alloc: Global, folder: &mut F) -> Result<(Order, Version)
 
 /// The bytes of a file. Missing if no file has this `name`.
 pub(crate) fn held<F: Folder>(folder: &mut F, name: &str) -> Result<Vec<u8>, Fault>
-    ensures answer { FolderAnswers (λ v. v.items) (F.failed folder.old) (F.failed folder.new) result (IsHeld (F.tells folder.old) name.now) }
+    ensures answer { FolderAnswers (λ v. v.items) (F.failed folder.old) (F.failed folder.new) result
+        (IsHeld (F.tells folder.old) name.now) }
     ensures device { ReportsDevice F.Folder folder.old folder.new result }
     ensures reads { OnlyReads F.Folder folder.old folder.new }
 {

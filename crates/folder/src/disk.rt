@@ -62,8 +62,10 @@ impl<'r, R: Files + AllocGlobal + WholeFiles + Threads> Disk<'r, R> {
     /// A table that can't be read now, for whatever reason, is read when it is asked for. After a
     /// file was made or renamed, all of them are.
     pub fn read_ahead(&mut self, order: Order, version: &Version)
-        ensures failed { ⟦<Disk<'r, R> as Folder>⟧.failed self.new ≡ ⟦<Disk<'r, R> as Folder>⟧.failed self.old }
-        ensures calls { ⟦<Disk<'r, R> as Folder>⟧.calls self.new ≡ ⟦<Disk<'r, R> as Folder>⟧.calls self.old }
+        ensures failed { ⟦<Disk<'r, R> as Folder>⟧.failed self.new
+            ≡ ⟦<Disk<'r, R> as Folder>⟧.failed self.old }
+        ensures calls { ⟦<Disk<'r, R> as Folder>⟧.calls self.new
+            ≡ ⟦<Disk<'r, R> as Folder>⟧.calls self.old }
     {
         let alloc = self.rt.alloc();
         if let Ok(mut files) = tables_ahead(alloc, order, version) {
@@ -142,7 +144,8 @@ impl<'r, R: Files + AllocGlobal> Disk<'r, R> {
 
     /// Makes a call that writes, and adds it to the trail.
     fn write(&mut self, call: WriteCall<'_>) -> Result<(), FolderFault>
-        ensures trail { self.new.trail ≡ self.old.trail ++ step_of (call_in call.entry) result ∷ [] }
+        ensures trail { self.new.trail ≡ self.old.trail
+            ++ step_of (call_in call.entry) result ∷ [] }
         ensures failures { self.new.failures ≡ failures_after self.old.failures result }
     {
         let done = done_in(self.rt, self.rt.alloc(), self.path, call);

@@ -6,7 +6,8 @@ ghost use Rattle.coding.specs.declared.fault.FaultName.TheVariants.{Apply};
 ghost use Rattle.logrec.specs.LogReader.{lists, records_of};
 ghost use Rattle.edit.specs.Edit.{HasValidLevels, edit_in};
 ghost use Rattle.edit.specs.Version.{empty_state};
-ghost use Rattle.folder.specs.Manifest.{IsEditsAnswer, IsManifestAnswer, is_complete, order_name, order_of, version_after_edits, version_from};
+ghost use Rattle.folder.specs.Manifest.{IsEditsAnswer, IsManifestAnswer, is_complete, order_name};
+ghost use Rattle.folder.specs.Manifest.{order_of, version_after_edits, version_from};
 
 use crate::order::Order;
 use coding::{Fault, FaultName};
@@ -40,7 +41,8 @@ pub(crate) fn version_in(
 
 /// The edits that `records` read as, or the refusal of the first that is no edit.
 fn edits_in(alloc: Global, records: &[Vec<u8>]) -> Result<Vec<VersionEdit>, Fault>
-    ensures answer { HoldsOrMemory (λ v. map edit_in v.items) result (IsEditsAnswer (lists records.now)) }
+    ensures answer { HoldsOrMemory (λ v. map edit_in v.items) result
+        (IsEditsAnswer (lists records.now)) }
     ensures levels { IfOk result (λ v. All (λ e. HasValidLevels (edit_in e)) v.items) }
 {
     let mut edits = Vec::new(alloc);
@@ -70,7 +72,8 @@ fn version_from(
     edits: Vec<VersionEdit>,
 ) -> Result<(Order, Version), Fault>
     requires { All (λ e. HasValidLevels (edit_in e)) edits.items }
-    ensures { EqualOrMemory (λ r. (r.0, r.1)) result (version_from number (map edit_in edits.items)) }
+    ensures { EqualOrMemory (λ r. (r.0, r.1)) result
+        (version_from number (map edit_in edits.items)) }
 {
     let order = order_in(&edits)?;
     let version = version_by(alloc, order, edits)?;
@@ -84,7 +87,8 @@ fn version_from(
 /// The version after all `edits`, by the comparator of `order`.
 fn version_by(alloc: Global, order: Order, edits: Vec<VersionEdit>) -> Result<Version, Fault>
     requires { All (λ e. HasValidLevels (edit_in e)) edits.items }
-    ensures { EqualOrMemory (λ v. v) result (version_after_edits (order_name order) empty_state (map edit_in edits.items)) }
+    ensures { EqualOrMemory (λ v. v) result
+        (version_after_edits (order_name order) empty_state (map edit_in edits.items)) }
 {
     match order {
         Order::Bytewise => version_after::<Bytewise>(alloc, edits),
@@ -95,7 +99,8 @@ fn version_by(alloc: Global, order: Order, edits: Vec<VersionEdit>) -> Result<Ve
 /// The version after all `edits`, applied one after the other.
 fn version_after<C: Comparator>(alloc: Global, edits: Vec<VersionEdit>) -> Result<Version, Fault>
     requires { All (λ e. HasValidLevels (edit_in e)) edits.items }
-    ensures { EqualOrMemory (λ v. v) result (version_after_edits C.name_bytes empty_state (map edit_in edits.items)) }
+    ensures { EqualOrMemory (λ v. v) result
+        (version_after_edits C.name_bytes empty_state (map edit_in edits.items)) }
 {
     let mut version = Version::empty(alloc);
     for edit in edits {

@@ -53,7 +53,8 @@ impl<T: Drop> From<AllocFailed<T>> for FolderFault {
 pub trait Folder {
     ghost use Rattle.std.specs.Prelude.{◌≡◌, ◌∷◌, ◌++◌, [], ℕ, List, Option, IfOk};
     ghost use Rattle.std.specs.Option.{option_map};
-    ghost use Rattle.folder.specs.Calls.{Step, step_of, Created, Synced, Renamed, FolderSynced, TellsAfter};
+    ghost use Rattle.folder.specs.Calls.{Step, step_of, Created, Synced, Renamed, FolderSynced};
+    ghost use Rattle.folder.specs.Calls.{TellsAfter};
     ghost use Rattle.folder.specs.Folder.{TellsSame, failures_after};
 
     /// What the folder tells: whether a read of a name may give these bytes, or None. A folder that
@@ -69,33 +70,40 @@ pub trait Folder {
 
     /// The bytes of a file. None if no file has this name.
     fn read(&mut self, name: &str) -> Result<Option<Vec<u8>>, FolderFault>
-        ensures held { IfOk result (λ held. tells self.old name.now (option_map (λ bytes. bytes.items) held)) }
+        ensures held { IfOk result
+            (λ held. tells self.old name.now (option_map (λ bytes. bytes.items) held)) }
         ensures same { TellsSame (tells self.old) (tells self.new) }
         ensures calls { calls self.new ≡ calls self.old }
         ensures failures { failed self.new ≡ failures_after (failed self.old) result };
 
     /// Makes a file of these bytes. It replaces a file of that name.
     fn create(&mut self, name: &str, bytes: &[u8]) -> Result<(), FolderFault>
-        ensures calls { calls self.new ≡ calls self.old ++ step_of (Created name.now bytes.now) result ∷ [] }
-        ensures change { TellsAfter (step_of (Created name.now bytes.now) result) (tells self.old) (tells self.new) }
+        ensures calls { calls self.new ≡ calls self.old
+            ++ step_of (Created name.now bytes.now) result ∷ [] }
+        ensures change { TellsAfter (step_of (Created name.now bytes.now) result) (tells self.old)
+            (tells self.new) }
         ensures failures { failed self.new ≡ failures_after (failed self.old) result };
 
     /// Writes a file's bytes through to the device.
     fn sync(&mut self, name: &str) -> Result<(), FolderFault>
         ensures calls { calls self.new ≡ calls self.old ++ step_of (Synced name.now) result ∷ [] }
-        ensures change { TellsAfter (step_of (Synced name.now) result) (tells self.old) (tells self.new) }
+        ensures change { TellsAfter (step_of (Synced name.now) result) (tells self.old)
+            (tells self.new) }
         ensures failures { failed self.new ≡ failures_after (failed self.old) result };
 
     /// Renames a file. It replaces a file that has the name `to`.
     fn rename(&mut self, from: &str, to: &str) -> Result<(), FolderFault>
-        ensures calls { calls self.new ≡ calls self.old ++ step_of (Renamed from.now to.now) result ∷ [] }
-        ensures change { TellsAfter (step_of (Renamed from.now to.now) result) (tells self.old) (tells self.new) }
+        ensures calls { calls self.new ≡ calls self.old
+            ++ step_of (Renamed from.now to.now) result ∷ [] }
+        ensures change { TellsAfter (step_of (Renamed from.now to.now) result) (tells self.old)
+            (tells self.new) }
         ensures failures { failed self.new ≡ failures_after (failed self.old) result };
 
     /// Writes the folder's names through to the device.
     fn sync_folder(&mut self) -> Result<(), FolderFault>
         ensures calls { calls self.new ≡ calls self.old ++ step_of FolderSynced result ∷ [] }
-        ensures change { TellsAfter (step_of FolderSynced result) (tells self.old) (tells self.new) }
+        ensures change { TellsAfter (step_of FolderSynced result) (tells self.old)
+            (tells self.new) }
         ensures failures { failed self.new ≡ failures_after (failed self.old) result };
 
     /// How often the device has failed. The count stays at 2^64 - 1.

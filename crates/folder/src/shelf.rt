@@ -60,10 +60,19 @@ impl<'a> Shelf<'a> {
     /// The folder of these files by their names. Of several files of one name the first counts. No
     /// call fails.
     pub fn new(alloc: Global, files: &'a [(&'a str, &'a [u8])]) -> Shelf<'a>
-        ensures tells { Tells (⟦<Shelf<'a> as Folder>⟧.tells result) (files_in (map (λ f. (f.0.now, f.1.now)) files.now)) }
+        ensures tells { Tells (⟦<Shelf<'a> as Folder>⟧.tells result)
+            (files_in (map (λ f. (f.0.now, f.1.now)) files.now)) }
         ensures calls { ⟦<Shelf<'a> as Folder>⟧.calls result ≡ [] }
         ensures failed { ⟦<Shelf<'a> as Folder>⟧.failed result ≡ 0 }
-        ensures none { result ≡ record { start = map (λ f. (f.0.now, f.1.now)) files.now; steps = []; trail = []; calls = 0; failures = 0 } }
+        ensures none { result
+            ≡ record {
+              start = map (λ f. (f.0.now, f.1.now)) files.now;
+              steps = [];
+              trail =
+                  [];
+              calls = 0;
+              failures = 0;
+            } }
     {
         Shelf {
             alloc,
@@ -102,7 +111,8 @@ impl<'a> Shelf<'a> {
 
     /// The bytes under a `name`. None if no file has it.
     pub fn held<'x>(&'x self, name: &'x str) -> Option<&'x [u8]>
-        ensures { ⟦<Shelf<'a> as Folder>⟧.tells self.now name.now (option_map (λ bytes. bytes.now) result) }
+        ensures { ⟦<Shelf<'a> as Folder>⟧.tells self.now name.now
+            (option_map (λ bytes. bytes.now) result) }
     {
         let mut sought = name;
         for step in &self.steps {
@@ -157,9 +167,11 @@ impl<'a> Folder for Shelf<'a> {
 impl<'a> Shelf<'a> {
     /// Makes a call that writes, and adds it to the trail.
     fn write(&mut self, call: WriteCall<'_>) -> Result<(), FolderFault>
-        ensures calls { self.new.trail ≡ self.old.trail ++ step_of (call_in call.entry) result ∷ [] }
+        ensures calls { self.new.trail ≡ self.old.trail
+            ++ step_of (call_in call.entry) result ∷ [] }
         ensures change { (files : Files) →
-            Alters (step_of (call_in call.entry) result) (files_after_steps self.old.steps files) (files_after_steps self.new.steps files) }
+            Alters (step_of (call_in call.entry) result) (files_after_steps self.old.steps files)
+            (files_after_steps self.new.steps files) }
         ensures start { self.new.start ≡ self.old.start }
         ensures failures { self.new.failures ≡ failures_after self.old.failures result }
     {
@@ -172,7 +184,8 @@ impl<'a> Shelf<'a> {
     /// Adds a call that writes to the record. It fails if it is the failing one.
     fn record(&mut self, call: WriteCall<'_>) -> Result<(), FolderFault>
         ensures change { (files : Files) →
-            Alters (step_of (call_in call.entry) result) (files_after_steps self.old.steps files) (files_after_steps self.new.steps files) }
+            Alters (step_of (call_in call.entry) result) (files_after_steps self.old.steps files)
+            (files_after_steps self.new.steps files) }
         ensures start { self.new.start ≡ self.old.start }
         ensures failures { self.new.failures ≡ failures_after self.old.failures result }
         ensures trail { self.new.trail ≡ self.old.trail }
@@ -221,7 +234,8 @@ impl<'a> Shelf<'a> {
 
 /// The bytes of the first file of a `name`.
 fn file_of<'x>(files: &'x [(&'x str, &'x [u8])], name: &str) -> Option<&'x [u8]>
-    ensures { option_map (λ bytes. bytes.now) result ≡ files_in (map (λ f. (f.0.now, f.1.now)) files.now) name.now }
+    ensures { option_map (λ bytes. bytes.now) result
+        ≡ files_in (map (λ f. (f.0.now, f.1.now)) files.now) name.now }
 {
     for (file, bytes) in files {
         if name == *file {
@@ -233,7 +247,8 @@ fn file_of<'x>(files: &'x [(&'x str, &'x [u8])], name: &str) -> Option<&'x [u8]>
 
 /// A copy of a call. If it is half done, the file has the first half of its bytes.
 fn copied(alloc: Global, call: WriteCall<'_>, is_half: bool) -> Result<ShelfCall, AllocError>
-    ensures { IfOk result (λ copy. (files : Files) → Alters (tried_if is_half (call_in call.entry)) files (made_by copy files)) }
+    ensures { IfOk result (λ copy. (files : Files) →
+        Alters (tried_if is_half (call_in call.entry)) files (made_by copy files)) }
 {
     Ok(match call {
         WriteCall::Create(name, bytes) => {

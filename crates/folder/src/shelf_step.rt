@@ -39,7 +39,8 @@ pub(crate) enum Source<'a> {
 impl ShelfStep {
     /// Where the bytes under `name` come from, after this step.
     pub(crate) fn source<'a>(&'a self, name: &'a str) -> Source<'a>
-        ensures { (files : Files) → files_after_step self.now files name.now ≡ from_source files result }
+        ensures { (files : Files) → files_after_step self.now files name.now
+            ≡ from_source files result }
     {
         if !self.is_shown {
             return Source::Name(name);

@@ -31,7 +31,8 @@ pub fn load<C: Comparator, F: Folder>(
     folder: &mut F,
     version: &Version,
 ) -> Result<Vec<(u64, Vec<u8>)>, Fault>
-    ensures answer { FolderAnswers (λ v. map (λ t. (t.0, t.1.items)) v.items) (F.failed folder.old) (F.failed folder.new) result
+    ensures answer { FolderAnswers (λ v. map (λ t. (t.0, t.1.items)) v.items) (F.failed folder.old)
+        (F.failed folder.new) result
         (IsLoaded (F.tells folder.old) (file_numbers C.cmp version.now)) }
     ensures device { ReportsDevice F.Folder folder.old folder.new result }
     ensures reads { OnlyReads F.Folder folder.old folder.new }
@@ -65,7 +66,8 @@ fn tables<F: Folder>(
     folder: &mut F,
     numbers: &[u64],
 ) -> Result<Vec<(u64, Vec<u8>)>, Fault>
-    ensures answer { FolderAnswers (λ v. map (λ t. (t.0, t.1.items)) v.items) (F.failed folder.old) (F.failed folder.new) result
+    ensures answer { FolderAnswers (λ v. map (λ t. (t.0, t.1.items)) v.items) (F.failed folder.old)
+        (F.failed folder.new) result
         (IsLoaded (F.tells folder.old) numbers.now) }
     ensures device { ReportsDevice F.Folder folder.old folder.new result }
     ensures reads { OnlyReads F.Folder folder.old folder.new }
@@ -80,7 +82,8 @@ fn tables<F: Folder>(
 
 /// The bytes of the table of a `number`.
 fn table<F: Folder>(alloc: Global, folder: &mut F, number: u64) -> Result<Vec<u8>, Fault>
-    ensures answer { FolderAnswers (λ v. v.items) (F.failed folder.old) (F.failed folder.new) result (IsTableAnswer (F.tells folder.old) number) }
+    ensures answer { FolderAnswers (λ v. v.items) (F.failed folder.old) (F.failed folder.new) result
+        (IsTableAnswer (F.tells folder.old) number) }
     ensures device { ReportsDevice F.Folder folder.old folder.new result }
     ensures reads { OnlyReads F.Folder folder.old folder.new }
 {
@@ -105,7 +108,8 @@ fn file_numbers<C: Comparator>(alloc: Global, version: &Version) -> Result<Vec<u
 
 /// Appends the numbers of the files.
 fn push_numbers(numbers: &mut Vec<u64>, files: &[&FileMeta]) -> Result<(), Fault>
-    ensures ok { OnOk result (numbers.new.items ≡ numbers.old.items ++ map (λ f. f.now.number) files.now) }
+    ensures ok { OnOk result (numbers.new.items ≡ numbers.old.items
+        ++ map (λ f. f.now.number) files.now) }
     ensures memory { IsOkUnless result (fault Memory) }
 {
     for file in files {

@@ -25,7 +25,8 @@ const ONE_ENTRY: Footer = Footer {
 
 /// The bytes of that footer: the handles, zeros and the magic.
 const FOOTER: &[u8; FOOTER_LEN] =
-    b"\x1a\x08\x27\x16\0\0\0\0\0\0\0\0\0\0\0\0\0\0\0\0\0\0\0\0\0\0\0\0\0\0\0\0\0\0\0\0\0\0\0\0\x57\xfb\x80\x8b\x24\x75\x47\xdb";
+    b"\x1a\x08\x27\x16\0\0\0\0\0\0\0\0\0\0\0\0\0\0\0\0\0\0\0\0\0\0\0\0\0\0\0\0\0\0\0\0\0\0\0\0\x57\
+        \xfb\x80\x8b\x24\x75\x47\xdb";
 
 /// Whether the block's trailer and the footer are written so, one after the other.
 fn are_spelt(alloc: Global) -> bool {

@@ -1,6 +1,7 @@
 -- A footer, the last 48 bytes of a table: the handles of the metaindex and of the index, zeros up
 -- to 40 bytes, and 8 bytes of magic.
-use Rattle.std.specs.Prelude.{◌≡◌, ℕ, ◌-◌, ◌<◌, ◌^◌, nat_eq, not, if◌then◌else◌, List, [], ◌∷◌, ◌++◌, length, take, drop, replicate, Option, Some, Result, Ok, Err}
+use Rattle.std.specs.Prelude.{◌≡◌, ℕ, ◌-◌, ◌<◌, ◌^◌, nat_eq, not, if◌then◌else◌, List, [], ◌∷◌}
+use Rattle.std.specs.Prelude.{◌++◌, length, take, drop, replicate, Option, Some, Result, Ok, Err}
 use Rattle.std.specs.List.{starts_with}
 use Rattle.std.specs.Option.{ok_or}
 use Rattle.coding.specs.Answers.{and_then, fault}
@@ -38,5 +39,6 @@ footer_reading bytes =
 
 -- a footer that was written is read as it was
 abbrev pub FooterLaw : Type 0
-FooterLaw = (f : Footer) → f.metaindex.offset < 2 ^ 64 → f.metaindex.size < 2 ^ 64 → f.index.offset < 2 ^ 64 → f.index.size < 2 ^ 64 →
+FooterLaw = (f : Footer) → f.metaindex.offset < 2 ^ 64 → f.metaindex.size < 2 ^ 64 →
+    f.index.offset < 2 ^ 64 → f.index.size < 2 ^ 64 →
     footer_reading (footer_bytes f) ≡ Ok f

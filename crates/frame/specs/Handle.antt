@@ -26,5 +26,6 @@ handle_reading bytes =
 -- a handle is read exactly if its spelling begins the bytes
 abbrev pub HandleReadLaw : Type 0
 HandleReadLaw = (bytes : List ℕ) (offset size : ℕ) (rest : List ℕ) →
-    (handle_reading bytes ≡ Some (record { handle = record { offset = offset; size = size }; rest = rest })) ↔
+    (handle_reading bytes
+    ≡ Some (record { handle = record { offset = offset; size = size }; rest = rest })) ↔
     ((offset < 2 ^ 64) × (size < 2 ^ 64) × (bytes ≡ handle_bytes offset size ++ rest))

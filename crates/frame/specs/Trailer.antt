@@ -1,7 +1,8 @@
 -- A stored block: its contents, and after them a trailer of 5 bytes. That is the type of the
 -- contents, 0 as they are or 1 compressed by Snappy, and the masked CRC of contents and type, 4
 -- bytes, lowest first.
-use Rattle.std.specs.Prelude.{◌≡◌, ℕ, ◌-◌, ◌<◌, ◌≤◌, ◌==◌, not, if◌then◌else◌, List, [], ◌∷◌, ◌++◌, length, take, drop, slice_index, Result, Ok, Err}
+use Rattle.std.specs.Prelude.{◌≡◌, ℕ, ◌-◌, ◌<◌, ◌≤◌, ◌==◌, not, if◌then◌else◌, List, [], ◌∷◌, ◌++◌}
+use Rattle.std.specs.Prelude.{length, take, drop, slice_index, Result, Ok, Err}
 use Rattle.byteorder.specs.Endian.{little_bytes, little_number}
 use Rattle.coding.specs.Answers.{fault}
 use Rattle.coding.specs.Crc.{crc32c, masked}
@@ -22,7 +23,8 @@ unfoldable pub stored_reading : List ℕ → Result (List ℕ) Fault
 stored_reading bytes =
     let size = length bytes - 5 in
     let kind = slice_index bytes size in
-    if not (little_number 4 (drop (length bytes - 4) bytes) == masked (crc32c (take (length bytes - 4) bytes)))
+    if not (little_number 4 (drop (length bytes - 4) bytes) ==
+    masked (crc32c (take (length bytes - 4) bytes)))
     then Err (fault Trailer)
     else if kind == 1 then Err (fault Compressed)
     else if not (kind == 0) then Err (fault BlockType)
@@ -34,5 +36,6 @@ StoredLaw = (contents : List ℕ) → stored_reading (stored_block contents) ≡
 
 -- contents are read only of the bytes that they are stored as
 abbrev pub OnlyStoredLaw : Type 0
-OnlyStoredLaw = (bytes contents : List ℕ) → 5 ≤ length bytes → ((i : ℕ) → slice_index bytes i < 256) →
+OnlyStoredLaw = (bytes contents : List ℕ) → 5 ≤ length bytes →
+    ((i : ℕ) → slice_index bytes i < 256) →
     stored_reading bytes ≡ Ok contents → bytes ≡ stored_block contents

@@ -41,7 +41,8 @@ impl BlockHandle {
     /// None if the bytes don't begin with two numbers below 2^64, each in its shortest spelling.
     #[tactic(auto, unfolding(crate::specs::Handle::handle_reading))]
     pub fn read(bytes: &[u8]) -> Option<HandleBehind<'_>>
-        ensures { option_map (λ found. record { handle = found.handle; rest = found.rest.now }) result
+        ensures { option_map (λ found. record { handle = found.handle; rest = found.rest.now })
+            result
             ≡ handle_reading bytes.now }
     {
         let (offset, used) = read_u64_varint(bytes)?;

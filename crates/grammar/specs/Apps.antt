@@ -23,11 +23,17 @@ verbose_rule = record (flag_rule (codes "verbose")) { short = Some 118 }
 -- `blocks A B --at HEXKEY OUT`
 abbrev pub blocks_app : App
 blocks_app =
-    with_rule (with_rule (with_rule (with_rule (new_app (codes "blocks")) (required_argument (codes "A"))) (required_argument (codes "B"))) at_rule) (required_argument (codes "OUT"))
+    with_rule
+    (with_rule (with_rule (with_rule (new_app (codes "blocks")) (required_argument (codes "A")))
+    (required_argument (codes "B"))) at_rule) (required_argument (codes "OUT"))
 
 -- the program: a command must be given, and it tells its version
 abbrev pub bare_app : App
-bare_app = record (new_app (codes "sedvokt")) { top = record (new_app (codes "sedvokt")).top { has_version = true; subcommand_required = true } }
+bare_app =
+    record (new_app (codes "sedvokt")) {
+      top =
+          record (new_app (codes "sedvokt")).top { has_version = true; subcommand_required = true };
+    }
 
 -- `dump TABLE`
 abbrev pub dump_app : App
@@ -35,36 +41,53 @@ dump_app = with_rule (new_app (codes "dump")) (required_argument (codes "TABLE")
 
 -- a command on a folder, as `verify DIR [-v]`
 abbrev pub folder_app : Text → App
-folder_app name = with_rule (with_rule (new_app name) (required_argument (codes "DIR"))) verbose_rule
+folder_app name = with_rule (with_rule (new_app name) (required_argument (codes "DIR")))
+    verbose_rule
 
 -- an option that takes a number of 64 bits, as `--at N`
 abbrev pub number_rule : Text → Rule
-number_rule id = record (new_rule id) { long = Some id; value_names = 1; parser = Some (parser.Unsigned 0 18446744073709551615) }
+number_rule id =
+    record (new_rule id) {
+      long = Some id;
+      value_names = 1;
+      parser =
+          Some (parser.Unsigned 0 18446744073709551615);
+    }
 
 -- `get DIR HEXKEY [--at N] [-v]`
 abbrev pub get_app : App
 get_app =
-    with_rule (with_rule (with_rule (with_rule (new_app (codes "get")) (required_argument (codes "DIR"))) (required_argument (codes "HEXKEY"))) (number_rule (codes "at")))
+    with_rule
+    (with_rule (with_rule (with_rule (new_app (codes "get")) (required_argument (codes "DIR")))
+    (required_argument (codes "HEXKEY"))) (number_rule (codes "at")))
     verbose_rule
 
 -- `--snapshots S,S,..`
 abbrev pub snapshots_rule : Rule
-snapshots_rule = record (new_rule (codes "snapshots")) { long = Some (codes "snapshots"); value_names = 1 }
+snapshots_rule =
+    record (new_rule (codes "snapshots")) { long = Some (codes "snapshots"); value_names = 1 }
 
 -- `[--snapshot S] [--snapshots S,S,..] [--block-size B] [--file-size F]`, after what a command has
 abbrev pub with_outputs : App → App
 with_outputs app =
-    with_rule (with_rule (with_rule (with_rule app (number_rule (codes "snapshot"))) snapshots_rule) (number_rule (codes "block-size")))
+    with_rule (with_rule (with_rule (with_rule app (number_rule (codes "snapshot"))) snapshots_rule)
+    (number_rule (codes "block-size")))
     (number_rule (codes "file-size"))
 
 -- `DIR [--level N] [--all]`, after what a command has
 abbrev pub with_levels : App → App
-with_levels app = with_rule (with_rule (with_rule app (required_argument (codes "DIR"))) (number_rule (codes "level"))) (flag_rule (codes "all"))
+with_levels app =
+    with_rule
+    (with_rule (with_rule app (required_argument (codes "DIR"))) (number_rule (codes "level")))
+    (flag_rule (codes "all"))
 
 -- `[--workers W] [--ranges R] [-v] [--explain]`, after what a command has
 abbrev pub with_work : App → App
 with_work app =
-    with_rule (with_rule (with_rule (with_rule app (number_rule (codes "workers"))) (number_rule (codes "ranges"))) verbose_rule) (flag_rule (codes "explain"))
+    with_rule
+    (with_rule
+    (with_rule (with_rule app (number_rule (codes "workers"))) (number_rule (codes "ranges")))
+    verbose_rule) (flag_rule (codes "explain"))
 
 -- `compact DIR [--level N] [--all] [--workers W] [--ranges R] [-v] [--explain] [--snapshot S]
 -- [--snapshots S,S,..] [--block-size B] [--file-size F]`
@@ -74,7 +97,8 @@ compact_app = with_outputs (with_work (with_levels (new_app (codes "compact"))))
 -- the app with `blocks`, `dump` and `manifest`
 abbrev pub with_files_shown : App → App
 with_files_shown app =
-    with_subcommand (with_subcommand (with_subcommand app blocks_app.top) dump_app.top) (folder_app (codes "manifest")).top
+    with_subcommand (with_subcommand (with_subcommand app blocks_app.top) dump_app.top)
+    (folder_app (codes "manifest")).top
 
 -- the program with its commands
 abbrev pub program_app : App

@@ -11,7 +11,8 @@ IsCommand app command = (app_of command ≡ app) × ((out-Command command).has_g
 -- the new command is the old one changed in this way, and no new argument is one of all its
 -- subcommands
 abbrev pub Extends : (App → App) → Command → Command → Type 0
-Extends change old new = (app_of new ≡ change (app_of old)) × ((out-Command new).has_globals ≡ (out-Command old).has_globals)
+Extends change old new = (app_of new ≡ change (app_of old))
+    × ((out-Command new).has_globals ≡ (out-Command old).has_globals)
 
 -- with one more argument
 abbrev pub with_argument : Rule → App → App

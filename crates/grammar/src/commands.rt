@@ -3,7 +3,10 @@
 ghost use Rattle.std.specs.Prelude.{◌≡◌, IfOk};
 ghost use Rattle.clap.specs.Words.{App, app_of, new_app, with_subcommand};
 ghost use Rattle.grammar.specs.Commands.{Extends, IsCommand, with_argument};
-ghost use Rattle.grammar.specs.Apps.{at_rule, bare_app, blocks_app, compact_app, dump_app, flag_rule, folder_app, get_app, number_rule, program_app, snapshots_rule, verbose_rule, required_argument, with_levels, with_outputs, with_work};
+ghost use Rattle.grammar.specs.Apps.{at_rule, bare_app, blocks_app, compact_app, dump_app};
+ghost use Rattle.grammar.specs.Apps.{flag_rule, folder_app, get_app, number_rule, program_app};
+ghost use Rattle.grammar.specs.Apps.{snapshots_rule, verbose_rule, required_argument, with_levels};
+ghost use Rattle.grammar.specs.Apps.{with_outputs, with_work};
 
 use clap::{Arg, ArgAction, Command, value_parser};
 use std::alloc::{AllocError, Global};
@@ -44,13 +47,16 @@ const COMPACT_ABOUT: &str =
 const LEVEL_HELP: &str = "The level: 0 to 5";
 
 const ALL_HELP: &str =
-    "All levels: each that has files, from 0 down, again and again until all files are at the deepest one";
+    "All levels: each that has files, from 0 down, again and again until all files are at the \
+        deepest one";
 
 const VERBOSE_HELP: &str =
-    "Tells on the standard error how long the work took, which file was refused and why, and of a log with writes";
+    "Tells on the standard error how long the work took, which file was refused and why, and of a \
+        log with writes";
 
 const EXPLAIN_HELP: &str =
-    "Tells on the standard error, behind the lines of each compaction, how it went: inputs, ranges, what was kept and dropped, and outputs, with bars";
+    "Tells on the standard error, behind the lines of each compaction, how it went: inputs, ranges, \
+        what was kept and dropped, and outputs, with bars";
 
 const BLOCKS_EXAMPLE: &str = "Example: sedvokt blocks A B --at 6b3130 OUT";
 
@@ -74,17 +80,21 @@ const RANGES_HELP: &str =
 const SNAPSHOT_HELP: &str = "The oldest snapshot: each get at this sequence or a later one stays";
 
 const SNAPSHOTS_HELP: &str =
-    "The snapshots, as 3,7,9: each get at one of them stays, and at the last sequence or a later one";
+    "The snapshots, as 3,7,9: each get at one of them stays, and at the last sequence or a later \
+        one";
 
 const BLOCK_SIZE_HELP: &str =
-    "A data block ends with the entry that makes it so many bytes long: 1 to 4194304; 4096 where it is left out";
+    "A data block ends with the entry that makes it so many bytes long: 1 to 4194304; 4096 where it \
+        is left out";
 
 const FILE_SIZE_HELP: &str =
-    "A file ends with the entry at which its blocks are so many bytes long: 1 to 1073741824; 2097152 where it is left out";
+    "A file ends with the entry at which its blocks are so many bytes long: 1 to 1073741824; \
+        2097152 where it is left out";
 
 const STATUSES: &str =
     "A key is written as hexadecimal digits of either case, two a byte; - is the empty key.
-The status is 0 when the work is done, 1 when it is refused, 2 for a fault of usage and 3 when a device fails.";
+The status is 0 when the work is done, 1 when it is refused, 2 for a fault of usage and 3 when a \
+device fails.";
 
 /// The program with its commands. The only fault is out of memory.
 pub fn program_command<'a>(alloc: Global) -> Result<Command<'a>, AllocError>

@@ -139,15 +139,20 @@ pub const THREADS: &[(Row, &str)] = &[(
 pub const RESTING: &[(Row, &str)] = &[
     (
         Row::Numbers,
-        "read_u32_varint, read_u64_varint\ncrc32c, crc32c_pair, mask, unmask\ncommon_len\nFault: of, code, status\nBytewise, Shortlex: name, compare\nInternalKey: parse, user, sequence, kind, bytes, Kind: number\nInternalKey: compare\nKeyBuf: as_key",
+        "read_u32_varint, read_u64_varint\ncrc32c, crc32c_pair, mask, unmask\ncommon_len\nFault: \
+            of, code, status\nBytewise, Shortlex: name, compare\nInternalKey: parse, user, \
+            sequence, kind, bytes, Kind: number\nInternalKey: compare\nKeyBuf: as_key",
     ),
     (
         Row::RestingBlocks,
-        "block::check, reopen, SoundBlock: copy, restarts\nBlockCursor: none, valid, key, value, is_last\nBlockBuilder: new, is_empty, estimate, last_key\nTableBuilder: new, flushed, is_above_last",
+        "block::check, reopen, SoundBlock: copy, restarts\nBlockCursor: none, valid, key, value, \
+            is_last\nBlockBuilder: new, is_empty, estimate, last_key\nTableBuilder: new, flushed, \
+            is_above_last",
     ),
     (
         Row::RestingTables,
-        "BlockHandle::read\nSoundTable: bytes, smallest, largest\nTableCursor: valid, key, value, least_place\nMerging: valid, key, value, place",
+        "BlockHandle::read\nSoundTable: bytes, smallest, largest\nTableCursor: valid, key, value, \
+            least_place\nMerging: valid, key, value, place",
     ),
     (
         Row::Rules,
@@ -155,7 +160,8 @@ pub const RESTING: &[(Row, &str)] = &[
     ),
     (
         Row::Plans,
-        "RangeRun: len, key, value, marks\nSplit: from_keys, len, range\nPlan: is_empty, jobs, len, output",
+        "RangeRun: len, key, value, marks\nSplit: from_keys, len, range\nPlan: is_empty, jobs, len, \
+            output",
     ),
     (
         Row::Versions,

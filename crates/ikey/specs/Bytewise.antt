@@ -1,5 +1,6 @@
 -- The order of user keys as unsigned bytes, its separator and its successor.
-use Rattle.std.specs.Prelude.{codes, ℕ, ◌+◌, nat_eq, nat_lt, ◌&&◌, if◌then◌else◌, List, [], ◌∷◌, ◌++◌, length, take, slice_index}
+use Rattle.std.specs.Prelude.{codes, ℕ, ◌+◌, nat_eq, nat_lt, ◌&&◌, if◌then◌else◌, List, [], ◌∷◌}
+use Rattle.std.specs.Prelude.{◌++◌, length, take, slice_index}
 use Rattle.std.specs.List.{common_prefix_len, prefix_len}
 use Rattle.std.specs.Ordering.{nat_cmp}
 use Rattle.std.specs.Cmp.Lexicographic.{slice_cmp}
@@ -22,7 +23,8 @@ raised_at d key = take d key ++ (slice_index key d + 1) ∷ []
 unfoldable pub bytewise_separator : List ℕ → List ℕ → List ℕ
 bytewise_separator start limit =
     let d = common_prefix_len nat_eq start limit in
-    if nat_lt d (length start) && nat_lt (slice_index start d) 255 && nat_lt (slice_index start d + 1) (slice_index limit d)
+    if nat_lt d (length start) && nat_lt (slice_index start d) 255
+    && nat_lt (slice_index start d + 1) (slice_index limit d)
     then raised_at d start
     else start
 

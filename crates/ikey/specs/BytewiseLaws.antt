@@ -1,5 +1,7 @@
 -- That the order of user keys as unsigned bytes is a comparator.
-use Rattle.std.specs.Prelude.{◌≡◌, ◌≢◌, ◌<◌, ℕ, zero, suc, ◌+◌, Bool, true, false, cond, ◌&&◌, if◌then◌else◌, nat_eq, nat_lt, List, [], ◌∷◌, length, slice_index, refl}
+use Rattle.std.specs.Prelude.{◌≡◌, ◌≢◌, ◌<◌, ℕ, zero, suc, ◌+◌, Bool, true, false, cond, ◌&&◌}
+use Rattle.std.specs.Prelude.{if◌then◌else◌, nat_eq, nat_lt, List, [], ◌∷◌, length, slice_index}
+use Rattle.std.specs.Prelude.{refl}
 use Rattle.std.specs.List.{common_prefix_len}
 use Rattle.std.specs.Cmp.{nat_cmp_is}
 use Rattle.std.specs.Cmp.Lexicographic.{slice_cmp}
@@ -8,7 +10,8 @@ use Rattle.std.specs.declared.cmp.Ordering.TheVariants.{Less, Equal, Greater}
 use Rattle.std.proofs.Common.{ap, sym, ◌∙◌, arith}
 use Rattle.std.proofs.lemmas.Cmp.{nat_list_cmp_total, tied_itself}
 use Rattle.std.proofs.lemmas.Map.Lookups.{exact_bytes}
-use Rattle.ikey.specs.Bytewise.{bytewise_cmp, bytewise_separator, bytewise_successor, first_raisable, raised_at}
+use Rattle.ikey.specs.Bytewise.{bytewise_cmp, bytewise_separator, bytewise_successor}
+use Rattle.ikey.specs.Bytewise.{first_raisable, raised_at}
 use Rattle.ikey.specs.Comparator.{IsBetween, IsExact, Separates, Succeeds}
 use borrow.Author.Tests.{eqb-true, ltb-true}
 
@@ -22,20 +25,26 @@ nat_same : (x y : ℕ) → x ≡ y → nat_cmp x y ≡ Equal
 nat_same x y h = sym (nat_cmp_is x y Equal h)
 
 -- a raised byte makes a key greater
-pub raised_at-above : (key : List ℕ) (d : ℕ) → d < length key → bytewise_cmp key (raised_at d key) ≡ Less
+pub raised_at-above : (key : List ℕ) (d : ℕ) → d < length key → bytewise_cmp key (raised_at d key)
+    ≡ Less
 raised_at-above [] d h = absurd (omega arith)
 raised_at-above (x ∷ xs) zero h =
     ap (λ o. ordering_then o (slice_cmp nat_cmp xs [])) (nat_less x (x + 1) (omega arith))
 raised_at-above (x ∷ xs) (suc d) h =
-    ap (λ o. ordering_then o (slice_cmp nat_cmp xs (raised_at d xs))) (nat_same x x refl) ∙ raised_at-above xs d (omega arith)
+    ap (λ o. ordering_then o (slice_cmp nat_cmp xs (raised_at d xs))) (nat_same x x refl) ∙
+    raised_at-above xs d (omega arith)
 
 -- if the first difference is after the first byte, the first bytes are the same
-shared_front : (x y : ℕ) (xs ys : List ℕ) (d : ℕ) (same : Bool) → nat_eq x y ≡ same → suc d ≡ cond same (1 + common_prefix_len nat_eq xs ys) 0 → (x ≡ y) × (d ≡ common_prefix_len nat_eq xs ys)
+shared_front : (x y : ℕ) (xs ys : List ℕ) (d : ℕ) (same : Bool) → nat_eq x y ≡ same →
+    suc d ≡ cond same (1 + common_prefix_len nat_eq xs ys) 0 →
+    (x ≡ y) × (d ≡ common_prefix_len nat_eq xs ys)
 shared_front x y xs ys d true p e = (eqb-true x y p, omega arith)
 shared_front x y xs ys d false p e = absurd (omega arith)
 
 -- a key raised at the first difference is below the limit if its raised byte is
-pub raised_at-below : (start limit : List ℕ) (d : ℕ) → d ≡ common_prefix_len nat_eq start limit → d < length start → slice_index start d + 1 < slice_index limit d → bytewise_cmp (raised_at d start) limit ≡ Less
+pub raised_at-below : (start limit : List ℕ) (d : ℕ) → d ≡ common_prefix_len nat_eq start limit →
+    d < length start → slice_index start d + 1 < slice_index limit d →
+    bytewise_cmp (raised_at d start) limit ≡ Less
 raised_at-below [] limit d e h k = absurd (omega arith)
 raised_at-below (x ∷ xs) [] d e h k = absurd (omega arith)
 raised_at-below (x ∷ xs) (y ∷ ys) zero e h k =
@@ -52,15 +61,20 @@ not_above_itself : (a : List ℕ) → bytewise_cmp a a ≢ Greater
 not_above_itself a e =
     let both : Equal ≡ Greater = sym (tied_itself nat_list_cmp_total a) ∙ e in cc
 
-stays_between : (start limit : List ℕ) → bytewise_cmp start limit ≡ Less → IsBetween bytewise_cmp start limit start
+stays_between : (start limit : List ℕ) → bytewise_cmp start limit ≡ Less →
+    IsBetween bytewise_cmp start limit start
 stays_between start limit h = record { at_least = not_above_itself start; below = h }
 
-separated : (start limit : List ℕ) (d : ℕ) (a b c : Bool) → d ≡ common_prefix_len nat_eq start limit → nat_lt d (length start) ≡ a → nat_lt (slice_index start d + 1) (slice_index limit d) ≡ c → bytewise_cmp start limit ≡ Less → IsBetween bytewise_cmp start limit (if a && b && c then raised_at d start else start)
+separated : (start limit : List ℕ) (d : ℕ) (a b c : Bool) →
+    d ≡ common_prefix_len nat_eq start limit → nat_lt d (length start) ≡ a →
+    nat_lt (slice_index start d + 1) (slice_index limit d) ≡ c → bytewise_cmp start limit ≡ Less →
+    IsBetween bytewise_cmp start limit (if a && b && c then raised_at d start else start)
 separated start limit d true true true e p r h =
     let inside : d < length start = ltb-true d (length start) p in
     record {
       at_least = not_above start (raised_at d start) (raised_at-above start d inside);
-      below = raised_at-below start limit d e inside (ltb-true (slice_index start d + 1) (slice_index limit d) r);
+      below = raised_at-below start limit d e inside
+          (ltb-true (slice_index start d + 1) (slice_index limit d) r);
     }
 separated start limit d true true false e p r h = stays_between start limit h
 separated start limit d true false c e p r h = stays_between start limit h
@@ -70,12 +84,16 @@ pub bytewise_between : Separates bytewise_cmp bytewise_separator
 unfolding bytewise_separator
 bytewise_between start limit h =
     let d = common_prefix_len nat_eq start limit in
-    separated start limit d (nat_lt d (length start)) (nat_lt (slice_index start d) 255) (nat_lt (slice_index start d + 1) (slice_index limit d)) refl refl refl h
+    separated start limit d (nat_lt d (length start)) (nat_lt (slice_index start d) 255)
+    (nat_lt (slice_index start d + 1) (slice_index limit d)) refl refl refl h
 
-succeeded : (key : List ℕ) (d : ℕ) (a : Bool) → nat_lt d (length key) ≡ a → bytewise_cmp key (if a then raised_at d key else key) ≢ Greater
-succeeded key d true p = not_above key (raised_at d key) (raised_at-above key d (ltb-true d (length key) p))
+succeeded : (key : List ℕ) (d : ℕ) (a : Bool) → nat_lt d (length key) ≡ a →
+    bytewise_cmp key (if a then raised_at d key else key) ≢ Greater
+succeeded key d true p =
+    not_above key (raised_at d key) (raised_at-above key d (ltb-true d (length key) p))
 succeeded key d false p = not_above_itself key
 
 pub bytewise_above : Succeeds bytewise_cmp bytewise_successor
 unfolding bytewise_successor
-bytewise_above key = succeeded key (first_raisable key) (nat_lt (first_raisable key) (length key)) refl
+bytewise_above key = succeeded key (first_raisable key) (nat_lt (first_raisable key) (length key))
+    refl

@@ -15,7 +15,8 @@ pub record IsBetween (cmp : List ℕ → List ℕ → Ordering) (start limit mid
 -- each separator of start and limit is at least start, and below limit, if start is below limit
 abbrev pub Separates : (List ℕ → List ℕ → Ordering) → (List ℕ → List ℕ → List ℕ) → Type 0
 Separates cmp separator_of =
-    (start limit : List ℕ) → cmp start limit ≡ Less → IsBetween cmp start limit (separator_of start limit)
+    (start limit : List ℕ) → cmp start limit ≡ Less →
+    IsBetween cmp start limit (separator_of start limit)
 
 -- each successor of a key is at least the key
 abbrev pub Succeeds : (List ℕ → List ℕ → Ordering) → (List ℕ → List ℕ) → Type 0

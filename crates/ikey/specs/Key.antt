@@ -1,5 +1,6 @@
 -- Internal keys: a user key, and then the fixed64 of sequence * 256 + the number of the type.
-use Rattle.std.specs.Prelude.{◌≡◌, ℕ, ◌+◌, ◌*◌, ◌-◌, ◌/◌, ◌%◌, ◌≤◌, ◌<◌, nat_lt, nat_eq, if◌then◌else◌, List, ◌++◌, length, take, drop, Result, Ok, Err}
+use Rattle.std.specs.Prelude.{◌≡◌, ℕ, ◌+◌, ◌*◌, ◌-◌, ◌/◌, ◌%◌, ◌≤◌, ◌<◌, nat_lt, nat_eq}
+use Rattle.std.specs.Prelude.{if◌then◌else◌, List, ◌++◌, length, take, drop, Result, Ok, Err}
 use Rattle.byteorder.specs.Endian.{little_number, little_bytes}
 use Rattle.coding.specs.Answers.{fault}
 use Rattle.coding.specs.declared.fault.Fault.{Fault}

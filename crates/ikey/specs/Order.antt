@@ -8,4 +8,5 @@ use Rattle.ikey.specs.Key.{user_of, sequence_of, kind_of, kind_number}
 unfoldable pub internal_cmp : (List ℕ → List ℕ → Ordering) → List ℕ → List ℕ → Ordering
 internal_cmp cmp a b =
     ordering_then (cmp (user_of a) (user_of b))
-    (ordering_then (nat_cmp (sequence_of b) (sequence_of a)) (nat_cmp (kind_number (kind_of b)) (kind_number (kind_of a))))
+    (ordering_then (nat_cmp (sequence_of b) (sequence_of a))
+    (nat_cmp (kind_number (kind_of b)) (kind_number (kind_of a))))

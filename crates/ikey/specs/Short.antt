@@ -14,10 +14,13 @@ shortened_key cmp key short =
     else key
 
 -- a if the user keys are equal, else a shortened by the separator of the user keys
-unfoldable pub internal_separator_of : (List ℕ → List ℕ → Ordering) → (List ℕ → List ℕ → List ℕ) → List ℕ → List ℕ → List ℕ
+unfoldable pub internal_separator_of : (List ℕ → List ℕ → Ordering) → (List ℕ → List ℕ → List ℕ) →
+    List ℕ → List ℕ → List ℕ
 internal_separator_of cmp separator_of a b =
-    if is_eq (cmp (user_of a) (user_of b)) then a else shortened_key cmp a (separator_of (user_of a) (user_of b))
+    if is_eq (cmp (user_of a) (user_of b)) then a else shortened_key cmp a
+    (separator_of (user_of a) (user_of b))
 
 -- the key shortened by the successor of its user key
-unfoldable pub internal_successor_of : (List ℕ → List ℕ → Ordering) → (List ℕ → List ℕ) → List ℕ → List ℕ
+unfoldable pub internal_successor_of : (List ℕ → List ℕ → Ordering) → (List ℕ → List ℕ) → List ℕ →
+    List ℕ
 internal_successor_of cmp successor_of key = shortened_key cmp key (successor_of (user_of key))

@@ -3,7 +3,8 @@
 ghost use Rattle.std.specs.Prelude.{◌≡◌, ℕ, ◌+◌, ◌<◌, ◌≤◌, List, Ok, length, drop, slice_index};
 ghost use Rattle.byteorder.specs.Endian.{big_number};
 ghost use Rattle.coding.specs.Answers.{EqualOrMemory};
-ghost use Rattle.ikey.specs.Bytewise.{bytewise_name, bytewise_cmp, bytewise_separator, bytewise_successor, first_raisable, raised_at};
+ghost use Rattle.ikey.specs.Bytewise.{bytewise_name, bytewise_cmp, bytewise_separator};
+ghost use Rattle.ikey.specs.Bytewise.{bytewise_successor, first_raisable, raised_at};
 ghost use Rattle.std.proofs.lemmas.Cmp.{nat_list_cmp_total};
 ghost use Rattle.ikey.specs.BytewiseLaws.{bytewise_exact, bytewise_between, bytewise_above};
 

@@ -2,7 +2,8 @@
 
 ghost use Rattle.std.specs.Prelude.{◌≡◌, ℕ, ◌^◌, ◌<◌, ◌≤◌, ◌↔◌, List, length, IsOk};
 ghost use Rattle.std.specs.Result.{result_map_both};
-ghost use Rattle.ikey.specs.Key.{IsInternalKey, internal_key_reading, user_of, tag_of, sequence_of, kind_of};
+ghost use Rattle.ikey.specs.Key.{IsInternalKey, internal_key_reading, user_of, tag_of, sequence_of};
+ghost use Rattle.ikey.specs.Key.{kind_of};
 ghost use Rattle.ikey.specs.Order.{internal_cmp};
 ghost use Rattle.std.specs.Cmp.{IsTotalOrder};
 ghost use Rattle.std.specs.declared.cmp.Ordering.TheVariants.{Equal};
@@ -34,7 +35,8 @@ impl<'a> InternalKey<'a> {
     /// 1. Key: there are fewer than 8 bytes, or the type is neither 0 nor 1.
     /// 2. TooLarge: the user key has more than 65,535 bytes.
     pub fn parse(bytes: &'a [u8]) -> Result<InternalKey<'a>, Fault>
-        ensures reading { result_map_both (λ key. key.bytes.now) (λ e. e) result ≡ internal_key_reading bytes.now }
+        ensures reading { result_map_both (λ key. key.bytes.now) (λ e. e) result
+            ≡ internal_key_reading bytes.now }
         ensures accepted { IsOk result ↔ IsInternalKey bytes.now }
     {
         if bytes.len() < 8 || tag(bytes) % 256 > 1 {

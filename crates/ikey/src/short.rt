@@ -64,7 +64,8 @@ pub fn internal_successor<C: Comparator>(alloc: Global, key: InternalKey) -> Res
 /// greater; else `key`. The only fault is Memory.
 #[tactic(auto, unfolding(crate::specs::Short::shortened_key))]
 fn shorten<C: Comparator>(alloc: Global, key: InternalKey, short: &[u8]) -> Result<KeyBuf, Fault>
-    ensures { EqualOrMemory (λ own. own) result (Ok (shortened_key C.cmp key.entry.bytes.now short.now)) }
+    ensures { EqualOrMemory (λ own. own) result
+        (Ok (shortened_key C.cmp key.entry.bytes.now short.now)) }
 {
     let user = key.user();
     if short.len() < user.len() && C::compare(user, short).is_lt() {

@@ -1,7 +1,9 @@
 //! The order of user keys by length first.
 
-ghost use Rattle.ikey.specs.Shortlex.{shortlex_name, shortlex_cmp, shortlex_separator, shortlex_successor};
-ghost use Rattle.ikey.specs.ShortlexLaws.{shortlex_total, shortlex_exact, shortlex_between, shortlex_above};
+ghost use Rattle.ikey.specs.Shortlex.{shortlex_name, shortlex_cmp, shortlex_separator};
+ghost use Rattle.ikey.specs.Shortlex.{shortlex_successor};
+ghost use Rattle.ikey.specs.ShortlexLaws.{shortlex_total, shortlex_exact, shortlex_between};
+ghost use Rattle.ikey.specs.ShortlexLaws.{shortlex_above};
 
 use crate::comparator::{Comparator, SharedComparator};
 use coding::Fault;

@@ -1,5 +1,6 @@
 -- The calls of an installation, and what they make of a version.
-use Rattle.std.specs.Prelude.{◌≡◌, ◌⊎◌, ◌<◌, ◌≤◌, ℕ, nat_eq, List, [], ◌∷◌, ◌++◌, map, unwrap_or, codes, Some, None, is_some, true, Option, Result, OnOk}
+use Rattle.std.specs.Prelude.{◌≡◌, ◌⊎◌, ◌<◌, ◌≤◌, ℕ, nat_eq, List, [], ◌∷◌, ◌++◌, map, unwrap_or}
+use Rattle.std.specs.Prelude.{codes, Some, None, is_some, true, Option, Result, OnOk}
 use Rattle.std.specs.Global.{Vec}
 use Rattle.std.specs.Map.{lookup}
 use Rattle.std.specs.declared.cmp.Ordering.{Ordering}
@@ -35,7 +36,8 @@ manifest_bytes name cmp v edit = log (edit_bytes (snapshot_of name cmp v) ∷ ed
 
 -- CURRENT's text is made under its temporary name and synced, and the folder is synced
 abbrev pub temporary_calls : ℕ → List Call
-temporary_calls number = write_calls (temporary_name number) (current_text number) ++ FolderSynced ∷ []
+temporary_calls number = write_calls (temporary_name number) (current_text number)
+    ++ FolderSynced ∷ []
 
 -- the temporary name is renamed to CURRENT, and the folder is synced
 abbrev pub current_calls : ℕ → List Call
@@ -44,7 +46,9 @@ current_calls number = Renamed (temporary_name number) (codes "CURRENT") ∷ Fol
 -- The calls of an installation: tables, manifest, CURRENT's text, CURRENT.
 abbrev pub install_calls : ℕ → List (ℕ × List ℕ) → List ℕ → List Call
 install_calls number outputs manifest =
-    table_calls outputs ++ (write_calls (manifest_name number) manifest ++ (temporary_calls number ++ current_calls number))
+    table_calls outputs
+    ++ (write_calls (manifest_name number) manifest
+    ++ (temporary_calls number ++ current_calls number))
 
 -- the numbers of tables
 abbrev pub numbers_of : List (ℕ × List ℕ) → List ℕ
@@ -56,12 +60,15 @@ abbrev pub table_bytes_of : List (ℕ × List ℕ) → ℕ → List ℕ
 table_bytes_of tables number = unwrap_or (lookup (nat_eq number) tables) []
 
 -- the tables of the next version: the outputs, and those of the tables before that stay
-abbrev pub next_version_tables : (List ℕ → List ℕ → Ordering) → State → List (ℕ × List ℕ) → List (ℕ × List ℕ) → List (ℕ × List ℕ)
-next_version_tables cmp next outputs tables = map (λ (n : ℕ). (n, table_bytes_of (outputs ++ tables) n)) (file_numbers cmp next)
+abbrev pub next_version_tables : (List ℕ → List ℕ → Ordering) → State → List (ℕ × List ℕ) →
+    List (ℕ × List ℕ) → List (ℕ × List ℕ)
+next_version_tables cmp next outputs tables =
+    map (λ (n : ℕ). (n, table_bytes_of (outputs ++ tables) n)) (file_numbers cmp next)
 
 -- The outputs and the bytes of an edit make the next version of this one, by a manifest of this
 -- number.
-pub record IsEditedBy (name : List ℕ) (cmp : List ℕ → List ℕ → Ordering) (order : Order) (v : State) (number : ℕ)
+pub record IsEditedBy (name : List ℕ) (cmp : List ℕ → List ℕ → Ordering) (order : Order) (v : State)
+    (number : ℕ)
     (outputs : List (ℕ × List ℕ)) (bytes : List ℕ) (next : State) : Type 0 where
   pub named : order_name order ≡ name
   -- the edit, which names no comparator and sets all counters of a database
@@ -86,23 +93,30 @@ pub record IsEditedBy (name : List ℕ) (cmp : List ℕ → List ℕ → Orderin
   pub manifest_below : number < next_free
 
 -- files that read as the version before or as the next one
-abbrev pub IsBeforeOrAfter : (List ℕ → List ℕ → Ordering) → Order → State → List (ℕ × List ℕ) → State → List (ℕ × List ℕ) → Files → Type 0
-IsBeforeOrAfter cmp order v tables next tables' files = ReadsAs cmp order v tables files ⊎ ReadsAs cmp order next tables' files
+abbrev pub IsBeforeOrAfter : (List ℕ → List ℕ → Ordering) → Order → State → List (ℕ × List ℕ) →
+    State → List (ℕ × List ℕ) → Files → Type 0
+IsBeforeOrAfter cmp order v tables next tables' files = ReadsAs cmp order v tables files
+    ⊎ ReadsAs cmp order next tables' files
 
 -- After these calls from the start, the folder stands for the version and its tables.
-abbrev pub AlwaysStandsAs : (List ℕ → List ℕ → Ordering) → Order → State → List (ℕ × List ℕ) → World → List Step → Type 0
-AlwaysStandsAs cmp order v tables start calls = (w : World) → Leads start calls w → StandsAs cmp order v tables w
+abbrev pub AlwaysStandsAs : (List ℕ → List ℕ → Ordering) → Order → State → List (ℕ × List ℕ) →
+    World → List Step → Type 0
+AlwaysStandsAs cmp order v tables start calls = (w : World) → Leads start calls w →
+    StandsAs cmp order v tables w
 
 -- What an installation of the next version guarantees, of its calls and of what the folder tells
 -- before and after them.
 pub record SurvivesCrash {T E : Type 0} (cmp : List ℕ → List ℕ → Ordering) (order : Order)
     (v : State) (tables : List (ℕ × List ℕ)) (next : State) (tables' : List (ℕ × List ℕ))
-    (before after : List Step) (old new : List ℕ → Option (List ℕ) → Type 0) (result : Result T E) : Type 0 where
+    (before after : List Step) (old new : List ℕ → Option (List ℕ) → Type 0) (result : Result T E)
+    : Type 0 where
   -- if the folder stands for the version, a crash at any moment leaves it or the next version
   pub any_moment : (start : World) → AlwaysStandsAs cmp order v tables start before →
       LeavesOnly start before after (IsBeforeOrAfter cmp order v tables next tables')
   -- then at Ok the folder stands for the next version
-  pub installed : (start : World) → AlwaysStandsAs cmp order v tables start before → OnOk result (AlwaysStandsAs cmp order next tables' start after)
+  pub installed : (start : World) → AlwaysStandsAs cmp order v tables start before →
+      OnOk result (AlwaysStandsAs cmp order next tables' start after)
   -- without a crash the folder reads as one of the two, and at Ok as the next version
   pub read : (files : Files) → Tells old files → ReadsAs cmp order v tables files
-      → (now : Files) × Tells new now × IsBeforeOrAfter cmp order v tables next tables' now × OnOk result (ReadsAs cmp order next tables' now)
+      → (now : Files) × Tells new now × IsBeforeOrAfter cmp order v tables next tables' now
+      × OnOk result (ReadsAs cmp order next tables' now)

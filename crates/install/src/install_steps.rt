@@ -1,6 +1,7 @@
 //! The parts of an installation, of at most four calls each.
 
-ghost use Rattle.std.specs.Prelude.{◌≡◌, ◌∷◌, ◌++◌, [], ◌≤◌, ℕ, List, IfErr, OnOk, codes, string_bytes};
+ghost use Rattle.std.specs.Prelude.{◌≡◌, ◌∷◌, ◌++◌, [], ◌≤◌, ℕ, List, IfErr, OnOk, codes};
+ghost use Rattle.std.specs.Prelude.{string_bytes};
 ghost use Rattle.std.specs.declared.cmp.Ordering.{Ordering};
 ghost use Rattle.edit.specs.Version.{State};
 ghost use Rattle.folder.specs.Calls.{Done, FolderSynced, Renamed};
@@ -13,7 +14,8 @@ ghost use Rattle.coding.specs.Answers.{UnlessMemory};
 ghost use Rattle.folder.specs.CallSequence.{MakesCalls};
 ghost use Rattle.folder.specs.Folder.{failures_after};
 ghost use Rattle.folder.specs.OpenAnswer.{IsStopped, StopsAtDevice};
-ghost use Rattle.install.specs.Install.{AlwaysStandsAs, current_calls, table_calls, tables_in, temporary_calls, write_calls};
+ghost use Rattle.install.specs.Install.{AlwaysStandsAs, current_calls, table_calls, tables_in};
+ghost use Rattle.install.specs.Install.{temporary_calls, write_calls};
 ghost use Rattle.folder.specs.Names.{current_text, temporary_name};
 
 use coding::Fault;
@@ -22,15 +24,19 @@ use std::alloc::Global;
 
 /// Makes a file and syncs it.
 pub(crate) fn write<F: Folder>(folder: &mut F, name: &str, bytes: &[u8]) -> Result<(), FolderFault>
-    ensures runs { MakesCalls (write_calls name.now bytes.now) (F.calls folder.old) (F.calls folder.new) (F.tells folder.old) (F.tells folder.new) result }
+    ensures runs { MakesCalls (write_calls name.now bytes.now) (F.calls folder.old)
+        (F.calls folder.new) (F.tells folder.old) (F.tells folder.new) result }
     // If the name is free, a crash at any moment leaves the version before.
-    ensures before { (cmp : List ℕ → List ℕ → Ordering) (order : Order) (v : State) (tables : List (ℕ × List ℕ)) → IsFree cmp v name.now
+    ensures before { (cmp : List ℕ → List ℕ → Ordering) (order : Order) (v : State)
+        (tables : List (ℕ × List ℕ)) → IsFree cmp v name.now
         → (start : World) → AlwaysStandsAs cmp order v tables start (F.calls folder.old)
         → LeavesOnly start (F.calls folder.old) (F.calls folder.new) (ReadsAs cmp order v tables) }
     // At Ok the folder stands for that version, and the file is written.
-    ensures written { (cmp : List ℕ → List ℕ → Ordering) (order : Order) (v : State) (tables : List (ℕ × List ℕ)) → IsFree cmp v name.now
+    ensures written { (cmp : List ℕ → List ℕ → Ordering) (order : Order) (v : State)
+        (tables : List (ℕ × List ℕ)) → IsFree cmp v name.now
         → (start : World) → AlwaysStandsAs cmp order v tables start (F.calls folder.old)
-        → OnOk result ((w : World) → Leads start (F.calls folder.new) w → StandsAs cmp order v tables w × IsWritten w (name.now, bytes.now)) }
+        → OnOk result ((w : World) → Leads start (F.calls folder.new) w →
+        StandsAs cmp order v tables w × IsWritten w (name.now, bytes.now)) }
     ensures failures { F.failed folder.new ≡ failures_after (F.failed folder.old) result }
 {
     make_file(folder, name, bytes)
@@ -44,7 +50,8 @@ pub(crate) fn write_tables<F: Folder>(
 ) -> Result<(), Fault>
     ensures runs { MakesCalls (table_calls (tables_in tables.now))
         (F.calls folder.old) (F.calls folder.new) (F.tells folder.old) (F.tells folder.new) result }
-    ensures refused { IfErr result (λ e. UnlessMemory e (IsStopped (F.failed folder.old) (F.failed folder.new) e)) }
+    ensures refused { IfErr result
+        (λ e. UnlessMemory e (IsStopped (F.failed folder.old) (F.failed folder.new) e)) }
     ensures at_once { StopsAtDevice (F.failed folder.old) (F.failed folder.new) result }
     ensures later { F.failed folder.old ≤ F.failed folder.new }
 {
@@ -64,16 +71,21 @@ pub(crate) fn write_temporary<F: Folder>(
     ensures runs { MakesCalls (temporary_calls number)
         (F.calls folder.old) (F.calls folder.new) (F.tells folder.old) (F.tells folder.new) result }
     // If the name is free, a crash at any moment leaves the version before.
-    ensures before { (cmp : List ℕ → List ℕ → Ordering) (order : Order) (v : State) (tables : List (ℕ × List ℕ))
-        → IsFree cmp v (temporary_name number) → (start : World) → AlwaysStandsAs cmp order v tables start (F.calls folder.old)
+    ensures before { (cmp : List ℕ → List ℕ → Ordering) (order : Order) (v : State)
+        (tables : List (ℕ × List ℕ))
+        → IsFree cmp v (temporary_name number) → (start : World) →
+        AlwaysStandsAs cmp order v tables start (F.calls folder.old)
         → LeavesOnly start (F.calls folder.old) (F.calls folder.new) (ReadsAs cmp order v tables) }
     // At Ok the folder stands for that version, and the file is written and settled.
-    ensures written { (cmp : List ℕ → List ℕ → Ordering) (order : Order) (v : State) (tables : List (ℕ × List ℕ))
-        → IsFree cmp v (temporary_name number) → (start : World) → AlwaysStandsAs cmp order v tables start (F.calls folder.old)
+    ensures written { (cmp : List ℕ → List ℕ → Ordering) (order : Order) (v : State)
+        (tables : List (ℕ × List ℕ))
+        → IsFree cmp v (temporary_name number) → (start : World) →
+        AlwaysStandsAs cmp order v tables start (F.calls folder.old)
         → OnOk result ((w : World) → Leads start (F.calls folder.new) w
         → StandsAs cmp order v tables w × IsWritten w (temporary_name number, current_text number)
         × IsSettled w (temporary_name number)) }
-    ensures refused { IfErr result (λ e. UnlessMemory e (IsStopped (F.failed folder.old) (F.failed folder.new) e)) }
+    ensures refused { IfErr result
+        (λ e. UnlessMemory e (IsStopped (F.failed folder.old) (F.failed folder.new) e)) }
     ensures at_once { StopsAtDevice (F.failed folder.old) (F.failed folder.new) result }
     ensures later { F.failed folder.old ≤ F.failed folder.new }
 {
@@ -86,8 +98,10 @@ pub(crate) fn name_current<F: Folder>(
     folder: &mut F,
     number: u64,
 ) -> Result<(), Fault>
-    ensures runs { MakesCalls (current_calls number) (F.calls folder.old) (F.calls folder.new) (F.tells folder.old) (F.tells folder.new) result }
-    ensures refused { IfErr result (λ e. UnlessMemory e (IsStopped (F.failed folder.old) (F.failed folder.new) e)) }
+    ensures runs { MakesCalls (current_calls number) (F.calls folder.old) (F.calls folder.new)
+        (F.tells folder.old) (F.tells folder.new) result }
+    ensures refused { IfErr result
+        (λ e. UnlessMemory e (IsStopped (F.failed folder.old) (F.failed folder.new) e)) }
     ensures at_once { StopsAtDevice (F.failed folder.old) (F.failed folder.new) result }
     ensures later { F.failed folder.old ≤ F.failed folder.new }
 {
@@ -97,10 +111,12 @@ pub(crate) fn name_current<F: Folder>(
 
 /// Renames the file of this `name` to CURRENT, and syncs the folder.
 fn make_current<F: Folder>(folder: &mut F, name: &String) -> Result<(), FolderFault>
-    ensures runs { MakesCalls (Renamed (string_bytes name.now) (codes "CURRENT") ∷ FolderSynced ∷ [])
+    ensures runs { MakesCalls
+        (Renamed (string_bytes name.now) (codes "CURRENT") ∷ FolderSynced ∷ [])
         (F.calls folder.old) (F.calls folder.new) (F.tells folder.old) (F.tells folder.new) result }
     // At Ok both calls were made, and no others.
-    ensures both { OnOk result (F.calls folder.new ≡ F.calls folder.old ++ Done (Renamed (string_bytes name.now) (codes "CURRENT")) ∷ Done FolderSynced ∷ []) }
+    ensures both { OnOk result (F.calls folder.new ≡ F.calls folder.old
+        ++ Done (Renamed (string_bytes name.now) (codes "CURRENT")) ∷ Done FolderSynced ∷ []) }
     ensures failures { F.failed folder.new ≡ failures_after (F.failed folder.old) result }
 {
     folder.rename(name.as_str(), CURRENT)?;
@@ -109,7 +125,8 @@ fn make_current<F: Folder>(folder: &mut F, name: &String) -> Result<(), FolderFa
 
 /// Makes a file and syncs it.
 fn make_file<F: Folder>(folder: &mut F, name: &str, bytes: &[u8]) -> Result<(), FolderFault>
-    ensures runs { MakesCalls (write_calls name.now bytes.now) (F.calls folder.old) (F.calls folder.new) (F.tells folder.old) (F.tells folder.new) result }
+    ensures runs { MakesCalls (write_calls name.now bytes.now) (F.calls folder.old)
+        (F.calls folder.new) (F.tells folder.old) (F.tells folder.new) result }
     ensures failures { F.failed folder.new ≡ failures_after (F.failed folder.old) result }
 {
     folder.create(name, bytes)?;
@@ -120,7 +137,8 @@ fn make_file<F: Folder>(folder: &mut F, name: &str, bytes: &[u8]) -> Result<(), 
 fn make_temporary<F: Folder>(alloc: Global, folder: &mut F, number: u64) -> Result<(), Fault>
     ensures runs { MakesCalls (temporary_calls number)
         (F.calls folder.old) (F.calls folder.new) (F.tells folder.old) (F.tells folder.new) result }
-    ensures refused { IfErr result (λ e. UnlessMemory e (IsStopped (F.failed folder.old) (F.failed folder.new) e)) }
+    ensures refused { IfErr result
+        (λ e. UnlessMemory e (IsStopped (F.failed folder.old) (F.failed folder.new) e)) }
     ensures at_once { StopsAtDevice (F.failed folder.old) (F.failed folder.new) result }
     ensures later { F.failed folder.old ≤ F.failed folder.new }
 {

@@ -23,9 +23,11 @@ pub(crate) fn manifest_bytes<C: Comparator>(
     edit: &[u8],
 ) -> Result<Vec<u8>, Fault>
     requires { length C.name_bytes < 2 ^ 32 }
-    ensures bytes { IfOk result (λ v. v.items ≡ manifest_bytes C.name_bytes C.cmp version.now edit.now) }
+    ensures bytes { IfOk result (λ v. v.items
+        ≡ manifest_bytes C.name_bytes C.cmp version.now edit.now) }
     ensures reads_back { IfOk result (λ _.
-        IsEdit (edit_bytes (snapshot_of C.name_bytes C.cmp version.now)) (snapshot_of C.name_bytes C.cmp version.now)) }
+        IsEdit (edit_bytes (snapshot_of C.name_bytes C.cmp version.now))
+        (snapshot_of C.name_bytes C.cmp version.now)) }
     ensures state { IsState version.now.pointers version.now.files }
     ensures memory { IfErr result (λ e. e ≡ fault Memory) }
 {

@@ -11,4 +11,5 @@ use Rattle.keep.specs.Runs.{range_run}
 abbrev pub BegunLaw : (List ℕ → List ℕ → Ordering) → Type 0
 BegunLaw cmp =
     (b : CompactionContext) (range : KeyRange) (olds news : List (List Entry)) →
-    EachLosesOnly (is_before cmp range.lower false) olds news → range_run cmp b news range ≡ range_run cmp b olds range
+    EachLosesOnly (is_before cmp range.lower false) olds news → range_run cmp b news range
+    ≡ range_run cmp b olds range

@@ -1,5 +1,6 @@
 -- The drop rule: which entries a compaction keeps.
-use Rattle.std.specs.Prelude.{ℕ, nat_lt, nat_le, Bool, true, false, not, ◌&&◌, if◌then◌else◌, List, [], ◌∷◌, ◌++◌, Option, Some, None}
+use Rattle.std.specs.Prelude.{ℕ, nat_lt, nat_le, Bool, true, false, not, ◌&&◌, if◌then◌else◌, List}
+use Rattle.std.specs.Prelude.{[], ◌∷◌, ◌++◌, Option, Some, None}
 use Rattle.std.specs.List.{list_any, list_all}
 use Rattle.std.specs.Str.{bytes_eq}
 use Rattle.std.specs.declared.cmp.Ordering.{Ordering}
@@ -23,14 +24,16 @@ is_deletion Put = false
 -- whether a sequence is at or above an older entry's and below a newer one's: it sees the older
 -- entry and not the newer one
 abbrev pub is_snapshot_between : Entry → Entry → ℕ → Bool
-is_snapshot_between newer older at = nat_le (sequence_of older.key) at && nat_lt at (sequence_of newer.key)
+is_snapshot_between newer older at = nat_le (sequence_of older.key) at
+    && nat_lt at (sequence_of newer.key)
 
 -- Whether an entry is hidden: the previous entry has the same user key, its sequence is at or below
 -- the floor, and no listed sequence is below that and at or above the entry's own.
 abbrev pub is_hidden : Readable → Option Entry → Entry → Bool
 is_hidden r None e = false
 is_hidden r (Some newer) e =
-    is_same_user newer e && nat_le (sequence_of newer.key) r.floor && not (list_any (is_snapshot_between newer e) r.listed)
+    is_same_user newer e && nat_le (sequence_of newer.key) r.floor
+    && not (list_any (is_snapshot_between newer e) r.listed)
 
 -- Whether an entry is a deletion that nothing needs: its sequence is at or below the floor and each
 -- listed one, so each readable sequence sees it; and no deeper file's range holds its user key.
@@ -40,11 +43,13 @@ is_obsolete cmp r deeper e =
     && list_all (nat_le (sequence_of e.key)) r.listed && is_in_none cmp deeper (user_of e.key)
 
 -- whether a compaction keeps an entry of the union, with `before` as the previous one
-abbrev pub keeps : (List ℕ → List ℕ → Ordering) → Readable → List FileMeta → Option Entry → Entry → Bool
+abbrev pub keeps : (List ℕ → List ℕ → Ordering) → Readable → List FileMeta → Option Entry → Entry →
+    Bool
 keeps cmp r deeper before e = not (is_hidden r before e) && not (is_obsolete cmp r deeper e)
 
 -- the kept ones of entries, with `before` as the entry previous to the first
-abbrev pub kept_behind : (List ℕ → List ℕ → Ordering) → Readable → List FileMeta → Option Entry → List Entry → List Entry
+abbrev pub kept_behind : (List ℕ → List ℕ → Ordering) → Readable → List FileMeta → Option Entry →
+    List Entry → List Entry
 kept_behind cmp r deeper before [] = []
 kept_behind cmp r deeper before (e ∷ es) =
     (if keeps cmp r deeper before e then e ∷ [] else []) ++ kept_behind cmp r deeper (Some e) es

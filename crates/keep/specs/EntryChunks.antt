@@ -11,8 +11,9 @@ all_kept (p ∷ ps) last = p ++ all_kept ps last
 
 -- the chunks have 4,096 entries each, the last one at most as many, and `number` is how many
 -- entries all have; each key is an internal key
-pub record AreInChunks (pieces : List (List Entry)) (behind : List Entry) (number : ℕ) : Type 0 where
-  pub full : AllByRecursion (λ p. length p ≡ 4096) pieces
-  pub last : length behind ≤ 4096
-  pub count : number ≡ length (all_kept pieces behind)
-  pub internal : AllByRecursion (λ e. IsInternalKey e.key) (all_kept pieces behind)
+pub record AreInChunks (pieces : List (List Entry)) (behind : List Entry) (number : ℕ) : Type 0
+  where
+    pub full : AllByRecursion (λ p. length p ≡ 4096) pieces
+    pub last : length behind ≤ 4096
+    pub count : number ≡ length (all_kept pieces behind)
+    pub internal : AllByRecursion (λ e. IsInternalKey e.key) (all_kept pieces behind)

@@ -11,7 +11,8 @@ use Rattle.split.specs.Ranges.{KeyRange, IsIn}
 -- the upper bound, if there is one
 abbrev pub is_in_range : (List ℕ → List ℕ → Ordering) → KeyRange → List ℕ → Bool
 is_in_range cmp range user =
-    option_map_or (λ lower. not (is_lt (cmp user lower))) range.lower true && option_map_or (λ upper. is_lt (cmp user upper)) range.upper true
+    option_map_or (λ lower. not (is_lt (cmp user lower))) range.lower true
+    && option_map_or (λ upper. is_lt (cmp user upper)) range.upper true
 
 -- the entries whose user keys the range holds
 abbrev pub entries_in : (List ℕ → List ℕ → Ordering) → KeyRange → List Entry → List Entry
@@ -19,4 +20,5 @@ entries_in cmp range entries = filter (λ e. is_in_range cmp range (user_of e.ke
 
 -- the test holds of just the user keys that a split states of a range
 abbrev pub HoldsLaw : (List ℕ → List ℕ → Ordering) → Type 0
-HoldsLaw cmp = (range : KeyRange) (user : List ℕ) → (is_in_range cmp range user ≡ true) ↔ IsIn cmp range user
+HoldsLaw cmp = (range : KeyRange) (user : List ℕ) → (is_in_range cmp range user ≡ true)
+    ↔ IsIn cmp range user

@@ -9,7 +9,8 @@ use Rattle.keep.specs.declared.kept_entry.KeptEntry.{KeptEntry}
 -- the entries whose keys lie in these bytes, the first key at offset `at`
 abbrev pub entries_at : ℕ → List ℕ → List KeptEntry → List Entry
 entries_at at keys [] = []
-entries_at at keys (k ∷ ks) = record { key = slice_range keys at k.end; value = k.value.now } ∷ entries_at k.end keys ks
+entries_at at keys (k ∷ ks) = record { key = slice_range keys at k.end; value = k.value.now } ∷
+    entries_at k.end keys ks
 
 -- the ends of keys that begin at `at`: none is before the one before it, and the last is `last`
 abbrev pub AreBufferEnds : ℕ → ℕ → List KeptEntry → Type 0

@@ -11,7 +11,8 @@ use Rattle.split.specs.Ranges.{KeyRange}
 
 -- whether an entry's user key is before a bound; `otherwise` if there is no bound
 abbrev pub is_before : (List ℕ → List ℕ → Ordering) → Option (List ℕ) → Bool → Entry → Bool
-is_before cmp bound otherwise e = option_map_or (λ limit. is_lt (cmp (user_of e.key) limit)) bound otherwise
+is_before cmp bound otherwise e = option_map_or (λ limit. is_lt (cmp (user_of e.key) limit)) bound
+    otherwise
 
 -- whether a walk of a range passes an entry: its user key is before the lower bound or before the
 -- upper one; without an upper bound all are passed
@@ -19,8 +20,10 @@ abbrev pub is_passed : (List ℕ → List ℕ → Ordering) → KeyRange → Ent
 is_passed cmp range e = is_before cmp range.lower false e || is_before cmp range.upper true e
 
 -- of each list the entries after a range
-abbrev pub each_behind : (List ℕ → List ℕ → Ordering) → KeyRange → List (List Entry) → List (List Entry)
-each_behind cmp range lists = map (λ entries. filter (λ e. not (is_passed cmp range e)) entries) lists
+abbrev pub each_behind : (List ℕ → List ℕ → Ordering) → KeyRange → List (List Entry) →
+    List (List Entry)
+each_behind cmp range lists = map (λ entries. filter (λ e. not (is_passed cmp range e)) entries)
+    lists
 
 -- the new list has the entries of the old one in their order, less some that pass the test
 abbrev pub LosesOnly : (Entry → Bool) → List Entry → List Entry → Type 0

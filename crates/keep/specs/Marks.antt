@@ -1,5 +1,6 @@
 -- How many grandparents lie below the entries of a compaction, and where that number changes.
-use Rattle.std.specs.Prelude.{◌≡◌, ℕ, ◌+◌, nat_eq, Bool, true, not, if◌then◌else◌, List, [], ◌∷◌, ◌++◌, count_by, AllPairs, Option, Some, None}
+use Rattle.std.specs.Prelude.{◌≡◌, ℕ, ◌+◌, nat_eq, Bool, true, not, if◌then◌else◌, List, [], ◌∷◌}
+use Rattle.std.specs.Prelude.{◌++◌, count_by, AllPairs, Option, Some, None}
 use Rattle.std.specs.Ordering.{is_lt}
 use Rattle.std.specs.declared.cmp.Ordering.{Ordering}
 use Rattle.std.specs.declared.cmp.Ordering.TheVariants.{Less}
@@ -13,11 +14,13 @@ use Rattle.keep.specs.DropRule.{is_same_user, keeps}
 
 -- how many grandparents lie below an internal key: their largest keys are below it
 abbrev pub grandparents_below : (List ℕ → List ℕ → Ordering) → List FileMeta → List ℕ → ℕ
-grandparents_below cmp grandparents key = count_by (λ (f : FileMeta). is_lt (internal_cmp cmp f.largest key)) grandparents
+grandparents_below cmp grandparents key =
+    count_by (λ (f : FileMeta). is_lt (internal_cmp cmp f.largest key)) grandparents
 
 -- each grandparent's largest key is below those of all later ones
 abbrev pub LargestRise : (List ℕ → List ℕ → Ordering) → List FileMeta → Type 0
-LargestRise cmp grandparents = AllPairs (λ (f later : FileMeta). internal_cmp cmp f.largest later.largest ≡ Less) grandparents
+LargestRise cmp grandparents =
+    AllPairs (λ (f later : FileMeta). internal_cmp cmp f.largest later.largest ≡ Less) grandparents
 
 -- what the drop rule and the marks need to know: which sequences stay readable, the deeper files,
 -- and the grandparents
@@ -41,10 +44,15 @@ is_first (Some before) e = not (is_same_user before e)
 
 -- A mark at the first entry of each user key, kept or dropped, with `before` as the entry previous
 -- to the first, and n kept entries before it.
-abbrev pub heads_behind : (List ℕ → List ℕ → Ordering) → CompactionContext → Option Entry → ℕ → List Entry → List Mark
+abbrev pub heads_behind : (List ℕ → List ℕ → Ordering) → CompactionContext → Option Entry → ℕ →
+    List Entry → List Mark
 heads_behind cmp b before n [] = []
 heads_behind cmp b before n (e ∷ es) =
-    (if is_first before e then record { below = grandparents_below cmp b.grandparents e.key; kept = n } ∷ [] else [])
+    (if is_first before e then record {
+      below = grandparents_below cmp b.grandparents e.key;
+      kept =
+          n;
+    } ∷ [] else [])
     ++ heads_behind cmp b (Some e) (if keeps cmp b.readable b.deeper before e then n + 1 else n) es
 
 -- a mark at the first entry of each user key, kept or dropped
@@ -55,7 +63,8 @@ heads cmp b entries = heads_behind cmp b None 0 entries
 -- `below`
 abbrev pub changes_behind : ℕ → List Mark → List Mark
 changes_behind below [] = []
-changes_behind below (m ∷ ms) = if nat_eq m.below below then changes_behind below ms else m ∷ changes_behind m.below ms
+changes_behind below (m ∷ ms) = if nat_eq m.below below then changes_behind below ms else m ∷
+    changes_behind m.below ms
 
 -- the first mark, and each whose number of grandparents differs from that of the mark before
 abbrev pub changes : List Mark → List Mark

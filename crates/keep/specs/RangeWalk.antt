@@ -1,5 +1,6 @@
 -- How far the entries of a range were walked, and what the next one does.
-use Rattle.std.specs.Prelude.{ℕ, nat_eq, nat_lt, nat_le, Bool, false, not, ◌&&◌, ◌||◌, if◌then◌else◌, List, [], ◌∷◌, ◌++◌, length, Option, Some, None}
+use Rattle.std.specs.Prelude.{ℕ, nat_eq, nat_lt, nat_le, Bool, false, not, ◌&&◌, ◌||◌}
+use Rattle.std.specs.Prelude.{if◌then◌else◌, List, [], ◌∷◌, ◌++◌, length, Option, Some, None}
 use Rattle.std.specs.List.{list_any}
 use Rattle.std.specs.Option.{is_none}
 use Rattle.std.specs.declared.cmp.Ordering.{Ordering}
@@ -25,12 +26,14 @@ is_needed listed newer older = list_any (λ s. nat_le older s && nat_lt s newer)
 -- whether the previous entry, of sequence `newer` in the same user key, hides this key's entry
 abbrev pub is_hidden_by : Readable → Option ℕ → List ℕ → Bool
 is_hidden_by r None key = false
-is_hidden_by r (Some newer) key = nat_le newer r.floor && not (is_needed r.listed newer (sequence_of key))
+is_hidden_by r (Some newer) key = nat_le newer r.floor
+    && not (is_needed r.listed newer (sequence_of key))
 
 -- whether an entry is kept; `newer` is the sequence of the previous entry if it has the same user
 -- key
 abbrev pub keeps_behind : (List ℕ → List ℕ → Ordering) → CompactionContext → Option ℕ → Entry → Bool
-keeps_behind cmp b newer e = not (is_hidden_by b.readable newer e.key) && not (is_obsolete cmp b.readable b.deeper e)
+keeps_behind cmp b newer e = not (is_hidden_by b.readable newer e.key)
+    && not (is_obsolete cmp b.readable b.deeper e)
 
 -- Whether the first entry of a user key sets a mark: it is the first of the range, or the number of
 -- grandparents below it is not that of the user key before.
@@ -39,21 +42,26 @@ sets_mark last passed below = is_none last || not (nat_eq below passed)
 
 -- the marks that it sets, with `kept` kept entries before it
 abbrev pub new_marks : Option EntryVersion → ℕ → ℕ → ℕ → List Mark
-new_marks last passed below kept = if sets_mark last passed below then record { below = below; kept = kept } ∷ [] else []
+new_marks last passed below kept =
+    if sets_mark last passed below then record { below = below; kept = kept } ∷ [] else []
 
 -- the walk after the marks of the first entry of a user key
-abbrev pub walk_after_first : (List ℕ → List ℕ → Ordering) → CompactionContext → Walk → List ℕ → Walk
+abbrev pub walk_after_first : (List ℕ → List ℕ → Ordering) → CompactionContext → Walk → List ℕ →
+    Walk
 walk_after_first cmp b w key = record {
   run = record {
     kept = w.run.kept;
-    marks = w.run.marks ++ new_marks w.last w.passed (grandparents_below cmp b.grandparents key) (length w.run.kept);
+    marks = w.run.marks
+        ++ new_marks w.last w.passed (grandparents_below cmp b.grandparents key)
+        (length w.run.kept);
   };
   last = w.last;
   passed = grandparents_below cmp b.grandparents key;
 }
 
 -- the walk after an entry's marks: only the first entry of a user key may set one
-abbrev pub walk_after_head : (List ℕ → List ℕ → Ordering) → CompactionContext → Option ℕ → Walk → List ℕ → Walk
+abbrev pub walk_after_head : (List ℕ → List ℕ → Ordering) → CompactionContext → Option ℕ → Walk →
+    List ℕ → Walk
 walk_after_head cmp b None w key = walk_after_first cmp b w key
 walk_after_head cmp b (Some newer) w key = w
 
@@ -71,4 +79,5 @@ walk_after_entry keeps w e = record {
 -- the walk after an entry
 abbrev pub walk_after : (List ℕ → List ℕ → Ordering) → CompactionContext → Walk → Entry → Walk
 walk_after cmp b w e =
-    walk_after_entry (keeps_behind cmp b (newer_of w.last (user_of e.key)) e) (walk_after_head cmp b (newer_of w.last (user_of e.key)) w e.key) e
+    walk_after_entry (keeps_behind cmp b (newer_of w.last (user_of e.key)) e)
+    (walk_after_head cmp b (newer_of w.last (user_of e.key)) w e.key) e

@@ -26,4 +26,5 @@ floor_of (Listed list) last = last
 
 -- the readable sequences of snapshots, in a version with this last sequence
 abbrev pub readable_of : Snapshots → ℕ → Readable
-readable_of snapshots last = record { listed = listed_of snapshots; floor = floor_of snapshots last }
+readable_of snapshots last =
+    record { listed = listed_of snapshots; floor = floor_of snapshots last }

@@ -1,5 +1,7 @@
 -- The run of a range of user keys, and how the runs of a split's ranges compose.
-use Rattle.std.specs.Prelude.{◌≡◌, ◌↔◌, ℕ, ◌+◌, ◌≤◌, nat_eq, Bool, true, not, ◌&&◌, if◌then◌else◌, List, [], ◌∷◌, ◌++◌, length, map, flat_map, slice_get, Option, Some, None, Result, Ok, Err}
+use Rattle.std.specs.Prelude.{◌≡◌, ◌↔◌, ℕ, ◌+◌, ◌≤◌, nat_eq, Bool, true, not, ◌&&◌, if◌then◌else◌}
+use Rattle.std.specs.Prelude.{List, [], ◌∷◌, ◌++◌, length, map, flat_map, slice_get, Option, Some}
+use Rattle.std.specs.Prelude.{None, Result, Ok, Err}
 use Rattle.std.specs.List.{list_any, list_all}
 use Rattle.std.specs.declared.cmp.Ordering.{Ordering}
 use Rattle.coding.specs.Answers.{fault}
@@ -23,7 +25,8 @@ pub record Run : Type 0 where
 
 -- the run of entries: the kept ones of them, and their marks
 abbrev pub run_of : (List ℕ → List ℕ → Ordering) → CompactionContext → List Entry → Run
-run_of cmp b entries = record { kept = kept cmp b.readable b.deeper entries; marks = marks cmp b entries }
+run_of cmp b entries =
+    record { kept = kept cmp b.readable b.deeper entries; marks = marks cmp b entries }
 
 -- whether two entries have one user key and one sequence
 abbrev pub is_same_version : Entry → Entry → Bool
@@ -36,7 +39,8 @@ are_distinct (e ∷ es) = not (list_any (is_same_version e) es) && are_distinct 
 
 -- The answer on a range of user keys: Duplicate if it holds one user key and sequence twice, else
 -- the run of the entries that the sorted merge of the inputs has there.
-abbrev pub range_run : (List ℕ → List ℕ → Ordering) → CompactionContext → List (List Entry) → KeyRange → Result Run Fault
+abbrev pub range_run : (List ℕ → List ℕ → Ordering) → CompactionContext → List (List Entry) →
+    KeyRange → Result Run Fault
 range_run cmp b inputs range =
     if are_distinct (entries_in cmp range (merged cmp inputs))
     then Ok (run_of cmp b (entries_in cmp range (merged cmp inputs)))
@@ -65,11 +69,14 @@ abbrev pub ranges_of : List (List ℕ) → List KeyRange
 ranges_of boundaries = ranges_from None boundaries
 
 -- the entries of each range
-abbrev pub entries_by_range : (List ℕ → List ℕ → Ordering) → List (List ℕ) → List Entry → List (List Entry)
-entries_by_range cmp boundaries entries = map (λ range. entries_in cmp range entries) (ranges_of boundaries)
+abbrev pub entries_by_range : (List ℕ → List ℕ → Ordering) → List (List ℕ) → List Entry →
+    List (List Entry)
+entries_by_range cmp boundaries entries =
+    map (λ range. entries_in cmp range entries) (ranges_of boundaries)
 
 -- the run of each range
-abbrev pub runs_of : (List ℕ → List ℕ → Ordering) → CompactionContext → List (List ℕ) → List Entry → List Run
+abbrev pub runs_of : (List ℕ → List ℕ → Ordering) → CompactionContext → List (List ℕ) → List Entry →
+    List Run
 runs_of cmp b boundaries union = map (run_of cmp b) (entries_by_range cmp boundaries union)
 
 -- Ranges compose, however they are cut between user keys. The kept entries of the ranges in order
@@ -77,20 +84,25 @@ runs_of cmp b boundaries union = map (run_of cmp b) (entries_by_range cmp bounda
 -- before it. Some range is refused exactly if all inputs together hold one user key and sequence
 -- twice.
 pub record RangesCompose (cmp : List ℕ → List ℕ → Ordering) : Type 0 where
-  pub kept : (b : CompactionContext) (boundaries : List (List ℕ)) (union : List Entry) → IsSplit cmp boundaries → VersionsRise cmp union →
+  pub kept : (b : CompactionContext) (boundaries : List (List ℕ)) (union : List Entry) →
+      IsSplit cmp boundaries → VersionsRise cmp union →
       (joined_run (runs_of cmp b boundaries union)).kept ≡ (run_of cmp b union).kept
-  pub marks : (b : CompactionContext) (boundaries : List (List ℕ)) (union : List Entry) → IsSplit cmp boundaries → VersionsRise cmp union →
+  pub marks : (b : CompactionContext) (boundaries : List (List ℕ)) (union : List Entry) →
+      IsSplit cmp boundaries → VersionsRise cmp union →
       changes (joined_run (runs_of cmp b boundaries union)).marks ≡ (run_of cmp b union).marks
   pub refused : (inputs : List (List Entry)) (boundaries : List (List ℕ)) → IsSplit cmp boundaries →
-      list_all are_distinct (entries_by_range cmp boundaries (merged cmp inputs)) ≡ are_distinct (merged cmp inputs)
+      list_all are_distinct (entries_by_range cmp boundaries (merged cmp inputs))
+      ≡ are_distinct (merged cmp inputs)
   -- the ranges are those that a split gives
-  pub ranges : (boundaries : List (List ℕ)) (i : ℕ) → i ≤ length boundaries → slice_get (ranges_of boundaries) i ≡ Some (range_at boundaries i)
+  pub ranges : (boundaries : List (List ℕ)) (i : ℕ) → i ≤ length boundaries →
+      slice_get (ranges_of boundaries) i ≡ Some (range_at boundaries i)
 
 -- inputs have a union exactly if no user key has one sequence twice, and it is their sorted merge
 abbrev pub DistinctLaw : (List ℕ → List ℕ → Ordering) → Type 0
 DistinctLaw cmp =
     (inputs : List (List Entry)) (union : List Entry) →
-    IsUnion cmp inputs union ↔ ((union ≡ merged cmp inputs) × (are_distinct (merged cmp inputs) ≡ true))
+    IsUnion cmp inputs union
+    ↔ ((union ≡ merged cmp inputs) × (are_distinct (merged cmp inputs) ≡ true))
 
 -- what is kept of the entries of a range is what is kept of the whole union there
 abbrev pub KeptInRangeLaw : (List ℕ → List ℕ → Ordering) → Type 0

@@ -3,7 +3,8 @@
 //!     keys    key 0 | key 1 | key 2 | ...      one buffer
 //!     kept    end of key i in it, and value i  a slice of an input's bytes
 
-ghost use Rattle.std.specs.Prelude.{◌≡◌, ◌<◌, ◌≤◌, [], ◌∷◌, ◌++◌, length, slice_get, slice_range, OnOk, OnErr, IsOkUnless, Some, Ok};
+ghost use Rattle.std.specs.Prelude.{◌≡◌, ◌<◌, ◌≤◌, [], ◌∷◌, ◌++◌, length, slice_get, slice_range};
+ghost use Rattle.std.specs.Prelude.{OnOk, OnErr, IsOkUnless, Some, Ok};
 ghost use Rattle.std.specs.Option.{option_map};
 ghost use Rattle.coding.specs.Answers.{EqualOrMemory, fault};
 ghost use Rattle.coding.specs.declared.fault.FaultName.TheVariants.{Memory};
@@ -69,7 +70,8 @@ impl<'a> EntryChunk<'a> {
 
     /// Appends an entry. The only fault is Memory, which leaves the chunk unchanged.
     pub fn push(&mut self, key: InternalKey<'_>, value: &'a [u8]) -> Result<(), Fault>
-        ensures ok { OnOk result (self.new ≡ self.old ++ record { key = key.entry.bytes.now; value = value.now } ∷ []) }
+        ensures ok { OnOk result (self.new ≡ self.old
+            ++ record { key = key.entry.bytes.now; value = value.now } ∷ []) }
         ensures err { OnErr result (self.new ≡ self.old) }
         ensures memory { IsOkUnless result (fault Memory) }
     {

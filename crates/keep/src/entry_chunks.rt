@@ -1,6 +1,7 @@
 //! The kept entries of a range, in chunks.
 
-ghost use Rattle.std.specs.Prelude.{◌≡◌, ◌<◌, ◌≤◌, [], ◌∷◌, ◌++◌, length, slice_get, OnOk, OnErr, IsOkUnless, Some};
+ghost use Rattle.std.specs.Prelude.{◌≡◌, ◌<◌, ◌≤◌, [], ◌∷◌, ◌++◌, length, slice_get, OnOk, OnErr};
+ghost use Rattle.std.specs.Prelude.{IsOkUnless, Some};
 ghost use Rattle.std.specs.List.{AllByRecursion};
 ghost use Rattle.std.specs.Option.{option_map};
 ghost use Rattle.coding.specs.Answers.{fault};
@@ -56,7 +57,8 @@ fn make_room<'a>(
 ) -> Result<(), Fault>
     requires { length last.old ≤ 4096 }
     ensures same { all_kept full.new.items last.new ≡ all_kept full.old.items last.old }
-    ensures full { AllByRecursion (λ p. length p ≡ 4096) full.old.items → AllByRecursion (λ p. length p ≡ 4096) full.new.items }
+    ensures full { AllByRecursion (λ p. length p ≡ 4096) full.old.items →
+        AllByRecursion (λ p. length p ≡ 4096) full.new.items }
     ensures last { length last.new ≤ 4096 }
     ensures room { OnOk result (length last.new < 4096) }
     ensures memory { IsOkUnless result (fault Memory) }
@@ -101,7 +103,8 @@ impl<'a> EntryChunks<'a> {
 
     /// Appends an entry. The only fault is Memory, which leaves the list unchanged.
     pub fn push(&mut self, key: InternalKey<'_>, value: &'a [u8]) -> Result<(), Fault>
-        ensures ok { OnOk result (self.new ≡ self.old ++ record { key = key.entry.bytes.now; value = value.now } ∷ []) }
+        ensures ok { OnOk result (self.new ≡ self.old
+            ++ record { key = key.entry.bytes.now; value = value.now } ∷ []) }
         ensures err { OnErr result (self.new ≡ self.old) }
         ensures memory { IsOkUnless result (fault Memory) }
     {

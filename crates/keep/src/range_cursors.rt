@@ -29,8 +29,10 @@ pub fn cursors_from<'t, C: Comparator + 't>(
     tables: &[&SoundTable<'t, C>],
     range: Range<'_>,
 ) -> Result<Vec<TableCursor<'t, C>>, Fault>
-    ensures held { IfOk result (λ v. entries_in C.cmp (key_range range.entry) (entries_of_lists v.items)
-        ≡ entries_in C.cmp (key_range range.entry) (entries_of_lists (map (λ t. t.now.entries) tables.now))) }
+    ensures held { IfOk result
+        (λ v. entries_in C.cmp (key_range range.entry) (entries_of_lists v.items)
+        ≡ entries_in C.cmp (key_range range.entry)
+        (entries_of_lists (map (λ t. t.now.entries) tables.now))) }
     ensures memory { IfErr result (λ e. e ≡ fault Memory) }
 {
     let mut cursors = Vec::new(alloc);
@@ -51,7 +53,8 @@ pub fn add_cursor<'t, C: Comparator + 't>(
     table: &SoundTable<'t, C>,
     range: Range<'_>,
 ) -> Result<(), Fault>
-    ensures held { OnOk result (entries_in C.cmp (key_range range.entry) (entries_of_lists cursors.new.items)
+    ensures held { OnOk result
+        (entries_in C.cmp (key_range range.entry) (entries_of_lists cursors.new.items)
         ≡ entries_in C.cmp (key_range range.entry) (entries_of_lists cursors.old.items)
         ++ entries_in C.cmp (key_range range.entry) table.now.entries) }
     ensures unchanged { OnErr result (cursors.new.items ≡ cursors.old.items) }

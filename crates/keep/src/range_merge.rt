@@ -53,9 +53,11 @@ pub fn merge_range<'a, C: Comparator, S: Cursor<'a, C> + Drop>(
     requires listed { IsStrictlyIncreasing listed.now }
     requires grandparents { LargestRise C.cmp inputs.now.grandparents.items }
     ensures run { EqualOrMemory (λ run. run) result
-        (range_run C.cmp (context_of listed.now floor inputs.now) (map S.remaining cursors.old.items) (key_range range.entry)) }
+        (range_run C.cmp (context_of listed.now floor inputs.now)
+        (map S.remaining cursors.old.items) (key_range range.entry)) }
     ensures behind { OnOk result
-        (map S.remaining cursors.new.items ≡ each_behind C.cmp (key_range range.entry) (map S.remaining cursors.old.items)) }
+        (map S.remaining cursors.new.items
+        ≡ each_behind C.cmp (key_range range.entry) (map S.remaining cursors.old.items)) }
     ensures left { OnErr result (EachLosesFirst (is_passed C.cmp (key_range range.entry))
         (map S.remaining cursors.old.items) (map S.remaining cursors.new.items)) }
 {
@@ -78,8 +80,10 @@ fn merge_lent<'a, C: Comparator, S: Cursor<'a, C> + Drop>(
     rule: &Rule<'_>,
 ) -> Result<RangeRun<'a>, Fault>
     requires { LargestRise C.cmp rule.now.grandparents }
-    ensures run { EqualOrMemory (λ run. run) result (range_run C.cmp rule.now merging.old (key_range range.entry)) }
-    ensures behind { OnOk result (merging.new ≡ each_behind C.cmp (key_range range.entry) merging.old) }
+    ensures run { EqualOrMemory (λ run. run) result
+        (range_run C.cmp rule.now merging.old (key_range range.entry)) }
+    ensures behind { OnOk result (merging.new
+        ≡ each_behind C.cmp (key_range range.entry) merging.old) }
     ensures left { OnErr result
         (EachLosesFirst (is_passed C.cmp (key_range range.entry)) merging.old merging.new) }
 {
@@ -93,9 +97,11 @@ fn begin<'a, C: Comparator, S: Cursor<'a, C> + Drop>(
     merging: &mut Merging<C, S>,
     lower: Option<&[u8]>,
 ) -> Result<(), Fault>
-    ensures left { EachLosesFirst (is_before C.cmp (option_map (λ limit. limit.now) lower.entry) false)
+    ensures left { EachLosesFirst
+        (is_before C.cmp (option_map (λ limit. limit.now) lower.entry) false)
         merging.old merging.new }
-    ensures begun { OnOk result (first_is (is_before C.cmp (option_map (λ limit. limit.now) lower.entry) false)
+    ensures begun { OnOk result
+        (first_is (is_before C.cmp (option_map (λ limit. limit.now) lower.entry) false)
         (merged C.cmp merging.new) ≡ false) }
     ensures memory { IsOkUnless result (fault Memory) }
 {
@@ -113,12 +119,16 @@ fn walk_range<'a, C: Comparator, S: Cursor<'a, C> + Drop>(
     range: Range<'_>,
     rule: &Rule<'_>,
 ) -> Result<RangeRun<'a>, Fault>
-    requires begun { first_is (is_before C.cmp (key_range range).lower false) (merged C.cmp merging.old) ≡ false }
+    requires begun { first_is (is_before C.cmp (key_range range).lower false)
+        (merged C.cmp merging.old) ≡ false }
     requires grandparents { LargestRise C.cmp rule.now.grandparents }
-    ensures run { EqualOrMemory (λ run. run) result (range_run C.cmp rule.now merging.old (key_range range.entry)) }
+    ensures run { EqualOrMemory (λ run. run) result
+        (range_run C.cmp rule.now merging.old (key_range range.entry)) }
     ensures left { EachLosesFirst (is_passed C.cmp (key_range range.entry))
         merging.old merging.new }
-    ensures behind { OnOk result (AllByRecursion (λ e. is_passed C.cmp (key_range range.entry) e ≡ false) (merged C.cmp merging.new)) }
+    ensures behind { OnOk result
+        (AllByRecursion (λ e. is_passed C.cmp (key_range range.entry) e ≡ false)
+        (merged C.cmp merging.new)) }
 {
     let mut walk = Walk::new(alloc);
     while starts_before::<C, Merging<C, S>>(merging, range.upper, true) {
@@ -135,7 +145,9 @@ pub(crate) fn starts_before<'a, C: Comparator, M: Cursor<'a, C>>(
     bound: Option<&[u8]>,
     otherwise: bool,
 ) -> bool
-    ensures { result ≡ first_is (is_before C.cmp (option_map (λ limit. limit.now) bound.entry) otherwise) (M.remaining merging.now) }
+    ensures { result
+        ≡ first_is (is_before C.cmp (option_map (λ limit. limit.now) bound.entry) otherwise)
+        (M.remaining merging.now) }
 {
     if !merging.valid() {
         return false;

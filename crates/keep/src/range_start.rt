@@ -30,7 +30,9 @@ pub fn seek_range<'a, C: Comparator, S: Cursor<'a, C>>(
     ensures left { AllByRecursion (λ e. sequence_of e.key < 2 ^ 56) (S.remaining cursor.old) →
         LosesOnly (is_before C.cmp (key_range range.entry).lower false)
         (S.remaining cursor.old) (S.remaining cursor.new) }
-    ensures begun { OnOk result (first_is (is_before C.cmp (key_range range.entry).lower false) (S.remaining cursor.new) ≡ false) }
+    ensures begun { OnOk result
+        (first_is (is_before C.cmp (key_range range.entry).lower false) (S.remaining cursor.new)
+        ≡ false) }
     ensures memory { IsOkUnless result (fault Memory) }
 {
     seek_user::<C, S>(alloc, cursor, range.lower)?;

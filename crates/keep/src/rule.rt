@@ -87,7 +87,9 @@ impl<'r> Rule<'r> {
 
     /// Whether `key` is a deletion that nothing needs: (2) of the rule.
     fn is_obsolete<C: Comparator>(&self, key: &InternalKey<'_>) -> bool
-        ensures { result ≡ is_obsolete C.cmp self.now.readable self.now.deeper (record { key = key.now.bytes.now; value = [] }) }
+        ensures { result
+            ≡ is_obsolete C.cmp self.now.readable self.now.deeper
+            (record { key = key.now.bytes.now; value = [] }) }
     {
         key.kind() == Kind::Delete
             && key.sequence() <= self.floor
@@ -98,7 +100,8 @@ impl<'r> Rule<'r> {
     /// Whether the entry of `key` stays. `newer` is the previous entry's sequence if it has the
     /// same user key.
     pub fn keeps<C: Comparator>(&self, newer: Option<u64>, key: &InternalKey<'_>) -> bool
-        ensures { result ≡ keeps_behind C.cmp self.now newer (record { key = key.now.bytes.now; value = [] }) }
+        ensures { result
+            ≡ keeps_behind C.cmp self.now newer (record { key = key.now.bytes.now; value = [] }) }
     {
         !self.is_hidden(newer, key) && !self.is_obsolete::<C>(key)
     }

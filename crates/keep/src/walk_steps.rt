@@ -20,7 +20,8 @@ use std::alloc::Global;
 impl<'a> Walk<'a> {
     /// A walk before the first entry.
     pub fn new(alloc: Global) -> Walk<'a>
-        ensures { result ≡ record { run = record { kept = []; marks = [] }; last = None; passed = 0 } }
+        ensures { result
+            ≡ record { run = record { kept = []; marks = [] }; last = None; passed = 0 } }
     {
         Walk {
             run: RangeRun::new(alloc),
@@ -40,9 +41,11 @@ impl<'a> Walk<'a> {
     /// number differs from that of the user key before or if it is the first of the range. The only
     /// fault is Memory.
     fn begin<C: Comparator>(&mut self, rule: &Rule<'_>, key: &InternalKey<'_>) -> Result<(), Fault>
-        requires passed { self.old.passed ≤ grandparents_below C.cmp rule.now.grandparents key.now.bytes.now }
+        requires passed { self.old.passed ≤ grandparents_below C.cmp rule.now.grandparents
+            key.now.bytes.now }
         requires rising { LargestRise C.cmp rule.now.grandparents }
-        ensures ok { OnOk result (self.new ≡ walk_after_first C.cmp rule.now self.old key.now.bytes.now) }
+        ensures ok { OnOk result (self.new
+            ≡ walk_after_first C.cmp rule.now self.old key.now.bytes.now) }
         ensures memory { IsOkUnless result (fault Memory) }
     {
         let below = count_below::<C>(&rule.inputs.grandparents, self.passed, key);
@@ -61,13 +64,19 @@ impl<'a> Walk<'a> {
         key: InternalKey<'_>,
         value: &'a [u8],
     ) -> Result<(), Fault>
-        requires passed { self.old.passed ≤ grandparents_below C.cmp rule.now.grandparents key.bytes.now }
+        requires passed { self.old.passed ≤ grandparents_below C.cmp rule.now.grandparents
+            key.bytes.now }
         requires rising { LargestRise C.cmp rule.now.grandparents }
-        ensures new { OnOk result (self.new ≡ walk_after C.cmp rule.now self.old (record { key = key.entry.bytes.now; value = value.now })) }
-        ensures ok { OnOk result (is_repeated (newer_of self.old.last (user_of key.entry.bytes.now)) key.entry.bytes.now ≡ false) }
+        ensures new { OnOk result (self.new
+            ≡ walk_after C.cmp rule.now self.old
+            (record { key = key.entry.bytes.now; value = value.now })) }
+        ensures ok { OnOk result
+            (is_repeated (newer_of self.old.last (user_of key.entry.bytes.now)) key.entry.bytes.now
+            ≡ false) }
         ensures refused { IfErr result (λ e. UnlessMemory e
             ((e ≡ fault Duplicate)
-            × (is_repeated (newer_of self.old.last (user_of key.entry.bytes.now)) key.entry.bytes.now ≡ true))) }
+            × (is_repeated (newer_of self.old.last (user_of key.entry.bytes.now))
+            key.entry.bytes.now ≡ true))) }
     {
         let newer = self.last.newer_of(key.user());
         match newer {

@@ -1,5 +1,6 @@
 -- The log of a list of records: blocks of 32,768 bytes, and each record in one or more fragments.
-use Rattle.std.specs.Prelude.{◌≡◌, ℕ, zero, suc, ◌+◌, ◌-◌, ◌%◌, nat_lt, nat_le, Bool, true, false, if◌then◌else◌, List, [], ◌∷◌, ◌++◌, length, take, drop, replicate}
+use Rattle.std.specs.Prelude.{◌≡◌, ℕ, zero, suc, ◌+◌, ◌-◌, ◌%◌, nat_lt, nat_le, Bool, true, false}
+use Rattle.std.specs.Prelude.{if◌then◌else◌, List, [], ◌∷◌, ◌++◌, length, take, drop, replicate}
 use Rattle.byteorder.specs.Endian.{little_bytes}
 use Rattle.coding.specs.Crc.{crc32c, masked}
 
@@ -29,7 +30,8 @@ checksum kind content = masked (crc32c (kind ∷ content))
 
 -- a fragment: the checksum in 4 bytes, the length in 2, the type, and the content
 unfoldable pub fragment : ℕ → List ℕ → List ℕ
-fragment kind content = little_bytes 4 (checksum kind content) ++ (little_bytes 2 (length content) ++ kind ∷ content)
+fragment kind content = little_bytes 4 (checksum kind content)
+    ++ (little_bytes 2 (length content) ++ kind ∷ content)
 
 -- The rest of a record in at most n + 1 fragments. The first has this room, each later one that of
 -- a whole block less the header. Each but the last fills its block.
@@ -38,7 +40,8 @@ fragments zero begins room left = fragment (fragment_type begins true) left
 fragments (suc n) begins room left =
     if nat_le (length left) room
     then fragment (fragment_type begins true) left
-    else fragment (fragment_type begins false) (take room left) ++ fragments n false 32761 (drop room left)
+    else fragment (fragment_type begins false) (take room left)
+    ++ fragments n false 32761 (drop room left)
 
 -- what is written for a record at an offset, of which only its place in the block counts
 unfoldable pub written_record : ℕ → List ℕ → List ℕ
@@ -47,7 +50,8 @@ written_record offset r = zeros_due offset ++ fragments (length r) true (room_at
 -- what is written for records one after the other, from an offset on
 abbrev pub written_records : ℕ → List (List ℕ) → List ℕ
 written_records offset [] = []
-written_records offset (r ∷ rs) = written_record offset r ++ written_records (offset + length (written_record offset r)) rs
+written_records offset (r ∷ rs) = written_record offset r
+    ++ written_records (offset + length (written_record offset r)) rs
 
 -- the log of records, each written at the length so far
 abbrev pub log : List (List ℕ) → List ℕ
@@ -55,7 +59,8 @@ log rs = written_records 0 rs
 
 -- the log of one record more is the log, and then what is written at its length
 abbrev pub AppendLaw : Type 0
-AppendLaw = (rs : List (List ℕ)) (r : List ℕ) → log (rs ++ r ∷ []) ≡ log rs ++ written_record (length (log rs)) r
+AppendLaw = (rs : List (List ℕ)) (r : List ℕ) → log (rs ++ r ∷ []) ≡ log rs
+    ++ written_record (length (log rs)) r
 
 -- bytes are the log of at most one list of records
 abbrev pub OneListLaw : Type 0

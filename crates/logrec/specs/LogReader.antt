@@ -1,5 +1,7 @@
 -- Reading a log from the front, with the first test that fails.
-use Rattle.std.specs.Prelude.{ℕ, zero, suc, ◌+◌, ◌-◌, nat_eq, nat_lt, Bool, true, false, ◌==◌, ◌||◌, ◌&&◌, if◌then◌else◌, List, [], ◌∷◌, ◌++◌, length, map, take, drop, slice_index, Result, Ok, Err}
+use Rattle.std.specs.Prelude.{ℕ, zero, suc, ◌+◌, ◌-◌, nat_eq, nat_lt, Bool, true, false, ◌==◌, ◌||◌}
+use Rattle.std.specs.Prelude.{◌&&◌, if◌then◌else◌, List, [], ◌∷◌, ◌++◌, length, map, take, drop}
+use Rattle.std.specs.Prelude.{slice_index, Result, Ok, Err}
 use Rattle.std.specs.Global.{Vec}
 use Rattle.std.specs.List.{starts_with}
 use Rattle.byteorder.specs.Endian.{little_number}
@@ -25,7 +27,8 @@ fragment_reading room bytes =
     if nat_lt (length bytes) 7 then Err (fault LogShape)
     else if nat_lt room (content_len bytes) then Err (fault LogShape)
     else if nat_lt (length (drop 7 bytes)) (content_len bytes) then Err (fault LogShape)
-    else if little_number 4 bytes == checksum (slice_index bytes 6) (take (content_len bytes) (drop 7 bytes))
+    else if little_number 4 bytes ==
+    checksum (slice_index bytes 6) (take (content_len bytes) (drop 7 bytes))
     then Ok (record {
       kind = slice_index bytes 6;
       content = take (content_len bytes) (drop 7 bytes);
@@ -47,12 +50,14 @@ left_at zero begins room bytes = Err (fault LogShape)
 left_at (suc n) begins room bytes = do
   first ← fragment_reading room bytes
   ends ← ends_record begins room first.kind (length first.content)
-  if ends then Ok (first.content, first.rest) else (left_at n false 32761 first.rest >>= λ others. Ok (first.content ++ others.0, others.1))
+  if ends then Ok (first.content, first.rest) else (left_at n false 32761 first.rest >>=
+      λ others. Ok (first.content ++ others.0, others.1))
 
 -- the bytes after the zeros that are due
 unfoldable pub behind_zeros : ℕ → List ℕ → Result (List ℕ) Fault
 behind_zeros offset bytes =
-    if starts_with nat_eq bytes (zeros_due offset) then Ok (drop (length (zeros_due offset)) bytes) else Err (fault LogShape)
+    if starts_with nat_eq bytes (zeros_due offset) then Ok (drop (length (zeros_due offset)) bytes)
+    else Err (fault LogShape)
 
 -- the record at an offset, and the bytes after it
 unfoldable pub record_at : ℕ → List ℕ → Result (List ℕ × List ℕ) Fault

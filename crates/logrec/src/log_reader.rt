@@ -4,7 +4,8 @@ ghost use Rattle.std.specs.Prelude.{◌≡◌, ◌≤◌, true, List, ℕ, lengt
 ghost use Rattle.coding.specs.Answers.{EqualOrMemory};
 ghost use Rattle.logrec.specs.Log.{log};
 ghost use Rattle.logrec.specs.CodeFragment.{fragment_view};
-ghost use Rattle.logrec.specs.LogReader.{fragment_reading, ends_record, left_at, behind_zeros, record_at, records_of, lists};
+ghost use Rattle.logrec.specs.LogReader.{fragment_reading, ends_record, left_at, behind_zeros};
+ghost use Rattle.logrec.specs.LogReader.{record_at, records_of, lists};
 
 use crate::format::{HEADER_LEN, MAX_CONTENT_LEN, ZEROS, checksum, room_at, type_of, zeros_len};
 use byteorder::{ByteOrder, LittleEndian};
@@ -35,7 +36,8 @@ pub fn records(alloc: Global, bytes: &[u8]) -> Result<Vec<Vec<u8>>, Fault>
     // The bytes are the log of the result.
     ensures found { IfOk result (λ v. bytes.now ≡ log (lists v.items)) }
     // A log is read, or the answer is Memory.
-    ensures only { (rs : List (List ℕ)) → bytes.now ≡ log rs → EqualOrMemory (λ v. lists v.items) result (Ok rs) }
+    ensures only { (rs : List (List ℕ)) → bytes.now ≡ log rs →
+        EqualOrMemory (λ v. lists v.items) result (Ok rs) }
     // Which refusal it is: the first test that fails.
     ensures exact { EqualOrMemory (λ v. lists v.items) result (records_of bytes.now) }
 {

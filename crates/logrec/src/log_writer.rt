@@ -14,7 +14,8 @@ use std::alloc::Global;
 /// `old` isn't read as a log; only its length counts. The only fault is Memory. Memory is asked for
 /// once, for the whole log.
 pub fn append(alloc: Global, old: &[u8], record: &[u8]) -> Result<Vec<u8>, Fault>
-    ensures ok { IfOk result (λ v. v.items ≡ old.now ++ written_record (length old.now) «record».now) }
+    ensures ok { IfOk result (λ v. v.items ≡ old.now
+        ++ written_record (length old.now) «record».now) }
     ensures memory { IsOkUnless result (fault Memory) }
 {
     let zeros = zeros_len(old.len());

@@ -1,5 +1,6 @@
 -- The list that is next in a merge.
-use Rattle.std.specs.Prelude.{◌≡◌, ℕ, ◌+◌, true, List, [], ◌∷◌, take, drop, slice_get, slice_set, Option, Some, None}
+use Rattle.std.specs.Prelude.{◌≡◌, ℕ, ◌+◌, true, List, [], ◌∷◌, take, drop, slice_get, slice_set}
+use Rattle.std.specs.Prelude.{Option, Some, None}
 use Rattle.std.specs.List.{AllByRecursion}
 use Rattle.std.specs.Ordering.{is_le}
 use Rattle.std.specs.declared.cmp.Ordering.{Ordering}
@@ -20,7 +21,8 @@ StartsFrom cmp key (e ∷ es) = is_le (internal_cmp cmp key e.key) ≡ true
 
 -- The place of the list whose first entry comes next. Lists before it start above that entry, and
 -- lists after it start at or above it.
-pub record IsLeast (cmp : List ℕ → List ℕ → Ordering) (lists : List (List Entry)) (place : ℕ) : Type 0 where
+pub record IsLeast (cmp : List ℕ → List ℕ → Ordering) (lists : List (List Entry)) (place : ℕ) : Type
+    0 where
   pub first : Entry
   pub others : List Entry
   pub here : slice_get lists place ≡ Some (first ∷ others)
@@ -28,10 +30,11 @@ pub record IsLeast (cmp : List ℕ → List ℕ → Ordering) (lists : List (Lis
   pub behind : AllByRecursion (StartsFrom cmp first.key) (drop (place + 1) lists)
 
 -- One list has lost its first entry, the one that comes next. The others are unchanged.
-pub record IsAdvanced (cmp : List ℕ → List ℕ → Ordering) (old new : List (List Entry)) : Type 0 where
-  pub place : ℕ
-  pub least : IsLeast cmp old place
-  pub lost : new ≡ slice_set old place least.others
+pub record IsAdvanced (cmp : List ℕ → List ℕ → Ordering) (old new : List (List Entry)) : Type 0
+  where
+    pub place : ℕ
+    pub least : IsLeast cmp old place
+    pub lost : new ≡ slice_set old place least.others
 
 -- the place of the list whose first entry comes next; None if no list has an entry
 abbrev pub IsLeastPlace : (List ℕ → List ℕ → Ordering) → List (List Entry) → Option ℕ → Type 0
@@ -39,6 +42,7 @@ IsLeastPlace cmp lists None = AllByRecursion (λ list. list ≡ []) lists
 IsLeastPlace cmp lists (Some place) = IsLeast cmp lists place
 
 -- no list falls, and this is the place of the list whose first entry comes next
-pub record IsMerging (cmp : List ℕ → List ℕ → Ordering) (lists : List (List Entry)) (place : Option ℕ) : Type 0 where
+pub record IsMerging (cmp : List ℕ → List ℕ → Ordering) (lists : List (List Entry))
+    (place : Option ℕ) : Type 0 where
   pub ordered : AllByRecursion (NeverFalls cmp) lists
   pub least : IsLeastPlace cmp lists place

@@ -10,7 +10,8 @@ use Rattle.table.specs.ReadingCursors.{NeverFalls}
 -- the entry put into a sorted list, before the first entry that isn't below it
 abbrev pub entries_with : (List ℕ → List ℕ → Ordering) → Entry → List Entry → List Entry
 entries_with cmp e [] = e ∷ []
-entries_with cmp e (f ∷ fs) = if is_lt (internal_cmp cmp f.key e.key) then f ∷ entries_with cmp e fs else e ∷ (f ∷ fs)
+entries_with cmp e (f ∷ fs) = if is_lt (internal_cmp cmp f.key e.key) then f ∷ entries_with cmp e fs
+    else e ∷ (f ∷ fs)
 
 -- entries in the order of their internal keys, those of one key in the order they had
 abbrev pub sorted_entries : (List ℕ → List ℕ → Ordering) → List Entry → List Entry
@@ -32,11 +33,14 @@ has_key cmp key e = is_eq (internal_cmp cmp e.key key)
 
 -- What a sorted merge of lists is, however it is made. It never falls. Of each internal key it has
 -- just the entries that the lists have, in the order of the lists.
-pub record IsMerge (cmp : List ℕ → List ℕ → Ordering) (lists : List (List Entry)) (merge : List Entry) : Type 0 where
+pub record IsMerge (cmp : List ℕ → List ℕ → Ordering) (lists : List (List Entry))
+    (merge : List Entry) : Type 0 where
   pub ordered : NeverFalls cmp merge
-  pub same : (key : List ℕ) → filter (has_key cmp key) merge ≡ filter (has_key cmp key) (entries_of_lists lists)
+  pub same : (key : List ℕ) → filter (has_key cmp key) merge
+      ≡ filter (has_key cmp key) (entries_of_lists lists)
 
 -- any lists have one sorted merge, which is `merged`
 pub record MergeLaw (cmp : List ℕ → List ℕ → Ordering) : Type 0 where
   pub is_merge : (lists : List (List Entry)) → IsMerge cmp lists (merged cmp lists)
-  pub one : (lists : List (List Entry)) (merge : List Entry) → IsMerge cmp lists merge → merge ≡ merged cmp lists
+  pub one : (lists : List (List Entry)) (merge : List Entry) → IsMerge cmp lists merge →
+      merge ≡ merged cmp lists

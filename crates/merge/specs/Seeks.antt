@@ -9,8 +9,10 @@ abbrev pub each_from : (List ℕ → List ℕ → Ordering) → List ℕ → Lis
 each_from cmp target lists = map (entries_from cmp target) lists
 
 -- of each list what a refused seek to this internal key may leave
-abbrev pub EachLeavesFrom : (List ℕ → List ℕ → Ordering) → List ℕ → List (List Entry) → List (List Entry) → Type 0
+abbrev pub EachLeavesFrom : (List ℕ → List ℕ → Ordering) → List ℕ → List (List Entry) →
+    List (List Entry) → Type 0
 EachLeavesFrom cmp target [] [] = Unit {0}
 EachLeavesFrom cmp target [] (new ∷ news) = ⊥
 EachLeavesFrom cmp target (old ∷ olds) [] = ⊥
-EachLeavesFrom cmp target (old ∷ olds) (new ∷ news) = LeavesFrom cmp target old new × EachLeavesFrom cmp target olds news
+EachLeavesFrom cmp target (old ∷ olds) (new ∷ news) = LeavesFrom cmp target old new
+    × EachLeavesFrom cmp target olds news

@@ -1,6 +1,7 @@
 //! The cursor over the entries of several cursors.
 
-ghost use Rattle.std.specs.Prelude.{◌≡◌, ◌<◌, ◌↔◌, [], IsTrue, map, length, drop, slice_get, OnOk, OnErr, IsOkUnless, Ok};
+ghost use Rattle.std.specs.Prelude.{◌≡◌, ◌<◌, ◌↔◌, [], IsTrue, map, length, drop, slice_get, OnOk};
+ghost use Rattle.std.specs.Prelude.{OnErr, IsOkUnless, Ok};
 ghost use Rattle.coding.specs.Answers.{EqualOrMemory, fault};
 ghost use Rattle.coding.specs.declared.fault.FaultName.TheVariants.{Memory};
 ghost use Rattle.table.specs.ReadingCursors.{entries_from, LeavesFrom};
@@ -61,7 +62,8 @@ impl<'c, C: Comparator, S: Cursor<'c, C> + Drop> Merging<C, S> {
     /// The only fault is Memory, which leaves the vector unchanged. `into_cursors` gives the
     /// cursors back.
     pub fn take(alloc: Global, cursors: &mut Vec<S>) -> Result<Merging<C, S>, Fault>
-        ensures merging { EqualOrMemory (λ merging. merging) result (Ok (map S.remaining cursors.old.items)) }
+        ensures merging { EqualOrMemory (λ merging. merging) result
+            (Ok (map S.remaining cursors.old.items)) }
         ensures taken { OnOk result (cursors.new.items ≡ []) }
         ensures unchanged { OnErr result (cursors.new.items ≡ cursors.old.items) }
     {
@@ -102,8 +104,11 @@ fn seek_all<'c, C: Comparator, S: Cursor<'c, C>>(
     cursors: &mut [S],
     target: InternalKey<'_>,
 ) -> Result<(), Fault>
-    ensures ok { OnOk result (map S.remaining cursors.new ≡ each_from C.cmp target.entry.bytes.now (map S.remaining cursors.old)) }
-    ensures err { OnErr result (EachLeavesFrom C.cmp target.entry.bytes.now (map S.remaining cursors.old) (map S.remaining cursors.new)) }
+    ensures ok { OnOk result (map S.remaining cursors.new
+        ≡ each_from C.cmp target.entry.bytes.now (map S.remaining cursors.old)) }
+    ensures err { OnErr result
+        (EachLeavesFrom C.cmp target.entry.bytes.now (map S.remaining cursors.old)
+        (map S.remaining cursors.new)) }
     ensures memory { IsOkUnless result (fault Memory) }
 {
     for cursor in cursors.iter_mut() {
@@ -157,9 +162,13 @@ impl<'c, C: Comparator, S: Cursor<'c, C> + Drop> Cursor<'c, C> for Merging<C, S>
     /// be lost then, and no others.
     fn seek(&mut self, target: InternalKey<'_>) -> Result<(), Fault>
         ensures sought { OnOk result (self.new ≡ each_from C.cmp target.entry.bytes.now self.old) }
-        ensures left { OnErr result (EachLeavesFrom C.cmp target.entry.bytes.now self.old self.new) }
-        ensures ok { OnOk result (merged C.cmp self.new ≡ entries_from C.cmp target.entry.bytes.now (merged C.cmp self.old)) }
-        ensures err { OnErr result (LeavesFrom C.cmp target.entry.bytes.now (merged C.cmp self.old) (merged C.cmp self.new)) }
+        ensures left { OnErr result
+            (EachLeavesFrom C.cmp target.entry.bytes.now self.old self.new) }
+        ensures ok { OnOk result (merged C.cmp self.new
+            ≡ entries_from C.cmp target.entry.bytes.now (merged C.cmp self.old)) }
+        ensures err { OnErr result
+            (LeavesFrom C.cmp target.entry.bytes.now (merged C.cmp self.old)
+            (merged C.cmp self.new)) }
         ensures memory { IsOkUnless result (fault Memory) }
     {
         let cursors = self.cursors.as_mut_slice();

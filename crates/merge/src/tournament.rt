@@ -9,7 +9,8 @@
 //! A step changes one cursor's first entry. Only the matches above its place are played again, one
 //! a round; a pass over all cursors would compare each of them.
 
-ghost use Rattle.std.specs.Prelude.{◌≡◌, ◌+◌, ◌<◌, ◌≤◌, ◌⊎◌, map, length, slice_get, IfOk, IsOkUnless};
+ghost use Rattle.std.specs.Prelude.{◌≡◌, ◌+◌, ◌<◌, ◌≤◌, ◌⊎◌, map, length, slice_get, IfOk};
+ghost use Rattle.std.specs.Prelude.{IsOkUnless};
 ghost use Rattle.std.specs.Option.{option_map};
 ghost use Rattle.std.specs.List.{AllByRecursion};
 ghost use Rattle.coding.specs.Answers.{fault};
@@ -17,7 +18,8 @@ ghost use Rattle.coding.specs.declared.fault.FaultName.TheVariants.{Memory};
 ghost use Rattle.table.specs.ReadingCursors.{NeverFalls};
 ghost use Rattle.merge.specs.Least.{IsMerging};
 ghost use Rattle.merge.specs.Merged.{merged};
-ghost use Rattle.merge.specs.Tournament.{first_key_at, comes_first, AreBeside, IsWinner, IsBracket, IsPlayed, IsMatch, IsAbove, IsTournament};
+ghost use Rattle.merge.specs.Tournament.{first_key_at, comes_first, AreBeside, IsWinner, IsBracket};
+ghost use Rattle.merge.specs.Tournament.{IsPlayed, IsMatch, IsAbove, IsTournament};
 
 use coding::Fault;
 use ikey::{Comparator, InternalKey};
@@ -90,7 +92,8 @@ fn key_at<'a, 'c, C: Comparator, S: Cursor<'c, C>>(
     place: usize,
 ) -> Option<InternalKey<'a>>
     requires { place < length cursors.now }
-    ensures { option_map (λ key. key.bytes.now) result ≡ first_key_at (map S.remaining cursors.now) place }
+    ensures { option_map (λ key. key.bytes.now) result
+        ≡ first_key_at (map S.remaining cursors.now) place }
 {
     let cursor = &cursors[place];
     if !cursor.valid() {
@@ -107,7 +110,9 @@ fn comes_first<C: Comparator>(
     best_key: Option<InternalKey<'_>>,
     best: usize,
 ) -> bool
-    ensures { result ≡ comes_first C.cmp key.entry.bytes.now place (option_map (λ key. key.bytes.now) best_key.entry) best }
+    ensures { result
+        ≡ comes_first C.cmp key.entry.bytes.now place
+        (option_map (λ key. key.bytes.now) best_key.entry) best }
 {
     let Some(best_key) = best_key else {
         return true;
@@ -137,7 +142,8 @@ pub(crate) fn play_path<'c, C: Comparator, S: Cursor<'c, C>>(
 )
     requires within { place < length cursors.now }
     requires bracket { IsBracket (length cursors.now) winners.old }
-    requires others { IsPlayed C.cmp (map S.remaining cursors.now) winners.old (λ node. IsAbove node (length cursors.now + place)) }
+    requires others { IsPlayed C.cmp (map S.remaining cursors.now) winners.old
+        (λ node. IsAbove node (length cursors.now + place)) }
     ensures bracket { IsBracket (length cursors.now) winners.new }
     ensures played { IsPlayed C.cmp (map S.remaining cursors.now) winners.new (λ node. ⊥) }
 {
@@ -213,7 +219,8 @@ pub(crate) fn next_cursor<'a, C: Comparator, S: Entries>(
     requires tournament { IsTournament C.cmp (map S.remaining cursors.now) winners.now }
     requires some { 0 < length (merged C.cmp (map S.remaining cursors.now)) }
     ensures some { 0 < length (S.remaining result.now) }
-    ensures first { slice_get (S.remaining result.now) 0 ≡ slice_get (merged C.cmp (map S.remaining cursors.now)) 0 }
+    ensures first { slice_get (S.remaining result.now) 0
+        ≡ slice_get (merged C.cmp (map S.remaining cursors.now)) 0 }
 {
     &cursors[winners[1]]
 }

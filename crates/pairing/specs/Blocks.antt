@@ -1,5 +1,6 @@
 -- What the merge of two blocks answers.
-use Rattle.std.specs.Prelude.{◌≡◌, ◌⊎◌, ℕ, ◌^◌, nat_le, if◌then◌else◌, List, [], ◌∷◌, length, None, Result, Ok, Err}
+use Rattle.std.specs.Prelude.{◌≡◌, ◌⊎◌, ℕ, ◌^◌, nat_le, if◌then◌else◌, List, [], ◌∷◌, length, None}
+use Rattle.std.specs.Prelude.{Result, Ok, Err}
 use Rattle.coding.specs.Answers.{IsThen, fault, ◌>>=◌}
 use Rattle.coding.specs.declared.fault.Fault.{Fault}
 use Rattle.coding.specs.declared.fault.FaultName.TheVariants.{Block, Duplicate, TooLarge}
@@ -11,15 +12,18 @@ use Rattle.pairing.specs.EntryTests.{tested_after}
 
 -- the block of entries at interval 16; TooLarge if it has more than 2 ^ 30 bytes
 abbrev pub block_within : List Entry → Result (List ℕ) Fault
-block_within entries = if nat_le (length (block 16 entries)) (2 ^ 30) then Ok (block 16 entries) else Err (fault TooLarge)
+block_within entries = if nat_le (length (block 16 entries)) (2 ^ 30) then Ok (block 16 entries)
+    else Err (fault TooLarge)
 
 -- the bytes are a block: its entries if each passes its tests, else the first test that fails
 abbrev pub IsTestedBlock : List ℕ → Result (List Entry) Fault → Type 0
-IsTestedBlock bytes answer = (entries : List Entry) × (IsBlock bytes entries × (answer ≡ tested_after None entries))
+IsTestedBlock bytes answer = (entries : List Entry)
+    × (IsBlock bytes entries × (answer ≡ tested_after None entries))
 
 -- the bytes aren't a block: Block
 abbrev pub IsNoBlock : List ℕ → Result (List Entry) Fault → Type 0
-IsNoBlock bytes answer = ((entries : List Entry) → IsBlock bytes entries → ⊥) × (answer ≡ Err (fault Block))
+IsNoBlock bytes answer = ((entries : List Entry) → IsBlock bytes entries → ⊥)
+    × (answer ≡ Err (fault Block))
 
 -- what the tests of a file answer
 abbrev pub IsFileAnswer : List ℕ → Result (List Entry) Fault → Type 0
@@ -28,7 +32,8 @@ IsFileAnswer bytes answer = IsTestedBlock bytes answer ⊎ IsNoBlock bytes answe
 -- the union of two files; Duplicate if there is none
 abbrev pub IsUnionAnswer : List Entry → List Entry → Result (List Entry) Fault → Type 0
 IsUnionAnswer a b (Ok union) = IsUnion bytewise_cmp (a ∷ b ∷ []) union
-IsUnionAnswer a b (Err e) = ((union : List Entry) → IsUnion bytewise_cmp (a ∷ b ∷ []) union → ⊥) × (e ≡ fault Duplicate)
+IsUnionAnswer a b (Err e) = ((union : List Entry) → IsUnion bytewise_cmp (a ∷ b ∷ []) union → ⊥)
+    × (e ≡ fault Duplicate)
 
 -- the number of entries, and their block; or TooLarge
 abbrev pub counted_block : List Entry → Result (ℕ × List ℕ) Fault

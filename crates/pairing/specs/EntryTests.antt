@@ -1,5 +1,6 @@
 -- The tests of a file's entries, in their order.
-use Rattle.std.specs.Prelude.{ℕ, nat_lt, Bool, true, if◌then◌else◌, List, [], ◌∷◌, length, Option, Some, None, Result, Ok, Err}
+use Rattle.std.specs.Prelude.{ℕ, nat_lt, Bool, true, if◌then◌else◌, List, [], ◌∷◌, length, Option}
+use Rattle.std.specs.Prelude.{Some, None, Result, Ok, Err}
 use Rattle.std.specs.Ordering.{is_lt}
 use Rattle.coding.specs.Answers.{fault, ◌>>=◌}
 use Rattle.coding.specs.declared.fault.Fault.{Fault}
@@ -19,7 +20,8 @@ is_above_bytewise (Some before) key = is_lt (internal_cmp bytewise_cmp before ke
 abbrev pub file_entry_test : Option (List ℕ) → List ℕ → List ℕ → Result (List ℕ) Fault
 file_entry_test before key value = do
   internal ← internal_key_reading key
-  if nat_lt 16777215 (length value) then Err (fault TooLarge) else if is_above_bytewise before key then Ok internal else Err (fault Order)
+  if nat_lt 16777215 (length value) then Err (fault TooLarge) else if is_above_bytewise before key
+      then Ok internal else Err (fault Order)
 
 -- the entries, if each passes its tests after the one before it; else the first test that fails
 abbrev pub tested_after : Option (List ℕ) → List Entry → Result (List Entry) Fault

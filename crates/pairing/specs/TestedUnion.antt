@@ -1,5 +1,6 @@
 -- Tested entries as contracts see them, and their union in a range of user keys.
-use Rattle.std.specs.Prelude.{ℕ, ◌≤◌, Bool, true, if◌then◌else◌, List, [], ◌∷◌, length, map, Option, Some, None, Result, Ok, Err}
+use Rattle.std.specs.Prelude.{ℕ, ◌≤◌, Bool, true, if◌then◌else◌, List, [], ◌∷◌, length, map, Option}
+use Rattle.std.specs.Prelude.{Some, None, Result, Ok, Err}
 use Rattle.std.specs.Ordering.{is_lt}
 use Rattle.coding.specs.Answers.{fault, ◌>>=◌}
 use Rattle.coding.specs.declared.fault.Fault.{Fault}
@@ -28,7 +29,9 @@ is_behind (Some before) key = is_lt (key_version_cmp bytewise_cmp before key)
 -- the entries, if each is after the one before it, by user key and falling sequence; else Duplicate
 abbrev pub distinct_after : Option (List ℕ) → List Entry → Result (List Entry) Fault
 distinct_after before [] = Ok []
-distinct_after before (e ∷ es) = if is_behind before e.key then (distinct_after (Some e.key) es >>= λ others. Ok (e ∷ others)) else Err (fault Duplicate)
+distinct_after before (e ∷ es) =
+    if is_behind before e.key then (distinct_after (Some e.key) es >>= λ others. Ok (e ∷ others))
+    else Err (fault Duplicate)
 
 -- the union of the files' entries in a range, or Duplicate
 abbrev pub union_of : List (List Entry) → Result (List Entry) Fault

@@ -35,7 +35,8 @@ pub(crate) fn tested(alloc: Global, bytes: &[u8]) -> Result<Vec<TestedEntry<'_>>
 
 /// The key of the last entry; None if there is no entry.
 pub(crate) fn last_of<'r>(entries: &'r [TestedEntry<'_>]) -> Option<InternalKey<'r>>
-    ensures { option_map (λ key. key.bytes.now) result ≡ last_key_or None (tested_entries entries.now) }
+    ensures { option_map (λ key. key.bytes.now) result
+        ≡ last_key_or None (tested_entries entries.now) }
 {
     let last = entries.last()?;
     Some(last.key.as_key())
@@ -91,7 +92,8 @@ pub(crate) fn push_entry<'a>(
 ) -> Result<(), Fault>
     requires { length value.now ≤ 16777215 }
     ensures ok { let entry : Entry = record { key = key.entry.bytes.now; value = value.now } in
-        OnOk result (tested_entries entries.new.items ≡ tested_entries entries.old.items ++ entry ∷ []) }
+        OnOk result (tested_entries entries.new.items ≡ tested_entries entries.old.items
+        ++ entry ∷ []) }
     ensures memory { IfErr result (λ e. e ≡ fault Memory) }
 {
     let key = KeyBuf::of(alloc, key)?;

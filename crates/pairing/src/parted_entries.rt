@@ -15,9 +15,11 @@ pub(crate) fn parted<'r, 'a>(
     entries: &'r [TestedEntry<'a>],
     at: &[u8],
 ) -> (&'r [TestedEntry<'a>], &'r [TestedEntry<'a>])
-    ensures parts { tested_entries entries.now ≡ tested_entries result.0.now ++ tested_entries result.1.now }
+    ensures parts { tested_entries entries.now ≡ tested_entries result.0.now
+        ++ tested_entries result.1.now }
     ensures before { AllByRecursion (IsBefore at.now) (tested_entries result.0.now) }
-    ensures from { EntriesRise bytewise_cmp (tested_entries entries.now) → AllByRecursion (IsFrom at.now) (tested_entries result.1.now) }
+    ensures from { EntriesRise bytewise_cmp (tested_entries entries.now) →
+        AllByRecursion (IsFrom at.now) (tested_entries result.1.now) }
 {
     entries.split_at(first_from(entries, at))
 }
@@ -34,8 +36,10 @@ fn is_before(entry: &TestedEntry<'_>, at: &[u8]) -> bool
 /// none.
 fn first_from(entries: &[TestedEntry<'_>], at: &[u8]) -> usize
     ensures within { result ≤ length entries.now }
-    ensures before { (k : ℕ) (d : _) → k < result → IsBefore at.now (tested_entry (slice_index_or entries.now k d)) }
-    ensures from { (d : _) → result < length entries.now → IsFrom at.now (tested_entry (slice_index_or entries.now result d)) }
+    ensures before { (k : ℕ) (d : _) → k < result →
+        IsBefore at.now (tested_entry (slice_index_or entries.now k d)) }
+    ensures from { (d : _) → result < length entries.now →
+        IsFrom at.now (tested_entry (slice_index_or entries.now result d)) }
 {
     for place in 0..entries.len() {
         if !is_before(&entries[place], at) {

@@ -1,6 +1,7 @@
 //! The entries of two files in one range of user keys.
 
-ghost use Rattle.std.specs.Prelude.{◌≡◌, ◌≤◌, ◌++◌, [], ◌∷◌, IfErr, IfOk, None, Ok, OnOk, false, length, true};
+ghost use Rattle.std.specs.Prelude.{◌≡◌, ◌≤◌, ◌++◌, [], ◌∷◌, IfErr, IfOk, None, Ok, OnOk, false};
+ghost use Rattle.std.specs.Prelude.{length, true};
 ghost use Rattle.std.specs.List.{AllByRecursion};
 ghost use Rattle.std.specs.Option.{option_map};
 ghost use Rattle.block.specs.EncodedEntry.{Entry};
@@ -40,7 +41,8 @@ impl<'r, 'a> Model for Parts<'r, 'a> {
 
     ghost view = { λ p. tested_entries p.a.now ∷ tested_entries p.b.now ∷ [] };
 
-    ghost invariant = { λ p. NeverFalls bytewise_cmp (tested_entries p.a.now) × NeverFalls bytewise_cmp (tested_entries p.b.now) };
+    ghost invariant = { λ p. NeverFalls bytewise_cmp (tested_entries p.a.now)
+        × NeverFalls bytewise_cmp (tested_entries p.b.now) };
 }
 
 impl<'r, 'a> Parts<'r, 'a> {
@@ -88,11 +90,14 @@ fn push_behind<'a>(
     value: &'a [u8],
 ) -> Result<(), Fault>
     requires { length value.now ≤ 16777215 }
-    ensures behind { OnOk result (is_behind (last_key_or None (tested_entries union.old.items)) key.entry.bytes.now ≡ true) }
+    ensures behind { OnOk result
+        (is_behind (last_key_or None (tested_entries union.old.items)) key.entry.bytes.now ≡ true) }
     ensures ok { let entry : Entry = record { key = key.entry.bytes.now; value = value.now } in
-        OnOk result (tested_entries union.new.items ≡ tested_entries union.old.items ++ entry ∷ []) }
+        OnOk result (tested_entries union.new.items ≡ tested_entries union.old.items
+        ++ entry ∷ []) }
     ensures refused { IfErr result (λ e. UnlessMemory e
-        ((is_behind (last_key_or None (tested_entries union.old.items)) key.entry.bytes.now ≡ false) × (e ≡ fault Duplicate))) }
+        ((is_behind (last_key_or None (tested_entries union.old.items)) key.entry.bytes.now ≡ false)
+        × (e ≡ fault Duplicate))) }
 {
     if !is_behind(last_of(union), &key) {
         return Err(Fault::of(FaultName::Duplicate));
@@ -103,7 +108,8 @@ fn push_behind<'a>(
 /// Whether `key` is after the key before it, if there is one: by user key rising, then sequence
 /// falling. The type doesn't count.
 fn is_behind(before: Option<InternalKey<'_>>, key: &InternalKey<'_>) -> bool
-    ensures { result ≡ is_behind (option_map (λ key. key.bytes.now) before.entry) key.now.bytes.now }
+    ensures { result
+        ≡ is_behind (option_map (λ key. key.bytes.now) before.entry) key.now.bytes.now }
 {
     match before {
         Some(before) => Bytewise::compare(before.user(), key.user())

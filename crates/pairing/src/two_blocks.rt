@@ -2,7 +2,8 @@
 
 ghost use Rattle.std.specs.Prelude.{IfOk, Ok, map};
 ghost use Rattle.coding.specs.Answers.{EqualOrMemory, HoldsOrMemory};
-ghost use Rattle.pairing.specs.Blocks.{IsBlocksAnswer, IsMerged, IsUnionAnswer, block_within, counted_block};
+ghost use Rattle.pairing.specs.Blocks.{IsBlocksAnswer, IsMerged, IsUnionAnswer, block_within};
+ghost use Rattle.pairing.specs.Blocks.{counted_block};
 ghost use Rattle.ikey.specs.Bytewise.{bytewise_cmp};
 ghost use Rattle.merge.specs.Merged.{entries_of_lists};
 ghost use Rattle.table.specs.ReadingCursors.{EntriesRise};
@@ -59,7 +60,8 @@ pub fn blocks<R: Threads + Sync>(
 /// The number of entries, and their block. TooLarge if the block would be too long; otherwise the
 /// only fault is Memory.
 fn counted(alloc: Global, entries: &[TestedEntry<'_>]) -> Result<(u64, Vec<u8>), Fault>
-    ensures { EqualOrMemory (λ r. (r.0, r.1.items)) result (counted_block (tested_entries entries.now)) }
+    ensures { EqualOrMemory (λ r. (r.0, r.1.items)) result
+        (counted_block (tested_entries entries.now)) }
 {
     let count = entries.len() as u64;
     let block = written(alloc, entries)?;
@@ -95,7 +97,8 @@ fn united<'a, R: Threads + Sync>(
 ) -> Result<Vec<TestedEntry<'a>>, Fault>
     requires rising_a { EntriesRise bytewise_cmp (tested_entries a.now) }
     requires rising_b { EntriesRise bytewise_cmp (tested_entries b.now) }
-    ensures { HoldsOrMemory (λ v. tested_entries v.items) result (IsUnionAnswer (tested_entries a.now) (tested_entries b.now)) }
+    ensures { HoldsOrMemory (λ v. tested_entries v.items) result
+        (IsUnionAnswer (tested_entries a.now) (tested_entries b.now)) }
 {
     let (before_a, from_a) = parted(a, at);
     let (before_b, from_b) = parted(b, at);
@@ -113,7 +116,8 @@ fn in_a_row<'a>(
     alloc: Global,
     runs: Vec<Vec<TestedEntry<'a>>>,
 ) -> Result<Vec<TestedEntry<'a>>, Fault>
-    ensures { EqualOrMemory (λ v. tested_entries v.items) result (Ok (entries_of_lists (map (λ run. tested_entries run.items) runs.entry.items))) }
+    ensures { EqualOrMemory (λ v. tested_entries v.items) result
+        (Ok (entries_of_lists (map (λ run. tested_entries run.items) runs.entry.items))) }
 {
     let mut entries = Vec::new(alloc);
     for mut run in runs {

@@ -1,5 +1,6 @@
 -- Boundary files: those that go on within the user key with which the chosen files end.
-use Rattle.std.specs.Prelude.{◌≡◌, ℕ, nat_eq, Bool, false, not, ◌&&◌, if◌then◌else◌, List, [], ◌∷◌, ◌++◌, filter, find, fold, Option, Some, None}
+use Rattle.std.specs.Prelude.{◌≡◌, ℕ, nat_eq, Bool, false, not, ◌&&◌, if◌then◌else◌, List, [], ◌∷◌}
+use Rattle.std.specs.Prelude.{◌++◌, filter, find, fold, Option, Some, None}
 use Rattle.std.specs.List.{list_any}
 use Rattle.std.specs.Ordering.{is_lt, is_eq}
 use Rattle.std.specs.declared.cmp.Ordering.{Ordering}
@@ -12,7 +13,8 @@ abbrev pub greater_key : (List ℕ → List ℕ → Ordering) → List ℕ → L
 greater_key cmp a b = if is_lt (internal_cmp cmp a b) then b else a
 
 -- the greatest of the keys so far and one more file's largest key
-abbrev pub with_largest : (List ℕ → List ℕ → Ordering) → Option (List ℕ) → FileMeta → Option (List ℕ)
+abbrev pub with_largest : (List ℕ → List ℕ → Ordering) → Option (List ℕ) → FileMeta →
+    Option (List ℕ)
 with_largest cmp None f = Some f.largest
 with_largest cmp (Some key) f = Some (greater_key cmp key f.largest)
 
@@ -24,7 +26,8 @@ largest_key cmp files = fold (with_largest cmp) None files
 -- that user key
 abbrev pub goes_on : (List ℕ → List ℕ → Ordering) → Option (List ℕ) → FileMeta → Bool
 goes_on cmp None f = false
-goes_on cmp (Some key) f = is_lt (internal_cmp cmp key f.smallest) && is_eq (cmp (user_of key) (user_of f.smallest))
+goes_on cmp (Some key) f = is_lt (internal_cmp cmp key f.smallest)
+    && is_eq (cmp (user_of key) (user_of f.smallest))
 
 -- whether a file is one of the files, which are known by their numbers
 abbrev pub is_among : List FileMeta → FileMeta → Bool
@@ -32,17 +35,22 @@ is_among files f = list_any (λ (g : FileMeta). nat_eq g.number f.number) files
 
 -- The next boundary file: the first in version order that isn't chosen yet and goes on within the
 -- user key of the chosen files' largest key.
-abbrev pub next_boundary : (List ℕ → List ℕ → Ordering) → List FileMeta → List FileMeta → Option FileMeta
-next_boundary cmp files chosen = find (λ (f : FileMeta). not (is_among chosen f) && goes_on cmp (largest_key cmp chosen) f) files
+abbrev pub next_boundary : (List ℕ → List ℕ → Ordering) → List FileMeta → List FileMeta →
+    Option FileMeta
+next_boundary cmp files chosen =
+    find (λ (f : FileMeta). not (is_among chosen f) && goes_on cmp (largest_key cmp chosen) f) files
 
 -- The chain of boundary files: each is the next one after those before it, and after the last there
 -- is none.
-abbrev pub IsChain : (List ℕ → List ℕ → Ordering) → List FileMeta → List FileMeta → List FileMeta → Type 0
+abbrev pub IsChain : (List ℕ → List ℕ → Ordering) → List FileMeta → List FileMeta → List FileMeta →
+    Type 0
 IsChain cmp files chosen [] = next_boundary cmp files chosen ≡ None
-IsChain cmp files chosen (f ∷ added) = (next_boundary cmp files chosen ≡ Some f) × IsChain cmp files (chosen ++ f ∷ []) added
+IsChain cmp files chosen (f ∷ added) = (next_boundary cmp files chosen ≡ Some f)
+    × IsChain cmp files (chosen ++ f ∷ []) added
 
 -- These are the chosen files of a level and their boundary files, in version order.
-pub record AreWithBoundaries (cmp : List ℕ → List ℕ → Ordering) (files chosen all : List FileMeta) : Type 0 where
+pub record AreWithBoundaries (cmp : List ℕ → List ℕ → Ordering) (files chosen all : List FileMeta)
+    : Type 0 where
   pub added : List FileMeta
   pub chain : IsChain cmp files chosen added
   pub these : all ≡ filter (is_among (chosen ++ added)) files

@@ -13,20 +13,24 @@ is_at_most cmp a b = is_le (cmp a b)
 
 -- whether the range of the files begins at or before the user key: some file's does
 abbrev pub begins_by : (List ℕ → List ℕ → Ordering) → List FileMeta → List ℕ → Bool
-begins_by cmp files user = list_any (λ (f : FileMeta). is_at_most cmp (user_of f.smallest) user) files
+begins_by cmp files user = list_any (λ (f : FileMeta). is_at_most cmp (user_of f.smallest) user)
+    files
 
 -- whether the range of the files ends at or after the user key: some file's does
 abbrev pub ends_at_or_after : (List ℕ → List ℕ → Ordering) → List FileMeta → List ℕ → Bool
-ends_at_or_after cmp files user = list_any (λ (f : FileMeta). is_at_most cmp user (user_of f.largest)) files
+ends_at_or_after cmp files user =
+    list_any (λ (f : FileMeta). is_at_most cmp user (user_of f.largest)) files
 
 -- Whether the range of a file overlaps that of the files, which goes from the least of their user
 -- keys to the greatest.
 abbrev pub overlaps : (List ℕ → List ℕ → Ordering) → List FileMeta → FileMeta → Bool
-overlaps cmp files f = begins_by cmp files (user_of f.largest) && ends_at_or_after cmp files (user_of f.smallest)
+overlaps cmp files f = begins_by cmp files (user_of f.largest)
+    && ends_at_or_after cmp files (user_of f.smallest)
 
 -- whether the range of a file holds the user key
 abbrev pub holds_user : (List ℕ → List ℕ → Ordering) → List ℕ → FileMeta → Bool
-holds_user cmp user f = is_at_most cmp (user_of f.smallest) user && is_at_most cmp user (user_of f.largest)
+holds_user cmp user f = is_at_most cmp (user_of f.smallest) user
+    && is_at_most cmp user (user_of f.largest)
 
 -- whether no file's range holds the user key: it is at its base
 abbrev pub is_in_none : (List ℕ → List ℕ → Ordering) → List FileMeta → List ℕ → Bool

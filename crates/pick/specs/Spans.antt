@@ -16,16 +16,20 @@ greater_user cmp a b = if is_lt (cmp a b) then b else a
 
 -- the least of a user key and those of the files' smallest keys
 abbrev pub least_user : (List ℕ → List ℕ → Ordering) → List ℕ → List FileMeta → List ℕ
-least_user cmp user files = fold (λ least (f : FileMeta). lesser_user cmp least (user_of f.smallest)) user files
+least_user cmp user files =
+    fold (λ least (f : FileMeta). lesser_user cmp least (user_of f.smallest)) user files
 
 -- the greatest of a user key and those of the files' largest keys
 abbrev pub greatest_user : (List ℕ → List ℕ → Ordering) → List ℕ → List FileMeta → List ℕ
-greatest_user cmp user files = fold (λ greatest (f : FileMeta). greater_user cmp greatest (user_of f.largest)) user files
+greatest_user cmp user files =
+    fold (λ greatest (f : FileMeta). greater_user cmp greatest (user_of f.largest)) user files
 
 -- whether the range of a file overlaps the one from smallest to largest
 abbrev pub is_overlapping : (List ℕ → List ℕ → Ordering) → List ℕ → List ℕ → FileMeta → Bool
-is_overlapping cmp smallest largest f = is_at_most cmp smallest (user_of f.largest) && is_at_most cmp (user_of f.smallest) largest
+is_overlapping cmp smallest largest f = is_at_most cmp smallest (user_of f.largest)
+    && is_at_most cmp (user_of f.smallest) largest
 
 -- whether the range from smallest to largest covers that of a file
 abbrev pub is_covering : (List ℕ → List ℕ → Ordering) → List ℕ → List ℕ → FileMeta → Bool
-is_covering cmp smallest largest f = is_at_most cmp smallest (user_of f.smallest) && is_at_most cmp (user_of f.largest) largest
+is_covering cmp smallest largest f = is_at_most cmp smallest (user_of f.smallest)
+    && is_at_most cmp (user_of f.largest) largest

@@ -7,7 +7,8 @@
 ghost use Rattle.std.specs.Prelude.{◌≡◌, Ok, Some, map, filter, fold};
 ghost use Rattle.std.specs.Option.{option_copied};
 ghost use Rattle.coding.specs.Answers.{EqualOrMemory};
-ghost use Rattle.pick.specs.Boundaries.{greater_key, with_largest, largest_key, goes_on as is_going_on};
+ghost use Rattle.pick.specs.Boundaries.{greater_key, with_largest, largest_key};
+ghost use Rattle.pick.specs.Boundaries.{goes_on as is_going_on};
 ghost use Rattle.pick.specs.Choices.{is_chosen, with_boundary_files};
 
 use crate::choice::Choice;
@@ -88,7 +89,8 @@ pub(crate) fn with_boundaries<'a, C: Comparator>(
     choice: Choice<'_>,
 ) -> Result<Vec<&'a FileMeta>, Fault>
     ensures { EqualOrMemory (λ v. map (λ f. f.now) v.items) result
-        (Ok (with_boundary_files C.cmp (is_chosen C.cmp choice.entry) (map (λ f. f.now) files.now))) }
+        (Ok (with_boundary_files C.cmp (is_chosen C.cmp choice.entry)
+        (map (λ f. f.now) files.now))) }
 {
     let mut largest = largest_chosen::<C>(files, choice);
     let mut all = Vec::new(alloc);

@@ -41,7 +41,8 @@ pub(crate) fn first_file<'a, C: Comparator>(
     files: &[&'a FileMeta],
     pointer: Option<&KeyBuf>,
 ) -> Option<&'a FileMeta>
-    ensures { option_copied result ≡ first_of C.cmp (option_copied pointer.entry) (map (λ f. f.now) files.now) }
+    ensures { option_copied result
+        ≡ first_of C.cmp (option_copied pointer.entry) (map (λ f. f.now) files.now) }
 {
     let first = files.first().copied();
     match pointer {
@@ -53,7 +54,8 @@ pub(crate) fn first_file<'a, C: Comparator>(
 /// The first file whose largest key is greater than `pointer`; None if there is none.
 fn first_above<'a, C: Comparator>(files: &[&'a FileMeta], pointer: &KeyBuf) -> Option<&'a FileMeta>
     ensures { option_copied result
-        ≡ find (λ f. is_lt (internal_cmp C.cmp pointer.now f.largest)) (map (λ f. f.now) files.now) }
+        ≡ find (λ f. is_lt (internal_cmp C.cmp pointer.now f.largest))
+        (map (λ f. f.now) files.now) }
 {
     for file in files {
         if pointer
@@ -72,7 +74,8 @@ fn first_widening<'a, C: Comparator>(
     files: &[&'a FileMeta],
     range: UserRange<'_>,
 ) -> Option<&'a FileMeta>
-    ensures { option_copied result ≡ find (is_widening C.cmp range.entry) (map (λ f. f.now) files.now) }
+    ensures { option_copied result
+        ≡ find (is_widening C.cmp range.entry) (map (λ f. f.now) files.now) }
 {
     for file in files {
         if range.overlaps::<C>(*file) && !range.covers::<C>(*file) {
@@ -88,7 +91,8 @@ pub(crate) fn grown_range<'a, C: Comparator>(
     files: &[&'a FileMeta],
     first: &'a FileMeta,
 ) -> UserRange<'a>
-    ensures { IsGrown C.cmp (map (λ f. f.now) files.now) first.now result.smallest.now result.largest.now }
+    ensures { IsGrown C.cmp (map (λ f. f.now) files.now) first.now result.smallest.now
+        result.largest.now }
 {
     let mut range = UserRange::of(first);
     while let Some(file) = first_widening::<C>(files, range) {

@@ -1,6 +1,7 @@
 //! Copies of files for the inputs, the grandparents and the deeper files.
 
-ghost use Rattle.std.specs.Prelude.{◌≡◌, ◌≤◌, ◌+◌, ◌-◌, ◌++◌, Ok, [], nat_lt, if◌then◌else◌, map, filter, OnOk, IfErr};
+ghost use Rattle.std.specs.Prelude.{◌≡◌, ◌≤◌, ◌+◌, ◌-◌, ◌++◌, Ok, [], nat_lt, if◌then◌else◌, map};
+ghost use Rattle.std.specs.Prelude.{filter, OnOk, IfErr};
 ghost use Rattle.coding.specs.Answers.{EqualOrMemory, fault};
 ghost use Rattle.coding.specs.declared.fault.FaultName.TheVariants.{Memory};
 ghost use Rattle.edit.specs.VersionOrder.{level_files};
@@ -24,7 +25,8 @@ pub(crate) fn push_inputs(
     level: u64,
     files: &[&FileMeta],
 ) -> Result<(), Fault>
-    ensures ok { OnOk result (inputs.new.items ≡ inputs.old.items ++ map (λ f. input_at level f.now) files.now) }
+    ensures ok { OnOk result (inputs.new.items ≡ inputs.old.items
+        ++ map (λ f. input_at level f.now) files.now) }
     ensures memory { IfErr result (λ e. e ≡ fault Memory) }
 {
     for file in files {
@@ -74,7 +76,8 @@ pub(crate) fn deeper_files<C: Comparator>(
     version: &Version,
     from: u64,
 ) -> Result<Vec<FileMeta>, Fault>
-    ensures { EqualOrMemory (λ v. v.items) result (Ok (files_from C.cmp version.now from (7 - from))) }
+    ensures { EqualOrMemory (λ v. v.items) result
+        (Ok (files_from C.cmp version.now from (7 - from))) }
 {
     let mut deeper = Vec::new(alloc);
     for level in from..LAST_LEVEL + 1 {
@@ -94,7 +97,8 @@ pub(crate) fn grandparents<C: Comparator>(
     range: UserRange<'_>,
 ) -> Result<Vec<FileMeta>, Fault>
     ensures { EqualOrMemory (λ v. v.items) result
-        (Ok (if nat_lt 6 level then [] else filter (is_in C.cmp range.entry) (level_files C.cmp version.now level))) }
+        (Ok (if nat_lt 6 level then [] else filter (is_in C.cmp range.entry)
+        (level_files C.cmp version.now level))) }
 {
     if level > LAST_LEVEL {
         return Ok(Vec::new(alloc));

@@ -1,6 +1,7 @@
 //! The choice of the inputs of a compaction.
 
-ghost use Rattle.std.specs.Prelude.{◌≤◌, ◌+◌, ◌-◌, ◌++◌, Ok, [], nat_lt, if◌then◌else◌, map, filter, OnOk};
+ghost use Rattle.std.specs.Prelude.{◌≤◌, ◌+◌, ◌-◌, ◌++◌, Ok, [], nat_lt, if◌then◌else◌, map};
+ghost use Rattle.std.specs.Prelude.{filter, OnOk};
 ghost use Rattle.coding.specs.Answers.{EqualOrMemory, HoldsOrMemory};
 ghost use Rattle.edit.specs.Version.{IsState};
 ghost use Rattle.edit.specs.VersionOrder.{level_files};
@@ -67,7 +68,8 @@ fn files_of(
 ) -> Result<Vec<InputFile>, Fault>
     requires { level ≤ 5 }
     ensures { EqualOrMemory (λ v. v.items) result
-        (Ok (map (λ f. input_at level f.now) upper.now ++ map (λ f. input_at (level + 1) f.now) lower.now)) }
+        (Ok (map (λ f. input_at level f.now) upper.now
+        ++ map (λ f. input_at (level + 1) f.now) lower.now)) }
 {
     let mut files = Vec::with_capacity(alloc, upper.len() + lower.len())?;
     push_inputs(alloc, &mut files, level, upper)?;
@@ -89,7 +91,8 @@ fn picked<C: Comparator>(
     ensures { EqualOrMemory picked_in result (Ok (record {
       level = level;
       files = files.items;
-      grandparents = if nat_lt 6 (level + 2) then [] else filter (is_in C.cmp range.entry) (level_files C.cmp version.now (level + 2));
+      grandparents = if nat_lt 6 (level + 2) then [] else filter (is_in C.cmp range.entry)
+          (level_files C.cmp version.now (level + 2));
       deeper = files_from C.cmp version.now (level + 2) (7 - (level + 2));
       pointer = record { level = level; key = largest.now };
     })) }

@@ -3,7 +3,8 @@
 ghost use Rattle.std.specs.Prelude.{◌≡◌, map};
 ghost use Rattle.ikey.specs.Key.{user_of};
 ghost use Rattle.pick.specs.Ranges.{holds_user as is_holding};
-ghost use Rattle.pick.specs.Spans.{lesser_user, greater_user, least_user, greatest_user, is_overlapping, is_covering};
+ghost use Rattle.pick.specs.Spans.{lesser_user, greater_user, least_user, greatest_user};
+ghost use Rattle.pick.specs.Spans.{is_overlapping, is_covering};
 
 use edit::FileMeta;
 use ikey::Comparator;
@@ -32,8 +33,10 @@ impl<'a> UserRange<'a> {
 
     /// The range, widened to cover a file's.
     pub fn with<C: Comparator>(self, file: &'a FileMeta) -> UserRange<'a>
-        ensures smallest { result.smallest.now ≡ lesser_user C.cmp self.entry.smallest.now (user_of file.now.smallest) }
-        ensures largest { result.largest.now ≡ greater_user C.cmp self.entry.largest.now (user_of file.now.largest) }
+        ensures smallest { result.smallest.now
+            ≡ lesser_user C.cmp self.entry.smallest.now (user_of file.now.smallest) }
+        ensures largest { result.largest.now
+            ≡ greater_user C.cmp self.entry.largest.now (user_of file.now.largest) }
     {
         let other = UserRange::of(file);
         let smallest = match C::compare(other.smallest, self.smallest) {
@@ -49,8 +52,10 @@ impl<'a> UserRange<'a> {
 
     /// The range, widened to cover that of each file.
     pub fn over<C: Comparator>(self, files: &[&'a FileMeta]) -> UserRange<'a>
-        ensures smallest { result.smallest.now ≡ least_user C.cmp self.entry.smallest.now (map (λ f. f.now) files.now) }
-        ensures largest { result.largest.now ≡ greatest_user C.cmp self.entry.largest.now (map (λ f. f.now) files.now) }
+        ensures smallest { result.smallest.now
+            ≡ least_user C.cmp self.entry.smallest.now (map (λ f. f.now) files.now) }
+        ensures largest { result.largest.now
+            ≡ greatest_user C.cmp self.entry.largest.now (map (λ f. f.now) files.now) }
     {
         let mut range = self;
         for file in files {
@@ -61,7 +66,8 @@ impl<'a> UserRange<'a> {
 
     /// Whether the range of a file overlaps this one.
     pub fn overlaps<C: Comparator>(self, file: &FileMeta) -> bool
-        ensures { result ≡ is_overlapping C.cmp self.entry.smallest.now self.entry.largest.now file.now }
+        ensures { result
+            ≡ is_overlapping C.cmp self.entry.smallest.now self.entry.largest.now file.now }
     {
         C::compare(self.smallest, file.largest.as_key().user()).is_le()
             && C::compare(file.smallest.as_key().user(), self.largest).is_le()
@@ -69,7 +75,8 @@ impl<'a> UserRange<'a> {
 
     /// Whether this range covers that of a file.
     pub fn covers<C: Comparator>(self, file: &FileMeta) -> bool
-        ensures { result ≡ is_covering C.cmp self.entry.smallest.now self.entry.largest.now file.now }
+        ensures { result
+            ≡ is_covering C.cmp self.entry.smallest.now self.entry.largest.now file.now }
     {
         C::compare(self.smallest, file.smallest.as_key().user()).is_le()
             && C::compare(file.largest.as_key().user(), self.largest).is_le()

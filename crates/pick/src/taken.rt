@@ -23,7 +23,8 @@ pub(crate) fn upper_files<C: Comparator>(
     level: u64,
 ) -> Result<Vec<&FileMeta>, Fault>
     requires { level ≤ 6 }
-    ensures { HoldsOrMemory (λ v. map (λ f. f.now) v.items) result (IsUpperAnswer C.cmp version.now level) }
+    ensures { HoldsOrMemory (λ v. map (λ f. f.now) v.items) result
+        (IsUpperAnswer C.cmp version.now level) }
 {
     let files = version.files::<C>(alloc, level)?;
     let Some(first) = first_file::<C>(&files, version.pointer(level)) else {

@@ -1,5 +1,7 @@
 -- What is tested of a version's files, one by one and in order.
-use Rattle.std.specs.Prelude.{◌≡◌, ℕ, ◌+◌, ◌-◌, ◌<◌, nat_lt, nat_le, nat_eq, Bool, true, false, not, ◌&&◌, ◌||◌, if◌then◌else◌, List, length, map, slice_get, slice_index_or, Option, Some, None, Ok, AllPairs, Contains}
+use Rattle.std.specs.Prelude.{◌≡◌, ℕ, ◌+◌, ◌-◌, ◌<◌, nat_lt, nat_le, nat_eq, Bool, true, false, not}
+use Rattle.std.specs.Prelude.{◌&&◌, ◌||◌, if◌then◌else◌, List, length, map, slice_get}
+use Rattle.std.specs.Prelude.{slice_index_or, Option, Some, None, Ok, AllPairs, Contains}
 use Rattle.std.specs.List.{IsDistinct}
 use Rattle.std.specs.Option.{option_map, option_map_or}
 use Rattle.std.specs.List.Sorted.{IsSortedBy}
@@ -34,7 +36,8 @@ is_before_end cmp range user = option_map_or (λ upper. is_lt (cmp user upper)) 
 -- Whether the next key in a merge breaks the order after the last one: it has the same user key,
 -- and comes from an earlier list or has no lower sequence.
 abbrev pub steps_back : List ℕ → ℕ → List ℕ → ℕ → Bool
-steps_back last place key next = bytes_eq (user_of key) (user_of last) && (nat_lt next place || nat_le (sequence_of last) (sequence_of key))
+steps_back last place key next = bytes_eq (user_of key) (user_of last)
+    && (nat_lt next place || nat_le (sequence_of last) (sequence_of key))
 
 -- whether a number is below next file; false if next file was never set
 abbrev pub is_below : Option ℕ → ℕ → Bool
@@ -48,18 +51,21 @@ matches_metadata next f size smallest largest =
     is_below next f.number && has_bounds f size smallest largest
 
 -- a file's table is what the version states, and its number is below next file
-pub record IsStatedFile (cmp : List ℕ → List ℕ → Ordering) (tables : List NumberedContents) (next : Option ℕ) (f : FileMeta) : Type 0 where
+pub record IsStatedFile (cmp : List ℕ → List ℕ → Ordering) (tables : List NumberedContents)
+    (next : Option ℕ) (f : FileMeta) : Type 0 where
   pub table : Contents
   pub there : table_of_number tables f.number ≡ Some table
   pub accepted : contents_reading cmp table.bytes ≡ Ok table
   pub rising : EntriesRise cmp table.entries
   pub size : f.size ≡ length table.bytes
   pub smallest : option_map (λ e. e.key) (slice_get table.entries 0) ≡ Some f.smallest
-  pub largest : option_map (λ e. e.key) (slice_get table.entries (length table.entries - 1)) ≡ Some f.largest
+  pub largest : option_map (λ e. e.key) (slice_get table.entries (length table.entries - 1))
+      ≡ Some f.largest
   pub below_next : IsBelowNextFile next f.number
 
 -- what is asked of each file alone
-pub record IsSoundFile (cmp : List ℕ → List ℕ → Ordering) (tables : List NumberedContents) (next : Option ℕ) (f : FileMeta) : Type 0 where
+pub record IsSoundFile (cmp : List ℕ → List ℕ → Ordering) (tables : List NumberedContents)
+    (next : Option ℕ) (f : FileMeta) : Type 0 where
   pub file : IsFileOf cmp tables f
   pub below_next : IsBelowNextFile next f.number
   pub distinct : AllPairs AreDistinct (table_entries tables f.number)
@@ -70,7 +76,9 @@ pub record IsSoundFile (cmp : List ℕ → List ℕ → Ordering) (tables : List
 abbrev pub stands_before : (List ℕ → List ℕ → Ordering) → NewFile → NewFile → Bool
 stands_before cmp f g =
     nat_lt f.level g.level
-    || (nat_eq f.level g.level && (if nat_eq f.level 0 then nat_lt g.meta.number f.meta.number else is_lt (internal_cmp cmp f.meta.largest g.meta.smallest)))
+    || (nat_eq f.level g.level
+    && (if nat_eq f.level 0 then nat_lt g.meta.number f.meta.number else is_lt
+    (internal_cmp cmp f.meta.largest g.meta.smallest)))
 
 -- whether two files have one number
 abbrev pub same_file : NewFile → NewFile → Bool
@@ -90,13 +98,20 @@ rank_of f = if nat_eq f.level 0 then f.meta.number else 0
 -- The order of files, newer entries first: by level, at level 0 by falling number, at each other
 -- level by smallest key.
 abbrev pub standing_cmp : (List ℕ → List ℕ → Ordering) → NewFile → NewFile → Ordering
-standing_cmp cmp f g = ordering_then (nat_cmp f.level g.level) (ordering_then (nat_cmp (rank_of g) (rank_of f)) (internal_cmp cmp f.meta.smallest g.meta.smallest))
+standing_cmp cmp f g =
+    ordering_then (nat_cmp f.level g.level)
+    (ordering_then (nat_cmp (rank_of g) (rank_of f))
+    (internal_cmp cmp f.meta.smallest g.meta.smallest))
 
 -- the listed files are all files of a version, in that order
-pub record AreListed (cmp : List ℕ → List ℕ → Ordering) (files : List NewFile) (listed : List LevelFile) : Type 0 where
+pub record AreListed (cmp : List ℕ → List ℕ → Ordering) (files : List NewFile)
+    (listed : List LevelFile) : Type 0 where
   pub all : AreAll files (map level_file_in listed)
-  pub sorted : IsSortedBy (λ f g. is_lt (standing_cmp cmp (level_file_in f) (level_file_in g))) listed
+  pub sorted : IsSortedBy (λ f g. is_lt (standing_cmp cmp (level_file_in f) (level_file_in g)))
+      listed
 
 -- each file comes before the next one
 abbrev pub AreInTurn : (List ℕ → List ℕ → Ordering) → List LevelFile → Type 0
-AreInTurn cmp listed = (k : ℕ) (d : LevelFile) → k + 1 < length listed → stands_before cmp (level_file_in (slice_index_or listed k d)) (level_file_in (slice_index_or listed (k + 1) d)) ≡ true
+AreInTurn cmp listed = (k : ℕ) (d : LevelFile) → k + 1 < length listed →
+    stands_before cmp (level_file_in (slice_index_or listed k d))
+    (level_file_in (slice_index_or listed (k + 1) d)) ≡ true

@@ -1,5 +1,6 @@
 -- What a version answers of a user key.
-use Rattle.std.specs.Prelude.{ℕ, nat_lt, nat_le, Bool, ◌&&◌, if◌then◌else◌, List, [], ◌∷◌, filter, Option, Some, None}
+use Rattle.std.specs.Prelude.{ℕ, nat_lt, nat_le, Bool, ◌&&◌, if◌then◌else◌, List, [], ◌∷◌, filter}
+use Rattle.std.specs.Prelude.{Option, Some, None}
 use Rattle.std.specs.Option.{option_and_then}
 use Rattle.std.specs.Str.{bytes_eq}
 use Rattle.ikey.specs.declared.kind.Kind.{Kind}
@@ -36,4 +37,6 @@ value_in e = value_by (kind_of e.key) e.value
 -- version with a sequence of at most that, the value of the one of the greatest sequence. None if
 -- that is a deletion, or if there is no such entry.
 abbrev pub get_of : State → List NumberedContents → List ℕ → ℕ → Option (List ℕ)
-get_of v tables user at = option_and_then value_in (newest_entry (filter (is_visible user at) (all_entries tables v.files)))
+get_of v tables user at =
+    option_and_then value_in
+    (newest_entry (filter (is_visible user at) (all_entries tables v.files)))

@@ -11,7 +11,8 @@ use Rattle.reads.specs.Tables.{NumberedContents, all_entries}
 -- each entry's sequence is greater than those of all later entries
 abbrev pub SequencesFall : List Entry → Type 0
 SequencesFall [] = Unit {0}
-SequencesFall (e ∷ es) = AllByRecursion (λ f. sequence_of f.key < sequence_of e.key) es × SequencesFall es
+SequencesFall (e ∷ es) = AllByRecursion (λ f. sequence_of f.key < sequence_of e.key) es
+    × SequencesFall es
 
 -- the entries have this user key
 abbrev pub AreOf : List ℕ → List Entry → Type 0

@@ -29,6 +29,8 @@ pub record AreFallingIn (P : List ℕ → Type 0) (entries : List Entry) : Type 
 
 -- The entries of a version's tables, those with newer entries first, and each table is what the
 -- version states. So the version is lawful exactly if of each user key the sequences fall.
-pub record AreStanding (cmp : List ℕ → List ℕ → Ordering) (v : State) (tables : List NumberedContents) (lists : List (List Entry)) : Type 0 where
-  pub there : tables_test tables v.files ≡ Ok tt
-  pub lawful : IsLawful cmp v tables ↔ AreFalling (entries_of_lists lists)
+pub record AreStanding (cmp : List ℕ → List ℕ →
+    Ordering) (v : State) (tables : List NumberedContents) (lists : List (List Entry)) : Type 0
+  where
+    pub there : tables_test tables v.files ≡ Ok tt
+    pub lawful : IsLawful cmp v tables ↔ AreFalling (entries_of_lists lists)

@@ -16,7 +16,8 @@ pub record NumberedContents : Type 0 where
 
 -- the table of a number: the first that has it
 abbrev pub table_of_number : List NumberedContents → ℕ → Option Contents
-table_of_number tables number = option_map (λ t. t.contents) (find (λ t. nat_eq t.number number) tables)
+table_of_number tables number =
+    option_map (λ t. t.contents) (find (λ t. nat_eq t.number number) tables)
 
 -- the entries of the table of a number; none if there is no such table
 abbrev pub table_entries : List NumberedContents → ℕ → List Entry
@@ -28,4 +29,5 @@ all_entries tables files = flat_map (λ f. table_entries tables f.meta.number) f
 
 -- Missing if one of the files has no table
 abbrev pub tables_test : List NumberedContents → List NewFile → Result (Unit {0}) Fault
-tables_test tables files = if list_all (λ f. is_some (table_of_number tables f.meta.number)) files then Ok tt else Err (fault Missing)
+tables_test tables files = if list_all (λ f. is_some (table_of_number tables f.meta.number)) files
+    then Ok tt else Err (fault Missing)

@@ -31,7 +31,8 @@ pub fn falls_in<C: Comparator>(
     range: Range<'_>,
 ) -> Result<bool, Fault>
     ensures falls { IfOk result (λ falls. (falls ≡ true)
-        ↔ AreFallingIn (IsIn C.cmp (key_range range.entry)) (entries_of_lists cursors.entry.items)) }
+        ↔ AreFallingIn (IsIn C.cmp (key_range range.entry))
+        (entries_of_lists cursors.entry.items)) }
     ensures memory { IfErr result (λ e. e ≡ fault Memory) }
 {
     let mut merging = Merging::<C, TableCursor<'_, C>>::new(alloc, cursors)?;

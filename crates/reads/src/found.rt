@@ -20,7 +20,8 @@ pub(crate) struct Found<'a> {
 impl<'a> Found<'a> {
     /// The value; None if the entry is a deletion.
     pub fn held(self) -> Option<&'a [u8]>
-        ensures { option_map (λ value. value.now) result ≡ value_by self.entry.kind self.entry.value.now }
+        ensures { option_map (λ value. value.now) result
+            ≡ value_by self.entry.kind self.entry.value.now }
     {
         match self.kind {
             Kind::Put => Some(self.value),

@@ -5,7 +5,8 @@
 //! what the version states, each comes before the next one, and of each user key the sequences fall
 //! through all tables.
 
-ghost use Rattle.std.specs.Prelude.{◌≡◌, ◌↔◌, ◌≤◌, true, map, Ok, IsTrue, IfOk, IfErr, OnOk, ◌++◌, length};
+ghost use Rattle.std.specs.Prelude.{◌≡◌, ◌↔◌, ◌≤◌, true, map, Ok, IsTrue, IfOk, IfErr, OnOk, ◌++◌};
+ghost use Rattle.std.specs.Prelude.{length};
 ghost use Rattle.std.specs.List.{All};
 ghost use Rattle.std.specs.Result.{MatchResult};
 ghost use Rattle.std.specs.Option.{is_some};
@@ -15,7 +16,9 @@ ghost use Rattle.edit.specs.Version.{IsState};
 ghost use Rattle.edit.specs.VersionOrder.{at_level};
 ghost use Rattle.reads.specs.Tables.{table_of_number, table_entries, tables_test};
 ghost use Rattle.reads.specs.Lawful.{IsLawful, IsUnlawful};
-ghost use Rattle.reads.specs.FileChecks.{level_file_in, is_below, matches_metadata, IsStatedFile, stands_before, AreAll, rank_of, standing_cmp, AreListed, AreInTurn};
+ghost use Rattle.reads.specs.FileChecks.{level_file_in, is_below, matches_metadata, IsStatedFile};
+ghost use Rattle.reads.specs.FileChecks.{stands_before, AreAll, rank_of, standing_cmp, AreListed};
+ghost use Rattle.reads.specs.FileChecks.{AreInTurn};
 ghost use Rattle.reads.specs.TableOrder.{AreStanding};
 
 use crate::bounds::has_bounds;
@@ -190,7 +193,8 @@ fn is_stated(
     largest: InternalKey<'_>,
 ) -> bool
     ensures { result
-        ≡ matches_metadata next file.now (length bytes.now) smallest.entry.bytes.now largest.entry.bytes.now }
+        ≡ matches_metadata next file.now (length bytes.now) smallest.entry.bytes.now
+        largest.entry.bytes.now }
 {
     is_below(next, file.number) && has_bounds(file, bytes, smallest, largest)
 }

@@ -64,7 +64,8 @@ pub(crate) fn newest_in_table<'a, C: Comparator>(
 ) -> Result<Option<Found<'a>>, Fault>
     requires { kind_of target.bytes.now ≡ Put }
     ensures found { IfOk result (λ found. IsAnswer table.now.entries
-        (user_of target.entry.bytes.now) (sequence_of target.entry.bytes.now) (option_map visible_in found)) }
+        (user_of target.entry.bytes.now) (sequence_of target.entry.bytes.now)
+        (option_map visible_in found)) }
     ensures memory { IfErr result (λ e. e ≡ fault Memory) }
 {
     let mut cursor = TableCursor::new(alloc, table)?;
@@ -79,8 +80,10 @@ fn first_of_user<'a, C: Comparator>(
 ) -> Option<Found<'a>>
     requires { kind_of target.bytes.now ≡ Put }
     // After a seek in a table's entries it is their answer.
-    ensures { (entries : List Entry) → cursor.now ≡ entries_from C.cmp target.entry.bytes.now entries →
-        IsAnswer entries (user_of target.entry.bytes.now) (sequence_of target.entry.bytes.now) (option_map visible_in result) }
+    ensures { (entries : List Entry) →
+        cursor.now ≡ entries_from C.cmp target.entry.bytes.now entries →
+        IsAnswer entries (user_of target.entry.bytes.now) (sequence_of target.entry.bytes.now)
+        (option_map visible_in result) }
 {
     if !cursor.valid() {
         return None;

@@ -45,9 +45,11 @@ pub fn get<'a, C: Comparator>(
     key: &[u8],
     at: u64,
 ) -> Result<Option<&'a [u8]>, Fault>
-    ensures missing { EqualOrMemory (λ value. tt) result (tables_test tables.now version.now.files) }
+    ensures missing { EqualOrMemory (λ value. tt) result
+        (tables_test tables.now version.now.files) }
     ensures lawful { IsLawful C.cmp version.now tables.now →
-        EqualOrMemory (option_map (λ value. value.now)) result (Ok (get_of version.now tables.now key.now at)) }
+        EqualOrMemory (option_map (λ value. value.now)) result
+        (Ok (get_of version.now tables.now key.now at)) }
 {
     let tables = TablePlaces::of(alloc, tables)?;
     get_among(alloc, version, &tables, key, at)
@@ -61,9 +63,11 @@ fn get_among<'a, C: Comparator>(
     key: &[u8],
     at: u64,
 ) -> Result<Option<&'a [u8]>, Fault>
-    ensures missing { EqualOrMemory (λ value. tt) result (tables_test tables.now version.now.files) }
+    ensures missing { EqualOrMemory (λ value. tt) result
+        (tables_test tables.now version.now.files) }
     ensures lawful { IsLawful C.cmp version.now tables.now →
-        EqualOrMemory (option_map (λ value. value.now)) result (Ok (get_of version.now tables.now key.now at)) }
+        EqualOrMemory (option_map (λ value. value.now)) result
+        (Ok (get_of version.now tables.now key.now at)) }
 {
     tables_test(alloc, version, tables)?;
     if key.len() > MAX_USER_KEY {
@@ -88,7 +92,8 @@ fn newest_in_version<'a, C: Comparator>(
     requires there { tables_test tables.now version.now.files ≡ Ok tt }
     ensures found { IsLawful C.cmp version.now tables.now → IfOk result (λ found.
         IsAnswer (all_entries tables.now version.now.files)
-        (user_of target.entry.bytes.now) (sequence_of target.entry.bytes.now) (option_map visible_in found)) }
+        (user_of target.entry.bytes.now) (sequence_of target.entry.bytes.now)
+        (option_map visible_in found)) }
     ensures memory { IfErr result (λ e. e ≡ fault Memory) }
 {
     for level in 0..LEVELS {
@@ -113,7 +118,8 @@ fn newest_at_level<'a, C: Comparator>(
     requires there { All (λ f. is_some (table_of_number tables.now f.now.number) ≡ true) files.now }
     ensures found { All (λ f. IsFileOf C.cmp tables.now f.now) files.now → IfOk result (λ found.
         IsAnswer (flat_map (λ f. table_entries tables.now f.now.number) files.now)
-        (user_of target.entry.bytes.now) (sequence_of target.entry.bytes.now) (option_map visible_in found)) }
+        (user_of target.entry.bytes.now) (sequence_of target.entry.bytes.now)
+        (option_map visible_in found)) }
     ensures memory { IfErr result (λ e. e ≡ fault Memory) }
 {
     let mut newest = None;

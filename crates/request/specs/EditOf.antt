@@ -35,9 +35,9 @@ new_file level w = record {
 abbrev pub new_files : RequestView → List Output → List NewFile
 new_files r outputs = map (new_file (r.picked.level + 1)) outputs
 
--- The edit of a compaction whose outputs are these new files. It has the request's counters, as next
--- file the number after the last output's, and the compact pointer of the level. It deletes each
--- input, and has the new files. It names no comparator.
+-- The edit of a compaction whose outputs are these new files. It has the request's counters, as
+-- next file the number after the last output's, and the compact pointer of the level. It deletes
+-- each input, and has the new files. It names no comparator.
 abbrev pub edit_of : RequestView → List NewFile → Edit
 edit_of r files = record {
   comparator = None;

@@ -1,5 +1,6 @@
 -- The tests of the inputs, and their union.
-use Rattle.std.specs.Prelude.{ℕ, ◌+◌, nat_eq, Bool, ◌&&◌, if◌then◌else◌, List, [], ◌∷◌, length, Some, Result, Ok, Err}
+use Rattle.std.specs.Prelude.{ℕ, ◌+◌, nat_eq, Bool, ◌&&◌, if◌then◌else◌, List, [], ◌∷◌, length}
+use Rattle.std.specs.Prelude.{Some, Result, Ok, Err}
 use Rattle.std.specs.Str.{bytes_eq}
 use Rattle.std.specs.declared.cmp.Ordering.{Ordering}
 use Rattle.coding.specs.Answers.{fault, ◌>>=◌}
@@ -23,10 +24,12 @@ result_at_input place (Err e) = Err (record e { input = Some place })
 -- whether a table's length, first and last key are those that the version states
 abbrev pub table_matches_metadata : FileMeta → Contents → Bool
 table_matches_metadata f table =
-    nat_eq f.size (length table.bytes) && bytes_eq f.smallest (first_key table.entries) && bytes_eq f.largest (last_key [] table.entries)
+    nat_eq f.size (length table.bytes) && bytes_eq f.smallest (first_key table.entries)
+    && bytes_eq f.largest (last_key [] table.entries)
 
 -- the entries of an input's table, or the first test that fails: those of a table, then Bounds
-abbrev pub input_reading : (List ℕ → List ℕ → Ordering) → FileMeta → List ℕ → Result (List Entry) Fault
+abbrev pub input_reading : (List ℕ → List ℕ → Ordering) → FileMeta → List ℕ →
+    Result (List Entry) Fault
 input_reading cmp f bytes = do
   table ← contents_reading cmp bytes
   _ ← test_result (table_matches_metadata f table) Bounds
@@ -34,7 +37,8 @@ input_reading cmp f bytes = do
 
 -- The entries of each input, the first of which is at `place`; or the fault of the first input that
 -- is refused, with its place.
-abbrev pub inputs_reading : (List ℕ → List ℕ → Ordering) → ℕ → List InputFile → List (List ℕ) → Result (List (List Entry)) Fault
+abbrev pub inputs_reading : (List ℕ → List ℕ → Ordering) → ℕ → List InputFile → List (List ℕ) →
+    Result (List (List Entry)) Fault
 inputs_reading cmp place (i ∷ is) (bytes ∷ others) = do
   entries ← result_at_input place (input_reading cmp i.meta bytes)
   rest ← inputs_reading cmp (place + 1) is others
@@ -42,5 +46,7 @@ inputs_reading cmp place (i ∷ is) (bytes ∷ others) = do
 inputs_reading cmp place _ _ = Ok []
 
 -- the union of the inputs; Duplicate if a user key has one sequence twice
-abbrev pub union_reading : (List ℕ → List ℕ → Ordering) → List (List Entry) → Result (List Entry) Fault
-union_reading cmp inputs = if are_distinct (merged cmp inputs) then Ok (merged cmp inputs) else Err (fault Duplicate)
+abbrev pub union_reading : (List ℕ → List ℕ → Ordering) → List (List Entry) →
+    Result (List Entry) Fault
+union_reading cmp inputs = if are_distinct (merged cmp inputs) then Ok (merged cmp inputs) else Err
+    (fault Duplicate)

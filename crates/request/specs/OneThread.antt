@@ -35,8 +35,8 @@ outputs_answer r outputs = do
   })
 
 -- What one thread answers: the first refusal of the request, then of the inputs in order, then
--- Duplicate, then Numbers and TooLarge of the outputs. Else the table of each output with its number,
--- and the bytes of the edit. It knows neither ranges nor workers.
+-- Duplicate, then Numbers and TooLarge of the outputs. Else the table of each output with its
+-- number, and the bytes of the edit. It knows neither ranges nor workers.
 abbrev pub one_thread : (List ℕ → List ℕ → Ordering) → (List ℕ → List ℕ → List ℕ) →
     (List ℕ → List ℕ) → RequestView → Result Answer Fault
 one_thread cmp separator_of successor_of r = do

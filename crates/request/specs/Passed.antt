@@ -17,7 +17,8 @@ pub record IsPassed (cmp : List ℕ → List ℕ → Ordering) (r : RequestView)
   pub few : length r.picked.files ≤ 256
   pub tables : length r.tables ≡ length r.picked.files
   pub level : r.picked.level ≤ 5
-  pub levels : All (λ (i : InputFile). (i.level ≡ r.picked.level) ⊎ (i.level ≡ r.picked.level + 1)) r.picked.files
+  pub levels : All (λ (i : InputFile). (i.level ≡ r.picked.level) ⊎ (i.level ≡ r.picked.level + 1))
+      r.picked.files
   pub limits : AreInLimits r.options
   pub grandparents : LargestRise cmp r.picked.grandparents
   pub listed : IsStrictlyIncreasing (listed_of r.snapshots)

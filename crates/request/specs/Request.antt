@@ -1,11 +1,13 @@
 -- What a compaction is asked for, and its tests.
-use Rattle.std.specs.Prelude.{ℕ, ◌+◌, ◌-◌, ◌^◌, nat_eq, nat_lt, nat_le, Bool, true, ◌&&◌, ◌||◌, List, [], ◌∷◌, length, map, Result}
+use Rattle.std.specs.Prelude.{ℕ, ◌+◌, ◌-◌, ◌^◌, nat_eq, nat_lt, nat_le, Bool, true, ◌&&◌, ◌||◌}
+use Rattle.std.specs.Prelude.{List, [], ◌∷◌, length, map, Result}
 use Rattle.std.specs.List.{list_all}
 use Rattle.std.specs.Ordering.{is_lt}
 use Rattle.std.specs.declared.cmp.Ordering.{Ordering}
 use Rattle.coding.specs.Answers.{◌>>=◌}
 use Rattle.coding.specs.declared.fault.Fault.{Fault}
-use Rattle.coding.specs.declared.fault.FaultName.TheVariants.{NoInput, Level, Options, Snapshot, SnapshotList}
+use Rattle.coding.specs.declared.fault.FaultName.TheVariants.{NoInput, Level, Options, Snapshot}
+use Rattle.coding.specs.declared.fault.FaultName.TheVariants.{SnapshotList}
 use Rattle.ikey.specs.Order.{internal_cmp}
 use Rattle.table.specs.declared.options.Options as declared
 use Rattle.table.specs.ReadingSteps.{test_result}
@@ -54,7 +56,8 @@ below_request r = record {
 
 -- whether the level is from 0 to 5, and each input is of it or of the next
 abbrev pub has_levels : PickedInputs → Bool
-has_levels p = nat_le p.level 5 && list_all (λ (i : InputFile). nat_eq i.level p.level || nat_eq i.level (p.level + 1)) p.files
+has_levels p = nat_le p.level 5
+    && list_all (λ (i : InputFile). nat_eq i.level p.level || nat_eq i.level (p.level + 1)) p.files
 
 -- whether each option is in its limits
 abbrev pub are_in_limits : declared.Options → Bool
@@ -70,13 +73,15 @@ rises_by is_below _ = true
 
 -- whether the largest keys of files rise strictly
 abbrev pub largest_rise : (List ℕ → List ℕ → Ordering) → List FileMeta → Bool
-largest_rise cmp files = rises_by (λ (f g : FileMeta). is_lt (internal_cmp cmp f.largest g.largest)) files
+largest_rise cmp files = rises_by (λ (f g : FileMeta). is_lt (internal_cmp cmp f.largest g.largest))
+    files
 
 -- whether the options are in their limits, there are at most 256 inputs with a table each, and the
 -- largest keys of the grandparents rise
 abbrev pub has_options : (List ℕ → List ℕ → Ordering) → RequestView → Bool
 has_options cmp r =
-    are_in_limits r.options && nat_le (length r.picked.files) 256 && nat_eq (length r.tables) (length r.picked.files)
+    are_in_limits r.options && nat_le (length r.picked.files) 256
+    && nat_eq (length r.tables) (length r.picked.files)
     && largest_rise cmp r.picked.grandparents
 
 -- the snapshots that a request names
@@ -92,7 +97,8 @@ has_snapshots r = list_all (λ n. nat_lt n (2 ^ 56 - 1)) (r.last_sequence ∷ na
 -- whether listed snapshots are at most 4,096, rise strictly, and none is above the last sequence
 abbrev pub is_snapshot_list : Snapshots → ℕ → Bool
 is_snapshot_list (From oldest) last = true
-is_snapshot_list (Listed list) last = nat_le (length list.now) 4096 && rises_by nat_lt list.now && list_all (λ n. nat_le n last) list.now
+is_snapshot_list (Listed list) last = nat_le (length list.now) 4096 && rises_by nat_lt list.now
+    && list_all (λ n. nat_le n last) list.now
 
 -- the tests of a request in their order; the first refusal counts
 abbrev pub request_test : (List ℕ → List ℕ → Ordering) → RequestView → Result (Unit {0}) Fault

@@ -35,7 +35,8 @@ impl<'a> Request<'a> {
         requires { self.now.first_number + length outputs.items < 2 ^ 64 }
         ensures edit { EqualOrMemory edit_in result
             (Ok (edit_of (request_in self.now) outputs.items)) }
-        ensures levels { has_levels (picked_in self.now.picked.now) ≡ true → All (λ (f : NewFile). f.level ≤ 6) outputs.items →
+        ensures levels { has_levels (picked_in self.now.picked.now) ≡ true →
+            All (λ (f : NewFile). f.level ≤ 6) outputs.items →
             IfOk result (λ e. HasValidLevels (edit_in e)) }
         ensures name { IfOk result (λ e. HasShortName (edit_in e)) }
     {
@@ -73,7 +74,8 @@ pub fn deletions_of(alloc: Global, files: &[InputFile]) -> Result<BTreeSet<Delet
 
 /// The compact pointer of the compaction's level. The only fault is Memory.
 fn pointer_of(alloc: Global, picked: &Inputs) -> Result<CompactPointer, Fault>
-    ensures { EqualOrMemory (λ pointer. pointer) result (Ok (record { level = picked.now.level; key = picked.now.pointer.key })) }
+    ensures { EqualOrMemory (λ pointer. pointer) result
+        (Ok (record { level = picked.now.level; key = picked.now.pointer.key })) }
 {
     Ok(CompactPointer {
         level: picked.level,

@@ -4,7 +4,8 @@ ghost use Rattle.std.specs.Prelude.{◌≡◌, nat_eq, nat_lt, nat_le, ◌||◌}
 ghost use Rattle.std.specs.List.{list_all};
 ghost use Rattle.pick.specs.Picked.{picked_in};
 ghost use Rattle.pick.specs.declared.picked.InputFile.{InputFile};
-ghost use Rattle.request.specs.Request.{are_in_limits, has_levels, has_options, has_snapshots, is_snapshot_list, largest_rise, request_in, rises_by};
+ghost use Rattle.request.specs.Request.{are_in_limits, has_levels, has_options, has_snapshots};
+ghost use Rattle.request.specs.Request.{is_snapshot_list, largest_rise, request_in, rises_by};
 
 use crate::request::Request;
 use edit::FileMeta;
@@ -65,7 +66,8 @@ pub(crate) fn is_snapshot_list(snapshots: Snapshots<'_>, last_sequence: u64) -> 
 
 /// Whether each input is of `level` or of `next`.
 fn are_of(files: &[InputFile], level: u64, next: u64) -> bool
-    ensures { result ≡ list_all (λ (i : InputFile). nat_eq i.level level || nat_eq i.level next) files.now }
+    ensures { result ≡ list_all (λ (i : InputFile). nat_eq i.level level || nat_eq i.level next)
+        files.now }
 {
     files
         .iter()

@@ -10,7 +10,8 @@ abbrev pub index_users_of : List Contents → List (List ℕ)
 index_users_of tables = flat_map (λ table. table.index_users) tables
 
 -- exactly the keys of which the fact holds, each once, in order
-pub record IsListOf (cmp : List ℕ → List ℕ → Ordering) (Fact : List ℕ → Type 0) (keys : List (List ℕ)) : Type 0 where
+pub record IsListOf (cmp : List ℕ → List ℕ → Ordering) (Fact : List ℕ →
+    Type 0) (keys : List (List ℕ)) : Type 0 where
   pub rising : KeysRise cmp keys
   pub all : (key : List ℕ) → Fact key → Contains keys key
   pub only : (key : List ℕ) → Contains keys key → Fact key
@@ -25,7 +26,8 @@ IsAtPlaceBelow keys want number key = (j : ℕ) × (0 < j) × (j < number) × Is
 
 -- The boundaries for this many ranges. Take the list of all m user keys, each once and in order.
 -- The boundaries are the keys at the places j * m / want for j from 1 to want - 1, each once.
-pub record IsChoice (cmp : List ℕ → List ℕ → Ordering) (users : List (List ℕ)) (want : ℕ) (boundaries : List (List ℕ)) : Type 0 where
+pub record IsChoice (cmp : List ℕ → List ℕ → Ordering) (users : List (List ℕ)) (want : ℕ)
+    (boundaries : List (List ℕ)) : Type 0 where
   pub keys : List (List ℕ)
   pub each_once : IsListOf cmp (Contains users) keys
   pub at_places : IsListOf cmp (IsAtPlaceBelow keys want want) boundaries
@@ -33,4 +35,5 @@ pub record IsChoice (cmp : List ℕ → List ℕ → Ordering) (users : List (Li
 -- user keys and a wanted number have at most one choice of boundaries
 abbrev pub OneChoiceLaw : (List ℕ → List ℕ → Ordering) → Type 0
 OneChoiceLaw cmp =
-    (users : List (List ℕ)) (want : ℕ) (boundaries others : List (List ℕ)) → IsChoice cmp users want boundaries → IsChoice cmp users want others → boundaries ≡ others
+    (users : List (List ℕ)) (want : ℕ) (boundaries others : List (List ℕ)) →
+    IsChoice cmp users want boundaries → IsChoice cmp users want others → boundaries ≡ others

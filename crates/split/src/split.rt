@@ -1,6 +1,7 @@
 //! Boundaries, and the ranges between them.
 
-ghost use Rattle.std.specs.Prelude.{◌≡◌, ◌+◌, ◌<◌, ◌≤◌, ◌↔◌, ◌⊎◌, true, nat_le, if◌then◌else◌, map, length, slice_get, IsOk, IfOk, IfErr};
+ghost use Rattle.std.specs.Prelude.{◌≡◌, ◌+◌, ◌<◌, ◌≤◌, ◌↔◌, ◌⊎◌, true, nat_le, if◌then◌else◌, map};
+ghost use Rattle.std.specs.Prelude.{length, slice_get, IsOk, IfOk, IfErr};
 ghost use Rattle.std.specs.Option.{option_map};
 ghost use Rattle.coding.specs.Answers.{fault, UnlessMemory};
 ghost use Rattle.coding.specs.declared.fault.FaultName.TheVariants.{SplitCount, SplitOrder};
@@ -76,7 +77,8 @@ impl<C: Comparator> Split<C> {
     /// Faults: SplitCount exactly if `want` is outside 1 to 4,096; otherwise Memory alone.
     pub fn choose(alloc: Global, tables: &[SoundTable<'_, C>], want: u64) -> Result<Split<C>, Fault>
         ensures wanted { (result ≡ Err (fault SplitCount)) ↔ ((want ≡ 0) ⊎ (4096 < want)) }
-        ensures chosen { IfOk result (λ split. IsChoice C.cmp (index_users_of tables.now) want split) }
+        ensures chosen { IfOk result
+            (λ split. IsChoice C.cmp (index_users_of tables.now) want split) }
         ensures refused { IfErr result (λ e. UnlessMemory e (e ≡ fault SplitCount)) }
     {
         if want == 0 || want > MAX_RANGES {
@@ -129,7 +131,8 @@ fn is_rising<C: Comparator>(keys: &[Vec<u8>]) -> bool
 
 /// The key at `place`; None if there is none.
 fn key_at(keys: &[Vec<u8>], place: usize) -> Option<&[u8]>
-    ensures { option_map (λ key. key.now) result ≡ slice_get (map (λ key. key.items) keys.now) place }
+    ensures { option_map (λ key. key.now) result
+        ≡ slice_get (map (λ key. key.items) keys.now) place }
 {
     keys.get(place).map(|key| key.as_slice())
 }

@@ -1,6 +1,7 @@
 //! Boundaries taken from the index keys of tables.
 
-ghost use Rattle.std.specs.Prelude.{◌≡◌, ◌*◌, ◌/◌, ◌<◌, ◌≤◌, ◌++◌, Ok, map, length, Contains, IfOk, OnOk, IsOkUnless};
+ghost use Rattle.std.specs.Prelude.{◌≡◌, ◌*◌, ◌/◌, ◌<◌, ◌≤◌, ◌++◌, Ok, map, length, Contains, IfOk};
+ghost use Rattle.std.specs.Prelude.{OnOk, IsOkUnless};
 ghost use Rattle.std.specs.List.{flat_map};
 ghost use Rattle.coding.specs.Answers.{EqualOrMemory, fault};
 ghost use Rattle.coding.specs.declared.fault.FaultName.TheVariants.{Memory};
@@ -17,7 +18,8 @@ pub(crate) fn index_lists<C: Comparator>(
     alloc: Global,
     tables: &[SoundTable<'_, C>],
 ) -> Result<Vec<KeyList>, Fault>
-    ensures { EqualOrMemory (λ lists. lists.items) result (Ok (map (λ table. table.index_users) tables.now)) }
+    ensures { EqualOrMemory (λ lists. lists.items) result
+        (Ok (map (λ table. table.index_users) tables.now)) }
 {
     let mut lists = Vec::with_capacity(alloc, tables.len())?;
     for table in tables {
@@ -28,7 +30,8 @@ pub(crate) fn index_lists<C: Comparator>(
 
 /// Appends the keys of a list, without copying them. The only fault is Memory.
 fn push_lent<'k>(keys: &mut Vec<&'k [u8]>, list: &'k KeyList) -> Result<(), Fault>
-    ensures ok { OnOk result (map (λ key. key.now) keys.new.items ≡ map (λ key. key.now) keys.old.items ++ list.now) }
+    ensures ok { OnOk result (map (λ key. key.now) keys.new.items
+        ≡ map (λ key. key.now) keys.old.items ++ list.now) }
     ensures memory { IsOkUnless result (fault Memory) }
 {
     for place in 0..list.len() {
@@ -39,7 +42,8 @@ fn push_lent<'k>(keys: &mut Vec<&'k [u8]>, list: &'k KeyList) -> Result<(), Faul
 
 /// The keys of all lists, without copying them. The only fault is Memory.
 pub(crate) fn lent_keys<'k>(alloc: Global, lists: &'k [KeyList]) -> Result<Vec<&'k [u8]>, Fault>
-    ensures { EqualOrMemory (λ keys. map (λ key. key.now) keys.items) result (Ok (flat_map (λ list. list) lists.now)) }
+    ensures { EqualOrMemory (λ keys. map (λ key. key.now) keys.items) result
+        (Ok (flat_map (λ list. list) lists.now)) }
 {
     let mut keys = Vec::new(alloc);
     for list in lists {
@@ -52,7 +56,9 @@ pub(crate) fn lent_keys<'k>(alloc: Global, lists: &'k [KeyList]) -> Result<Vec<&
 ///
 /// The keys of each table are in order already, so a stable sort has only to merge them.
 pub(crate) fn each_once<'k, C: Comparator>(mut keys: Vec<&'k [u8]>) -> Result<Vec<&'k [u8]>, Fault>
-    ensures once { IfOk result (λ once. IsListOf C.cmp (Contains (map (λ key. key.now) keys.entry.items)) (map (λ key. key.now) once.items)) }
+    ensures once { IfOk result
+        (λ once. IsListOf C.cmp (Contains (map (λ key. key.now) keys.entry.items))
+        (map (λ key. key.now) once.items)) }
     ensures memory { IsOkUnless result (fault Memory) }
 {
     keys.sort_by(|key, other| C::compare(key, other))?;
@@ -71,7 +77,8 @@ pub(crate) fn at_places<C: Comparator>(
     requires rising { KeysRise C.cmp (map (λ key. key.now) keys.now) }
     ensures few { IfOk result (λ boundaries. length boundaries.items < want) }
     ensures places { IfOk result (λ boundaries.
-        IsListOf C.cmp (IsAtPlaceBelow (map (λ key. key.now) keys.now) want want) (map (λ key. key.items) boundaries.items)) }
+        IsListOf C.cmp (IsAtPlaceBelow (map (λ key. key.now) keys.now) want want)
+        (map (λ key. key.items) boundaries.items)) }
     ensures memory { IsOkUnless result (fault Memory) }
 {
     let mut boundaries = Vec::new(alloc);

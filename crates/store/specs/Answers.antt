@@ -19,11 +19,13 @@ use Rattle.store.specs.declared.settings.Settings.{Settings}
 
 -- the lines of a compaction's answer, or its refusal
 abbrev pub lines_of : State → PickedInputs → Result Answer Fault → Result (List ℕ) Fault
-lines_of v p answer = answer >>= λ (a : Answer). Ok (compaction_lines a.tables p.files (manifest_of v))
+lines_of v p answer = answer >>=
+    λ (a : Answer). Ok (compaction_lines a.tables p.files (manifest_of v))
 
 -- The answer on a version with the bytes of its tables. The first refusal counts: of a table; of a
 -- version that isn't lawful; of a level without inputs; of their compaction. Else the lines.
-abbrev pub IsLoadedCompacted : (List ℕ → List ℕ → Ordering) → (List ℕ → List ℕ → List ℕ) → (List ℕ → List ℕ)
+abbrev pub IsLoadedCompacted : (List ℕ → List ℕ → Ordering) → (List ℕ → List ℕ → List ℕ) →
+    (List ℕ → List ℕ)
     → State → List (ℕ × List ℕ) → ℕ → Settings → Result (List ℕ) Fault → Type 0
 IsLoadedCompacted cmp separator_of successor_of v loaded level s =
     IsThen (IsLawfulTables cmp v loaded) (λ tables.
@@ -31,13 +33,16 @@ IsLoadedCompacted cmp separator_of successor_of v loaded level s =
     answer ≡ lines_of v p (compaction_of cmp separator_of successor_of v loaded p s)))
 
 -- the same with tables in a folder: first all of them are read, by level and in version order
-abbrev pub IsVersionCompacted : (List ℕ → List ℕ → Ordering) → (List ℕ → List ℕ → List ℕ) → (List ℕ → List ℕ)
+abbrev pub IsVersionCompacted : (List ℕ → List ℕ → Ordering) → (List ℕ → List ℕ → List ℕ) →
+    (List ℕ → List ℕ)
     → Files → State → ℕ → Settings → Result (List ℕ) Fault → Type 0
 IsVersionCompacted cmp separator_of successor_of files v level s =
-    IsThen (IsLoaded (IsHeldIn files) (file_numbers cmp v)) (λ loaded. IsLoadedCompacted cmp separator_of successor_of v loaded level s)
+    IsThen (IsLoaded (IsHeldIn files) (file_numbers cmp v))
+    (λ loaded. IsLoadedCompacted cmp separator_of successor_of v loaded level s)
 
 -- the same of the version that the folder opens as, by the order of its user keys
 abbrev pub IsFolderCompacted : Files → ℕ → Settings → Result (List ℕ) Fault → Type 0
 IsFolderCompacted files level s =
     IsThen (IsOpened (IsHeldIn files)) (λ opened.
-    IsVersionCompacted (order_cmp opened.0) (order_separator opened.0) (order_successor opened.0) files opened.1 level s)
+    IsVersionCompacted (order_cmp opened.0) (order_separator opened.0) (order_successor opened.0)
+    files opened.1 level s)

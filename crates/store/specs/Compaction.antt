@@ -1,5 +1,6 @@
 -- What a compaction makes of a folder.
-use Rattle.std.specs.Prelude.{◌≡◌, ◌⊎◌, ℕ, true, List, [], ◌∷◌, ◌++◌, Option, Result, Ok, IfErr, IfOk, OnOk}
+use Rattle.std.specs.Prelude.{◌≡◌, ◌⊎◌, ℕ, true, List, [], ◌∷◌, ◌++◌, Option, Result, Ok, IfErr}
+use Rattle.std.specs.Prelude.{IfOk, OnOk}
 use Rattle.std.specs.Global.{Vec}
 use Rattle.std.specs.declared.cmp.Ordering.{Ordering}
 use Rattle.coding.specs.Answers.{UnlessMemory, fault}
@@ -27,19 +28,24 @@ use Rattle.store.specs.declared.settings.Settings.{Settings}
 -- The edited version of a compaction's answer: the answer's edit makes it of the version, by a
 -- manifest whose number is next file. With the tables that an installation leaves it is lawful, and
 -- each get at a readable sequence answers as before.
-pub record EditedVersion (order : Order) (cmp : List ℕ → List ℕ → Ordering) (v : State) (loaded : List (ℕ × List ℕ))
+pub record EditedVersion (order : Order) (cmp : List ℕ → List ℕ →
+    Ordering) (v : State) (loaded : List (ℕ × List ℕ))
     (tables : List NumberedContents) (s : Settings) (answer : Answer) : Type 0 where
   pub next : State
-  pub edited : IsEditedBy (order_name order) cmp order v (manifest_of v) answer.tables answer.edit next
+  pub edited : IsEditedBy (order_name order) cmp order v (manifest_of v) answer.tables answer.edit
+      next
   pub tables_next : List NumberedContents
-  pub lawful : IsLawfulTables cmp next (next_version_tables cmp next answer.tables loaded) (Ok tables_next)
+  pub lawful : IsLawfulTables cmp next (next_version_tables cmp next answer.tables loaded)
+      (Ok tables_next)
   pub gets : (user : List ℕ) (at : ℕ) → is_read (readable_of s.snapshots (last_of v)) at ≡ true →
       get_of next tables_next user at ≡ get_of v tables user at
 
 -- A compaction of a level of a version with the bytes of its tables. The version is lawful, the
 -- inputs are picked, and these are the answer, what it makes, and its lines.
-pub record VersionCompaction (order : Order) (cmp : List ℕ → List ℕ → Ordering) (separator_of : List ℕ → List ℕ → List ℕ) (successor_of : List ℕ → List ℕ)
-    (v : State) (loaded : List (ℕ × List ℕ)) (level : ℕ) (s : Settings) (answer : Answer) (lines : List ℕ) : Type 0 where
+pub record VersionCompaction (order : Order) (cmp : List ℕ → List ℕ →
+    Ordering) (separator_of : List ℕ → List ℕ → List ℕ) (successor_of : List ℕ → List ℕ)
+    (v : State) (loaded : List (ℕ × List ℕ)) (level : ℕ) (s : Settings) (answer : Answer)
+    (lines : List ℕ) : Type 0 where
   pub tables : List NumberedContents
   pub lawful : IsLawfulTables cmp v loaded (Ok tables)
   pub picked : PickedInputs
@@ -49,28 +55,34 @@ pub record VersionCompaction (order : Order) (cmp : List ℕ → List ℕ → Or
   pub told : lines ≡ compaction_lines answer.tables picked.files (manifest_of v)
 
 -- a compaction of a level of the version that files read as
-pub record Compaction (order : Order) (cmp : List ℕ → List ℕ → Ordering) (separator_of : List ℕ → List ℕ → List ℕ) (successor_of : List ℕ → List ℕ)
+pub record Compaction (order : Order) (cmp : List ℕ → List ℕ → Ordering) (separator_of : List ℕ →
+    List ℕ → List ℕ) (successor_of : List ℕ → List ℕ)
     (files : Files) (level : ℕ) (s : Settings) : Type 0 where
   pub version : State
   pub loaded : List (ℕ × List ℕ)
   pub reads : ReadsAs cmp order version loaded files
   pub answer : Answer
   pub lines : List ℕ
-  pub compacted : VersionCompaction order cmp separator_of successor_of version loaded level s answer lines
+  pub compacted : VersionCompaction order cmp separator_of successor_of version loaded level s
+      answer lines
 
 -- the edited version of a compaction
-abbrev pub next_of : {order : Order} {cmp : List ℕ → List ℕ → Ordering} {separator_of : List ℕ → List ℕ → List ℕ} {successor_of : List ℕ → List ℕ}
-    {files : Files} {level : ℕ} {s : Settings} → Compaction order cmp separator_of successor_of files level s → State
+abbrev pub next_of : {order : Order} {cmp : List ℕ → List ℕ → Ordering} {separator_of : List ℕ →
+    List ℕ → List ℕ} {successor_of : List ℕ → List ℕ}
+    {files : Files} {level : ℕ} {s : Settings} →
+    Compaction order cmp separator_of successor_of files level s → State
 next_of c = c.compacted.edited.next
 
 -- No call that writes was made, and the folder holds what it held.
-pub record IsUnchanged {T : Type 0} (before after : List Step) (old new : List ℕ → Option (List ℕ) → Type 0) (result : Result T Fault) : Type 0 where
+pub record IsUnchanged {T : Type 0} (before after : List Step) (old new : List ℕ → Option (List ℕ) →
+    Type 0) (result : Result T Fault) : Type 0 where
   pub calls : after ≡ before
   pub same : TellsSame old new
   pub refused : OnOk result ⊥
 
 -- The only call that writes was a sync of the folder, and it holds what it held.
-pub record IsSynced {T : Type 0} (before after : List Step) (old new : List ℕ → Option (List ℕ) → Type 0) (result : Result T Fault) : Type 0 where
+pub record IsSynced {T : Type 0} (before after : List Step) (old new : List ℕ → Option (List ℕ) →
+    Type 0) (result : Result T Fault) : Type 0 where
   pub step : Step
   pub call : call_of step ≡ FolderSynced
   pub calls : after ≡ before ++ step ∷ []
@@ -86,31 +98,40 @@ pub record IsInstalled (order : Order) (cmp : List ℕ → List ℕ → Ordering
     (old new : List ℕ → Option (List ℕ) → Type 0) (result : Result (Vec ℕ) Fault) : Type 0 where
   pub compaction : Compaction order cmp separator_of successor_of files level s
   pub survives : SurvivesCrash cmp order compaction.version compaction.loaded (next_of compaction)
-      (next_version_tables cmp (next_of compaction) compaction.answer.tables compaction.loaded) before after old new result
+      (next_version_tables cmp (next_of compaction) compaction.answer.tables compaction.loaded)
+      before after old new result
   pub printed : IfOk result (λ text. text.items ≡ compaction.lines)
   pub refused : IfErr result (λ e. UnlessMemory e (e ≡ fault Device))
 
 -- what is left of a folder whose version has this order: it is unchanged, or a compaction was
 -- installed
-abbrev pub IsVersionLeft : Order → (List ℕ → List ℕ → Ordering) → (List ℕ → List ℕ → List ℕ) → (List ℕ → List ℕ) → Files → ℕ → Settings
-    → List Step → List Step → (List ℕ → Option (List ℕ) → Type 0) → (List ℕ → Option (List ℕ) → Type 0) → Result (Vec ℕ) Fault → Type 0
+abbrev pub IsVersionLeft : Order → (List ℕ → List ℕ → Ordering) → (List ℕ → List ℕ → List ℕ) →
+    (List ℕ → List ℕ) → Files → ℕ → Settings
+    → List Step → List Step → (List ℕ → Option (List ℕ) → Type 0) →
+    (List ℕ → Option (List ℕ) → Type 0) → Result (Vec ℕ) Fault → Type 0
 IsVersionLeft order cmp separator_of successor_of files level s before after old new result =
-    IsUnchanged before after old new result ⊎ IsInstalled order cmp separator_of successor_of files level s before after old new result
+    IsUnchanged before after old new result
+    ⊎ IsInstalled order cmp separator_of successor_of files level s before after old new result
 
 -- What is left of a folder that held these files: it holds what it held, or after a sync of the
 -- folder a compaction was installed.
 abbrev pub IsFolderLeft : Files → ℕ → Settings
-    → List Step → List Step → (List ℕ → Option (List ℕ) → Type 0) → (List ℕ → Option (List ℕ) → Type 0) → Result (Vec ℕ) Fault → Type 0
+    → List Step → List Step → (List ℕ → Option (List ℕ) → Type 0) →
+    (List ℕ → Option (List ℕ) → Type 0) → Result (Vec ℕ) Fault → Type 0
 IsFolderLeft files level s before after old new result =
     IsSynced before after old new result
-    ⊎ ((order : Order) × IsInstalled order (order_cmp order) (order_separator order) (order_successor order) files level s
+    ⊎ ((order : Order)
+    × IsInstalled order (order_cmp order) (order_separator order) (order_successor order) files
+    level s
     (before ++ Done FolderSynced ∷ []) after old new result)
 
 -- If a sync of the folder keeps each name on which a version rests, the folder stands for the
 -- version after it. It keeps each file that was synced, and each name without a file.
 abbrev pub SyncLaw : Type 0
 SyncLaw =
-    (cmp : List ℕ → List ℕ → Ordering) (order : Order) (v : State) (tables : List (ℕ × List ℕ)) (start : World) (calls : List Step) →
+    (cmp : List ℕ → List ℕ → Ordering) (order : Order) (v : State) (tables : List (ℕ × List ℕ))
+    (start : World) (calls : List Step) →
     ((w : World) → Leads start calls w →
-    ReadsAs cmp order v tables w.shown.files × ((name : List ℕ) → RestsOn cmp v w.shown.files name → IsDurable w.shown name)) →
+    ReadsAs cmp order v tables w.shown.files × ((name : List ℕ) → RestsOn cmp v w.shown.files name →
+    IsDurable w.shown name)) →
     AlwaysStandsAs cmp order v tables start (calls ++ Done FolderSynced ∷ [])

@@ -1,5 +1,6 @@
 -- What is asked of a compaction, if a folder holds this version and these tables.
-use Rattle.std.specs.Prelude.{ℕ, ◌+◌, ◌-◌, ◌^◌, nat_le, nat_lt, ◌&&◌, List, map, unwrap_or, Result, Ok}
+use Rattle.std.specs.Prelude.{ℕ, ◌+◌, ◌-◌, ◌^◌, nat_le, nat_lt, ◌&&◌, List, map, unwrap_or, Result}
+use Rattle.std.specs.Prelude.{Ok}
 use Rattle.std.specs.declared.cmp.Ordering.{Ordering}
 use Rattle.coding.specs.Answers.{◌>>=◌}
 use Rattle.coding.specs.declared.fault.Fault.{Fault}
@@ -37,12 +38,15 @@ request_of v loaded p s = record {
 }
 
 -- that request, or Numbers if no number is left after the manifest's
-abbrev pub numbered_request : State → List (ℕ × List ℕ) → PickedInputs → Settings → Result RequestView Fault
-numbered_request v loaded p s = test_result (nat_lt (manifest_of v) (2 ^ 64 - 1)) Numbers >>= λ _. Ok (request_of v loaded p s)
+abbrev pub numbered_request : State → List (ℕ × List ℕ) → PickedInputs → Settings →
+    Result RequestView Fault
+numbered_request v loaded p s = test_result (nat_lt (manifest_of v) (2 ^ 64 - 1)) Numbers >>=
+    λ _. Ok (request_of v loaded p s)
 
 -- What a compaction of these inputs answers: SplitCount if the ranges are outside 1 to 4,096, then
 -- Numbers if no number is left after the manifest's, then what the request for them answers.
-abbrev pub compaction_of : (List ℕ → List ℕ → Ordering) → (List ℕ → List ℕ → List ℕ) → (List ℕ → List ℕ)
+abbrev pub compaction_of : (List ℕ → List ℕ → Ordering) → (List ℕ → List ℕ → List ℕ) →
+    (List ℕ → List ℕ)
     → State → List (ℕ × List ℕ) → PickedInputs → Settings → Result Answer Fault
 compaction_of cmp separator_of successor_of v loaded p s = do
   _ ← test_result (nat_le 1 s.ranges && nat_le s.ranges 4096) SplitCount

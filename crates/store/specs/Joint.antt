@@ -22,16 +22,19 @@ use Rattle.store.specs.declared.settings.Settings.{Settings}
 -- numbers of its outputs are free.
 abbrev pub OverLaw : (List ℕ → List ℕ → Ordering) → Type 0
 OverLaw cmp =
-    (v : State) (loaded : List (ℕ × List ℕ)) (tables : List NumberedContents) (level : ℕ) (p : PickedInputs) (s : Settings) →
+    (v : State) (loaded : List (ℕ × List ℕ)) (tables : List NumberedContents) (level : ℕ)
+    (p : PickedInputs) (s : Settings) →
     tables_reading cmp loaded ≡ Ok tables → IsLawful cmp v tables → IsPicked cmp v level p →
-    (request_of v loaded p s).log_number < 2 ^ 64 → (request_of v loaded p s).previous_log < 2 ^ 64 →
+    (request_of v loaded p s).log_number < 2 ^ 64 →
+    (request_of v loaded p s).previous_log < 2 ^ 64 →
     IsOver v tables (request_of v loaded p s)
 
 -- If inputs are picked from a lawful version, each has its table under a number of its own, with
 -- the bytes that were loaded.
 abbrev pub InputsReadLaw : (List ℕ → List ℕ → Ordering) → Type 0
 InputsReadLaw cmp =
-    (v : State) (loaded : List (ℕ × List ℕ)) (tables : List NumberedContents) (level : ℕ) (p : PickedInputs) →
+    (v : State) (loaded : List (ℕ × List ℕ)) (tables : List NumberedContents) (level : ℕ)
+    (p : PickedInputs) →
     IsLawfulTables cmp v loaded (Ok tables) → IsPicked cmp v level p →
     HaveTables cmp tables p.files × AreLoaded loaded tables p.files
 
@@ -39,10 +42,14 @@ InputsReadLaw cmp =
 -- edited version, by a manifest whose number is the version's next file. The tables that its
 -- installation leaves are read, the edited version is lawful with them, and each get at a readable
 -- sequence answers as before.
-abbrev pub JointLaw : (List ℕ → List ℕ → Ordering) → (List ℕ → List ℕ → List ℕ) → (List ℕ → List ℕ) → Type 0
+abbrev pub JointLaw : (List ℕ → List ℕ → Ordering) → (List ℕ → List ℕ → List ℕ) →
+    (List ℕ → List ℕ) → Type 0
 JointLaw cmp separator_of successor_of =
-    (order : Order) (v : State) (loaded : List (ℕ × List ℕ)) (tables : List NumberedContents) (level : ℕ) (p : PickedInputs) (s : Settings) (answer : Answer) →
-    tables_reading cmp loaded ≡ Ok tables → IsLawful cmp v tables → All (λ (f : NewFile). f.level ≤ 6) v.files → IsPicked cmp v level p →
-    (request_of v loaded p s).log_number < 2 ^ 64 → (request_of v loaded p s).previous_log < 2 ^ 64 →
+    (order : Order) (v : State) (loaded : List (ℕ × List ℕ)) (tables : List NumberedContents)
+    (level : ℕ) (p : PickedInputs) (s : Settings) (answer : Answer) →
+    tables_reading cmp loaded ≡ Ok tables → IsLawful cmp v tables →
+    All (λ (f : NewFile). f.level ≤ 6) v.files → IsPicked cmp v level p →
+    (request_of v loaded p s).log_number < 2 ^ 64 →
+    (request_of v loaded p s).previous_log < 2 ^ 64 →
     one_thread cmp separator_of successor_of (request_of v loaded p s) ≡ Ok answer →
     EditedVersion order cmp v loaded tables s answer

@@ -8,7 +8,8 @@ use Rattle.request.specs.EditOf.{deletions_of}
 
 -- `output NUMBER SIZE`
 abbrev pub output_line : ℕ × List ℕ → List ℕ
-output_line table = codes "output " ++ decimal table.0 ++ codes " " ++ decimal (length table.1) ++ codes "\n"
+output_line table = codes "output " ++ decimal table.0 ++ codes " " ++ decimal (length table.1)
+    ++ codes "\n"
 
 -- `deleted LEVEL NUMBER`
 abbrev pub deleted_line : DeletedFile → List ℕ
@@ -21,4 +22,5 @@ installed_line number = codes "installed " ++ manifest_name number ++ codes "\n"
 -- the outputs in order, then the inputs by level and number, each once, then the manifest's name
 abbrev pub compaction_lines : List (ℕ × List ℕ) → List InputFile → ℕ → List ℕ
 compaction_lines outputs inputs number =
-    flat_map output_line outputs ++ flat_map deleted_line (deletions_of inputs) ++ installed_line number
+    flat_map output_line outputs ++ flat_map deleted_line (deletions_of inputs)
+    ++ installed_line number

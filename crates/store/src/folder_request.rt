@@ -29,10 +29,13 @@ pub(crate) fn request_of<'a>(
     settings: &Settings<'a>,
 ) -> Result<Request<'a>, Fault>
     ensures asked { (loaded : List (ℕ × List ℕ)) →
-        map (λ t. t.now) tables.now ≡ map (λ i. table_bytes_of loaded i.meta.number) picked.now.files.items →
-        EqualOrMemory request_in result (numbered_request version.now loaded (picked_in picked.now) settings.now) }
+        map (λ t. t.now) tables.now
+        ≡ map (λ i. table_bytes_of loaded i.meta.number) picked.now.files.items →
+        EqualOrMemory request_in result
+        (numbered_request version.now loaded (picked_in picked.now) settings.now) }
     ensures lent { IfOk result (λ r. (r.picked.now ≡ picked.now) × (r.tables.now ≡ tables.now)) }
-    ensures logs { (unwrap_or version.now.log_number 0 < 2 ^ 64) × (unwrap_or version.now.previous_log 0 < 2 ^ 64) }
+    ensures logs { (unwrap_or version.now.log_number 0 < 2 ^ 64)
+        × (unwrap_or version.now.previous_log 0 < 2 ^ 64) }
 {
     let log_number = version.log_number().unwrap_or(0);
     let previous_log = version.previous_log().unwrap_or(0);

@@ -22,7 +22,8 @@ pub(crate) fn take_tables<'t, C: Comparator>(
     inputs: &[InputFile],
 ) -> Result<Vec<SoundTable<'t, C>>, Fault>
     requires { HaveTables C.cmp tables.items inputs.now }
-    ensures these { IfOk result (λ v. map (λ t. Some t) v.items ≡ map (λ i. table_of_number tables.entry.items i.meta.number) inputs.now) }
+    ensures these { IfOk result (λ v. map (λ t. Some t) v.items
+        ≡ map (λ i. table_of_number tables.entry.items i.meta.number) inputs.now) }
     ensures memory { IfErr result (λ e. e ≡ fault Memory) }
 {
     let mut numbered = by_numbers(alloc, tables)?;
@@ -41,7 +42,8 @@ pub(crate) fn bytes_of<'t, C: Comparator>(
     alloc: Global,
     tables: &[SoundTable<'t, C>],
 ) -> Result<Vec<&'t [u8]>, Fault>
-    ensures { EqualOrMemory (λ v. map (λ b. b.now) v.items) result (Ok (map (λ t. t.bytes) tables.now)) }
+    ensures { EqualOrMemory (λ v. map (λ b. b.now) v.items) result
+        (Ok (map (λ t. t.bytes) tables.now)) }
 {
     let mut all = Vec::with_capacity(alloc, tables.len())?;
     for table in tables {

@@ -41,7 +41,8 @@ pub(crate) fn compaction_lines(
 
 /// Appends the lines of the outputs.
 fn push_outputs(text: &mut String, tables: &[(u64, Vec<u8>)]) -> Result<(), Fault>
-    ensures ok { OnOk result (string_bytes text.new ≡ string_bytes text.old ++ flat_map (λ t. output_line (t.0, t.1.items)) tables.now) }
+    ensures ok { OnOk result (string_bytes text.new ≡ string_bytes text.old
+        ++ flat_map (λ t. output_line (t.0, t.1.items)) tables.now) }
     ensures memory { IfErr result (λ e. e ≡ fault Memory) }
 {
     for table in tables {
@@ -53,7 +54,8 @@ fn push_outputs(text: &mut String, tables: &[(u64, Vec<u8>)]) -> Result<(), Faul
 
 /// Appends the line of an output.
 fn push_output(text: &mut String, number: u64, bytes: &[u8]) -> Result<(), Fault>
-    ensures ok { OnOk result (string_bytes text.new ≡ string_bytes text.old ++ output_line (number, bytes.now)) }
+    ensures ok { OnOk result (string_bytes text.new ≡ string_bytes text.old
+        ++ output_line (number, bytes.now)) }
     ensures memory { IfErr result (λ e. e ≡ fault Memory) }
 {
     let size = bytes.len();
@@ -63,7 +65,8 @@ fn push_output(text: &mut String, number: u64, bytes: &[u8]) -> Result<(), Fault
 
 /// Appends the lines of the inputs.
 fn push_all_deleted(text: &mut String, deleted: &BTreeSet<DeletedFile>) -> Result<(), Fault>
-    ensures ok { OnOk result (string_bytes text.new ≡ string_bytes text.old ++ flat_map deleted_line deleted.now.keys) }
+    ensures ok { OnOk result (string_bytes text.new ≡ string_bytes text.old
+        ++ flat_map deleted_line deleted.now.keys) }
     ensures memory { IfErr result (λ e. e ≡ fault Memory) }
 {
     for file in deleted.iter() {
@@ -85,7 +88,8 @@ fn push_deleted(text: &mut String, file: DeletedFile) -> Result<(), Fault>
 
 /// Appends the line of the manifest.
 fn push_installed(alloc: Global, text: &mut String, manifest_number: u64) -> Result<(), Fault>
-    ensures ok { OnOk result (string_bytes text.new ≡ string_bytes text.old ++ installed_line manifest_number) }
+    ensures ok { OnOk result (string_bytes text.new ≡ string_bytes text.old
+        ++ installed_line manifest_number) }
     ensures memory { IfErr result (λ e. e ≡ fault Memory) }
 {
     let name = manifest_name(alloc, manifest_number)?;

@@ -55,9 +55,11 @@ pub(crate) fn compact_loaded<C: SharedComparator + 'static, W: Watch + Sync, R: 
     watch: &W,
 ) -> Result<Ready, Fault>
     ensures answer { HoldsOrMemory (λ c. c.lines.items) result
-        (IsLoadedCompacted C.cmp C.separator_of C.successor_of version.now (tables_in loaded.now) level settings.now) }
+        (IsLoadedCompacted C.cmp C.separator_of C.successor_of version.now (tables_in loaded.now)
+        level settings.now) }
     ensures compacted { (order : Order) → IfOk result (λ c.
-        VersionCompaction order C.cmp C.separator_of C.successor_of version.now (tables_in loaded.now) level settings.now (answer_in c.outcome)
+        VersionCompaction order C.cmp C.separator_of C.successor_of version.now
+        (tables_in loaded.now) level settings.now (answer_in c.outcome)
         c.lines.items) }
 {
     answer_is_installed::<C>();
@@ -82,9 +84,13 @@ fn compact_picked<'t, C: SharedComparator + 'static, W: Watch + Sync, R: Threads
     watch: &W,
 ) -> Result<Outcome, Fault>
     requires tables { HaveTables C.cmp tables.items picked.now.files.items }
-    ensures answer { (loaded : List (ℕ × List ℕ)) → AreLoaded loaded tables.entry.items picked.now.files.items →
-        EqualOrMemory answer_in result (compaction_of C.cmp C.separator_of C.successor_of version.now loaded (picked_in picked.now) settings.now) }
-    ensures logs { IfOk result (λ _. (unwrap_or version.now.log_number 0 < 2 ^ 64) × (unwrap_or version.now.previous_log 0 < 2 ^ 64)) }
+    ensures answer { (loaded : List (ℕ × List ℕ)) →
+        AreLoaded loaded tables.entry.items picked.now.files.items →
+        EqualOrMemory answer_in result
+        (compaction_of C.cmp C.separator_of C.successor_of version.now loaded
+        (picked_in picked.now) settings.now) }
+    ensures logs { IfOk result (λ _. (unwrap_or version.now.log_number 0 < 2 ^ 64)
+        × (unwrap_or version.now.previous_log 0 < 2 ^ 64)) }
 {
     let taken = take_tables(alloc, tables, &picked.files)?;
     let split = split_of(alloc, &taken, settings.ranges)?;
@@ -101,7 +107,8 @@ fn split_of<C: Comparator>(
     tables: &[SoundTable<'_, C>],
     ranges: u64,
 ) -> Result<Split<C>, Fault>
-    ensures { EqualOrMemory (λ split. tt) result (test_result (nat_le 1 ranges && nat_le ranges 4096) SplitCount) }
+    ensures { EqualOrMemory (λ split. tt) result
+        (test_result (nat_le 1 ranges && nat_le ranges 4096) SplitCount) }
 {
     Split::choose(alloc, tables, ranges)
 }

@@ -19,7 +19,8 @@ version_after v r outputs = record {
   previous_log = Some r.previous_log;
   next_file = Some (r.first_number + length outputs);
   last_sequence = Some r.last_sequence;
-  pointers = with_pointer v.pointers (record { level = r.picked.level; key = r.picked.pointer.key });
+  pointers =
+      with_pointer v.pointers (record { level = r.picked.level; key = r.picked.pointer.key });
   files = fold with_file (staying_files v r.picked) (new_files r outputs);
 }
 
@@ -31,9 +32,16 @@ AreNumberedFrom number (w ∷ ws) = (w.number ≡ number) × AreNumberedFrom (nu
 -- If the inputs were picked from a lawful version and the outputs are numbered from its next file
 -- on, the edit applies and makes that version. Its files are those that stay, and the outputs.
 pub record EditApplies (cmp : List ℕ → List ℕ → Ordering) : Type 0 where
-  pub applies : (v : State) (tables : List NumberedContents) (level : ℕ) (r : RequestView) (outputs : List Output) →
-      IsLawful cmp v tables → IsPicked cmp v level r.picked → ForSome v.next_file (λ next. next ≤ r.first_number) → AreNumberedFrom r.first_number outputs →
+  pub applies : (v : State) (tables : List NumberedContents) (level : ℕ) (r : RequestView)
+      (outputs : List Output) →
+      IsLawful cmp v tables → IsPicked cmp v level r.picked →
+      ForSome v.next_file (λ next. next ≤ r.first_number) →
+      AreNumberedFrom r.first_number outputs →
       applied v (edit_of r (new_files r outputs)) ≡ Some (version_after v r outputs)
-  pub files : (v : State) (tables : List NumberedContents) (level : ℕ) (r : RequestView) (outputs : List Output) →
-      IsLawful cmp v tables → IsPicked cmp v level r.picked → ForSome v.next_file (λ next. next ≤ r.first_number) → AreNumberedFrom r.first_number outputs →
-      IsPermutation (staying_files v r.picked ++ new_files r outputs) (version_after v r outputs).files
+  pub files : (v : State) (tables : List NumberedContents) (level : ℕ) (r : RequestView)
+      (outputs : List Output) →
+      IsLawful cmp v tables → IsPicked cmp v level r.picked →
+      ForSome v.next_file (λ next. next ≤ r.first_number) →
+      AreNumberedFrom r.first_number outputs →
+      IsPermutation (staying_files v r.picked ++ new_files r outputs)
+      (version_after v r outputs).files

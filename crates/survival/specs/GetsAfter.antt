@@ -26,10 +26,13 @@ entries_of_inputs tables p = map (λ (i : InputFile). table_entries tables i.met
 
 -- The files of the version after have the entries of the files that stay, what is kept of the
 -- inputs' union, and no other entries.
-pub record HoldKept (cmp : List ℕ → List ℕ → Ordering) (v : State) (tables : List NumberedContents) (p : PickedInputs) (r : Readable) (union : List Entry)
+pub record HoldKept (cmp : List ℕ → List ℕ → Ordering) (v : State) (tables : List NumberedContents)
+    (p : PickedInputs) (r : Readable) (union : List Entry)
     (after : State) (tables_after : List NumberedContents) : Type 0 where
-  pub holds_staying : (e : Entry) → Contains (all_entries tables (staying_files v p)) e → Contains (all_entries tables_after after.files) e
-  pub holds_kept : (e : Entry) → Contains (kept cmp r p.deeper union) e → Contains (all_entries tables_after after.files) e
+  pub holds_staying : (e : Entry) → Contains (all_entries tables (staying_files v p)) e →
+      Contains (all_entries tables_after after.files) e
+  pub holds_kept : (e : Entry) → Contains (kept cmp r p.deeper union) e →
+      Contains (all_entries tables_after after.files) e
   pub only : (e : Entry) → Contains (all_entries tables_after after.files) e →
       Contains (all_entries tables (staying_files v p)) e ⊎ Contains (kept cmp r p.deeper union) e
 
@@ -37,7 +40,10 @@ pub record HoldKept (cmp : List ℕ → List ℕ → Ordering) (v : State) (tabl
 -- holds what is kept of their union, each get at a sequence that stays readable answers as before.
 abbrev pub GetsAfter : (List ℕ → List ℕ → Ordering) → Type 0
 GetsAfter cmp =
-    (v : State) (tables : List NumberedContents) (level : ℕ) (p : PickedInputs) (r : Readable) (union : List Entry) (after : State) (tables_after : List NumberedContents) →
-    IsLawful cmp v tables → All (λ (f : NewFile). f.level ≤ 6) v.files → IsPicked cmp v level p → IsUnion cmp (entries_of_inputs tables p) union →
+    (v : State) (tables : List NumberedContents) (level : ℕ) (p : PickedInputs) (r : Readable)
+    (union : List Entry) (after : State) (tables_after : List NumberedContents) →
+    IsLawful cmp v tables → All (λ (f : NewFile). f.level ≤ 6) v.files → IsPicked cmp v level p →
+    IsUnion cmp (entries_of_inputs tables p) union →
     HoldKept cmp v tables p r union after tables_after →
-    (user : List ℕ) (at : ℕ) → is_read r at ≡ true → get_of after tables_after user at ≡ get_of v tables user at
+    (user : List ℕ) (at : ℕ) → is_read r at ≡ true → get_of after tables_after user at
+    ≡ get_of v tables user at

@@ -1,5 +1,6 @@
 -- A request over a version, and what a compaction's outputs hold.
-use Rattle.std.specs.Prelude.{◌≡◌, ◌≢◌, ℕ, ◌+◌, ◌<◌, ◌≤◌, ◌^◌, List, [], length, map, Option, Some, Ok}
+use Rattle.std.specs.Prelude.{◌≡◌, ◌≢◌, ℕ, ◌+◌, ◌<◌, ◌≤◌, ◌^◌, List, [], length, map, Option, Some}
+use Rattle.std.specs.Prelude.{Ok}
 use Rattle.std.specs.List.{All, AllByRecursion}
 use Rattle.std.specs.Option.{option_map, ForSome}
 use Rattle.std.specs.declared.cmp.Ordering.{Ordering}
@@ -27,7 +28,8 @@ use Rattle.survival.specs.EditAfter.{AreNumberedFrom}
 
 -- the bytes of an input's table, if the version's tables have one
 abbrev pub input_bytes_of : List NumberedContents → InputFile → Option (List ℕ)
-input_bytes_of tables i = option_map (λ (t : Contents). t.bytes) (table_of_number tables i.meta.number)
+input_bytes_of tables i =
+    option_map (λ (t : Contents). t.bytes) (table_of_number tables i.meta.number)
 
 -- A request is over a version with its tables: it has the bytes of the inputs' tables in order,
 -- numbers its outputs from the version's next file on, and its log numbers are below 2 ^ 64.
@@ -39,7 +41,8 @@ pub record IsOver (v : State) (tables : List NumberedContents) (r : RequestView)
 
 -- The bytes are a table of these entries: there is one, their internal keys rise strictly, the
 -- bytes are at most 2 ^ 30, and they read as just these entries.
-pub record AreWritten (cmp : List ℕ → List ℕ → Ordering) (bytes : List ℕ) (entries : List Entry) : Type 0 where
+pub record AreWritten (cmp : List ℕ → List ℕ → Ordering) (bytes : List ℕ) (entries : List Entry)
+    : Type 0 where
   pub some : entries ≢ []
   pub keys : AllByRecursion (λ e. IsInternalKey e.key) entries
   pub rising : EntriesRise cmp entries
@@ -55,7 +58,8 @@ output_entries outputs = map (λ (w : Output). w.entries) outputs
 -- What an answer is made of. The request passes its tests, and the inputs' tables have a union. The
 -- outputs are numbered from the first number on and hold what is kept of the union, no user key in
 -- two of them. Each is written as a table, and the edit is that of the outputs.
-pub record HoldOutputs (cmp : List ℕ → List ℕ → Ordering) (separator_of : List ℕ → List ℕ → List ℕ) (successor_of : List ℕ → List ℕ)
+pub record HoldOutputs (cmp : List ℕ → List ℕ → Ordering) (separator_of : List ℕ → List ℕ →
+    List ℕ) (successor_of : List ℕ → List ℕ)
     (tables : List NumberedContents) (r : RequestView) (answer : Answer) : Type 0 where
   pub tested : request_test cmp r ≡ Ok tt
   pub union : List Entry
@@ -63,17 +67,21 @@ pub record HoldOutputs (cmp : List ℕ → List ℕ → Ordering) (separator_of 
   pub is_union : IsUnion cmp (entries_of_inputs tables r.picked) union
   pub numbered : AreNumberedFrom r.first_number outputs
   pub few : r.first_number + length outputs < 2 ^ 64
-  pub holds_kept : all_of (output_entries outputs) ≡ kept cmp (readable_of r.snapshots r.last_sequence) r.picked.deeper union
+  pub holds_kept : all_of (output_entries outputs)
+      ≡ kept cmp (readable_of r.snapshots r.last_sequence) r.picked.deeper union
   pub users : UsersRise cmp (output_entries outputs)
-  pub bytes : All (λ (w : Output). w.bytes ≡ table_for cmp separator_of successor_of r w.entries) outputs
+  pub bytes : All (λ (w : Output). w.bytes ≡ table_for cmp separator_of successor_of r w.entries)
+      outputs
   pub written : All (λ (w : Output). AreWritten cmp w.bytes w.entries) outputs
   pub answer_tables : answer.tables ≡ numbered_tables outputs
   pub answer_edit : answer.edit ≡ edit_bytes (edit_of r (new_files r outputs))
 
 -- each answer of one thread is made so, if the inputs were picked from a lawful version and the
 -- request is over it
-abbrev pub OutputsHold : (List ℕ → List ℕ → Ordering) → (List ℕ → List ℕ → List ℕ) → (List ℕ → List ℕ) → Type 0
+abbrev pub OutputsHold : (List ℕ → List ℕ → Ordering) → (List ℕ → List ℕ → List ℕ) →
+    (List ℕ → List ℕ) → Type 0
 OutputsHold cmp separator_of successor_of =
     (v : State) (tables : List NumberedContents) (level : ℕ) (r : RequestView) (answer : Answer) →
-    IsLawful cmp v tables → IsPicked cmp v level r.picked → IsOver v tables r → one_thread cmp separator_of successor_of r ≡ Ok answer →
+    IsLawful cmp v tables → IsPicked cmp v level r.picked → IsOver v tables r →
+    one_thread cmp separator_of successor_of r ≡ Ok answer →
     HoldOutputs cmp separator_of successor_of tables r answer

@@ -14,7 +14,14 @@ key_of_sequence sequence = internal_key (117 ∷ []) sequence Put
 
 -- a file that has only u at this sequence
 abbrev pub file_at : ℕ → ℕ → FileMeta
-file_at number sequence = record { number = number; size = 113; smallest = key_of_sequence sequence; largest = key_of_sequence sequence }
+file_at number sequence =
+    record {
+      number = number;
+      size = 113;
+      smallest = key_of_sequence sequence;
+      largest =
+          key_of_sequence sequence;
+    }
 
 -- its entry
 abbrev pub entry_of_sequence : ℕ → Entry
@@ -22,7 +29,12 @@ entry_of_sequence sequence = record { key = key_of_sequence sequence; value = []
 
 -- its table
 abbrev pub table_at : ℕ → ℕ → NumberedContents
-table_at number sequence = record { number = number; contents = record { bytes = []; entries = entry_of_sequence sequence ∷ []; index_users = [] } }
+table_at number sequence =
+    record {
+      number = number;
+      contents =
+          record { bytes = []; entries = entry_of_sequence sequence ∷ []; index_users = [] };
+    }
 
 -- A has number 8, B has number 9
 abbrev pub two_files : State

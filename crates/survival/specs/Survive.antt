@@ -24,46 +24,60 @@ abbrev pub output_table : (List ℕ → List ℕ → Ordering) → ℕ × List �
 output_table cmp output = record { number = output.0; contents = contents_in cmp output.1 }
 
 -- the tables after a compaction: the outputs, and the old tables less those of the inputs
-abbrev pub tables_after : (List ℕ → List ℕ → Ordering) → PickedInputs → Answer → List NumberedContents → List NumberedContents
+abbrev pub tables_after : (List ℕ → List ℕ → Ordering) → PickedInputs → Answer →
+    List NumberedContents → List NumberedContents
 tables_after cmp p answer tables =
-    map (output_table cmp) answer.tables ++ filter (λ (t : NumberedContents). not (is_input p t.number)) tables
+    map (output_table cmp) answer.tables
+    ++ filter (λ (t : NumberedContents). not (is_input p t.number)) tables
 
 -- Let the inputs be picked from a lawful version with files at levels up to 6. If an answer's
 -- outputs hold what they should, the version after is lawful with the tables after. Its files hold
 -- the entries of the files that stay and what is kept of the inputs' union.
-pub record VersionAfterLaw (cmp : List ℕ → List ℕ → Ordering) (separator_of : List ℕ → List ℕ → List ℕ) (successor_of : List ℕ → List ℕ) : Type 0 where
-  pub lawful : (v : State) (tables : List NumberedContents) (level : ℕ) (r : RequestView) (answer : Answer) →
-      IsLawful cmp v tables → All (λ (f : NewFile). f.level ≤ 6) v.files → IsPicked cmp v level r.picked → IsOver v tables r →
+pub record VersionAfterLaw (cmp : List ℕ → List ℕ → Ordering) (separator_of : List ℕ → List ℕ →
+    List ℕ) (successor_of : List ℕ → List ℕ) : Type 0 where
+  pub lawful : (v : State) (tables : List NumberedContents) (level : ℕ) (r : RequestView)
+      (answer : Answer) →
+      IsLawful cmp v tables → All (λ (f : NewFile). f.level ≤ 6) v.files →
+      IsPicked cmp v level r.picked → IsOver v tables r →
       (held : HoldOutputs cmp separator_of successor_of tables r answer) →
       IsLawful cmp (version_after v r held.outputs) (tables_after cmp r.picked answer tables)
-  pub holds : (v : State) (tables : List NumberedContents) (level : ℕ) (r : RequestView) (answer : Answer) →
-      IsLawful cmp v tables → All (λ (f : NewFile). f.level ≤ 6) v.files → IsPicked cmp v level r.picked → IsOver v tables r →
+  pub holds : (v : State) (tables : List NumberedContents) (level : ℕ) (r : RequestView)
+      (answer : Answer) →
+      IsLawful cmp v tables → All (λ (f : NewFile). f.level ≤ 6) v.files →
+      IsPicked cmp v level r.picked → IsOver v tables r →
       (held : HoldOutputs cmp separator_of successor_of tables r answer) →
       HoldKept cmp v tables r.picked (readable_of r.snapshots r.last_sequence) held.union
       (version_after v r held.outputs) (tables_after cmp r.picked answer tables)
 
 -- The edit applies, the version after is lawful, and each get at a sequence that stays readable
 -- answers as before.
-pub record KeepsReads (cmp : List ℕ → List ℕ → Ordering) (v : State) (tables : List NumberedContents)
+pub record KeepsReads (cmp : List ℕ → List ℕ →
+    Ordering) (v : State) (tables : List NumberedContents)
     (r : RequestView) (answer : Answer) (e : Edit) : Type 0 where
   pub after : State
   pub is_after : applied v e ≡ Some after
   pub lawful_after : IsLawful cmp after (tables_after cmp r.picked answer tables)
-  pub gets_after : (user : List ℕ) (at : ℕ) → is_read (readable_of r.snapshots r.last_sequence) at ≡ true →
+  pub gets_after : (user : List ℕ) (at : ℕ) → is_read (readable_of r.snapshots r.last_sequence) at
+      ≡ true →
       get_of after (tables_after cmp r.picked answer tables) user at ≡ get_of v tables user at
 
 -- What an answer leaves of each lawful version with files at levels up to 6 from which the
 -- request's inputs were picked: the bytes of the edit read as an edit, and in the version that any
 -- such edit makes reads survive.
-pub record LeavesReads (cmp : List ℕ → List ℕ → Ordering) (r : RequestView) (answer : Answer) : Type 0 where
+pub record LeavesReads (cmp : List ℕ → List ℕ → Ordering) (r : RequestView) (answer : Answer) : Type
+    0 where
   pub reads : (v : State) (tables : List NumberedContents) (level : ℕ) →
-      IsLawful cmp v tables → All (λ (f : NewFile). f.level ≤ 6) v.files → IsPicked cmp v level r.picked → IsOver v tables r →
+      IsLawful cmp v tables → All (λ (f : NewFile). f.level ≤ 6) v.files →
+      IsPicked cmp v level r.picked → IsOver v tables r →
       (e : Edit) × IsEdit answer.edit e
   pub survives : (v : State) (tables : List NumberedContents) (level : ℕ) (e : Edit) →
-      IsLawful cmp v tables → All (λ (f : NewFile). f.level ≤ 6) v.files → IsPicked cmp v level r.picked → IsOver v tables r →
+      IsLawful cmp v tables → All (λ (f : NewFile). f.level ≤ 6) v.files →
+      IsPicked cmp v level r.picked → IsOver v tables r →
       IsEdit answer.edit e → KeepsReads cmp v tables r answer e
 
 -- each answer of one thread leaves reads so
-abbrev pub ReadsSurvive : (List ℕ → List ℕ → Ordering) → (List ℕ → List ℕ → List ℕ) → (List ℕ → List ℕ) → Type 0
+abbrev pub ReadsSurvive : (List ℕ → List ℕ → Ordering) → (List ℕ → List ℕ → List ℕ) →
+    (List ℕ → List ℕ) → Type 0
 ReadsSurvive cmp separator_of successor_of =
-    (r : RequestView) (answer : Answer) → one_thread cmp separator_of successor_of r ≡ Ok answer → LeavesReads cmp r answer
+    (r : RequestView) (answer : Answer) → one_thread cmp separator_of successor_of r ≡ Ok answer →
+    LeavesReads cmp r answer

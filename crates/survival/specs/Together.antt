@@ -1,6 +1,7 @@
 -- Of the entries of a user key in a lawful version, those of the inputs of a compaction are
 -- together.
-use Rattle.std.specs.Prelude.{◌≡◌, ℕ, zero, suc, ◌+◌, ◌-◌, ◌≤◌, true, not, List, [], ◌++◌, filter, fold}
+use Rattle.std.specs.Prelude.{◌≡◌, ℕ, zero, suc, ◌+◌, ◌-◌, ◌≤◌, true, not, List, [], ◌++◌, filter}
+use Rattle.std.specs.Prelude.{fold}
 use Rattle.std.specs.List.{All, flat_map}
 use Rattle.std.specs.Ordering.{nat_cmp}
 use Rattle.std.specs.Str.{bytes_eq}
@@ -39,7 +40,8 @@ files_read cmp v level (suc n) = level_read cmp v level ++ files_read cmp v (lev
 -- the entries of a user key in files that are read in this order
 abbrev pub entries_read : List NumberedContents → List ℕ → List FileMeta → List Entry
 entries_read tables user files =
-    filter (λ e. bytes_eq (user_of e.key) user) (flat_map (λ f. table_entries tables f.number) files)
+    filter (λ e. bytes_eq (user_of e.key) user)
+    (flat_map (λ f. table_entries tables f.number) files)
 
 -- the files above the inputs: those of the levels down to the inputs' lower one that stay
 abbrev pub files_above : (List ℕ → List ℕ → Ordering) → State → PickedInputs → List FileMeta
@@ -54,7 +56,8 @@ abbrev pub files_below : (List ℕ → List ℕ → Ordering) → State → Pick
 files_below cmp v p = files_read cmp v (p.level + 2) (5 - p.level)
 
 -- The entries of a user key in a version's files:
-pub record StandTogether (cmp : List ℕ → List ℕ → Ordering) (v : State) (tables : List NumberedContents) (p : PickedInputs)
+pub record StandTogether (cmp : List ℕ → List ℕ →
+    Ordering) (v : State) (tables : List NumberedContents) (p : PickedInputs)
     (user : List ℕ) (above inputs below : List Entry) : Type 0 where
   -- as they are read they are those above the inputs, those of the inputs, and those below;
   pub read : entries_read tables user (files_read cmp v 0 7) ≡ above ++ (inputs ++ below)
@@ -62,9 +65,11 @@ pub record StandTogether (cmp : List ℕ → List ℕ → Ordering) (v : State) 
   pub falls : SequencesFall (above ++ (inputs ++ below))
   -- those of the inputs are all that the inputs have of the user key, and the others all that the
   -- files have that stay;
-  pub of_inputs : AreThoseOf user (flat_map (λ (i : InputFile). table_entries tables i.meta.number) p.files) inputs
+  pub of_inputs : AreThoseOf user
+      (flat_map (λ (i : InputFile). table_entries tables i.meta.number) p.files) inputs
   pub of_user : AreOf user inputs
-  pub of_others : AreThoseOf user (all_entries tables (filter (λ f. not (is_input p f.meta.number)) v.files)) (above ++ below)
+  pub of_others : AreThoseOf user
+      (all_entries tables (filter (λ f. not (is_input p f.meta.number)) v.files)) (above ++ below)
   -- there are none below if no deeper file's range holds the user key;
   pub at_base : is_in_none cmp p.deeper user ≡ true → below ≡ []
   -- and what the version answers of the user key is what they answer, the newest first.
@@ -76,4 +81,5 @@ InputsStandTogether cmp =
     (v : State) (tables : List NumberedContents) (level : ℕ) (p : PickedInputs) (user : List ℕ) →
     IsLawful cmp v tables → All (λ (f : NewFile). f.level ≤ 6) v.files → IsPicked cmp v level p →
     StandTogether cmp v tables p user (entries_read tables user (files_above cmp v p))
-    (entries_read tables user (files_taken cmp v p)) (entries_read tables user (files_below cmp v p))
+    (entries_read tables user (files_taken cmp v p))
+    (entries_read tables user (files_below cmp v p))

@@ -1,6 +1,7 @@
 -- The data blocks that a list of entries is cut into. A data block ends with the entry that makes
 -- its bytes reach the block size; the last one may stay below it.
-use Rattle.std.specs.Prelude.{◌≡◌, ◌≢◌, ℕ, ◌+◌, ◌<◌, nat_le, Bool, true, false, if◌then◌else◌, List, [], ◌∷◌, ◌++◌, length, take, ◌⊎◌, ◌↔◌}
+use Rattle.std.specs.Prelude.{◌≡◌, ◌≢◌, ℕ, ◌+◌, ◌<◌, nat_le, Bool, true, false, if◌then◌else◌, List}
+use Rattle.std.specs.Prelude.{[], ◌∷◌, ◌++◌, length, take, ◌⊎◌, ◌↔◌}
 use Rattle.std.specs.List.{sum_by}
 use Rattle.block.specs.EncodedEntry.{Entry}
 use Rattle.block.specs.BlockFormat.{block}
@@ -20,7 +21,8 @@ open_block (e ∷ es) = (e ∷ es) ∷ []
 abbrev pub blocks_behind : Options → List Entry → List Entry → List (List Entry)
 blocks_behind o latest [] = open_block latest
 blocks_behind o latest (e ∷ es) =
-    if is_full o latest then latest ∷ blocks_behind o (e ∷ []) es else blocks_behind o (latest ++ e ∷ []) es
+    if is_full o latest then latest ∷ blocks_behind o (e ∷ []) es else blocks_behind o (latest
+    ++ e ∷ []) es
 
 -- the data blocks of a list
 unfoldable pub data_blocks : Options → List Entry → List (List Entry)
@@ -37,11 +39,13 @@ pub record IsDataBlock (o : Options) (p rest : List Entry) : Type 0 where
 -- it
 abbrev pub AreDataBlocks : Options → List Entry → List (List Entry) → Type 0
 AreDataBlocks o q [] = q ≡ []
-AreDataBlocks o q (p ∷ ps) = (rest : List Entry) × (q ≡ p ++ rest) × IsDataBlock o p rest × AreDataBlocks o rest ps
+AreDataBlocks o q (p ∷ ps) = (rest : List Entry) × (q ≡ p ++ rest) × IsDataBlock o p rest
+    × AreDataBlocks o rest ps
 
 -- each list has these data blocks and no others
 abbrev pub DataBlocksLaw : Type 0
-DataBlocksLaw = (o : Options) (q : List Entry) (parts : List (List Entry)) → AreDataBlocks o q parts ↔ (data_blocks o q ≡ parts)
+DataBlocksLaw = (o : Options) (q : List Entry) (parts : List (List Entry)) →
+    AreDataBlocks o q parts ↔ (data_blocks o q ≡ parts)
 
 -- what a data block adds to the flushed size: its bytes and the 5 of its trailer, if it is full
 abbrev pub flushed_len : Options → List Entry → ℕ

@@ -16,14 +16,16 @@ pub record Ends : Type 0 where
 
 -- the first and the last key of a data block after the key `before`, or the first test that its
 -- entries fail
-abbrev pub ends_reading : (List ℕ → List ℕ → Ordering) → Option (List ℕ) → List Entry → Result Ends Fault
+abbrev pub ends_reading : (List ℕ → List ℕ → Ordering) → Option (List ℕ) → List Entry →
+    Result Ends Fault
 ends_reading cmp before entries = do
   _ ← data_test cmp before entries
   Ok (record { smallest = first_key entries; largest = last_key [] entries })
 
 -- the first and the last key of data blocks
 abbrev pub ends_of : List DataBlock → Ends
-ends_of blocks = record { smallest = first_key (entries_of blocks); largest = last_key [] (entries_of blocks) }
+ends_of blocks =
+    record { smallest = first_key (entries_of blocks); largest = last_key [] (entries_of blocks) }
 
 -- the first and the last key of a stored data block after the key `before`, or the first test that
 -- it fails

@@ -9,7 +9,8 @@ use Rattle.table.specs.ReadingEntries.{first_key}
 
 -- what the index has of a block at this offset and of this size
 abbrev pub flushed_block_at : List ℕ → ℕ → ℕ → FlushedBlock
-flushed_block_at key offset size = record { key = key; handle = record { offset = offset; size = size } }
+flushed_block_at key offset size =
+    record { key = key; handle = record { offset = offset; size = size } }
 
 -- the index entries as they are written
 abbrev pub index_entries : List FlushedBlock → List Entry
@@ -25,5 +26,6 @@ next_key (p ∷ ps) behind = first_key p
 abbrev pub index_before : IndexKeys → ℕ → ℕ → List (List Entry) → List ℕ → List FlushedBlock
 index_before keys interval at [] behind = []
 index_before keys interval at (p ∷ ps) behind =
-    flushed_block_at (keys.between (last_key [] p) (next_key ps behind)) at (length (block interval p))
+    flushed_block_at (keys.between (last_key [] p) (next_key ps behind)) at
+    (length (block interval p))
     ∷ index_before keys interval (at + length (block interval p) + 5) ps behind

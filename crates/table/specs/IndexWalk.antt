@@ -38,11 +38,13 @@ pub record NamesBlock (cmp : List ℕ → List ℕ → Ordering) (bytes : List �
   pub some : 0 < length (entries_named bytes i)
   pub keys : HaveKeys (entries_named bytes i)
   pub rising : EntriesRise cmp (entries_named bytes i)
-  pub within : AllByRecursion (λ e. is_le (internal_cmp cmp e.key i.key) ≡ true) (entries_named bytes i)
+  pub within : AllByRecursion (λ e. is_le (internal_cmp cmp e.key i.key) ≡ true)
+      (entries_named bytes i)
 
 -- These entries of the index name the data blocks of the table of these entries. The index keys
 -- rise strictly, and so do the entries' keys.
-pub record Indexes (cmp : List ℕ → List ℕ → Ordering) (bytes : List ℕ) (index entries : List Entry) : Type 0 where
+pub record Indexes (cmp : List ℕ → List ℕ → Ordering) (bytes : List ℕ) (index entries : List Entry)
+    : Type 0 where
   pub some : 0 < length index
   pub named : AllByRecursion (NamesBlock cmp bytes) index
   pub keys_rise : EntriesRise cmp index
@@ -51,7 +53,8 @@ pub record Indexes (cmp : List ℕ → List ℕ → Ordering) (bytes : List ℕ)
 
 -- What is left of a table whose index is known: all its entries but the first `passed`. If nothing
 -- is left of the data block, no other block is left.
-pub record IsWalkLeft (cmp : List ℕ → List ℕ → Ordering) (bytes : List ℕ) (names block index : List Entry) : Type 0 where
+pub record IsWalkLeft (cmp : List ℕ → List ℕ → Ordering) (bytes : List ℕ)
+    (names block index : List Entry) : Type 0 where
   pub all : Indexes cmp bytes names (all_named bytes names)
   pub keys : HaveKeys block
   pub named : AllByRecursion (NamesBlock cmp bytes) index

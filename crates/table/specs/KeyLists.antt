@@ -9,7 +9,8 @@ cut_at from (end ∷ ends) bytes = take (end - from) bytes ∷ cut_at end ends (
 -- the places are the ends of keys that are together all bytes from place `from` on
 abbrev pub AreKeyEnds : ℕ → List ℕ → List ℕ → Type 0
 AreKeyEnds from [] bytes = bytes ≡ []
-AreKeyEnds from (end ∷ ends) bytes = (from ≤ end) × (end ≤ from + length bytes) × AreKeyEnds end ends (drop (end - from) bytes)
+AreKeyEnds from (end ∷ ends) bytes = (from ≤ end) × (end ≤ from + length bytes)
+    × AreKeyEnds end ends (drop (end - from) bytes)
 
 -- where the key at a place begins
 abbrev pub start_of : ℕ → List ℕ → ℕ → ℕ

@@ -18,6 +18,8 @@ pub record IsWritable (cmp : List ℕ → List ℕ → Ordering) (q : List Entry
   pub rising : EntriesRise cmp q
 
 -- what is written of such a list is a table of it, if it has at most 2 ^ 30 bytes
-abbrev pub ReadBackLaw : (List ℕ → List ℕ → Ordering) → (List ℕ → List ℕ → List ℕ) → (List ℕ → List ℕ) → Type 0
+abbrev pub ReadBackLaw : (List ℕ → List ℕ → Ordering) → (List ℕ → List ℕ → List ℕ) →
+    (List ℕ → List ℕ) → Type 0
 ReadBackLaw cmp separator_of successor_of = (o : Options) (q : List Entry) → IsWritable cmp q →
-    length (table cmp separator_of successor_of o q) ≤ 2 ^ 30 → IsTable cmp (table cmp separator_of successor_of o q) q
+    length (table cmp separator_of successor_of o q) ≤ 2 ^ 30 →
+    IsTable cmp (table cmp separator_of successor_of o q) q

@@ -10,17 +10,20 @@ use Rattle.ikey.specs.Order.{internal_cmp}
 -- each entry's internal key is below those of all later ones
 abbrev pub EntriesRise : (List ℕ → List ℕ → Ordering) → List Entry → Type 0
 EntriesRise cmp [] = Unit {0}
-EntriesRise cmp (e ∷ es) = AllByRecursion (λ f. internal_cmp cmp e.key f.key ≡ Less) es × EntriesRise cmp es
+EntriesRise cmp (e ∷ es) = AllByRecursion (λ f. internal_cmp cmp e.key f.key ≡ Less) es
+    × EntriesRise cmp es
 
 -- each entry's internal key is at or below those of all later ones
 abbrev pub NeverFalls : (List ℕ → List ℕ → Ordering) → List Entry → Type 0
 NeverFalls cmp [] = Unit {0}
-NeverFalls cmp (e ∷ es) = AllByRecursion (λ f. is_le (internal_cmp cmp e.key f.key) ≡ true) es × NeverFalls cmp es
+NeverFalls cmp (e ∷ es) = AllByRecursion (λ f. is_le (internal_cmp cmp e.key f.key) ≡ true) es
+    × NeverFalls cmp es
 
 -- the entries from the first one at or above this internal key
 abbrev pub entries_from : (List ℕ → List ℕ → Ordering) → List ℕ → List Entry → List Entry
 entries_from cmp target [] = []
-entries_from cmp target (e ∷ es) = if is_lt (internal_cmp cmp e.key target) then entries_from cmp target es else e ∷ es
+entries_from cmp target (e ∷ es) = if is_lt (internal_cmp cmp e.key target) then entries_from cmp
+    target es else e ∷ es
 
 -- What a refused seek may leave: the entries in their order, less some that are below the target.
 abbrev pub LeavesFrom : (List ℕ → List ℕ → Ordering) → List ℕ → List Entry → List Entry → Type 0

@@ -1,5 +1,6 @@
 -- The tests of a table's entries, in order.
-use Rattle.std.specs.Prelude.{◌≡◌, ℕ, nat_le, Bool, true, false, List, [], ◌∷◌, length, Option, Some, None, Result, Ok}
+use Rattle.std.specs.Prelude.{◌≡◌, ℕ, nat_le, Bool, true, false, List, [], ◌∷◌, length, Option}
+use Rattle.std.specs.Prelude.{Some, None, Result, Ok}
 use Rattle.std.specs.List.{AllByRecursion}
 use Rattle.std.specs.Ordering.{is_lt}
 use Rattle.std.specs.declared.cmp.Ordering.{Ordering}
@@ -30,14 +31,16 @@ is_above cmp (Some before) key = is_lt (internal_cmp cmp before key)
 -- The tests of an entry after the key `before`: its key is an internal key (Key) and within its
 -- limit (TooLarge), its value is within its limit (TooLarge), and its key is above `before`
 -- (Order).
-abbrev pub entry_test : (List ℕ → List ℕ → Ordering) → Option (List ℕ) → Entry → Result (Unit {0}) Fault
+abbrev pub entry_test : (List ℕ → List ℕ → Ordering) → Option (List ℕ) → Entry →
+    Result (Unit {0}) Fault
 entry_test cmp before e = do
   _ ← internal_key_reading e.key
   _ ← test_result (nat_le (length e.value) 16777215) TooLarge
   test_result (is_above cmp before e.key) Order
 
 -- each entry passes its tests after the one before it, the first after the key `before`
-abbrev pub entries_test : (List ℕ → List ℕ → Ordering) → Option (List ℕ) → List Entry → Result (Unit {0}) Fault
+abbrev pub entries_test : (List ℕ → List ℕ → Ordering) → Option (List ℕ) → List Entry →
+    Result (Unit {0}) Fault
 entries_test cmp before [] = Ok tt
 entries_test cmp before (e ∷ es) = do
   _ ← entry_test cmp before e
@@ -50,7 +53,8 @@ is_some_list (x ∷ xs) = true
 
 -- the tests of a data block after the key `before`: it has an entry (Empty), and each passes its
 -- tests
-abbrev pub data_test : (List ℕ → List ℕ → Ordering) → Option (List ℕ) → List Entry → Result (Unit {0}) Fault
+abbrev pub data_test : (List ℕ → List ℕ → Ordering) → Option (List ℕ) → List Entry →
+    Result (Unit {0}) Fault
 data_test cmp before entries = do
   _ ← test_result (is_some_list entries) Empty
   entries_test cmp before entries

@@ -1,5 +1,6 @@
 -- The index of a table: for each data block a key, and where the block is.
-use Rattle.std.specs.Prelude.{ℕ, ◌+◌, nat_le, if◌then◌else◌, List, [], ◌∷◌, length, take, drop, Option, Some, None, Result, Ok, Err}
+use Rattle.std.specs.Prelude.{ℕ, ◌+◌, nat_le, if◌then◌else◌, List, [], ◌∷◌, length, take, drop}
+use Rattle.std.specs.Prelude.{Option, Some, None, Result, Ok, Err}
 use Rattle.coding.specs.Answers.{fault, ◌>>=◌}
 use Rattle.coding.specs.declared.fault.Fault.{Fault}
 use Rattle.coding.specs.declared.fault.FaultName.TheVariants.{Handle, Range}
@@ -29,7 +30,8 @@ one_handle (Some found) = handle_alone found.handle found.rest
 -- bytes of the footer; else Range.
 abbrev pub stored_at : List ℕ → BlockHandle → Result (List ℕ) Fault
 stored_at bytes handle =
-    if nat_le (handle.offset + handle.size + 5 + 48) (length bytes) then Ok (take (handle.size + 5) (drop handle.offset bytes)) else Err (fault Range)
+    if nat_le (handle.offset + handle.size + 5 + 48) (length bytes) then Ok
+    (take (handle.size + 5) (drop handle.offset bytes)) else Err (fault Range)
 
 -- the entries of a stored block, or the first test that it fails: its checksum, its type, its
 -- contents

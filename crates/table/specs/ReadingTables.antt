@@ -1,6 +1,7 @@
 -- What a table is: the bytes that hold a list of entries, in blocks with any lawful sharing and any
 -- lawful restarts.
-use Rattle.std.specs.Prelude.{◌≡◌, ◌≢◌, ℕ, ◌<◌, ◌≤◌, ◌^◌, List, [], ◌∷◌, ◌++◌, length, slice_index, Ok}
+use Rattle.std.specs.Prelude.{◌≡◌, ◌≢◌, ℕ, ◌<◌, ◌≤◌, ◌^◌, List, [], ◌∷◌, ◌++◌, length, slice_index}
+use Rattle.std.specs.Prelude.{Ok}
 use Rattle.std.specs.List.{AllByRecursion}
 use Rattle.std.specs.declared.cmp.Ordering.{Ordering}
 use Rattle.std.specs.declared.cmp.Ordering.TheVariants.{Less, Greater}
@@ -59,10 +60,12 @@ IsBelowNextBlock cmp key (b ∷ bs) = internal_cmp cmp key (first_key b.entries)
 -- each key of the index is at or above its block's last key, and below the next block's first key
 abbrev pub AreBetween : (List ℕ → List ℕ → Ordering) → List DataBlock → Type 0
 AreBetween cmp [] = Unit {0}
-AreBetween cmp (b ∷ bs) = (internal_cmp cmp (last_key [] b.entries) b.index_key ≢ Greater) × IsBelowNextBlock cmp b.index_key bs × AreBetween cmp bs
+AreBetween cmp (b ∷ bs) = (internal_cmp cmp (last_key [] b.entries) b.index_key ≢ Greater)
+    × IsBelowNextBlock cmp b.index_key bs × AreBetween cmp bs
 
 -- The bytes are a table of these entries. The metaindex is a block of any entries.
-pub record IsTable (cmp : List ℕ → List ℕ → Ordering) (bytes : List ℕ) (entries : List Entry) : Type 0 where
+pub record IsTable (cmp : List ℕ → List ℕ → Ordering) (bytes : List ℕ) (entries : List Entry) : Type
+    0 where
   pub footer : Footer
   pub ignored : List Entry
   pub index : List Entry
@@ -85,5 +88,7 @@ AreBytes bytes = (i : ℕ) → slice_index bytes i < 256
 
 -- Bytes read as a list of entries exactly if they are a table of it.
 pub record ReadsTables (cmp : List ℕ → List ℕ → Ordering) : Type 0 where
-  pub found : (bytes : List ℕ) (entries : List Entry) → AreBytes bytes → table_reading cmp bytes ≡ Ok entries → IsTable cmp bytes entries
-  pub only : (bytes : List ℕ) (entries : List Entry) → IsTable cmp bytes entries → table_reading cmp bytes ≡ Ok entries
+  pub found : (bytes : List ℕ) (entries : List Entry) → AreBytes bytes →
+      table_reading cmp bytes ≡ Ok entries → IsTable cmp bytes entries
+  pub only : (bytes : List ℕ) (entries : List Entry) → IsTable cmp bytes entries →
+      table_reading cmp bytes ≡ Ok entries

@@ -1,6 +1,7 @@
 -- The one table that is written of a list: its data blocks, the metaindex block, which has no
 -- entry, the index block and the footer. Each block has its trailer.
-use Rattle.std.specs.Prelude.{ℕ, ◌+◌, ◌^◌, nat_le, if◌then◌else◌, List, [], ◌∷◌, ◌++◌, length, Result, Ok, Err}
+use Rattle.std.specs.Prelude.{ℕ, ◌+◌, ◌^◌, nat_le, if◌then◌else◌, List, [], ◌∷◌, ◌++◌, length}
+use Rattle.std.specs.Prelude.{Result, Ok, Err}
 use Rattle.std.specs.List.{flat_map}
 use Rattle.std.specs.declared.cmp.Ordering.{Ordering}
 use Rattle.coding.specs.Answers.{fault}
@@ -24,7 +25,8 @@ pub record IndexKeys : Type 0 where
   pub above : List ℕ → List ℕ
 
 -- the internal separator and the internal successor of a comparator
-unfoldable pub index_keys : (List ℕ → List ℕ → Ordering) → (List ℕ → List ℕ → List ℕ) → (List ℕ → List ℕ) → IndexKeys
+unfoldable pub index_keys : (List ℕ → List ℕ → Ordering) → (List ℕ → List ℕ → List ℕ) →
+    (List ℕ → List ℕ) → IndexKeys
 index_keys cmp separator_of successor_of = record {
   between = internal_separator_of cmp separator_of;
   above = internal_successor_of cmp successor_of;
@@ -44,7 +46,8 @@ handle_entry key offset size = record { key = key; value = handle_bytes offset s
 abbrev pub index_from : IndexKeys → ℕ → ℕ → List (List Entry) → List Entry
 index_from keys interval at [] = []
 index_from keys interval at (p ∷ ps) =
-    handle_entry (index_key keys p ps) at (length (block interval p)) ∷ index_from keys interval (at + length (block interval p) + 5) ps
+    handle_entry (index_key keys p ps) at (length (block interval p)) ∷ index_from keys interval
+    (at + length (block interval p) + 5) ps
 
 -- data blocks, each with its trailer
 abbrev pub stored_blocks : ℕ → List (List Entry) → List ℕ
@@ -63,15 +66,18 @@ footer_at at size = record {
 
 -- what comes after the data blocks: the metaindex, the index and the footer
 unfoldable pub closing_bytes : ℕ → List Entry → List ℕ
-closing_bytes at index = stored_block metaindex ++ (stored_block (block 1 index) ++ footer_bytes (footer_at at (length (block 1 index))))
+closing_bytes at index = stored_block metaindex
+    ++ (stored_block (block 1 index) ++ footer_bytes (footer_at at (length (block 1 index))))
 
 -- the table of these data blocks
 abbrev pub table_of_blocks : IndexKeys → ℕ → List (List Entry) → List ℕ
 table_of_blocks keys interval parts =
-    stored_blocks interval parts ++ closing_bytes (length (stored_blocks interval parts)) (index_from keys interval 0 parts)
+    stored_blocks interval parts
+    ++ closing_bytes (length (stored_blocks interval parts)) (index_from keys interval 0 parts)
 
 -- the table of a list
-unfoldable pub table : (List ℕ → List ℕ → Ordering) → (List ℕ → List ℕ → List ℕ) → (List ℕ → List ℕ) → Options → List Entry → List ℕ
+unfoldable pub table : (List ℕ → List ℕ → Ordering) → (List ℕ → List ℕ → List ℕ) →
+    (List ℕ → List ℕ) → Options → List Entry → List ℕ
 table cmp separator_of successor_of o q =
     table_of_blocks (index_keys cmp separator_of successor_of) o.restart_interval (data_blocks o q)
 

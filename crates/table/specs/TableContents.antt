@@ -1,5 +1,6 @@
 -- What is in a table's bytes, and the first test that other bytes fail.
-use Rattle.std.specs.Prelude.{ℕ, ◌-◌, ◌^◌, nat_le, Bool, true, ◌&&◌, not, List, [], ◌∷◌, length, map, drop, Option, Some, None, Result, Ok}
+use Rattle.std.specs.Prelude.{ℕ, ◌-◌, ◌^◌, nat_le, Bool, true, ◌&&◌, not, List, [], ◌∷◌, length}
+use Rattle.std.specs.Prelude.{map, drop, Option, Some, None, Result, Ok}
 use Rattle.std.specs.List.{flat_map}
 use Rattle.std.specs.Ordering.{is_gt}
 use Rattle.std.specs.declared.cmp.Ordering.{Ordering}
@@ -22,7 +23,8 @@ pub record DataBlock : Type 0 where
 
 -- The data blocks in the order of the index, the first of them after the key `before`. Each is a
 -- block with an entry, and each entry passes its test after the key before it in the table.
-abbrev pub blocks_reading : (List ℕ → List ℕ → Ordering) → Option (List ℕ) → List IndexEntry → Result (List DataBlock) Fault
+abbrev pub blocks_reading : (List ℕ → List ℕ → Ordering) → Option (List ℕ) → List IndexEntry →
+    Result (List DataBlock) Fault
 blocks_reading cmp before [] = Ok []
 blocks_reading cmp before (i ∷ is) = do
   entries ← block_in i.stored
@@ -33,16 +35,19 @@ blocks_reading cmp before (i ∷ is) = do
 -- whether a block is above the index key before it, if there is one, and none of its keys is above
 -- its own index key
 abbrev pub is_between_index_keys : (List ℕ → List ℕ → Ordering) → Option (List ℕ) → DataBlock → Bool
-is_between_index_keys cmp below b = is_above cmp below (first_key b.entries) && not (is_gt (internal_cmp cmp (last_key [] b.entries) b.index_key))
+is_between_index_keys cmp below b = is_above cmp below (first_key b.entries)
+    && not (is_gt (internal_cmp cmp (last_key [] b.entries) b.index_key))
 
 -- Whether each index key is at or above its block's last key and below the next block's first key.
 -- The first block is above the index key `below`, if there is one.
 abbrev pub index_fits : (List ℕ → List ℕ → Ordering) → Option (List ℕ) → List DataBlock → Bool
 index_fits cmp below [] = true
-index_fits cmp below (b ∷ bs) = is_between_index_keys cmp below b && index_fits cmp (Some b.index_key) bs
+index_fits cmp below (b ∷ bs) = is_between_index_keys cmp below b
+    && index_fits cmp (Some b.index_key) bs
 
 -- the data blocks that the index names; Empty if there is none, Index if an index key doesn't fit
-abbrev pub data_reading : (List ℕ → List ℕ → Ordering) → List IndexEntry → Result (List DataBlock) Fault
+abbrev pub data_reading : (List ℕ → List ℕ → Ordering) → List IndexEntry →
+    Result (List DataBlock) Fault
 data_reading cmp index = do
   _ ← test_result (is_some_list index) Empty
   blocks ← blocks_reading cmp None index

@@ -1,6 +1,7 @@
 //! Steps over entries of a block whose keys are internal keys.
 
-ghost use Rattle.std.specs.Prelude.{◌≡◌, ◌<◌, length, drop, slice_get, slice_index, IfOk, IfErr, OnOk, IsOkUnless, Some};
+ghost use Rattle.std.specs.Prelude.{◌≡◌, ◌<◌, length, drop, slice_get, slice_index, IfOk, IfErr};
+ghost use Rattle.std.specs.Prelude.{OnOk, IsOkUnless, Some};
 ghost use Rattle.std.specs.Option.{option_map};
 ghost use Rattle.coding.specs.Answers.{fault};
 ghost use Rattle.coding.specs.declared.fault.FaultName.TheVariants.{Memory};
@@ -60,7 +61,8 @@ pub(crate) fn entries_from<'a, C: Comparator>(
 ) -> Result<BlockCursor<'a>, Fault>
     requires keys { HaveKeys block.now.entries }
     requires rising { EntriesRise C.cmp block.now.entries }
-    ensures from { IfOk result (λ cursor. cursor ≡ entries_from C.cmp target.entry.bytes.now block.now.entries) }
+    ensures from { IfOk result (λ cursor. cursor
+        ≡ entries_from C.cmp target.entry.bytes.now block.now.entries) }
     ensures memory { IfErr result (λ e. e ≡ fault Memory) }
 {
     let mut cursor = BlockCursor::at(alloc, block, last_below::<C>(block, target))?;
@@ -93,7 +95,8 @@ fn last_below<C: Comparator>(block: &SoundBlock<'_>, target: InternalKey<'_>) ->
     requires keys { HaveKeys block.now.entries }
     requires rising { EntriesRise C.cmp block.now.entries }
     ensures last { IsLastBelow C.cmp target.entry.bytes.now block.now result }
-    ensures from { entries_from C.cmp target.entry.bytes.now (drop (slice_index block.now.restarts result) block.now.entries)
+    ensures from { entries_from C.cmp target.entry.bytes.now
+        (drop (slice_index block.now.restarts result) block.now.entries)
         ≡ entries_from C.cmp target.entry.bytes.now block.now.entries }
 {
     let mut restart = 0;

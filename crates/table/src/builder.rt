@@ -1,6 +1,7 @@
 //! Writing a table, entry by entry.
 
-ghost use Rattle.std.specs.Prelude.{◌≡◌, ◌≤◌, ◌<◌, ◌^◌, ◌↔◌, [], length, IsTrue, OnOk, OnErr, IfErr};
+ghost use Rattle.std.specs.Prelude.{◌≡◌, ◌≤◌, ◌<◌, ◌^◌, ◌↔◌, [], length, IsTrue, OnOk, OnErr};
+ghost use Rattle.std.specs.Prelude.{IfErr};
 ghost use Rattle.coding.specs.Answers.{EqualOrMemory, fault};
 ghost use Rattle.coding.specs.declared.fault.FaultName.TheVariants.{Memory};
 ghost use Rattle.block.specs.BuilderView.{with_entry};
@@ -48,7 +49,8 @@ impl<C: Comparator> Model for TableBuilder<C> {
     } };
 
     ghost invariant = { λ b.
-        IsAnyTableBuilder (index_keys C.cmp C.separator_of C.successor_of) b.options b.flushed.bytes.items b.flushed.index.items b.block
+        IsAnyTableBuilder (index_keys C.cmp C.separator_of C.successor_of) b.options
+        b.flushed.bytes.items b.flushed.index.items b.block
         × IsSpare b.options b.next };
 }
 

@@ -1,6 +1,7 @@
 //! What a cursor over sorted entries promises.
 
-ghost use Rattle.std.specs.Prelude.{◌≡◌, ◌<◌, ◌↔◌, List, length, drop, slice_get, IsTrue, OnOk, OnErr, IsOkUnless, Some};
+ghost use Rattle.std.specs.Prelude.{◌≡◌, ◌<◌, ◌↔◌, List, length, drop, slice_get, IsTrue, OnOk};
+ghost use Rattle.std.specs.Prelude.{OnErr, IsOkUnless, Some};
 ghost use Rattle.std.specs.Option.{option_map};
 ghost use Rattle.coding.specs.Answers.{fault};
 ghost use Rattle.coding.specs.declared.fault.FaultName.TheVariants.{Memory};
@@ -26,12 +27,14 @@ pub trait Cursor<'a, C: Comparator>: Entries {
     /// The internal key of the next entry. Takes no memory.
     fn key(&self) -> InternalKey<'_>
         requires { 0 < length (Self.remaining self.now) }
-        ensures { option_map (λ e. e.key) (slice_get (Self.remaining self.now) 0) ≡ Some result.bytes.now };
+        ensures { option_map (λ e. e.key) (slice_get (Self.remaining self.now) 0)
+            ≡ Some result.bytes.now };
 
     /// The value of the next entry. Takes no memory.
     fn value(&self) -> &'a [u8]
         requires { 0 < length (Self.remaining self.now) }
-        ensures { option_map (λ e. e.value) (slice_get (Self.remaining self.now) 0) ≡ Some result.now };
+        ensures { option_map (λ e. e.value) (slice_get (Self.remaining self.now) 0)
+            ≡ Some result.now };
 
     /// Takes off the next entry. The only fault is Memory, which leaves the cursor unchanged.
     fn advance(&mut self) -> Result<(), Fault>
@@ -45,9 +48,11 @@ pub trait Cursor<'a, C: Comparator>: Entries {
     /// The only fault is Memory. Some of those entries may be lost then, and no others.
     fn seek(&mut self, target: InternalKey<'_>) -> Result<(), Fault>
         ensures ok { OnOk result
-            (Self.remaining self.new ≡ entries_from C.cmp target.entry.bytes.now (Self.remaining self.old)) }
+            (Self.remaining self.new
+            ≡ entries_from C.cmp target.entry.bytes.now (Self.remaining self.old)) }
         ensures err { OnErr result
-            (LeavesFrom C.cmp target.entry.bytes.now (Self.remaining self.old) (Self.remaining self.new)) }
+            (LeavesFrom C.cmp target.entry.bytes.now (Self.remaining self.old)
+            (Self.remaining self.new)) }
         ensures memory { IsOkUnless result (fault Memory) };
 }
 

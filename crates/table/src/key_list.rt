@@ -1,6 +1,7 @@
 //! Keys, one after the other in one buffer.
 
-ghost use Rattle.std.specs.Prelude.{◌≡◌, ◌+◌, ◌<◌, ◌↔◌, [], ◌∷◌, ◌++◌, length, slice_index_or, IsTrue, OnOk, OnErr, IsOkUnless};
+ghost use Rattle.std.specs.Prelude.{◌≡◌, ◌+◌, ◌<◌, ◌↔◌, [], ◌∷◌, ◌++◌, length, slice_index_or};
+ghost use Rattle.std.specs.Prelude.{IsTrue, OnOk, OnErr, IsOkUnless};
 ghost use Rattle.coding.specs.Answers.{fault};
 ghost use Rattle.table.specs.KeyLists.{cut_at, AreKeyEnds, start_of};
 ghost use Rattle.coding.specs.declared.fault.FaultName.TheVariants.{Memory};
@@ -97,7 +98,8 @@ fn start_of(ends: &[usize], place: usize) -> usize
 /// Appends a key and its end. The only fault is Memory, which leaves both unchanged.
 fn append(bytes: &mut Vec<u8>, ends: &mut Vec<usize>, key: &[u8]) -> Result<(), Fault>
     ensures bytes { OnOk result (bytes.new.items ≡ bytes.old.items ++ key.now) }
-    ensures ends { OnOk result (ends.new.items ≡ ends.old.items ++ (length bytes.old.items + length key.now) ∷ []) }
+    ensures ends { OnOk result (ends.new.items ≡ ends.old.items
+        ++ (length bytes.old.items + length key.now) ∷ []) }
     ensures bytes_kept { OnErr result (bytes.new.items ≡ bytes.old.items) }
     ensures ends_kept { OnErr result (ends.new.items ≡ ends.old.items) }
     ensures memory { IsOkUnless result (fault Memory) }

@@ -31,7 +31,8 @@ impl Options {
 }
 
 impl Default for Options {
-    ghost is_default = { λ o. o ≡ record { block_size = 4096; restart_interval = 16; file_size = 2097152 } };
+    ghost is_default = { λ o. o
+        ≡ record { block_size = 4096; restart_interval = 16; file_size = 2097152 } };
 
     /// Blocks of 4,096 bytes, a restart for each 16 entries, and files of 2,097,152 bytes.
     fn default() -> Self {

@@ -88,7 +88,8 @@ fn read<C: Comparator>(alloc: Global, bytes: &[u8]) -> Result<SoundTable<'_, C>,
 
 /// The stored block that `handle` points at; Range unless it is before the footer.
 pub(crate) fn stored_at(bytes: &[u8], handle: BlockHandle) -> Result<&[u8], Fault>
-    ensures reading { result_map_both (λ stored. stored.now) (λ e. e) result ≡ stored_at bytes.now handle }
+    ensures reading { result_map_both (λ stored. stored.now) (λ e. e) result
+        ≡ stored_at bytes.now handle }
     ensures long { IfOk result (λ stored. 5 ≤ length stored.now) }
 {
     let Some(room) = bytes.len().checked_sub(FOOTER_LEN + TRAILER_LEN) else {
@@ -137,7 +138,8 @@ fn indexed_block<'a>(
     key: &[u8],
     value: &[u8],
 ) -> Result<IndexedBlock<'a>, Fault>
-    ensures { EqualOrMemory index_entry_of result (index_entry bytes.now (record { key = key.now; value = value.now })) }
+    ensures { EqualOrMemory index_entry_of result
+        (index_entry bytes.now (record { key = key.now; value = value.now })) }
 {
     let key = InternalKey::parse(key)?;
     let Some(found) = BlockHandle::read(value) else {
@@ -159,7 +161,8 @@ fn indexed_blocks<'a>(
     bytes: &'a [u8],
     index: &SoundBlock<'_>,
 ) -> Result<Vec<IndexedBlock<'a>>, Fault>
-    ensures { EqualOrMemory (λ v. index_entries_of v.items) result (index_reading bytes.now index.now.entries) }
+    ensures { EqualOrMemory (λ v. index_entries_of v.items) result
+        (index_reading bytes.now index.now.entries) }
 {
     let mut cursor = BlockCursor::new(alloc, index)?;
     let mut all: Vec<IndexedBlock<'a>> = Vec::new(alloc);
@@ -177,7 +180,8 @@ fn test_entry<'k, C: Comparator>(
     value: &[u8],
 ) -> Result<InternalKey<'k>, Fault>
     ensures test { result_map_both (λ key. tt) (λ e. e) result
-        ≡ entry_test C.cmp (option_map (λ key. key.bytes.now) before.entry) (record { key = key.now; value = value.now }) }
+        ≡ entry_test C.cmp (option_map (λ key. key.bytes.now) before.entry)
+        (record { key = key.now; value = value.now }) }
     ensures key { IfOk result (λ found. found.bytes.now ≡ key.now) }
 {
     let key = InternalKey::parse(key)?;

@@ -1,6 +1,7 @@
 //! The cursor over a table's entries.
 
-ghost use Rattle.std.specs.Prelude.{◌≡◌, ◌<◌, ◌↔◌, List, true, length, drop, slice_get, IsTrue, IfOk, IfErr, OnOk, OnErr, IsOkUnless, Some, Ok};
+ghost use Rattle.std.specs.Prelude.{◌≡◌, ◌<◌, ◌↔◌, List, true, length, drop, slice_get, IsTrue};
+ghost use Rattle.std.specs.Prelude.{IfOk, IfErr, OnOk, OnErr, IsOkUnless, Some, Ok};
 ghost use Rattle.std.specs.Option.{option_map};
 ghost use Rattle.coding.specs.Answers.{EqualOrMemory, fault};
 ghost use Rattle.coding.specs.declared.fault.FaultName.TheVariants.{Memory};
@@ -72,7 +73,8 @@ impl<'a, C: Comparator> TableCursor<'a, C> {
     /// the next one, if all entries of that block are below. The only fault is Memory.
     fn sought(&self, target: InternalKey<'_>) -> Result<TableCursor<'a, C>, Fault>
         requires { first_is_below C.cmp target.bytes.now self.now ≡ true }
-        ensures from { IfOk result (λ cursor. cursor ≡ entries_from C.cmp target.entry.bytes.now self.now) }
+        ensures from { IfOk result (λ cursor. cursor
+            ≡ entries_from C.cmp target.entry.bytes.now self.now) }
         ensures memory { IfErr result (λ e. e ≡ fault Memory) }
     {
         let mut index = entries_from::<C>(self.alloc, &self.index_block, target)?;

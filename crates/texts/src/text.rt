@@ -1,6 +1,7 @@
 //! Keys, values and numbers as text: hexadecimal digits, `-` for no bytes, and decimal digits.
 
-ghost use Rattle.std.specs.Prelude.{◌≡◌, ◌↔◌, ℕ, List, Some, Ok, MatchOption, option_map, string_bytes};
+ghost use Rattle.std.specs.Prelude.{◌≡◌, ◌↔◌, ℕ, List, Some, Ok, MatchOption, option_map};
+ghost use Rattle.std.specs.Prelude.{string_bytes};
 ghost use Rattle.coding.specs.Answers.{EqualOrMemory};
 ghost use Rattle.hex.specs.Hex.{IsBytes};
 ghost use Rattle.std.specs.Str.Parse.{digits_value};
@@ -33,7 +34,8 @@ pub fn text_of(alloc: Global, bytes: &[u8]) -> Result<String, Fault>
 pub fn key_of(alloc: Global, text: &str) -> Result<Option<Vec<u8>>, Fault>
     ensures meaning { (bytes : List ℕ) → IsBytes bytes
         → (bytes_of_text text.now ≡ Some bytes) ↔ StandsFor text.now bytes }
-    ensures answer { EqualOrMemory (option_map (λ key. key.items)) result (Ok (bytes_of_text text.now)) }
+    ensures answer { EqualOrMemory (option_map (λ key. key.items)) result
+        (Ok (bytes_of_text text.now)) }
 {
     if text == NOTHING {
         return Ok(Some(Vec::new(alloc)));

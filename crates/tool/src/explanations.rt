@@ -25,7 +25,8 @@ fn of_work(name: FaultName) -> Option<&'static str> {
         FaultName::Numbers => "file numbers would pass 2^64 - 1",
         FaultName::Duplicate => "one user key and sequence come twice",
         FaultName::Lawless => {
-            "what the manifest says of the files isn't what they hold, or newer entries lie below older ones"
+            "what the manifest says of the files isn't what they hold, or newer entries lie below \
+                older ones"
         }
         _ => return None,
     })

@@ -27,7 +27,8 @@ impl<'a> Telling<'a> {
     /// The same, with the account of each compaction told or not.
     pub fn explaining(mut self, is_explaining: bool) -> Telling<'a>
         ensures asked { result.is_explaining ≡ is_explaining }
-        ensures rest { (result.folder ≡ self.entry.folder) × (result.is_on ≡ self.entry.is_on) × (result.is_watched ≡ self.entry.is_watched) }
+        ensures rest { (result.folder ≡ self.entry.folder) × (result.is_on ≡ self.entry.is_on)
+            × (result.is_watched ≡ self.entry.is_watched) }
     {
         self.is_explaining = is_explaining;
         self

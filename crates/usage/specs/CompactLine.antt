@@ -1,5 +1,6 @@
 -- What is given to the command `compact`, and what it asks for.
-use Rattle.std.specs.Prelude.{◌≡◌, ◌≢◌, ◌⊎◌, ◌==◌, ℕ, true, false, List, [], map, Option, Some, None, codes, unwrap_or}
+use Rattle.std.specs.Prelude.{◌≡◌, ◌≢◌, ◌⊎◌, ◌==◌, ℕ, true, false, List, [], map, Option, Some}
+use Rattle.std.specs.Prelude.{None, codes, unwrap_or}
 use Rattle.std.specs.List.{All, slice_split}
 use Rattle.std.specs.Str.Parse.{digits_value}
 use Rattle.clap.specs.Words.{Row, Text, first_of}
@@ -15,17 +16,22 @@ use Rattle.usage.specs.declared.compact_texts.CompactNumbers.{CompactNumbers}
 
 -- the rows give these numbers of `--workers`, `--ranges`, `--block-size` and `--file-size`
 abbrev pub HasNumbers : CompactNumbers → List Row → Type 0
-HasNumbers numbers rows = IsNumberOf (first_of (codes "workers") rows) numbers.workers × IsNumberOf (first_of (codes "ranges") rows) numbers.ranges
-    × IsNumberOf (first_of (codes "block-size") rows) numbers.block_size × IsNumberOf (first_of (codes "file-size") rows) numbers.file_size
+HasNumbers numbers rows = IsNumberOf (first_of (codes "workers") rows) numbers.workers
+    × IsNumberOf (first_of (codes "ranges") rows) numbers.ranges
+    × IsNumberOf (first_of (codes "block-size") rows) numbers.block_size
+    × IsNumberOf (first_of (codes "file-size") rows) numbers.file_size
 
 -- one of the four options is given a text that is no number
 abbrev pub LacksNumbers : List Row → Type 0
-LacksNumbers rows = IsNoNumber (first_of (codes "workers") rows) ⊎ (IsNoNumber (first_of (codes "ranges") rows)
-    ⊎ (IsNoNumber (first_of (codes "block-size") rows) ⊎ IsNoNumber (first_of (codes "file-size") rows)))
+LacksNumbers rows = IsNoNumber (first_of (codes "workers") rows)
+    ⊎ (IsNoNumber (first_of (codes "ranges") rows)
+    ⊎ (IsNoNumber (first_of (codes "block-size") rows)
+    ⊎ IsNoNumber (first_of (codes "file-size") rows)))
 
 -- the rows give this number of `--snapshot`, or this text of `--snapshots`, or neither
 abbrev pub HasReadable : Option ℕ → Option Text → List Row → Type 0
-HasReadable since listed rows = IsNumberOf (first_of (codes "snapshot") rows) since × (first_of (codes "snapshots") rows ≡ listed)
+HasReadable since listed rows = IsNumberOf (first_of (codes "snapshot") rows) since
+    × (first_of (codes "snapshots") rows ≡ listed)
     × ((since ≡ None) ⊎ (listed ≡ None))
 
 -- `--snapshot` is given a text that is no number, or both are given
@@ -35,8 +41,10 @@ LacksReadable rows = IsNoNumber (first_of (codes "snapshot") rows)
 
 -- the rows give this number of `--level`, or `--all`
 abbrev pub HasLevels : Levels → List Row → Type 0
-HasLevels (One level) rows = IsNumberOf (first_of (codes "level") rows) (Some level) × (is_flagged (codes "all") rows ≡ false)
-HasLevels AllLevels rows = IsNumberOf (first_of (codes "level") rows) None × (is_flagged (codes "all") rows ≡ true)
+HasLevels (One level) rows = IsNumberOf (first_of (codes "level") rows) (Some level)
+    × (is_flagged (codes "all") rows ≡ false)
+HasLevels AllLevels rows = IsNumberOf (first_of (codes "level") rows) None
+    × (is_flagged (codes "all") rows ≡ true)
 
 -- `--level` is given a text that is no number, or neither it nor `--all` is given, or both are
 abbrev pub LacksLevels : List Row → Type 0
@@ -46,12 +54,16 @@ LacksLevels rows = IsNoNumber (first_of (codes "level") rows)
 
 -- the rows give these flags of `--verbose` and `--explain`
 abbrev pub HasVerbosity : Verbosity → List Row → Type 0
-HasVerbosity verbosity rows = (verbosity.verbose ≡ is_flagged (codes "verbose") rows) × (verbosity.explain ≡ is_flagged (codes "explain") rows)
+HasVerbosity verbosity rows = (verbosity.verbose ≡ is_flagged (codes "verbose") rows)
+    × (verbosity.explain ≡ is_flagged (codes "explain") rows)
 
 -- the rows give this text of DIR, these levels, these options, and these flags
-abbrev pub HasCompact : Text → Levels → CompactNumbers → Option ℕ → Option Text → Verbosity → List Row → Type 0
-HasCompact folder levels numbers since listed verbosity rows = (first_of (codes "DIR") rows ≡ Some folder)
-    × HasLevels levels rows × HasNumbers numbers rows × HasReadable since listed rows × HasVerbosity verbosity rows
+abbrev pub HasCompact : Text → Levels → CompactNumbers → Option ℕ → Option Text → Verbosity →
+    List Row → Type 0
+HasCompact folder levels numbers since listed verbosity rows =
+    (first_of (codes "DIR") rows ≡ Some folder)
+    × HasLevels levels rows × HasNumbers numbers rows × HasReadable since listed rows
+    × HasVerbosity verbosity rows
 
 -- the rows give no text of DIR, no levels, or an invalid option
 abbrev pub LacksCompact : List Row → Type 0
@@ -85,6 +97,13 @@ IsReadable None (Some text) (Listed sequences) = IsNumberList text sequences.ite
 
 -- the settings that the options ask for; an option that isn't given has its default
 abbrev pub AreSettings : CompactNumbers → Option ℕ → Option Text → CompactSettings → Type 0
-AreSettings numbers since listed settings = (settings.workers ≡ unwrap_or numbers.workers 4) × (settings.ranges ≡ unwrap_or numbers.ranges 8)
-    × (settings.options ≡ record { block_size = unwrap_or numbers.block_size 4096; restart_interval = 16; file_size = unwrap_or numbers.file_size 2097152 })
+AreSettings numbers since listed settings = (settings.workers ≡ unwrap_or numbers.workers 4)
+    × (settings.ranges ≡ unwrap_or numbers.ranges 8)
+    × (settings.options
+    ≡ record {
+      block_size = unwrap_or numbers.block_size 4096;
+      restart_interval =
+          16;
+      file_size = unwrap_or numbers.file_size 2097152;
+    })
     × IsReadable since listed settings.readable

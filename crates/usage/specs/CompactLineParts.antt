@@ -27,9 +27,13 @@ IsReadableAnswer since listed (Err (Clap e)) = ⊥
 
 -- the line of `compact` with these texts and numbers, or Snapshots if the text is no list of
 -- numbers
-abbrev pub CompactLine : Text → Levels → CompactNumbers → Option ℕ → Option Text → Verbosity → Result Line Usage → Type 0
-CompactLine folder levels numbers since listed verbosity (Ok (line.Compact folder' levels' settings verbosity')) =
-    (folder'.now ≡ folder) × ((levels' ≡ levels) × (AreSettings numbers since listed settings × (verbosity' ≡ verbosity)))
+abbrev pub CompactLine : Text → Levels → CompactNumbers → Option ℕ → Option Text → Verbosity →
+    Result Line Usage → Type 0
+CompactLine folder levels numbers since listed verbosity
+    (Ok (line.Compact folder' levels' settings verbosity')) =
+    (folder'.now ≡ folder)
+    × ((levels' ≡ levels)
+    × (AreSettings numbers since listed settings × (verbosity' ≡ verbosity)))
 CompactLine folder levels numbers since listed verbosity (Ok _) = ⊥
 CompactLine folder levels numbers since listed verbosity (Err Snapshots) = IsNoList since listed
 CompactLine folder levels numbers since listed verbosity (Err Memory) = Unit {0}

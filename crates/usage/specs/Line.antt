@@ -1,5 +1,6 @@
 -- What a command line asks for.
-use Rattle.std.specs.Prelude.{◌≡◌, ◌⊎◌, ℕ, Bool, List, [], Option, Some, None, Result, Ok, Err, codes, if◌then◌else◌, option_and_then}
+use Rattle.std.specs.Prelude.{◌≡◌, ◌⊎◌, ℕ, Bool, List, [], Option, Some, None, Result, Ok, Err}
+use Rattle.std.specs.Prelude.{codes, if◌then◌else◌, option_and_then}
 use Rattle.std.specs.Str.{bytes_eq}
 use Rattle.clap.specs.Words.{IsAmong, Row, Text, fault_of, first_of, kind_of, subcommand_of}
 use Rattle.clap.specs.declared.error.Error.{Error}
@@ -33,7 +34,8 @@ LacksRows Lacks given = (given ≡ None) ⊎ HasRows Lacks given
 
 -- the rows give these texts of A, B, `--at` and OUT
 abbrev pub HasBlocks : Text → Text → Text → Text → List Row → Type 0
-HasBlocks a b at out rows = (first_of (codes "A") rows ≡ Some a) × (first_of (codes "B") rows ≡ Some b)
+HasBlocks a b at out rows = (first_of (codes "A") rows ≡ Some a)
+    × (first_of (codes "B") rows ≡ Some b)
     × (first_of (codes "at") rows ≡ Some at) × (first_of (codes "OUT") rows ≡ Some out)
 
 -- the rows give no text of one of the four
@@ -51,16 +53,19 @@ LacksPath id rows = first_of id rows ≡ None
 
 -- the rows give this text of DIR, and this flag of `--verbose`
 abbrev pub HasFolder : Text → Bool → List Row → Type 0
-HasFolder folder verbose rows = (first_of (codes "DIR") rows ≡ Some folder) × (verbose ≡ is_flagged (codes "verbose") rows)
+HasFolder folder verbose rows = (first_of (codes "DIR") rows ≡ Some folder)
+    × (verbose ≡ is_flagged (codes "verbose") rows)
 
 -- the rows give these texts of DIR and HEXKEY, this number of `--at`, and this flag of `--verbose`
 abbrev pub HasGet : Text → Text → Option ℕ → Bool → List Row → Type 0
-HasGet folder key at verbose rows = (first_of (codes "DIR") rows ≡ Some folder) × (first_of (codes "HEXKEY") rows ≡ Some key)
+HasGet folder key at verbose rows = (first_of (codes "DIR") rows ≡ Some folder)
+    × (first_of (codes "HEXKEY") rows ≡ Some key)
     × IsNumberOf (first_of (codes "at") rows) at × (verbose ≡ is_flagged (codes "verbose") rows)
 
 -- the rows give no text of DIR or HEXKEY, or a text of `--at` that is no number
 abbrev pub LacksGet : List Row → Type 0
-LacksGet rows = (first_of (codes "DIR") rows ≡ None) ⊎ ((first_of (codes "HEXKEY") rows ≡ None) ⊎ IsNoNumber (first_of (codes "at") rows))
+LacksGet rows = (first_of (codes "DIR") rows ≡ None)
+    ⊎ ((first_of (codes "HEXKEY") rows ≡ None) ⊎ IsNoNumber (first_of (codes "at") rows))
 
 -- the parse is no command with all its texts
 abbrev pub LacksAll : Option (Text × List Row) → Type 0
@@ -73,38 +78,51 @@ LacksAll parsed = LacksRows LacksBlocks (rows_under (codes "blocks") parsed)
 
 -- `clap` refuses the words with this error, or they are no command with all its texts
 abbrev pub RefusedWith : List Text → Error → Type 0
-RefusedWith words e = IsAmong (kind_of e) (fault_of program_app words) ⊎ LacksAll (subcommand_of program_app words)
+RefusedWith words e = IsAmong (kind_of e) (fault_of program_app words)
+    ⊎ LacksAll (subcommand_of program_app words)
 
 -- `clap` accepts the words, and this holds of the rows that they give the command of this name
 abbrev pub GivesRows : List Text → Text → (List Row → Type 0) → Type 0
-GivesRows words name Has = (fault_of program_app words ≡ []) × HasRows Has (rows_under name (subcommand_of program_app words))
+GivesRows words name Has = (fault_of program_app words ≡ [])
+    × HasRows Has (rows_under name (subcommand_of program_app words))
 
 -- `clap` accepts the words, and they give a command this text of a key
 abbrev pub GivesKeyText : List Text → Text → Type 0
 GivesKeyText words text =
     ((a b out : Text) × GivesRows words (codes "blocks") (HasBlocks a b text out))
-    ⊎ ((folder : Text) × (at : Option ℕ) × (verbose : Bool) × GivesRows words (codes "get") (HasGet folder text at verbose))
+    ⊎ ((folder : Text) × (at : Option ℕ) × (verbose : Bool)
+    × GivesRows words (codes "get") (HasGet folder text at verbose))
 
 -- `clap` accepts the words, and they give `compact` this text of a list of snapshots
 abbrev pub GivesListText : List Text → Text → Type 0
 GivesListText words text =
     (folder : Text) × (levels : Levels) × (numbers : CompactNumbers) × (verbosity : Verbosity)
-    × GivesRows words (codes "compact") (HasCompact folder levels numbers None (Some text) verbosity)
+    × GivesRows words (codes "compact")
+    (HasCompact folder levels numbers None (Some text) verbosity)
 
 -- What a command line asks for: the texts of its command, with that of a key or of a list read. Key
 -- comes exactly if the text of the key is invalid, Snapshots exactly if the other is no list of
 -- numbers, and `clap`'s error if it refuses the words. Memory may come for any words.
 abbrev pub LineGives : List Text → Result Line Usage → Type 0
 LineGives words (Ok (line.Blocks a b at out)) =
-    (text : Text) × (GivesRows words (codes "blocks") (HasBlocks a.now b.now text out.now) × (bytes_of_text text ≡ Some at.items))
-LineGives words (Ok (line.Dump table)) = GivesRows words (codes "dump") (HasPath (codes "TABLE") table.now)
-LineGives words (Ok (line.Manifest folder verbose)) = GivesRows words (codes "manifest") (HasFolder folder.now verbose)
-LineGives words (Ok (line.Verify folder verbose)) = GivesRows words (codes "verify") (HasFolder folder.now verbose)
+    (text : Text)
+    × (GivesRows words (codes "blocks") (HasBlocks a.now b.now text out.now)
+    × (bytes_of_text text ≡ Some at.items))
+LineGives words (Ok (line.Dump table)) =
+    GivesRows words (codes "dump") (HasPath (codes "TABLE") table.now)
+LineGives words (Ok (line.Manifest folder verbose)) =
+    GivesRows words (codes "manifest") (HasFolder folder.now verbose)
+LineGives words (Ok (line.Verify folder verbose)) =
+    GivesRows words (codes "verify") (HasFolder folder.now verbose)
 LineGives words (Ok (line.Get folder key at verbose)) =
-    (text : Text) × (GivesRows words (codes "get") (HasGet folder.now text at verbose) × (bytes_of_text text ≡ Some key.items))
+    (text : Text)
+    × (GivesRows words (codes "get") (HasGet folder.now text at verbose)
+    × (bytes_of_text text ≡ Some key.items))
 LineGives words (Ok (line.Compact folder levels settings verbosity)) =
     (numbers : CompactNumbers) × (since : Option ℕ) × (listed : Option Text)
-    × (GivesRows words (codes "compact") (HasCompact folder.now levels numbers since listed verbosity) × AreSettings numbers since listed settings)
+    × (GivesRows words (codes "compact")
+    (HasCompact folder.now levels numbers since listed verbosity)
+    × AreSettings numbers since listed settings)
 LineGives words (Err Snapshots) = (text : Text) × (GivesListText words text × IsNoNumberList text)
 LineGives words (Err Key) = (text : Text) × (GivesKeyText words text × (bytes_of_text text ≡ None))
 LineGives words (Err Memory) = Unit {0}

@@ -5,10 +5,12 @@ use Rattle.std.specs.Global.{Vec}
 use Rattle.clap.specs.Words.{Row, Text, fault_of, subcommand_of}
 use Rattle.usage.specs.CompactLine.{HasCompact}
 use Rattle.grammar.specs.Apps.{program_app}
-use Rattle.usage.specs.Line.{HasBlocks, HasFolder, HasGet, HasPath, HasRows, RefusedWith, rows_under}
+use Rattle.usage.specs.Line.{HasBlocks, HasFolder, HasGet, HasPath, HasRows, RefusedWith}
+use Rattle.usage.specs.Line.{rows_under}
 use Rattle.texts.specs.Text.{bytes_of_text}
 use Rattle.usage.specs.declared.command_line.Given.{Given}
-use Rattle.usage.specs.declared.command_line.Given.TheVariants.{Blocks, Dump, Manifest, Verify, Get, Compact}
+use Rattle.usage.specs.declared.command_line.Given.TheVariants.{Blocks, Dump, Manifest, Verify, Get}
+use Rattle.usage.specs.declared.command_line.Given.TheVariants.{Compact}
 use Rattle.usage.specs.declared.requests.Line.{Line}
 use Rattle.usage.specs.declared.requests.Line.TheVariants as line
 use Rattle.usage.specs.declared.requests.Usage.{Usage}
@@ -16,11 +18,18 @@ use Rattle.usage.specs.declared.requests.Usage.TheVariants.{Key, Snapshots, Memo
 
 -- the parse is a command with these texts
 abbrev pub GivesCommand : Option (Text × List Row) → Given → Type 0
-GivesCommand parsed (Blocks texts) = HasRows (HasBlocks texts.a.now texts.b.now texts.at.now texts.out.now) (rows_under (codes "blocks") parsed)
-GivesCommand parsed (Dump table) = HasRows (HasPath (codes "TABLE") table.now) (rows_under (codes "dump") parsed)
-GivesCommand parsed (Manifest texts) = HasRows (HasFolder texts.folder.now texts.verbose) (rows_under (codes "manifest") parsed)
-GivesCommand parsed (Verify texts) = HasRows (HasFolder texts.folder.now texts.verbose) (rows_under (codes "verify") parsed)
-GivesCommand parsed (Get texts) = HasRows (HasGet texts.folder.now texts.key.now texts.at texts.verbose) (rows_under (codes "get") parsed)
+GivesCommand parsed (Blocks texts) =
+    HasRows (HasBlocks texts.a.now texts.b.now texts.at.now texts.out.now)
+    (rows_under (codes "blocks") parsed)
+GivesCommand parsed (Dump table) =
+    HasRows (HasPath (codes "TABLE") table.now) (rows_under (codes "dump") parsed)
+GivesCommand parsed (Manifest texts) = HasRows (HasFolder texts.folder.now texts.verbose)
+    (rows_under (codes "manifest") parsed)
+GivesCommand parsed (Verify texts) = HasRows (HasFolder texts.folder.now texts.verbose)
+    (rows_under (codes "verify") parsed)
+GivesCommand parsed (Get texts) =
+    HasRows (HasGet texts.folder.now texts.key.now texts.at texts.verbose)
+    (rows_under (codes "get") parsed)
 GivesCommand parsed (Compact texts) =
     HasRows (HasCompact texts.folder.now texts.levels texts.numbers texts.readable.since
     (option_map (λ text. text.now) texts.readable.listed) texts.verbosity)
@@ -28,7 +37,8 @@ GivesCommand parsed (Compact texts) =
 
 -- `clap` accepts the words, and they give a command with these texts
 abbrev pub GivesTexts : List Text → Given → Type 0
-GivesTexts words given = (fault_of program_app words ≡ []) × GivesCommand (subcommand_of program_app words) given
+GivesTexts words given = (fault_of program_app words ≡ [])
+    × GivesCommand (subcommand_of program_app words) given
 
 -- the texts that a command line gives, or `clap`'s refusal; Memory may come for any words
 abbrev pub TextsGiven : List Text → Result Given Usage → Type 0
@@ -48,7 +58,8 @@ IsKeyAnswer text (Err (Clap e)) = ⊥
 
 -- the line of `blocks` with these texts, or Key if that of the key is invalid
 abbrev pub BlocksLine : Text → Text → Text → Text → Result Line Usage → Type 0
-BlocksLine a b at out (Ok (line.Blocks a' b' key out')) = (a'.now ≡ a) × ((b'.now ≡ b) × ((bytes_of_text at ≡ Some key.items) × (out'.now ≡ out)))
+BlocksLine a b at out (Ok (line.Blocks a' b' key out')) = (a'.now ≡ a)
+    × ((b'.now ≡ b) × ((bytes_of_text at ≡ Some key.items) × (out'.now ≡ out)))
 BlocksLine a b at out (Ok _) = ⊥
 BlocksLine a b at out (Err Key) = bytes_of_text at ≡ None
 BlocksLine a b at out (Err Snapshots) = ⊥
@@ -58,7 +69,8 @@ BlocksLine a b at out (Err (Clap e)) = ⊥
 -- the line of `get` with these texts, or Key if that of the key is invalid
 abbrev pub GetLine : Text → Text → Option ℕ → Bool → Result Line Usage → Type 0
 GetLine folder key at verbose (Ok (line.Get folder' key' at' verbose')) =
-    (folder'.now ≡ folder) × ((bytes_of_text key ≡ Some key'.items) × ((at' ≡ at) × (verbose' ≡ verbose)))
+    (folder'.now ≡ folder)
+    × ((bytes_of_text key ≡ Some key'.items) × ((at' ≡ at) × (verbose' ≡ verbose)))
 GetLine folder key at verbose (Ok _) = ⊥
 GetLine folder key at verbose (Err Key) = bytes_of_text key ≡ None
 GetLine folder key at verbose (Err Snapshots) = ⊥

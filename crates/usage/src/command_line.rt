@@ -3,7 +3,8 @@
 ghost use Rattle.std.specs.Prelude.{◌≡◌, ◌≢◌, MatchOption, codes, map};
 ghost use Rattle.clap.specs.Words.{app_of, found_of, rows_of, subcommand_rows_of};
 ghost use Rattle.grammar.specs.Apps.{program_app};
-ghost use Rattle.usage.specs.Line.{HasBlocks, HasFolder, HasGet, HasPath, LacksAll, LacksBlocks, LacksGet, LacksPath, LacksRows, HasRows, LineGives, rows_under};
+ghost use Rattle.usage.specs.Line.{HasBlocks, HasFolder, HasGet, HasPath, LacksAll, LacksBlocks};
+ghost use Rattle.usage.specs.Line.{LacksGet, LacksPath, LacksRows, HasRows, LineGives, rows_under};
 ghost use Rattle.usage.specs.LineParts.{BlocksLine, GetLine, GivesCommand, IsKeyAnswer, TextsGiven};
 ghost use Rattle.usage.specs.declared.requests.Usage.TheVariants.{Key, Snapshots};
 
@@ -115,7 +116,8 @@ impl<'a> FolderTexts<'a> {
     /// The text of DIR, and whether `--verbose` is given.
     fn of(values: &ArgMatches<'a>) -> Option<FolderTexts<'a>>
         ensures { let rows = rows_of (found_of values.now) in
-            MatchOption result (LacksPath (codes "DIR") rows) (λ texts. HasFolder texts.folder.now texts.verbose rows) }
+            MatchOption result (LacksPath (codes "DIR") rows)
+            (λ texts. HasFolder texts.folder.now texts.verbose rows) }
     {
         let Some(folder) = first_text(values, "DIR") else {
             return None;
@@ -139,7 +141,8 @@ impl<'a> GetTexts<'a> {
     /// given.
     fn of(values: &ArgMatches<'a>) -> Option<GetTexts<'a>>
         ensures { let rows = rows_of (found_of values.now) in
-            MatchOption result (LacksGet rows) (λ texts. HasGet texts.folder.now texts.key.now texts.at texts.verbose rows) }
+            MatchOption result (LacksGet rows)
+            (λ texts. HasGet texts.folder.now texts.key.now texts.at texts.verbose rows) }
     {
         let Some(folder) = first_text(values, "DIR") else {
             return None;
@@ -276,7 +279,8 @@ fn folder_texts<'a>(matches: &ArgMatches<'a>, name: &str) -> Option<FolderTexts<
 /// is there.
 fn path_text<'a>(matches: &ArgMatches<'a>, name: &str, id: &str) -> Option<&'a str>
     ensures { let given = rows_under name.now (subcommand_rows_of matches.now) in
-        MatchOption result (LacksRows (LacksPath id.now) given) (λ text. HasRows (HasPath id.now text.now) given) }
+        MatchOption result (LacksRows (LacksPath id.now) given)
+        (λ text. HasRows (HasPath id.now text.now) given) }
 {
     let Some(values) = matches.subcommand_matches(name) else {
         return None;
@@ -286,7 +290,8 @@ fn path_text<'a>(matches: &ArgMatches<'a>, name: &str, id: &str) -> Option<&'a s
 
 /// The line of `blocks`. Key if the text of its key is invalid.
 fn blocks_line<'a>(alloc: Global, texts: BlocksTexts<'a>) -> Result<Line<'a>, Usage>
-    ensures { BlocksLine texts.entry.a.now texts.entry.b.now texts.entry.at.now texts.entry.out.now result }
+    ensures { BlocksLine texts.entry.a.now texts.entry.b.now texts.entry.at.now texts.entry.out.now
+        result }
 {
     let at = user_key(alloc, texts.at)?;
     Ok(Line::Blocks {
@@ -299,7 +304,8 @@ fn blocks_line<'a>(alloc: Global, texts: BlocksTexts<'a>) -> Result<Line<'a>, Us
 
 /// The line of `get`. Key if the text of its key is invalid.
 fn get_line<'a>(alloc: Global, texts: GetTexts<'a>) -> Result<Line<'a>, Usage>
-    ensures { GetLine texts.entry.folder.now texts.entry.key.now texts.entry.at texts.entry.verbose result }
+    ensures { GetLine texts.entry.folder.now texts.entry.key.now texts.entry.at texts.entry.verbose
+        result }
 {
     let key = user_key(alloc, texts.key)?;
     Ok(Line::Get {

@@ -21,7 +21,8 @@ const RANGES: u64 = 8;
 
 /// The line of `compact`. Snapshots if the text of its list is no list of numbers.
 pub(crate) fn compact_line<'a>(alloc: Global, texts: CompactTexts<'a>) -> Result<Line<'a>, Usage>
-    ensures { CompactLine texts.entry.folder.now texts.entry.levels texts.entry.numbers texts.entry.readable.since
+    ensures { CompactLine texts.entry.folder.now texts.entry.levels texts.entry.numbers
+        texts.entry.readable.since
         (option_map (λ text. text.now) texts.entry.readable.listed) texts.entry.verbosity result }
 {
     let readable = readable(alloc, texts.readable)?;
@@ -46,7 +47,8 @@ pub(crate) fn compact_line<'a>(alloc: Global, texts: CompactTexts<'a>) -> Result
 
 /// The sequences that stay readable.
 fn readable(alloc: Global, texts: ReadableTexts<'_>) -> Result<Readable, Usage>
-    ensures { IsReadableAnswer texts.entry.since (option_map (λ text. text.now) texts.entry.listed) result }
+    ensures { IsReadableAnswer texts.entry.since (option_map (λ text. text.now) texts.entry.listed)
+        result }
 {
     if let Some(sequence) = texts.since {
         return Ok(Readable::From(sequence));
@@ -63,7 +65,9 @@ fn readable(alloc: Global, texts: ReadableTexts<'_>) -> Result<Readable, Usage>
 /// The numbers of a text, with commas between them. None if one of them is no number; the empty
 /// text is none.
 fn numbers_of(alloc: Global, text: &str) -> Result<Option<Vec<u64>>, AllocError>
-    ensures { IfOk result (λ found. MatchOption found (IsNoNumberList text.now) (λ numbers. IsNumberList text.now numbers.items)) }
+    ensures { IfOk result
+        (λ found. MatchOption found (IsNoNumberList text.now)
+        (λ numbers. IsNumberList text.now numbers.items)) }
 {
     let numerals: Vec<&str> = text.split(',').collect(alloc)?;
     numbers_in(alloc, &numerals)
@@ -71,7 +75,8 @@ fn numbers_of(alloc: Global, text: &str) -> Result<Option<Vec<u64>>, AllocError>
 
 /// The numbers of these texts. None if one of them is no number.
 fn numbers_in(alloc: Global, numerals: &[&str]) -> Result<Option<Vec<u64>>, AllocError>
-    ensures { IfOk result (λ found. MatchOption found (All IsNumberText (map (λ n. n.now) numerals.now) → ⊥)
+    ensures { IfOk result
+        (λ found. MatchOption found (All IsNumberText (map (λ n. n.now) numerals.now) → ⊥)
         (λ numbers. AreNumbers (map (λ n. n.now) numerals.now) numbers.items)) }
 {
     let mut numbers = Vec::with_capacity(alloc, numerals.len())?;

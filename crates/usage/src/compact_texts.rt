@@ -3,7 +3,9 @@
 ghost use Rattle.std.specs.Prelude.{◌≡◌, ◌≢◌, ◌⊎◌, None, MatchOption, codes};
 ghost use Rattle.std.specs.Option.{option_map};
 ghost use Rattle.clap.specs.Words.{first_of, found_of, rows_of, subcommand_rows_of};
-ghost use Rattle.usage.specs.CompactLine.{HasCompact, HasLevels, HasNumbers, HasReadable, HasVerbosity, LacksCompact, LacksLevels, LacksNumbers, LacksReadable};
+ghost use Rattle.usage.specs.CompactLine.{HasCompact, HasLevels, HasNumbers, HasReadable};
+ghost use Rattle.usage.specs.CompactLine.{HasVerbosity, LacksCompact, LacksLevels, LacksNumbers};
+ghost use Rattle.usage.specs.CompactLine.{LacksReadable};
 ghost use Rattle.usage.specs.Line.{HasRows, LacksRows, rows_under};
 
 use crate::arguments::{first_number, first_text, is_flagged};
@@ -142,7 +144,8 @@ fn levels_of(values: &ArgMatches<'_>) -> Option<Levels>
 pub(crate) fn compact_texts<'a>(matches: &ArgMatches<'a>) -> Option<CompactTexts<'a>>
     ensures { let given = rows_under (codes "compact") (subcommand_rows_of matches.now) in
         MatchOption result (LacksRows LacksCompact given)
-        (λ texts. HasRows (HasCompact texts.folder.now texts.levels texts.numbers texts.readable.since
+        (λ texts. HasRows
+        (HasCompact texts.folder.now texts.levels texts.numbers texts.readable.since
         (option_map (λ text. text.now) texts.readable.listed) texts.verbosity) given) }
 {
     let Some(values) = matches.subcommand_matches("compact") else {

@@ -129,7 +129,11 @@ const VERSIONS: &[Row] = &[
         MIXED,
         MIXED_NEXT,
         Ok(
-            b"\x01\x1aleveldb.BytewiseComparator\x05\0\x0ek00399\00\0\0\0\0\0\0\x07\0\x19\xec\x19\x0ek00001\x01\x80\x04\0\0\0\0\0\x0ek00389\x01u\x04\0\0\0\0\0\x07\0\x16\x86\x1a\x0ek00003\x01\xf7\x03\0\0\0\0\0\x0ek00399\0\xee\x03\0\0\0\0\0\x07\0\x13\xcb\x1a\x0ek00003\x01\x88\x03\0\0\0\0\0\x0ek00399\x01\xd8\x03\0\0\0\0\0\x07\x01\x0f\xddY\x0ek00000\x01*\x03\0\0\0\0\0\x0ek00398\x01D\x03\0\0\0\0\0",
+            b"\x01\x1aleveldb.BytewiseComparator\x05\0\x0ek00399\00\0\0\0\0\0\0\x07\0\x19\xec\x19\
+                \x0ek00001\x01\x80\x04\0\0\0\0\0\x0ek00389\x01u\x04\0\0\0\0\0\x07\0\x16\x86\x1a\x0e\
+                k00003\x01\xf7\x03\0\0\0\0\0\x0ek00399\0\xee\x03\0\0\0\0\0\x07\0\x13\xcb\x1a\x0ek00\
+                003\x01\x88\x03\0\0\0\0\0\x0ek00399\x01\xd8\x03\0\0\0\0\0\x07\x01\x0f\xddY\x0ek0000\
+                0\x01*\x03\0\0\0\0\0\x0ek00398\x01D\x03\0\0\0\0\0",
         ),
     ),
     // The later pointer of a level counts.

@@ -18,7 +18,8 @@ use std::test::*;
 
 /// The pieces of a plan, in the order of their jobs.
 fn encoded(alloc: Global, plan: &Plan<'_, '_, Bytewise>) -> Result<Vec<Vec<u8>>, Fault>
-    ensures { IfOk result (λ pieces. map (λ p. p.items) pieces.items ≡ encoded_pieces plan.now.options (lists_in plan.now.outputs)) }
+    ensures { IfOk result (λ pieces. map (λ p. p.items) pieces.items
+        ≡ encoded_pieces plan.now.options (lists_in plan.now.outputs)) }
 {
     let mut pieces = Vec::new(alloc);
     for job in 0..plan.jobs() {

@@ -110,7 +110,10 @@ pub const CLAIMS: &[Row] = &[
         line: "handle of 2^30 bytes\n  of a footer's metaindex block: Range",
         call: Call::Table,
         source: Plain(
-            b"\0\x09\x01a\x01\x01\0\0\0\0\0\0x\0\0\0\0\x01\0\0\0\0\x84\xdd\x88t\0\0\0\0\x01\0\0\0\0\xc0\xf2\xa1\xb0\0\x09\x02a\x01\x01\0\0\0\0\0\0\0\x15\0\0\0\0\x01\0\0\0\06I%\xbf\0\x80\x80\x80\x80\x04'\x16\0\0\0\0\0\0\0\0\0\0\0\0\0\0\0\0\0\0\0\0\0\0\0\0\0\0\0\0\0\0\0\0W\xfb\x80\x8b$uG\xdb",
+            b"\0\x09\x01a\x01\x01\0\0\0\0\0\0x\0\0\0\0\x01\0\0\0\0\x84\xdd\x88t\0\0\0\0\x01\0\0\0\0\
+                \xc0\xf2\xa1\xb0\0\x09\x02a\x01\x01\0\0\0\0\0\0\0\x15\0\0\0\0\x01\0\0\0\06I%\xbf\0\
+                \x80\x80\x80\x80\x04'\x16\0\0\0\0\0\0\0\0\0\0\0\0\0\0\0\0\0\0\0\0\0\0\0\0\0\0\0\0\0\
+                \0\0\0W\xfb\x80\x8b$uG\xdb",
         ),
         way: Way::Whole,
         steps: 1,
@@ -121,7 +124,10 @@ pub const CLAIMS: &[Row] = &[
         line: "  of a footer's index block: Range",
         call: Call::Table,
         source: Plain(
-            b"\0\x09\x01a\x01\x01\0\0\0\0\0\0x\0\0\0\0\x01\0\0\0\0\x84\xdd\x88t\0\0\0\0\x01\0\0\0\0\xc0\xf2\xa1\xb0\0\x09\x02a\x01\x01\0\0\0\0\0\0\0\x15\0\0\0\0\x01\0\0\0\06I%\xbf\x1a\x08\0\x80\x80\x80\x80\x04\0\0\0\0\0\0\0\0\0\0\0\0\0\0\0\0\0\0\0\0\0\0\0\0\0\0\0\0\0\0\0\0W\xfb\x80\x8b$uG\xdb",
+            b"\0\x09\x01a\x01\x01\0\0\0\0\0\0x\0\0\0\0\x01\0\0\0\0\x84\xdd\x88t\0\0\0\0\x01\0\0\0\0\
+                \xc0\xf2\xa1\xb0\0\x09\x02a\x01\x01\0\0\0\0\0\0\0\x15\0\0\0\0\x01\0\0\0\06I%\xbf\
+                \x1a\x08\0\x80\x80\x80\x80\x04\0\0\0\0\0\0\0\0\0\0\0\0\0\0\0\0\0\0\0\0\0\0\0\0\0\0\
+                \0\0\0\0\0\0W\xfb\x80\x8b$uG\xdb",
         ),
         way: Way::Whole,
         steps: 1,
@@ -132,7 +138,10 @@ pub const CLAIMS: &[Row] = &[
         line: "  in an index: Range",
         call: Call::Table,
         source: Plain(
-            b"\0\x09\x01a\x01\x01\0\0\0\0\0\0x\0\0\0\0\x01\0\0\0\0\x84\xdd\x88t\0\0\0\0\x01\0\0\0\0\xc0\xf2\xa1\xb0\0\x09\x06a\x01\x01\0\0\0\0\0\0\0\x80\x80\x80\x80\x04\0\0\0\0\x01\0\0\0\0'\xcb\x81\x98\x1a\x08'\x1a\0\0\0\0\0\0\0\0\0\0\0\0\0\0\0\0\0\0\0\0\0\0\0\0\0\0\0\0\0\0\0\0\0\0\0\0W\xfb\x80\x8b$uG\xdb",
+            b"\0\x09\x01a\x01\x01\0\0\0\0\0\0x\0\0\0\0\x01\0\0\0\0\x84\xdd\x88t\0\0\0\0\x01\0\0\0\0\
+                \xc0\xf2\xa1\xb0\0\x09\x06a\x01\x01\0\0\0\0\0\0\0\x80\x80\x80\x80\x04\0\0\0\0\x01\0\
+                \0\0\0'\xcb\x81\x98\x1a\x08'\x1a\0\0\0\0\0\0\0\0\0\0\0\0\0\0\0\0\0\0\0\0\0\0\0\0\0\
+                \0\0\0\0\0\0\0\0\0\0\0W\xfb\x80\x8b$uG\xdb",
         ),
         way: Way::Whole,
         steps: 1,
@@ -143,7 +152,10 @@ pub const CLAIMS: &[Row] = &[
         line: "  in an input: Range",
         call: Call::Compact,
         source: Plain(
-            b"\0\x09\x01a\x01\x01\0\0\0\0\0\0x\0\0\0\0\x01\0\0\0\0\x84\xdd\x88t\0\0\0\0\x01\0\0\0\0\xc0\xf2\xa1\xb0\0\x09\x06a\x01\x01\0\0\0\0\0\0\0\x80\x80\x80\x80\x04\0\0\0\0\x01\0\0\0\0'\xcb\x81\x98\x1a\x08'\x1a\0\0\0\0\0\0\0\0\0\0\0\0\0\0\0\0\0\0\0\0\0\0\0\0\0\0\0\0\0\0\0\0\0\0\0\0W\xfb\x80\x8b$uG\xdb",
+            b"\0\x09\x01a\x01\x01\0\0\0\0\0\0x\0\0\0\0\x01\0\0\0\0\x84\xdd\x88t\0\0\0\0\x01\0\0\0\0\
+                \xc0\xf2\xa1\xb0\0\x09\x06a\x01\x01\0\0\0\0\0\0\0\x80\x80\x80\x80\x04\0\0\0\0\x01\0\
+                \0\0\0'\xcb\x81\x98\x1a\x08'\x1a\0\0\0\0\0\0\0\0\0\0\0\0\0\0\0\0\0\0\0\0\0\0\0\0\0\
+                \0\0\0\0\0\0\0\0\0\0\0W\xfb\x80\x8b$uG\xdb",
         ),
         way: Way::Whole,
         steps: 1,
@@ -154,7 +166,10 @@ pub const CLAIMS: &[Row] = &[
         line: "handle of a far end\n  of a footer's metaindex block: Range",
         call: Call::Table,
         source: Plain(
-            b"\0\x09\x01a\x01\x01\0\0\0\0\0\0x\0\0\0\0\x01\0\0\0\0\x84\xdd\x88t\0\0\0\0\x01\0\0\0\0\xc0\xf2\xa1\xb0\0\x09\x02a\x01\x01\0\0\0\0\0\0\0\x15\0\0\0\0\x01\0\0\0\06I%\xbf\0\xff\xff\xff\xff\xff\xff\xff\xff\xff\x01'\x16\0\0\0\0\0\0\0\0\0\0\0\0\0\0\0\0\0\0\0\0\0\0\0\0\0\0\0W\xfb\x80\x8b$uG\xdb",
+            b"\0\x09\x01a\x01\x01\0\0\0\0\0\0x\0\0\0\0\x01\0\0\0\0\x84\xdd\x88t\0\0\0\0\x01\0\0\0\0\
+                \xc0\xf2\xa1\xb0\0\x09\x02a\x01\x01\0\0\0\0\0\0\0\x15\0\0\0\0\x01\0\0\0\06I%\xbf\0\
+                \xff\xff\xff\xff\xff\xff\xff\xff\xff\x01'\x16\0\0\0\0\0\0\0\0\0\0\0\0\0\0\0\0\0\0\0\
+                \0\0\0\0\0\0\0\0W\xfb\x80\x8b$uG\xdb",
         ),
         way: Way::Whole,
         steps: 1,
@@ -165,7 +180,10 @@ pub const CLAIMS: &[Row] = &[
         line: "  of a footer's index block: Range",
         call: Call::Table,
         source: Plain(
-            b"\0\x09\x01a\x01\x01\0\0\0\0\0\0x\0\0\0\0\x01\0\0\0\0\x84\xdd\x88t\0\0\0\0\x01\0\0\0\0\xc0\xf2\xa1\xb0\0\x09\x02a\x01\x01\0\0\0\0\0\0\0\x15\0\0\0\0\x01\0\0\0\06I%\xbf\x1a\x08\0\xff\xff\xff\xff\xff\xff\xff\xff\xff\x01\0\0\0\0\0\0\0\0\0\0\0\0\0\0\0\0\0\0\0\0\0\0\0\0\0\0\0W\xfb\x80\x8b$uG\xdb",
+            b"\0\x09\x01a\x01\x01\0\0\0\0\0\0x\0\0\0\0\x01\0\0\0\0\x84\xdd\x88t\0\0\0\0\x01\0\0\0\0\
+                \xc0\xf2\xa1\xb0\0\x09\x02a\x01\x01\0\0\0\0\0\0\0\x15\0\0\0\0\x01\0\0\0\06I%\xbf\
+                \x1a\x08\0\xff\xff\xff\xff\xff\xff\xff\xff\xff\x01\0\0\0\0\0\0\0\0\0\0\0\0\0\0\0\0\
+                \0\0\0\0\0\0\0\0\0\0\0W\xfb\x80\x8b$uG\xdb",
         ),
         way: Way::Whole,
         steps: 1,
@@ -176,7 +194,10 @@ pub const CLAIMS: &[Row] = &[
         line: "  in an index: Range",
         call: Call::Table,
         source: Plain(
-            b"\0\x09\x01a\x01\x01\0\0\0\0\0\0x\0\0\0\0\x01\0\0\0\0\x84\xdd\x88t\0\0\0\0\x01\0\0\0\0\xc0\xf2\xa1\xb0\0\x09\x0ba\x01\x01\0\0\0\0\0\0\0\xff\xff\xff\xff\xff\xff\xff\xff\xff\x01\0\0\0\0\x01\0\0\0\0)gm|\x1a\x08'\x1f\0\0\0\0\0\0\0\0\0\0\0\0\0\0\0\0\0\0\0\0\0\0\0\0\0\0\0\0\0\0\0\0\0\0\0\0W\xfb\x80\x8b$uG\xdb",
+            b"\0\x09\x01a\x01\x01\0\0\0\0\0\0x\0\0\0\0\x01\0\0\0\0\x84\xdd\x88t\0\0\0\0\x01\0\0\0\0\
+                \xc0\xf2\xa1\xb0\0\x09\x0ba\x01\x01\0\0\0\0\0\0\0\xff\xff\xff\xff\xff\xff\xff\xff\
+                \xff\x01\0\0\0\0\x01\0\0\0\0)gm|\x1a\x08'\x1f\0\0\0\0\0\0\0\0\0\0\0\0\0\0\0\0\0\0\0\
+                \0\0\0\0\0\0\0\0\0\0\0\0\0\0\0\0\0W\xfb\x80\x8b$uG\xdb",
         ),
         way: Way::Whole,
         steps: 1,
@@ -187,7 +208,10 @@ pub const CLAIMS: &[Row] = &[
         line: "  in an input: Range",
         call: Call::Compact,
         source: Plain(
-            b"\0\x09\x01a\x01\x01\0\0\0\0\0\0x\0\0\0\0\x01\0\0\0\0\x84\xdd\x88t\0\0\0\0\x01\0\0\0\0\xc0\xf2\xa1\xb0\0\x09\x0ba\x01\x01\0\0\0\0\0\0\0\xff\xff\xff\xff\xff\xff\xff\xff\xff\x01\0\0\0\0\x01\0\0\0\0)gm|\x1a\x08'\x1f\0\0\0\0\0\0\0\0\0\0\0\0\0\0\0\0\0\0\0\0\0\0\0\0\0\0\0\0\0\0\0\0\0\0\0\0W\xfb\x80\x8b$uG\xdb",
+            b"\0\x09\x01a\x01\x01\0\0\0\0\0\0x\0\0\0\0\x01\0\0\0\0\x84\xdd\x88t\0\0\0\0\x01\0\0\0\0\
+                \xc0\xf2\xa1\xb0\0\x09\x0ba\x01\x01\0\0\0\0\0\0\0\xff\xff\xff\xff\xff\xff\xff\xff\
+                \xff\x01\0\0\0\0\x01\0\0\0\0)gm|\x1a\x08'\x1f\0\0\0\0\0\0\0\0\0\0\0\0\0\0\0\0\0\0\0\
+                \0\0\0\0\0\0\0\0\0\0\0\0\0\0\0\0\0W\xfb\x80\x8b$uG\xdb",
         ),
         way: Way::Whole,
         steps: 1,
@@ -198,7 +222,10 @@ pub const CLAIMS: &[Row] = &[
         line: "handle of a far place\n  of a footer's metaindex block: Range",
         call: Call::Table,
         source: Plain(
-            b"\0\x09\x01a\x01\x01\0\0\0\0\0\0x\0\0\0\0\x01\0\0\0\0\x84\xdd\x88t\0\0\0\0\x01\0\0\0\0\xc0\xf2\xa1\xb0\0\x09\x02a\x01\x01\0\0\0\0\0\0\0\x15\0\0\0\0\x01\0\0\0\06I%\xbf\xff\xff\xff\xff\xff\xff\xff\xff\xff\x01\xff\xff\xff\xff\xff\xff\xff\xff\xff\x01'\x16\0\0\0\0\0\0\0\0\0\0\0\0\0\0\0\0\0\0W\xfb\x80\x8b$uG\xdb",
+            b"\0\x09\x01a\x01\x01\0\0\0\0\0\0x\0\0\0\0\x01\0\0\0\0\x84\xdd\x88t\0\0\0\0\x01\0\0\0\0\
+                \xc0\xf2\xa1\xb0\0\x09\x02a\x01\x01\0\0\0\0\0\0\0\x15\0\0\0\0\x01\0\0\0\06I%\xbf\
+                \xff\xff\xff\xff\xff\xff\xff\xff\xff\x01\xff\xff\xff\xff\xff\xff\xff\xff\xff\x01'\
+                \x16\0\0\0\0\0\0\0\0\0\0\0\0\0\0\0\0\0\0W\xfb\x80\x8b$uG\xdb",
         ),
         way: Way::Whole,
         steps: 1,
@@ -209,7 +236,10 @@ pub const CLAIMS: &[Row] = &[
         line: "  of a footer's index block: Range",
         call: Call::Table,
         source: Plain(
-            b"\0\x09\x01a\x01\x01\0\0\0\0\0\0x\0\0\0\0\x01\0\0\0\0\x84\xdd\x88t\0\0\0\0\x01\0\0\0\0\xc0\xf2\xa1\xb0\0\x09\x02a\x01\x01\0\0\0\0\0\0\0\x15\0\0\0\0\x01\0\0\0\06I%\xbf\x1a\x08\xff\xff\xff\xff\xff\xff\xff\xff\xff\x01\xff\xff\xff\xff\xff\xff\xff\xff\xff\x01\0\0\0\0\0\0\0\0\0\0\0\0\0\0\0\0\0\0W\xfb\x80\x8b$uG\xdb",
+            b"\0\x09\x01a\x01\x01\0\0\0\0\0\0x\0\0\0\0\x01\0\0\0\0\x84\xdd\x88t\0\0\0\0\x01\0\0\0\0\
+                \xc0\xf2\xa1\xb0\0\x09\x02a\x01\x01\0\0\0\0\0\0\0\x15\0\0\0\0\x01\0\0\0\06I%\xbf\
+                \x1a\x08\xff\xff\xff\xff\xff\xff\xff\xff\xff\x01\xff\xff\xff\xff\xff\xff\xff\xff\
+                \xff\x01\0\0\0\0\0\0\0\0\0\0\0\0\0\0\0\0\0\0W\xfb\x80\x8b$uG\xdb",
         ),
         way: Way::Whole,
         steps: 1,
@@ -220,7 +250,11 @@ pub const CLAIMS: &[Row] = &[
         line: "  in an index: Range",
         call: Call::Table,
         source: Plain(
-            b"\0\x09\x01a\x01\x01\0\0\0\0\0\0x\0\0\0\0\x01\0\0\0\0\x84\xdd\x88t\0\0\0\0\x01\0\0\0\0\xc0\xf2\xa1\xb0\0\x09\x14a\x01\x01\0\0\0\0\0\0\xff\xff\xff\xff\xff\xff\xff\xff\xff\x01\xff\xff\xff\xff\xff\xff\xff\xff\xff\x01\0\0\0\0\x01\0\0\0\0\xd7\x8b\xad\xc1\x1a\x08'(\0\0\0\0\0\0\0\0\0\0\0\0\0\0\0\0\0\0\0\0\0\0\0\0\0\0\0\0\0\0\0\0\0\0\0\0W\xfb\x80\x8b$uG\xdb",
+            b"\0\x09\x01a\x01\x01\0\0\0\0\0\0x\0\0\0\0\x01\0\0\0\0\x84\xdd\x88t\0\0\0\0\x01\0\0\0\0\
+                \xc0\xf2\xa1\xb0\0\x09\x14a\x01\x01\0\0\0\0\0\0\xff\xff\xff\xff\xff\xff\xff\xff\xff\
+                \x01\xff\xff\xff\xff\xff\xff\xff\xff\xff\x01\0\0\0\0\x01\0\0\0\0\xd7\x8b\xad\xc1\
+                \x1a\x08'(\0\0\0\0\0\0\0\0\0\0\0\0\0\0\0\0\0\0\0\0\0\0\0\0\0\0\0\0\0\0\0\0\0\0\0\0W\
+                \xfb\x80\x8b$uG\xdb",
         ),
         way: Way::Whole,
         steps: 1,
@@ -231,7 +265,11 @@ pub const CLAIMS: &[Row] = &[
         line: "  in an input: Range",
         call: Call::Compact,
         source: Plain(
-            b"\0\x09\x01a\x01\x01\0\0\0\0\0\0x\0\0\0\0\x01\0\0\0\0\x84\xdd\x88t\0\0\0\0\x01\0\0\0\0\xc0\xf2\xa1\xb0\0\x09\x14a\x01\x01\0\0\0\0\0\0\xff\xff\xff\xff\xff\xff\xff\xff\xff\x01\xff\xff\xff\xff\xff\xff\xff\xff\xff\x01\0\0\0\0\x01\0\0\0\0\xd7\x8b\xad\xc1\x1a\x08'(\0\0\0\0\0\0\0\0\0\0\0\0\0\0\0\0\0\0\0\0\0\0\0\0\0\0\0\0\0\0\0\0\0\0\0\0W\xfb\x80\x8b$uG\xdb",
+            b"\0\x09\x01a\x01\x01\0\0\0\0\0\0x\0\0\0\0\x01\0\0\0\0\x84\xdd\x88t\0\0\0\0\x01\0\0\0\0\
+                \xc0\xf2\xa1\xb0\0\x09\x14a\x01\x01\0\0\0\0\0\0\xff\xff\xff\xff\xff\xff\xff\xff\xff\
+                \x01\xff\xff\xff\xff\xff\xff\xff\xff\xff\x01\0\0\0\0\x01\0\0\0\0\xd7\x8b\xad\xc1\
+                \x1a\x08'(\0\0\0\0\0\0\0\0\0\0\0\0\0\0\0\0\0\0\0\0\0\0\0\0\0\0\0\0\0\0\0\0\0\0\0\0W\
+                \xfb\x80\x8b$uG\xdb",
         ),
         way: Way::Whole,
         steps: 1,
@@ -242,7 +280,10 @@ pub const CLAIMS: &[Row] = &[
         line: "handle whose end passes 2^64\n  of a footer's metaindex block: Range",
         call: Call::Table,
         source: Plain(
-            b"\0\x09\x01a\x01\x01\0\0\0\0\0\0x\0\0\0\0\x01\0\0\0\0\x84\xdd\x88t\0\0\0\0\x01\0\0\0\0\xc0\xf2\xa1\xb0\0\x09\x02a\x01\x01\0\0\0\0\0\0\0\x15\0\0\0\0\x01\0\0\0\06I%\xbf\xff\xff\xff\xff\xff\xff\xff\xff\xff\x01\x08'\x16\0\0\0\0\0\0\0\0\0\0\0\0\0\0\0\0\0\0\0\0\0\0\0\0\0\0\0W\xfb\x80\x8b$uG\xdb",
+            b"\0\x09\x01a\x01\x01\0\0\0\0\0\0x\0\0\0\0\x01\0\0\0\0\x84\xdd\x88t\0\0\0\0\x01\0\0\0\0\
+                \xc0\xf2\xa1\xb0\0\x09\x02a\x01\x01\0\0\0\0\0\0\0\x15\0\0\0\0\x01\0\0\0\06I%\xbf\
+                \xff\xff\xff\xff\xff\xff\xff\xff\xff\x01\x08'\x16\0\0\0\0\0\0\0\0\0\0\0\0\0\0\0\0\0\
+                \0\0\0\0\0\0\0\0\0\0W\xfb\x80\x8b$uG\xdb",
         ),
         way: Way::Whole,
         steps: 1,
@@ -253,7 +294,10 @@ pub const CLAIMS: &[Row] = &[
         line: "  of a footer's index block: Range",
         call: Call::Table,
         source: Plain(
-            b"\0\x09\x01a\x01\x01\0\0\0\0\0\0x\0\0\0\0\x01\0\0\0\0\x84\xdd\x88t\0\0\0\0\x01\0\0\0\0\xc0\xf2\xa1\xb0\0\x09\x02a\x01\x01\0\0\0\0\0\0\0\x15\0\0\0\0\x01\0\0\0\06I%\xbf\x1a\x08\xff\xff\xff\xff\xff\xff\xff\xff\xff\x01\x08\0\0\0\0\0\0\0\0\0\0\0\0\0\0\0\0\0\0\0\0\0\0\0\0\0\0\0W\xfb\x80\x8b$uG\xdb",
+            b"\0\x09\x01a\x01\x01\0\0\0\0\0\0x\0\0\0\0\x01\0\0\0\0\x84\xdd\x88t\0\0\0\0\x01\0\0\0\0\
+                \xc0\xf2\xa1\xb0\0\x09\x02a\x01\x01\0\0\0\0\0\0\0\x15\0\0\0\0\x01\0\0\0\06I%\xbf\
+                \x1a\x08\xff\xff\xff\xff\xff\xff\xff\xff\xff\x01\x08\0\0\0\0\0\0\0\0\0\0\0\0\0\0\0\
+                \0\0\0\0\0\0\0\0\0\0\0\0W\xfb\x80\x8b$uG\xdb",
         ),
         way: Way::Whole,
         steps: 1,
@@ -264,7 +308,10 @@ pub const CLAIMS: &[Row] = &[
         line: "  in an index: Range",
         call: Call::Table,
         source: Plain(
-            b"\0\x09\x01a\x01\x01\0\0\0\0\0\0x\0\0\0\0\x01\0\0\0\0\x84\xdd\x88t\0\0\0\0\x01\0\0\0\0\xc0\xf2\xa1\xb0\0\x09\x0ba\x01\x01\0\0\0\0\0\0\xff\xff\xff\xff\xff\xff\xff\xff\xff\x01\x08\0\0\0\0\x01\0\0\0\0a\x178\x0c\x1a\x08'\x1f\0\0\0\0\0\0\0\0\0\0\0\0\0\0\0\0\0\0\0\0\0\0\0\0\0\0\0\0\0\0\0\0\0\0\0\0W\xfb\x80\x8b$uG\xdb",
+            b"\0\x09\x01a\x01\x01\0\0\0\0\0\0x\0\0\0\0\x01\0\0\0\0\x84\xdd\x88t\0\0\0\0\x01\0\0\0\0\
+                \xc0\xf2\xa1\xb0\0\x09\x0ba\x01\x01\0\0\0\0\0\0\xff\xff\xff\xff\xff\xff\xff\xff\xff\
+                \x01\x08\0\0\0\0\x01\0\0\0\0a\x178\x0c\x1a\x08'\x1f\0\0\0\0\0\0\0\0\0\0\0\0\0\0\0\0\
+                \0\0\0\0\0\0\0\0\0\0\0\0\0\0\0\0\0\0\0\0W\xfb\x80\x8b$uG\xdb",
         ),
         way: Way::Whole,
         steps: 1,
@@ -275,7 +322,10 @@ pub const CLAIMS: &[Row] = &[
         line: "  in an input: Range",
         call: Call::Compact,
         source: Plain(
-            b"\0\x09\x01a\x01\x01\0\0\0\0\0\0x\0\0\0\0\x01\0\0\0\0\x84\xdd\x88t\0\0\0\0\x01\0\0\0\0\xc0\xf2\xa1\xb0\0\x09\x0ba\x01\x01\0\0\0\0\0\0\xff\xff\xff\xff\xff\xff\xff\xff\xff\x01\x08\0\0\0\0\x01\0\0\0\0a\x178\x0c\x1a\x08'\x1f\0\0\0\0\0\0\0\0\0\0\0\0\0\0\0\0\0\0\0\0\0\0\0\0\0\0\0\0\0\0\0\0\0\0\0\0W\xfb\x80\x8b$uG\xdb",
+            b"\0\x09\x01a\x01\x01\0\0\0\0\0\0x\0\0\0\0\x01\0\0\0\0\x84\xdd\x88t\0\0\0\0\x01\0\0\0\0\
+                \xc0\xf2\xa1\xb0\0\x09\x0ba\x01\x01\0\0\0\0\0\0\xff\xff\xff\xff\xff\xff\xff\xff\xff\
+                \x01\x08\0\0\0\0\x01\0\0\0\0a\x178\x0c\x1a\x08'\x1f\0\0\0\0\0\0\0\0\0\0\0\0\0\0\0\0\
+                \0\0\0\0\0\0\0\0\0\0\0\0\0\0\0\0\0\0\0\0W\xfb\x80\x8b$uG\xdb",
         ),
         way: Way::Whole,
         steps: 1,

@@ -8,6 +8,7 @@ use Rattle.block.specs.BlockFormat.{encoded_entries_from, block}
 use Rattle.block.specs.BuilderView.{last_key}
 use Rattle.block.specs.Sound.{BlockView, numbers_in}
 use Rattle.block.specs.Behind.{entries_behind}
+use Rattle.block.specs.declared.builder.TheConstants.{MAX_BLOCK_LEN, MAX_RESTART_INTERVAL}
 
 -- the bytes before the restarts, and those of the restarts, are of a block
 abbrev pub IsArea : List ℕ → List ℕ → Type 0
@@ -27,14 +28,14 @@ sound_in area restarts = record {
 }
 
 -- What is kept of these entries: their encoded entries, the offsets of the restarts, the last key,
--- and the number of entries after the last whole interval. Their block has at most 2 ^ 31 bytes.
+-- and the number of entries after the last whole interval. Their block has at most MAX_BLOCK_LEN bytes.
 pub record IsBlockBuilder (interval : ℕ) (entries : List Entry) (pieces restarts last : List ℕ)
     (since : ℕ) : Type 0 where
   pub interval_pos : 1 ≤ interval
-  pub interval_le : interval ≤ 1024
+  pub interval_le : interval ≤ MAX_RESTART_INTERVAL
   pub pieces_are : pieces
       ≡ flat_map encoded_entry_bytes (encoded_entries_from interval 0 [] entries)
   pub restarts_are : restarts ≡ restarts_from 0 (encoded_entries_from interval 0 [] entries)
   pub last_is : last ≡ last_key [] entries
   pub since_is : since ≡ length entries % interval
-  pub fits : length (block interval entries) ≤ 2 ^ 31
+  pub fits : length (block interval entries) ≤ MAX_BLOCK_LEN

@@ -7,11 +7,18 @@ ghost use Rattle.coding.specs.declared.fault.FaultName.TheVariants.{Memory};
 ghost use Rattle.block.specs.EncodedEntry.{encoded_entry_bytes};
 ghost use Rattle.block.specs.BlockFormat.{block};
 ghost use Rattle.block.specs.BuilderView.{with_entry, last_key};
+ghost use Rattle.block.specs.declared.builder.TheConstants.{MAX_BLOCK_LEN, MAX_RESTART_INTERVAL};
 
 use crate::layout::{next_since, push_fields, push_restarts, shared_len};
 use coding::Fault;
 use std::alloc::Global;
 use std::marker::Model;
+
+/// The most entries from one restart of a block that is written to the next.
+pub const MAX_RESTART_INTERVAL: u64 = 1_024;
+
+/// The most bytes of a block that is written, 2^31.
+pub const MAX_BLOCK_LEN: usize = 1 << 31;
 
 /// A block that is being written: its restart interval and its entries so far.
 ///
@@ -53,7 +60,7 @@ impl BlockBuilder {
     /// A block without entries, at a restart interval from 1 to 1,024. Takes no memory.
     pub fn new(alloc: Global, interval: u64) -> BlockBuilder
         requires positive { 1 ≤ interval }
-        requires limited { interval ≤ 1024 }
+        requires limited { interval ≤ MAX_RESTART_INTERVAL }
         ensures { result ≡ record { interval = interval; entries = [] } }
     {
         BlockBuilder {
@@ -71,7 +78,7 @@ impl BlockBuilder {
     /// of its key and value. The only fault is Memory, which leaves the builder unchanged.
     pub fn add(&mut self, key: &[u8], value: &[u8]) -> Result<(), Fault>
         requires { length (block self.old.interval (with_entry self.old.entries key.now value.now))
-            ≤ 2 ^ 31 }
+            ≤ MAX_BLOCK_LEN }
         ensures ok { OnOk result (self.new ≡ record {
           interval = self.old.interval;
           entries = with_entry self.old.entries key.now value.now;

@@ -16,6 +16,7 @@ ghost use Rattle.std.specs.Prelude.{◌^◌, ◌≤◌, length, List, ℕ};
 ghost use Rattle.block.specs.EncodedEntry.{Entry, IsBlock};
 ghost use Rattle.block.specs.ReadingBlocks.{ReadsBlocks};
 ghost use Rattle.block.specs.BlockFormat.{block};
+ghost use Rattle.block.specs.declared.builder.TheConstants.{MAX_BLOCK_LEN};
 
 mod builder;
 mod checking_cursor;
@@ -26,7 +27,7 @@ mod layout;
 mod read_ahead;
 mod sound_block;
 
-pub use builder::BlockBuilder;
+pub use builder::{BlockBuilder, MAX_BLOCK_LEN, MAX_RESTART_INTERVAL};
 pub use checking_cursor::CheckingCursor;
 pub use cursor::BlockCursor;
 pub use layout::{next_since, push_fields, push_restarts, shared_len};
@@ -35,7 +36,7 @@ pub use sound_block::{SoundBlock, check, reopen};
 /// The law that the block of a list, at any restart interval and of at most 2^31 bytes, reads as
 /// that list. A call does nothing.
 pub fn reads_back()
-    ensures { (r : ℕ) (q : List Entry) → length (block r q) ≤ 2 ^ 31 → IsBlock (block r q) q }
+    ensures { (r : ℕ) (q : List Entry) → length (block r q) ≤ MAX_BLOCK_LEN → IsBlock (block r q) q }
 {}
 
 /// The law that bytes read as a list exactly if they are a block of it. A call does nothing.

@@ -26,6 +26,7 @@ use Rattle.compact.specs.RangeMerges.{by_workers, runs_reading}
 use Rattle.compact.specs.Written.{written_of}
 use Rattle.compact.proofs.PlanAnswers.{outputs_planned}
 use Rattle.compact.proofs.WorkerAnswers.{within, within_limits}
+use Rattle.ikey.specs.Comparator.{ShortKeys}
 
 -- ---- steps
 
@@ -62,23 +63,23 @@ same_ok a b h = cc
 
 -- ---- a request
 
-module _ (cmp : List ℕ → List ℕ → Ordering) (separator_of : List ℕ → List ℕ → List ℕ) (successor_of : List ℕ → List ℕ) (r : RequestView) where
+module _ (cmp : List ℕ → List ℕ → Ordering) (short_keys : ShortKeys) (r : RequestView) where
   -- what one thread goes on with from the union of the inputs
   abbrev ending : List Entry → Result Answer Fault
-  ending union = outputs_answer r (outputs_from (table cmp separator_of successor_of r.options) r.first_number (outputs cmp (below_request r) r.options union))
+  ending union = outputs_answer r (outputs_from (table cmp short_keys r.options) r.first_number (outputs cmp (below_request r) r.options union))
 
-  pub refused_test : (e : Fault) → request_test cmp r ≡ Err e → one_thread cmp separator_of successor_of r ≡ Err e
+  pub refused_test : (e : Fault) → request_test cmp r ≡ Err e → one_thread cmp short_keys r ≡ Err e
   refused_test e h = ap (λ (t : Result (Unit {0}) Fault). t >>= λ _. (inputs_reading cmp 0 r.picked.files r.tables >>= λ lists. (union_reading cmp lists >>= ending))) h
 
-  tested_is : request_test cmp r ≡ Ok tt → one_thread cmp separator_of successor_of r ≡ (inputs_reading cmp 0 r.picked.files r.tables >>= λ lists. (union_reading cmp lists >>= ending))
+  tested_is : request_test cmp r ≡ Ok tt → one_thread cmp short_keys r ≡ (inputs_reading cmp 0 r.picked.files r.tables >>= λ lists. (union_reading cmp lists >>= ending))
   tested_is h = ap (λ (t : Result (Unit {0}) Fault). t >>= λ _. (inputs_reading cmp 0 r.picked.files r.tables >>= λ lists. (union_reading cmp lists >>= ending))) h
 
-  pub refused_input : (e : Fault) → request_test cmp r ≡ Ok tt → FailsOrMemory e (inputs_reading cmp 0 r.picked.files r.tables) → FailsOrMemory e (one_thread cmp separator_of successor_of r)
+  pub refused_input : (e : Fault) → request_test cmp r ≡ Ok tt → FailsOrMemory e (inputs_reading cmp 0 r.picked.files r.tables) → FailsOrMemory e (one_thread cmp short_keys r)
   refused_input e tested h =
       unless_from e _ _
       (λ is. tested_is tested ∙ ap (λ (i : Result (List (List Entry)) Fault). i >>= λ lists. (union_reading cmp lists >>= ending)) is) h
 
-  thread_is : (inputs : List (List Entry)) → request_test cmp r ≡ Ok tt → inputs_reading cmp 0 r.picked.files r.tables ≡ Ok inputs → one_thread cmp separator_of successor_of r ≡ (union_reading cmp inputs >>= ending)
+  thread_is : (inputs : List (List Entry)) → request_test cmp r ≡ Ok tt → inputs_reading cmp 0 r.picked.files r.tables ≡ Ok inputs → one_thread cmp short_keys r ≡ (union_reading cmp inputs >>= ending)
   thread_is inputs tested read = tested_is tested ∙ ap (λ (i : Result (List (List Entry)) Fault). i >>= λ lists. (union_reading cmp lists >>= ending)) read
 
   module _ (inputs : List (List Entry)) (workers : ℕ) (some : 1 ≤ workers) (limited : workers ≤ 64) (tested : request_test cmp r ≡ Ok tt) (read : inputs_reading cmp 0 r.picked.files r.tables ≡ Ok inputs)
@@ -91,7 +92,7 @@ module _ (cmp : List ℕ → List ℕ → Ordering) (separator_of : List ℕ →
 
     -- what one thread answers is what is written of the outputs of the runs
     pub whole_answer : DistinctLaw cmp → RangesCutLaw cmp → IsSplit cmp boundaries → (runs : List Run) → by_workers workers all_runs ≡ Ok runs
-        → one_thread cmp separator_of successor_of r ≡ written_of (table cmp separator_of successor_of r.options) r (outputs_of r.picked.grandparents r.options (joined_run runs))
+        → one_thread cmp short_keys r ≡ written_of (table cmp short_keys r.options) r (outputs_of r.picked.grandparents r.options (joined_run runs))
     whole_answer distinct cut split runs h =
         let step = taken (union_reading cmp inputs) (λ union. Ok (runs_of cmp (below_request r) boundaries union)) runs (sym runs_are ∙ h) in
         let union : List Entry = step.value in
@@ -99,11 +100,11 @@ module _ (cmp : List ℕ → List ℕ → Ordering) (separator_of : List ℕ →
         let rising : VersionsRise cmp union = ((distinct inputs union).1 (both.1, both.0)).rising in
         let runs_is : runs_of cmp (below_request r) boundaries union ≡ runs = same_ok (runs_of cmp (below_request r) boundaries union) runs step.goes_on in
         thread_is inputs tested read ∙ ap (λ (u : Result (List Entry) Fault). u >>= ending) step.is
-        ∙ outputs_planned (table cmp separator_of successor_of r.options) r (outputs cmp (below_request r) r.options union)
-        ∙ ap (λ (os : List (List Entry)). written_of (table cmp separator_of successor_of r.options) r os)
+        ∙ outputs_planned (table cmp short_keys r.options) r (outputs cmp (below_request r) r.options union)
+        ∙ ap (λ (os : List (List Entry)). written_of (table cmp short_keys r.options) r os)
         (sym (ap (λ (rs : List Run). outputs_of r.picked.grandparents r.options (joined_run rs)) (sym runs_is) ∙ cut (below_request r) r.options boundaries union split rising))
 
-    pub refused_answer : (e : Fault) → FailsOrMemory e (by_workers workers all_runs) → FailsOrMemory e (one_thread cmp separator_of successor_of r)
+    pub refused_answer : (e : Fault) → FailsOrMemory e (by_workers workers all_runs) → FailsOrMemory e (one_thread cmp short_keys r)
     refused_answer e h =
         subst (FailsOrMemory e) (sym (thread_is inputs tested read))
         (fails_on (union_reading cmp inputs) (runs_of cmp (below_request r) boundaries) ending e (subst (FailsOrMemory e) runs_are h))

@@ -61,7 +61,7 @@ pub fn compact<'a, C: SharedComparator + 'static, G: Gate + Sync, R: Threads + S
     gate: &G,
 ) -> Result<Outcome, Fault>
     ensures same { EqualOrMemory answer_in result
-        (compaction_result C.cmp C.separator_of C.successor_of workers (request_in request.now)) }
+        (compaction_result C.cmp C.short_keys workers (request_in request.now)) }
     ensures reads { IfOk result
         (λ outcome. LeavesReads C.cmp (request_in request.now) (answer_in outcome)) }
 {
@@ -99,7 +99,7 @@ pub fn compact_tables<'t, C: SharedComparator + 'static, G: Gate + Sync, R: Thre
         (map (λ t. t.now) request.now.tables.now)
         ≡ Ok (map (λ t. t.entries) tables.now) }
     ensures same { EqualOrMemory answer_in result
-        (compaction_result C.cmp C.separator_of C.successor_of workers (request_in request.now)) }
+        (compaction_result C.cmp C.short_keys workers (request_in request.now)) }
     ensures reads { IfOk result
         (λ outcome. LeavesReads C.cmp (request_in request.now) (answer_in outcome)) }
 {
@@ -126,7 +126,7 @@ fn compact_sound<'t, C: SharedComparator + 'static, G: Gate + Sync, R: Threads +
         (map (λ t. t.now) request.now.tables.now)
         ≡ Ok (map (λ t. t.entries) tables.now) }
     ensures { EqualOrMemory answer_in result
-        (one_thread C.cmp C.separator_of C.successor_of (request_in request.now)) }
+        (one_thread C.cmp C.short_keys (request_in request.now)) }
 {
     distinct_law::<C>();
     ranges_cut::<C>();
@@ -155,7 +155,7 @@ fn write_runs<'r, 'a, C: SharedComparator + 'static, G: Gate + Sync, R: Threads 
     requires limits { AreInLimits request.now.options }
     requires levels { has_levels (picked_in request.now.picked.now) ≡ true }
     ensures { EqualOrMemory answer_in result
-        (written_of (table C.cmp C.separator_of C.successor_of request.now.options)
+        (written_of (table C.cmp C.short_keys request.now.options)
         (request_in request.now)
         (outputs_of request.now.picked.now.grandparents.items request.now.options
         (joined_run runs.now))) }

@@ -36,7 +36,7 @@ pub(crate) fn write_plan<'p, C: SharedComparator + 'static, G: Gate + Sync, R: T
     requires fits { request.now.first_number + length plan.now.outputs < 2 ^ 64 }
     requires levels { has_levels (picked_in request.now.picked.now) ≡ true }
     ensures { EqualOrMemory answer_in result
-        (Ok (answer_of (table C.cmp C.separator_of C.successor_of plan.now.options)
+        (Ok (answer_of (table C.cmp C.short_keys plan.now.options)
         (request_in request.now) plan.now.outputs)) }
 {
     let pieces = encode_pieces(rt, alloc, plan, workers, gate)?;

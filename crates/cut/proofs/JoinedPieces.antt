@@ -47,5 +47,5 @@ pieces_join o blocks q = joined_in o (nat_lt blocks 64) q
 
 pub pieces_law : PiecesLaw
 unfolding table
-pieces_law cmp separator_of successor_of o blocks q =
-    ap (λ (bytes : List ℕ). bytes ++ closing_bytes (length bytes) (index_from (index_keys cmp separator_of successor_of) o.restart_interval 0 (data_blocks o q))) (sym (pieces_join o blocks q))
+pieces_law cmp short_keys o blocks q =
+    ap (λ (bytes : List ℕ). bytes ++ closing_bytes (length bytes) (index_from (index_keys cmp short_keys) o.restart_interval 0 (data_blocks o q))) (sym (pieces_join o blocks q))

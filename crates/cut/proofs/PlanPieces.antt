@@ -24,6 +24,7 @@ use Rattle.cut.specs.OutputPlan.{planned_of, block_count, IsPlannedOutput, IsPla
 use Rattle.cut.specs.TableLength.{lens_of}
 use Rattle.cut.proofs.PiecePlaces.{IsShort, all_are, pieces_are}
 use Rattle.cut.proofs.TableLengths.{exact_one, length-table, stored_more}
+use Rattle.ikey.specs.Comparator.{ShortKeys}
 
 -- ---- facts of all elements
 
@@ -105,14 +106,14 @@ places_stand limit front (p ∷ ps) all i whole e =
 
 -- ---- the pieces of a plan
 
-module _ (cmp : List ℕ → List ℕ → Ordering) (separator_of : List ℕ → List ℕ → List ℕ) (successor_of : List ℕ → List ℕ) (o : Options) where
+module _ (cmp : List ℕ → List ℕ → Ordering) (short_keys : ShortKeys) (o : Options) where
   abbrev pub T : List Entry → List ℕ
-  T q = table cmp separator_of successor_of o q
+  T q = table cmp short_keys o q
 
   pub short_one : (p : PlannedOutput) → IsPlannedOutput T o p → IsShort o p
   short_one p h = record {
     planned = h.planned;
-    short = omega (arith, h.len_is, h.len_le, length-table cmp separator_of successor_of o p.blocks.items h.planned, stored_more o p.blocks.items h.planned.lens);
+    short = omega (arith, h.len_is, h.len_le, length-table cmp short_keys o p.blocks.items h.planned, stored_more o p.blocks.items h.planned.lens);
   }
 
   pub shorts : (outputs : List PlannedOutput) → AllByRecursion (IsPlannedOutput T o) outputs → AllByRecursion (IsShort o) outputs

@@ -25,6 +25,7 @@ use Rattle.cut.specs.OutputPlan.{planned_of, HaveEntries, numbered_from, block_c
 use Rattle.cut.specs.Sizes.{saturated_length}
 use Rattle.cut.specs.TableLength.{capped_length, table_size}
 use Rattle.cut.proofs.TableLengths.{size_is}
+use Rattle.ikey.specs.Comparator.{ShortKeys}
 
 -- ---- data blocks have entries
 
@@ -72,12 +73,12 @@ numbered_push size_of number (x ∷ xs) b =
     ap (λ (ps : List PlannedOutput). record { number = number; blocks = x; len = size_of x.items } ∷ ps) (numbered_push size_of (number + 1) xs b)
     ∙ ap (λ (n : ℕ). (record { number = number; blocks = x; len = size_of x.items } ∷ numbered_from size_of (number + 1) xs) ++ record { number = n; blocks = b; len = size_of b.items } ∷ []) place
 
-module _ (cmp : List ℕ → List ℕ → Ordering) (separator_of : List ℕ → List ℕ → List ℕ) (successor_of : List ℕ → List ℕ) (o : Options) where
+module _ (cmp : List ℕ → List ℕ → Ordering) (short_keys : ShortKeys) (o : Options) where
   abbrev T : List Entry → List ℕ
-  T q = table cmp separator_of successor_of o q
+  T q = table cmp short_keys o q
 
   abbrev size : List PlannedBlock → ℕ
-  size blocks = table_size (index_keys cmp separator_of successor_of) blocks
+  size blocks = table_size (index_keys cmp short_keys) blocks
 
   -- ---- the limits
 
@@ -93,7 +94,7 @@ module _ (cmp : List ℕ → List ℕ → Ordering) (separator_of : List ℕ →
   small_is number [] h = refl
   small_is number (b ∷ bs) h =
       let one : nat_le (size b.items) (2 ^ 30) ≡ nat_le (length (T (entries_in_blocks b.items))) (2 ^ 30) =
-      ap (λ (n : ℕ). nat_le n (2 ^ 30)) (size_is cmp separator_of successor_of o b.items h.0) ∙ capped_le (length (T (entries_in_blocks b.items))) in
+      ap (λ (n : ℕ). nat_le n (2 ^ 30)) (size_is cmp short_keys o b.items h.0) ∙ capped_le (length (T (entries_in_blocks b.items))) in
       ap (λ (x : Bool). x && list_all (λ (p : PlannedOutput). nat_le p.len (2 ^ 30)) (numbered_from size (number + 1) bs)) one
       ∙ ap (λ (x : Bool). nat_le (length (T (entries_in_blocks b.items))) (2 ^ 30) && x) (small_is (number + 1) bs h.1)
 
@@ -109,7 +110,7 @@ module _ (cmp : List ℕ → List ℕ → Ordering) (separator_of : List ℕ →
 
   -- a length that is small is exact
   exact : (b : Vec PlannedBlock) → ArePlanned o b.items → size b.items ≤ 2 ^ 30 → size b.items ≡ length (T (entries_in_blocks b.items))
-  exact b h le = omega (arith, size_is cmp separator_of successor_of o b.items h)
+  exact b h le = omega (arith, size_is cmp short_keys o b.items h)
 
   planned_is : (number : ℕ) (ended : List (Vec PlannedBlock)) → AllByRecursion (λ (b : Vec PlannedBlock). ArePlanned o b.items) ended → list_all (λ (p : PlannedOutput). nat_le p.len (2 ^ 30)) (numbered_from size number ended) ≡ true
       → map planned_of (numbered_from size number ended) ≡ planned_from T o number (lists_of ended)

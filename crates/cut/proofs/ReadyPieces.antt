@@ -20,6 +20,7 @@ use Rattle.std.specs.Prelude.{slice_range}
 use Rattle.cut.proofs.JoinedPieces.{pieces_join}
 use Rattle.cut.proofs.PiecePlaces.{divided_behind, places_are, one_are}
 use Rattle.cut.proofs.PlanPieces.{short_one, lists_seen, count_seen}
+use Rattle.ikey.specs.Comparator.{ShortKeys}
 
 -- ---- pieces are taken off
 
@@ -91,21 +92,21 @@ each_planned : (o : Options) (blocks : List PlannedBlock) → AllByRecursion (Ha
 each_planned o [] h some = tt
 each_planned o (b ∷ bs) h some = (record { some = some.0; len_is = h.0 }, each_planned o bs h.1 some.1)
 
-table_is : (cmp : List ℕ → List ℕ → Ordering) (separator_of : List ℕ → List ℕ → List ℕ) (successor_of : List ℕ → List ℕ) (o : Options) (blocks : List PlannedBlock) → ArePlanned o blocks
-    → table cmp separator_of successor_of o (entries_in_blocks blocks) ≡ table_of_blocks (index_keys cmp separator_of successor_of) o.restart_interval (parts_of blocks)
+table_is : (cmp : List ℕ → List ℕ → Ordering) (short_keys : ShortKeys) (o : Options) (blocks : List PlannedBlock) → ArePlanned o blocks
+    → table cmp short_keys o (entries_in_blocks blocks) ≡ table_of_blocks (index_keys cmp short_keys) o.restart_interval (parts_of blocks)
 unfolding table
-table_is cmp separator_of successor_of o blocks h = ap (table_of_blocks (index_keys cmp separator_of successor_of) o.restart_interval) (sym h.cut)
+table_is cmp short_keys o blocks h = ap (table_of_blocks (index_keys cmp short_keys) o.restart_interval) (sym h.cut)
 
 pub counts_len : (limit i : ℕ) (outputs : List PlannedOutput) → length (counts_all limit i outputs) ≡ length outputs
 counts_len limit i [] = refl
 counts_len limit i (p ∷ ps) = let rest = counts_len limit (i + 1) ps in omega (arith, rest)
 
-module _ (cmp : List ℕ → List ℕ → Ordering) (separator_of : List ℕ → List ℕ → List ℕ) (successor_of : List ℕ → List ℕ) (o : Options) where
+module _ (cmp : List ℕ → List ℕ → Ordering) (short_keys : ShortKeys) (o : Options) where
   abbrev T : List Entry → List ℕ
-  T q = table cmp separator_of successor_of o q
+  T q = table cmp short_keys o q
 
   abbrev keys : IndexKeys
-  keys = index_keys cmp separator_of successor_of
+  keys = index_keys cmp short_keys
 
   abbrev lists : List PlannedOutput → List (List Entry)
   lists outputs = map (λ (p : PlannedOutput). entries_in_blocks p.blocks.items) outputs
@@ -118,7 +119,7 @@ module _ (cmp : List ℕ → List ℕ → Ordering) (separator_of : List ℕ →
   ready_all n i (p ∷ ps) h =
       let blocks : List PlannedBlock = p.blocks.items in
       let q : List Entry = entries_in_blocks blocks in
-      let short = short_one cmp separator_of successor_of o p h.0 in
+      let short = short_one cmp short_keys o p h.0 in
       let own : List (List ℕ) = bytes (pieces_in o n q) in
       let rest : List (List ℕ) = bytes (flat_map (pieces_in o n) (lists ps)) in
       let places : List Piece = piece_places_from i (piece_limit n) 0 0 0 blocks in
@@ -131,7 +132,7 @@ module _ (cmp : List ℕ → List ℕ → Ordering) (separator_of : List ℕ →
       ∙ length-map places (λ (x : Piece). slice_range blocks x.from x.to) in
       let front : own ≡ take (length places) (bytes (flat_map (pieces_in o n) (lists (p ∷ ps)))) = all_taken own rest (bytes (flat_map (pieces_in o n) (lists (p ∷ ps)))) (length places) (sym split) count in
       let behind : rest ≡ drop (length places) (bytes (flat_map (pieces_in o n) (lists (p ∷ ps)))) = all_left own rest (bytes (flat_map (pieces_in o n) (lists (p ∷ ps)))) (length places) (sym split) count in
-      let table_eq : T q ≡ table_of_blocks keys o.restart_interval (parts_of blocks) = table_is cmp separator_of successor_of o blocks h.0.planned in
+      let table_eq : T q ≡ table_of_blocks keys o.restart_interval (parts_of blocks) = table_is cmp short_keys o blocks h.0.planned in
       let joined : flat_map (λ (piece : List ℕ). piece) own ≡ stored_blocks o.restart_interval (parts_of blocks) =
       flat_of (stored_blocks o.restart_interval) (pieces_in o n q) ∙ pieces_join o n q ∙ ap (stored_blocks o.restart_interval) (sym h.0.planned.cut) in
       let is_ready : IsReady keys o.restart_interval p own = record {
@@ -147,13 +148,13 @@ module _ (cmp : List ℕ → List ℕ → Ordering) (separator_of : List ℕ →
   plan_ready outputs places counts h =
       let n = block_count outputs in
       let whole : bytes (flat_map (pieces_in o n) (lists outputs)) ≡ encoded_pieces o (lists_in (map planned_of outputs)) =
-      ap (λ (k : ℕ). bytes (flat_map (pieces_in o k) (lists outputs))) (count_seen cmp separator_of successor_of o outputs h.each)
-      ∙ sym (ap (encoded_pieces o) (lists_seen cmp separator_of successor_of o outputs)) in
+      ap (λ (k : ℕ). bytes (flat_map (pieces_in o k) (lists outputs))) (count_seen cmp short_keys o outputs h.each)
+      ∙ sym (ap (encoded_pieces o) (lists_seen cmp short_keys o outputs)) in
       subst (λ (ns : List ℕ). AreReady keys o.restart_interval outputs ns (encoded_pieces o (lists_in (map planned_of outputs)))) (sym h.counts_are)
       (subst (AreReady keys o.restart_interval outputs (counts_all (piece_limit n) 0 outputs)) whole (ready_all n 0 outputs h.each))
 
   pub tables_are : (outputs : List PlannedOutput) → AllByRecursion (IsPlannedOutput T o) outputs → tables_of keys o.restart_interval outputs ≡ plan_tables T (map planned_of outputs)
   tables_are [] h = refl
   tables_are (p ∷ ps) h =
-      ap (λ (bs : List ℕ). (p.number, bs) ∷ tables_of keys o.restart_interval ps) (sym (table_is cmp separator_of successor_of o p.blocks.items h.0.planned))
+      ap (λ (bs : List ℕ). (p.number, bs) ∷ tables_of keys o.restart_interval ps) (sym (table_is cmp short_keys o p.blocks.items h.0.planned))
       ∙ ap (λ (ts : List (ℕ × List ℕ)). (p.number, T (entries_in_blocks p.blocks.items)) ∷ ts) (tables_are ps h.1)

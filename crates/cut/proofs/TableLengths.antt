@@ -30,6 +30,7 @@ use Rattle.cut.specs.Sizes.{saturated_length, encoded_entry_size}
 use Rattle.cut.specs.TableLength.{capped_length, lens_of, planned_index_key, planned_index_entries, index_sizes, table_size}
 use Rattle.cut.proofs.Metered.{length-piece}
 use Rattle.cut.proofs.MeteredLengths.{lengths_law}
+use Rattle.ikey.specs.Comparator.{ShortKeys}
 
 -- ---- an index block
 
@@ -138,26 +139,26 @@ some_at (x ∷ xs) (suc i) b lt h is = some_at xs i b (omega arith) h.1 is
 front_is : (blocks : List PlannedBlock) (i : ℕ) (b : PlannedBlock) → i < length blocks → get_or blocks i b ≡ b → drop i blocks ≡ b ∷ drop (i + 1) blocks
 front_is blocks i b lt is = drop_more blocks i b lt ∙ ap (λ (x : PlannedBlock). x ∷ drop (i + 1) blocks) is
 
-module _ (cmp : List ℕ → List ℕ → Ordering) (separator_of : List ℕ → List ℕ → List ℕ) (successor_of : List ℕ → List ℕ) where
+module _ (cmp : List ℕ → List ℕ → Ordering) (short_keys : ShortKeys) where
   pub key_last : (blocks : List PlannedBlock) (i : ℕ) (b : PlannedBlock) (last : List ℕ) → i + 1 ≡ length blocks → get_or blocks i b ≡ b → Some last ≡ last_entry_key b.entries.entries
-      → internal_successor_of cmp successor_of last ≡ planned_index_key (index_keys cmp separator_of successor_of) (drop i blocks)
+      → internal_successor_of cmp short_keys.successor last ≡ planned_index_key (index_keys cmp short_keys) (drop i blocks)
   unfolding index_keys
   key_last blocks i b last end is ends =
-      let keys = index_keys cmp separator_of successor_of in
+      let keys = index_keys cmp short_keys in
       let front : drop i blocks ≡ b ∷ [] = front_is blocks i b (omega arith) is ∙ ap (λ (bs : List PlannedBlock). b ∷ bs) (drop_of_length-le blocks (omega arith)) in
-      sym (ap (planned_index_key keys) front ∙ ap (internal_successor_of cmp successor_of) (ended_last b.entries.entries last ends))
+      sym (ap (planned_index_key keys) front ∙ ap (internal_successor_of cmp short_keys.successor) (ended_last b.entries.entries last ends))
 
   pub key_next : (blocks : List PlannedBlock) (i : ℕ) (b n : PlannedBlock) (last next : List ℕ) → i + 1 < length blocks → get_or blocks i b ≡ b → get_or blocks (i + 1) n ≡ n → Some last ≡ last_entry_key b.entries.entries
       → n.entries.entries ≢ [] → option_map (λ (e : Entry). e.key) (slice_get (n.entries.entries ++ n.entries.behind) 0) ≡ Some next
-      → internal_separator_of cmp separator_of last next ≡ planned_index_key (index_keys cmp separator_of successor_of) (drop i blocks)
+      → internal_separator_of cmp short_keys.separator last next ≡ planned_index_key (index_keys cmp short_keys) (drop i blocks)
   unfolding index_keys
   key_next blocks i b n last next lt is next_is ends some first =
-      let keys = index_keys cmp separator_of successor_of in
+      let keys = index_keys cmp short_keys in
       let front : drop i blocks ≡ b ∷ n ∷ drop (i + 1 + 1) blocks = front_is blocks i b (omega arith) is ∙ ap (λ (bs : List PlannedBlock). b ∷ bs) (front_is blocks (i + 1) n lt next_is) in
       sym (
       ap (planned_index_key keys) front
-      ∙ ap (λ (k : List ℕ). internal_separator_of cmp separator_of k (first_key n.entries.entries)) (ended_last b.entries.entries last ends)
-      ∙ ap (internal_separator_of cmp separator_of last) (first_next n.entries.entries n.entries.behind next some first)
+      ∙ ap (λ (k : List ℕ). internal_separator_of cmp short_keys.separator k (first_key n.entries.entries)) (ended_last b.entries.entries last ends)
+      ∙ ap (internal_separator_of cmp short_keys.separator last) (first_next n.entries.entries n.entries.behind next some first)
       )
 
 -- ---- where no length is so great that another one stands for it
@@ -204,20 +205,20 @@ module _ (o : Options) where
         let index = index_from keys o.restart_interval 0 (parts_of blocks) in
         length-append stored_bytes (closing_bytes (length stored_bytes) index) ∙ ap (λ (n : ℕ). length stored_bytes + n) (lengths_law.closed (length stored_bytes) index)
 
-pub length-table : (cmp : List ℕ → List ℕ → Ordering) (separator_of : List ℕ → List ℕ → List ℕ) (successor_of : List ℕ → List ℕ) (o : Options) (blocks : List PlannedBlock) → ArePlanned o blocks
-    → length (table cmp separator_of successor_of o (entries_in_blocks blocks))
-    ≡ stored_len o.restart_interval (parts_of blocks) + (length (block 1 (index_from (index_keys cmp separator_of successor_of) o.restart_interval 0 (parts_of blocks))) + 66)
+pub length-table : (cmp : List ℕ → List ℕ → Ordering) (short_keys : ShortKeys) (o : Options) (blocks : List PlannedBlock) → ArePlanned o blocks
+    → length (table cmp short_keys o (entries_in_blocks blocks))
+    ≡ stored_len o.restart_interval (parts_of blocks) + (length (block 1 (index_from (index_keys cmp short_keys) o.restart_interval 0 (parts_of blocks))) + 66)
 unfolding table
-length-table cmp separator_of successor_of o blocks h =
-    let keys = index_keys cmp separator_of successor_of in
+length-table cmp short_keys o blocks h =
+    let keys = index_keys cmp short_keys in
     ap (λ (ps : List (List Entry)). length (table_of_blocks keys o.restart_interval ps)) (sym h.cut) ∙ length-whole o keys blocks
 
 -- the size that is added up is that of the table
-pub size_is : (cmp : List ℕ → List ℕ → Ordering) (separator_of : List ℕ → List ℕ → List ℕ) (successor_of : List ℕ → List ℕ) (o : Options) (blocks : List PlannedBlock) → ArePlanned o blocks
-    → table_size (index_keys cmp separator_of successor_of) blocks ≡ capped_length (length (table cmp separator_of successor_of o (entries_in_blocks blocks)))
-size_is cmp separator_of successor_of o blocks h =
-    let keys = index_keys cmp separator_of successor_of in
-    let whole = length-table cmp separator_of successor_of o blocks h in
+pub size_is : (cmp : List ℕ → List ℕ → Ordering) (short_keys : ShortKeys) (o : Options) (blocks : List PlannedBlock) → ArePlanned o blocks
+    → table_size (index_keys cmp short_keys) blocks ≡ capped_length (length (table cmp short_keys o (entries_in_blocks blocks)))
+size_is cmp short_keys o blocks h =
+    let keys = index_keys cmp short_keys in
+    let whole = length-table cmp short_keys o blocks h in
     elim (cases_lt (2 ^ 30) (lens_of blocks)) [
       | inl over ↦ rw (lt-ltb (2 ^ 30) (lens_of blocks) over) (omega (arith, whole, stored_more o blocks h.lens))
       | inr within ↦

@@ -6,6 +6,7 @@ use Rattle.std.specs.Option.{is_some, option_map}
 use Rattle.block.specs.EncodedEntry.{Entry}
 use Rattle.block.specs.BlockFormat.{block}
 use Rattle.cut.specs.Sizes.{saturated_length, encoded_entry_size}
+use Rattle.block.specs.declared.builder.TheConstants.{MAX_RESTART_INTERVAL}
 
 -- an open data block: its restart interval, its entries, and the entries still to come
 pub record BlockInProgress : Type 0 where
@@ -26,7 +27,7 @@ block_after_entries n m = record {
 -- whole interval. There are at most 2 ^ 64 - 1 entries.
 pub record IsMetered (interval : ℕ) (entries : List Entry) (len since : ℕ) : Type 0 where
   pub positive : 1 ≤ interval
-  pub limited : interval ≤ 1024
+  pub limited : interval ≤ MAX_RESTART_INTERVAL
   pub len_is : len ≡ saturated_length (length (block interval entries))
   pub since_is : since ≡ length entries % interval
   pub counted : length entries ≤ 2 ^ 64 - 1

@@ -11,6 +11,8 @@ use Rattle.cut.specs.declared.planned_output.PlannedOutput.{PlannedOutput}
 use Rattle.cut.specs.Divided.{places_all, counts_all, piece_limit}
 use Rattle.cut.specs.Opened.{parts_of, entries_in_blocks, ArePlanned}
 use Rattle.cut.specs.Plan.{OutputView, block_ends_from}
+use Rattle.table.specs.declared.table_check.TheConstants.{MAX_TABLE_LEN}
+use Rattle.cut.specs.declared.output_plan.TheConstants.{MAX_BLOCKS}
 
 -- the options of a plan, and its outputs
 pub record PlanSeen : Type 0 where
@@ -51,7 +53,7 @@ pub record IsPlannedOutput (table_of : List Entry → List ℕ) (o : Options) (p
   pub planned : ArePlanned o p.blocks.items
   pub some : HaveEntries p.blocks.items
   pub len_is : p.len ≡ length (table_of (entries_in_blocks p.blocks.items))
-  pub len_le : p.len ≤ 2 ^ 30
+  pub len_le : p.len ≤ MAX_TABLE_LEN
 
 -- the entries of each output
 abbrev pub lists_in : List OutputView → List (List Entry)
@@ -62,6 +64,6 @@ pub record IsPlan (table_of : List Entry → List ℕ) (o : Options) (outputs : 
     (pieces : List Piece) (counts : List ℕ) : Type 0 where
   pub limits : AreInLimits o
   pub each : AllByRecursion (IsPlannedOutput table_of o) outputs
-  pub few : block_count outputs ≤ 2 ^ 40
+  pub few : block_count outputs ≤ MAX_BLOCKS
   pub places : pieces ≡ places_all (piece_limit (block_count outputs)) 0 outputs
   pub counts_are : counts ≡ counts_all (piece_limit (block_count outputs)) 0 outputs

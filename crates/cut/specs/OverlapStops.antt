@@ -6,6 +6,7 @@ use Rattle.keep.specs.declared.mark.Mark.{Mark}
 use Rattle.cut.specs.declared.stops.Overlap.{Overlap}
 use Rattle.cut.specs.declared.stops.Stopping.{Stopping}
 use Rattle.cut.specs.Stops.{size_between, stops, stops_behind}
+use Rattle.cut.specs.declared.stops.TheConstants.{MAX_OVERLAP}
 
 -- what is left of the room after `passed` bytes; None if they exceed it
 abbrev pub room_left : ℕ → ℕ → Option ℕ
@@ -21,11 +22,11 @@ abbrev pub all_stops : List FileMeta → ℕ → Stopping → List Mark → List
 all_stops grandparents file_size s rest = s.places.items
     ++ stops_since grandparents file_size s.overlap rest
 
--- The room is what the counted grandparents leave of 10 times the maximal file size.
+-- The room is what the counted grandparents leave of MAX_OVERLAP times the maximal file size.
 pub record HasOverlapRoom (grandparents : List FileMeta) (file_size : ℕ) (o : Overlap) : Type 0
   where
     pub rises : o.since ≤ o.counted
-    pub room : o.room + size_between grandparents o.since o.counted ≡ 10 * file_size
+    pub room : o.room + size_between grandparents o.since o.counted ≡ MAX_OVERLAP * file_size
 
 -- the same, if there is a stop or a first mark
 abbrev pub AreCounted : List FileMeta → ℕ → Stopping → Type 0

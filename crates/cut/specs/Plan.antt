@@ -12,6 +12,9 @@ use Rattle.table.specs.declared.options.Options.{Options}
 use Rattle.table.specs.DataBlocks.{data_blocks}
 use Rattle.table.specs.Table.{closing_bytes, index_from, index_keys, stored_blocks, table}
 use Rattle.table.specs.ReadingSteps.{test_result}
+use Rattle.ikey.specs.Comparator.{ShortKeys}
+use Rattle.table.specs.declared.table_check.TheConstants.{MAX_TABLE_LEN}
+use Rattle.cut.specs.declared.output_plan.TheConstants.{MAX_BLOCKS}
 
 -- an output: the number of its file, its entries, the place after the last entry of each data
 -- block, and the length of its table
@@ -45,13 +48,13 @@ abbrev pub parts : Options → List (List Entry) → List (List Entry)
 parts o outputs = flat_map (data_blocks o) outputs
 
 -- The plan of outputs, numbered from `first` on. Numbers if the number after the last exceeds 2 ^
--- 64 - 1; else TooLarge if a table exceeds 2 ^ 30 bytes or there are more than 2 ^ 40 data blocks.
+-- 64 - 1; else TooLarge if a table exceeds MAX_TABLE_LEN bytes or there are more than MAX_BLOCKS data blocks.
 abbrev pub plan_of : (List Entry → List ℕ) → Options → ℕ → List (List Entry) →
     Result (List OutputView) Fault
 plan_of table_of o first outputs = do
   _ ← test_result (nat_lt (first + length outputs) (2 ^ 64)) Numbers
-  _ ← test_result (list_all (λ q. nat_le (length (table_of q)) (2 ^ 30)) outputs
-      && nat_le (length (parts o outputs)) (2 ^ 40)) TooLarge
+  _ ← test_result (list_all (λ q. nat_le (length (table_of q)) MAX_TABLE_LEN) outputs
+      && nat_le (length (parts o outputs)) MAX_BLOCKS) TooLarge
   Ok (planned_from table_of o first outputs)
 
 -- the number of each output, and its table
@@ -99,11 +102,10 @@ encoded_pieces o outputs = map (stored_blocks o.restart_interval) (pieces o outp
 -- output, one after the other, and what closes its table are its table.
 abbrev pub PiecesLaw : Type 0
 PiecesLaw =
-    (cmp : List ℕ → List ℕ → Ordering) (separator_of : List ℕ → List ℕ →
-    List ℕ) (successor_of : List ℕ → List ℕ)
+    (cmp : List ℕ → List ℕ → Ordering) (short_keys : ShortKeys)
     (o : Options) (blocks : ℕ) (q : List Entry) →
     let bytes = flat_map (stored_blocks o.restart_interval) (pieces_in o blocks q) in
-    table cmp separator_of successor_of o q
+    table cmp short_keys o q
     ≡ bytes ++ closing_bytes (length bytes)
-    (index_from (index_keys cmp separator_of successor_of) o.restart_interval 0
+    (index_from (index_keys cmp short_keys) o.restart_interval 0
     (data_blocks o q))

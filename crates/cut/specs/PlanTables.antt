@@ -5,12 +5,13 @@ use Rattle.table.specs.Table.{IndexKeys, stored_blocks, table_of_blocks}
 use Rattle.encoding.specs.Planned.{IsPlanned}
 use Rattle.cut.specs.declared.planned_output.PlannedOutput.{PlannedOutput}
 use Rattle.cut.specs.Opened.{parts_of}
+use Rattle.table.specs.declared.table_check.TheConstants.{MAX_TABLE_LEN}
 
 -- an output whose table can be joined of these pieces
 pub record IsReady (keys : IndexKeys) (interval : ℕ) (p : PlannedOutput) (pieces : List (List ℕ))
     : Type 0 where
   pub planned : AllByRecursion (IsPlanned interval) p.blocks.items
-  pub fits : length (table_of_blocks keys interval (parts_of p.blocks.items)) ≤ 2 ^ 30
+  pub fits : length (table_of_blocks keys interval (parts_of p.blocks.items)) ≤ MAX_TABLE_LEN
   pub bytes : flat_map (λ piece. piece) pieces ≡ stored_blocks interval (parts_of p.blocks.items)
 
 -- outputs whose tables can be joined of pieces, of which output i has `counts[i]`

@@ -8,7 +8,7 @@
 -- (1) whose user key is not that of the entry before it, so that all entries of a user key go to
 --     one output, and
 -- (2) below which the grandparents that were passed since the segment before began have more than
---     10 times the maximal file size together.
+--     MAX_OVERLAP times the maximal file size together.
 -- All entries of the union count, dropped ones too. What is kept of a segment is then cut by size.
 use Rattle.std.specs.Prelude.{◌≡◌, ◌≢◌, ℕ, ◌*◌, ◌<◌, List, [], ◌∷◌, flat_map}
 use Rattle.std.specs.List.{AllByRecursion}
@@ -22,13 +22,14 @@ use Rattle.keep.specs.Marks.{CompactionContext, grandparents_below}
 use Rattle.merge.specs.Union.{VersionsRise}
 use Rattle.cut.specs.Outputs.{all_of, outputs, outputs_in, AreOutputs}
 use Rattle.cut.specs.Stops.{size_between}
+use Rattle.cut.specs.declared.stops.TheConstants.{MAX_OVERLAP}
 
 -- An entry begins a segment. `first` began the segment before, and `before` is the last entry of
 -- it.
 pub record BeginsSegment (cmp : List ℕ → List ℕ → Ordering) (grandparents : List FileMeta)
     (file_size : ℕ) (first before e : Entry) : Type 0 where
   pub other : user_of before.key ≢ user_of e.key
-  pub passed : 10 * file_size < size_between grandparents
+  pub passed : MAX_OVERLAP * file_size < size_between grandparents
       (grandparents_below cmp grandparents first.key) (grandparents_below cmp grandparents e.key)
 
 -- In a segment that `first` began, and after `before`: none of these entries begins another

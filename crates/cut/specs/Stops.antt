@@ -6,6 +6,7 @@ use Rattle.std.specs.List.{sum_by, AllByRecursion}
 use Rattle.edit.specs.declared.meta.FileMeta.{FileMeta}
 use Rattle.keep.specs.declared.mark.Mark.{Mark}
 use Rattle.keep.specs.Marks.{changes}
+use Rattle.cut.specs.declared.stops.TheConstants.{MAX_OVERLAP}
 
 -- the sizes of the grandparents at places `from` to before `to`, together
 abbrev pub size_between : List FileMeta → ℕ → ℕ → ℕ
@@ -13,10 +14,10 @@ size_between grandparents from to =
     sum_by (λ (f : FileMeta). f.size) (take (to - from) (drop from grandparents))
 
 -- Whether there is a stop at a mark, if `since` grandparents lie below the stop before: those
--- passed since have more than 10 times the maximal file size together.
+-- passed since have more than MAX_OVERLAP times the maximal file size together.
 abbrev pub is_stop : List FileMeta → ℕ → ℕ → Mark → Bool
 is_stop grandparents file_size since m =
-    nat_lt (10 * file_size) (size_between grandparents since m.below)
+    nat_lt (MAX_OVERLAP * file_size) (size_between grandparents since m.below)
 
 -- the stops at the marks after a stop with `since` grandparents below it
 abbrev pub stops_behind : List FileMeta → ℕ → ℕ → List Mark → List ℕ
@@ -29,7 +30,7 @@ stops_behind grandparents file_size since (m ∷ ms) =
 -- The stops of a compaction, each by the number of kept entries before it. A stop is asked at the
 -- first entry of each user key, kept or dropped. The count begins at the first entry of all, and
 -- anew at each stop. The next stop is the first mark at which the grandparents passed since then
--- have more than 10 times the maximal file size together.
+-- have more than MAX_OVERLAP times the maximal file size together.
 abbrev pub stops : List FileMeta → ℕ → List Mark → List ℕ
 stops grandparents file_size [] = []
 stops grandparents file_size (m ∷ ms) = stops_behind grandparents file_size m.below ms

@@ -7,10 +7,11 @@ use Rattle.table.specs.Table.{IndexKeys, index_key, handle_entry}
 use Rattle.encoding.specs.declared.planned_block.PlannedBlock.{PlannedBlock}
 use Rattle.cut.specs.Opened.{parts_of}
 use Rattle.cut.specs.Sizes.{encoded_entry_size}
+use Rattle.table.specs.declared.table_check.TheConstants.{MAX_TABLE_LEN}
 
--- a length, or 2 ^ 30 + 1 if it is more
+-- a length, or one more than MAX_TABLE_LEN if it is longer
 abbrev pub capped_length : ℕ → ℕ
-capped_length n = min n (2 ^ 30 + 1)
+capped_length n = min n (MAX_TABLE_LEN + 1)
 
 -- the length of planned data blocks, each with its trailer
 abbrev pub lens_of : List PlannedBlock → ℕ
@@ -27,10 +28,10 @@ planned_index_entries keys at [] = []
 planned_index_entries keys at (b ∷ bs) = handle_entry (planned_index_key keys (b ∷ bs)) at b.len ∷
     planned_index_entries keys (at + b.len + 5) bs
 
--- the length of the table of planned data blocks, or 2 ^ 30 + 1 if it is more than 2 ^ 30
+-- the length of the table of planned data blocks, or one more than MAX_TABLE_LEN if it is longer
 abbrev pub table_size : IndexKeys → List PlannedBlock → ℕ
 table_size keys blocks =
-    if nat_lt (2 ^ 30) (lens_of blocks) then 2 ^ 30 + 1 else capped_length
+    if nat_lt MAX_TABLE_LEN (lens_of blocks) then MAX_TABLE_LEN + 1 else capped_length
     (lens_of blocks + 66 + length (block 1 (planned_index_entries keys 0 blocks)))
 
 -- the bytes that entries take in a block in which a restart points at each

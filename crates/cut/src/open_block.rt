@@ -9,6 +9,7 @@ ghost use Rattle.table.specs.Options.{AreInLimits};
 ghost use Rattle.cut.specs.Sizes.{saturated_length};
 ghost use Rattle.cut.specs.Metered.{block_after_entries, last_entry_key, next_since, left_out_len};
 ghost use Rattle.cut.specs.Metered.{added_size};
+ghost use Rattle.block.specs.declared.builder.TheConstants.{MAX_RESTART_INTERVAL};
 
 use crate::lengths::encoded_entry_len;
 use coding::common_len;
@@ -100,7 +101,7 @@ impl<'r, 'a> OpenBlock<'r, 'a> {
     /// memory.
     pub fn new(interval: u64, place: EntryCursor<'r, 'a>) -> OpenBlock<'r, 'a>
         requires positive { 1 ≤ interval }
-        requires limited { interval ≤ 1024 }
+        requires limited { interval ≤ MAX_RESTART_INTERVAL }
         ensures { result ≡ record { interval = interval; entries = []; behind = place.entry } }
     {
         OpenBlock {

@@ -56,7 +56,7 @@ pub fn plan<'r, 'a, C: Comparator>(
 ) -> Result<Plan<'r, 'a, C>, Fault>
     requires { AreInLimits options }
     ensures outputs { EqualOrMemory (λ p. p.outputs) result
-        (plan_of (table C.cmp C.separator_of C.successor_of options) options first_number
+        (plan_of (table C.cmp C.short_keys options) options first_number
         (outputs_of grandparents.now options (joined_run runs.now))) }
     ensures options { IfOk result (λ p. p.options ≡ options) }
 {
@@ -88,7 +88,7 @@ fn numbered<'r, 'a, C: Comparator>(
     requires fits { first_number + length ended.items < 2 ^ 64 }
     requires some { AllByRecursion (λ blocks. HaveEntries blocks.items) ended.items }
     ensures ok { IfOk result (λ outputs. outputs.items
-        ≡ numbered_from (table_size (index_keys C.cmp C.separator_of C.successor_of)) first_number
+        ≡ numbered_from (table_size (index_keys C.cmp C.short_keys)) first_number
         ended.entry.items) }
     ensures memory { IfErr result (λ e. e ≡ fault Memory) }
 {

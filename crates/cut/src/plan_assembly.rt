@@ -47,11 +47,11 @@ pub(crate) fn assemble_all<C: Comparator>(
     pieces: Vec<Vec<u8>>,
 ) -> Result<Vec<(u64, Vec<u8>)>, Fault>
     requires counts { length counts.now ≡ length outputs.now }
-    requires ready { AreReady (index_keys C.cmp C.separator_of C.successor_of) interval outputs.now
+    requires ready { AreReady (index_keys C.cmp C.short_keys) interval outputs.now
         counts.now
         (map (λ p. p.items) pieces.items) }
     ensures { EqualOrMemory (λ tables. map (λ t. (t.0, t.1.items)) tables.items) result
-        (Ok (tables_of (index_keys C.cmp C.separator_of C.successor_of) interval outputs.now)) }
+        (Ok (tables_of (index_keys C.cmp C.short_keys) interval outputs.now)) }
 {
     let mut rest = pieces.into_iter();
     let mut tables = Vec::new(alloc);

@@ -37,7 +37,7 @@ use keep::{Mark, RangeRun};
 use std::alloc::Global;
 
 /// There is a stop if more than this many times the maximal file size of grandparents is passed.
-const MAX_OVERLAP: u64 = 10;
+pub const MAX_OVERLAP: u64 = 10;
 
 /// What is passed of the grandparents since a stop, or since the first mark.
 #[derive(Clone, Copy)]

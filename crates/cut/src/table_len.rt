@@ -53,7 +53,7 @@ fn index_key<C: Comparator>(
     requires within { place < length blocks.now }
     requires some { AllByRecursion (λ b. b.entries.entries ≢ []) blocks.now }
     ensures { EqualOrMemory (λ key. key) result
-        (Ok (planned_index_key (index_keys C.cmp C.separator_of C.successor_of)
+        (Ok (planned_index_key (index_keys C.cmp C.short_keys)
         (drop place blocks.now))) }
 {
     let Some(last) = blocks[place].entries.last_key() else {
@@ -74,7 +74,7 @@ fn index_len<C: Comparator>(alloc: Global, blocks: &[PlannedBlock<'_, '_>]) -> R
     ensures { EqualOrMemory (λ len. len) result
         (Ok (saturated_length
         (length (block 1
-        (planned_index_entries (index_keys C.cmp C.separator_of C.successor_of) 0
+        (planned_index_entries (index_keys C.cmp C.short_keys) 0
         blocks.now))))) }
 {
     let mut len = RESTART_LEN;
@@ -99,7 +99,7 @@ pub(crate) fn table_len<C: Comparator>(
     requires any { blocks.now ≢ [] }
     requires some { AllByRecursion (λ b. b.entries.entries ≢ []) blocks.now }
     ensures { EqualOrMemory (λ len. len) result
-        (Ok (table_size (index_keys C.cmp C.separator_of C.successor_of) blocks.now)) }
+        (Ok (table_size (index_keys C.cmp C.short_keys) blocks.now)) }
 {
     let limit = MAX_TABLE_LEN as u64;
     let stored = stored_len(blocks);

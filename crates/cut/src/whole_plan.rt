@@ -47,7 +47,7 @@ impl<'r, 'a, C: Comparator> Model for Plan<'r, 'a, C> {
 
     ghost view = { λ p. record { options = p.options; outputs = map planned_of p.outputs.items } };
 
-    ghost invariant = { λ p. IsPlan (table C.cmp C.separator_of C.successor_of p.options) p.options
+    ghost invariant = { λ p. IsPlan (table C.cmp C.short_keys p.options) p.options
         p.outputs.items p.pieces.items p.counts.items };
 }
 
@@ -124,7 +124,7 @@ impl<'r, 'a, C: Comparator> Plan<'r, 'a, C> {
         requires { map (λ p. p.items) pieces.items
             ≡ encoded_pieces self.now.options (lists_in self.now.outputs) }
         ensures { EqualOrMemory (λ tables. map (λ t. (t.0, t.1.items)) tables.items) result
-            (Ok (plan_tables (table C.cmp C.separator_of C.successor_of self.now.options)
+            (Ok (plan_tables (table C.cmp C.short_keys self.now.options)
             self.now.outputs)) }
     {
         let interval = self.options.restart_interval;

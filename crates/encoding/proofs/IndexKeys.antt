@@ -17,6 +17,7 @@ use Rattle.frame.proofs.Handles.{length-handle_bytes}
 use Rattle.table.specs.ReadingEntries.{first_key}
 use Rattle.table.specs.Table.{IndexKeys, index_keys, handle_entry, table_of_blocks}
 use Rattle.encoding.proofs.Indexes.{length_stored, length_table}
+use Rattle.ikey.specs.Comparator.{ShortKeys}
 
 shortened_by : (key short : List ℕ) (shorter lower : Bool) → nat_lt (length short) (length (user_of key)) ≡ shorter → length (if shorter && lower then internal_key short (2 ^ 56 - 1) Put else key) ≤ length key + 8
 shortened_by key short true true e =
@@ -34,19 +35,19 @@ between_by cmp a short true = omega arith
 between_by cmp a short false = shortened_len cmp a short
 
 -- no key of an index is longer by more than 8 bytes than the last key of its block
-between_len : (cmp : List ℕ → List ℕ → Ordering) (separator_of : List ℕ → List ℕ → List ℕ) (successor_of : List ℕ → List ℕ) (a b : List ℕ) → length ((index_keys cmp separator_of successor_of).between a b) ≤ length a + 8
+between_len : (cmp : List ℕ → List ℕ → Ordering) (short_keys : ShortKeys) (a b : List ℕ) → length ((index_keys cmp short_keys).between a b) ≤ length a + 8
 unfolding index_keys internal_separator_of
-between_len cmp separator_of successor_of a b = between_by cmp a (separator_of (user_of a) (user_of b)) (is_eq (cmp (user_of a) (user_of b)))
+between_len cmp short_keys a b = between_by cmp a (short_keys.separator (user_of a) (user_of b)) (is_eq (cmp (user_of a) (user_of b)))
 
-above_len : (cmp : List ℕ → List ℕ → Ordering) (separator_of : List ℕ → List ℕ → List ℕ) (successor_of : List ℕ → List ℕ) (a : List ℕ) → length ((index_keys cmp separator_of successor_of).above a) ≤ length a + 8
+above_len : (cmp : List ℕ → List ℕ → Ordering) (short_keys : ShortKeys) (a : List ℕ) → length ((index_keys cmp short_keys).above a) ≤ length a + 8
 unfolding index_keys internal_successor_of
-above_len cmp separator_of successor_of a = shortened_len cmp a (successor_of (user_of a))
+above_len cmp short_keys a = shortened_len cmp a (short_keys.successor (user_of a))
 
-pub two_blocks_fit : (cmp : List ℕ → List ℕ → Ordering) (separator_of : List ℕ → List ℕ → List ℕ) (successor_of : List ℕ → List ℕ) (r : ℕ) (p q : List Entry)
+pub two_blocks_fit : (cmp : List ℕ → List ℕ → Ordering) (short_keys : ShortKeys) (r : ℕ) (p q : List Entry)
     → length (block r p) ≤ 1000 → length (block r q) ≤ 1000 → length (last_key [] p) ≤ 1000 → length (last_key [] q) ≤ 1000
-    → length (table_of_blocks (index_keys cmp separator_of successor_of) r (p ∷ q ∷ [])) ≤ 2 ^ 30
-two_blocks_fit cmp separator_of successor_of r p q pl ql pk qk =
-    let keys : IndexKeys = index_keys cmp separator_of successor_of in
+    → length (table_of_blocks (index_keys cmp short_keys) r (p ∷ q ∷ [])) ≤ 2 ^ 30
+two_blocks_fit cmp short_keys r p q pl ql pk qk =
+    let keys : IndexKeys = index_keys cmp short_keys in
     let first : Entry = handle_entry (keys.between (last_key [] p) (first_key q)) 0 (length (block r p)) in
     let second : Entry = handle_entry (keys.above (last_key [] q)) (0 + length (block r p) + 5) (length (block r q)) in
     let one : length (block 1 (first ∷ [])) ≤ length (block 1 []) + 34 + length first.key + length first.value = (block-grows 1 [] first).at_most in
@@ -60,8 +61,8 @@ two_blocks_fit cmp separator_of successor_of r p q pl ql pk qk =
       one,
       two,
       length-block-nil 1,
-      between_len cmp separator_of successor_of (last_key [] p) (first_key q),
-      above_len cmp separator_of successor_of (last_key [] q),
+      between_len cmp short_keys (last_key [] p) (first_key q),
+      above_len cmp short_keys (last_key [] q),
       length-handle_bytes 0 (length (block r p)),
       length-handle_bytes (0 + length (block r p) + 5) (length (block r q)),
       length_table keys r (p ∷ q ∷ []),

@@ -7,6 +7,7 @@ ghost use Rattle.coding.specs.Answers.{fault};
 ghost use Rattle.coding.specs.declared.fault.FaultName.TheVariants.{Memory};
 ghost use Rattle.block.specs.EncodedEntry.{encoded_entry_bytes, restarts_from};
 ghost use Rattle.block.specs.BlockFormat.{encoded_entries_from, block};
+ghost use Rattle.block.specs.declared.builder.TheConstants.{MAX_BLOCK_LEN, MAX_RESTART_INTERVAL};
 
 use crate::part::EntryRef;
 use block::{next_since, push_fields, push_restarts, shared_len};
@@ -23,8 +24,8 @@ pub(crate) fn push_block(
     interval: u64,
 ) -> Result<(), Fault>
     requires positive { 1 ≤ interval }
-    requires limited { interval ≤ 1024 }
-    requires fits { length (block interval entries.now.entries) ≤ 2 ^ 31 }
+    requires limited { interval ≤ MAX_RESTART_INTERVAL }
+    requires fits { length (block interval entries.now.entries) ≤ MAX_BLOCK_LEN }
     ensures ok { OnOk result (out.new.items ≡ out.old.items ++ block interval entries.now.entries) }
     ensures memory { IsOkUnless result (fault Memory) }
 {
@@ -46,9 +47,9 @@ fn push_entries(
     interval: u64,
 ) -> Result<(), Fault>
     requires positive { 1 ≤ interval }
-    requires limited { interval ≤ 1024 }
+    requires limited { interval ≤ MAX_RESTART_INTERVAL }
     requires none { restarts.old.items ≡ [] }
-    requires fits { length (block interval entries.now.entries) ≤ 2 ^ 31 }
+    requires fits { length (block interval entries.now.entries) ≤ MAX_BLOCK_LEN }
     ensures bytes { OnOk result (out.new.items
         ≡ out.old.items
         ++ flat_map encoded_entry_bytes

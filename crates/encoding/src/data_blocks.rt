@@ -6,6 +6,7 @@ ghost use Rattle.coding.specs.Answers.{EqualOrMemory};
 ghost use Rattle.block.specs.BlockFormat.{block};
 ghost use Rattle.table.specs.Table.{stored_blocks};
 ghost use Rattle.encoding.specs.Planned.{parts_of};
+ghost use Rattle.block.specs.declared.builder.TheConstants.{MAX_BLOCK_LEN, MAX_RESTART_INTERVAL};
 
 use crate::block_writer::push_block;
 use crate::planned_block::PlannedBlock;
@@ -25,9 +26,9 @@ pub fn encode_blocks(
     room: usize,
 ) -> Result<Vec<u8>, Fault>
     requires positive { 1 ≤ interval }
-    requires limited { interval ≤ 1024 }
+    requires limited { interval ≤ MAX_RESTART_INTERVAL }
     requires fits { AllByRecursion
-        (λ b. length (block interval b.entries.entries) ≤ 2 ^ 31) blocks.now }
+        (λ b. length (block interval b.entries.entries) ≤ MAX_BLOCK_LEN) blocks.now }
     ensures { EqualOrMemory (λ v. v.items) result
         (Ok (stored_blocks interval (parts_of blocks.now))) }
 {

@@ -30,10 +30,10 @@ pub fn assemble_table<C: Comparator>(
     requires pieces { flat_map (λ p. p.items) pieces.items
         ≡ stored_blocks interval (parts_of blocks.now) }
     requires fits { length
-        (table_of_blocks (index_keys C.cmp C.separator_of C.successor_of) interval
+        (table_of_blocks (index_keys C.cmp C.short_keys) interval
         (parts_of blocks.now)) ≤ 2 ^ 30 }
     ensures { EqualOrMemory (λ v. v.items) result
-        (Ok (table_of_blocks (index_keys C.cmp C.separator_of C.successor_of) interval
+        (Ok (table_of_blocks (index_keys C.cmp C.short_keys) interval
         (parts_of blocks.now))) }
 {
     let index = index_block::<C>(alloc, blocks, interval)?;

@@ -25,11 +25,11 @@ pub(crate) fn index_block<C: Comparator>(
 ) -> Result<BlockBuilder, Fault>
     requires planned { AllByRecursion (IsPlanned interval) blocks.now }
     requires fits { length
-        (table_of_blocks (index_keys C.cmp C.separator_of C.successor_of) interval
+        (table_of_blocks (index_keys C.cmp C.short_keys) interval
         (parts_of blocks.now)) ≤ 2 ^ 30 }
     ensures index { IfOk result (λ b. b ≡ record {
       interval = 1;
-      entries = index_from (index_keys C.cmp C.separator_of C.successor_of) interval 0
+      entries = index_from (index_keys C.cmp C.short_keys) interval 0
           (parts_of blocks.now);
     }) }
     ensures memory { IfErr result (λ e. e ≡ fault Memory) }
@@ -58,7 +58,7 @@ fn index_key<C: Comparator>(
     requires within { place < length blocks.now }
     requires planned { AllByRecursion (IsPlanned interval) blocks.now }
     ensures { EqualOrMemory (λ own. own) result
-        (Ok (place_key (index_keys C.cmp C.separator_of C.successor_of)
+        (Ok (place_key (index_keys C.cmp C.short_keys)
         (drop place (parts_of blocks.now)))) }
 {
     let Some(last) = blocks[place].entries.last_key() else {

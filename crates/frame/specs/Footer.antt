@@ -9,6 +9,7 @@ use Rattle.coding.specs.declared.fault.Fault.{Fault}
 use Rattle.coding.specs.declared.fault.FaultName.TheVariants.{Magic, Handle}
 use Rattle.frame.specs.declared.footer.Footer.{Footer}
 use Rattle.frame.specs.Handle.{handle_bytes, handle_reading}
+use Rattle.frame.specs.declared.footer.TheConstants.{HANDLES_LEN}
 
 -- the number 0xdb4775248b80fb57, lowest byte first
 abbrev pub magic : List ℕ
@@ -21,7 +22,7 @@ handles_bytes f =
 
 -- the 48 bytes of a footer
 unfoldable pub footer_bytes : Footer → List ℕ
-footer_bytes f = handles_bytes f ++ (replicate (40 - length (handles_bytes f)) 0 ++ magic)
+footer_bytes f = handles_bytes f ++ (replicate (HANDLES_LEN - length (handles_bytes f)) 0 ++ magic)
 
 -- two handles at the front of bytes; what comes after them isn't tested
 abbrev pub handles_reading : List ℕ → Option Footer
@@ -34,8 +35,8 @@ handles_reading bytes =
 -- those begin with two handles.
 unfoldable pub footer_reading : List ℕ → Result Footer Fault
 footer_reading bytes =
-    if not (starts_with nat_eq (drop 40 bytes) magic) then Err (fault Magic)
-    else ok_or (handles_reading (take 40 bytes)) (fault Handle)
+    if not (starts_with nat_eq (drop HANDLES_LEN bytes) magic) then Err (fault Magic)
+    else ok_or (handles_reading (take HANDLES_LEN bytes)) (fault Handle)
 
 -- a footer that was written is read as it was
 abbrev pub FooterLaw : Type 0

@@ -8,6 +8,7 @@ use Rattle.coding.specs.Answers.{fault}
 use Rattle.coding.specs.Crc.{crc32c, masked}
 use Rattle.coding.specs.declared.fault.Fault.{Fault}
 use Rattle.coding.specs.declared.fault.FaultName.TheVariants.{Trailer, Compressed, BlockType}
+use Rattle.frame.specs.declared.trailer.TheConstants.{TRAILER_LEN}
 
 -- the trailer of contents that are stored as they are
 unfoldable pub trailer_bytes : List ℕ → List ℕ
@@ -21,7 +22,7 @@ stored_block contents = contents ++ trailer_bytes contents
 -- is that of the contents and the type, the type is not 1, and it is 0.
 unfoldable pub stored_reading : List ℕ → Result (List ℕ) Fault
 stored_reading bytes =
-    let size = length bytes - 5 in
+    let size = length bytes - TRAILER_LEN in
     let kind = slice_index bytes size in
     if not (little_number 4 (drop (length bytes - 4) bytes) ==
     masked (crc32c (take (length bytes - 4) bytes)))
@@ -36,6 +37,6 @@ StoredLaw = (contents : List ℕ) → stored_reading (stored_block contents) ≡
 
 -- contents are read only of the bytes that they are stored as
 abbrev pub OnlyStoredLaw : Type 0
-OnlyStoredLaw = (bytes contents : List ℕ) → 5 ≤ length bytes →
+OnlyStoredLaw = (bytes contents : List ℕ) → TRAILER_LEN ≤ length bytes →
     ((i : ℕ) → slice_index bytes i < 256) →
     stored_reading bytes ≡ Ok contents → bytes ≡ stored_block contents

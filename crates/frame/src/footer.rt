@@ -10,6 +10,7 @@
 ghost use Rattle.std.specs.Prelude.{◌≡◌, ◌≤◌, ◌++◌, length, take, OnOk, OnErr, IsOkUnless};
 ghost use Rattle.coding.specs.Answers.{fault};
 ghost use Rattle.coding.specs.declared.fault.FaultName.TheVariants.{Memory};
+ghost use Rattle.frame.specs.declared.footer.TheConstants.{FOOTER_LEN};
 
 use crate::handle::BlockHandle;
 use coding::{Fault, FaultName};
@@ -18,7 +19,7 @@ use coding::{Fault, FaultName};
 pub const FOOTER_LEN: usize = 48;
 
 /// The bytes of a footer before the magic.
-const HANDLES_LEN: usize = 40;
+pub const HANDLES_LEN: usize = 40;
 
 /// What fills a footer up to the magic.
 const ZEROS: [u8; HANDLES_LEN] = [0; HANDLES_LEN];
@@ -45,7 +46,7 @@ impl Footer {
     /// handles. What comes after the handles isn't tested.
     #[tactic(auto, unfolding(crate::specs::Footer::footer_reading))]
     pub fn read(bytes: &[u8]) -> Result<Footer, Fault>
-        requires { length bytes.now ≡ 48 }
+        requires { length bytes.now ≡ FOOTER_LEN }
         ensures { result ≡ footer_reading bytes.now }
     {
         let (handles, magic) = bytes.split_at(HANDLES_LEN);

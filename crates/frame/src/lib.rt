@@ -22,7 +22,7 @@ mod footer;
 mod handle;
 mod trailer;
 
-pub use footer::{FOOTER_LEN, Footer};
+pub use footer::{FOOTER_LEN, Footer, HANDLES_LEN};
 pub use handle::{BlockHandle, HandleBehind};
 pub use trailer::{TRAILER_LEN, Trailer, contents, reopen_contents};
 

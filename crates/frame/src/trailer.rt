@@ -12,6 +12,7 @@ ghost use Rattle.byteorder.specs.Endian.{little_bytes};
 ghost use Rattle.frame.specs.Trailer.{stored_reading};
 ghost use Rattle.coding.specs.Answers.{fault};
 ghost use Rattle.coding.specs.declared.fault.FaultName.TheVariants.{Memory};
+ghost use Rattle.frame.specs.declared.trailer.TheConstants.{TRAILER_LEN};
 
 use byteorder::{ByteOrder, LittleEndian};
 use coding::{Fault, FaultName, crc32c, crc32c_pair, mask};
@@ -67,7 +68,7 @@ impl Trailer {
 /// 1; else BlockType if it isn't 0.
 #[tactic(auto, unfolding(crate::specs::Trailer::stored_reading))]
 pub fn contents(bytes: &[u8]) -> Result<&[u8], Fault>
-    requires { 5 ≤ length bytes.now }
+    requires { TRAILER_LEN ≤ length bytes.now }
     ensures { result_map_both (λ found. found.now) (λ e. e) result ≡ stored_reading bytes.now }
 {
     let (summed, checksum) = bytes.split_at(bytes.len() - 4);
@@ -87,7 +88,7 @@ pub fn contents(bytes: &[u8]) -> Result<&[u8], Fault>
 /// The contents of a stored block that is known to pass the tests of [`contents`]. No test is made
 /// again. Takes no memory.
 pub fn reopen_contents(bytes: &[u8]) -> &[u8]
-    requires long { 5 ≤ length bytes.now }
+    requires long { TRAILER_LEN ≤ length bytes.now }
     requires passed { IsOk (stored_reading bytes.now) }
     ensures { stored_reading bytes.now ≡ Ok result.now }
 {

@@ -5,6 +5,7 @@ use Rattle.std.specs.List.{common_prefix_len, prefix_len}
 use Rattle.std.specs.Ordering.{nat_cmp}
 use Rattle.std.specs.Cmp.Lexicographic.{slice_cmp}
 use Rattle.std.specs.declared.cmp.Ordering.{Ordering}
+use Rattle.ikey.specs.Comparator.{ShortKeys}
 
 -- the comparator's name
 abbrev pub bytewise_name : List ℕ
@@ -36,3 +37,10 @@ first_raisable key = prefix_len (λ b. nat_eq b 255) key
 unfoldable pub bytewise_successor : List ℕ → List ℕ
 bytewise_successor key =
     if nat_lt (first_raisable key) (length key) then raised_at (first_raisable key) key else key
+
+-- the short keys of unsigned bytes
+abbrev pub bytewise_short_keys : ShortKeys
+bytewise_short_keys = record {
+  separator = bytewise_separator;
+  successor = bytewise_successor;
+}

@@ -12,6 +12,11 @@ pub record IsBetween (cmp : List ℕ → List ℕ → Ordering) (start limit mid
   pub at_least : cmp start middle ≢ Greater
   pub below : cmp middle limit ≡ Less
 
+-- the short keys that a comparator finds: one between two keys, and one at or above a key
+pub record ShortKeys : Type 0 where
+  pub separator : List ℕ → List ℕ → List ℕ
+  pub successor : List ℕ → List ℕ
+
 -- each separator of start and limit is at least start, and below limit, if start is below limit
 abbrev pub Separates : (List ℕ → List ℕ → Ordering) → (List ℕ → List ℕ → List ℕ) → Type 0
 Separates cmp separator_of =

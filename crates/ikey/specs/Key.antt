@@ -7,6 +7,7 @@ use Rattle.coding.specs.declared.fault.Fault.{Fault}
 use Rattle.coding.specs.declared.fault.FaultName.TheVariants.{Key, TooLarge}
 use Rattle.ikey.specs.declared.kind.Kind.{Kind}
 use Rattle.ikey.specs.declared.kind.Kind.TheVariants.{Delete, Put}
+use Rattle.ikey.specs.declared.key.TheConstants.{MAX_USER_KEY}
 
 -- the number of a type
 abbrev pub kind_number : Kind → ℕ
@@ -37,13 +38,13 @@ kind_of bytes = if nat_eq (tag_of bytes % 256) 1 then Put else Delete
 unfoldable pub internal_key : List ℕ → ℕ → Kind → List ℕ
 internal_key user sequence kind = user ++ tag_bytes (sequence * 256 + kind_number kind)
 
--- the bytes are an internal key: a user key of at most 65,535 bytes, and then 8 bytes of a tag of
+-- the bytes are an internal key: a user key of at most MAX_USER_KEY bytes, and then 8 bytes of a tag of
 -- type 0 or 1
 pub record IsInternalKey (bytes : List ℕ) : Type 0 where
   pub tagged : 8 ≤ length bytes
   pub spelled : drop (length bytes - 8) bytes ≡ tag_bytes (tag_of bytes)
   pub typed : tag_of bytes % 256 < 2
-  pub fits : length bytes ≤ 65535 + 8
+  pub fits : length bytes ≤ MAX_USER_KEY + 8
 
 -- the bytes if they are an internal key, else the first test that fails
 abbrev pub internal_key_reading : List ℕ → Result (List ℕ) Fault
@@ -52,6 +53,6 @@ internal_key_reading bytes =
     then Err (fault Key)
     else if nat_lt 1 (tag_of bytes % 256)
     then Err (fault Key)
-    else if nat_lt (65535 + 8) (length bytes)
+    else if nat_lt (MAX_USER_KEY + 8) (length bytes)
     then Err (fault TooLarge)
     else Ok bytes

@@ -3,6 +3,7 @@ use Rattle.std.specs.Prelude.{ℕ, ◌-◌, ◌^◌, nat_lt, ◌&&◌, if◌then
 use Rattle.std.specs.Ordering.{is_eq, is_lt}
 use Rattle.std.specs.declared.cmp.Ordering.{Ordering}
 use Rattle.ikey.specs.declared.kind.Kind.TheVariants.{Put}
+use Rattle.ikey.specs.declared.key.TheConstants.{MAX_SEQUENCE}
 use Rattle.ikey.specs.Key.{user_of, internal_key}
 
 -- short with the greatest sequence and type 1, if short is shorter than the user key and greater;
@@ -10,7 +11,7 @@ use Rattle.ikey.specs.Key.{user_of, internal_key}
 unfoldable pub shortened_key : (List ℕ → List ℕ → Ordering) → List ℕ → List ℕ → List ℕ
 shortened_key cmp key short =
     if nat_lt (length short) (length (user_of key)) && is_lt (cmp (user_of key) short)
-    then internal_key short (2 ^ 56 - 1) Put
+    then internal_key short MAX_SEQUENCE Put
     else key
 
 -- a if the user keys are equal, else a shortened by the separator of the user keys

@@ -3,6 +3,7 @@ use Rattle.std.specs.Prelude.{codes, ℕ, List, length}
 use Rattle.std.specs.Ordering.{nat_cmp, ordering_then}
 use Rattle.std.specs.Cmp.Lexicographic.{slice_cmp}
 use Rattle.std.specs.declared.cmp.Ordering.{Ordering}
+use Rattle.ikey.specs.Comparator.{ShortKeys}
 
 -- the comparator's name
 abbrev pub shortlex_name : List ℕ
@@ -19,3 +20,10 @@ shortlex_separator start limit = start
 -- every successor is the key
 abbrev pub shortlex_successor : List ℕ → List ℕ
 shortlex_successor key = key
+
+-- the short keys of the order by length first
+abbrev pub shortlex_short_keys : ShortKeys
+shortlex_short_keys = record {
+  separator = shortlex_separator;
+  successor = shortlex_successor;
+}

@@ -4,6 +4,7 @@ ghost use Rattle.std.specs.Prelude.{◌≡◌, ℕ, ◌+◌, ◌<◌, ◌≤◌,
 ghost use Rattle.byteorder.specs.Endian.{big_number};
 ghost use Rattle.coding.specs.Answers.{EqualOrMemory};
 ghost use Rattle.ikey.specs.Bytewise.{bytewise_name, bytewise_cmp, bytewise_separator};
+ghost use Rattle.ikey.specs.Bytewise.{bytewise_short_keys};
 ghost use Rattle.ikey.specs.Bytewise.{bytewise_successor, first_raisable, raised_at};
 ghost use Rattle.std.proofs.lemmas.Cmp.{nat_list_cmp_total};
 ghost use Rattle.ikey.specs.BytewiseLaws.{bytewise_exact, bytewise_between, bytewise_above};
@@ -31,9 +32,7 @@ impl Comparator for Bytewise {
 
     ghost cmp = { bytewise_cmp };
 
-    ghost separator_of = { bytewise_separator };
-
-    ghost successor_of = { bytewise_successor };
+    ghost short_keys = { bytewise_short_keys };
 
     ghost total = { nat_list_cmp_total };
 

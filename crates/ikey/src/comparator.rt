@@ -4,7 +4,7 @@ ghost use Rattle.std.specs.Prelude.{◌≡◌, ℕ, List, Ok, codes};
 ghost use Rattle.std.specs.declared.cmp.Ordering.{Ordering};
 ghost use Rattle.std.specs.Cmp.{IsTotalOrder};
 ghost use Rattle.coding.specs.Answers.{EqualOrMemory};
-ghost use Rattle.ikey.specs.Comparator.{IsExact, Separates, Succeeds};
+ghost use Rattle.ikey.specs.Comparator.{IsExact, Separates, ShortKeys, Succeeds};
 
 use coding::Fault;
 use std::alloc::Global;
@@ -17,9 +17,7 @@ pub trait Comparator {
 
     ghost cmp: { List ℕ → List ℕ → Ordering };
 
-    ghost separator_of: { List ℕ → List ℕ → List ℕ };
-
-    ghost successor_of: { List ℕ → List ℕ };
+    ghost short_keys: { ShortKeys };
 
     /// The name that a version edit states.
     fn name() -> &'static str
@@ -33,21 +31,21 @@ pub trait Comparator {
     ///
     /// The only fault is Memory.
     fn separator(alloc: Global, start: &[u8], limit: &[u8]) -> Result<Vec<u8>, Fault>
-        ensures { EqualOrMemory (λ v. v.items) result (Ok (separator_of start.now limit.now)) };
+        ensures { EqualOrMemory (λ v. v.items) result (Ok (short_keys.separator start.now limit.now)) };
 
     /// A key at or above `key`.
     ///
     /// The only fault is Memory.
     fn successor(alloc: Global, key: &[u8]) -> Result<Vec<u8>, Fault>
-        ensures { EqualOrMemory (λ v. v.items) result (Ok (successor_of key.now)) };
+        ensures { EqualOrMemory (λ v. v.items) result (Ok (short_keys.successor key.now)) };
 
     ghost total: { IsTotalOrder cmp };
 
     ghost exact: { IsExact cmp };
 
-    ghost between: { Separates cmp separator_of };
+    ghost between: { Separates cmp short_keys.separator };
 
-    ghost above: { Succeeds cmp successor_of };
+    ghost above: { Succeeds cmp short_keys.successor };
 }
 
 /// A comparator that threads may share, as the calls with workers ask.

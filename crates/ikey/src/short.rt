@@ -32,7 +32,7 @@ pub fn internal_separator<C: Comparator>(
     b: InternalKey,
 ) -> Result<KeyBuf, Fault>
     ensures separator { EqualOrMemory (λ own. own) result
-        (Ok (internal_separator_of C.cmp C.separator_of a.entry.bytes.now b.entry.bytes.now)) }
+        (Ok (internal_separator_of C.cmp C.short_keys.separator a.entry.bytes.now b.entry.bytes.now)) }
     ensures between { internal_cmp C.cmp a.entry.bytes.now b.entry.bytes.now ≡ Less
         → IfOk result (IsBetween (internal_cmp C.cmp) a.entry.bytes.now b.entry.bytes.now) }
 {
@@ -53,7 +53,7 @@ pub fn internal_separator<C: Comparator>(
 #[tactic(auto, unfolding(crate::specs::Short::internal_successor_of))]
 pub fn internal_successor<C: Comparator>(alloc: Global, key: InternalKey) -> Result<KeyBuf, Fault>
     ensures successor { EqualOrMemory (λ own. own) result
-        (Ok (internal_successor_of C.cmp C.successor_of key.entry.bytes.now)) }
+        (Ok (internal_successor_of C.cmp C.short_keys.successor key.entry.bytes.now)) }
     ensures above { IfOk result (λ own. internal_cmp C.cmp key.entry.bytes.now own ≢ Greater) }
 {
     let short = C::successor(alloc, key.user())?;

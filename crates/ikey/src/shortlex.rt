@@ -1,7 +1,6 @@
 //! The order of user keys by length first.
 
-ghost use Rattle.ikey.specs.Shortlex.{shortlex_name, shortlex_cmp, shortlex_separator};
-ghost use Rattle.ikey.specs.Shortlex.{shortlex_successor};
+ghost use Rattle.ikey.specs.Shortlex.{shortlex_name, shortlex_cmp, shortlex_short_keys};
 ghost use Rattle.ikey.specs.ShortlexLaws.{shortlex_total, shortlex_exact, shortlex_between};
 ghost use Rattle.ikey.specs.ShortlexLaws.{shortlex_above};
 
@@ -19,9 +18,7 @@ impl Comparator for Shortlex {
 
     ghost cmp = { shortlex_cmp };
 
-    ghost separator_of = { shortlex_separator };
-
-    ghost successor_of = { shortlex_successor };
+    ghost short_keys = { shortlex_short_keys };
 
     ghost total = { shortlex_total };
 

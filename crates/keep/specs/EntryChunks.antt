@@ -3,6 +3,7 @@ use Rattle.std.specs.Prelude.{◌≡◌, ℕ, ◌≤◌, List, [], ◌∷◌, �
 use Rattle.std.specs.List.{AllByRecursion}
 use Rattle.ikey.specs.Key.{IsInternalKey}
 use Rattle.block.specs.EncodedEntry.{Entry}
+use Rattle.keep.specs.declared.entry_chunks.TheConstants.{CHUNK_LEN}
 
 -- the entries of the chunks, and after them those of the last one
 abbrev pub all_kept : List (List Entry) → List Entry → List Entry
@@ -13,7 +14,7 @@ all_kept (p ∷ ps) last = p ++ all_kept ps last
 -- entries all have; each key is an internal key
 pub record AreInChunks (pieces : List (List Entry)) (behind : List Entry) (number : ℕ) : Type 0
   where
-    pub full : AllByRecursion (λ p. length p ≡ 4096) pieces
-    pub last : length behind ≤ 4096
+    pub full : AllByRecursion (λ p. length p ≡ CHUNK_LEN) pieces
+    pub last : length behind ≤ CHUNK_LEN
     pub count : number ≡ length (all_kept pieces behind)
     pub internal : AllByRecursion (λ e. IsInternalKey e.key) (all_kept pieces behind)

@@ -17,7 +17,7 @@ use std::marker::Model;
 use std::mem;
 
 /// The number of entries of a full chunk.
-const CHUNK_LEN: usize = 4_096;
+pub const CHUNK_LEN: usize = 4_096;
 
 /// A list of kept entries.
 ///

@@ -3,18 +3,19 @@ use Rattle.std.specs.Prelude.{◌≡◌, ℕ, zero, suc, ◌+◌, ◌-◌, ◌%�
 use Rattle.std.specs.Prelude.{if◌then◌else◌, List, [], ◌∷◌, ◌++◌, length, take, drop, replicate}
 use Rattle.byteorder.specs.Endian.{little_bytes}
 use Rattle.coding.specs.Crc.{crc32c, masked}
+use Rattle.logrec.specs.declared.format.TheConstants.{BLOCK_LEN, HEADER_LEN, MAX_CONTENT_LEN}
 
 -- how many bytes are left in the block that an offset is in
 abbrev pub block_left : ℕ → ℕ
-block_left offset = 32768 - offset % 32768
+block_left offset = BLOCK_LEN - offset % BLOCK_LEN
 
 -- the zeros that fill a block if a header of 7 bytes has no room in it
 abbrev pub zeros_due : ℕ → List ℕ
-zeros_due offset = if nat_lt (block_left offset) 7 then replicate (block_left offset) 0 else []
+zeros_due offset = if nat_lt (block_left offset) HEADER_LEN then replicate (block_left offset) 0 else []
 
 -- how much of a record fits into its first fragment, after the zeros and the header
 abbrev pub room_at : ℕ → ℕ
-room_at offset = if nat_lt (block_left offset) 7 then 32761 else block_left offset - 7
+room_at offset = if nat_lt (block_left offset) HEADER_LEN then MAX_CONTENT_LEN else block_left offset - HEADER_LEN
 
 -- the type of a fragment, by whether it begins and whether it ends its record: FULL 1, FIRST 2,
 -- LAST 4, MIDDLE 3
@@ -41,7 +42,7 @@ fragments (suc n) begins room left =
     if nat_le (length left) room
     then fragment (fragment_type begins true) left
     else fragment (fragment_type begins false) (take room left)
-    ++ fragments n false 32761 (drop room left)
+    ++ fragments n false MAX_CONTENT_LEN (drop room left)
 
 -- what is written for a record at an offset, of which only its place in the block counts
 unfoldable pub written_record : ℕ → List ℕ → List ℕ

@@ -6,7 +6,7 @@ ghost use Rattle.logrec.specs.Log.{block_left, zeros_due, room_at, fragment_type
 use coding::{crc32c_pair, mask};
 
 /// The bytes of a block. Only a log's last block has fewer.
-const BLOCK_LEN: usize = 32_768;
+pub const BLOCK_LEN: usize = 32_768;
 
 /// The bytes of a header: a checksum of 4, a length of 2, and a type.
 pub const HEADER_LEN: usize = 7;

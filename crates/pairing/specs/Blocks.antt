@@ -9,10 +9,12 @@ use Rattle.block.specs.BlockFormat.{block}
 use Rattle.ikey.specs.Bytewise.{bytewise_cmp}
 use Rattle.merge.specs.Union.{IsUnion}
 use Rattle.pairing.specs.EntryTests.{tested_after}
+use Rattle.pairing.specs.declared.two_blocks.TheConstants.{INTERVAL}
+use Rattle.table.specs.declared.table_check.TheConstants.{MAX_TABLE_LEN}
 
--- the block of entries at interval 16; TooLarge if it has more than 2 ^ 30 bytes
+-- the block of entries at INTERVAL; TooLarge if it has more than MAX_TABLE_LEN bytes
 abbrev pub block_within : List Entry → Result (List ℕ) Fault
-block_within entries = if nat_le (length (block 16 entries)) (2 ^ 30) then Ok (block 16 entries)
+block_within entries = if nat_le (length (block INTERVAL entries)) MAX_TABLE_LEN then Ok (block INTERVAL entries)
     else Err (fault TooLarge)
 
 -- the bytes are a block: its entries if each passes its tests, else the first test that fails

@@ -9,6 +9,7 @@ use Rattle.block.specs.EncodedEntry.{Entry}
 use Rattle.ikey.specs.Bytewise.{bytewise_cmp}
 use Rattle.ikey.specs.Key.{internal_key_reading}
 use Rattle.ikey.specs.Order.{internal_cmp}
+use Rattle.table.specs.declared.table_check.TheConstants.{MAX_VALUE_LEN}
 
 -- whether a key is above the one before it, if there is one
 abbrev pub is_above_bytewise : Option (List ℕ) → List ℕ → Bool
@@ -20,7 +21,7 @@ is_above_bytewise (Some before) key = is_lt (internal_cmp bytewise_cmp before ke
 abbrev pub file_entry_test : Option (List ℕ) → List ℕ → List ℕ → Result (List ℕ) Fault
 file_entry_test before key value = do
   internal ← internal_key_reading key
-  if nat_lt 16777215 (length value) then Err (fault TooLarge) else if is_above_bytewise before key
+  if nat_lt MAX_VALUE_LEN (length value) then Err (fault TooLarge) else if is_above_bytewise before key
       then Ok internal else Err (fault Order)
 
 -- the entries, if each passes its tests after the one before it; else the first test that fails

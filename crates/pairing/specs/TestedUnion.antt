@@ -10,6 +10,7 @@ use Rattle.merge.specs.Merged.{merged}
 use Rattle.merge.specs.Union.{key_version_cmp}
 use Rattle.block.specs.EncodedEntry.{Entry}
 use Rattle.pairing.specs.declared.tested.TestedEntry.{TestedEntry}
+use Rattle.table.specs.declared.table_check.TheConstants.{MAX_VALUE_LEN}
 
 abbrev pub tested_entry : TestedEntry → Entry
 tested_entry t = record { key = t.key; value = t.value.now }
@@ -19,7 +20,7 @@ tested_entries ts = map tested_entry ts
 
 -- the value is within its limit
 abbrev pub IsLimited : Entry → Type 0
-IsLimited e = length e.value ≤ 16777215
+IsLimited e = length e.value ≤ MAX_VALUE_LEN
 
 -- whether a key is after the one before it, if there is one, by user key and falling sequence
 abbrev pub is_behind : Option (List ℕ) → List ℕ → Bool

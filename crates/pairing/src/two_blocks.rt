@@ -22,7 +22,7 @@ use std::thread::Threads;
 use table::MAX_TABLE_LEN;
 
 /// The restart interval of the block that is written.
-const INTERVAL: u64 = 16;
+pub const INTERVAL: u64 = 16;
 
 /// The number of ranges of user keys, and of workers.
 const RANGES: u64 = 2;

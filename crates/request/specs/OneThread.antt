@@ -13,6 +13,7 @@ use Rattle.request.specs.Request.{RequestView, below_request, request_test}
 use Rattle.request.specs.Inputs.{inputs_reading, union_reading}
 use Rattle.request.specs.EditOf.{edit_of, new_files}
 use Rattle.request.specs.OutputTables.{Output, numbered_tables, outputs_from, outputs_test}
+use Rattle.ikey.specs.Comparator.{ShortKeys}
 
 -- the tables with their numbers, and the bytes of the edit
 pub record Answer : Type 0 where
@@ -20,9 +21,8 @@ pub record Answer : Type 0 where
   pub edit : List ℕ
 
 -- how the table of an output is written
-abbrev pub table_for : (List ℕ → List ℕ → Ordering) → (List ℕ → List ℕ → List ℕ) →
-    (List ℕ → List ℕ) → RequestView → List Entry → List ℕ
-table_for cmp separator_of successor_of r = table cmp separator_of successor_of r.options
+abbrev pub table_for : (List ℕ → List ℕ → Ordering) → ShortKeys → RequestView → List Entry → List ℕ
+table_for cmp short_keys r = table cmp short_keys r.options
 
 -- the answer with these outputs: their refusal, or their tables and the bytes of the edit that has
 -- them as new files
@@ -37,20 +37,18 @@ outputs_answer r outputs = do
 -- What one thread answers: the first refusal of the request, then of the inputs in order, then
 -- Duplicate, then Numbers and TooLarge of the outputs. Else the table of each output with its
 -- number, and the bytes of the edit. It knows neither ranges nor workers.
-abbrev pub one_thread : (List ℕ → List ℕ → Ordering) → (List ℕ → List ℕ → List ℕ) →
-    (List ℕ → List ℕ) → RequestView → Result Answer Fault
-one_thread cmp separator_of successor_of r = do
+abbrev pub one_thread : (List ℕ → List ℕ → Ordering) → ShortKeys → RequestView → Result Answer Fault
+one_thread cmp short_keys r = do
   _ ← request_test cmp r
   inputs ← inputs_reading cmp 0 r.picked.files r.tables
   union ← union_reading cmp inputs
   outputs_answer r
-      (outputs_from (table_for cmp separator_of successor_of r) r.first_number
+      (outputs_from (table_for cmp short_keys r) r.first_number
       (outputs cmp (below_request r) r.options union))
 
 -- What a compaction by `workers` workers answers: Workers unless they are from 1 to 64, else what
 -- one thread answers.
-abbrev pub compaction_result : (List ℕ → List ℕ → Ordering) → (List ℕ → List ℕ → List ℕ) →
-    (List ℕ → List ℕ) → ℕ → RequestView → Result Answer Fault
-compaction_result cmp separator_of successor_of workers r = do
+abbrev pub compaction_result : (List ℕ → List ℕ → Ordering) → ShortKeys → ℕ → RequestView → Result Answer Fault
+compaction_result cmp short_keys workers r = do
   _ ← test_result (nat_le 1 workers && nat_le workers 64) Workers
-  one_thread cmp separator_of successor_of r
+  one_thread cmp short_keys r

@@ -8,6 +8,8 @@ use Rattle.block.specs.EncodedEntry.{Entry}
 use Rattle.table.specs.declared.options.Options.{Options}
 use Rattle.table.specs.DataBlocks.{data_blocks}
 use Rattle.table.specs.ReadingSteps.{test_result}
+use Rattle.table.specs.declared.table_check.TheConstants.{MAX_TABLE_LEN}
+use Rattle.cut.specs.declared.output_plan.TheConstants.{MAX_BLOCKS}
 
 -- an output: the number of its file, its entries, and the bytes of its table
 pub record Output : Type 0 where
@@ -27,14 +29,14 @@ abbrev pub data_block_count : Options → List Output → ℕ
 data_block_count o outputs = sum_by (λ (w : Output). length (data_blocks o w.entries)) outputs
 
 -- The tests of outputs that are numbered from the first number on. Numbers if the number after the
--- last exceeds 2 ^ 64 - 1; else TooLarge if a table exceeds 2 ^ 30 bytes, or if the outputs have
--- more than 2 ^ 40 data blocks together.
+-- last exceeds 2 ^ 64 - 1; else TooLarge if a table exceeds MAX_TABLE_LEN bytes, or if the outputs have
+-- more than MAX_BLOCKS data blocks together.
 abbrev pub outputs_test : Options → ℕ → List Output → Result (Unit {0}) Fault
 outputs_test o first outputs = do
   _ ← test_result (nat_lt (first + length outputs) (2 ^ 64)) Numbers
   test_result
-      (list_all (λ (w : Output). nat_le (length w.bytes) (2 ^ 30)) outputs
-      && nat_le (data_block_count o outputs) (2 ^ 40))
+      (list_all (λ (w : Output). nat_le (length w.bytes) MAX_TABLE_LEN) outputs
+      && nat_le (data_block_count o outputs) MAX_BLOCKS)
       TooLarge
 
 -- the number of each output, and its table

@@ -8,10 +8,11 @@ use Rattle.pick.specs.declared.picked.InputFile.{InputFile}
 use Rattle.keep.specs.Marks.{LargestRise}
 use Rattle.keep.specs.Readable.{listed_of}
 use Rattle.request.specs.Request.{RequestView, request_test}
+use Rattle.ikey.specs.declared.key.TheConstants.{MAX_SEQUENCE}
 
 -- What a request has that passes its tests: an input, at most 256, and a table for each; a level
 -- from 0 to 5, and inputs of it or of the next; options in their limits. The grandparents' largest
--- keys and the listed snapshots rise strictly, and the last sequence is below 2 ^ 56 - 1.
+-- keys and the listed snapshots rise strictly, and the last sequence is below MAX_SEQUENCE.
 pub record IsPassed (cmp : List ℕ → List ℕ → Ordering) (r : RequestView) : Type 0 where
   pub some : r.picked.files ≢ []
   pub few : length r.picked.files ≤ 256
@@ -22,7 +23,7 @@ pub record IsPassed (cmp : List ℕ → List ℕ → Ordering) (r : RequestView)
   pub limits : AreInLimits r.options
   pub grandparents : LargestRise cmp r.picked.grandparents
   pub listed : IsStrictlyIncreasing (listed_of r.snapshots)
-  pub last_sequence : r.last_sequence < 2 ^ 56 - 1
+  pub last_sequence : r.last_sequence < MAX_SEQUENCE
 
 -- each request that passes its tests has all of this
 abbrev pub PassedLaw : (List ℕ → List ℕ → Ordering) → Type 0

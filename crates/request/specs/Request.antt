@@ -20,6 +20,11 @@ use Rattle.keep.specs.Marks.{CompactionContext}
 use Rattle.keep.specs.declared.snapshots.Snapshots.{Snapshots}
 use Rattle.keep.specs.declared.snapshots.Snapshots.TheVariants.{From, Listed}
 use Rattle.request.specs.declared.request.Request.{Request}
+use Rattle.ikey.specs.declared.key.TheConstants.{MAX_SEQUENCE}
+use Rattle.block.specs.declared.builder.TheConstants.{MAX_RESTART_INTERVAL}
+use Rattle.table.specs.declared.options.TheConstants.{MAX_BLOCK_SIZE}
+use Rattle.table.specs.declared.table_check.TheConstants.{MAX_TABLE_LEN}
+use Rattle.request.specs.declared.request_conditions.TheConstants.{MAX_SNAPSHOTS}
 
 -- a request as contracts see it: its bytes, not where they are in memory
 pub record RequestView : Type 0 where
@@ -62,9 +67,9 @@ has_levels p = nat_le p.level 5
 -- whether each option is in its limits
 abbrev pub are_in_limits : declared.Options → Bool
 are_in_limits o =
-    nat_le 1 o.block_size && nat_le o.block_size 4194304
-    && nat_le 1 o.restart_interval && nat_le o.restart_interval 1024
-    && nat_le 1 o.file_size && nat_le o.file_size (2 ^ 30)
+    nat_le 1 o.block_size && nat_le o.block_size MAX_BLOCK_SIZE
+    && nat_le 1 o.restart_interval && nat_le o.restart_interval MAX_RESTART_INTERVAL
+    && nat_le 1 o.file_size && nat_le o.file_size MAX_TABLE_LEN
 
 -- whether each element of a list is below the next one
 abbrev pub rises_by : {A : Type 0} → (A → A → Bool) → List A → Bool
@@ -89,15 +94,15 @@ abbrev pub named_by : Snapshots → List ℕ
 named_by (From oldest) = oldest ∷ []
 named_by (Listed list) = list.now
 
--- Whether the snapshots and the last sequence are below 2 ^ 56 - 1. Why: LevelDB begins the last
+-- Whether the snapshots and the last sequence are below MAX_SEQUENCE. Why: LevelDB begins the last
 -- sequence of a user key there, so such a snapshot would drop every entry.
 abbrev pub has_snapshots : RequestView → Bool
-has_snapshots r = list_all (λ n. nat_lt n (2 ^ 56 - 1)) (r.last_sequence ∷ named_by r.snapshots)
+has_snapshots r = list_all (λ n. nat_lt n MAX_SEQUENCE) (r.last_sequence ∷ named_by r.snapshots)
 
 -- whether listed snapshots are at most 4,096, rise strictly, and none is above the last sequence
 abbrev pub is_snapshot_list : Snapshots → ℕ → Bool
 is_snapshot_list (From oldest) last = true
-is_snapshot_list (Listed list) last = nat_le (length list.now) 4096 && rises_by nat_lt list.now
+is_snapshot_list (Listed list) last = nat_le (length list.now) MAX_SNAPSHOTS && rises_by nat_lt list.now
     && list_all (λ n. nat_le n last) list.now
 
 -- the tests of a request in their order; the first refusal counts

@@ -22,31 +22,32 @@ use Rattle.store.specs.Compaction.{VersionCompaction}
 use Rattle.store.specs.Joint.{JointLaw}
 use Rattle.store.specs.Lines.{compaction_lines}
 use Rattle.store.specs.declared.settings.Settings.{Settings}
+use Rattle.ikey.specs.Comparator.{ShortKeys}
 
 -- the answer of a compaction is that of one thread
-pub thread_of : (cmp : List ℕ → List ℕ → Ordering) (separator_of : List ℕ → List ℕ → List ℕ) (successor_of : List ℕ → List ℕ) (v : State) (loaded : List (ℕ × List ℕ)) (p : PickedInputs) (s : Settings) (answer : Answer)
-    → compaction_of cmp separator_of successor_of v loaded p s ≡ Ok answer → one_thread cmp separator_of successor_of (request_of v loaded p s) ≡ Ok answer
-thread_of cmp separator_of successor_of v loaded p s answer h =
-    let one = bind_ok (test_result (nat_le 1 s.ranges && nat_le s.ranges 4096) SplitCount) (λ _. numbered_request v loaded p s >>= λ r. compaction_result cmp separator_of successor_of s.workers r) answer h in
-    let two = bind_ok (numbered_request v loaded p s) (λ (r : RequestView). compaction_result cmp separator_of successor_of s.workers r) answer one.2 in
+pub thread_of : (cmp : List ℕ → List ℕ → Ordering) (short_keys : ShortKeys) (v : State) (loaded : List (ℕ × List ℕ)) (p : PickedInputs) (s : Settings) (answer : Answer)
+    → compaction_of cmp short_keys v loaded p s ≡ Ok answer → one_thread cmp short_keys (request_of v loaded p s) ≡ Ok answer
+thread_of cmp short_keys v loaded p s answer h =
+    let one = bind_ok (test_result (nat_le 1 s.ranges && nat_le s.ranges 4096) SplitCount) (λ _. numbered_request v loaded p s >>= λ r. compaction_result cmp short_keys s.workers r) answer h in
+    let two = bind_ok (numbered_request v loaded p s) (λ (r : RequestView). compaction_result cmp short_keys s.workers r) answer one.2 in
     let three = bind_ok (test_result (nat_lt (manifest_of v) (2 ^ 64 - 1)) Numbers) (λ _. Ok (request_of v loaded p s)) two.0 two.1 in
-    let four = bind_ok (test_result (nat_le 1 s.workers && nat_le s.workers 64) Workers) (λ _. one_thread cmp separator_of successor_of two.0) answer two.2 in
-    subst (λ (r : RequestView). one_thread cmp separator_of successor_of r ≡ Ok answer) (sym (ok_is (request_of v loaded p s) two.0 three.2)) four.2
+    let four = bind_ok (test_result (nat_le 1 s.workers && nat_le s.workers 64) Workers) (λ _. one_thread cmp short_keys two.0) answer two.2 in
+    subst (λ (r : RequestView). one_thread cmp short_keys r ≡ Ok answer) (sym (ok_is (request_of v loaded p s) two.0 three.2)) four.2
 
 -- what a compaction answers is installed
-pub is_compacted : (cmp : List ℕ → List ℕ → Ordering) (separator_of : List ℕ → List ℕ → List ℕ) (successor_of : List ℕ → List ℕ) → JointLaw cmp separator_of successor_of
+pub is_compacted : (cmp : List ℕ → List ℕ → Ordering) (short_keys : ShortKeys) → JointLaw cmp short_keys
     → (order : Order) (v : State) (loaded : List (ℕ × List ℕ)) (tables : List NumberedContents) (level : ℕ) (p : PickedInputs) (s : Settings) (answer : Answer) (lines : List ℕ)
     → IsLawfulTables cmp v loaded (Ok tables) → IsState v.pointers v.files → IsPicked cmp v level p → (request_of v loaded p s).log_number < 2 ^ 64 → (request_of v loaded p s).previous_log < 2 ^ 64
-    → compaction_of cmp separator_of successor_of v loaded p s ≡ Ok answer → lines ≡ compaction_lines answer.tables p.files (manifest_of v)
-    → VersionCompaction order cmp separator_of successor_of v loaded level s answer lines
-is_compacted cmp separator_of successor_of joint order v loaded tables level p s answer lines sound state picked log previous answered told = record {
+    → compaction_of cmp short_keys v loaded p s ≡ Ok answer → lines ≡ compaction_lines answer.tables p.files (manifest_of v)
+    → VersionCompaction order cmp short_keys v loaded level s answer lines
+is_compacted cmp short_keys joint order v loaded tables level p s answer lines sound state picked log previous answered told = record {
   tables = tables;
   lawful = sound;
   picked = p;
   is_picked = picked;
   answered = answered;
   edited = joint order v loaded tables level p s answer (sound_checked cmp v loaded tables sound) (sound_lawful cmp v loaded tables sound) state.levels.file_levels picked log previous
-      (thread_of cmp separator_of successor_of v loaded p s answer answered);
+      (thread_of cmp short_keys v loaded p s answer answered);
   told = told;
 }
 

@@ -6,7 +6,7 @@ use Rattle.std.specs.Cmp.{IsTotalOrder}
 use Rattle.std.specs.declared.cmp.Ordering.{Ordering}
 use Rattle.std.proofs.lemmas.List.Elements.{All-contains, Contains-append_cases, Contains-get_or}
 use Rattle.std.proofs.lemmas.List.Sorted.{Contains-permutation, IsPermutation-sym}
-use Rattle.ikey.specs.Comparator.{IsExact}
+use Rattle.ikey.specs.Comparator.{ShortKeys, IsExact}
 use Rattle.edit.specs.Version.{State}
 use Rattle.edit.specs.declared.meta.NewFile.{NewFile}
 use Rattle.folder.specs.Levels.{file_numbers}
@@ -54,10 +54,10 @@ some_input : (files : List InputFile) → files ≢ [] → (i : InputFile) × Co
 some_input [] h = absurd (h refl)
 some_input (i ∷ files) h = (i, first_in i files)
 
-module _ (cmp : List ℕ → List ℕ → Ordering) (total : IsTotalOrder cmp) (exact : IsExact cmp) (separator_of : List ℕ → List ℕ → List ℕ) (successor_of : List ℕ → List ℕ) (applies : EditApplies cmp) (passes : PassedLaw cmp)
+module _ (cmp : List ℕ → List ℕ → Ordering) (total : IsTotalOrder cmp) (exact : IsExact cmp) (short_keys : ShortKeys) (applies : EditApplies cmp) (passes : PassedLaw cmp)
     (order : Order) (v : State) (loaded : List (ℕ × List ℕ)) (tables : List NumberedContents) (level : ℕ) (p : PickedInputs) (s : Settings) (answer : Answer)
     (checked : tables_reading cmp loaded ≡ Ok tables) (lawful : IsLawful cmp v tables) (low : All (λ (f : NewFile). f.level ≤ 6) v.files) (picked : IsPicked cmp v level p)
-    (over : IsOver v tables (request_of v loaded p s)) (held : HoldOutputs cmp separator_of successor_of tables (request_of v loaded p s) answer) where
+    (over : IsOver v tables (request_of v loaded p s)) (held : HoldOutputs cmp short_keys tables (request_of v loaded p s) answer) where
   abbrev r : RequestView
   r = request_of v loaded p s
 
@@ -90,7 +90,7 @@ module _ (cmp : List ℕ → List ℕ → Ordering) (total : IsTotalOrder cmp) (
   edited_by = record {
     named = refl;
     edit = edit_of r (new_files r held.outputs);
-    read = is_edit cmp total exact separator_of successor_of v tables level r answer lawful low picked over held;
+    read = is_edit cmp total exact short_keys v tables level r answer lawful low picked over held;
     no_name = refl;
     log_number = refl;
     previous_log = refl;

@@ -22,8 +22,9 @@ use Rattle.install.specs.Install.{IsEditedBy, SurvivesCrash, next_version_tables
 use Rattle.request.specs.OneThread.{Answer}
 use Rattle.store.specs.FolderRequest.{manifest_of}
 use Rattle.store.specs.Compaction.{VersionCompaction, IsInstalled, IsFolderLeft, IsVersionLeft, next_of}
-use Rattle.folder.specs.Orders.{order_cmp, order_separator, order_successor}
+use Rattle.folder.specs.Orders.{order_cmp, order_short_keys}
 use Rattle.store.specs.declared.settings.Settings.{Settings}
+use Rattle.ikey.specs.Comparator.{ShortKeys}
 
 -- what survives of one answer does of another one that is a value where the first is
 survives_on : {T E U G : Type 0} (cmp : List ℕ → List ℕ → Ordering) (order : Order) (v next : State) (tables tables' : List (ℕ × List ℕ)) (before after : List Step) (old middle new : List ℕ → Option (List ℕ) → Type 0) (r : Result T E) (q : Result U G)
@@ -45,12 +46,12 @@ Promises name cmp v number answer before after old new r =
     (order : Order) (next : State) (tables : List (ℕ × List ℕ)) → IsEditedBy name cmp order v number answer.tables answer.edit next
     → SurvivesCrash cmp order v tables next (next_version_tables cmp next answer.tables tables) before after old new r
 
-pub installed_by : {T : Type 0} (name : List ℕ) (order : Order) (cmp : List ℕ → List ℕ → Ordering) (separator_of : List ℕ → List ℕ → List ℕ) (successor_of : List ℕ → List ℕ) (files : Files) (v : State) (loaded : List (ℕ × List ℕ)) (level : ℕ) (s : Settings) (answer : Answer) (lines : List ℕ)
+pub installed_by : {T : Type 0} (name : List ℕ) (order : Order) (cmp : List ℕ → List ℕ → Ordering) (short_keys : ShortKeys) (files : Files) (v : State) (loaded : List (ℕ × List ℕ)) (level : ℕ) (s : Settings) (answer : Answer) (lines : List ℕ)
     (before after : List Step) (old middle new : List ℕ → Option (List ℕ) → Type 0) (r : Result T Fault) (q : Result (Vec ℕ) Fault)
-    → order_name order ≡ name → ReadsAs cmp order v loaded files → VersionCompaction order cmp separator_of successor_of v loaded level s answer lines → ((P : Type 0) → OnOk r P → OnOk q P) → TellsSame old middle
+    → order_name order ≡ name → ReadsAs cmp order v loaded files → VersionCompaction order cmp short_keys v loaded level s answer lines → ((P : Type 0) → OnOk r P → OnOk q P) → TellsSame old middle
     → IfOk q (λ text. text.items ≡ lines) → IfErr q (λ e. UnlessMemory e (e ≡ fault Device)) → Promises name cmp v (manifest_of v) answer before after middle new r
-    → IsInstalled order cmp separator_of successor_of files level s before after old new q
-installed_by name order cmp separator_of successor_of files v loaded level s answer lines before after old middle new r q named reads done f same printed refused promises =
+    → IsInstalled order cmp short_keys files level s before after old new q
+installed_by name order cmp short_keys files v loaded level s answer lines before after old middle new r q named reads done f same printed refused promises =
     let edited = subst (λ (n : List ℕ). IsEditedBy n cmp order v (manifest_of v) answer.tables answer.edit done.edited.next) named done.edited.edited in
     record {
       compaction = record { version = v; loaded = loaded; reads = reads; answer = answer; lines = lines; compacted = done };
@@ -87,10 +88,10 @@ still : (old new : List ℕ → Option (List ℕ) → Type 0) → TellsSame old 
 still old new same files tells name held = (λ h. (tells name held).0 ((same name held).1 h), λ h. (same name held).0 ((tells name held).1 h))
 
 -- an installation, told from earlier calls on
-installed_since : (order : Order) (cmp : List ℕ → List ℕ → Ordering) (separator_of : List ℕ → List ℕ → List ℕ) (successor_of : List ℕ → List ℕ) (files : Files) (level : ℕ) (s : Settings)
+installed_since : (order : Order) (cmp : List ℕ → List ℕ → Ordering) (short_keys : ShortKeys) (files : Files) (level : ℕ) (s : Settings)
     (first before after : List Step) (zero old new : List ℕ → Option (List ℕ) → Type 0) (r : Result (Vec ℕ) Fault) → before ≡ first → ((files : Files) → Tells zero files → Tells old files)
-    → IsInstalled order cmp separator_of successor_of files level s before after old new r → IsInstalled order cmp separator_of successor_of files level s first after zero new r
-installed_since order cmp separator_of successor_of files level s first before after zero old new r is told i = record {
+    → IsInstalled order cmp short_keys files level s before after old new r → IsInstalled order cmp short_keys files level s first after zero new r
+installed_since order cmp short_keys files level s first before after zero old new r is told i = record {
   compaction = i.compaction;
   survives = subst (λ (b : List Step). SurvivesCrash cmp order i.compaction.version i.compaction.loaded (next_of i.compaction) (next_version_tables cmp (next_of i.compaction) i.compaction.answer.tables i.compaction.loaded) b after zero new r) is
       (survives_on cmp order i.compaction.version (next_of i.compaction) i.compaction.loaded (next_version_tables cmp (next_of i.compaction) i.compaction.answer.tables i.compaction.loaded) before after zero old new r r (λ P x. x) told i.survives);
@@ -132,23 +133,23 @@ synced_still files level s first before after zero old new r q calls change no_m
 -- what is left of a folder that was synced and opened
 pub synced_left : {T : Type 0} (order : Order) (files : Files) (level : ℕ) (s : Settings) (first synced before after : List Step) (zero middle old new : List ℕ → Option (List ℕ) → Type 0)
     (r : Result T FolderFault) (x : T) (q : Result (Vec ℕ) Fault) → r ≡ Ok x → synced ≡ first ++ step_of FolderSynced r ∷ [] → TellsAfter (step_of FolderSynced r) zero middle → before ≡ synced → TellsSame middle old
-    → IsVersionLeft order (order_cmp order) (order_separator order) (order_successor order) files level s before after old new q → IsFolderLeft files level s first after zero new q
+    → IsVersionLeft order (order_cmp order) (order_short_keys order) files level s before after old new q → IsFolderLeft files level s first after zero new q
 synced_left order files level s first synced before after zero middle old new r x q done calls change is same (inl u) =
     synced_still files level s first synced after zero middle new r q calls change (u.calls ∙ is) (told_since middle old new same u.same) u.refused
 synced_left order files level s first synced before after zero middle old new r x q done calls change is same (inr i) =
     let begun : before ≡ first ++ Done FolderSynced ∷ [] = is ∙ calls ∙ ap (λ (a : Result _ FolderFault). first ++ step_of FolderSynced a ∷ []) done in
     inr (
       order,
-      installed_since order (order_cmp order) (order_separator order) (order_successor order) files level s (first ++ Done FolderSynced ∷ []) before after zero old new q begun
+      installed_since order (order_cmp order) (order_short_keys order) files level s (first ++ Done FolderSynced ∷ []) before after zero old new q begun
           (λ fs tells. still middle old same fs (sync_told r zero middle change fs tells)) i,
     )
 
 -- what is left of a folder whose version was compacted
-pub version_left : {T : Type 0} (name : List ℕ) (order : Order) (cmp : List ℕ → List ℕ → Ordering) (separator_of : List ℕ → List ℕ → List ℕ) (successor_of : List ℕ → List ℕ) (files : Files) (v : State) (loaded : List (ℕ × List ℕ)) (level : ℕ) (s : Settings) (answer : Answer) (lines : List ℕ)
+pub version_left : {T : Type 0} (name : List ℕ) (order : Order) (cmp : List ℕ → List ℕ → Ordering) (short_keys : ShortKeys) (files : Files) (v : State) (loaded : List (ℕ × List ℕ)) (level : ℕ) (s : Settings) (answer : Answer) (lines : List ℕ)
     (first before after : List Step) (zero old new : List ℕ → Option (List ℕ) → Type 0) (r : Result T Fault) (q : Result (Vec ℕ) Fault)
-    → order_name order ≡ name → ReadsAs cmp order v loaded files → VersionCompaction order cmp separator_of successor_of v loaded level s answer lines → ((P : Type 0) → OnOk r P → OnOk q P) → before ≡ first → TellsSame zero old
+    → order_name order ≡ name → ReadsAs cmp order v loaded files → VersionCompaction order cmp short_keys v loaded level s answer lines → ((P : Type 0) → OnOk r P → OnOk q P) → before ≡ first → TellsSame zero old
     → IfOk q (λ text. text.items ≡ lines) → IfErr q (λ e. UnlessMemory e (e ≡ fault Device)) → Promises name cmp v (manifest_of v) answer before after old new r
-    → IsVersionLeft order cmp separator_of successor_of files level s first after zero new q
-version_left name order cmp separator_of successor_of files v loaded level s answer lines first before after zero old new r q named reads done f is same printed refused promises =
-    inr (installed_since order cmp separator_of successor_of files level s first before after zero old new q is (still zero old same)
-    (installed_by name order cmp separator_of successor_of files v loaded level s answer lines before after old old new r q named reads done f (λ n held. (λ h. h, λ h. h)) printed refused promises))
+    → IsVersionLeft order cmp short_keys files level s first after zero new q
+version_left name order cmp short_keys files v loaded level s answer lines first before after zero old new r q named reads done f is same printed refused promises =
+    inr (installed_since order cmp short_keys files level s first before after zero old new q is (still zero old same)
+    (installed_by name order cmp short_keys files v loaded level s answer lines before after old old new r q named reads done f (λ n held. (λ h. h, λ h. h)) printed refused promises))

@@ -2,7 +2,7 @@
 use Rattle.std.proofs.Common.{ℕ, List, ◌∙◌}
 use Rattle.std.specs.Cmp.{IsTotalOrder}
 use Rattle.std.specs.declared.cmp.Ordering.{Ordering}
-use Rattle.ikey.specs.Comparator.{IsExact}
+use Rattle.ikey.specs.Comparator.{ShortKeys, IsExact}
 use Rattle.edit.specs.Version.{State}
 use Rattle.reads.specs.Lawful.{IsLawful}
 use Rattle.reads.specs.Tables.{NumberedContents}
@@ -22,20 +22,20 @@ use Rattle.store.proofs.Over.{is_over}
 use Rattle.store.proofs.SameTables.{same_get, same_lawful}
 use Rattle.store.proofs.TablesAfter.{read_after, reads_after, same_after}
 
-pub joint : (cmp : List ℕ → List ℕ → Ordering) → IsTotalOrder cmp → IsExact cmp → (separator_of : List ℕ → List ℕ → List ℕ) (successor_of : List ℕ → List ℕ)
-    → EditApplies cmp → PassedLaw cmp → OutputsHold cmp separator_of successor_of → VersionAfterLaw cmp separator_of successor_of → GetsAfter cmp → JointLaw cmp separator_of successor_of
-joint cmp total exact separator_of successor_of applies passes outputs stands gets order v loaded tables level p s answer checked lawful low picked log previous answered =
+pub joint : (cmp : List ℕ → List ℕ → Ordering) → IsTotalOrder cmp → IsExact cmp → (short_keys : ShortKeys)
+    → EditApplies cmp → PassedLaw cmp → OutputsHold cmp short_keys → VersionAfterLaw cmp short_keys → GetsAfter cmp → JointLaw cmp short_keys
+joint cmp total exact short_keys applies passes outputs stands gets order v loaded tables level p s answer checked lawful low picked log previous answered =
     let r : RequestView = request_of v loaded p s in
     let over : IsOver v tables r = is_over cmp total v loaded tables level p checked lawful picked s log previous in
-    let held : HoldOutputs cmp separator_of successor_of tables r answer = outputs v tables level r answer lawful picked over answered in
+    let held : HoldOutputs cmp short_keys tables r answer = outputs v tables level r answer lawful picked over answered in
     let next : State = version_after v r held.outputs in
     let after : IsLawful cmp next (tables_after cmp p answer tables) = stands.lawful v tables level r answer lawful low picked over held in
-    let low_after = low_next cmp total exact separator_of successor_of applies passes order v loaded tables level p s answer checked lawful low picked over held in
+    let low_after = low_next cmp total exact short_keys applies passes order v loaded tables level p s answer checked lawful low picked over held in
     let same = same_after cmp loaded tables p answer next checked low_after after in
     let read : List NumberedContents = read_after cmp loaded tables p answer next checked low_after after in
     record {
       next = next;
-      edited = edited_by cmp total exact separator_of successor_of applies passes order v loaded tables level p s answer checked lawful low picked over held;
+      edited = edited_by cmp total exact short_keys applies passes order v loaded tables level p s answer checked lawful low picked over held;
       tables_next = read;
       lawful = sound cmp next (install.next_version_tables cmp next answer.tables loaded) read (reads_after cmp loaded tables p answer next checked low_after after)
           (same_lawful next read (tables_after cmp p answer tables) same cmp after);

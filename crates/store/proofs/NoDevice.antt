@@ -28,6 +28,7 @@ use Rattle.request.specs.Request.{RequestView, below_request, has_levels, has_op
 use Rattle.store.specs.Answers.{IsLoadedCompacted, lines_of}
 use Rattle.store.specs.FolderRequest.{numbered_request, compaction_of, manifest_of, request_of}
 use Rattle.store.specs.declared.settings.Settings.{Settings}
+use Rattle.ikey.specs.Comparator.{ShortKeys}
 
 abbrev refusal : {Y : Type 0} → Fault → Result Y Fault
 refusal e = Err e
@@ -91,7 +92,7 @@ test_other cmp r =
     bound (test_result (has_snapshots r) Snapshot) _ (passes (has_snapshots r) Snapshot (λ same. cc same)) (λ _.
     passes (is_snapshot_list r.snapshots r.last_sequence) SnapshotList (λ same. cc same)))))
 
-module _ (cmp : List ℕ → List ℕ → Ordering) (separator_of : List ℕ → List ℕ → List ℕ) (successor_of : List ℕ → List ℕ) where
+module _ (cmp : List ℕ → List ℕ → Ordering) (short_keys : ShortKeys) where
   answer_other : (r : RequestView) (outs : List Output) → AllOther (outputs_answer r outs)
   answer_other r outs =
       bound (outputs_test r.options r.first_number outs) _
@@ -101,22 +102,22 @@ module _ (cmp : List ℕ → List ℕ → Ordering) (separator_of : List ℕ →
   union_other : (inputs : List (List Entry)) → AllOther (union_reading cmp inputs)
   union_other inputs = tested (are_distinct (merged cmp inputs)) _ _ (value (merged cmp inputs)) (named _ Duplicate (λ same. cc same))
 
-  thread_other : (r : RequestView) → AllOther (one_thread cmp separator_of successor_of r)
+  thread_other : (r : RequestView) → AllOther (one_thread cmp short_keys r)
   thread_other r =
       bound (request_test cmp r) _ (test_other cmp r) (λ _.
       bound (inputs_reading cmp 0 r.picked.files r.tables) _ (inputs_other cmp 0 r.picked.files r.tables) (λ inputs.
       bound (union_reading cmp inputs) _ (union_other inputs) (λ union.
-      answer_other r (outputs_from (table_for cmp separator_of successor_of r) r.first_number (outputs cmp (below_request r) r.options union)))))
+      answer_other r (outputs_from (table_for cmp short_keys r) r.first_number (outputs cmp (below_request r) r.options union)))))
 
-  pub compaction_other : (v : State) (loaded : List (ℕ × List ℕ)) (p : PickedInputs) (s : Settings) → AllOther (compaction_of cmp separator_of successor_of v loaded p s)
+  pub compaction_other : (v : State) (loaded : List (ℕ × List ℕ)) (p : PickedInputs) (s : Settings) → AllOther (compaction_of cmp short_keys v loaded p s)
   compaction_other v loaded p s =
       bound (test_result (nat_le 1 s.ranges && nat_le s.ranges 4096) SplitCount) _ (passes (nat_le 1 s.ranges && nat_le s.ranges 4096) SplitCount (λ same. cc same)) (λ _.
       bound (numbered_request v loaded p s) _ (bound (test_result (nat_lt (manifest_of v) (2 ^ 64 - 1)) Numbers) _ (passes (nat_lt (manifest_of v) (2 ^ 64 - 1)) Numbers (λ same. cc same)) (λ _. value (request_of v loaded p s))) (λ r.
       bound (test_result (nat_le 1 s.workers && nat_le s.workers 64) Workers) _ (passes (nat_le 1 s.workers && nat_le s.workers 64) Workers (λ same. cc same)) (λ _.
       thread_other r)))
 
-  lines_other : (v : State) (loaded : List (ℕ × List ℕ)) (p : PickedInputs) (s : Settings) → AllOther (lines_of v p (compaction_of cmp separator_of successor_of v loaded p s))
-  lines_other v loaded p s = bound (compaction_of cmp separator_of successor_of v loaded p s) _ (compaction_other v loaded p s) (λ a. value _)
+  lines_other : (v : State) (loaded : List (ℕ × List ℕ)) (p : PickedInputs) (s : Settings) → AllOther (lines_of v p (compaction_of cmp short_keys v loaded p s))
+  lines_other v loaded p s = bound (compaction_of cmp short_keys v loaded p s) _ (compaction_other v loaded p s) (λ a. value _)
 
 inputs_answer_other : (cmp : List ℕ → List ℕ → Ordering) (v : State) (level : ℕ) (e : Fault) → IsInputsAnswer cmp v level (Err e) → e.name ≢ Device
 inputs_answer_other cmp v level e h = by (nat_lt 5 level) (nat_lt 0 (length (level_files cmp v level))) refl refl h
@@ -127,8 +128,8 @@ inputs_answer_other cmp v level e h = by (nat_lt 5 level) (nat_lt 0 (length (lev
     by false true i j is = absurd is
     by false false i j is = λ same. let both = sym (ap (λ (f : Fault). f.name) (same_refusal {Y = PickedInputs} e (fault NoInput) is)) ∙ same in cc both
 
-pub loaded_other : (cmp : List ℕ → List ℕ → Ordering) (separator_of : List ℕ → List ℕ → List ℕ) (successor_of : List ℕ → List ℕ) (v : State) (loaded : List (ℕ × List ℕ)) (level : ℕ) (s : Settings) (e : Fault)
-    → IsLoadedCompacted cmp separator_of successor_of v loaded level s (Err e) → e.name ≢ Device
-loaded_other cmp separator_of successor_of v loaded level s e (Err d, h) = subst (λ (f : Fault). f.name ≢ Device) (sym (same_refusal {Y = List ℕ} e d h.1)) (sound_other cmp v loaded d h.0)
-loaded_other cmp separator_of successor_of v loaded level s e (Ok tables, (h, (Err d, k))) = subst (λ (f : Fault). f.name ≢ Device) (sym (same_refusal {Y = List ℕ} e d k.1)) (inputs_answer_other cmp v level d k.0)
-loaded_other cmp separator_of successor_of v loaded level s e (Ok tables, (h, (Ok p, k))) = lines_other cmp separator_of successor_of v loaded p s e (sym k.1)
+pub loaded_other : (cmp : List ℕ → List ℕ → Ordering) (short_keys : ShortKeys) (v : State) (loaded : List (ℕ × List ℕ)) (level : ℕ) (s : Settings) (e : Fault)
+    → IsLoadedCompacted cmp short_keys v loaded level s (Err e) → e.name ≢ Device
+loaded_other cmp short_keys v loaded level s e (Err d, h) = subst (λ (f : Fault). f.name ≢ Device) (sym (same_refusal {Y = List ℕ} e d h.1)) (sound_other cmp v loaded d h.0)
+loaded_other cmp short_keys v loaded level s e (Ok tables, (h, (Err d, k))) = subst (λ (f : Fault). f.name ≢ Device) (sym (same_refusal {Y = List ℕ} e d k.1)) (inputs_answer_other cmp v level d k.0)
+loaded_other cmp short_keys v loaded level s e (Ok tables, (h, (Ok p, k))) = lines_other cmp short_keys v loaded p s e (sym k.1)

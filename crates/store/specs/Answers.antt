@@ -12,9 +12,10 @@ use Rattle.folder.specs.ReadsAs.{IsHeldIn}
 use Rattle.pick.specs.Picked.{IsInputsAnswer, PickedInputs}
 use Rattle.checks.specs.LawfulTables.{IsLawfulTables}
 use Rattle.request.specs.OneThread.{Answer}
+use Rattle.ikey.specs.Comparator.{ShortKeys}
 use Rattle.store.specs.FolderRequest.{compaction_of, manifest_of}
 use Rattle.store.specs.Lines.{compaction_lines}
-use Rattle.folder.specs.Orders.{order_cmp, order_separator, order_successor}
+use Rattle.folder.specs.Orders.{order_cmp, order_short_keys}
 use Rattle.store.specs.declared.settings.Settings.{Settings}
 
 -- the lines of a compaction's answer, or its refusal
@@ -24,25 +25,23 @@ lines_of v p answer = answer >>=
 
 -- The answer on a version with the bytes of its tables. The first refusal counts: of a table; of a
 -- version that isn't lawful; of a level without inputs; of their compaction. Else the lines.
-abbrev pub IsLoadedCompacted : (List ℕ → List ℕ → Ordering) → (List ℕ → List ℕ → List ℕ) →
-    (List ℕ → List ℕ)
-    → State → List (ℕ × List ℕ) → ℕ → Settings → Result (List ℕ) Fault → Type 0
-IsLoadedCompacted cmp separator_of successor_of v loaded level s =
+abbrev pub IsLoadedCompacted : (List ℕ → List ℕ → Ordering) → ShortKeys →
+    State → List (ℕ × List ℕ) → ℕ → Settings → Result (List ℕ) Fault → Type 0
+IsLoadedCompacted cmp short_keys v loaded level s =
     IsThen (IsLawfulTables cmp v loaded) (λ tables.
     IsThen (IsInputsAnswer cmp v level) (λ p answer.
-    answer ≡ lines_of v p (compaction_of cmp separator_of successor_of v loaded p s)))
+    answer ≡ lines_of v p (compaction_of cmp short_keys v loaded p s)))
 
 -- the same with tables in a folder: first all of them are read, by level and in version order
-abbrev pub IsVersionCompacted : (List ℕ → List ℕ → Ordering) → (List ℕ → List ℕ → List ℕ) →
-    (List ℕ → List ℕ)
-    → Files → State → ℕ → Settings → Result (List ℕ) Fault → Type 0
-IsVersionCompacted cmp separator_of successor_of files v level s =
+abbrev pub IsVersionCompacted : (List ℕ → List ℕ → Ordering) → ShortKeys →
+    Files → State → ℕ → Settings → Result (List ℕ) Fault → Type 0
+IsVersionCompacted cmp short_keys files v level s =
     IsThen (IsLoaded (IsHeldIn files) (file_numbers cmp v))
-    (λ loaded. IsLoadedCompacted cmp separator_of successor_of v loaded level s)
+    (λ loaded. IsLoadedCompacted cmp short_keys v loaded level s)
 
 -- the same of the version that the folder opens as, by the order of its user keys
 abbrev pub IsFolderCompacted : Files → ℕ → Settings → Result (List ℕ) Fault → Type 0
 IsFolderCompacted files level s =
     IsThen (IsOpened (IsHeldIn files)) (λ opened.
-    IsVersionCompacted (order_cmp opened.0) (order_separator opened.0) (order_successor opened.0)
+    IsVersionCompacted (order_cmp opened.0) (order_short_keys opened.0)
     files opened.1 level s)

@@ -22,8 +22,9 @@ use Rattle.request.specs.OneThread.{Answer}
 use Rattle.install.specs.Install.{IsEditedBy, AlwaysStandsAs, SurvivesCrash, next_version_tables}
 use Rattle.store.specs.FolderRequest.{compaction_of, last_of, manifest_of}
 use Rattle.store.specs.Lines.{compaction_lines}
-use Rattle.folder.specs.Orders.{order_cmp, order_separator, order_successor}
+use Rattle.folder.specs.Orders.{order_cmp, order_short_keys}
 use Rattle.store.specs.declared.settings.Settings.{Settings}
+use Rattle.ikey.specs.Comparator.{ShortKeys}
 
 -- The edited version of a compaction's answer: the answer's edit makes it of the version, by a
 -- manifest whose number is next file. With the tables that an installation leaves it is lawful, and
@@ -43,34 +44,32 @@ pub record EditedVersion (order : Order) (cmp : List ℕ → List ℕ →
 -- A compaction of a level of a version with the bytes of its tables. The version is lawful, the
 -- inputs are picked, and these are the answer, what it makes, and its lines.
 pub record VersionCompaction (order : Order) (cmp : List ℕ → List ℕ →
-    Ordering) (separator_of : List ℕ → List ℕ → List ℕ) (successor_of : List ℕ → List ℕ)
+    Ordering) (short_keys : ShortKeys)
     (v : State) (loaded : List (ℕ × List ℕ)) (level : ℕ) (s : Settings) (answer : Answer)
     (lines : List ℕ) : Type 0 where
   pub tables : List NumberedContents
   pub lawful : IsLawfulTables cmp v loaded (Ok tables)
   pub picked : PickedInputs
   pub is_picked : IsPicked cmp v level picked
-  pub answered : compaction_of cmp separator_of successor_of v loaded picked s ≡ Ok answer
+  pub answered : compaction_of cmp short_keys v loaded picked s ≡ Ok answer
   pub edited : EditedVersion order cmp v loaded tables s answer
   pub told : lines ≡ compaction_lines answer.tables picked.files (manifest_of v)
 
 -- a compaction of a level of the version that files read as
-pub record Compaction (order : Order) (cmp : List ℕ → List ℕ → Ordering) (separator_of : List ℕ →
-    List ℕ → List ℕ) (successor_of : List ℕ → List ℕ)
+pub record Compaction (order : Order) (cmp : List ℕ → List ℕ → Ordering) (short_keys : ShortKeys)
     (files : Files) (level : ℕ) (s : Settings) : Type 0 where
   pub version : State
   pub loaded : List (ℕ × List ℕ)
   pub reads : ReadsAs cmp order version loaded files
   pub answer : Answer
   pub lines : List ℕ
-  pub compacted : VersionCompaction order cmp separator_of successor_of version loaded level s
+  pub compacted : VersionCompaction order cmp short_keys version loaded level s
       answer lines
 
 -- the edited version of a compaction
-abbrev pub next_of : {order : Order} {cmp : List ℕ → List ℕ → Ordering} {separator_of : List ℕ →
-    List ℕ → List ℕ} {successor_of : List ℕ → List ℕ}
+abbrev pub next_of : {order : Order} {cmp : List ℕ → List ℕ → Ordering} {short_keys : ShortKeys}
     {files : Files} {level : ℕ} {s : Settings} →
-    Compaction order cmp separator_of successor_of files level s → State
+    Compaction order cmp short_keys files level s → State
 next_of c = c.compacted.edited.next
 
 -- No call that writes was made, and the folder holds what it held.
@@ -93,10 +92,10 @@ pub record IsSynced {T : Type 0} (before after : List Step) (old new : List ℕ 
 -- or the edited one. At Ok it is the edited one, and the answer is its lines. The only faults are
 -- Device and Memory.
 pub record IsInstalled (order : Order) (cmp : List ℕ → List ℕ → Ordering)
-    (separator_of : List ℕ → List ℕ → List ℕ) (successor_of : List ℕ → List ℕ)
+    (short_keys : ShortKeys)
     (files : Files) (level : ℕ) (s : Settings) (before after : List Step)
     (old new : List ℕ → Option (List ℕ) → Type 0) (result : Result (Vec ℕ) Fault) : Type 0 where
-  pub compaction : Compaction order cmp separator_of successor_of files level s
+  pub compaction : Compaction order cmp short_keys files level s
   pub survives : SurvivesCrash cmp order compaction.version compaction.loaded (next_of compaction)
       (next_version_tables cmp (next_of compaction) compaction.answer.tables compaction.loaded)
       before after old new result
@@ -105,13 +104,12 @@ pub record IsInstalled (order : Order) (cmp : List ℕ → List ℕ → Ordering
 
 -- what is left of a folder whose version has this order: it is unchanged, or a compaction was
 -- installed
-abbrev pub IsVersionLeft : Order → (List ℕ → List ℕ → Ordering) → (List ℕ → List ℕ → List ℕ) →
-    (List ℕ → List ℕ) → Files → ℕ → Settings
+abbrev pub IsVersionLeft : Order → (List ℕ → List ℕ → Ordering) → ShortKeys → Files → ℕ → Settings
     → List Step → List Step → (List ℕ → Option (List ℕ) → Type 0) →
     (List ℕ → Option (List ℕ) → Type 0) → Result (Vec ℕ) Fault → Type 0
-IsVersionLeft order cmp separator_of successor_of files level s before after old new result =
+IsVersionLeft order cmp short_keys files level s before after old new result =
     IsUnchanged before after old new result
-    ⊎ IsInstalled order cmp separator_of successor_of files level s before after old new result
+    ⊎ IsInstalled order cmp short_keys files level s before after old new result
 
 -- What is left of a folder that held these files: it holds what it held, or after a sync of the
 -- folder a compaction was installed.
@@ -121,7 +119,7 @@ abbrev pub IsFolderLeft : Files → ℕ → Settings
 IsFolderLeft files level s before after old new result =
     IsSynced before after old new result
     ⊎ ((order : Order)
-    × IsInstalled order (order_cmp order) (order_separator order) (order_successor order) files
+    × IsInstalled order (order_cmp order) (order_short_keys order) files
     level s
     (before ++ Done FolderSynced ∷ []) after old new result)
 

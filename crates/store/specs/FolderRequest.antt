@@ -12,7 +12,9 @@ use Rattle.pick.specs.declared.picked.InputFile.{InputFile}
 use Rattle.install.specs.Install.{table_bytes_of}
 use Rattle.request.specs.OneThread.{Answer, compaction_result}
 use Rattle.request.specs.Request.{RequestView}
+use Rattle.ikey.specs.Comparator.{ShortKeys}
 use Rattle.store.specs.declared.settings.Settings.{Settings}
+use Rattle.split.specs.declared.split.TheConstants.{MAX_RANGES}
 
 -- The number of the new manifest: the version's next file. Each version that a folder opens as has
 -- one.
@@ -45,10 +47,9 @@ numbered_request v loaded p s = test_result (nat_lt (manifest_of v) (2 ^ 64 - 1)
 
 -- What a compaction of these inputs answers: SplitCount if the ranges are outside 1 to 4,096, then
 -- Numbers if no number is left after the manifest's, then what the request for them answers.
-abbrev pub compaction_of : (List ℕ → List ℕ → Ordering) → (List ℕ → List ℕ → List ℕ) →
-    (List ℕ → List ℕ)
-    → State → List (ℕ × List ℕ) → PickedInputs → Settings → Result Answer Fault
-compaction_of cmp separator_of successor_of v loaded p s = do
-  _ ← test_result (nat_le 1 s.ranges && nat_le s.ranges 4096) SplitCount
+abbrev pub compaction_of : (List ℕ → List ℕ → Ordering) → ShortKeys →
+    State → List (ℕ × List ℕ) → PickedInputs → Settings → Result Answer Fault
+compaction_of cmp short_keys v loaded p s = do
+  _ ← test_result (nat_le 1 s.ranges && nat_le s.ranges MAX_RANGES) SplitCount
   r ← numbered_request v loaded p s
-  compaction_result cmp separator_of successor_of s.workers r
+  compaction_result cmp short_keys s.workers r

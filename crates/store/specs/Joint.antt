@@ -16,6 +16,7 @@ use Rattle.store.specs.FolderRequest.{request_of}
 use Rattle.store.specs.Compaction.{EditedVersion}
 use Rattle.store.specs.InputTables.{AreLoaded, HaveTables}
 use Rattle.store.specs.declared.settings.Settings.{Settings}
+use Rattle.ikey.specs.Comparator.{ShortKeys}
 
 -- If inputs are picked from a lawful version, and its log numbers are below 2^64, the request for
 -- them is one over the version: the bytes loaded of each input are those of its table, and the
@@ -42,14 +43,13 @@ InputsReadLaw cmp =
 -- edited version, by a manifest whose number is the version's next file. The tables that its
 -- installation leaves are read, the edited version is lawful with them, and each get at a readable
 -- sequence answers as before.
-abbrev pub JointLaw : (List ℕ → List ℕ → Ordering) → (List ℕ → List ℕ → List ℕ) →
-    (List ℕ → List ℕ) → Type 0
-JointLaw cmp separator_of successor_of =
+abbrev pub JointLaw : (List ℕ → List ℕ → Ordering) → ShortKeys → Type 0
+JointLaw cmp short_keys =
     (order : Order) (v : State) (loaded : List (ℕ × List ℕ)) (tables : List NumberedContents)
     (level : ℕ) (p : PickedInputs) (s : Settings) (answer : Answer) →
     tables_reading cmp loaded ≡ Ok tables → IsLawful cmp v tables →
     All (λ (f : NewFile). f.level ≤ 6) v.files → IsPicked cmp v level p →
     (request_of v loaded p s).log_number < 2 ^ 64 →
     (request_of v loaded p s).previous_log < 2 ^ 64 →
-    one_thread cmp separator_of successor_of (request_of v loaded p s) ≡ Ok answer →
+    one_thread cmp short_keys (request_of v loaded p s) ≡ Ok answer →
     EditedVersion order cmp v loaded tables s answer

@@ -4,7 +4,7 @@ ghost use Rattle.std.specs.Prelude.{◌≡◌, ◌<◌, ◌^◌, length, Ok};
 ghost use Rattle.folder.specs.Calls.{Files, Tells};
 ghost use Rattle.folder.specs.Manifest.{order_name};
 ghost use Rattle.folder.specs.OpenAnswer.{FolderAnswers, IsOpened};
-ghost use Rattle.folder.specs.Orders.{order_cmp, order_separator, order_successor};
+ghost use Rattle.folder.specs.Orders.{order_cmp, order_short_keys};
 ghost use Rattle.folder.specs.ReadsAs.{IsHeldIn};
 ghost use Rattle.folder.specs.Reports.{ReportsDevice};
 ghost use Rattle.folder.specs.declared.order.Order.{Order};
@@ -89,12 +89,12 @@ pub fn compact_opened<F: Folder, W: Watch + Sync, R: Threads + Sync>(
 ) -> Result<Vec<u8>, Fault>
     ensures answer { (files : Files) → Tells (F.tells folder.old) files →
         FolderAnswers (λ v. v.items) (F.failed folder.old) (F.failed folder.new) result
-        (IsVersionCompacted (order_cmp order) (order_separator order) (order_successor order)
+        (IsVersionCompacted (order_cmp order) (order_short_keys order)
         files version.now level settings.now) }
     // If the folder's files open as this version in this order.
     ensures left { (files : Files) → Tells (F.tells folder.old) files →
         IsOpened (IsHeldIn files) (Ok (order, version.now)) →
-        IsVersionLeft order (order_cmp order) (order_separator order) (order_successor order)
+        IsVersionLeft order (order_cmp order) (order_short_keys order)
         files level settings.now
         (F.calls folder.old) (F.calls folder.new) (F.tells folder.old) (F.tells folder.new) result }
     ensures device { ReportsDevice F.Folder folder.old folder.new result }
@@ -123,12 +123,12 @@ fn compact_version<C: SharedComparator + 'static, F: Folder, W: Watch + Sync, R:
     requires { length C.name_bytes < 2 ^ 32 }
     ensures answer { (files : Files) → Tells (F.tells folder.old) files →
         FolderAnswers (λ v. v.items) (F.failed folder.old) (F.failed folder.new) result
-        (IsVersionCompacted C.cmp C.separator_of C.successor_of
+        (IsVersionCompacted C.cmp C.short_keys
         files version.now level settings.now) }
     ensures left { (files : Files) (order : Order) → Tells (F.tells folder.old) files →
         order_name order ≡ C.name_bytes →
         IsOpened (IsHeldIn files) (Ok (order, version.now)) →
-        IsVersionLeft order C.cmp C.separator_of C.successor_of files level settings.now
+        IsVersionLeft order C.cmp C.short_keys files level settings.now
         (F.calls folder.old) (F.calls folder.new) (F.tells folder.old) (F.tells folder.new) result }
     ensures device { ReportsDevice F.Folder folder.old folder.new result }
 {

@@ -23,7 +23,7 @@ pub fn inputs_are_tables<C: Comparator>()
 /// lawful with the tables that the installation leaves, and answers each readable get as before. A
 /// call does nothing.
 pub fn answer_is_installed<C: Comparator>()
-    ensures { JointLaw C.cmp C.separator_of C.successor_of }
+    ensures { JointLaw C.cmp C.short_keys }
 {
     edit_applies::<C>();
     passed_law::<C>();

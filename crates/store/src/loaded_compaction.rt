@@ -55,10 +55,10 @@ pub(crate) fn compact_loaded<C: SharedComparator + 'static, W: Watch + Sync, R: 
     watch: &W,
 ) -> Result<Ready, Fault>
     ensures answer { HoldsOrMemory (λ c. c.lines.items) result
-        (IsLoadedCompacted C.cmp C.separator_of C.successor_of version.now (tables_in loaded.now)
+        (IsLoadedCompacted C.cmp C.short_keys version.now (tables_in loaded.now)
         level settings.now) }
     ensures compacted { (order : Order) → IfOk result (λ c.
-        VersionCompaction order C.cmp C.separator_of C.successor_of version.now
+        VersionCompaction order C.cmp C.short_keys version.now
         (tables_in loaded.now) level settings.now (answer_in c.outcome)
         c.lines.items) }
 {
@@ -87,7 +87,7 @@ fn compact_picked<'t, C: SharedComparator + 'static, W: Watch + Sync, R: Threads
     ensures answer { (loaded : List (ℕ × List ℕ)) →
         AreLoaded loaded tables.entry.items picked.now.files.items →
         EqualOrMemory answer_in result
-        (compaction_of C.cmp C.separator_of C.successor_of version.now loaded
+        (compaction_of C.cmp C.short_keys version.now loaded
         (picked_in picked.now) settings.now) }
     ensures logs { IfOk result (λ _. (unwrap_or version.now.log_number 0 < 2 ^ 64)
         × (unwrap_or version.now.previous_log 0 < 2 ^ 64)) }

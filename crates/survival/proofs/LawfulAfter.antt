@@ -11,7 +11,7 @@ use Rattle.std.proofs.lemmas.Bool.{eq-eqb}
 use Rattle.std.proofs.lemmas.List.Elements.{All-contains, All-from_recursion, Contains-get_or, Contains-append_left, Contains-append_right, Contains-append_cases}
 use Rattle.std.proofs.lemmas.List.Sorted.{Contains-permutation, IsPermutation-sym}
 use Rattle.std.proofs.lemmas.Map.Keys.{IsDistinct-IsPermutation, apart_from_distinct}
-use Rattle.ikey.specs.Comparator.{IsExact}
+use Rattle.ikey.specs.Comparator.{ShortKeys, IsExact}
 use Rattle.ikey.specs.Key.{IsInternalKey, user_of, sequence_of}
 use Rattle.ikey.specs.Order.{internal_cmp}
 use Rattle.block.specs.EncodedEntry.{Entry}
@@ -105,10 +105,10 @@ one_way : (x y : Entry) → AreDistinct x y ⊎ AreDistinct y x → AreDistinct 
 one_way x y (inl h) = h
 one_way x y (inr h) = turned x y h
 
-module _ (cmp : List ℕ → List ℕ → Ordering) (total : IsTotalOrder cmp) (exact : IsExact cmp) (separator_of : List ℕ → List ℕ → List ℕ) (successor_of : List ℕ → List ℕ)
+module _ (cmp : List ℕ → List ℕ → Ordering) (total : IsTotalOrder cmp) (exact : IsExact cmp) (short_keys : ShortKeys)
     (v : State) (tables : List NumberedContents) (level : ℕ) (r : RequestView) (answer : Answer)
     (lawful : IsLawful cmp v tables) (low : All (λ (f : NewFile). f.level ≤ 6) v.files) (picked : IsPicked cmp v level r.picked) (over : IsOver v tables r)
-    (held : HoldOutputs cmp separator_of successor_of tables r answer) where
+    (held : HoldOutputs cmp short_keys tables r answer) where
   abbrev p : PickedInputs
   p = r.picked
 
@@ -456,8 +456,8 @@ module _ (cmp : List ℕ → List ℕ → Ordering) (total : IsTotalOrder cmp) (
   pub holds_after : HoldKept cmp v tables r.picked readable held.union after (tables_after cmp r.picked answer tables)
   holds_after = subst (HoldKept cmp v tables r.picked readable held.union after) (sym now_is) (record { holds_staying = hold_staying; holds_kept = hold_kept; only = hold_only })
 
-pub stands_after : (cmp : List ℕ → List ℕ → Ordering) → IsTotalOrder cmp → IsExact cmp → (separator_of : List ℕ → List ℕ → List ℕ) (successor_of : List ℕ → List ℕ) → VersionAfterLaw cmp separator_of successor_of
-stands_after cmp total exact separator_of successor_of = record {
-  lawful = λ v tables level r answer lawful low picked over held. lawful_after cmp total exact separator_of successor_of v tables level r answer lawful low picked over held;
-  holds = λ v tables level r answer lawful low picked over held. holds_after cmp total exact separator_of successor_of v tables level r answer lawful low picked over held;
+pub stands_after : (cmp : List ℕ → List ℕ → Ordering) → IsTotalOrder cmp → IsExact cmp → (short_keys : ShortKeys) → VersionAfterLaw cmp short_keys
+stands_after cmp total exact short_keys = record {
+  lawful = λ v tables level r answer lawful low picked over held. lawful_after cmp total exact short_keys v tables level r answer lawful low picked over held;
+  holds = λ v tables level r answer lawful low picked over held. holds_after cmp total exact short_keys v tables level r answer lawful low picked over held;
 }

@@ -13,7 +13,7 @@ use Rattle.std.proofs.lemmas.List.Elements.{All-from_recursion, All-contains}
 use Rattle.coding.specs.Answers.{fault, ◌>>=◌}
 use Rattle.coding.specs.declared.fault.Fault.{Fault}
 use Rattle.coding.specs.declared.fault.FaultName.TheVariants.{Bounds, Duplicate, Numbers, TooLarge}
-use Rattle.ikey.specs.Comparator.{IsExact}
+use Rattle.ikey.specs.Comparator.{ShortKeys, IsExact}
 use Rattle.ikey.specs.Key.{IsInternalKey, user_of, sequence_of, kind_of, kind_number}
 use Rattle.ikey.specs.Order.{internal_cmp}
 use Rattle.block.specs.EncodedEntry.{Entry}
@@ -269,11 +269,11 @@ has_outputs r ws answer h =
       is = ok_is made answer all.goes_on;
     }
 
-module _ (cmp : List ℕ → List ℕ → Ordering) (total : IsTotalOrder cmp) (exact : IsExact cmp) (separator_of : List ℕ → List ℕ → List ℕ) (successor_of : List ℕ → List ℕ) (reads_back : ReadBackLaw cmp separator_of successor_of)
+module _ (cmp : List ℕ → List ℕ → Ordering) (total : IsTotalOrder cmp) (exact : IsExact cmp) (short_keys : ShortKeys) (reads_back : ReadBackLaw cmp short_keys)
     (v : State) (tables : List NumberedContents) (level : ℕ) (r : RequestView) (answer : Answer)
-    (lawful : IsLawful cmp v tables) (picked : IsPicked cmp v level r.picked) (over : IsOver v tables r) (answers : one_thread cmp separator_of successor_of r ≡ Ok answer) where
+    (lawful : IsLawful cmp v tables) (picked : IsPicked cmp v level r.picked) (over : IsOver v tables r) (answers : one_thread cmp short_keys r ≡ Ok answer) where
   abbrev written_by : List Entry → List ℕ
-  written_by = table_for cmp separator_of successor_of r
+  written_by = table_for cmp short_keys r
 
   abbrev cut : List Entry → List (List Entry)
   cut union = outputs cmp (below_request r) r.options union
@@ -371,7 +371,7 @@ module _ (cmp : List ℕ → List ℕ → Ordering) (total : IsTotalOrder cmp) (
       subst (λ (bs : List ℕ). AreWritten cmp bs w.entries) (sym is)
       (table_written cmp total (written_by w.entries) w.entries (writable w.entries in_cut) small (reads_back r.options w.entries (writable w.entries in_cut) small))
 
-  pub hold_outputs : HoldOutputs cmp separator_of successor_of tables r answer
+  pub hold_outputs : HoldOutputs cmp short_keys tables r answer
   hold_outputs = record {
     tested = tested.is;
     union = union;
@@ -387,6 +387,6 @@ module _ (cmp : List ℕ → List ℕ → Ordering) (total : IsTotalOrder cmp) (
     answer_edit = sym (ap (λ (a : Answer). a.edit) of_outputs.is);
   }
 
-pub outputs_hold : (cmp : List ℕ → List ℕ → Ordering) → IsTotalOrder cmp → IsExact cmp → (separator_of : List ℕ → List ℕ → List ℕ) (successor_of : List ℕ → List ℕ) → ReadBackLaw cmp separator_of successor_of → OutputsHold cmp separator_of successor_of
-outputs_hold cmp total exact separator_of successor_of reads_back v tables level r answer lawful picked over answers =
-    hold_outputs cmp total exact separator_of successor_of reads_back v tables level r answer lawful picked over answers
+pub outputs_hold : (cmp : List ℕ → List ℕ → Ordering) → IsTotalOrder cmp → IsExact cmp → (short_keys : ShortKeys) → ReadBackLaw cmp short_keys → OutputsHold cmp short_keys
+outputs_hold cmp total exact short_keys reads_back v tables level r answer lawful picked over answers =
+    hold_outputs cmp total exact short_keys reads_back v tables level r answer lawful picked over answers

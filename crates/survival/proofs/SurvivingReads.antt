@@ -12,7 +12,7 @@ use Rattle.std.proofs.lemmas.List.Elements.{All-contains}
 use Rattle.std.proofs.lemmas.List.{length-map}
 use Rattle.coding.specs.Answers.{◌>>=◌}
 use Rattle.coding.specs.declared.fault.FaultName.TheVariants.{NoInput, Level, Options, Snapshot, SnapshotList}
-use Rattle.ikey.specs.Comparator.{IsExact}
+use Rattle.ikey.specs.Comparator.{ShortKeys, IsExact}
 use Rattle.ikey.specs.Key.{IsInternalKey}
 use Rattle.block.specs.EncodedEntry.{Entry}
 use Rattle.table.specs.ReadingBack.{ReadBackLaw}
@@ -100,10 +100,10 @@ tested cmp r h =
       last_sequence = below_told r.last_sequence (2 ^ 56 - 1) (and_first (nat_lt r.last_sequence (2 ^ 56 - 1)) (list_all _ (named_by r.snapshots)) (passed snapshots Snapshot fourth.value fourth.is));
     }
 
-module _ (cmp : List ℕ → List ℕ → Ordering) (total : IsTotalOrder cmp) (exact : IsExact cmp) (separator_of : List ℕ → List ℕ → List ℕ) (successor_of : List ℕ → List ℕ)
+module _ (cmp : List ℕ → List ℕ → Ordering) (total : IsTotalOrder cmp) (exact : IsExact cmp) (short_keys : ShortKeys)
     (v : State) (tables : List NumberedContents) (level : ℕ) (r : RequestView) (answer : Answer)
     (lawful : IsLawful cmp v tables) (low : All (λ (f : NewFile). f.level ≤ 6) v.files) (picked : IsPicked cmp v level r.picked) (over : IsOver v tables r)
-    (held : HoldOutputs cmp separator_of successor_of tables r answer) where
+    (held : HoldOutputs cmp short_keys tables r answer) where
   abbrev edit : Edit
   edit = edit_of r (new_files r held.outputs)
 
@@ -180,15 +180,15 @@ module _ (cmp : List ℕ → List ℕ → Ordering) (total : IsTotalOrder cmp) (
       record {
         after = version_after v r held.outputs;
         is_after = ap (applied v) (sym same) ∙ made;
-        lawful_after = lawful_after cmp total exact separator_of successor_of v tables level r answer lawful low picked over held;
+        lawful_after = lawful_after cmp total exact short_keys v tables level r answer lawful low picked over held;
         gets_after = gets_after cmp total exact v tables level r.picked _ held.union (version_after v r held.outputs) _ lawful low picked held.is_union
-            (holds_after cmp total exact separator_of successor_of v tables level r answer lawful low picked over held);
+            (holds_after cmp total exact short_keys v tables level r answer lawful low picked over held);
       }
 
-pub reads_survive : (cmp : List ℕ → List ℕ → Ordering) → IsTotalOrder cmp → IsExact cmp → (separator_of : List ℕ → List ℕ → List ℕ) (successor_of : List ℕ → List ℕ) → ReadBackLaw cmp separator_of successor_of → ReadsSurvive cmp separator_of successor_of
-reads_survive cmp total exact separator_of successor_of reads_back r answer answers = record {
+pub reads_survive : (cmp : List ℕ → List ℕ → Ordering) → IsTotalOrder cmp → IsExact cmp → (short_keys : ShortKeys) → ReadBackLaw cmp short_keys → ReadsSurvive cmp short_keys
+reads_survive cmp total exact short_keys reads_back r answer answers = record {
   reads = λ v tables level lawful low picked over.
-      edit_reads cmp total exact separator_of successor_of v tables level r answer lawful low picked over (outputs_hold cmp total exact separator_of successor_of reads_back v tables level r answer lawful picked over answers);
+      edit_reads cmp total exact short_keys v tables level r answer lawful low picked over (outputs_hold cmp total exact short_keys reads_back v tables level r answer lawful picked over answers);
   survives = λ v tables level e lawful low picked over is.
-      survive cmp total exact separator_of successor_of v tables level r answer lawful low picked over (outputs_hold cmp total exact separator_of successor_of reads_back v tables level r answer lawful picked over answers) e is;
+      survive cmp total exact short_keys v tables level r answer lawful low picked over (outputs_hold cmp total exact short_keys reads_back v tables level r answer lawful picked over answers) e is;
 }

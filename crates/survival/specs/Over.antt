@@ -25,6 +25,8 @@ use Rattle.request.specs.EditOf.{edit_of, new_files}
 use Rattle.request.specs.OneThread.{Answer, one_thread, table_for}
 use Rattle.survival.specs.GetsAfter.{entries_of_inputs}
 use Rattle.survival.specs.EditAfter.{AreNumberedFrom}
+use Rattle.ikey.specs.Comparator.{ShortKeys}
+use Rattle.table.specs.declared.table_check.TheConstants.{MAX_TABLE_LEN}
 
 -- the bytes of an input's table, if the version's tables have one
 abbrev pub input_bytes_of : List NumberedContents → InputFile → Option (List ℕ)
@@ -40,13 +42,13 @@ pub record IsOver (v : State) (tables : List NumberedContents) (r : RequestView)
   pub previous_log : r.previous_log < 2 ^ 64
 
 -- The bytes are a table of these entries: there is one, their internal keys rise strictly, the
--- bytes are at most 2 ^ 30, and they read as just these entries.
+-- bytes are at most MAX_TABLE_LEN, and they read as just these entries.
 pub record AreWritten (cmp : List ℕ → List ℕ → Ordering) (bytes : List ℕ) (entries : List Entry)
     : Type 0 where
   pub some : entries ≢ []
   pub keys : AllByRecursion (λ e. IsInternalKey e.key) entries
   pub rising : EntriesRise cmp entries
-  pub small : length bytes ≤ 2 ^ 30
+  pub small : length bytes ≤ MAX_TABLE_LEN
   pub reads : contents_reading cmp bytes ≡ Ok (contents_in cmp bytes)
   pub same : (contents_in cmp bytes).bytes ≡ bytes
   pub holds : (contents_in cmp bytes).entries ≡ entries
@@ -58,8 +60,7 @@ output_entries outputs = map (λ (w : Output). w.entries) outputs
 -- What an answer is made of. The request passes its tests, and the inputs' tables have a union. The
 -- outputs are numbered from the first number on and hold what is kept of the union, no user key in
 -- two of them. Each is written as a table, and the edit is that of the outputs.
-pub record HoldOutputs (cmp : List ℕ → List ℕ → Ordering) (separator_of : List ℕ → List ℕ →
-    List ℕ) (successor_of : List ℕ → List ℕ)
+pub record HoldOutputs (cmp : List ℕ → List ℕ → Ordering) (short_keys : ShortKeys)
     (tables : List NumberedContents) (r : RequestView) (answer : Answer) : Type 0 where
   pub tested : request_test cmp r ≡ Ok tt
   pub union : List Entry
@@ -70,7 +71,7 @@ pub record HoldOutputs (cmp : List ℕ → List ℕ → Ordering) (separator_of 
   pub holds_kept : all_of (output_entries outputs)
       ≡ kept cmp (readable_of r.snapshots r.last_sequence) r.picked.deeper union
   pub users : UsersRise cmp (output_entries outputs)
-  pub bytes : All (λ (w : Output). w.bytes ≡ table_for cmp separator_of successor_of r w.entries)
+  pub bytes : All (λ (w : Output). w.bytes ≡ table_for cmp short_keys r w.entries)
       outputs
   pub written : All (λ (w : Output). AreWritten cmp w.bytes w.entries) outputs
   pub answer_tables : answer.tables ≡ numbered_tables outputs
@@ -78,10 +79,9 @@ pub record HoldOutputs (cmp : List ℕ → List ℕ → Ordering) (separator_of 
 
 -- each answer of one thread is made so, if the inputs were picked from a lawful version and the
 -- request is over it
-abbrev pub OutputsHold : (List ℕ → List ℕ → Ordering) → (List ℕ → List ℕ → List ℕ) →
-    (List ℕ → List ℕ) → Type 0
-OutputsHold cmp separator_of successor_of =
+abbrev pub OutputsHold : (List ℕ → List ℕ → Ordering) → ShortKeys → Type 0
+OutputsHold cmp short_keys =
     (v : State) (tables : List NumberedContents) (level : ℕ) (r : RequestView) (answer : Answer) →
     IsLawful cmp v tables → IsPicked cmp v level r.picked → IsOver v tables r →
-    one_thread cmp separator_of successor_of r ≡ Ok answer →
-    HoldOutputs cmp separator_of successor_of tables r answer
+    one_thread cmp short_keys r ≡ Ok answer →
+    HoldOutputs cmp short_keys tables r answer

@@ -18,6 +18,7 @@ use Rattle.request.specs.OneThread.{Answer, one_thread}
 use Rattle.survival.specs.GetsAfter.{HoldKept}
 use Rattle.survival.specs.EditAfter.{version_after}
 use Rattle.survival.specs.Over.{IsOver, HoldOutputs}
+use Rattle.ikey.specs.Comparator.{ShortKeys}
 
 -- an output's number, and what its bytes hold
 abbrev pub output_table : (List ℕ → List ℕ → Ordering) → ℕ × List ℕ → NumberedContents
@@ -33,19 +34,18 @@ tables_after cmp p answer tables =
 -- Let the inputs be picked from a lawful version with files at levels up to 6. If an answer's
 -- outputs hold what they should, the version after is lawful with the tables after. Its files hold
 -- the entries of the files that stay and what is kept of the inputs' union.
-pub record VersionAfterLaw (cmp : List ℕ → List ℕ → Ordering) (separator_of : List ℕ → List ℕ →
-    List ℕ) (successor_of : List ℕ → List ℕ) : Type 0 where
+pub record VersionAfterLaw (cmp : List ℕ → List ℕ → Ordering) (short_keys : ShortKeys) : Type 0 where
   pub lawful : (v : State) (tables : List NumberedContents) (level : ℕ) (r : RequestView)
       (answer : Answer) →
       IsLawful cmp v tables → All (λ (f : NewFile). f.level ≤ 6) v.files →
       IsPicked cmp v level r.picked → IsOver v tables r →
-      (held : HoldOutputs cmp separator_of successor_of tables r answer) →
+      (held : HoldOutputs cmp short_keys tables r answer) →
       IsLawful cmp (version_after v r held.outputs) (tables_after cmp r.picked answer tables)
   pub holds : (v : State) (tables : List NumberedContents) (level : ℕ) (r : RequestView)
       (answer : Answer) →
       IsLawful cmp v tables → All (λ (f : NewFile). f.level ≤ 6) v.files →
       IsPicked cmp v level r.picked → IsOver v tables r →
-      (held : HoldOutputs cmp separator_of successor_of tables r answer) →
+      (held : HoldOutputs cmp short_keys tables r answer) →
       HoldKept cmp v tables r.picked (readable_of r.snapshots r.last_sequence) held.union
       (version_after v r held.outputs) (tables_after cmp r.picked answer tables)
 
@@ -76,8 +76,7 @@ pub record LeavesReads (cmp : List ℕ → List ℕ → Ordering) (r : RequestVi
       IsEdit answer.edit e → KeepsReads cmp v tables r answer e
 
 -- each answer of one thread leaves reads so
-abbrev pub ReadsSurvive : (List ℕ → List ℕ → Ordering) → (List ℕ → List ℕ → List ℕ) →
-    (List ℕ → List ℕ) → Type 0
-ReadsSurvive cmp separator_of successor_of =
-    (r : RequestView) (answer : Answer) → one_thread cmp separator_of successor_of r ≡ Ok answer →
+abbrev pub ReadsSurvive : (List ℕ → List ℕ → Ordering) → ShortKeys → Type 0
+ReadsSurvive cmp short_keys =
+    (r : RequestView) (answer : Answer) → one_thread cmp short_keys r ≡ Ok answer →
     LeavesReads cmp r answer

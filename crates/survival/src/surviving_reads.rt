@@ -27,13 +27,13 @@ pub fn gets_after<C: Comparator>()
 /// The law of what an answer of one thread is made of: the outputs hold what is kept of the inputs'
 /// union, and are tables that read as they do. A call does nothing.
 pub fn outputs_hold<C: Comparator>()
-    ensures { OutputsHold C.cmp C.separator_of C.successor_of }
+    ensures { OutputsHold C.cmp C.short_keys }
 {}
 
 /// The law that the version after is lawful with its new tables, and holds what is kept. A call
 /// does nothing.
 pub fn stands_after<C: Comparator>()
-    ensures { VersionAfterLaw C.cmp C.separator_of C.successor_of }
+    ensures { VersionAfterLaw C.cmp C.short_keys }
 {}
 
 /// The law that reads survive, for each answer of one thread. A call does nothing.
@@ -44,5 +44,5 @@ pub fn stands_after<C: Comparator>()
 ///   outputs.
 /// - Each get at a sequence that stays readable answers as before.
 pub fn reads_survive<C: Comparator>()
-    ensures { ReadsSurvive C.cmp C.separator_of C.successor_of }
+    ensures { ReadsSurvive C.cmp C.short_keys }
 {}

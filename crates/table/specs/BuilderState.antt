@@ -15,6 +15,7 @@ use Rattle.table.specs.DataBlocks.{blocks_behind, data_blocks, flushed_len}
 use Rattle.table.specs.Table.{IndexKeys, stored_blocks}
 use Rattle.table.specs.ReadingEntries.{first_key}
 use Rattle.table.specs.Flushed.{index_before}
+use Rattle.block.specs.declared.builder.TheConstants.{MAX_BLOCK_LEN}
 
 -- the entries of a block, of its bytes before the restarts
 unfoldable pub block_entries : List ℕ → List Entry
@@ -50,8 +51,8 @@ pub record IsTableBuilder (keys : IndexKeys) (o : Options) (parts : List (List E
     pub cut : (more : List Entry) → data_blocks o ((entries_of_parts parts ++ entries) ++ more)
         ≡ parts ++ blocks_behind o entries more
     pub flushed_is : sum_by (flushed_len o) parts ≡ length bytes
-    pub parts_fit : AllByRecursion (λ p. length (block o.restart_interval p) ≤ 2 ^ 31) parts
-    pub entries_fit : length (block o.restart_interval entries) ≤ 2 ^ 31
+    pub parts_fit : AllByRecursion (λ p. length (block o.restart_interval p) ≤ MAX_BLOCK_LEN) parts
+    pub entries_fit : length (block o.restart_interval entries) ≤ MAX_BLOCK_LEN
     pub last_lawful : 0 < length entries → IsInternalKey (last_key [] entries)
 
 -- what is kept, of some flushed data blocks

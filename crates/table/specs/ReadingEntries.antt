@@ -12,6 +12,7 @@ use Rattle.block.specs.BuilderView.{last_key}
 use Rattle.ikey.specs.Key.{internal_key_reading}
 use Rattle.ikey.specs.Order.{internal_cmp}
 use Rattle.table.specs.ReadingSteps.{test_result}
+use Rattle.table.specs.declared.table_check.TheConstants.{MAX_VALUE_LEN}
 
 -- the key of the first entry
 abbrev pub first_key : List Entry → List ℕ
@@ -35,7 +36,7 @@ abbrev pub entry_test : (List ℕ → List ℕ → Ordering) → Option (List �
     Result (Unit {0}) Fault
 entry_test cmp before e = do
   _ ← internal_key_reading e.key
-  _ ← test_result (nat_le (length e.value) 16777215) TooLarge
+  _ ← test_result (nat_le (length e.value) MAX_VALUE_LEN) TooLarge
   test_result (is_above cmp before e.key) Order
 
 -- each entry passes its tests after the one before it, the first after the key `before`

@@ -10,6 +10,8 @@ use Rattle.frame.specs.declared.handle.BlockHandle.{BlockHandle}
 use Rattle.frame.specs.Handle.{HandleBehind, handle_reading}
 use Rattle.frame.specs.Trailer.{stored_reading}
 use Rattle.block.specs.ReadingBlocks.{block_reading}
+use Rattle.frame.specs.declared.footer.TheConstants.{FOOTER_LEN}
+use Rattle.frame.specs.declared.trailer.TheConstants.{TRAILER_LEN}
 
 -- a key of the index, and the bytes of its data block as they are stored
 pub record IndexEntry : Type 0 where
@@ -30,7 +32,7 @@ one_handle (Some found) = handle_alone found.handle found.rest
 -- bytes of the footer; else Range.
 abbrev pub stored_at : List ℕ → BlockHandle → Result (List ℕ) Fault
 stored_at bytes handle =
-    if nat_le (handle.offset + handle.size + 5 + 48) (length bytes) then Ok
+    if nat_le (handle.offset + handle.size + TRAILER_LEN + FOOTER_LEN) (length bytes) then Ok
     (take (handle.size + 5) (drop handle.offset bytes)) else Err (fault Range)
 
 -- the entries of a stored block, or the first test that it fails: its checksum, its type, its

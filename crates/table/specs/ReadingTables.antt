@@ -17,6 +17,8 @@ use Rattle.frame.specs.Footer.{handles_bytes, magic}
 use Rattle.table.specs.ReadingEntries.{first_key, HaveKeys}
 use Rattle.table.specs.ReadingCursors.{EntriesRise}
 use Rattle.table.specs.TableContents.{DataBlock, entries_of, table_reading}
+use Rattle.table.specs.declared.table_check.TheConstants.{MAX_TABLE_LEN, MAX_VALUE_LEN}
+use Rattle.frame.specs.declared.footer.TheConstants.{FOOTER_LEN, HANDLES_LEN}
 
 -- a block of these entries is stored where the handle says, before the 48 bytes of a footer
 pub record IsStoredAt (bytes : List ℕ) (handle : BlockHandle) (entries : List Entry) : Type 0 where
@@ -26,7 +28,7 @@ pub record IsStoredAt (bytes : List ℕ) (handle : BlockHandle) (entries : List 
   pub whole : bytes ≡ before ++ (stored_block contents ++ behind)
   pub offset : length before ≡ handle.offset
   pub size : length contents ≡ handle.size
-  pub footer : 48 ≤ length behind
+  pub footer : FOOTER_LEN ≤ length behind
   pub block : IsBlock contents entries
 
 -- the last 48 bytes are a footer: two handles, anything up to 40 bytes, and the magic
@@ -34,7 +36,7 @@ pub record EndsWith (bytes : List ℕ) (footer : Footer) : Type 0 where
   pub before : List ℕ
   pub padding : List ℕ
   pub whole : bytes ≡ before ++ ((handles_bytes footer ++ padding) ++ magic)
-  pub len : length (handles_bytes footer ++ padding) ≡ 40
+  pub len : length (handles_bytes footer ++ padding) ≡ HANDLES_LEN
 
 -- an entry of the index names a data block: its key is an internal key, and its value is the handle
 -- of a block that has an entry
@@ -70,7 +72,7 @@ pub record IsTable (cmp : List ℕ → List ℕ → Ordering) (bytes : List ℕ)
   pub ignored : List Entry
   pub index : List Entry
   pub blocks : List DataBlock
-  pub small : length bytes ≤ 2 ^ 30
+  pub small : length bytes ≤ MAX_TABLE_LEN
   pub ends : EndsWith bytes footer
   pub metaindex_block : IsStoredAt bytes footer.metaindex ignored
   pub index_block : IsStoredAt bytes footer.index index
@@ -79,7 +81,7 @@ pub record IsTable (cmp : List ℕ → List ℕ → Ordering) (bytes : List ℕ)
   pub between : AreBetween cmp blocks
   pub whole : entries_of blocks ≡ entries
   pub keys : HaveKeys entries
-  pub values : AllByRecursion (λ e. length e.value ≤ 16777215) entries
+  pub values : AllByRecursion (λ e. length e.value ≤ MAX_VALUE_LEN) entries
   pub rising : EntriesRise cmp entries
 
 -- each number is a byte

@@ -18,6 +18,8 @@ use Rattle.frame.specs.declared.footer.Footer.{Footer}
 use Rattle.table.specs.declared.options.Options.{Options}
 use Rattle.table.specs.DataBlocks.{data_blocks}
 use Rattle.table.specs.ReadingEntries.{first_key}
+use Rattle.ikey.specs.Comparator.{ShortKeys}
+use Rattle.table.specs.declared.table_check.TheConstants.{MAX_TABLE_LEN}
 
 -- how index keys are made: between two keys, and at or above a key
 pub record IndexKeys : Type 0 where
@@ -25,11 +27,10 @@ pub record IndexKeys : Type 0 where
   pub above : List ℕ → List ℕ
 
 -- the internal separator and the internal successor of a comparator
-unfoldable pub index_keys : (List ℕ → List ℕ → Ordering) → (List ℕ → List ℕ → List ℕ) →
-    (List ℕ → List ℕ) → IndexKeys
-index_keys cmp separator_of successor_of = record {
-  between = internal_separator_of cmp separator_of;
-  above = internal_successor_of cmp successor_of;
+unfoldable pub index_keys : (List ℕ → List ℕ → Ordering) → ShortKeys → IndexKeys
+index_keys cmp short_keys = record {
+  between = internal_separator_of cmp short_keys.separator;
+  above = internal_successor_of cmp short_keys.successor;
 }
 
 -- the index key of a data block: the separator of its last key and the next block's first, or for
@@ -76,11 +77,10 @@ table_of_blocks keys interval parts =
     ++ closing_bytes (length (stored_blocks interval parts)) (index_from keys interval 0 parts)
 
 -- the table of a list
-unfoldable pub table : (List ℕ → List ℕ → Ordering) → (List ℕ → List ℕ → List ℕ) →
-    (List ℕ → List ℕ) → Options → List Entry → List ℕ
-table cmp separator_of successor_of o q =
-    table_of_blocks (index_keys cmp separator_of successor_of) o.restart_interval (data_blocks o q)
+unfoldable pub table : (List ℕ → List ℕ → Ordering) → ShortKeys → Options → List Entry → List ℕ
+table cmp short_keys o q =
+    table_of_blocks (index_keys cmp short_keys) o.restart_interval (data_blocks o q)
 
 -- the bytes; TooLarge if they are more than 2 ^ 30
 abbrev pub within_limit : List ℕ → Result (List ℕ) Fault
-within_limit bytes = if nat_le (length bytes) (2 ^ 30) then Ok bytes else Err (fault TooLarge)
+within_limit bytes = if nat_le (length bytes) MAX_TABLE_LEN then Ok bytes else Err (fault TooLarge)

@@ -15,6 +15,8 @@ use Rattle.frame.specs.Footer.{footer_reading}
 use Rattle.table.specs.ReadingSteps.{test_result}
 use Rattle.table.specs.ReadingEntries.{first_key, key_behind, is_above, is_some_list, data_test}
 use Rattle.table.specs.ReadingIndex.{IndexEntry, stored_at, block_in, index_reading}
+use Rattle.table.specs.declared.table_check.TheConstants.{MAX_TABLE_LEN}
+use Rattle.frame.specs.declared.footer.TheConstants.{FOOTER_LEN}
 
 -- the entries of a data block, and its index key
 pub record DataBlock : Type 0 where
@@ -58,9 +60,9 @@ data_reading cmp index = do
 -- metaindex and the index are before it, and both are blocks.
 abbrev pub index_in : List ℕ → Result (List Entry) Fault
 index_in bytes = do
-  _ ← test_result (nat_le (length bytes) (2 ^ 30)) Size
-  _ ← test_result (nat_le 48 (length bytes)) Short
-  footer ← footer_reading (drop (length bytes - 48) bytes)
+  _ ← test_result (nat_le (length bytes) MAX_TABLE_LEN) Size
+  _ ← test_result (nat_le FOOTER_LEN (length bytes)) Short
+  footer ← footer_reading (drop (length bytes - FOOTER_LEN) bytes)
   metaindex ← stored_at bytes footer.metaindex
   index ← stored_at bytes footer.index
   _ ← block_in metaindex

@@ -49,7 +49,7 @@ impl<C: Comparator> Model for TableBuilder<C> {
     } };
 
     ghost invariant = { λ b.
-        IsAnyTableBuilder (index_keys C.cmp C.separator_of C.successor_of) b.options
+        IsAnyTableBuilder (index_keys C.cmp C.short_keys) b.options
         b.flushed.bytes.items b.flushed.index.items b.block
         × IsSpare b.options b.next };
 }
@@ -140,7 +140,7 @@ impl<C: Comparator> TableBuilder<C> {
     /// Memory. A refusal uses the builder up.
     pub fn finish(self) -> Result<Vec<u8>, Fault>
         ensures { EqualOrMemory (λ v. v.items) result
-            (within_limit (table C.cmp C.separator_of C.successor_of self.options self.entries)) }
+            (within_limit (table C.cmp C.short_keys self.options self.entries)) }
     {
         let TableBuilder {
             alloc,

@@ -34,6 +34,7 @@ ghost use Rattle.coding.specs.declared.fault.FaultName.TheVariants.{Memory};
 ghost use Rattle.block.specs.BlockFormat.{block};
 ghost use Rattle.frame.specs.Trailer.{stored_block};
 ghost use Rattle.table.specs.Table.{closing_bytes, handle_entry};
+ghost use Rattle.block.specs.declared.builder.TheConstants.{MAX_BLOCK_LEN};
 
 use block::BlockBuilder;
 use coding::Fault;
@@ -79,7 +80,7 @@ pub fn push_index_entry(
     handle: BlockHandle,
 ) -> Result<(), Fault>
     requires { length (block index.old.interval
-        (index.old.entries ++ handle_entry key.now handle.offset handle.size ∷ [])) ≤ 2 ^ 31 }
+        (index.old.entries ++ handle_entry key.now handle.offset handle.size ∷ [])) ≤ MAX_BLOCK_LEN }
     ensures ok { OnOk result (index.new ≡ record {
       interval = index.old.interval;
       entries = index.old.entries ++ handle_entry key.now handle.offset handle.size ∷ [];

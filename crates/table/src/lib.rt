@@ -31,7 +31,7 @@ pub use builder::TableBuilder;
 pub use cursor::{Cursor, Entries};
 pub use key_list::KeyList;
 pub use layout::{push_closing, push_index_entry, push_stored};
-pub use options::Options;
+pub use options::{MAX_BLOCK_SIZE, Options};
 pub use sound_table::SoundTable;
 pub use table_check::{MAX_TABLE_LEN, MAX_VALUE_LEN, check, reads_tables};
 pub use table_cursor::TableCursor;

@@ -3,6 +3,10 @@
 ghost use Rattle.std.specs.Prelude.{◌≡◌, ◌↔◌, IsTrue};
 
 use crate::table_check::MAX_TABLE_LEN;
+use block::MAX_RESTART_INTERVAL;
+
+/// The greatest block size, in bytes.
+pub const MAX_BLOCK_SIZE: u64 = 4_194_304;
 
 /// The options of a writer of tables. Each has its limits.
 #[derive(Clone, Copy, Debug, PartialEq, Eq)]
@@ -24,8 +28,8 @@ impl Options {
     pub fn are_in_limits(&self) -> bool
         ensures { IsTrue result ↔ AreInLimits self.now }
     {
-        (1..=4_194_304).contains(&self.block_size)
-            && (1..=1_024).contains(&self.restart_interval)
+        (1..=MAX_BLOCK_SIZE).contains(&self.block_size)
+            && (1..=MAX_RESTART_INTERVAL).contains(&self.restart_interval)
             && (1..=MAX_TABLE_LEN as u64).contains(&self.file_size)
     }
 }

@@ -16,5 +16,5 @@ pub fn data_blocks_law()
 /// internal keys rise strictly, and its values are within their limit. The table has at most 2^30
 /// bytes. Options may be any. A call does nothing.
 pub fn table_reads_back<C: Comparator>()
-    ensures { ReadBackLaw C.cmp C.separator_of C.successor_of }
+    ensures { ReadBackLaw C.cmp C.short_keys }
 {}

@@ -19,7 +19,7 @@ read_as inputs = Ok inputs
 pub returns-in_err-check_workers : goal.returns-in_err-check_workers
 returns-in_err-check_workers g c =
     let r : RequestView = request_in c.args.request.now in
-    let thread : Result Answer Fault = one_thread g.C.Comparator.cmp g.C.Comparator.separator_of g.C.Comparator.successor_of r in
+    let thread : Result Answer Fault = one_thread g.C.Comparator.cmp g.C.Comparator.short_keys r in
     let p = err_from_is_err_and c.from_residual.result c.from_residual.ensures.1 in
     record {
       same = rw (p.1, p.2)
@@ -36,8 +36,8 @@ returns-in_err-check g c =
     record {
       same = rw (p.1, p.2)
           (FailsOrMemory-from c.in_err-check.field-0.0 _
-          (answer_is c.args.workers (sym c.in_ok-check_workers.ensures) (one_thread cmp g.C.Comparator.separator_of g.C.Comparator.successor_of r)
-          ∙ refused_test cmp g.C.Comparator.separator_of g.C.Comparator.successor_of r c.in_err-check.field-0.0 (sym c.in_err-check.ensures)));
+          (answer_is c.args.workers (sym c.in_ok-check_workers.ensures) (one_thread cmp g.C.Comparator.short_keys r)
+          ∙ refused_test cmp g.C.Comparator.short_keys r c.in_err-check.field-0.0 (sym c.in_err-check.ensures)));
       reads = rw (p.1) tt;
     }
 
@@ -51,12 +51,12 @@ returns-in_err-tables g c =
     let r : RequestView = request_in c.args.request.now in
     let e : Fault = c.in_err-tables.field-0.0 in
     let passes = sym c.in_ok-check_workers.ensures in
-    let thread : Result Answer Fault = one_thread cmp g.C.Comparator.separator_of g.C.Comparator.successor_of r in
+    let thread : Result Answer Fault = one_thread cmp g.C.Comparator.short_keys r in
     let p = err_from_is_err_and c.from_residual-in_err-tables.result c.from_residual-in_err-tables.ensures.1 in
     record {
       same = rw (p.1, p.2)
           (subst (FailsOrMemory e) (sym (answer_is c.args.workers passes thread))
-          (refused_input cmp g.C.Comparator.separator_of g.C.Comparator.successor_of r e (sym c.in_ok-check.ensures)
+          (refused_input cmp g.C.Comparator.short_keys r e (sym c.in_ok-check.ensures)
           (subst (FailsOrMemory e) (inputs_are c.args.workers passes (inputs_reading cmp 0 r.picked.files r.tables))
           (subst (λ (files : List InputFile). FailsOrMemory e (by_workers c.args.workers (inputs_reading cmp 0 files r.tables))) c.deref.ensures.value c.in_err-tables.ensures))));
       reads = rw (p.1) tt;

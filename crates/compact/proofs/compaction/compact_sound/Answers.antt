@@ -35,14 +35,13 @@ returns-in_err-runs g c =
     ∙ ap (λ (n : ℕ). context_of (listed_of c.args.request.now.snapshots) n c.args.request.now.picked.now) c.floor-floor.ensures in
     let p = err_from_is_err_and c.from_residual.result c.from_residual.ensures.1 in
     rw (p.1, p.2)
-    (refused_answer cmp g.C.Comparator.separator_of g.C.Comparator.successor_of r inputs c.args.workers c.requires.some c.requires.limited c.requires.tested c.requires.read c.args.split.now
+    (refused_answer cmp g.C.Comparator.short_keys r inputs c.args.workers c.requires.some c.requires.limited c.requires.tested c.requires.read c.args.split.now
     c.in_err-runs.field-0.0 (subst (λ (b : CompactionContext). FailsOrMemory c.in_err-runs.field-0.0 (by_workers c.args.workers (runs_reading cmp b c.args.split.now inputs))) same c.in_err-runs.ensures))
 
 pub returns : goal.returns
 returns g c =
     let cmp = g.C.Comparator.cmp in
-    let separator_of = g.C.Comparator.separator_of in
-    let successor_of = g.C.Comparator.successor_of in
+    let short_keys = g.C.Comparator.short_keys in
     let r : RequestView = request_in c.args.request.now in
     let inputs : List (List Entry) = map (λ t. t.entries) c.args.tables.now in
     let below : CompactionContext = context_of c.listed-listed.result.now c.floor-floor.result c.args.request.now.picked.now in
@@ -52,9 +51,9 @@ returns g c =
     let runs : List Run = c.in_ok-runs.runs.items in
     let merged : by_workers c.args.workers (runs_reading cmp (below_request r) c.args.split.now inputs) ≡ Ok runs =
     subst (λ (b : CompactionContext). by_workers c.args.workers (runs_reading cmp b c.args.split.now inputs) ≡ Ok runs) same c.in_ok-runs.ensures in
-    let whole = whole_answer cmp separator_of successor_of r inputs c.args.workers c.requires.some c.requires.limited c.requires.tested c.requires.read c.args.split.now
+    let whole = whole_answer cmp short_keys r inputs c.args.workers c.requires.some c.requires.limited c.requires.tested c.requires.read c.args.split.now
     c.distinct_law.ensures c.ranges_cut.ensures c.split_law.ensures runs merged in
     let lent : c.deref.result.now ≡ runs = c.deref.ensures.value in
     subst (λ (a : Result Answer Fault). EqualOrMemory answer_in c.write_runs.result a)
-    (ap (λ (rs : List Run). written_of (table cmp separator_of successor_of r.options) r (outputs_of r.picked.grandparents r.options (joined_run rs))) lent ∙ sym whole)
+    (ap (λ (rs : List Run). written_of (table cmp short_keys r.options) r (outputs_of r.picked.grandparents r.options (joined_run rs))) lent ∙ sym whole)
     c.write_runs.ensures

@@ -13,7 +13,7 @@ use Rattle.compact.proofs.compaction.compact_tables.Goals as goal
 pub returns-in_err-check_workers : goal.returns-in_err-check_workers
 returns-in_err-check_workers g c =
     let r : RequestView = request_in c.args.request.now in
-    let thread : Result Answer Fault = one_thread g.C.Comparator.cmp g.C.Comparator.separator_of g.C.Comparator.successor_of r in
+    let thread : Result Answer Fault = one_thread g.C.Comparator.cmp g.C.Comparator.short_keys r in
     let p = err_from_is_err_and c.from_residual.result c.from_residual.ensures.1 in
     record {
       same = rw (p.1, p.2)
@@ -30,8 +30,8 @@ returns-in_err-check g c =
     record {
       same = rw (p.1, p.2)
           (FailsOrMemory-from c.in_err-check.field-0.0 _
-          (answer_is c.args.workers (sym c.in_ok-check_workers.ensures) (one_thread cmp g.C.Comparator.separator_of g.C.Comparator.successor_of r)
-          ∙ refused_test cmp g.C.Comparator.separator_of g.C.Comparator.successor_of r c.in_err-check.field-0.0 (sym c.in_err-check.ensures)));
+          (answer_is c.args.workers (sym c.in_ok-check_workers.ensures) (one_thread cmp g.C.Comparator.short_keys r)
+          ∙ refused_test cmp g.C.Comparator.short_keys r c.in_err-check.field-0.0 (sym c.in_err-check.ensures)));
       reads = rw (p.1) tt;
     }
 
@@ -45,7 +45,7 @@ pub returns : goal.returns
 returns g c =
     let cmp = g.C.Comparator.cmp in
     let r : RequestView = request_in c.args.request.now in
-    let thread : Result Answer Fault = one_thread cmp g.C.Comparator.separator_of g.C.Comparator.successor_of r in
+    let thread : Result Answer Fault = one_thread cmp g.C.Comparator.short_keys r in
     record {
       same = subst (λ (a : Result Answer Fault). EqualOrMemory answer_in c.compact_sound.result a) (sym (answer_is c.args.workers (sym c.in_ok-check_workers.ensures) thread)) c.compact_sound.ensures;
       reads = if_answered answer_in (LeavesReads cmp r) c.compact_sound.result thread c.compact_sound.ensures (c.reads_survive.ensures r);

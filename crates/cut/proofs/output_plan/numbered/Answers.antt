@@ -11,7 +11,7 @@ use Rattle.cut.proofs.output_plan.numbered.Goals as goal
 
 pub loop-blocks-preserved : goal.loop-blocks-preserved
 loop-blocks-preserved g c =
-    let size : List PlannedBlock → ℕ = table_size (index_keys g.C.Comparator.cmp g.C.Comparator.separator_of g.C.Comparator.successor_of) in
+    let size : List PlannedBlock → ℕ = table_size (index_keys g.C.Comparator.cmp g.C.Comparator.short_keys) in
     let first : ℕ = c.args.first_number in
     let b = c.in-Some.blocks in
     let len : ℕ = c.in_ok-len.len in

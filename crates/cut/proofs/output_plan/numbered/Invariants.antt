@@ -6,6 +6,6 @@ use Rattle.cut.proofs.output_plan.numbered.Given as goal
 
 abbrev pub invariant-loop-blocks : goal.invariant-loop-blocks
 invariant-loop-blocks g l = record {
-  outputs : l.outputs.items ≡ numbered_from (table_size (index_keys g.C.Comparator.cmp g.C.Comparator.separator_of g.C.Comparator.successor_of)) l.first_number l.yielded;
+  outputs : l.outputs.items ≡ numbered_from (table_size (index_keys g.C.Comparator.cmp g.C.Comparator.short_keys)) l.first_number l.yielded;
   number : l.number ≡ l.first_number + length l.yielded;
 }

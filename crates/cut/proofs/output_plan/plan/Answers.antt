@@ -26,16 +26,15 @@ pub returns-then-not-are_small : goal.returns-then-not-are_small
 returns-then-not-are_small g c =
     let o = c.args.options in
     let cmp = g.C.Comparator.cmp in
-    let separator_of = g.C.Comparator.separator_of in
-    let successor_of = g.C.Comparator.successor_of in
+    let short_keys = g.C.Comparator.short_keys in
     let lists : List (List Entry) = outputs_of c.args.grandparents.now o (joined_run c.args.runs.now) in
     let made : IsMade o c.in_ok-ended.ended.items lists = record { entries = c.in_ok-ended.ensures.entries; planned = c.in_ok-ended.ensures.planned } in
     let fits : c.args.first_number + length c.in_ok-ended.ended.items < 2 ^ 64 = omega arith in
-    let large : are_small (numbered_from (table_size (index_keys cmp separator_of successor_of)) c.args.first_number c.in_ok-ended.ended.items) ≡ false =
+    let large : are_small (numbered_from (table_size (index_keys cmp short_keys)) c.args.first_number c.in_ok-ended.ended.items) ≡ false =
     sym (ap are_small (c.deref.ensures.value ∙ c.in_ok-outputs.ensures.ok)) ∙ sym c.are_small.ensures ∙ c.if-not-are_small.true in
     record {
       outputs = FailsOrMemory-from c.of-then-not-are_small.result _
-          (plan_large cmp separator_of successor_of o c.args.first_number c.in_ok-ended.ended.items lists made fits large ∙ ap Err (sym c.of-then-not-are_small.ensures));
+          (plan_large cmp short_keys o c.args.first_number c.in_ok-ended.ended.items lists made fits large ∙ ap Err (sym c.of-then-not-are_small.ensures));
       options = tt;
     }
 
@@ -43,48 +42,45 @@ pub invariant_of-result : goal.invariant_of-result
 invariant_of-result g c =
     let o = c.args.options in
     let cmp = g.C.Comparator.cmp in
-    let separator_of = g.C.Comparator.separator_of in
-    let successor_of = g.C.Comparator.successor_of in
+    let short_keys = g.C.Comparator.short_keys in
     let run : Run = joined_run c.args.runs.now in
     let lists : List (List Entry) = outputs_of c.args.grandparents.now o run in
     let some : AllByRecursion (λ q. q ≢ []) lists = some_segments o 0 (stops c.args.grandparents.now o.file_size run.marks) run.kept in
     let made : IsMade o c.in_ok-ended.ended.items lists = record { entries = c.in_ok-ended.ensures.entries; planned = c.in_ok-ended.ensures.planned } in
-    let small : are_small (numbered_from (table_size (index_keys cmp separator_of successor_of)) c.args.first_number c.in_ok-ended.ended.items) ≡ true =
+    let small : are_small (numbered_from (table_size (index_keys cmp short_keys)) c.args.first_number c.in_ok-ended.ended.items) ≡ true =
     sym (ap are_small (c.deref.ensures.value ∙ c.in_ok-outputs.ensures.ok)) ∙ sym c.are_small.ensures ∙ c.if-not-are_small.false in
     let places = c.in_ok-division.ensures.pieces ∙ ap (λ (ps : List PlannedOutput). places_all (piece_limit (block_count ps)) 0 ps) (c.deref-2.ensures.value ∙ c.in_ok-outputs.ensures.ok) in
     let counts = c.in_ok-division.ensures.counts ∙ ap (λ (ps : List PlannedOutput). counts_all (piece_limit (block_count ps)) 0 ps) (c.deref-2.ensures.value ∙ c.in_ok-outputs.ensures.ok) in
-    subst (λ (ps : List PlannedOutput). IsPlan (table cmp separator_of successor_of o) o ps c.in_ok-division.division.pieces.items c.in_ok-division.division.counts.items) (sym c.in_ok-outputs.ensures.ok)
-    (plan_kept cmp separator_of successor_of o c.args.first_number c.in_ok-ended.ended.items lists c.in_ok-division.division.pieces.items c.in_ok-division.division.counts.items c.requires made some small places counts)
+    subst (λ (ps : List PlannedOutput). IsPlan (table cmp short_keys o) o ps c.in_ok-division.division.pieces.items c.in_ok-division.division.counts.items) (sym c.in_ok-outputs.ensures.ok)
+    (plan_kept cmp short_keys o c.args.first_number c.in_ok-ended.ended.items lists c.in_ok-division.division.pieces.items c.in_ok-division.division.counts.items c.requires made some small places counts)
 
 pub divided-requires : goal.divided-requires
 divided-requires g c =
     let o = c.args.options in
     let cmp = g.C.Comparator.cmp in
-    let separator_of = g.C.Comparator.separator_of in
-    let successor_of = g.C.Comparator.successor_of in
+    let short_keys = g.C.Comparator.short_keys in
     let run : Run = joined_run c.args.runs.now in
     let lists : List (List Entry) = outputs_of c.args.grandparents.now o run in
     let some : AllByRecursion (λ q. q ≢ []) lists = some_segments o 0 (stops c.args.grandparents.now o.file_size run.marks) run.kept in
     let made : IsMade o c.in_ok-ended.ended.items lists = record { entries = c.in_ok-ended.ensures.entries; planned = c.in_ok-ended.ensures.planned } in
-    let small : are_small (numbered_from (table_size (index_keys cmp separator_of successor_of)) c.args.first_number c.in_ok-ended.ended.items) ≡ true =
+    let small : are_small (numbered_from (table_size (index_keys cmp short_keys)) c.args.first_number c.in_ok-ended.ended.items) ≡ true =
     sym (ap are_small (c.deref.ensures.value ∙ c.in_ok-outputs.ensures.ok)) ∙ sym c.are_small.ensures ∙ c.if-not-are_small.false in
     subst (AllByRecursion (λ (p : PlannedOutput). lens_of p.blocks.items ≤ 2 ^ 30)) (sym (c.deref-2.ensures.value ∙ c.in_ok-outputs.ensures.ok))
-    (short_lens cmp separator_of successor_of o (numbered_from (table_size (index_keys cmp separator_of successor_of)) c.args.first_number c.in_ok-ended.ended.items)
-    (plan_each cmp separator_of successor_of o c.args.first_number c.in_ok-ended.ended.items lists made some small))
+    (short_lens cmp short_keys o (numbered_from (table_size (index_keys cmp short_keys)) c.args.first_number c.in_ok-ended.ended.items)
+    (plan_each cmp short_keys o c.args.first_number c.in_ok-ended.ended.items lists made some small))
 
 pub returns : goal.returns
 returns g c =
     let o = c.args.options in
     let cmp = g.C.Comparator.cmp in
-    let separator_of = g.C.Comparator.separator_of in
-    let successor_of = g.C.Comparator.successor_of in
+    let short_keys = g.C.Comparator.short_keys in
     let lists : List (List Entry) = outputs_of c.args.grandparents.now o (joined_run c.args.runs.now) in
     let made : IsMade o c.in_ok-ended.ended.items lists = record { entries = c.in_ok-ended.ensures.entries; planned = c.in_ok-ended.ensures.planned } in
     let fits : c.args.first_number + length c.in_ok-ended.ended.items < 2 ^ 64 = omega arith in
-    let small : are_small (numbered_from (table_size (index_keys cmp separator_of successor_of)) c.args.first_number c.in_ok-ended.ended.items) ≡ true =
+    let small : are_small (numbered_from (table_size (index_keys cmp short_keys)) c.args.first_number c.in_ok-ended.ended.items) ≡ true =
     sym (ap are_small (c.deref.ensures.value ∙ c.in_ok-outputs.ensures.ok)) ∙ sym c.are_small.ensures ∙ c.if-not-are_small.false in
     record {
-      outputs = plan_made cmp separator_of successor_of o c.args.first_number c.in_ok-ended.ended.items lists made fits small
+      outputs = plan_made cmp short_keys o c.args.first_number c.in_ok-ended.ended.items lists made fits small
           ∙ ap (λ (ps : List PlannedOutput). Ok (map planned_of ps)) (sym c.in_ok-outputs.ensures.ok);
       options = refl;
     }

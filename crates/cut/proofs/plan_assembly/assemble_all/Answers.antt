@@ -13,7 +13,7 @@ use Rattle.cut.proofs.plan_assembly.assemble_all.Goals as goal
 
 pub assemble_table-requires-clause-pieces : goal.assemble_table-requires-clause-pieces
 assemble_table-requires-clause-pieces g c =
-    let keys : IndexKeys = index_keys g.C.Comparator.cmp g.C.Comparator.separator_of g.C.Comparator.successor_of in
+    let keys : IndexKeys = index_keys g.C.Comparator.cmp g.C.Comparator.short_keys in
     let p : PlannedOutput = c.index-outputs-place.result in
     let is = sym c.index-outputs-place.is in
     let bytes_of : Vec ℕ → List ℕ = λ v. v.items in
@@ -25,7 +25,7 @@ assemble_table-requires-clause-pieces g c =
 
 pub assemble_table-requires-clause-fits : goal.assemble_table-requires-clause-fits
 assemble_table-requires-clause-fits g c =
-    let keys : IndexKeys = index_keys g.C.Comparator.cmp g.C.Comparator.separator_of g.C.Comparator.successor_of in
+    let keys : IndexKeys = index_keys g.C.Comparator.cmp g.C.Comparator.short_keys in
     let p : PlannedOutput = c.index-outputs-place.result in
     let is = sym c.index-outputs-place.is in
     let bytes_of : Vec ℕ → List ℕ = λ v. v.items in
@@ -37,7 +37,7 @@ assemble_table-requires-clause-fits g c =
 
 pub loop-place-preserved : goal.loop-place-preserved
 loop-place-preserved g c =
-    let keys : IndexKeys = index_keys g.C.Comparator.cmp g.C.Comparator.separator_of g.C.Comparator.successor_of in
+    let keys : IndexKeys = index_keys g.C.Comparator.cmp g.C.Comparator.short_keys in
     let p : PlannedOutput = c.index-outputs-place.result in
     let is = sym c.index-outputs-place.is in
     let bytes_of : Vec ℕ → List ℕ = λ v. v.items in

@@ -22,7 +22,7 @@ returns-then-place-blocks g c =
     let ends = subst (λ (x : PlannedBlock). option_map (λ key. key.bytes.now) c.last_key.result ≡ last_entry_key x.entries.entries) is c.last_key.ensures in
     let last : Some c.in-Some.last.bytes.now ≡ last_entry_key b.entries.entries = sym (ap (option_map (λ key. key.bytes.now)) c.in-Some.is) ∙ ends in
     subst (λ (k : List ℕ). EqualOrMemory (λ own. own) c.internal_successor.result (Ok k))
-    (key_last g.C.Comparator.cmp g.C.Comparator.separator_of g.C.Comparator.successor_of c.args.blocks.now c.args.place b c.in-Some.last.bytes.now (omega (arith, c.if-place-blocks.true)) is last)
+    (key_last g.C.Comparator.cmp g.C.Comparator.short_keys c.args.blocks.now c.args.place b c.in-Some.last.bytes.now (omega (arith, c.if-place-blocks.true)) is last)
     c.internal_successor.ensures.successor
 
 pub returns : goal.returns
@@ -37,6 +37,6 @@ returns g c =
     let first : option_map (λ (e : Entry). e.key) (slice_get (n.entries.entries ++ n.entries.behind) 0) ≡ Some c.key.result.bytes.now =
     subst (λ (es : List Entry). option_map (λ (e : Entry). e.key) (slice_get es 0) ≡ Some c.key.result.bytes.now) all c.key.ensures in
     subst (λ (k : List ℕ). EqualOrMemory (λ own. own) c.internal_separator.result (Ok k))
-    (key_next g.C.Comparator.cmp g.C.Comparator.separator_of g.C.Comparator.successor_of c.args.blocks.now c.args.place b n c.in-Some.last.bytes.now c.key.result.bytes.now (omega (arith, c.if-place-blocks.false)) is next_is last
+    (key_next g.C.Comparator.cmp g.C.Comparator.short_keys c.args.blocks.now c.args.place b n c.in-Some.last.bytes.now c.key.result.bytes.now (omega (arith, c.if-place-blocks.false)) is next_is last
     (some_at c.args.blocks.now (c.args.place + 1) n (omega (arith, c.if-place-blocks.false)) c.requires.some next_is) first)
     c.internal_separator.ensures.separator

@@ -10,7 +10,7 @@ use Rattle.cut.proofs.table_len.index_len.Goals as goal
 
 pub loop-place-preserved : goal.loop-place-preserved
 loop-place-preserved g c =
-    let keys : IndexKeys = index_keys g.C.Comparator.cmp g.C.Comparator.separator_of g.C.Comparator.successor_of in
+    let keys : IndexKeys = index_keys g.C.Comparator.cmp g.C.Comparator.short_keys in
     let b : PlannedBlock = c.index-blocks-place.result in
     let is = sym c.index-blocks-place.is in
     let key : List ℕ = c.bytes.result.now in
@@ -29,4 +29,4 @@ loop-place-preserved g c =
 
 pub returns : goal.returns
 returns g c =
-    ap Ok (index_len_all (index_keys g.C.Comparator.cmp g.C.Comparator.separator_of g.C.Comparator.successor_of) c.args.blocks.now c.loop-place.place c.loop-place.offset c.loop-place.len c.requires.any (omega (arith, c.loop-place-test.false)) c.loop-place.invariant)
+    ap Ok (index_len_all (index_keys g.C.Comparator.cmp g.C.Comparator.short_keys) c.args.blocks.now c.loop-place.place c.loop-place.offset c.loop-place.len c.requires.any (omega (arith, c.loop-place-test.false)) c.loop-place.invariant)

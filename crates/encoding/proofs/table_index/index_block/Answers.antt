@@ -39,7 +39,7 @@ fits_by index key handle entries h le =
 
 pub push_index_entry-requires : goal.push_index_entry-requires
 push_index_entry-requires g c =
-    let keys : IndexKeys = index_keys g.C.Comparator.cmp g.C.Comparator.separator_of g.C.Comparator.successor_of in
+    let keys : IndexKeys = index_keys g.C.Comparator.cmp g.C.Comparator.short_keys in
     let blocks : List PlannedBlock = c.args.blocks.now in
     let i : ℕ = c.loop-place.place in
     let size : ℕ = (slice_index_or blocks i c.index-blocks-place.result).len in
@@ -50,19 +50,19 @@ push_index_entry-requires g c =
 
 pub overflow_add-offset : goal.overflow_add-offset
 overflow_add-offset g c =
-    let keys : IndexKeys = index_keys g.C.Comparator.cmp g.C.Comparator.separator_of g.C.Comparator.successor_of in
+    let keys : IndexKeys = index_keys g.C.Comparator.cmp g.C.Comparator.short_keys in
     let s = steps keys c.args.interval c.args.blocks.now c.loop-place.place c.index-blocks-place.result (omega (arith, c.loop-place-test.true)) c.requires.planned c.requires.fits in
     omega (arith, s.within)
 
 pub overflow_add-offset-in-loop-place : goal.overflow_add-offset-in-loop-place
 overflow_add-offset-in-loop-place g c =
-    let keys : IndexKeys = index_keys g.C.Comparator.cmp g.C.Comparator.separator_of g.C.Comparator.successor_of in
+    let keys : IndexKeys = index_keys g.C.Comparator.cmp g.C.Comparator.short_keys in
     let s = steps keys c.args.interval c.args.blocks.now c.loop-place.place c.index-blocks-place.result (omega (arith, c.loop-place-test.true)) c.requires.planned c.requires.fits in
     omega (arith, s.within, c.loop-place.invariant.1)
 
 pub loop-place-preserved : goal.loop-place-preserved
 loop-place-preserved g c =
-    let keys : IndexKeys = index_keys g.C.Comparator.cmp g.C.Comparator.separator_of g.C.Comparator.successor_of in
+    let keys : IndexKeys = index_keys g.C.Comparator.cmp g.C.Comparator.short_keys in
     let blocks : List PlannedBlock = c.args.blocks.now in
     let i : ℕ = c.loop-place.place in
     let size : ℕ = (slice_index_or blocks i c.index-blocks-place.result).len in
@@ -74,5 +74,5 @@ loop-place-preserved g c =
 
 pub returns-clause-index : goal.returns-clause-index
 returns-clause-index g c =
-    let keys : IndexKeys = index_keys g.C.Comparator.cmp g.C.Comparator.separator_of g.C.Comparator.successor_of in
+    let keys : IndexKeys = index_keys g.C.Comparator.cmp g.C.Comparator.short_keys in
     c.loop-place.invariant.0 ∙ ap listing (index_whole keys c.args.interval c.args.blocks.now c.loop-place.place (omega (arith, c.loop-place-test.false)))

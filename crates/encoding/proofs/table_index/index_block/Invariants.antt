@@ -5,6 +5,6 @@ use Rattle.encoding.proofs.table_index.index_block.Given as goal
 
 abbrev pub invariant-loop-place : goal.invariant-loop-place
 invariant-loop-place g l =
-    let keys = index_keys g.C.Comparator.cmp g.C.Comparator.separator_of g.C.Comparator.successor_of in
+    let keys = index_keys g.C.Comparator.cmp g.C.Comparator.short_keys in
     (l.index ≡ record { interval = 1; entries = take l.place (index_from keys l.fn.interval 0 (parts_of l.fn.blocks)) })
     × (l.offset ≡ length (stored_blocks l.fn.interval (take l.place (parts_of l.fn.blocks))))

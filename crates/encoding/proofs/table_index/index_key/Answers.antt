@@ -14,7 +14,7 @@ unreachable-requires g c =
 pub returns-then-place-blocks : goal.returns-then-place-blocks
 unfolding index_keys
 returns-then-place-blocks g c =
-    let keys : IndexKeys = index_keys g.C.Comparator.cmp g.C.Comparator.separator_of g.C.Comparator.successor_of in
+    let keys : IndexKeys = index_keys g.C.Comparator.cmp g.C.Comparator.short_keys in
     subst (λ (k : List ℕ). EqualOrMemory (λ own. own) c.internal_separator.result (Ok k))
     (between_known keys c.args.interval c.args.blocks.now c.args.place c.index-blocks-place.result c.index-blocks-place-then-place-blocks.result c.in-Some.last.bytes.now c.key.result.bytes.now c.first-next.result c.if-place-blocks.true c.requires.planned c.in-Some.ensures c.first-next.ensures c.key.ensures)
     c.internal_separator.ensures.separator
@@ -22,7 +22,7 @@ returns-then-place-blocks g c =
 pub returns-else-place-blocks : goal.returns-else-place-blocks
 unfolding index_keys
 returns-else-place-blocks g c =
-    let keys : IndexKeys = index_keys g.C.Comparator.cmp g.C.Comparator.separator_of g.C.Comparator.successor_of in
+    let keys : IndexKeys = index_keys g.C.Comparator.cmp g.C.Comparator.short_keys in
     subst (λ (k : List ℕ). EqualOrMemory (λ own. own) c.internal_successor.result (Ok k))
     (above_known keys c.args.blocks.now c.args.place c.index-blocks-place.result c.in-Some.last.bytes.now c.requires.within c.if-place-blocks.false c.in-Some.ensures)
     c.internal_successor.ensures.successor

@@ -13,7 +13,7 @@ returns-then-is_eq-clause-separator g c = search rules
 pub returns-then-is_eq-clause-between : goal.returns-then-is_eq-clause-between
 returns-then-is_eq-clause-between g c h =
     IfOk-EqualOrMemory (IsBetween (internal_cmp g.C.Comparator.cmp) c.args.a.bytes.now c.args.b.bytes.now) c.of.result _ (returns-then-is_eq-clause-separator g c)
-    (internal_separator_of-between g.C.Comparator.cmp g.met.C.Comparator.total g.C.Comparator.separator_of g.met.C.Comparator.between c.args.a.bytes.now c.args.b.bytes.now h)
+    (internal_separator_of-between g.C.Comparator.cmp g.met.C.Comparator.total g.C.Comparator.short_keys.separator g.met.C.Comparator.between c.args.a.bytes.now c.args.b.bytes.now h)
 
 pub returns-clause-separator : goal.returns-clause-separator
 unfolding internal_separator_of
@@ -22,4 +22,4 @@ returns-clause-separator g c = search rules
 pub returns-clause-between : goal.returns-clause-between
 returns-clause-between g c h =
     IfOk-EqualOrMemory (IsBetween (internal_cmp g.C.Comparator.cmp) c.args.a.bytes.now c.args.b.bytes.now) c.shorten.result _ (returns-clause-separator g c)
-    (internal_separator_of-between g.C.Comparator.cmp g.met.C.Comparator.total g.C.Comparator.separator_of g.met.C.Comparator.between c.args.a.bytes.now c.args.b.bytes.now h)
+    (internal_separator_of-between g.C.Comparator.cmp g.met.C.Comparator.total g.C.Comparator.short_keys.separator g.met.C.Comparator.between c.args.a.bytes.now c.args.b.bytes.now h)

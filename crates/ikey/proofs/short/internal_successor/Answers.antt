@@ -12,4 +12,4 @@ returns-clause-successor g c = search rules
 pub returns-clause-above : goal.returns-clause-above
 returns-clause-above g c =
     IfOk-EqualOrMemory (λ own. internal_cmp g.C.Comparator.cmp c.args.key.bytes.now own ≢ Greater) c.shorten.result _ (returns-clause-successor g c)
-    (internal_successor_of-above g.C.Comparator.cmp g.met.C.Comparator.total g.C.Comparator.successor_of c.args.key.bytes.now)
+    (internal_successor_of-above g.C.Comparator.cmp g.met.C.Comparator.total g.C.Comparator.short_keys.successor c.args.key.bytes.now)

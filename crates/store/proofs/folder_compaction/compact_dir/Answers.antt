@@ -4,7 +4,7 @@ use Rattle.folder.proofs.CountLemmas.{count_later, later_still, read_same}
 use Rattle.folder.proofs.OpeningLemmas.{hands_on}
 use Rattle.folder.proofs.ReportLemmas.{reports_failed, reports_handed, reports_on, reports_then}
 use Rattle.folder.specs.OpenAnswer.{IsOpened}
-use Rattle.folder.specs.Orders.{order_cmp, order_separator, order_successor}
+use Rattle.folder.specs.Orders.{order_cmp, order_short_keys}
 use Rattle.folder.specs.ReadsAs.{IsHeldIn}
 use Rattle.folder.specs.declared.order.Order.{Order}
 use Rattle.store.specs.Answers.{IsFolderCompacted, IsVersionCompacted}
@@ -27,7 +27,7 @@ returns-in_err-order-clause-answer g c files told =
     let tells = g.F.Folder.tells in
     let failed = g.F.Folder.failed in
     let e = c.in_err-order.field-0.0 in
-    let next = λ (opened : Order × State). IsVersionCompacted (order_cmp opened.0) (order_separator opened.0) (order_successor opened.0) files opened.1 c.args.level c.args.settings.now in
+    let next = λ (opened : Order × State). IsVersionCompacted (order_cmp opened.0) (order_short_keys opened.0) files opened.1 c.args.level c.args.settings.now in
     let synced = sync_told c.sync_folder.result (tells c.args.folder.now) (tells c.sync_folder.new.self) c.sync_folder.ensures.change files told in
     hands_on (λ v. v.items) (failed c.args.folder.now) (failed c.sync_folder.new.self) (failed c.open.new.folder) c.from_residual-in_err-order.result e (IsOpened (tells c.sync_folder.new.self)) (IsFolderCompacted files c.args.level c.args.settings.now)
     c.from_residual-in_err-order.ensures.1 (count_later (failed c.args.folder.now) (failed c.sync_folder.new.self) c.sync_folder.result c.sync_folder.ensures.failures) c.open.ensures.device.later c.in_err-order.ensures.answer
@@ -52,7 +52,7 @@ returns-clause-answer g c files told =
     let tells = g.F.Folder.tells in
     let failed = g.F.Folder.failed in
     let opened : Order × State = (c.in_ok-order.order, c.in_ok-order.version) in
-    let next = λ (opened : Order × State). IsVersionCompacted (order_cmp opened.0) (order_separator opened.0) (order_successor opened.0) files opened.1 c.args.level c.args.settings.now in
+    let next = λ (opened : Order × State). IsVersionCompacted (order_cmp opened.0) (order_short_keys opened.0) files opened.1 c.args.level c.args.settings.now in
     let synced = sync_told c.sync_folder.result (tells c.args.folder.now) (tells c.sync_folder.new.self) c.sync_folder.ensures.change files told in
     let begun = count_later (failed c.args.folder.now) (failed c.sync_folder.new.self) c.sync_folder.result c.sync_folder.ensures.failures in
     answers_behind (λ v. v.items) (failed c.args.folder.now) (failed c.open.new.folder) (failed c.compact_opened.new.folder) c.compact_opened.result (IsOpened (IsHeldIn files)) next next opened

@@ -2,19 +2,19 @@ use Rattle.std.proofs.Common.{subst, sym}
 use Rattle.folder.specs.OpenAnswer.{FolderAnswers}
 use Rattle.folder.specs.declared.order.Order.{Order}
 use Rattle.store.specs.Answers.{IsVersionCompacted}
-use Rattle.folder.specs.Orders.{order_cmp, order_separator, order_successor}
+use Rattle.folder.specs.Orders.{order_cmp, order_short_keys}
 use Rattle.store.proofs.folder_compaction.compact_opened.Goals as goal
 
 pub returns-in-Bytewise-clause-answer : goal.returns-in-Bytewise-clause-answer
 returns-in-Bytewise-clause-answer g c files told =
     let failed = g.F.Folder.failed in
     subst (λ (order : Order). FolderAnswers (λ v. v.items) (failed c.args.folder.now) (failed c.compact_version.new.folder) c.compact_version.result
-    (IsVersionCompacted (order_cmp order) (order_separator order) (order_successor order) files c.args.version.now c.args.level c.args.settings.now))
+    (IsVersionCompacted (order_cmp order) (order_short_keys order) files c.args.version.now c.args.level c.args.settings.now))
     (sym c.in-Bytewise.is) (c.compact_version.ensures.answer files told)
 
 pub returns-in-Shortlex-clause-answer : goal.returns-in-Shortlex-clause-answer
 returns-in-Shortlex-clause-answer g c files told =
     let failed = g.F.Folder.failed in
     subst (λ (order : Order). FolderAnswers (λ v. v.items) (failed c.args.folder.now) (failed c.compact_version-in-Shortlex.new.folder) c.compact_version-in-Shortlex.result
-    (IsVersionCompacted (order_cmp order) (order_separator order) (order_successor order) files c.args.version.now c.args.level c.args.settings.now))
+    (IsVersionCompacted (order_cmp order) (order_short_keys order) files c.args.version.now c.args.level c.args.settings.now))
     (sym c.in-Shortlex.is) (c.compact_version-in-Shortlex.ensures.answer files told)

@@ -24,9 +24,9 @@ returns-in_err-loaded-clause-answer g c files told =
     let failed = g.F.Folder.failed in
     let e = c.in_err-loaded.field-0.0 in
     let numbers = file_numbers cmp v in
-    let later = λ (loaded : List (ℕ × List ℕ)). IsLoadedCompacted cmp g.C.Comparator.separator_of g.C.Comparator.successor_of v loaded c.args.level c.args.settings.now in
+    let later = λ (loaded : List (ℕ × List ℕ)). IsLoadedCompacted cmp g.C.Comparator.short_keys v loaded c.args.level c.args.settings.now in
     hands_on (λ v. v.items) (failed c.args.folder.now) (failed c.args.folder.now) (failed c.load.new.folder) c.from_residual.result e (IsLoaded tells numbers)
-    (IsVersionCompacted cmp g.C.Comparator.separator_of g.C.Comparator.successor_of files v c.args.level c.args.settings.now)
+    (IsVersionCompacted cmp g.C.Comparator.short_keys files v c.args.level c.args.settings.now)
     c.from_residual.ensures.1 (omega arith) c.load.ensures.device.later c.in_err-loaded.ensures.answer
     (λ h. first_refused (IsLoaded (IsHeldIn files) numbers) later e (loaded_in tells files numbers (Err e) told h))
 
@@ -43,10 +43,10 @@ returns-in_err-compacted-clause-answer g c files told =
     let e = c.in_err-compacted.field-0.0 in
     let numbers = file_numbers cmp v in
     let loaded = tables_in c.in_ok-loaded.loaded.items in
-    let later = λ (ts : List (ℕ × List ℕ)). IsLoadedCompacted cmp g.C.Comparator.separator_of g.C.Comparator.successor_of v ts c.args.level c.args.settings.now in
+    let later = λ (ts : List (ℕ × List ℕ)). IsLoadedCompacted cmp g.C.Comparator.short_keys v ts c.args.level c.args.settings.now in
     let given = subst (λ (ts : List (ℕ × Vec ℕ)). UnlessMemory e (later (tables_in ts) (Err e))) c.deref.ensures.value c.in_err-compacted.ensures.answer in
     refuses (λ v. v.items) (failed c.args.folder.now) (failed c.load.new.folder) c.from_residual-in_err-compacted.result e (later loaded)
-    (IsVersionCompacted cmp g.C.Comparator.separator_of g.C.Comparator.successor_of files v c.args.level c.args.settings.now)
+    (IsVersionCompacted cmp g.C.Comparator.short_keys files v c.args.level c.args.settings.now)
     c.from_residual-in_err-compacted.ensures.1 given
     (λ h. first_passed (IsLoaded (IsHeldIn files) numbers) later loaded (Err e) (loaded_in tells files numbers (Ok loaded) told c.in_ok-loaded.ensures.answer) h)
 
@@ -58,7 +58,7 @@ pub returns-in_err-install-clause-answer : goal.returns-in_err-install-clause-an
 returns-in_err-install-clause-answer g c files told =
     let failed = g.F.Folder.failed in
     stopped_on (λ v. v.items) (failed c.args.folder.now) (failed c.load.new.folder) (failed c.install.new.folder) c.from_residual-in_err-install.result c.in_err-install.field-0.0
-    (IsVersionCompacted g.C.Comparator.cmp g.C.Comparator.separator_of g.C.Comparator.successor_of files c.args.version.now c.args.level c.args.settings.now)
+    (IsVersionCompacted g.C.Comparator.cmp g.C.Comparator.short_keys files c.args.version.now c.args.level c.args.settings.now)
     c.from_residual-in_err-install.ensures.1 c.load.ensures.device.later c.install.ensures.device.later c.in_err-install.ensures.refused
 
 pub returns-in_err-install-clause-left : goal.returns-in_err-install-clause-left
@@ -76,9 +76,9 @@ returns-in_err-install-clause-left g c files order told named opened =
     let q = c.from_residual-in_err-install.result in
     let e = c.in_err-install.field-0.0 in
     let h = c.from_residual-in_err-install.ensures.1 in
-    let done = subst (λ (ts : List (ℕ × Vec ℕ)). VersionCompaction order cmp g.C.Comparator.separator_of g.C.Comparator.successor_of v (tables_in ts) c.args.level s answer lines) c.deref.ensures.value (c.in_ok-compacted.ensures.compacted order) in
+    let done = subst (λ (ts : List (ℕ × Vec ℕ)). VersionCompaction order cmp g.C.Comparator.short_keys v (tables_in ts) c.args.level s answer lines) c.deref.ensures.value (c.in_ok-compacted.ensures.compacted order) in
     let promises = subst (λ (n : ℕ). Promises name cmp v n answer (calls c.load.new.folder) (calls c.install.new.folder) (tells c.load.new.folder) (tells c.install.new.folder) c.install.result) c.manifest_of.ensures c.install.ensures.survives in
-    version_left name order cmp g.C.Comparator.separator_of g.C.Comparator.successor_of files v loaded c.args.level s answer lines
+    version_left name order cmp g.C.Comparator.short_keys files v loaded c.args.level s answer lines
     (calls c.args.folder.now) (calls c.load.new.folder) (calls c.install.new.folder) (tells c.args.folder.now) (tells c.load.new.folder) (tells c.install.new.folder) c.install.result q
     named (reads_as cmp order v loaded files opened (loaded_in (tells c.args.folder.now) files (file_numbers cmp v) (Ok loaded) told c.in_ok-loaded.ensures.answer)) done
     (λ P x. refused_on c.install.result q e P h x) c.load.ensures.reads.calls c.load.ensures.reads.same
@@ -91,7 +91,7 @@ returns-clause-answer g c files told =
     let tells = g.F.Folder.tells c.args.folder.now in
     let numbers = file_numbers cmp v in
     let loaded = tables_in c.in_ok-loaded.loaded.items in
-    let later = λ (ts : List (ℕ × List ℕ)). IsLoadedCompacted cmp g.C.Comparator.separator_of g.C.Comparator.successor_of v ts c.args.level c.args.settings.now in
+    let later = λ (ts : List (ℕ × List ℕ)). IsLoadedCompacted cmp g.C.Comparator.short_keys v ts c.args.level c.args.settings.now in
     let lines = c.in_ok-compacted.compacted.lines.items in
     first_passed (IsLoaded (IsHeldIn files) numbers) later loaded (Ok lines) (loaded_in tells files numbers (Ok loaded) told c.in_ok-loaded.ensures.answer)
     (subst (λ (ts : List (ℕ × Vec ℕ)). later (tables_in ts) (Ok lines)) c.deref.ensures.value c.in_ok-compacted.ensures.answer)
@@ -108,9 +108,9 @@ returns-clause-left g c files order told named opened =
     let answer = answer_in c.in_ok-compacted.compacted.outcome in
     let lines = c.in_ok-compacted.compacted.lines.items in
     let q : Result (Vec ℕ) Fault = Ok c.in_ok-compacted.compacted.lines in
-    let done = subst (λ (ts : List (ℕ × Vec ℕ)). VersionCompaction order cmp g.C.Comparator.separator_of g.C.Comparator.successor_of v (tables_in ts) c.args.level s answer lines) c.deref.ensures.value (c.in_ok-compacted.ensures.compacted order) in
+    let done = subst (λ (ts : List (ℕ × Vec ℕ)). VersionCompaction order cmp g.C.Comparator.short_keys v (tables_in ts) c.args.level s answer lines) c.deref.ensures.value (c.in_ok-compacted.ensures.compacted order) in
     let promises = subst (λ (n : ℕ). Promises name cmp v n answer (calls c.load.new.folder) (calls c.install.new.folder) (tells c.load.new.folder) (tells c.install.new.folder) c.install.result) c.manifest_of.ensures c.install.ensures.survives in
-    version_left name order cmp g.C.Comparator.separator_of g.C.Comparator.successor_of files v loaded c.args.level s answer lines
+    version_left name order cmp g.C.Comparator.short_keys files v loaded c.args.level s answer lines
     (calls c.args.folder.now) (calls c.load.new.folder) (calls c.install.new.folder) (tells c.args.folder.now) (tells c.load.new.folder) (tells c.install.new.folder) c.install.result q
     named (reads_as cmp order v loaded files opened (loaded_in (tells c.args.folder.now) files (file_numbers cmp v) (Ok loaded) told c.in_ok-loaded.ensures.answer)) done
     (λ P x. valued_on c.install.result _ q P c.in_ok-install.was x) c.load.ensures.reads.calls c.load.ensures.reads.same refl tt promises
@@ -124,11 +124,11 @@ returns-in_err-compacted-clause-device g c =
     let v = c.args.version.now in
     let failed = g.F.Folder.failed in
     let e = c.in_err-compacted.field-0.0 in
-    let IsAnswer = IsLoadedCompacted cmp g.C.Comparator.separator_of g.C.Comparator.successor_of v (tables_in c.deref.result.now) c.args.level c.args.settings.now in
+    let IsAnswer = IsLoadedCompacted cmp g.C.Comparator.short_keys v (tables_in c.deref.result.now) c.args.level c.args.settings.now in
     reports_after c.from_residual-in_err-compacted.result c.in_ok-loaded.was c.load.ensures.device
     (device_handed (failed c.args.folder.now) (failed c.args.folder.now) (failed c.load.new.folder) c.from_residual-in_err-compacted.result e c.from_residual-in_err-compacted.ensures.1 (omega arith) c.load.ensures.device.later
     (never_device (failed c.args.folder.now) (failed c.load.new.folder) e (IsAnswer (Err e))
-    (loaded_other cmp g.C.Comparator.separator_of g.C.Comparator.successor_of v (tables_in c.deref.result.now) c.args.level c.args.settings.now e) c.in_err-compacted.ensures.answer))
+    (loaded_other cmp g.C.Comparator.short_keys v (tables_in c.deref.result.now) c.args.level c.args.settings.now e) c.in_err-compacted.ensures.answer))
 
 pub returns-in_err-install-clause-device : goal.returns-in_err-install-clause-device
 returns-in_err-install-clause-device g c =

@@ -23,8 +23,8 @@ returns-in_err-tables-clause-answer g c =
     let v = c.args.version.now in
     let loaded = tables_in c.args.loaded.now in
     let e = c.in_err-tables.field-0.0 in
-    let last = λ (p : PickedInputs) (a : Result (List ℕ) Fault). a ≡ lines_of v p (compaction_of cmp g.C.Comparator.separator_of g.C.Comparator.successor_of v loaded p c.args.settings.now) in
-    handed_on (λ r. r.lines.items) c.from_residual.result e (IsLawfulTables cmp v loaded) (IsLoadedCompacted cmp g.C.Comparator.separator_of g.C.Comparator.successor_of v loaded c.args.level c.args.settings.now)
+    let last = λ (p : PickedInputs) (a : Result (List ℕ) Fault). a ≡ lines_of v p (compaction_of cmp g.C.Comparator.short_keys v loaded p c.args.settings.now) in
+    handed_on (λ r. r.lines.items) c.from_residual.result e (IsLawfulTables cmp v loaded) (IsLoadedCompacted cmp g.C.Comparator.short_keys v loaded c.args.level c.args.settings.now)
     c.from_residual.ensures.1 c.in_err-tables.ensures (λ h. first_refused (IsLawfulTables cmp v loaded) (λ (tables : List NumberedContents). IsThen (IsInputsAnswer cmp v c.args.level) last) e h)
 
 pub returns-in_err-picked-clause-answer : goal.returns-in_err-picked-clause-answer
@@ -33,8 +33,8 @@ returns-in_err-picked-clause-answer g c =
     let v = c.args.version.now in
     let loaded = tables_in c.args.loaded.now in
     let e = c.in_err-picked.field-0.0 in
-    let last = λ (p : PickedInputs) (a : Result (List ℕ) Fault). a ≡ lines_of v p (compaction_of cmp g.C.Comparator.separator_of g.C.Comparator.successor_of v loaded p c.args.settings.now) in
-    handed_on (λ r. r.lines.items) c.from_residual-in_err-picked.result e (IsInputsAnswer cmp v c.args.level) (IsLoadedCompacted cmp g.C.Comparator.separator_of g.C.Comparator.successor_of v loaded c.args.level c.args.settings.now)
+    let last = λ (p : PickedInputs) (a : Result (List ℕ) Fault). a ≡ lines_of v p (compaction_of cmp g.C.Comparator.short_keys v loaded p c.args.settings.now) in
+    handed_on (λ r. r.lines.items) c.from_residual-in_err-picked.result e (IsInputsAnswer cmp v c.args.level) (IsLoadedCompacted cmp g.C.Comparator.short_keys v loaded c.args.level c.args.settings.now)
     c.from_residual-in_err-picked.ensures.1 c.in_err-picked.ensures.picked
     (λ h. first_passed (IsLawfulTables cmp v loaded) (λ (tables : List NumberedContents). IsThen (IsInputsAnswer cmp v c.args.level) last) c.in_ok-tables.tables.items (Err e) c.in_ok-tables.ensures
     (first_refused (IsInputsAnswer cmp v c.args.level) last e h))
@@ -54,9 +54,9 @@ returns-in_err-outcome-clause-answer g c =
     let p = picked_in c.in_ok-picked.picked in
     let are = (c.inputs_are_tables.ensures v loaded c.in_ok-tables.tables.items c.args.level p c.in_ok-tables.ensures (picked_of cmp v c.args.level p c.in_ok-picked.ensures.picked)).1 in
     let e = c.in_err-outcome.field-0.0 in
-    let last = λ (p : PickedInputs) (a : Result (List ℕ) Fault). a ≡ lines_of v p (compaction_of cmp g.C.Comparator.separator_of g.C.Comparator.successor_of v loaded p c.args.settings.now) in
-    handed_on {Z = Answer} (λ r. r.lines.items) c.from_residual-in_err-outcome.result e (λ a. compaction_of cmp g.C.Comparator.separator_of g.C.Comparator.successor_of v loaded p c.args.settings.now ≡ a)
-    (IsLoadedCompacted cmp g.C.Comparator.separator_of g.C.Comparator.successor_of v loaded c.args.level c.args.settings.now)
+    let last = λ (p : PickedInputs) (a : Result (List ℕ) Fault). a ≡ lines_of v p (compaction_of cmp g.C.Comparator.short_keys v loaded p c.args.settings.now) in
+    handed_on {Z = Answer} (λ r. r.lines.items) c.from_residual-in_err-outcome.result e (λ a. compaction_of cmp g.C.Comparator.short_keys v loaded p c.args.settings.now ≡ a)
+    (IsLoadedCompacted cmp g.C.Comparator.short_keys v loaded c.args.level c.args.settings.now)
     c.from_residual-in_err-outcome.ensures.1 (c.in_err-outcome.ensures.answer loaded are)
     (λ h. first_passed (IsLawfulTables cmp v loaded) (λ (tables : List NumberedContents). IsThen (IsInputsAnswer cmp v c.args.level) last) c.in_ok-tables.tables.items (Err e) c.in_ok-tables.ensures
     (first_passed (IsInputsAnswer cmp v c.args.level) last p (Err e) c.in_ok-picked.ensures.picked (sym (ap (lines_of v p) h))))
@@ -66,7 +66,7 @@ returns-in_err-lines-clause-answer g c =
     let cmp = g.C.Comparator.cmp in
     let e = c.in_err-lines.field-0.0 in
     let lines = compaction_lines (tables_in c.in_ok-outcome.outcome.tables.items) c.deref.result.now c.manifest_of.result in
-    handed_on {Z = List ℕ} (λ r. r.lines.items) c.from_residual-in_err-lines.result e (λ a. Ok lines ≡ a) (IsLoadedCompacted cmp g.C.Comparator.separator_of g.C.Comparator.successor_of c.args.version.now (tables_in c.args.loaded.now) c.args.level c.args.settings.now)
+    handed_on {Z = List ℕ} (λ r. r.lines.items) c.from_residual-in_err-lines.result e (λ a. Ok lines ≡ a) (IsLoadedCompacted cmp g.C.Comparator.short_keys c.args.version.now (tables_in c.args.loaded.now) c.args.level c.args.settings.now)
     c.from_residual-in_err-lines.ensures.1 c.in_err-lines.ensures (λ h. absurd (no_refusal lines e h))
 
 pub returns-clause-answer : goal.returns-clause-answer
@@ -77,7 +77,7 @@ returns-clause-answer g c =
     let p = picked_in c.in_ok-picked.picked in
     let are = (c.inputs_are_tables.ensures v loaded c.in_ok-tables.tables.items c.args.level p c.in_ok-tables.ensures (picked_of cmp v c.args.level p c.in_ok-picked.ensures.picked)).1 in
     let outputs = tables_in c.in_ok-outcome.outcome.tables.items in
-    let last = λ (p : PickedInputs) (a : Result (List ℕ) Fault). a ≡ lines_of v p (compaction_of cmp g.C.Comparator.separator_of g.C.Comparator.successor_of v loaded p c.args.settings.now) in
+    let last = λ (p : PickedInputs) (a : Result (List ℕ) Fault). a ≡ lines_of v p (compaction_of cmp g.C.Comparator.short_keys v loaded p c.args.settings.now) in
     let lines = sym c.in_ok-lines.ensures ∙ ap (λ (fs : List InputFile). Ok (compaction_lines outputs fs c.manifest_of.result)) c.deref.ensures.value ∙ ap (λ (n : ℕ). Ok (compaction_lines outputs p.files n)) c.manifest_of.ensures in
     first_passed (IsLawfulTables cmp v loaded) (λ (tables : List NumberedContents). IsThen (IsInputsAnswer cmp v c.args.level) last) c.in_ok-tables.tables.items (Ok c.in_ok-lines.lines.items) c.in_ok-tables.ensures
     (first_passed (IsInputsAnswer cmp v c.args.level) last p (Ok c.in_ok-lines.lines.items) c.in_ok-picked.ensures.picked (lines ∙ sym (ap (lines_of v p) (c.in_ok-outcome.ensures.answer loaded are))))
@@ -91,6 +91,6 @@ returns-clause-compacted g c order =
     let are = (c.inputs_are_tables.ensures v loaded c.in_ok-tables.tables.items c.args.level p c.in_ok-tables.ensures (picked_of cmp v c.args.level p c.in_ok-picked.ensures.picked)).1 in
     let outputs = tables_in c.in_ok-outcome.outcome.tables.items in
     let lines = sym c.in_ok-lines.ensures ∙ ap (λ (fs : List InputFile). Ok (compaction_lines outputs fs c.manifest_of.result)) c.deref.ensures.value ∙ ap (λ (n : ℕ). Ok (compaction_lines outputs p.files n)) c.manifest_of.ensures in
-    is_compacted cmp g.C.Comparator.separator_of g.C.Comparator.successor_of c.answer_is_installed.ensures order v loaded c.in_ok-tables.tables.items c.args.level p c.args.settings.now (answer_in c.in_ok-outcome.outcome) c.in_ok-lines.lines.items
+    is_compacted cmp g.C.Comparator.short_keys c.answer_is_installed.ensures order v loaded c.in_ok-tables.tables.items c.args.level p c.args.settings.now (answer_in c.in_ok-outcome.outcome) c.in_ok-lines.lines.items
     c.in_ok-tables.ensures c.in_ok-picked.ensures.state (picked_of cmp v c.args.level p c.in_ok-picked.ensures.picked) c.in_ok-outcome.ensures.logs.0 c.in_ok-outcome.ensures.logs.1 (c.in_ok-outcome.ensures.answer loaded are)
     (ok_is c.in_ok-lines.lines.items (compaction_lines outputs p.files (manifest_of v)) lines)

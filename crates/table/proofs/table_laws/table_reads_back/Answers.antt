@@ -8,11 +8,11 @@ pub returns : goal.returns
 unfolding index_keys table
 returns g c o q w small =
     let cmp = g.C.Comparator.cmp in
-    let keys = index_keys cmp g.C.Comparator.separator_of g.C.Comparator.successor_of in
+    let keys = index_keys cmp g.C.Comparator.short_keys in
     let laws : KeepOrder cmp keys = record {
-      lawful_between = λ a b h. IsInternalKey-internal_separator_of cmp g.C.Comparator.separator_of a b h;
-      lawful_above = λ a h. IsInternalKey-internal_successor_of cmp g.C.Comparator.successor_of a h;
-      between = internal_separator_of-between cmp g.met.C.Comparator.total g.C.Comparator.separator_of g.met.C.Comparator.between;
-      above = internal_successor_of-above cmp g.met.C.Comparator.total g.C.Comparator.successor_of;
+      lawful_between = λ a b h. IsInternalKey-internal_separator_of cmp g.C.Comparator.short_keys.separator a b h;
+      lawful_above = λ a h. IsInternalKey-internal_successor_of cmp g.C.Comparator.short_keys.successor a h;
+      between = internal_separator_of-between cmp g.met.C.Comparator.total g.C.Comparator.short_keys.separator g.met.C.Comparator.between;
+      above = internal_successor_of-above cmp g.met.C.Comparator.total g.C.Comparator.short_keys.successor;
     } in
-    is_table cmp keys o q (table cmp g.C.Comparator.separator_of g.C.Comparator.successor_of o q) laws w refl small
+    is_table cmp keys o q (table cmp g.C.Comparator.short_keys o q) laws w refl small

@@ -9,7 +9,7 @@ pub returns-clause-number : goal.returns-clause-number
 returns-clause-number g c =
     let was = c.self.inside in
     let all : length was.pieces.items ≡ jobs was.options (lists_in (map planned_of was.outputs.items)) =
-    plan_jobs g.C.Comparator.cmp g.C.Comparator.separator_of g.C.Comparator.successor_of was.options was.outputs.items was.pieces.items was.counts.items c.self.invariant in
+    plan_jobs g.C.Comparator.cmp g.C.Comparator.short_keys was.options was.outputs.items was.pieces.items was.counts.items c.self.invariant in
     let same : c.len.result ≡ jobs was.options (lists_in (map planned_of was.outputs.items)) = omega (arith, c.len.ensures, all) in
     subst (λ (s : PlanSeen). c.len.result ≡ jobs s.options (lists_in s.outputs)) c.self.view_is same
 

@@ -22,7 +22,7 @@ seen o q = record { options = o; entries = q }
 pub add-requires : goal.add-requires
 add-requires g c =
     let was = c.self.inside in
-    open_fits (index_keys g.C.Comparator.cmp g.C.Comparator.separator_of g.C.Comparator.successor_of) was.options was.flushed.bytes.items was.flushed.index.items was.block c.args.key.bytes.now c.args.value.now c.self.invariant.0 (sym c.is_full.ensures ∙ c.if-not-is_full.true) c.args.key.lawful c.requires.value_fits
+    open_fits (index_keys g.C.Comparator.cmp g.C.Comparator.short_keys) was.options was.flushed.bytes.items was.flushed.index.items was.block c.args.key.bytes.now c.args.value.now c.self.invariant.0 (sym c.is_full.ensures ∙ c.if-not-is_full.true) c.args.key.lawful c.requires.value_fits
 
 pub add-requires-2 : goal.add-requires-2
 add-requires-2 g c =
@@ -30,11 +30,11 @@ add-requires-2 g c =
 
 -- ---- the entry goes into the open block
 
-grown : (g : Over) (c : In_ok-add g) → Adds (index_keys g.C.Comparator.cmp g.C.Comparator.separator_of g.C.Comparator.successor_of) c.self.inside.options (entries_so_far c.self.inside.flushed.bytes.items c.self.inside.flushed.index.items c.self.inside.block.entries) c.args.key.bytes.now c.args.value.now
+grown : (g : Over) (c : In_ok-add g) → Adds (index_keys g.C.Comparator.cmp g.C.Comparator.short_keys) c.self.inside.options (entries_so_far c.self.inside.flushed.bytes.items c.self.inside.flushed.index.items c.self.inside.block.entries) c.args.key.bytes.now c.args.value.now
     c.self.inside.options c.self.inside.flushed.bytes.items c.self.inside.flushed.index.items c.add.new.self
 grown g c =
     let was = c.self.inside in
-    let keys = index_keys g.C.Comparator.cmp g.C.Comparator.separator_of g.C.Comparator.successor_of in
+    let keys = index_keys g.C.Comparator.cmp g.C.Comparator.short_keys in
     grows keys was.options was.flushed.bytes.items was.flushed.index.items was.block c.args.key.bytes.now c.args.value.now _ _ _ _ c.self.invariant.0 (sym c.is_full.ensures ∙ c.if-not-is_full.true) c.args.key.lawful c.requires.value_fits refl refl refl c.in_ok-add.ensures.ok
 
 pub invariant_of-self : goal.invariant_of-self
@@ -49,15 +49,15 @@ returns-then-not-is_full-clause-ok g c =
 
 -- ---- the open block is flushed, and the entry begins another
 
-begun : (g : Over) (c : After-clear-2 g) → Adds (index_keys g.C.Comparator.cmp g.C.Comparator.separator_of g.C.Comparator.successor_of) c.self.inside.options (entries_so_far c.self.inside.flushed.bytes.items c.self.inside.flushed.index.items c.self.inside.block.entries) c.args.key.bytes.now c.args.value.now
+begun : (g : Over) (c : After-clear-2 g) → Adds (index_keys g.C.Comparator.cmp g.C.Comparator.short_keys) c.self.inside.options (entries_so_far c.self.inside.flushed.bytes.items c.self.inside.flushed.index.items c.self.inside.block.entries) c.args.key.bytes.now c.args.value.now
     c.self.inside.options c.push.new.self.bytes.items c.push.new.self.index.items c.add-2.new.self
 unfolding index_keys
 begun g c =
     let was = c.self.inside in
-    let keys = index_keys g.C.Comparator.cmp g.C.Comparator.separator_of g.C.Comparator.successor_of in
+    let keys = index_keys g.C.Comparator.cmp g.C.Comparator.short_keys in
     let key : List ℕ = c.args.key.bytes.now in
-    let between : c.in_ok-between.between ≡ internal_separator_of g.C.Comparator.cmp g.C.Comparator.separator_of (last_key [] was.block.entries) key =
-    sym (ok_is c.in_ok-between.ensures.separator) ∙ ap (λ (x : List ℕ). internal_separator_of g.C.Comparator.cmp g.C.Comparator.separator_of x key) c.last_key.ensures in
+    let between : c.in_ok-between.between ≡ internal_separator_of g.C.Comparator.cmp g.C.Comparator.short_keys.separator (last_key [] was.block.entries) key =
+    sym (ok_is c.in_ok-between.ensures.separator) ∙ ap (λ (x : List ℕ). internal_separator_of g.C.Comparator.cmp g.C.Comparator.short_keys.separator x key) c.last_key.ensures in
     let size : ℕ = length (block was.block.interval was.block.entries) in
     flushes keys was.options was.flushed.bytes.items was.flushed.index.items was.block key c.args.value.now _ _ _ _ c.self.invariant.0 (sym c.is_full.ensures ∙ c.if-not-is_full.false) c.args.key.lawful c.requires.value_fits
     refl
@@ -86,7 +86,7 @@ invariant_of-self-in_err-add-2 g c = rw (c.in_err-add-2.ensures.err) c.self.inva
 pub invariant_of-self-in-Err : goal.invariant_of-self-in-Err
 invariant_of-self-in-Err g c =
     let was = c.self.inside in
-    let keys = index_keys g.C.Comparator.cmp g.C.Comparator.separator_of g.C.Comparator.successor_of in
+    let keys = index_keys g.C.Comparator.cmp g.C.Comparator.short_keys in
     let added = c.in_ok-add-2.ensures.ok ∙ ap (λ (b : BlockBuilding). record { interval = b.interval; entries = with_entry b.entries c.args.key.bytes.now c.args.value.now }) c.self.invariant.1 in (
       subst (λ (b : List ℕ). IsAnyTableBuilder keys was.options b c.push.new.self.index.items was.block) (sym c.in-Err.ensures.bytes_stay)
           (subst (λ (i : List FlushedBlock). IsAnyTableBuilder keys was.options was.flushed.bytes.items i was.block) (sym c.in-Err.ensures.index_stays) c.self.invariant.0),

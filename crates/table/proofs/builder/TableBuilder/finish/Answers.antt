@@ -16,12 +16,12 @@ pub returns : goal.returns
 unfolding index_keys table
 returns g c =
     let was = c.self.inside in
-    let keys = index_keys g.C.Comparator.cmp g.C.Comparator.separator_of g.C.Comparator.successor_of in
-    let whole : closed c.if-not-is_empty.flushed.bytes.items c.if-not-is_empty.flushed.index.items ≡ table g.C.Comparator.cmp g.C.Comparator.separator_of g.C.Comparator.successor_of was.options (entries_so_far was.flushed.bytes.items was.flushed.index.items was.block.entries) =
+    let keys = index_keys g.C.Comparator.cmp g.C.Comparator.short_keys in
+    let whole : closed c.if-not-is_empty.flushed.bytes.items c.if-not-is_empty.flushed.index.items ≡ table g.C.Comparator.cmp g.C.Comparator.short_keys was.options (entries_so_far was.flushed.bytes.items was.flushed.index.items was.block.entries) =
     elim c.if-not-is_empty.branch [
       | then-not-is_empty+in_ok-above+in_ok-push w ↦
-          let above : w.in_ok-above.above ≡ internal_successor_of g.C.Comparator.cmp g.C.Comparator.successor_of (last_key [] was.block.entries) =
-          sym (ok_is w.in_ok-above.ensures.successor) ∙ ap (internal_successor_of g.C.Comparator.cmp g.C.Comparator.successor_of) w.last_key.ensures in
+          let above : w.in_ok-above.above ≡ internal_successor_of g.C.Comparator.cmp g.C.Comparator.short_keys.successor (last_key [] was.block.entries) =
+          sym (ok_is w.in_ok-above.ensures.successor) ∙ ap (internal_successor_of g.C.Comparator.cmp g.C.Comparator.short_keys.successor) w.last_key.ensures in
           let size : ℕ = length (block was.block.interval was.block.entries) in
           closed_is _ _ _ _
           (ap (λ f. f.bytes.items) w.flushed-is ∙ w.in_ok-push.ensures.bytes)
@@ -31,5 +31,5 @@ returns g c =
           closed_is _ _ _ _ (ap (λ f. f.bytes.items) w.flushed-is) (ap (λ f. f.index.items) w.flushed-is)
           ∙ closes_none keys was.options was.flushed.bytes.items was.flushed.index.items was.block.interval was.block.entries c.self.invariant.0.0 c.self.invariant.0.1 (ap length (w.if-not-is_empty.ensures.0 refl))
     ] in
-    let seen = ap (λ (b : TableBuilding). within_limit (table g.C.Comparator.cmp g.C.Comparator.separator_of g.C.Comparator.successor_of b.options b.entries)) c.self.view_is in
+    let seen = ap (λ (b : TableBuilding). within_limit (table g.C.Comparator.cmp g.C.Comparator.short_keys b.options b.entries)) c.self.view_is in
     subst (EqualOrMemory (λ v. v.items) c.finish.result) (ap within_limit whole ∙ seen) c.finish.ensures

@@ -10,7 +10,7 @@ use Rattle.table.proofs.builder.TableBuilder.flushed.Goals.{then-is_full, else-i
 pub returns : goal.returns
 returns g c =
     let was = c.self.inside in
-    let keys = index_keys g.C.Comparator.cmp g.C.Comparator.separator_of g.C.Comparator.successor_of in
+    let keys = index_keys g.C.Comparator.cmp g.C.Comparator.short_keys in
     let whole = flushed-kept keys was.options was.flushed.bytes.items was.flushed.index.items was.block.interval was.block.entries c.self.invariant.0.0 c.is_full.result c.self.invariant.0.1 (sym c.is_full.ensures) in
     let counted : c.if-is_full.open ≡ cond c.is_full.result (length (block was.block.interval was.block.entries) + 5) 0 =
     elim c.if-is_full.branch [

@@ -11,7 +11,7 @@ returns-then-is_empty g c =
     let was = c.self.inside in
     let cmp = g.C.Comparator.cmp in
     let key : List ℕ = c.args.key.now.bytes.now in
-    let keys = index_keys cmp g.C.Comparator.separator_of g.C.Comparator.successor_of in
+    let keys = index_keys cmp g.C.Comparator.short_keys in
     let above = above_none cmp keys was.options was.flushed.bytes.items was.flushed.index.items was.block.interval was.block.entries key c.self.invariant.0.0 c.self.invariant.0.1 (ap length (c.if-is_empty.ensures.0 refl)) in
     (λ t. subst (λ (b : TableBuilding). IsAboveLast cmp b.entries key) c.self.view_is above, λ h. refl)
 
@@ -20,7 +20,7 @@ returns g c =
     let was = c.self.inside in
     let cmp = g.C.Comparator.cmp in
     let key : List ℕ = c.args.key.now.bytes.now in
-    let keys = index_keys cmp g.C.Comparator.separator_of g.C.Comparator.successor_of in
+    let keys = index_keys cmp g.C.Comparator.short_keys in
     let kept = above_kept cmp keys was.options was.flushed.bytes.items was.flushed.index.items was.block.interval was.block.entries key c.self.invariant.0.0 c.self.invariant.0.1 (some_length was.block.entries c.if-is_empty.ensures.1) in
     let less = less_by_test c.is_lt.result c.compare.result (internal_cmp cmp (last_key [] was.block.entries) key) c.is_lt.ensures (c.compare.ensures.order ∙ ap (λ (k : List ℕ). internal_cmp cmp k key) c.last_key.ensures) in (
       λ t. subst (λ (b : TableBuilding). IsAboveLast cmp b.entries key) c.self.view_is (kept.1 (less.0 t)),

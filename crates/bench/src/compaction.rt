@@ -60,7 +60,7 @@ impl Compaction {
     /// ranges.
     pub fn of_folder(rt: &HostRuntime, path: &str, ranges: u64) -> Result<Compaction, Fault> {
         let mut disk = Disk::new(rt, path);
-        let (_, version) = open(rt.alloc(), &mut disk)?;
+        let version = open(rt.alloc(), &mut disk)?.version;
         let loaded = load::<Bytewise, _>(rt.alloc(), &mut disk, &version)?;
         Compaction::of_version(rt.alloc(), &version, loaded, ranges)
     }

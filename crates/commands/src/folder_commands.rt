@@ -17,7 +17,7 @@ use crate::version_verdict::verified;
 use checks::Watch;
 use coding::Fault;
 use edit::Version;
-use folder::{Folder, Order, load, open};
+use folder::{Folder, Opened, Order, load, open};
 use ikey::{Bytewise, SharedComparator, Shortlex};
 use std::alloc::Global;
 use std::thread::Threads;
@@ -36,7 +36,7 @@ pub fn manifest<F: Folder>(alloc: Global, folder: &mut F) -> Result<Vec<u8>, Fau
     ensures device { ReportsDevice F.Folder folder.old folder.new result }
     ensures reads { OnlyReads F.Folder folder.old folder.new }
 {
-    let (order, version) = open(alloc, folder)?;
+    let Opened { order, version, .. } = open(alloc, folder)?;
     manifest_lines(alloc, order, &version)
 }
 
@@ -114,7 +114,7 @@ fn answered<F: Folder, W: Watch + Sync, R: Threads + Sync>(
     ensures device { ReportsDevice F.Folder folder.old folder.new result }
     ensures reads { OnlyReads F.Folder folder.old folder.new }
 {
-    let (order, version) = open(alloc, folder)?;
+    let Opened { order, version, .. } = open(alloc, folder)?;
     answer_opened(rt, alloc, folder, order, &version, question, watch)
 }
 

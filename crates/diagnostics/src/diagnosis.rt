@@ -38,8 +38,10 @@ pub fn refused_file<F: Folder>(alloc: Global, folder: &mut F) -> Result<Option<R
     ensures reads { OnlyReads F.Folder folder.old folder.new }
 {
     match open(alloc, folder) {
-        Ok((Order::Bytewise, version)) => refused_table::<Bytewise, F>(alloc, folder, &version),
-        Ok((Order::Shortlex, version)) => refused_table::<Shortlex, F>(alloc, folder, &version),
+        Ok(opened) => match opened.order {
+            Order::Bytewise => refused_table::<Bytewise, F>(alloc, folder, &opened.version),
+            Order::Shortlex => refused_table::<Shortlex, F>(alloc, folder, &opened.version),
+        },
         Err(fault) => {
             let name = opening_file(alloc, folder)?;
             Ok(Some(RefusedFile { name, fault }))

@@ -1,5 +1,7 @@
 //! Opening a folder.
 
+ghost use Rattle.std.specs.Prelude.{IfOk, Some, codes};
+ghost use Rattle.folder.specs.Names.{current_text};
 ghost use Rattle.folder.specs.OpenAnswer.{FolderAnswers, IsHeld, IsOpened};
 ghost use Rattle.folder.specs.Reports.{OnlyReads, ReportsDevice};
 
@@ -10,6 +12,17 @@ use crate::order::Order;
 use coding::{Fault, FaultName};
 use edit::Version;
 use std::alloc::Global;
+
+/// What a folder is opened as.
+#[derive(Drop)]
+pub struct Opened {
+    /// The order of the user keys.
+    pub order: Order,
+    /// The version that the manifest gives.
+    pub version: Version,
+    /// The number of the manifest, which CURRENT names.
+    pub manifest: u64,
+}
 
 /// The order and the version of a folder: CURRENT names a manifest, whose edits give them. It only
 /// reads.
@@ -28,9 +41,12 @@ use std::alloc::Global;
 ///
 /// A previous log number that was never set stays unset. If the device fails a call, the answer is
 /// Device and no further call is made. Memory may come at any point.
-pub fn open<F: Folder>(alloc: Global, folder: &mut F) -> Result<(Order, Version), Fault>
-    ensures answer { FolderAnswers (λ r. (r.0, r.1)) (F.failed folder.old) (F.failed folder.new)
+pub fn open<F: Folder>(alloc: Global, folder: &mut F) -> Result<Opened, Fault>
+    ensures answer { FolderAnswers (λ r. (r.order, r.version)) (F.failed folder.old) (F.failed folder.new)
         result (IsOpened (F.tells folder.old)) }
+    // CURRENT names the manifest of this number.
+    ensures named { IfOk result
+        (λ r. F.tells folder.old (codes "CURRENT") (Some (current_text r.manifest))) }
     ensures device { ReportsDevice F.Folder folder.old folder.new result }
     ensures reads { OnlyReads F.Folder folder.old folder.new }
 {
@@ -38,7 +54,12 @@ pub fn open<F: Folder>(alloc: Global, folder: &mut F) -> Result<(Order, Version)
     let number = number_in_current(alloc, &current)?;
     let name = manifest_name(alloc, number)?;
     let manifest = held(folder, name.as_str())?;
-    version_in(alloc, number, &manifest)
+    let (order, version) = version_in(alloc, number, &manifest)?;
+    Ok(Opened {
+        order,
+        version,
+        manifest: number,
+    })
 }
 
 /// The bytes of a file. Missing if no file has this `name`.

@@ -35,7 +35,7 @@ mod table_loader;
 mod trail;
 mod whole_files;
 
-pub use current_version::open;
+pub use current_version::{Opened, open};
 pub use disk::Disk;
 pub use folder::{Folder, FolderFault};
 pub use folder_answer_laws::{crash_laws, folder_laws, reading_laws};

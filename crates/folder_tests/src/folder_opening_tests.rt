@@ -106,7 +106,8 @@ fn log_of(alloc: Global, records: &[&[u8]]) -> Result<Vec<u8>, Fault> {
 /// The order and the version of a folder whose manifest has these bytes.
 fn opened_of(alloc: Global, manifest: &[u8]) -> Result<(Order, Version), Fault> {
     let files = [CURRENT_FIVE, ("MANIFEST-000005", manifest)];
-    open(alloc, &mut Shelf::new(alloc, &files))
+    let opened = open(alloc, &mut Shelf::new(alloc, &files))?;
+    Ok((opened.order, opened.version))
 }
 
 /// The version of a folder whose manifest has these bytes.
@@ -291,7 +292,7 @@ const FOLDERS: &[Row] = &[
 
 /// Opens a folder and loads its tables.
 fn loaded(alloc: Global, folder: &mut Shelf<'_>) -> Result<Vec<(u64, Vec<u8>)>, Fault> {
-    let (_order, version) = open(alloc, folder)?;
+    let version = open(alloc, folder)?.version;
     load::<Bytewise, Shelf<'_>>(alloc, folder, &version)
 }
 

@@ -79,13 +79,13 @@ fn carry_on(alloc: Global, shelf: &mut Shelf<'_>, version: &Version) -> Result<(
 
 /// Opens the folder. Loads and installs, if it reads as the version before.
 fn carry(alloc: Global, shelf: &mut Shelf<'_>) -> Result<(), Fault> {
-    let (_order, version) = open(alloc, shelf)?;
+    let version = open(alloc, shelf)?.version;
     carry_on(alloc, shelf, &version)
 }
 
 /// Whether the folder reads as the edited version.
 fn is_edited(alloc: Global, shelf: &mut Shelf<'_>) -> Result<bool, Fault> {
-    let (_order, after) = open(alloc, shelf)?;
+    let after = open(alloc, shelf)?.version;
     Ok(after.next_file() == Some(10) && after.files::<Bytewise>(alloc, 1)?.is_empty())
 }
 

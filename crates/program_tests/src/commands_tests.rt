@@ -203,11 +203,19 @@ fn explained(
     folder: &mut Shelf<'_>,
     level: u64,
 ) -> Result<Vec<u8>, Fault> {
-    let (order, before) = open(alloc, &mut Shelf::new(alloc, before))?;
-    let (_order, after) = open(alloc, folder)?;
+    let before = open(alloc, &mut Shelf::new(alloc, before))?;
+    let after = open(alloc, folder)?;
     lines_of(
         alloc,
-        account_of(alloc, folder, order, &before, &after, level, 8),
+        account_of(
+            alloc,
+            folder,
+            before.order,
+            &before.version,
+            &after.version,
+            level,
+            8,
+        ),
     )
 }
 
@@ -227,7 +235,7 @@ fn first_refusal(alloc: Global, folder: &mut Shelf<'_>) -> Result<Vec<u8>, Fault
 
 /// The name of a log with writes, if there is one.
 fn log_name(alloc: Global, folder: &mut Shelf<'_>) -> Result<Vec<u8>, Fault> {
-    let (_order, version) = open(alloc, folder)?;
+    let version = open(alloc, folder)?.version;
     match log_with_writes(alloc, folder, &version)? {
         Some(name) => Ok(name.into_bytes()),
         None => Ok(Vec::new(alloc)),
@@ -236,7 +244,7 @@ fn log_name(alloc: Global, folder: &mut Shelf<'_>) -> Result<Vec<u8>, Fault> {
 
 /// A folder's first level with files above the deepest one, and the bottom.
 fn levels_of(alloc: Global, folder: &mut Shelf<'_>) -> Result<Vec<u8>, Fault> {
-    let (_order, version) = open(alloc, folder)?;
+    let version = open(alloc, folder)?.version;
     let bottom = bottom(alloc, &version)?;
     match next_level(alloc, &version, DEEPEST)? {
         Some(level) => Ok(format!(in alloc; "{level} of {bottom}")?.into_bytes()),

@@ -17,7 +17,7 @@ use crate::settings::Settings;
 use checks::Watch;
 use coding::Fault;
 use edit::Version;
-use folder::{Folder, Order, load, open};
+use folder::{Folder, Opened, Order, load, open};
 use ikey::{Bytewise, SharedComparator, Shortlex};
 use install::install;
 use std::alloc::Global;
@@ -70,7 +70,7 @@ pub fn compact_dir<F: Folder, W: Watch + Sync, R: Threads + Sync>(
     ensures device { ReportsDevice F.Folder folder.old folder.new result }
 {
     folder.sync_folder()?;
-    let (order, version) = open(alloc, folder)?;
+    let Opened { order, version, .. } = open(alloc, folder)?;
     compact_opened(rt, alloc, folder, order, &version, level, settings, watch)
 }
 

@@ -8,8 +8,7 @@ use account::text;
 use coding::Fault;
 use commands::{Question, answer_opened, bottom, manifest_lines, next_level};
 use diagnostics::account_of;
-use edit::Version;
-use folder::{Disk, Folder, Order, WholeFiles, open};
+use folder::{Disk, Folder, Opened, WholeFiles, open};
 use keep::Snapshots;
 use std::io;
 use std::io::Write;
@@ -18,13 +17,6 @@ use std::thread::Threads;
 use std::time::{Clock, Instant};
 use store::{Settings, compact_opened};
 use usage::{CompactSettings, Levels, Readable};
-
-/// What a folder was opened as: the order of its user keys, and its version.
-#[derive(Drop)]
-struct Opened {
-    order: Order,
-    version: Version,
-}
 
 /// Prints the version of a folder.
 pub(crate) fn print_version<R: Files + Print + Eprint + Clock + AllocGlobal>(
@@ -201,8 +193,7 @@ fn open_folder<R: Files + Eprint + Clock + AllocGlobal>(
 
 /// What a folder is opened as. Nothing is told of a refusal.
 fn open_quietly<R: Files + AllocGlobal>(rt: &R, telling: Telling<'_>) -> Result<Opened, Fault> {
-    let (order, version) = open(rt.alloc(), &mut Disk::new(rt, telling.folder))?;
-    Ok(Opened { order, version })
+    open(rt.alloc(), &mut Disk::new(rt, telling.folder))
 }
 
 /// Compacts a level of a folder, and prints what was made.

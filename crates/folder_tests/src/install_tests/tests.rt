@@ -126,7 +126,8 @@ fn outcome_of(alloc: Global, row: &Row) -> Result<Outcome, Fault> {
 
 /// The version of a folder, with its order.
 fn version_of(alloc: Global, folder: &mut Shelf<'_>) -> Result<(Order, Version), Fault> {
-    open(alloc, folder)
+    let opened = open(alloc, folder)?;
+    Ok((opened.order, opened.version))
 }
 
 /// The tables of a version.

@@ -28,7 +28,8 @@ sound_in area restarts = record {
 }
 
 -- What is kept of these entries: their encoded entries, the offsets of the restarts, the last key,
--- and the number of entries after the last whole interval. Their block has at most MAX_BLOCK_LEN bytes.
+-- and the number of entries after the last whole interval. Their block has at most MAX_BLOCK_LEN
+-- bytes.
 pub record IsBlockBuilder (interval : ℕ) (entries : List Entry) (pieces restarts last : List ℕ)
     (since : ℕ) : Type 0 where
   pub interval_pos : 1 ≤ interval

@@ -36,7 +36,8 @@ pub use sound_block::{SoundBlock, check, reopen};
 /// The law that the block of a list, at any restart interval and of at most 2^31 bytes, reads as
 /// that list. A call does nothing.
 pub fn reads_back()
-    ensures { (r : ℕ) (q : List Entry) → length (block r q) ≤ MAX_BLOCK_LEN → IsBlock (block r q) q }
+    ensures { (r : ℕ) (q : List Entry) → length (block r q) ≤ MAX_BLOCK_LEN →
+        IsBlock (block r q) q }
 {}
 
 /// The law that bytes read as a list exactly if they are a block of it. A call does nothing.

@@ -48,7 +48,8 @@ abbrev pub parts : Options → List (List Entry) → List (List Entry)
 parts o outputs = flat_map (data_blocks o) outputs
 
 -- The plan of outputs, numbered from `first` on. Numbers if the number after the last exceeds 2 ^
--- 64 - 1; else TooLarge if a table exceeds MAX_TABLE_LEN bytes or there are more than MAX_BLOCKS data blocks.
+-- 64 - 1; else TooLarge if a table exceeds MAX_TABLE_LEN bytes or there are more than MAX_BLOCKS
+-- data blocks.
 abbrev pub plan_of : (List Entry → List ℕ) → Options → ℕ → List (List Entry) →
     Result (List OutputView) Fault
 plan_of table_of o first outputs = do

@@ -42,8 +42,8 @@ pub struct Opened {
 /// A previous log number that was never set stays unset. If the device fails a call, the answer is
 /// Device and no further call is made. Memory may come at any point.
 pub fn open<F: Folder>(alloc: Global, folder: &mut F) -> Result<Opened, Fault>
-    ensures answer { FolderAnswers (λ r. (r.order, r.version)) (F.failed folder.old) (F.failed folder.new)
-        result (IsOpened (F.tells folder.old)) }
+    ensures answer { FolderAnswers (λ r. (r.order, r.version)) (F.failed folder.old)
+        (F.failed folder.new) result (IsOpened (F.tells folder.old)) }
     // CURRENT names the manifest of this number.
     ensures named { IfOk result
         (λ r. F.tells folder.old (codes "CURRENT") (Some (current_text r.manifest))) }

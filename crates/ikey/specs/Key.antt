@@ -38,8 +38,8 @@ kind_of bytes = if nat_eq (tag_of bytes % 256) 1 then Put else Delete
 unfoldable pub internal_key : List ℕ → ℕ → Kind → List ℕ
 internal_key user sequence kind = user ++ tag_bytes (sequence * 256 + kind_number kind)
 
--- the bytes are an internal key: a user key of at most MAX_USER_KEY bytes, and then 8 bytes of a tag of
--- type 0 or 1
+-- the bytes are an internal key: a user key of at most MAX_USER_KEY bytes, and then 8 bytes of a tag
+-- of type 0 or 1
 pub record IsInternalKey (bytes : List ℕ) : Type 0 where
   pub tagged : 8 ≤ length bytes
   pub spelled : drop (length bytes - 8) bytes ≡ tag_bytes (tag_of bytes)

@@ -31,7 +31,8 @@ pub trait Comparator {
     ///
     /// The only fault is Memory.
     fn separator(alloc: Global, start: &[u8], limit: &[u8]) -> Result<Vec<u8>, Fault>
-        ensures { EqualOrMemory (λ v. v.items) result (Ok (short_keys.separator start.now limit.now)) };
+        ensures { EqualOrMemory (λ v. v.items) result
+            (Ok (short_keys.separator start.now limit.now)) };
 
     /// A key at or above `key`.
     ///

@@ -32,7 +32,8 @@ pub fn internal_separator<C: Comparator>(
     b: InternalKey,
 ) -> Result<KeyBuf, Fault>
     ensures separator { EqualOrMemory (λ own. own) result
-        (Ok (internal_separator_of C.cmp C.short_keys.separator a.entry.bytes.now b.entry.bytes.now)) }
+        (Ok (internal_separator_of C.cmp C.short_keys.separator a.entry.bytes.now
+        b.entry.bytes.now)) }
     ensures between { internal_cmp C.cmp a.entry.bytes.now b.entry.bytes.now ≡ Less
         → IfOk result (IsBetween (internal_cmp C.cmp) a.entry.bytes.now b.entry.bytes.now) }
 {

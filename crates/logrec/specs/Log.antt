@@ -11,11 +11,14 @@ block_left offset = BLOCK_LEN - offset % BLOCK_LEN
 
 -- the zeros that fill a block if a header of 7 bytes has no room in it
 abbrev pub zeros_due : ℕ → List ℕ
-zeros_due offset = if nat_lt (block_left offset) HEADER_LEN then replicate (block_left offset) 0 else []
+zeros_due offset =
+    if nat_lt (block_left offset) HEADER_LEN then replicate (block_left offset) 0 else []
 
 -- how much of a record fits into its first fragment, after the zeros and the header
 abbrev pub room_at : ℕ → ℕ
-room_at offset = if nat_lt (block_left offset) HEADER_LEN then MAX_CONTENT_LEN else block_left offset - HEADER_LEN
+room_at offset =
+    if nat_lt (block_left offset) HEADER_LEN then MAX_CONTENT_LEN
+    else block_left offset - HEADER_LEN
 
 -- the type of a fragment, by whether it begins and whether it ends its record: FULL 1, FIRST 2,
 -- LAST 4, MIDDLE 3

@@ -14,7 +14,8 @@ use Rattle.table.specs.declared.table_check.TheConstants.{MAX_TABLE_LEN}
 
 -- the block of entries at INTERVAL; TooLarge if it has more than MAX_TABLE_LEN bytes
 abbrev pub block_within : List Entry → Result (List ℕ) Fault
-block_within entries = if nat_le (length (block INTERVAL entries)) MAX_TABLE_LEN then Ok (block INTERVAL entries)
+block_within entries =
+    if nat_le (length (block INTERVAL entries)) MAX_TABLE_LEN then Ok (block INTERVAL entries)
     else Err (fault TooLarge)
 
 -- the bytes are a block: its entries if each passes its tests, else the first test that fails
@@ -59,4 +60,4 @@ pub record IsMerged (a b : List ℕ) (count : ℕ) (merged : List ℕ) : Type 0 
   pub union : List Entry
   pub is_union : IsUnion bytewise_cmp (entries_a ∷ entries_b ∷ []) union
   pub counted : count ≡ length union
-  pub written : merged ≡ block 16 union
+  pub written : merged ≡ block INTERVAL union

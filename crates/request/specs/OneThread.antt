@@ -48,7 +48,8 @@ one_thread cmp short_keys r = do
 
 -- What a compaction by `workers` workers answers: Workers unless they are from 1 to 64, else what
 -- one thread answers.
-abbrev pub compaction_result : (List ℕ → List ℕ → Ordering) → ShortKeys → ℕ → RequestView → Result Answer Fault
+abbrev pub compaction_result : (List ℕ → List ℕ → Ordering) → ShortKeys → ℕ → RequestView →
+    Result Answer Fault
 compaction_result cmp short_keys workers r = do
   _ ← test_result (nat_le 1 workers && nat_le workers 64) Workers
   one_thread cmp short_keys r

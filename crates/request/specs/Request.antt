@@ -102,7 +102,8 @@ has_snapshots r = list_all (λ n. nat_lt n MAX_SEQUENCE) (r.last_sequence ∷ na
 -- whether listed snapshots are at most 4,096, rise strictly, and none is above the last sequence
 abbrev pub is_snapshot_list : Snapshots → ℕ → Bool
 is_snapshot_list (From oldest) last = true
-is_snapshot_list (Listed list) last = nat_le (length list.now) MAX_SNAPSHOTS && rises_by nat_lt list.now
+is_snapshot_list (Listed list) last =
+    nat_le (length list.now) MAX_SNAPSHOTS && rises_by nat_lt list.now
     && list_all (λ n. nat_le n last) list.now
 
 -- the tests of a request in their order; the first refusal counts

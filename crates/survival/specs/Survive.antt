@@ -34,7 +34,8 @@ tables_after cmp p answer tables =
 -- Let the inputs be picked from a lawful version with files at levels up to 6. If an answer's
 -- outputs hold what they should, the version after is lawful with the tables after. Its files hold
 -- the entries of the files that stay and what is kept of the inputs' union.
-pub record VersionAfterLaw (cmp : List ℕ → List ℕ → Ordering) (short_keys : ShortKeys) : Type 0 where
+pub record VersionAfterLaw (cmp : List ℕ → List ℕ → Ordering) (short_keys : ShortKeys)
+    : Type 0 where
   pub lawful : (v : State) (tables : List NumberedContents) (level : ℕ) (r : RequestView)
       (answer : Answer) →
       IsLawful cmp v tables → All (λ (f : NewFile). f.level ≤ 6) v.files →

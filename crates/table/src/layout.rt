@@ -80,7 +80,8 @@ pub fn push_index_entry(
     handle: BlockHandle,
 ) -> Result<(), Fault>
     requires { length (block index.old.interval
-        (index.old.entries ++ handle_entry key.now handle.offset handle.size ∷ [])) ≤ MAX_BLOCK_LEN }
+        (index.old.entries ++ handle_entry key.now handle.offset handle.size ∷ []))
+        ≤ MAX_BLOCK_LEN }
     ensures ok { OnOk result (index.new ≡ record {
       interval = index.old.interval;
       entries = index.old.entries ++ handle_entry key.now handle.offset handle.size ∷ [];

@@ -118,7 +118,7 @@ read_plain area restarts rest pending key_len at p rest' r at-is w whole enough 
 
 -- ---- what is still to be read
 
--- the pieces of all of it, where it has some
+-- the pieces of all of it, if it has some
 pub ahead_all : (area restarts : List ℕ) → area ≢ [] → IsArea area restarts → BeginsWith restarts 0 × PassAhead area restarts 0 0
 ahead_all area restarts some h = ahead_of area restarts some h.0 h.1 h.2 h.3
   where
@@ -222,7 +222,7 @@ ahead_plain rest pending key_len at x some e none a =
     subst (Plain rest pending key_len at) (same_Some _ _ (sym (next_reads rest pending key_len at n) ∙ e))
     (record { shared = n.is_piece.shared; ahead = record { more = n.others; pieces = n.pieces; whole = refl; to_pass = s.0; fit = s.1 } })
 
--- a piece that is read shares no more than there is, where all of it is of a block
+-- a piece that is read shares no more than there is, if all of it is of a block
 pub ahead_shared : (rest pending : List ℕ) (key_len at : ℕ) (x : FieldReading EncodedEntry) → rest ≢ [] → encoded_entry_at rest ≡ Some x → PassAhead rest pending key_len at → x.field.shared ≤ key_len
 ahead_shared rest pending key_len at x some e a =
     let n = next rest pending key_len at some a in

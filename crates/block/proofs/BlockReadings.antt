@@ -108,12 +108,12 @@ restarts_above at (p ∷ ps) =
     AllByRecursion-append (λ r. at ≤ r) (cond p.is_restart (at ∷ []) []) (restarts_from (at + length (encoded_entry_bytes p)) ps) (marks p.is_restart at)
     (AllByRecursion-weaker (λ r. at + length (encoded_entry_bytes p) ≤ r) (λ r. at ≤ r) (λ r h. omega arith) _ (restarts_above (at + length (encoded_entry_bytes p)) ps))
 
--- restarts that lie behind an offset don't begin with it
+-- restarts that lie after an offset don't begin with it
 past : (at from : ℕ) (rs : List ℕ) → at < from → AllByRecursion (λ r. from ≤ r) rs → is_next rs at ≡ false
 past at from [] lt h = refl
 past at from (r ∷ rs) lt h = ne_eqb r at (λ e. omega (arith, e, h.0))
 
--- whether the next restart is this offset, and the restarts behind it
+-- whether the next restart is this offset, and the restarts after it
 next_mark : (b : Bool) (at from : ℕ) (rs : List ℕ) → at < from → AllByRecursion (λ r. from ≤ r) rs → (is_next (cond b (at ∷ []) [] ++ rs) at ≡ b) × (restarts_behind (cond b (at ∷ []) [] ++ rs) at ≡ rs)
 next_mark true at from rs lt h = (eq-eqb at at refl, ap (λ (b : Bool). cond b rs (at ∷ rs)) (eq-eqb at at refl))
 next_mark false at from rs lt h = (past at from rs lt h, ap (λ (b : Bool). cond b (drop 1 rs) rs) (past at from rs lt h))

@@ -52,7 +52,7 @@ is_restart-by false before e = refl
 abbrev pub next_piece : ℕ → List ℕ → List ℕ → List ℕ → EncodedEntry
 next_piece since last key value = piece_at_restart (eqb since 0) last (record { key = key; value = value })
 
--- the entries behind the last whole interval, one entry further on
+-- the entries after the last whole interval, one entry further on
 abbrev pub next_since : ℕ → ℕ → ℕ
 next_since r since = cond (eqb (since + 1) r) 0 (since + 1)
 
@@ -161,7 +161,7 @@ entries_behind-next key value pieces' h fits pieces_are = ap (entries_behind [])
 
 -- ---- finishing
 
--- where no restart is kept there is no entry
+-- if no restart is kept there is no entry
 pub restarts_of-none : {r : ℕ} {q : List Entry} {pieces restarts last : List ℕ} {since : ℕ} → IsBlockBuilder r q pieces restarts last since → restarts ≡ [] → restarts_of (encoded_entries_from r 0 [] q) ≡ 0 ∷ []
 restarts_of-none {q = []} h none = refl
 restarts_of-none {r = r} {q = e ∷ es} h none =
@@ -172,7 +172,7 @@ pub restarts_of-some : {r : ℕ} {q : List Entry} {pieces restarts last : List �
 restarts_of-some {q = []} h some = absurd (omega (arith, ap length h.restarts_are))
 restarts_of-some {q = e ∷ es} h some = sym h.restarts_are
 
--- The restarts that are written of those that are kept: 0 where there is none.
+-- The restarts that are written of those that are kept: 0 if there is none.
 pub restarts_of-written : {r : ℕ} {q : List Entry} {pieces restarts last : List ℕ} {since : ℕ} (written : List ℕ) → IsBlockBuilder r q pieces restarts last since → ((length restarts ≡ 0) × (written ≡ 0 ∷ [])) ⊎ ((0 < length restarts) × (written ≡ restarts)) → restarts_of (encoded_entries_from r 0 [] q) ≡ written
 restarts_of-written {restarts = restarts} written h (inl (none, is)) = restarts_of-none h (nil_from_length restarts none) ∙ sym is
 restarts_of-written written h (inr (some, is)) = restarts_of-some h some ∙ sym is

@@ -21,7 +21,7 @@ use Rattle.block.proofs.BlockReadings.{reads_blocks, refused}
 
 -- ---- the entries that stand in any bytes
 
--- no entries stand where no piece does
+-- no entries stand if no piece does
 none_in : (n : ℕ) (before bytes : List ℕ) → encoded_entry_at bytes ≡ None → entries_of_bytes n before bytes ≡ []
 none_in zero before bytes e = refl
 none_in (suc n) before bytes e = rw e refl
@@ -42,7 +42,7 @@ enough n m before bytes le more = by n m before bytes (encoded_entry_at bytes) r
         ∙ ap (λ (es : List Entry). record { key = key_after before x.field; value = x.field.value } ∷ es) (by n m (key_after before x.field) x.rest (encoded_entry_at x.rest) refl (omega (arith, shorter bytes x e)) (omega (arith, shorter bytes x e)))
         ∙ sym (one_in m before bytes x e)
 
--- the entry of the piece at the front, and those behind it
+-- the entry of the piece at the front, and those after it
 pub one_behind : (before rest : List ℕ) (x : FieldReading EncodedEntry) → encoded_entry_at rest ≡ Some x → entries_behind before rest ≡ record { key = key_after before x.field; value = x.field.value } ∷ entries_behind (key_after before x.field) x.rest
 one_behind before rest x e =
     let less = shorter rest x e in
@@ -69,7 +69,7 @@ not_area bytes area restarts s none = no_block bytes (λ q h. none (parts_sound 
 
 -- ---- the entries of a block
 
--- where the bytes are a block, its entries stand before the restarts
+-- if the bytes are a block, its entries stand before the restarts
 pub same_entries : (bytes area restarts : List ℕ) → HasBlockParts bytes area restarts → IfOk (block_reading bytes) (λ q. entries_behind [] area ≡ q)
 same_entries bytes area restarts s = by (block_reading bytes) refl
   where
@@ -170,7 +170,7 @@ pub none_less : (valid : Bool) (e : Entry) (key rest : List ℕ) → rest ≡ []
 none_less true e key rest none = sym (ap (entries_behind key) none)
 none_less false e key rest none = refl
 
--- the next entry is the first of those behind
+-- the next entry is the first of those after
 pub next_less : (valid : Bool) (e first : Entry) (behind more : List Entry) → valid ≡ true → behind ≡ first ∷ more → cond valid (first ∷ more) [] ≡ drop 1 (cond valid (e ∷ behind) [])
 next_less true e first behind more on same = sym same
 next_less false e first behind more on same = absurd cc

@@ -43,7 +43,7 @@ front_entry_at-small (x ∷ []) long a b c = absurd (omega arith)
 front_entry_at-small (x ∷ y ∷ []) long a b c = absurd (omega arith)
 front_entry_at-small (x ∷ y ∷ z ∷ rest) long a b c = rw (length_at-small x (y ∷ z ∷ rest) a, length_at-small y (z ∷ rest) b, length_at-small z rest c) refl
 
--- what is behind the three lengths
+-- what is after the three lengths
 tail_at : List ℕ → List ℕ → List ℕ → List ℕ
 tail_at unshared value rest = unshared ++ (value ++ rest)
 
@@ -80,7 +80,7 @@ pub record ReadsPiece (bytes : List ℕ) (p : EncodedEntry) (rest : List ℕ) : 
   pub widths : Widths p
   pub parts : bytes ≡ encoded_entry_bytes p ++ rest
 
--- the piece of three lengths and what is behind them
+-- the piece of three lengths and what is after them
 made : FieldReading ℕ → FieldReading ℕ → FieldReading ℕ → FieldReading EncodedEntry
 made shared unshared value = record {
   field = record {
@@ -107,7 +107,7 @@ reads_made bytes s u v rs ru rv long =
           ∙ sym (regrouped (made s u v).field (made s u v).rest ∙ rw (unshared_len, value_len) refl);
     }
 
--- three lengths that are read, and enough bytes behind them
+-- three lengths that are read, and enough bytes after them
 pub reads_piece : (bytes : List ℕ) (x : FieldReading EncodedEntry) → encoded_entry_at bytes ≡ Some x → ReadsPiece bytes x.field x.rest
 unfolding encoded_entry_at made
 reads_piece bytes x e =

@@ -39,7 +39,7 @@ AreWide-push : (ps : List EncodedEntry) (p : EncodedEntry) → AreWide ps → Wi
 AreWide-push [] p h w = (w, tt)
 AreWide-push (x ∷ ps) p h w = (h.0, AreWide-push ps p h.1 w)
 
--- where some pieces end, so many entries stand before
+-- at the end of some pieces, that many entries stand before
 entries_before-pieces : (done : List EncodedEntry) (rest : List ℕ) → AreWide done → entries_before (flat_map encoded_entry_bytes done ++ rest) (length (flat_map encoded_entry_bytes done)) ≡ length done
 entries_before-pieces done rest h =
     ap (λ (t : List ℕ). length (entries_behind [] t)) (take_at (flat_map encoded_entry_bytes done) rest (length (flat_map encoded_entry_bytes done)) refl)
@@ -174,7 +174,7 @@ points_first before at place p ps e h =
       same = ap (λ (k : List ℕ). record { key = k; value = p.value } ∷ entries_after k ps) key;
     }
 
--- a restart behind the first piece
+-- a restart after the first piece
 points_behind : (before : List ℕ) (at place : ℕ) (p : EncodedEntry) (ps : List EncodedEntry) (r s : ℕ) → Points (key_after before p) (at + length (encoded_entry_bytes p)) (place + 1) ps s
     → get_or (restarts_from at (p ∷ ps)) r 0 ≡ get_or (restarts_from (at + length (encoded_entry_bytes p)) ps) s 0 → get_or (restart_places_from place (p ∷ ps)) r 0 ≡ get_or (restart_places_from (place + 1) ps) s 0
     → Points before at place (p ∷ ps) r

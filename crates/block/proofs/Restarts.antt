@@ -23,14 +23,14 @@ pub same_word : (x y : ℕ) (a b : List ℕ) → x < 2 ^ 32 → y < 2 ^ 32 → l
 same_word x y a b lx ly e =
     (sym (front_word x a lx) ∙ ap (little_number 4) e ∙ front_word y b ly, ap (λ (t : List ℕ). drop 4 t) e)
 
--- the numbers behind the one that bytes begin with
+-- the numbers after the one that bytes begin with
 pub begins_drop : (pending : List ℕ) (at : ℕ) → BeginsWith pending at → pending ≡ little_bytes 4 at ++ drop 4 pending
 begins_drop pending at b = b.1 ∙ ap (λ (t : List ℕ). little_bytes 4 at ++ t) (sym (ap (drop 4) b.1))
 
 pub begins_long : (pending : List ℕ) (at : ℕ) → BeginsWith pending at → 4 ≤ length pending
 begins_long pending at b = omega (arith, ap length b.1)
 
--- the number at the front is this one exactly where the bytes begin with it
+-- the number at the front is this one exactly if the bytes begin with it
 pub begins_iff : (pending : List ℕ) (at : ℕ) → IsBytes pending → 4 ≤ length pending → (little_number 4 pending ≡ at → (at < 2 ^ 32) × BeginsWith pending at) × ((at < 2 ^ 32) × BeginsWith pending at → little_number 4 pending ≡ at)
 begins_iff pending at fits long = (
   λ e. (subst (λ (n : ℕ). n < 2 ^ 32) e (word_fits pending fits), (drop 4 pending, subst (λ (n : ℕ). pending ≡ little_bytes 4 n ++ drop 4 pending) e (word_parts pending fits long))),

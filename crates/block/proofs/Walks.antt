@@ -13,7 +13,7 @@ use Rattle.block.proofs.Pieces.{plain, Widths-of, piece_at_front, front_entry_at
 pub length-key_after : (before : List ℕ) (p : EncodedEntry) → p.shared ≤ length before → length (key_after before p) ≡ p.shared + length p.unshared
 length-key_after before p le = omega (arith, length-append (take p.shared before) p.unshared, length-take-le p.shared before le)
 
--- the entry of the piece at the front, and those behind it
+-- the entry of the piece at the front, and those after it
 pub record Steps (before rest : List ℕ) (x : FieldReading EncodedEntry) : Type 0 where
   pub entries : entries_behind before rest ≡ record { key = key_after before x.field; value = x.field.value } ∷ entries_behind (key_after before x.field) x.rest
   pub behind : AreEncodedEntriesAfter (key_after before x.field) x.rest
@@ -45,7 +45,7 @@ ends before rest b f = ends_of b.0 b.1 b.2
     ends_of [] h e = behind_of before rest [] h e
     ends_of (p ∷ ps) h e = absurd (none-some _ (sym f ∙ front_read before rest p ps h e))
 
--- no bytes are left where no entry stands behind
+-- no bytes are left if no entry stands after
 pub none_behind : (before rest : List ℕ) → AreEncodedEntriesAfter before rest → entries_behind before rest ≡ [] → rest ≡ []
 none_behind before rest b h = of_pieces b.0 b.1 b.2
   where
@@ -67,7 +67,7 @@ pub advanced : (valid : Bool) (e first : Entry) (behind more now : List Entry) �
 advanced true e first behind more now view some same = sym same ∙ ap (drop 1) view
 advanced false e first behind more now view some same = absurd (omega (arith, ap length view))
 
--- an entry is the last where none stands behind it
+-- an entry is the last if none stands after it
 pub last_by : (valid : Bool) (e : Entry) (behind now : List Entry) → cond valid (e ∷ behind) [] ≡ now → 0 < length now → (behind ≡ [] → length now ≡ 1) × (length now ≡ 1 → behind ≡ [])
 last_by true e behind now view some = (
   λ none. sym (ap length view) ∙ ap (λ (es : List Entry). length (e ∷ es)) none,
@@ -97,6 +97,6 @@ first_key es place rest x b f same =
     ap (option_map (λ e. e.key)) (sym (slice_get-drop es place) ∙ ap (λ (t : List Entry). slice_get t 0) (same ∙ (steps [] rest x b f).entries))
     ∙ ap (λ (k : List ℕ). Some k) (none_shared x.field.shared x.field.unshared)
 
--- there is none where no entry stands
+-- there is none if no entry stands
 pub no_key : (es : List Entry) (place : ℕ) → drop place es ≡ [] → option_map (λ e. e.key) (slice_get es place) ≡ None
 no_key es place none = ap (option_map (λ e. e.key)) (sym (slice_get-drop es place) ∙ ap (λ (t : List Entry). slice_get t 0) none)

@@ -113,7 +113,7 @@ length-piece_bytes_le p =
       length-varint_le (length p.value),
     )
 
--- where the pieces of entries have so few bytes that each number has its width, the key before them counted too
+-- if the pieces of entries have so few bytes that each number has its width, the key before them counted too
 pub ArePieces-pieces_from : (r i : ℕ) (before : List ℕ) (q : List Entry) → length before + length (flat_map encoded_entry_bytes (encoded_entries_from r i before q)) < 2 ^ 32 → AreEncodedEntries (length before) (encoded_entries_from r i before q)
 ArePieces-pieces_from r i before [] fits = tt
 ArePieces-pieces_from r i before (e ∷ es) fits =
@@ -222,7 +222,7 @@ word_at (suc count) (suc i) xs lt =
     let place : 8 * suc i ≡ 8 + 8 * i = omega arith in
     rw place (word_at count i (drop 8 xs) (omega arith) ∙ ap (take 8) (drop-drop (8 * i) 8 xs))
 
--- the walk goes on behind bytes that are the same
+-- the walk goes on after bytes that are the same
 pub common_goes_on : (xs ys : List ℕ) (at n to : ℕ) → to ≡ at + n → to ≤ length xs → to ≤ length ys → true ≡ pointwise nat_eq (take n (drop at xs)) (take n (drop at ys)) → common xs ys ≡ at + common (drop at xs) (drop at ys)
     → common xs ys ≡ to + common (drop to xs) (drop to ys)
 common_goes_on xs ys at n to to_is le_xs le_ys told so_far =

@@ -56,7 +56,7 @@ module _ {B O : Type 0} (view : O → B) where
   fault_collected answers jobs workers result RunFault.Workers is refused outside some few = absurd (elim (outside is) [ inl none ↦ omega arith | inr many ↦ omega arith ])
   fault_collected answers jobs workers result RunFault.Memory is refused outside some few = tt
 
--- What a labour's work owes, where a call gives a job's answer.
+-- What a labour's work owes, if a call gives a job's answer.
 module _ {B O : Type 0} (view : O → B) (answers : List (Result B Fault)) (job : ℕ) (answer : Result B Fault) (at : slice_get answers job ≡ Some answer) where
   pub work_gives : (result : Result O Fault) → EqualOrMemory view result answer → IfOk result (λ out. IsResult (refusal_at answers) (λ i o. HasValue answers i (view o)) (job, out))
   work_gives (Ok out) is =

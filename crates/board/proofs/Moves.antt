@@ -42,7 +42,7 @@ below_one x n = (grind (arith, nat_tests), λ h. grind (arith, nat_tests))
 wrapless : (c : ℕ) → c < 2 ^ 41 → suc c ≡ (c + 1) % 2 ^ 64
 wrapless c small = let s : c < 2199023255552 = small in omega arith
 
--- what one claim leaves, where the seat has not seen the share empty
+-- what one claim leaves, if the seat has not seen the share empty
 pub claim_step : (v : SeatView) (words : List ℕ) (views : List SeatView) (id k : ℕ) → BoardRule v.jobs v.seats words views → get_elem? views id ≡ some v → k < v.seats → times k v.empty < v.parts
     → (u : SeatView) × BoardRule v.jobs v.seats (set words (word_of v.seats k) ((claims_of v.seats words k + 1) % 2 ^ 64)) (set views id u) × Claims v k (claims_of v.seats words k) u
 claim_step v words views id k h at lt once =

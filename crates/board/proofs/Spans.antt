@@ -50,7 +50,7 @@ module _ (first : ℕ → ℕ) where
       in_span : (x m c : ℕ) → first m ≤ first (suc m) → once_below x (first m) + claim_count_in first x m c ≤ once_below x (first (suc m))
       in_span x m c up = grind (arith, nat_tests)
 
-  -- and all of them, where each share is used up
+  -- and all of them, if each share is used up
   pub claimed_all : (claims : ℕ → ℕ) (x m : ℕ) → ((k : ℕ) → first k ≤ first (suc k)) → first 0 ≡ 0 → ((k : ℕ) → k < m → first (suc k) - first k ≤ claims k) → claim_count first claims x m ≡ once_below x (first m)
   claimed_all claims x zero rises begins full = grind (arith, nat_tests)
   claimed_all claims x (suc m) rises begins full =

@@ -87,7 +87,7 @@ module _ (of : Layout) (ps : List Progress) (found : Option ℕ) (c : IsFinished
       let s = c.skipped i one in
       let l : IsLeastOf (all_failed ps) (Some s.0) = subst (IsLeastOf (all_failed ps)) s.1 c.least in (s.0, l.0, s.2)
 
-  -- where nobody failed
+  -- if nobody failed
   pub done_all : all_failed ps ≡ [] → (i : ℕ) → i < of.jobs → 0 < times i (all_done ps)
   done_all none i lt =
       let d = c.all all i lt in let s = spent i in

@@ -43,7 +43,7 @@ module _ (cmp : List ℕ → List ℕ → Ordering) (loaded : List (ℕ × Vec �
       let answers = table_answers cmp (map lent_table loaded) in
       (get_or answers job (numbered_reading cmp (0, [])), slice_get-get_or answers job (numbered_reading cmp (0, [])) (omega (arith, answers_length)))
 
--- the tables that are checked, and those behind them
+-- the tables that are checked, and those after them
 abbrev pub tables_after : List NumberedContents → Result (List NumberedContents) Fault → Result (List NumberedContents) Fault
 tables_after front rest = rest >>= λ others. Ok (front ++ others)
 
@@ -51,7 +51,7 @@ value_same : (r : Result (List NumberedContents) Fault) → r ≡ tables_after [
 value_same (Ok tables) = refl
 value_same (Err e) = refl
 
--- tables, and others behind them
+-- tables, and others after them
 reading_append : (cmp : List ℕ → List ℕ → Ordering) (xs ys : List (ℕ × List ℕ)) → tables_reading cmp (xs ++ ys) ≡ (tables_reading cmp xs >>= λ front. tables_after front (tables_reading cmp ys))
 reading_append cmp [] ys = value_same (tables_reading cmp ys)
 reading_append cmp (t ∷ xs) ys =

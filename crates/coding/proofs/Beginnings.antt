@@ -31,11 +31,11 @@ take_fewer (suc m) (suc n) (x ∷ xs) (y ∷ ys) le same =
     let rest : take m xs ≡ take m ys = take_fewer m n xs ys (omega arith) (ap (drop 1) same) in
     rw (heads, rest) refl
 
--- the same beginning, and behind it the same one, is the same beginning
+-- the same beginning, and after it the same one, is the same beginning
 pub take_further : (m n : ℕ) (xs ys : List ℕ) → take m xs ≡ take m ys → take n (drop m xs) ≡ take n (drop m ys) → take (m + n) xs ≡ take (m + n) ys
 take_further m n xs ys front back = rw (take-add m n xs, take-add m n ys, front, back) refl
 
--- what two lists have in common, behind a beginning that is the same
+-- what two lists have in common, after a beginning that is the same
 pub common_behind : (m : ℕ) (xs ys : List ℕ) → m ≤ length xs → m ≤ length ys → take m xs ≡ take m ys → common xs ys ≡ m + common (drop m xs) (drop m ys)
 common_behind zero xs ys a b same = omega arith
 common_behind (suc m) [] ys a b same = absurd (omega arith)

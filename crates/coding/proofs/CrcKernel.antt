@@ -103,7 +103,7 @@ chunks_joined n (suc k) xs h =
     ∙ ap (λ t. take n xs ++ t) (chunks_joined n k (drop n xs) room)
     ∙ take-append-drop n xs
 
--- the chunks and then what is left behind them
+-- the chunks and then what is left after them
 pub chunks_fed : (r : ℕ) (bytes : List ℕ) (chunks : List (List ℕ)) (rest : List ℕ)
     → chunks ≡ first_chunks 16 (length bytes / 16) bytes → rest ≡ drop (length bytes / 16 * 16) bytes
     → register_after_bits (register_after_bits r (bits_of (concat chunks))) (bits_of rest) ≡ register_after_bits r (bits_of bytes)

@@ -147,7 +147,7 @@ reading_takes n bound bytes x used e =
 
 -- ---- reading a byte at a time
 
--- number, which used groups stand for, and what was read behind them, scaled by their width
+-- number, which used groups stand for, and what was read after them, scaled by their width
 abbrev pub joined : ℕ → ℕ → ℕ → Option (ℕ × ℕ) → Option (ℕ × ℕ)
 joined used number scale None = None
 joined used number scale (Some (x, more)) = cond (eqb x 0) None (Some (number + scale * x, used + more))

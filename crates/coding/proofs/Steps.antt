@@ -88,7 +88,7 @@ read_more i number b rest lt few is large byte =
     ∙ joined_twice (i + 1) number scale (b - 128) (reading m (limit_of m) (drop (i + 1) rest))
     ∙ ap (λ (s : ℕ). joined (i + 1 + 1) (number + scale * (b - 128)) s (reading m (limit_of m) (drop (i + 1) rest))) (sym scaled)
 
--- ---- what a loop over the bytes behind the first knows
+-- ---- what a loop over the bytes after the first knows
 
 last_limit_at : (n b : ℕ) → b < 128 → (n ≡ 0 → b < 2) → b < limit_of n
 last_limit_at zero b small full = full refl
@@ -97,7 +97,7 @@ last_limit_at (suc n) b small full = omega (arith, two_le_limit_of n)
 pow_le : (j k : ℕ) → j ≤ k → 2 ^ j ≤ 2 ^ k
 pow_le j k le = pow_mono le
 
--- the last byte: a group of seven bits, or of one bit behind nine others
+-- the last byte: a group of seven bits, or of one bit after nine others
 pub last_limit : (i b : ℕ) → i ≤ 8 → b < 128 → (i ≡ 8 → b < 2) → b < limit_of (8 - i)
 last_limit i b few small full = last_limit_at (8 - i) b small (λ e. full (omega arith))
 

@@ -22,12 +22,12 @@ refusal e = Err e
 no_refusal : {Y : Type 0} (y : Y) (e : Fault) → Ok y ≡ refusal e → ⊥
 no_refusal y e h = cc
 
--- where a definition answers a value, the call's refusal that `?` hands on is want of memory
+-- if a definition answers a value, the call's refusal that `?` hands on is Memory
 pub handed_memory : {X Y : Type 0} (r : Result X Fault) (e : Fault) (y : Y) → IsErrAnd r (λ f. f ≡ e) → FailsOrMemory e (Ok y) → IfErr r (λ f. f ≡ fault Memory)
 handed_memory (Ok x) e y h fails = tt
 handed_memory (Err f) e y h fails = h ∙ only_memory e (Ok y ≡ refusal e) (no_refusal y e) fails
 
--- want of memory is no answer
+-- Memory is no answer
 pub memory_fails : {Y : Type 0} (e : Fault) (answer : Result Y Fault) → e ≡ fault Memory → FailsOrMemory e answer
 memory_fails e answer h = subst (λ (f : Fault). UnlessMemory f (answer ≡ Err e)) (sym h) tt
 
@@ -38,7 +38,7 @@ lines_hold view (Ok x) lines given = sym given
 lines_hold view (Err e) lines given =
     unless_from e (Ok lines ≡ Err e) (Err e ≡ Ok lines) (λ same. absurd (no_refusal lines e same)) given
 
--- they are refused for want of memory alone
+-- they are refused for Memory alone
 pub lines_device : {X : Type 0} (view : X → List ℕ) (before now : ℕ) (r : Result X Fault) (lines : List ℕ)
     → EqualOrMemory view r (Ok lines) → IfErr r (HasDeviceFailed before now)
 lines_device view before now (Ok x) lines given = tt

@@ -40,7 +40,7 @@ pub taken : {A B : Type 0} (step : Result A Fault) (next : A → Result B Fault)
 taken (Ok a) next b h = record { value = a; is = refl; goes_on = h }
 taken (Err e) next b h = absurd cc
 
--- where steps fail that go on without a refusal, the same steps fail with another ending
+-- if steps fail that go on without a refusal, the same steps fail with another ending
 pub fails_on : {A B D : Type 0} (f : Result A Fault) (r : A → B) (k : A → Result D Fault) (e : Fault) → FailsOrMemory e (f >>= λ u. Ok (r u)) → FailsOrMemory e (f >>= k)
 fails_on {A} {B} {D} f r k e h = unless_from e _ _ (by f) h
   where
@@ -151,7 +151,7 @@ by_lengths : (b : Bool) (made plan : List OutputView) → (test_result b TooLarg
 by_lengths true made plan h = cc
 by_lengths false made plan h = absurd cc
 
--- the number behind the last output of a plan is below 2 ^ 64
+-- the number after the last output of a plan is below 2 ^ 64
 pub plan_fits : (table_of : List Entry → List ℕ) (o : Options) (first : ℕ) (outs : List (List Entry)) (plan : List OutputView) → plan_of table_of o first outs ≡ Ok plan → first + length plan < 2 ^ 64
 plan_fits table_of o first outs plan h =
     let n = by_numbers (nat_lt (first + length outs) (2 ^ 64)) (test_result (list_all (λ q. nat_le (length (table_of q)) (2 ^ 30)) outs && nat_le (length (parts o outs)) (2 ^ 40)) TooLarge >>= λ _. Ok (planned_from table_of o first outs)) plan h in

@@ -178,11 +178,11 @@ module _ (cmp : List ℕ → List ℕ → Ordering) (total : IsTotalOrder cmp) (
       kept_each P before [] h = tt
       kept_each P before (e ∷ es) h = kept_one P e (kept_behind cmp b.readable b.deeper (Some e) es) (keeps cmp b.readable b.deeper before e) h.0 (kept_each P (Some e) es h.1)
 
-      -- the kept entries behind one
+      -- the kept entries after one
       abbrev rest : Entry → List Entry → List Entry
       rest e es = kept_behind cmp b.readable b.deeper (Some e) es
 
-      -- the stops behind an entry, where so many entries before them are kept
+      -- the stops after an entry, where so many entries before them are kept
       abbrev stops_on : ℕ → Entry → ℕ → List Entry → List ℕ
       stops_on since e n es = stops_behind gs o.file_size since (heads_behind cmp b (Some e) n es)
 

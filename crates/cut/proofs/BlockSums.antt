@@ -11,7 +11,7 @@ use Rattle.cut.specs.Opened.{parts_of, entries_in_blocks}
 use Rattle.cut.specs.Plan.{block_ends_from}
 use Rattle.cut.specs.Sizes.{saturated_length}
 
--- the entries of a block and those behind it
+-- the entries of a block and those after it
 pub count_here : (blocks : List PlannedBlock) (i : ℕ) (b : PlannedBlock) → i < length blocks → get_or blocks i b ≡ b → length (entries_in_blocks (drop i blocks)) ≡ length b.entries.entries + length (entries_in_blocks (drop (i + 1) blocks))
 count_here blocks i b lt is =
     ap (λ (bs : List PlannedBlock). length (entries_in_blocks bs)) (drop_more blocks i b lt ∙ ap (λ (x : PlannedBlock). x ∷ drop (i + 1) blocks) is)

@@ -8,7 +8,7 @@ use Rattle.cut.specs.declared.piece.Piece.{Piece}
 use Rattle.cut.specs.Divided.{piece_places_from}
 use Rattle.cut.specs.TableLength.{lens_of}
 
--- Pieces were dealt out behind those before: with those of the blocks that are left they are all pieces of the blocks.
+-- Pieces were dealt out after those before: with those of the blocks that are left they are all pieces of the blocks.
 pub record IsDealt (output limit : ℕ) (blocks : List PlannedBlock) (before pieces : List Piece) (count from at size : ℕ) : Type 0 where
   pub pieces_are : pieces ++ piece_places_from output limit from at size (drop at blocks) ≡ before ++ piece_places_from output limit 0 0 0 blocks
   pub count_is : count + length (piece_places_from output limit from at size (drop at blocks)) ≡ length (piece_places_from output limit 0 0 0 blocks)

@@ -11,7 +11,7 @@ use Rattle.table.specs.Table.{closing_bytes, index_from, index_keys, stored_bloc
 use Rattle.cut.specs.Plan.{PiecesLaw, open_piece, pieces_behind, pieces_in, stored_len}
 
 module _ (interval : ℕ) where
-  -- the bytes of pieces, one behind the other
+  -- the bytes of pieces, one after the other
   abbrev bytes_of : List (List (List Entry)) → List ℕ
   bytes_of pieces = flat_map (stored_blocks interval) pieces
 

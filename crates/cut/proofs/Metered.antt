@@ -75,7 +75,7 @@ metered_first interval pos le = record {
   counted = omega arith;
 }
 
--- where a block has fewer bytes than the largest number, there are fewer entries
+-- if a block has fewer bytes than the largest number, there are fewer entries
 pub few_entries : (interval : ℕ) (q : List Entry) (len since : ℕ) → IsMetered interval q len since → len < 2 ^ 64 - 1 → length q < 2 ^ 64 - 1
 few_entries interval q len since h lt = omega (arith, h.len_is, lt, length_le_block interval q)
 
@@ -98,7 +98,7 @@ pushed interval q e len since h few =
       counted = omega (arith, few, length_push q e);
     }
 
--- the first of the entries behind is taken in, of which these are the key and the value
+-- the first of the entries after is taken in, of which these are the key and the value
 pub metered_push : (interval : ℕ) (q behind : List Entry) (len since : ℕ) (key value : List ℕ) (before : Option (List ℕ)) → IsMetered interval q len since → length q < 2 ^ 64 - 1 → 0 < length behind
     → option_map (λ (e : Entry). e.key) (slice_get behind 0) ≡ Some key → option_map (λ (e : Entry). e.value) (slice_get behind 0) ≡ Some value → before ≡ last_entry_key q
     → IsMetered interval (q ++ take 1 behind) (min (len + saturated_length (added_size since before key (length value))) (2 ^ 64 - 1)) (next_since interval since)

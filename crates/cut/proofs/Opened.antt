@@ -55,7 +55,7 @@ entries_push blocks b =
     ∙ flat_map-append (λ (q : List Entry). q) (parts_of blocks) (b.entries.entries ∷ [])
     ∙ ap (λ (q : List Entry). entries_in_blocks blocks ++ q) (append-nil b.entries.entries)
 
--- the last key of some entries is that of those behind others
+-- the last key of some entries is that of those after others
 last_behind : (a b : Option Entry) (p : List Entry) (x : Entry) (xs : List Entry) → last_or a (p ++ x ∷ xs) ≡ last_or b (x ∷ xs)
 last_behind a b [] x xs = refl
 last_behind a b (y ∷ ys) x xs = last_behind (Some y) b ys x xs
@@ -73,7 +73,7 @@ some_taken (suc n) q (e ∷ es) some within none = omega (arith, ap length none,
 module _ (o : Options) where
   -- ---- data blocks
 
-  -- a full block ends, whatever comes behind it
+  -- a full block ends, whatever comes after it
   flush : (p rest : List Entry) → is_full o p ≡ true → blocks_behind o p rest ≡ p ∷ blocks_behind o [] rest
   flush [] rest full = absurd (false≢true full)
   flush (x ∷ xs) [] full = refl
@@ -92,11 +92,11 @@ module _ (o : Options) where
   one_more blocks q e part cuts rest =
       ap (blocks_behind o []) (more blocks q e rest) ∙ cuts (e ∷ rest) ∙ ap (λ (ps : List (List Entry)). parts_of blocks ++ ps) (grow q e rest part)
 
-  -- the data blocks begin with these, however many entries come behind the open ones
+  -- the data blocks begin with these, however many entries come after the open ones
   abbrev Cut_by : List PlannedBlock → List Entry → Type 0
   Cut_by blocks q = (rest : List Entry) → blocks_behind o [] ((entries_in_blocks blocks ++ q) ++ rest) ≡ parts_of blocks ++ blocks_behind o q rest
 
-  -- the same with so many entries more, where the open block is full before none of them
+  -- the same with so many entries more, if the open block is full before none of them
   more_by : (blocks : List PlannedBlock) (n : ℕ) (q es : List Entry) → ((m : ℕ) → m < n → is_full o (q ++ take m es) ≡ false) → Cut_by blocks q → Cut_by blocks (q ++ take n es)
   more_by blocks zero q es part cuts = subst (Cut_by blocks) (sym (append-nil q)) cuts
   more_by blocks (suc n) q [] part cuts = subst (Cut_by blocks) (sym (append-nil q)) cuts
@@ -252,7 +252,7 @@ module _ (o : Options) where
   ends_by_last [] n last e le n_is last_is = absurd (let no : Some last ≡ None = last_is in cc)
   ends_by_last (x ∷ xs) n last e le n_is last_is = ends_some x xs n last e le n_is last_is
 
-  -- whether the output of what is kept ends before the first of the entries behind
+  -- whether the output of what is kept ends before the first of the entries after
   pub ends_not : (blocks : List PlannedBlock) (size : ℕ) (open_one : BlockInProgress) → IsOpen o blocks size None open_one → ends_by o (entries_in_blocks blocks ++ open_one.entries) open_one.behind ≡ false
   ends_not blocks size open_one h = by_behind open_one.behind
     where
@@ -299,7 +299,7 @@ module _ (o : Options) where
   ends_below blocks size None open_one h below = ends_not blocks size open_one h
   ends_below blocks size (Some last) open_one h below = ends_part blocks size last open_one h below
 
-  -- the output goes on with all entries that are taken in, where more than one is taken in only below the maximal file size
+  -- the output goes on with all entries that are taken in, if more than one is taken in only below the maximal file size
   pub left_taken : (blocks : List PlannedBlock) (size : ℕ) (last : Option (List ℕ)) (before : BlockInProgress) (n : ℕ) → IsOpen o blocks size last before
       → ((m : ℕ) → m < n → is_full o (block_after_entries m before).entries ≡ false) → ends_by o (entries_in_blocks blocks ++ before.entries) before.behind ≡ false → (1 < n → size < o.file_size) → (rest : List Entry)
       → outputs_behind o ((entries_in_blocks blocks ++ before.entries) ++ take n before.behind) rest ≡ outputs_behind o (entries_in_blocks blocks ++ before.entries) (take n before.behind ++ rest)

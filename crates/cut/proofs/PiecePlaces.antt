@@ -18,7 +18,7 @@ use Rattle.cut.specs.TableLength.{lens_of}
 use Rattle.cut.proofs.Opened.{parts_push}
 use Rattle.cut.proofs.TableLengths.{stored_exact}
 
--- the blocks of an open piece, where there are any
+-- the blocks of an open piece, if there are any
 abbrev pub open_one : List PlannedBlock → List (List PlannedBlock)
 open_one [] = []
 open_one (b ∷ bs) = (b ∷ bs) ∷ []
@@ -82,7 +82,7 @@ module _ (limit output : ℕ) where
   same_output outputs (b ∷ bs) from at size =
       same_by outputs (nat_le limit (size + (b.len + 5))) b bs from at size refl (same_output outputs bs (at + 1) (at + 1) 0) (same_output outputs bs from (at + 1) (size + (b.len + 5)))
 
--- the blocks behind some outputs
+-- the blocks after some outputs
 at_front : (front : List PlannedOutput) (p : PlannedOutput) (ps : List PlannedOutput) (i : ℕ) → i ≡ length front → blocks_at (front ++ p ∷ ps) i ≡ p.blocks.items
 at_front [] p ps zero e = refl
 at_front [] p ps (suc i) e = absurd (omega arith)

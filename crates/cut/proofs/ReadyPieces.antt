@@ -70,7 +70,7 @@ flat_of f (x ∷ xs) = ap (λ (bytes : List ℕ). f x ++ bytes) (flat_of f xs)
 -- ---- one output more
 
 module _ (keys : IndexKeys) (interval : ℕ) where
-  -- the output at a place is ready, and so are those behind it
+  -- the output at a place is ready, and so are those after it
   pub ready_at : {X : Type 0} (bytes_of : X → List ℕ) (outputs : List PlannedOutput) (counts : List ℕ) (old own rest : List X) (i n : ℕ) (p : PlannedOutput) → i < length outputs → i < length counts → get_or outputs i p ≡ p → get_or counts i 0 ≡ n
       → AreReady keys interval (drop i outputs) (drop i counts) (map bytes_of old) → own ≡ take n old → rest ≡ drop n old
       → IsReady keys interval p (map bytes_of own) × AreReady keys interval (drop (i + 1) outputs) (drop (i + 1) counts) (map bytes_of rest)

@@ -54,7 +54,7 @@ module _ (cmp : List ℕ → List ℕ → Ordering) (total : IsTotalOrder cmp) (
   rises_behind [] ys h = h
   rises_behind (x ∷ xs) ys h = rises_behind xs ys h.1
 
-  -- where the next entry is of another user key, all later ones are
+  -- if the next entry is of another user key, all later ones are
   later_differ : (last e f : List ℕ) → key_version_cmp cmp last e ≡ Less → key_version_cmp cmp e f ≡ Less → user_of last ≢ user_of e → user_of f ≢ user_of last
   later_differ last e f le ef ne same =
       let up : is_le (cmp (user_of last) (user_of e)) ≡ true = users_up last e le in

@@ -17,7 +17,7 @@ use Rattle.cut.proofs.RepeatedMarks.{running, none_between}
 abbrev pub sizes : List FileMeta → ℕ
 sizes files = sum_by (λ (f : FileMeta). f.size) files
 
--- the room that a limit leaves behind so many files
+-- the room that a limit leaves after so many files
 abbrev pub IsRoom : List FileMeta → ℕ → ℕ → ℕ → Type 0
 IsRoom files limit i room = room + sizes files ≡ limit + sizes (drop i files)
 
@@ -39,7 +39,7 @@ some_left room passed left e =
 pub none_left : (room passed : ℕ) → room_left room passed ≡ None → room < passed
 none_left room passed e = ltb-true room passed (none_by (nat_lt room passed) (room - passed) e)
 
--- ---- sizes between numbers, where the last may be below the first
+-- ---- sizes between numbers, if the last may be below the first
 
 none_behind_it : (gs : List FileMeta) (from to : ℕ) → to ≤ from → size_between gs from to ≡ 0
 none_behind_it gs from to le = let e : to - from ≡ 0 = omega (arith, le) in ap (λ (n : ℕ). sizes (take n (drop from gs))) e
@@ -75,7 +75,7 @@ counted_further gs size o below left h e = record {
   room = omega (arith, some_left o.room (size_between gs o.counted below) left e, h.room, to_the_further gs o.since o.counted below h.rises);
 }
 
--- where none is left there is a stop
+-- if none is left there is a stop
 pub a_stop : (gs : List FileMeta) (size : ℕ) (o : Overlap) (m : Mark) → HasOverlapRoom gs size o → room_left o.room (size_between gs o.counted m.below) ≡ None → is_stop gs size o.since m ≡ true
 a_stop gs size o m h e =
     let more = none_left o.room (size_between gs o.counted m.below) e in

@@ -81,7 +81,7 @@ count_by (Some g) es f added n h there rest =
     let fewer : length (fold with_numbered (with_numbered es f) added) < length es + suc (length added) = omega (arith, as_many es f g h there, at_most_all (with_numbered es f) added (rises_put es f.meta.number f h)) in
     too_few (length (fold with_numbered (with_numbered es f) added)) (length es + suc (length added)) fewer ∙ sym (taken_is (values_of es) f added (number_taken es f g n there))
 
--- the files are new exactly where each makes one entry more
+-- the files are new exactly if each makes one entry more
 count_is : (es : List (ℕ × NewFile)) (added : List NewFile) → Numbered es → Rises es → eqb (length (fold with_numbered es added)) (length es + length added) ≡ are_new (values_of es) added
 count_is es [] n h = grind (arith, nat_tests, none_new (values_of es))
 count_is es (f ∷ added) n h =

@@ -95,7 +95,7 @@ none_after : (o : Option (List NewFile)) (make : List NewFile → State) (e : Fa
 none_after None make e h = ap no_version (same_fault (fault Apply) e h)
 none_after (Some x) make e h = absurd cc
 
--- where there are no files after an edit, there is no version
+-- if there are no files after an edit, there is no version
 pub refused_after : (v : State) (e : Edit) (d : Fault) → FailsOrMemory d (answer (files_after v.files e.deleted e.added)) → FailsOrMemory d (ok_or (applied v e) (fault Apply))
 refused_after v e d h =
     unless_from d (answer (files_after v.files e.deleted e.added) ≡ Err d) (ok_or (applied v e) (fault Apply) ≡ Err d) (λ none. none_after (files_after v.files e.deleted e.added) _ d none) h

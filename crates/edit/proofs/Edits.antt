@@ -78,7 +78,7 @@ name_on e (AddFile f) h lawful = h
 
 -- ---- the loop of a reader
 
--- the fields that were read, and the bytes behind them
+-- the fields that were read, and the bytes after them
 pub record ReadsEdit (bytes : List ℕ) (e : Edit) (rest : List ℕ) : Type 0 where
   pub read : List Field
   pub lawful : AllByRecursion IsField read

@@ -96,7 +96,7 @@ after_level level = varint_at (2 ^ 64) level.1 >>= after_number level.0
 file_bytes : (l n s a b rest : List ℕ) → (l ++ (n ++ (s ++ (a ++ b)))) ++ rest ≡ l ++ (n ++ (s ++ (a ++ (b ++ rest))))
 file_bytes l n s a b rest = simp append_assoc
 
--- five parts one behind the other
+-- five parts one after the other
 five_parts : (bytes l after_l n after_n s after_s a after_a b rest : List ℕ) → bytes ≡ l ++ after_l → after_l ≡ n ++ after_n → after_n ≡ s ++ after_s → after_s ≡ a ++ after_a → after_a ≡ b ++ rest
     → bytes ≡ (l ++ (n ++ (s ++ (a ++ b)))) ++ rest
 five_parts bytes l after_l n after_n s after_s a after_a b rest p q r t u =
@@ -274,7 +274,7 @@ field_refused bytes e h = refused_number bytes (varint_reading (2 ^ 32) bytes) e
 both_read : (x : Field × List ℕ) (e : Fault) → field_error e ≡ field_read x → ⊥
 both_read x e h = cc
 
--- where a reading is refused, no field begins the bytes
+-- if a reading is refused, no field begins the bytes
 pub no_field : (bytes : List ℕ) (e : Fault) → field_at bytes ≡ Err e → (field : Field) (behind : List ℕ) → IsField field → bytes ≡ spelling field ++ behind → ⊥
 no_field bytes e h field behind lawful is = both_read (field, behind) e (sym h ∙ ap field_at is ∙ field_again field behind lawful)
 

@@ -55,7 +55,7 @@ module _ {A : Type 0} (R : A → A → Ordering) (total : IsTotalOrder R) where
   heads x y xs ys sx sy (inr e) (inl f) = sym f
   heads x y xs ys sx sy (inr e) (inr f) = absurd (not_both x y (all_in (λ q. R x q ≡ Less) xs sx.0 y f) (all_in (λ q. R y q ≡ Less) ys sy.0 x e))
 
-  -- an element behind the head is not the head
+  -- an element after the head is not the head
   in_tail : (x y : A) (xs ys : List A) → IsStrictlySortedBy R (x ∷ xs) → x ≡ y → (q : A) → IsIn xs q → IsIn (y ∷ ys) q → IsIn ys q
   unfolding IsStrictlySortedBy
   in_tail x y xs ys sx same q e (inl f) = absurd (not_itself x (subst (λ (z : A). R x z ≡ Less) (f ∙ sym same) (all_in (λ z. R x z ≡ Less) xs sx.0 q e)))

@@ -27,7 +27,7 @@ Held files ps = AllByRecursion (λ p. number_at files p.1 ≡ Some p.0) ps
 abbrev pub number_of : Option NewFile → Option ℕ
 number_of o = option_map (λ (f : NewFile). f.meta.number) o
 
--- where there is a number, there is a file of that number
+-- if there is a number, there is a file of that number
 pub by_file : (o : Option NewFile) (n : ℕ) (P : Type 0) → number_of o ≡ Some n → ((f : NewFile) → o ≡ Some f → f.meta.number ≡ n → P) → P
 by_file None n P e k = absurd (none-some n e)
 by_file (Some f) n P e k = k f refl (same_Some f.meta.number n e)

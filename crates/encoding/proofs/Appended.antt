@@ -15,7 +15,7 @@ use Rattle.block.proofs.Written.{length-block}
 abbrev pub bytes_of : ℕ → List Entry → List ℕ
 bytes_of r q = flat_map encoded_entry_bytes (encoded_entries_from r 0 [] q)
 
--- Behind some bytes stand the pieces of these entries; and restarts, the last key and the number of entries behind the last
+-- Behind some bytes stand the pieces of these entries; and restarts, the last key and the number of entries after the last
 -- whole interval are those of the entries.
 pub record IsAppended (r : ℕ) (q : List Entry) (front out restarts last : List ℕ) (since : ℕ) : Type 0 where
   pub out_is : out ≡ front ++ bytes_of r q
@@ -24,7 +24,7 @@ pub record IsAppended (r : ℕ) (q : List Entry) (front out restarts last : List
 pub none_appended : (r : ℕ) (front restarts : List ℕ) → 1 ≤ r → r ≤ 1024 → restarts ≡ [] → IsAppended r [] front front restarts [] 0
 none_appended r front restarts pos le none = rw none (record { out_is = sym (append-nil front); built = IsBuilt-nil r pos le })
 
--- how many bytes stand behind the front
+-- how many bytes stand after the front
 pub offset_is : {r : ℕ} {q : List Entry} {front out restarts last : List ℕ} {since : ℕ} → IsAppended r q front out restarts last since → length front + length (bytes_of r q) ≡ length out
 offset_is {r = r} {q = q} {front = front} h = sym (ap length h.out_is ∙ length-append front (bytes_of r q))
 

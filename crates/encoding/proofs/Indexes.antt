@@ -101,7 +101,7 @@ length_index : (keys : IndexKeys) (r at : ℕ) (parts : List (List Entry)) → l
 length_index keys r at [] = refl
 length_index keys r at (p ∷ ps) = ap suc (length_index keys r (at + length (block r p) + 5) ps)
 
--- behind the last block the index is whole
+-- after the last block the index is whole
 pub index_whole : (keys : IndexKeys) (r : ℕ) (blocks : List PlannedBlock) (n : ℕ) → length blocks ≤ n → take n (index_from keys r 0 (parts_of blocks)) ≡ index_from keys r 0 (parts_of blocks)
 index_whole keys r blocks n h =
     let parts : length (parts_of blocks) ≡ length blocks = length-map blocks (λ (b : PlannedBlock). b.entries.entries) in

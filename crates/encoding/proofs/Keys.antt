@@ -25,12 +25,12 @@ part_at [] i d lt = absurd (omega arith)
 part_at (x ∷ xs) zero d lt = refl
 part_at (x ∷ xs) (suc i) d lt = part_at xs i d (omega arith)
 
--- the first key of entries, behind which others stand
+-- the first key of entries, after which others stand
 first_known : (q behind : List Entry) (key : List ℕ) → q ≢ [] → option_map (λ (e : Entry). e.key) (slice_get (q ++ behind) 0) ≡ Some key → first_key q ≡ key
 first_known [] behind key some h = absurd (some refl)
 first_known (e ∷ q) behind key some h = same_Some e.key key h
 
--- the key of a block with another one behind it
+-- the key of a block with another one after it
 between_at : (keys : IndexKeys) (blocks : List PlannedBlock) (i : ℕ) (d n : PlannedBlock) → suc i < length blocks
     → place_key keys (drop i (parts_of blocks)) ≡ keys.between (last_key [] (slice_index_or blocks i d).entries.entries) (first_key (slice_index_or blocks (suc i) n).entries.entries)
 between_at keys [] i d n lt = absurd (omega arith)

@@ -11,12 +11,12 @@ last_behind : (before : Entry) (q : List Entry) → option_map (λ (e : Entry). 
 last_behind before [] = refl
 last_behind before (e ∷ q) = last_behind e q
 
--- where the last entry has a key, it is the last key
+-- if the last entry has a key, it is the last key
 pub last_known : (q : List Entry) (key : List ℕ) → option_map (λ (e : Entry). e.key) (last_or None q) ≡ Some key → last_key [] q ≡ key
 last_known [] key h = absurd (none-some key h)
 last_known (e ∷ q) key h = same_Some (last_key e.key q) key (rw (sym (last_behind e q)) h)
 
--- where there is no last key, there is no entry
+-- if there is no last key, there is no entry
 pub last_unknown : (q : List Entry) → option_map (λ (e : Entry). e.key) (last_or None q) ≡ None → q ≡ []
 last_unknown [] h = refl
 last_unknown (e ∷ q) h = absurd (none-some (last_key e.key q) (sym h ∙ last_behind e q))

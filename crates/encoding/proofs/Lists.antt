@@ -32,7 +32,7 @@ longer r q (e ∷ es) =
 pub length_le_block : (r : ℕ) (q : List Entry) → length q ≤ length (block r q)
 length_le_block r q = omega (arith, longer r [] q)
 
--- the entry that a cursor over entries, and what stands behind them, comes to
+-- the entry that a cursor over entries, and what stands after them, comes to
 pub next_entry : (q behind : List Entry) (i : ℕ) (key value : List ℕ) → i < length q
     → option_map (λ (e : Entry). e.key) (slice_get (drop i (q ++ behind)) 0) ≡ Some key
     → option_map (λ (e : Entry). e.value) (slice_get (drop i (q ++ behind)) 0) ≡ Some value

@@ -32,7 +32,7 @@ pub in_run : (runs : List Run) (r : Run) (entry : ℕ) → IsPlaceInRuns runs en
 in_run [] r entry s h = absurd (omega (arith, h, ap length (drop_none entry)))
 in_run (q ∷ qs) r entry s h = s
 
--- behind the last entry of a run stand those of the later runs
+-- after the last entry of a run stand those of the later runs
 pub past_run : (runs : List Run) (r : Run) (entry : ℕ) → entry + 1 ≡ length (slice_index_or runs 0 r).kept
     → kept_of_runs (drop 1 runs) ≡ drop 1 (drop entry (kept_of_runs runs))
 past_run [] r entry e = sym (drop_none 1) ∙ ap (drop 1) (sym (drop_none entry))

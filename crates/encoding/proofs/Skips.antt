@@ -59,19 +59,19 @@ skipping_next all count runs passed left r h some le =
     (subst (λ (x : Run). IsSkipping all count (drop 1 (drop passed runs)) (left - length x.kept)) here
     (passed_by all count (drop passed runs) left r h (omega (arith, some, length-drop passed runs)) (subst (λ (x : Run). length x.kept ≤ left) (sym here) le)))
 
--- so few entries are left where no run is, that their number fits
+-- so few entries are left if no run is, that their number fits
 pub skipped_none : (all : List Entry) (count : ℕ) (runs : List Run) (left : ℕ) → IsSkipping all count runs left → length runs ≡ 0 → left ≤ 2 ^ 64 - 1
 skipped_none all count [] left h none = omega (arith, h.within)
 skipped_none all count (q ∷ qs) left h none = absurd (omega (arith, none))
 
--- where all runs are passed, no entry behind is in one
+-- if all runs are passed, no entry after is in one
 pub stands_behind : (runs : List Run) (passed left : ℕ) → length runs ≤ passed → IsPlaceInRuns (drop passed runs) left
 stands_behind [] zero left le = tt
 stands_behind [] (suc n) left le = tt
 stands_behind (q ∷ qs) zero left le = absurd (omega (arith, le))
 stands_behind (q ∷ qs) (suc n) left le = stands_behind qs n left (omega (arith, le))
 
--- the entry behind those that are taken off stands in the run that is not passed
+-- the entry after those that are taken off stands in the run that is not passed
 pub stands_in : (runs : List Run) (passed left : ℕ) (r : Run) → left < length (slice_index_or runs passed r).kept → IsPlaceInRuns (drop passed runs) left
 stands_in [] zero left r lt = tt
 stands_in [] (suc n) left r lt = tt
@@ -85,7 +85,7 @@ last_at n o [] lt = absurd (omega arith)
 last_at zero o (x ∷ xs) lt = refl
 last_at (suc n) o (x ∷ xs) lt = last_at n (Some x) xs (omega arith)
 
--- the last of some entries stands behind all others of them
+-- the last of some entries stands after all others of them
 pub last_taken : (n : ℕ) (xs : List Entry) (key : List ℕ) → 0 < n → n ≤ length xs → option_map (λ (e : Entry). e.key) (slice_get (drop (n - 1) xs) 0) ≡ Some key
     → Some key ≡ option_map (λ (e : Entry). e.key) (last_or None (take n xs))
 last_taken n xs key some le is =

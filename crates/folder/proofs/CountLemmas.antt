@@ -31,7 +31,7 @@ count_later before now (Err Memory) is = omega (arith, is)
 pub count_device : {T : Type 0} (before now : ℕ) (r : Result T FolderFault) → now ≡ failures_after before r → r ≡ Err Device → DeviceFailed before now
 count_device before now r is e = subst (DeviceFailed before) (sym (is ∙ ap (failures_after before) e)) (one_more_failed before)
 
--- where the count rises, Device is the answer
+-- if the count rises, Device is the answer
 pub count_rises : {T : Type 0} (before now : ℕ) (r : Result T FolderFault) → now ≡ failures_after before r → before < now → r ≡ Err Device
 count_rises before now (Ok x) is rose = absurd (omega (arith, is))
 count_rises before now (Err Device) is rose = refl
@@ -54,7 +54,7 @@ stops_on {X} {Z} before now first (Err f) e was is stops = λ rose.
     let one : e ≡ fault name.Device = cc both in
     ap (λ (g : Fault). failed {A = X} g) (is ∙ one)
 
--- where a call answered Ok, none failed
+-- if a call answered Ok, none failed
 pub stops_ok : {X Z : Type 0} (before now : ℕ) (x : Z) (first : Result Z Fault) (r : Result X Fault) → first ≡ Ok x → StopsAtDevice before now first → StopsAtDevice before now r
 stops_ok before now x first r ok stops = λ rose. let one : Ok x ≡ Err (fault name.Device) = sym ok ∙ stops rose in absurd (cc one)
 

@@ -18,7 +18,7 @@ failed_since before middle now one two h =
       | inr full ↦ grind (arith)
     ]
 
--- a call's refusal that `?` hands on, where more calls came before it
+-- a call's refusal that `?` hands on, if more calls came before it
 pub hands_on : {X Y Z : Type 0} (view : X → Y) (before middle now : ℕ) (r : Result X Fault) (e : Fault) (IsFirst : Result Z Fault → Type 0) (IsAnswer : Result Y Fault → Type 0)
     → IsErrAnd r (λ f. f ≡ e) → before ≤ middle → middle ≤ now → UnlessMemory e (IsStopped middle now e ⊎ IsFirst (Err e)) → (IsFirst (Err e) → IsAnswer (Err e)) → FolderAnswers view before now r IsAnswer
 hands_on view before middle now (Ok x) e IsFirst IsAnswer h one two given f = absurd h

@@ -156,7 +156,7 @@ open_refused tells e h =
 pub load_refused : (tells : List ℕ → Option (List ℕ) → Type 0) (numbers : List ℕ) (e : Fault) → IsLoaded tells numbers (Err e) → e ≡ fault Missing
 load_refused tells numbers e h = h.missing.2
 
--- where no answer is Device, a call answers Device only where the device failed
+-- if no answer is Device, a call answers Device only if the device failed
 pub device_failed : {X Y : Type 0} (view : X → Y) (before now : ℕ) (r : Result X Fault) (IsAnswer : Result Y Fault → Type 0) → ((e : Fault) → IsAnswer (Err e) → OfContents e)
     → FolderAnswers view before now r IsAnswer → IfErr r (HasDeviceFailed before now)
 device_failed view before now (Ok x) IsAnswer of_contents h = tt

@@ -25,7 +25,7 @@ AllOther name (file ∷ files) = (file.0 ≢ name) × AllOther name files
 at : {A : Type 0} (f g : List ℕ → A) (name : List ℕ) → f ≡ g → f name ≡ g name
 at f g name e = ap (λ h. h name) e
 
--- files stay written where no other of their names is touched
+-- files stay written if no other of their names is touched
 written_others : (files : List (List ℕ × List ℕ)) (name : List ℕ) (w next : World) (held : Option (List ℕ)) → next.shown ≡ with_contents w.shown name held → AllOther name files → AllWritten files w → AllWritten files next
 written_others [] name w next held is other h = tt
 written_others (file ∷ files) name w next held is other h = (

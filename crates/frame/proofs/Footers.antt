@@ -15,14 +15,14 @@ pub length-handles_bytes : (f : Footer) → length (handles_bytes f) ≤ 40
 length-handles_bytes f =
     omega (arith, length-append (handle_bytes f.metaindex.offset f.metaindex.size) (handle_bytes f.index.offset f.index.size), length-handle_bytes f.metaindex.offset f.metaindex.size, length-handle_bytes f.index.offset f.index.size)
 
--- how many bytes two handles have, behind others
+-- how many bytes two handles have, after others
 pub handles_len : (f : Footer) (out a b : List ℕ) → a ≡ out ++ handle_bytes f.metaindex.offset f.metaindex.size → b ≡ a ++ handle_bytes f.index.offset f.index.size → length b ≡ length out + length (handles_bytes f)
 handles_len f out a b a_is b_is =
     let first : List ℕ = handle_bytes f.metaindex.offset f.metaindex.size in
     let second : List ℕ = handle_bytes f.index.offset f.index.size in
     omega (arith, ap length a_is, ap length b_is, length-append out first, length-append a second, length-append first second)
 
--- handles, zeros and magic behind other bytes
+-- handles, zeros and magic after other bytes
 pub footer_written : (f : Footer) (out a b zeros : List ℕ) (n : ℕ) → a ≡ out ++ handle_bytes f.metaindex.offset f.metaindex.size → b ≡ a ++ handle_bytes f.index.offset f.index.size
     → n ≡ length b - length out → zeros ≡ drop n (replicate 40 0) → (b ++ zeros) ++ magic ≡ out ++ footer_bytes f
 unfolding footer_bytes
@@ -52,7 +52,7 @@ footer_bytes-parts f = sym (append_assoc (handles_bytes f) (replicate (40 - leng
 pub length-footer_bytes : (f : Footer) → length (footer_bytes f) ≡ 48
 length-footer_bytes f = omega (arith, ap length (footer_bytes-parts f), length-append (front f) magic, length-front f)
 
--- what is read behind the first handle
+-- what is read after the first handle
 abbrev after_metaindex : HandleBehind → Option Footer
 after_metaindex metaindex = and_then (handle_reading metaindex.rest) (λ index. Some (record { metaindex = metaindex.handle; index = index.handle }))
 

@@ -6,12 +6,12 @@ use Rattle.coding.proofs.Varints.{varint_reading-varint, reads_varint, length-va
 use Rattle.coding.specs.Answers.{and_then}
 use Rattle.frame.specs.Handle.{handle_bytes, handle_reading, HandleBehind, HandleReadLaw}
 
--- what is read behind the offset
+-- what is read after the offset
 abbrev after_offset : List ℕ → ℕ × ℕ → Option HandleBehind
 after_offset bytes offset =
     and_then (varint_reading (2 ^ 64) (drop offset.1 bytes)) (λ size. Some (record { handle = record { offset = offset.0; size = size.0 }; rest = drop size.1 (drop offset.1 bytes) }))
 
--- what is read behind the size
+-- what is read after the size
 abbrev after_size : List ℕ → ℕ → ℕ × ℕ → Option HandleBehind
 after_size bytes offset size =
     Some (record { handle = record { offset = offset; size = size.0 }; rest = drop size.1 bytes })

@@ -14,7 +14,7 @@ use Rattle.coding.proofs.Bytes.{IsBytes, IsBytes-drop}
 use Rattle.coding.proofs.Beginnings.{take_further}
 use Rattle.ikey.specs.Bytewise.{bytewise_cmp}
 
--- ---- behind a beginning that is the same
+-- ---- after a beginning that is the same
 
 same_head : (x y : ℕ) (xs ys : List ℕ) → x ≡ y → bytewise_cmp (x ∷ xs) (y ∷ ys) ≡ bytewise_cmp xs ys
 same_head x y xs ys same = ap (λ (o : Ordering). ordering_then o (slice_cmp nat_cmp xs ys)) (sym (nat_cmp_is x y Equal same))
@@ -33,7 +33,7 @@ one_more m n Less h = let less : m < n = h in sym (nat_cmp_is (suc m) (suc n) Le
 one_more m n Equal h = let same : m ≡ n = h in sym (nat_cmp_is (suc m) (suc n) Equal (omega arith))
 one_more m n Greater h = let greater : n < m = h in sym (nat_cmp_is (suc m) (suc n) Greater (omega arith))
 
--- where all of the shorter one is the same, the lengths decide
+-- if all of the shorter one is the same, the lengths decide
 pub by_lengths : (n : ℕ) (xs ys : List ℕ) → n ≡ min (length xs) (length ys) → take n xs ≡ take n ys → nat_cmp (length xs) (length ys) ≡ bytewise_cmp xs ys
 by_lengths zero [] [] is same = refl
 by_lengths zero [] (y ∷ ys) is same = sym (nat_cmp_is 0 (suc (length ys)) Less (omega arith))

@@ -47,7 +47,7 @@ module _ (cmp : List ℕ → List ℕ → Ordering) (order : Order) (v : State) 
   abbrev AtLast : World → Type 0
   AtLast w = IsWritten w (name, bytes) × IsSettled w name
 
-  -- the folder is synced behind a file that is written
+  -- the folder is synced after a file that is written
   folder_stands : (start w : World) (steps : List Step) → StandsAs cmp order v tables start → IsWritten start (name, bytes) → AreMade (FolderSynced ∷ []) steps → Leads start steps w
       → StandsAs cmp order v tables w × (steps ≡ Done FolderSynced ∷ [] → AtLast w)
   folder_stands start w steps h file (inl none') l = (subst (StandsAs cmp order v tables) (sym (leads_none start w steps none' l)) h, λ all. absurd (short_none steps FolderSynced [] none' all))

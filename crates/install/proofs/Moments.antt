@@ -97,7 +97,7 @@ module _ (cmp : List ℕ → List ℕ → Ordering) (order : Order) (v next : St
         ]
       ]
     where
-      -- where all calls were done, those behind the first were
+      -- if all calls were done, those after the first were
       after : (steps : List Step) (calls rest : List Call) (more : List Step) → steps ≡ map Done calls ++ more → steps ≡ map Done (calls ++ rest) → more ≡ map Done rest
       after steps calls rest more whole done = append_cancel_left (map Done calls) more (map Done rest) (sym whole ∙ (done ∙ map-append Done calls rest))
 

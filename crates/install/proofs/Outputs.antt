@@ -83,7 +83,7 @@ test_cases : (b : Bool) → (b ≡ true) ⊎ (b ≡ false)
 test_cases true = inl refl
 test_cases false = inr refl
 
--- the first table of a number, or those behind
+-- the first table of a number, or those after
 lookup_here : (n : ℕ) (t : ℕ × List ℕ) (tables : List (ℕ × List ℕ)) → nat_eq n t.0 ≡ true → lookup (nat_eq n) (t ∷ tables) ≡ Some t.1
 lookup_here n t tables h = rw h refl
 

@@ -44,17 +44,17 @@ runs_same calls others before after old new r same h = rw (← same) h
 pub same_writes : (a b x y : List ℕ) → a ≡ b → x ≡ y → write_calls a x ≡ write_calls b y
 same_writes a b x y one two = cc
 
--- what was made so far, where a later one fails before its first call
+-- what was made so far, if a later one fails before its first call
 pub hands_behind : {U G : Type 0} (P : G → Type 0) (calls more : List Call) (before after : List Step) (old new : List ℕ → Option (List ℕ) → Type 0) (r : Result U G) → IsErrAnd r P
     → RunsWhole calls before after old new → MakesCalls (calls ++ more) before after old new r
 hands_behind P calls more before after old new r h k = runs_then {E = Fault} calls more before after after old new new tt r k (hands_none P more after new r h)
 
--- the calls of tables, and of more tables behind them
+-- the calls of tables, and of more tables after them
 calls_append : (xs ys : List (ℕ × Vec ℕ)) → table_calls (tables_in (xs ++ ys)) ≡ table_calls (tables_in xs) ++ table_calls (tables_in ys)
 calls_append [] ys = refl
 calls_append (x ∷ xs) ys = ap (λ (t : List Call). write_calls (table_name x.0) x.1.items ++ t) (calls_append xs ys)
 
--- the tables before a place, the one at it and those behind
+-- the tables before a place, the one at it and those after
 pub tables_around : (tables : List (ℕ × Vec ℕ)) (i : ℕ) (t : ℕ × Vec ℕ) → i < length tables → t ≡ get_or tables i t
     → table_calls (tables_in (take i tables)) ++ (write_calls (table_name t.0) t.1.items ++ table_calls (tables_in (drop (suc i) tables))) ≡ table_calls (tables_in tables)
 tables_around tables i t h is =
@@ -69,7 +69,7 @@ tables_on tables i t h is =
     let more : take (i + 1) tables ≡ take i tables ++ t ∷ [] = take_more tables i t h ∙ ap (λ (x : ℕ × Vec ℕ). take i tables ++ x ∷ []) (sym is) in
     sym (calls_append (take i tables) (t ∷ [])) ∙ ap (λ (x : List (ℕ × Vec ℕ)). table_calls (tables_in x)) (sym more)
 
--- where the device failed after a time, it failed after an earlier one
+-- if the device failed after a time, it failed after an earlier one
 pub refused_by : {U : Type 0} (before middle now : ℕ) (r : Result U Fault) (e : FolderFault) → IsErrAnd r (λ f. f ≡ fault (fault_name e)) → before ≤ middle → now ≡ failures_after {T = Unit {0}} middle (Err e)
     → IfErr r (λ f. UnlessMemory f (IsStopped before now f))
 refused_by before middle now (Ok x) e h one is = absurd h
@@ -78,7 +78,7 @@ refused_by before middle now (Err f) Device h one is =
     (refl, failed_since before middle now one (count_later {T = Unit {0}} middle now (Err Device) is) (count_device {T = Unit {0}} middle now (Err Device) is refl))
 refused_by before middle now (Err f) Memory h one is = subst (λ (x : Fault). UnlessMemory x (IsStopped before now x)) (sym h) tt
 
--- where the count rose in a call, it is Device that ended it
+-- if the count rose in a call, it is Device that ended it
 pub stops_by : {U : Type 0} (before middle now : ℕ) (r : Result U Fault) (e : FolderFault) → IsErrAnd r (λ f. f ≡ fault (fault_name e)) → middle ≡ before → now ≡ failures_after {T = Unit {0}} middle (Err e)
     → StopsAtDevice before now r
 stops_by before middle now (Ok x) e h same is = absurd h

@@ -22,7 +22,7 @@ abbrev pub repeats : Option Entry → Entry → Bool
 repeats None e = false
 repeats (Some p) e = is_same_version p e
 
--- whether none of the entries that stand behind this one is of the version of the one before it
+-- whether none of the entries that stand after this one is of the version of the one before it
 abbrev pub apart_behind : Option Entry → List Entry → Bool
 apart_behind before [] = true
 apart_behind before (e ∷ es) = not (repeats before e) && apart_behind (Some e) es

@@ -41,7 +41,7 @@ below_apart cmp range e h = by_parts cmp range e true (is_before cmp range.upper
 pub within : (cmp : List ℕ → List ℕ → Ordering) (range : KeyRange) (e : Entry) → is_before cmp range.lower false e ≡ false → is_before cmp range.upper true e ≡ true → is_in_range cmp range (user_of e.key) ≡ true
 within cmp range e l u = by_parts cmp range e false true l u
 
--- one that is at the upper bound or behind it isn't
+-- one that is at the upper bound or after it isn't
 behind_apart : (cmp : List ℕ → List ℕ → Ordering) (range : KeyRange) (e : Entry) → is_before cmp range.lower false e ≡ false → is_before cmp range.upper true e ≡ false → is_in_range cmp range (user_of e.key) ≡ false
 behind_apart cmp range e l u = by_parts cmp range e false false l u
 
@@ -81,7 +81,7 @@ module _ (cmp : List ℕ → List ℕ → Ordering) (total : IsTotalOrder cmp) w
   less_of Equal h = absurd (false≢true h)
   less_of Greater h = absurd (false≢true h)
 
-  -- what comes behind an entry that isn't before a bound isn't either
+  -- what comes after an entry that isn't before a bound isn't either
   stays : (bound : Option (List ℕ)) (otherwise : Bool) (e f : Entry) → is_le (internal_cmp cmp e.key f.key) ≡ true → is_before cmp bound otherwise e ≡ false → is_before cmp bound otherwise f ≡ false
   stays None otherwise e f le h = h
   stays (Some l) otherwise e f le h = by_test (is_lt (cmp (user_of f.key) l)) refl
@@ -96,12 +96,12 @@ module _ (cmp : List ℕ → List ℕ → Ordering) (total : IsTotalOrder cmp) w
   stay bound otherwise e [] le h = tt
   stay bound otherwise e (f ∷ es) le h = (stays bound otherwise e f le.0 h, stay bound otherwise e es le.1 h)
 
-  -- where the first entry isn't before a bound, none is
+  -- if the first entry isn't before a bound, none is
   pub from_bound : (bound : Option (List ℕ)) (otherwise : Bool) (es : List Entry) → NeverFalls cmp es → first_is (is_before cmp bound otherwise) es ≡ false → AllByRecursion (λ e. is_before cmp bound otherwise e ≡ false) es
   from_bound bound otherwise [] falls h = tt
   from_bound bound otherwise (e ∷ es) falls h = (h, stay bound otherwise e es falls.0 h)
 
-  -- behind the upper bound nothing is in the range
+  -- after the upper bound nothing is in the range
   pub none_in : (range : KeyRange) (es : List Entry) → AllByRecursion (λ e. is_before cmp range.lower false e ≡ false) es → AllByRecursion (λ e. is_before cmp range.upper true e ≡ false) es → entries_in cmp range es ≡ []
   none_in range [] low up = refl
   none_in range (e ∷ es) low up =
@@ -111,7 +111,7 @@ module _ (cmp : List ℕ → List ℕ → Ordering) (total : IsTotalOrder cmp) w
   none_passed range [] low up = tt
   none_passed range (e ∷ es) low up = (not_passed cmp range e low.0 up.0, none_passed range es low.1 up.1)
 
-  -- an entry of the range, and those behind it
+  -- an entry of the range, and those after it
   pub one_in : (range : KeyRange) (e : Entry) (es : List Entry) → is_before cmp range.lower false e ≡ false → is_before cmp range.upper true e ≡ true → entries_in cmp range (e ∷ es) ≡ e ∷ entries_in cmp range es
   one_in range e es low up = ap (λ s. cond s (e ∷ entries_in cmp range es) (entries_in cmp range es)) (within cmp range e low up)
 

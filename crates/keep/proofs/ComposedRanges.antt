@@ -285,7 +285,7 @@ module _ (cmp : List ℕ → List ℕ → Ordering) (total : IsTotalOrder cmp) w
           sym (ap (λ zs. zs ++ x ∷ filter (is_behind k) xs) (filter_none (is_before k) xs behind)
           ∙ ap (λ zs. x ∷ zs) (filter_all (is_behind k) xs (all_map (λ f. is_before k f ≡ false) (λ f. is_behind k f ≡ true) xs (λ f g. ap not g) behind)))
 
-  -- entries before a boundary and entries behind it are of different user keys
+  -- entries before a boundary and entries after it are of different user keys
   different : (k : List ℕ) (e f : Entry) → is_before k e ≡ true → is_behind k f ≡ true → is_same_user e f ≡ false
   different k e f h g =
       unless (is_same_user e f) (is_before k f)
@@ -324,7 +324,7 @@ module _ (cmp : List ℕ → List ℕ → Ordering) (total : IsTotalOrder cmp) w
       first_of_both true t h = refl
       first_of_both false t h = h
 
-  -- ranges behind a boundary hold what they hold of the entries behind it
+  -- ranges after a boundary hold what they hold of the entries after it
   behind_alone : (k c : List ℕ) (ks : List (List ℕ)) (xs : List Entry) → is_le (cmp k c) ≡ true → AllByRecursion (λ l. cmp k l ≡ Less) ks
       → map (λ range. entries_in cmp range xs) (ranges_from (Some c) ks) ≡ map (λ range. entries_in cmp range (filter (is_behind k) xs)) (ranges_from (Some c) ks)
   behind_alone k c [] xs le h =

@@ -15,7 +15,7 @@ use Rattle.reads.specs.NewestFirst.{SequencesFall, AreOf}
 use Rattle.keep.specs.OneKey.{Hides, IsUnderKept, IsUnderDeletion, OneKeyLaw}
 use Rattle.keep.proofs.OneKey.{listed_has, all_hidden, falls_behind, answers}
 
--- what stands before an entry in a list that goes on behind others
+-- what stands before an entry in a list that goes on after others
 later_of : (xs ys : List Entry) (user : List ℕ) → AreOf user (xs ++ ys) → AreOf user ys
 later_of [] ys user h = h
 later_of (x ∷ xs) ys user h = later_of xs ys user h.1
@@ -46,7 +46,7 @@ module _ (cmp : List ℕ → List ℕ → Ordering) (r : Readable) (deeper : Lis
     split : done ≡ above ++ deletion ∷ under
     obsolete : is_obsolete cmp r deeper deletion ≡ true
 
-  -- why no readable sequence needs what comes behind the last of these entries unless it sees a kept one of them first
+  -- why no readable sequence needs what comes after the last of these entries unless it sees a kept one of them first
   abbrev Why : List Entry → Entry → Type 0
   Why done p = IsUnderKept cmp r deeper done p ⊎ EndsIn done
 
@@ -76,7 +76,7 @@ module _ (cmp : List ℕ → List ℕ → Ordering) (r : Readable) (deeper : Lis
   hides_through : (k p e : Entry) → is_hidden r (Some p) e ≡ true → Hides r k p → Hides r k e
   hides_through k p e h hides at read seen = hides at read (sees_both p e at h read seen)
 
-  -- an entry that is hidden behind others
+  -- an entry that is hidden after others
   under_others : (done : List Entry) (before : Option Entry) (e : Entry) → last_or None done ≡ before → Told done → is_hidden r before e ≡ true → IsUnderKept cmp r deeper done e ⊎ EndsIn done
   under_others done None e last told h = absurd (false≢true h)
   under_others done (Some p) e last told h =
@@ -125,7 +125,7 @@ module _ (cmp : List ℕ → List ℕ → Ordering) (r : Readable) (deeper : Lis
   and_false true b h = h
   and_false false b h = refl
 
-  -- behind a deletion that nothing needs, nothing is kept
+  -- after a deletion that nothing needs, nothing is kept
   nothing_left : (user : List ℕ) (above : List Entry) (d : Entry) (under : List Entry) → AreOf user (above ++ d ∷ under) → SequencesFall (above ++ d ∷ under) → is_obsolete cmp r deeper d ≡ true
       → kept cmp r deeper (above ++ d ∷ under) ≡ kept cmp r deeper above
   nothing_left user above d under of falls o =

@@ -19,7 +19,7 @@ is_below cmp key f = is_lt (internal_cmp cmp f.largest key)
 count_cons : (p : FileMeta → Bool) (f : FileMeta) (fs : List FileMeta) → count_by p (f ∷ fs) ≡ cond (p f) 1 0 + count_by p fs
 count_cons p f fs = sum_by-cons (λ x. cond (p x) 1 0) f fs
 
--- where no element passes
+-- if no element passes
 count_none : (p : FileMeta → Bool) (fs : List FileMeta) → ((j : ℕ) (d : FileMeta) → j < length fs → p (get_or fs j d) ≡ false) → count_by p fs ≡ 0
 count_none p [] h = refl
 count_none p (f ∷ fs) h = count_cons p f fs ∙ by_test (p f) (h zero f (omega arith)) (count_none p fs (λ j d lt. h (suc j) d (omega arith)))

@@ -37,7 +37,7 @@ module _ (test : Entry → Bool) where
       behind left h more k =
           ⊎_elim (λ gone. inl (gone.0, more cs gone.1)) (λ stays. inr (stays.0, (stays.1.0, more stays.0 stays.1.1))) k
 
-  -- where nothing that passes is left, the others are
+  -- if nothing that passes is left, the others are
   pub leaves_others : (es fs : List Entry) → LosesOnly test es fs → AllByRecursion (λ e. test e ≡ false) fs → fs ≡ filter (λ e. not (test e)) es
   leaves_others [] fs h none = h
   leaves_others (e ∷ es) fs h none =

@@ -70,7 +70,7 @@ pub falls_front : (xs ys : List Entry) → SequencesFall (xs ++ ys) → Sequence
 falls_front [] ys h = tt
 falls_front (x ∷ xs) ys h = (all_front (λ f. sequence_of f.key < sequence_of x.key) xs ys h.0, falls_front xs ys h.1)
 
--- what entries answer behind one that may be seen
+-- what entries answer after one that may be seen
 behind_by : (a : Entry) (x y : Option Entry) (seen : Bool) → option_and_then value_in x ≡ option_and_then value_in y
     → option_and_then value_in (cond seen (Some a) x) ≡ option_and_then value_in (cond seen (Some a) y)
 behind_by a x y true h = refl

@@ -17,7 +17,7 @@ IsKeyed e = IsInternalKey e.key
 
 -- ---- growing
 
--- the last piece closed, and none behind it
+-- the last piece closed, and none after it
 pub all_kept_closed : (ps : List (List Entry)) (last : List Entry) → all_kept (ps ++ last ∷ []) [] ≡ all_kept ps last
 all_kept_closed [] last = append-nil last
 all_kept_closed (p ∷ ps) last = ap (λ (es : List Entry). p ++ es) (all_kept_closed ps last)

@@ -53,7 +53,7 @@ pub fewer : (test : Entry → Bool) (es fs : List Entry) → first_is test es �
 fewer test [] fs h k = absurd (false≢true h)
 fewer test (e ∷ es) fs h k = let n : length fs ≡ length es = ap length k in omega (arith, n)
 
--- the entry of this key and this value, and those behind it
+-- the entry of this key and this value, and those after it
 pub head_is : (es : List Entry) (key value : List ℕ) → option_map (λ e. e.key) (slice_get es 0) ≡ Some key → option_map (λ e. e.value) (slice_get es 0) ≡ Some value → es ≡ record { key = key; value = value } ∷ drop 1 es
 head_is [] key value h k = absurd (none-some key h)
 head_is (e ∷ es) key value h k =

@@ -83,7 +83,7 @@ module _ (cmp : List ℕ → List ℕ → Ordering) (total : IsTotalOrder cmp) (
   last_stays e [] h = h.0
   last_stays e (f ∷ fs) h = last_stays f fs h.1
 
-  -- where the last entry is before the lower bound, the first is
+  -- if the last entry is before the lower bound, the first is
   first_before : (e : Entry) (es : List Entry) → NeverFalls cmp (e ∷ es) → option_map_or (λ limit. is_lt (cmp (user_of (last_key e.key es)) limit)) range.lower false ≡ true → is_before cmp range.lower false e ≡ true
   first_before e es falls h = by_test (is_before cmp range.lower false e) refl
     where
@@ -97,7 +97,7 @@ module _ (cmp : List ℕ → List ℕ → Ordering) (total : IsTotalOrder cmp) (
   last_before e [] falls h = (first_before e [] falls h, tt)
   last_before e (f ∷ fs) falls h = (first_before e (f ∷ fs) falls h, last_before f fs falls.1 h)
 
-  -- whether a key's user key is before a bound, or what is said where there is no bound
+  -- whether a key's user key is before a bound, or what is said if there is no bound
   abbrev pub key_before : List ℕ → Option (List ℕ) → Bool → Bool
   key_before key bound otherwise = option_map_or (λ limit. is_lt (cmp (user_of key) limit)) bound otherwise
 

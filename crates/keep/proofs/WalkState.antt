@@ -34,7 +34,7 @@ version e = version_of e.key
 abbrev last_of : Option Entry → Option EntryVersion
 last_of before = option_map version before
 
--- the number of grandparents of the mark before, where there is one
+-- the number of grandparents of the mark before, if there is one
 abbrev told : Option Entry → ℕ → Option ℕ
 told None passed = None
 told (Some p) passed = Some passed
@@ -101,7 +101,7 @@ module _ (cmp : List ℕ → List ℕ → Ordering) (b : CompactionContext) wher
   abbrev at : Walk → Entry → Option ℕ
   at w e = newer_of w.last (user_of e.key)
 
-  -- the marks behind the head of an entry
+  -- the marks after the head of an entry
   headed_by : (before : Option Entry) (w : Walk) (e : Entry) (n : ℕ) (hs : List Mark) (same : Bool) → (before ≡ None → same ≡ false) → w.last ≡ last_of before → is_first before e ≡ not same
       → w.run.marks ++ ch (told before w.passed) ((if is_first before e then record { below = below e; kept = length w.run.kept } ∷ [] else []) ++ hs)
       ≡ (walk_after_head cmp b (if same then Some n else None) w e.key).run.marks ++ changes_behind (walk_after_head cmp b (if same then Some n else None) w e.key).passed hs

@@ -27,7 +27,7 @@ drop_four_two (a ∷ b ∷ []) = refl
 drop_four_two (a ∷ b ∷ c ∷ []) = refl
 drop_four_two (a ∷ b ∷ c ∷ d ∷ bytes) = refl
 
--- the parts of a header, and the bytes behind it
+-- the parts of a header, and the bytes after it
 pub header_parts : (bytes : List ℕ) → IsBytes bytes → 7 ≤ length bytes
     → bytes ≡ little_bytes 4 (little_number 4 bytes) ++ (little_bytes 2 (little_number 2 (drop 4 bytes)) ++ get_or bytes 6 0 ∷ drop 7 bytes)
 header_parts bytes fits le =

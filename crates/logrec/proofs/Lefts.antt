@@ -16,7 +16,7 @@ pub fragments_last : (m : ℕ) (begins : Bool) (room : ℕ) (content : List ℕ)
 fragments_last zero begins room content le = refl
 fragments_last (suc m) begins room content le = let yes : leb (length content) room ≡ true = le-leb _ _ le in rw yes refl
 
--- a record that goes on behind this fragment
+-- a record that goes on after this fragment
 pub fragments_more : (m : ℕ) (begins : Bool) (room : ℕ) (content : List ℕ) → room < length content
     → fragments (suc m) begins room content ≡ fragment (fragment_type begins false) (take room content) ++ fragments m false 32761 (drop room content)
 fragments_more m begins room content lt = let no : leb (length content) room ≡ false = lt-leb _ _ lt in rw no refl
@@ -49,7 +49,7 @@ takes_last m begins room bytes p t h = record {
   more = h.1;
 }
 
--- another fragment, and those behind it
+-- another fragment, and those after it
 takes_more : (m : ℕ) (begins : Bool) (room : ℕ) (bytes : List ℕ) (p : FragmentReading) (x : List ℕ × List ℕ) → TakesPiece room bytes p → Ends begins room p.kind (length p.content) false
     → 0 < length x.0 → TakesLeft m false 32761 p.rest x → TakesLeft (suc m) begins room bytes (p.content ++ x.0, x.1)
 takes_more m begins room bytes p x t h some others =
@@ -71,14 +71,14 @@ some_more : (len : ℕ) → HasMore false len → 0 < len
 some_more len (inl e) = absurd cc
 some_more len (inr lt) = lt
 
--- a fragment that fills the room, and more behind it, pass the room
+-- a fragment that fills the room, and more after it, pass the room
 too_long : (front behind whole : List ℕ) (room : ℕ) → length front ≡ room → 0 < length behind → front ++ behind ≡ whole → length whole ≤ 0 + room → ⊥
 too_long front behind whole room full some is le = omega (arith, ap length is, length-append front behind)
 
 abbrev failed : Result (List ℕ × List ℕ) Fault
 failed = Err (fault LogShape)
 
--- the step, at what is behind the first fragment
+-- the step, at what is after the first fragment
 left_ends : (n : ℕ) (begins : Bool) (room : ℕ) (bytes : List ℕ) (x : List ℕ × List ℕ) (p : FragmentReading) (b : Bool) → TakesPiece room bytes p → Ends begins room p.kind (length p.content) b → ending n p b ≡ Ok x
     → ((y : List ℕ × List ℕ) → left_at n false 32761 p.rest ≡ Ok y → (m : ℕ) → length y.0 ≤ m + 32761 → TakesLeft m false 32761 p.rest y)
     → (m : ℕ) → length x.0 ≤ m + room → TakesLeft m begins room bytes x

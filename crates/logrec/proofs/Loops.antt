@@ -146,7 +146,7 @@ all rs = Ok rs
 abbrev with_records : List (List ℕ) → Result (List (List ℕ)) Fault → Result (List (List ℕ)) Fault
 with_records front read = read >>= λ others. Ok (front ++ others)
 
--- the records before an offset, and those behind it
+-- the records before an offset, and those after it
 pub record ReadsRecords (bytes : List ℕ) (front : List (List ℕ)) (rest : List ℕ) : Type 0 where
   pub most : ℕ
   pub enough : length rest ≤ most

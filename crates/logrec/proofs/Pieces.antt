@@ -17,7 +17,7 @@ use Rattle.logrec.proofs.Bytes.{guard_ended, header_parts}
 abbrev piece_is : ℕ → List ℕ → List ℕ → FragmentReading
 piece_is kind content rest = record { kind = kind; content = content; rest = rest }
 
--- the last test of a fragment, and each with those behind it
+-- the last test of a fragment, and each with those after it
 abbrev summed : ℕ → ℕ → ℕ → List ℕ → Result FragmentReading Fault
 summed len sum kind body = cond (eqb sum (checksum kind (take len body))) (Ok (piece_is kind (take len body) (drop len body))) (Err (fault LogChecksum))
 

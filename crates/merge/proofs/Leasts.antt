@@ -71,7 +71,7 @@ first_of (e ∷ es) key h = record { first = e; others = es; same = refl; key_is
 
 -- ---- one more list
 
--- where the next list doesn't start below the entry that comes next, it still comes next
+-- if the next list doesn't start below the entry that comes next, it still comes next
 pub stays_least : (cmp : List ℕ → List ℕ → Ordering) (lists : List (List Entry)) (place : ℕ) (list : List Entry) → (least : IsLeast cmp lists place) → StartsFrom cmp least.first.key list → IsLeast cmp (lists ++ list ∷ []) place
 stays_least cmp lists place list least starts =
     let within : place < length lists = slice_get_within lists place (least.first ∷ least.others) least.here in
@@ -85,7 +85,7 @@ stays_least cmp lists place list least starts =
           (all_append (StartsFrom cmp least.first.key) (drop (place + 1) lists) (list ∷ []) least.behind (starts, tt));
     }
 
--- where all lists start above an entry, and the next list starts with it, that one comes next
+-- if all lists start above an entry, and the next list starts with it, that one comes next
 pub becomes_least : (cmp : List ℕ → List ℕ → Ordering) (lists : List (List Entry)) (e : Entry) (es : List Entry) → AllByRecursion (StartsAbove cmp e.key) lists → IsLeast cmp (lists ++ (e ∷ es) ∷ []) (length lists)
 becomes_least cmp lists e es above = record {
   first = e;

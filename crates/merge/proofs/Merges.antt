@@ -49,7 +49,7 @@ one_of P [] place list all h = absurd (none-some list h)
 one_of P (l ∷ ls) zero list all h = subst P (same_Some l list h) all.0
 one_of P (l ∷ ls) (suc place) list all h = one_of P ls place list all.1 h
 
--- the first entry of the list that is next is that of the merge, and behind it comes the merge without it
+-- the first entry of the list that is next is that of the merge, and after it comes the merge without it
 pub merged_first : (cmp : List ℕ → List ℕ → Ordering) → IsTotalOrder cmp → (lists : List (List Entry)) (place : ℕ) → AllByRecursion (NeverFalls cmp) lists → (least : IsLeast cmp lists place)
     → merged cmp lists ≡ least.first ∷ merged cmp (set lists place least.others)
 merged_first cmp total lists place falls least =

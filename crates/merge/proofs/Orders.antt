@@ -37,7 +37,7 @@ less_is Less h = refl
 less_is Equal h = absurd cc
 less_is Greater h = absurd cc
 
--- what is at or before another isn't behind it
+-- what is at or before another isn't after it
 not_behind : (o : Ordering) → is_le o ≡ true → is_lt (ordering_reverse o) ≡ false
 not_behind Less h = refl
 not_behind Equal h = refl

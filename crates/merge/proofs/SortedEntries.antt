@@ -33,11 +33,11 @@ pub with_first : (cmp : List ℕ → List ℕ → Ordering) → IsTotalOrder cmp
 with_first cmp total e [] h = refl
 with_first cmp total e (f ∷ fs) h = ap (λ b. cond b (f ∷ entries_with cmp e fs) (e ∷ (f ∷ fs))) (not_below cmp total e.key f.key h.0)
 
--- an entry goes behind one that is below it
+-- an entry goes after one that is below it
 pub with_behind : (cmp : List ℕ → List ℕ → Ordering) (e f : Entry) (es : List Entry) → Above cmp f.key e → entries_with cmp e (f ∷ es) ≡ f ∷ entries_with cmp e es
 with_behind cmp e f es h = ap (λ (o : Ordering). cond (is_lt o) (f ∷ entries_with cmp e es) (e ∷ (f ∷ es))) h
 
--- an entry that is below all before it, and not above any behind it, is the first of the sorted list
+-- an entry that is below all before it, and not above any after it, is the first of the sorted list
 pub sorted_first : (cmp : List ℕ → List ℕ → Ordering) → IsTotalOrder cmp → (xs : List Entry) (e : Entry) (ys : List Entry) → AllByRecursion (Above cmp e.key) xs → AllByRecursion (From cmp e.key) ys → sorted_entries cmp (xs ++ e ∷ ys) ≡ e ∷ sorted_entries cmp (xs ++ ys)
 sorted_first cmp total [] e ys h k = with_first cmp total e (sorted_entries cmp ys) (all_sorted (From cmp e.key) cmp ys k)
 sorted_first cmp total (x ∷ xs) e ys h k = ap (entries_with cmp x) (sorted_first cmp total xs e ys h.1 k) ∙ with_behind cmp x e (sorted_entries cmp (xs ++ ys)) h.0

@@ -86,7 +86,7 @@ none_wins cmp total lists one other list here none = record {
   over_other = ahead_same cmp total other (get_or lists other []);
 }
 
--- the list at one place isn't behind that at another, by their first keys
+-- the list at one place isn't after that at another, by their first keys
 beats_by : (cmp : List ℕ → List ℕ → Ordering) (lists : List (List Entry)) (a b : ℕ) (list more : List Entry) (key more_key : List ℕ) → slice_get lists a ≡ Some list → slice_get lists b ≡ Some more → option_map (λ e. e.key) (slice_get list 0) ≡ Some key
     → option_map (λ e. e.key) (slice_get more 0) ≡ Some more_key → (internal_cmp cmp key more_key ≡ Less) ⊎ ((internal_cmp cmp key more_key ≡ Equal) × (a ≤ b)) → Beats cmp lists a b
 beats_by cmp lists a b [] more key more_key here there first second h = absurd (none-some key first)
@@ -259,7 +259,7 @@ module _ (cmp : List ℕ → List ℕ → Ordering) (lists : List (List Entry)) 
   pub winner_of : (winners : List ℕ) → IsPlayed cmp lists winners (λ k. ⊥) → (k : ℕ) → 0 < k → k < length lists → IsWinner cmp lists (get_or winners (2 * k) 0) (get_or winners (2 * k + 1) 0) (get_or winners k 0)
   winner_of winners all k low high = ⊎_elim (λ none. absurd none) (λ wins. wins) (all.played k low high)
 
-  -- where a place won at a node, it is that node's or one's below
+  -- if a place won at a node, it is that node's or one's below
   holder : (winners : List ℕ) (number place : ℕ) → length lists ≡ number → IsBracket number winners → IsPlayed cmp lists winners (λ k. ⊥) → (fuel node : ℕ) → 0 < node → node < length winners → length winners ≤ node + fuel
       → get_or winners node 0 ≡ place → (node ≡ number + place) ⊎ IsAbove node (number + place)
   holder winners number place count bracket all zero node low high bound is = absurd (omega arith)
@@ -414,7 +414,7 @@ module _ (cmp : List ℕ → List ℕ → Ordering) (total : IsTotalOrder cmp) (
             (least_of cmp lists (get_or winners 1 0) e es (subst (λ n. n < length lists) is within) (root_list place (e ∷ es) is here) (root_beats cmp total lists winners t));
       }
 
-  -- where an entry is to come, there is a root, and the list there has it
+  -- if an entry is to come, there is a root, and the list there has it
   pub has_root : 0 < length (merged cmp lists) → 1 < length winners
   has_root some = ⊎_elim (λ few. absurd (none_without_least cmp lists (nothing_next (omega (arith, few))) some)) (λ more. omega (arith, more)) (cases_lt (length winners) 2)
 

@@ -53,7 +53,7 @@ filter_in test (y ∷ ys) x h = by_test (test y) refl (filter_in test ys x) h
     by_test true is more k = ⊎_elim (λ here. (inl here, ap test (sym here) ∙ is)) (λ later. (inr (more later).0, (more later).1)) k
     by_test false is more k = (inr (more k).0, (more k).1)
 
--- two lists of at most one element, where one has what the other has
+-- two lists of at most one element, if one has what the other has
 one_element : (xs ys : List Entry) → length xs ≡ length ys → length ys ≤ 1 → ((x : Entry) → IsIn x xs → IsIn x ys) → xs ≡ ys
 one_element [] [] h few each = refl
 one_element [] (y ∷ ys) h few each = absurd (omega arith)
@@ -63,7 +63,7 @@ one_element (x ∷ []) (y ∷ z ∷ ys) h few each = absurd (omega arith)
 one_element (x ∷ w ∷ xs) (y ∷ []) h few each = absurd (omega arith)
 one_element (x ∷ w ∷ xs) (y ∷ z ∷ ys) h few each = absurd (omega arith)
 
--- where at most one entry passes a test, it is the same in another order
+-- if at most one entry passes a test, it is the same in another order
 filter_moved : (test : Entry → Bool) (xs ys : List Entry) → IsPermutation xs ys → length (filter test ys) ≤ 1 → filter test xs ≡ filter test ys
 filter_moved test xs ys same few =
     one_element (filter test xs) (filter test ys) (length-filter test xs ∙ sym (sum_by-IsPermutation (λ e. cond (test e) 1 0) xs ys same) ∙ sym (length-filter test ys)) few

@@ -144,7 +144,7 @@ refused : (es : List Entry) (f : Fault) → NeverFalls bytewise_cmp es → disti
 refused [] f falls h = absurd cc
 refused (e ∷ es) f falls h = refused_behind e es f falls (bind_err (distinct_after (Some e.key) es) e f h)
 
--- where a range is refused, a version stands twice in it
+-- if a range is refused, a version stands twice in it
 pub union_refused_for : (a b : List Entry) (f : Fault) → union_of (a ∷ b ∷ []) ≡ Err f → (f ≡ fault Duplicate) × HasRepeat (a ++ b)
 union_refused_for a b f h =
     let found = refused (merged bytewise_cmp (a ∷ b ∷ [])) f (sorted_never_falls bytewise_cmp nat_list_cmp_total (entries_of_lists (a ∷ b ∷ []))) h in

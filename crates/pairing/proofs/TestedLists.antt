@@ -109,7 +109,7 @@ found_tested bytes q (Err e) block given = tt
 drop_at : (ts : List TestedEntry) (i : ℕ) (t : TestedEntry) → i < length ts → drop i ts ≡ get_or ts i t ∷ drop (i + 1) ts
 drop_at ts i t within = let n : suc i ≡ i + 1 = omega arith in drop-cons ts i t within ∙ ap (λ (k : ℕ). get_or ts i t ∷ drop k ts) n
 
--- the entry at a place goes behind those that are done
+-- the entry at a place goes after those that are done
 pub one_more : (done : List Entry) (ts : List TestedEntry) (i : ℕ) (t : TestedEntry) (key : List ℕ) (whole : List Entry) → i < length ts → t ≡ get_or ts i t → key ≡ t.key → done ++ tested_entries (drop i ts) ≡ whole
     → (done ++ record { key = key; value = t.value.now } ∷ []) ++ tested_entries (drop (i + 1) ts) ≡ whole
 one_more done ts i t key whole within is same so_far =

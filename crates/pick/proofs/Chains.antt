@@ -88,7 +88,7 @@ module _ (cmp : List ℕ → List ℕ → Ordering) (total : IsTotalOrder cmp) w
           let back : internal_cmp cmp q f ≡ Greater = keys_total.antisymm q f ∙ ap ordering_reverse (below_user f q users) in
           let both : true ≡ false = sym (ap is_gt back) ∙ first in absurd cc
 
-  -- a file that doesn't go on within the user key, and stands before one that does, doesn't go on behind that one either
+  -- a file that doesn't go on within the user key, and stands before one that does, doesn't go on after that one either
   no_more : (o : Option (List ℕ)) (f q : FileMeta) → goes_on cmp o f ≡ true → goes_on cmp o q ≡ false → is_gt (internal_cmp cmp q.smallest f.smallest) ≡ false → goes_on cmp (with_largest cmp o f) q ≡ false
   no_more None f q within stands first = absurd cc
   no_more (Some key) f q within stands first =
@@ -165,7 +165,7 @@ module _ (cmp : List ℕ → List ℕ → Ordering) (total : IsTotalOrder cmp) w
       these : boundary_pass cmp p (largest_key cmp chosen) left ≡ filter (is_among (chosen ++ added)) left
       of_left : (q : FileMeta) → IsIn added q → IsIn left q
 
-    -- where the pass is: no file behind it is a next one, and those ahead are chosen where they pass the test
+    -- if the pass is: no file after it is a next one, and those ahead are chosen where they pass the test
     record At (passed chosen left : List FileMeta) : Type 0 where
       parts : files ≡ passed ++ left
       done : (q : FileMeta) → IsIn passed q → is_next chosen q ≡ false

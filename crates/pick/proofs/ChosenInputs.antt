@@ -205,7 +205,7 @@ module _ (cmp : List ℕ → List ℕ → Ordering) (total : IsTotalOrder cmp) w
         (subst (λ (n : ℕ). AreChosen cmp n (level_files cmp v level) first (filter (is_around first s l) (level_files cmp v level))) (sym zeroth) (least_closed (level_files cmp v level) first s l of_level.differ i all_grown))
         (or_left (eqb first.number first.number) (is_overlapping cmp s l first) (eqb_itself first.number)) gives
 
-    -- where there is no first file the level has no file
+    -- if there is no first file the level has no file
     pub upper_none : (files : List FileMeta) → files ≡ level_files cmp v level → first_file cmp (pointer_of v level) files ≡ None → IsUpperAnswer cmp v level (Ok files)
     upper_none files same none =
         let short = no_first cmp (pointer_of v level) files none in

@@ -74,7 +74,7 @@ some_largest : (cmp : List ℕ → List ℕ → Ordering) (key : List ℕ) (file
 some_largest cmp key [] e = absurd cc
 some_largest cmp key (f ∷ files) e = some_largest cmp (greater_key cmp key f.largest) files e
 
--- where there is no largest key there is no file
+-- if there is no largest key there is no file
 pub no_largest : (cmp : List ℕ → List ℕ → Ordering) (files : List FileMeta) → largest_key cmp files ≡ None → length files ≡ 0
 no_largest cmp [] e = refl
 no_largest cmp (f ∷ files) e = absurd (some_largest cmp f.largest files e)

@@ -190,7 +190,7 @@ before R (y ∷ ys) x rest h q (inr i) = before R ys x rest h.1 q i
 
 -- ---- one element more
 
--- what is held behind the first ones is what the list has so far, and one more
+-- what is held after the first ones is what the list has so far, and one more
 pub pushed_more : {X Y : Type 0} (F : X → Y) (first done new : List Y) (y : Y) (xs : List X) (i : ℕ) (x : X) → i < length xs → x ≡ get_or xs i x → new ≡ done ++ y ∷ [] → done ≡ first ++ map F (take i xs) → y ≡ F x → new ≡ first ++ map F (take (i + 1) xs)
 pushed_more {X} {Y} F first done new y xs i x lt here pushed front own =
     let front_is : take (i + 1) xs ≡ take i xs ++ x ∷ [] = take_more xs i x lt ∙ ap (λ (z : X). take i xs ++ z ∷ []) (sym here) in

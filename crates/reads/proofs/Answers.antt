@@ -94,7 +94,7 @@ module _ (cmp : List ℕ → List ℕ → Ordering) (total : IsTotalOrder cmp) w
       All-from_recursion P es rising.0 j d (omega arith)
   rising_at (e ∷ es) rising (suc i) (suc j) d lt below = rising_at es rising.1 i j d (omega arith) (omega arith)
 
-  -- an entry is the one at a place, or before it, or behind it
+  -- an entry is the one at a place, or before it, or after it
   pub first_or_above : (es : List Entry) (key : List ℕ) (e : Entry) → EntriesRise cmp es → option_map (λ e. e.key) (slice_get es 0) ≡ Some key → Contains es e → (e.key ≡ key) ⊎ (internal_cmp cmp key e.key ≡ Less)
   first_or_above [] key e rising first at = absurd (none_in e at)
   first_or_above (d ∷ es) key e rising first at =

@@ -39,7 +39,7 @@ le_first Equal b e = inr refl
 le_first Greater b e = absurd cc
 
 module _ (cmp : List ℕ → List ℕ → Ordering) (total : IsTotalOrder cmp) (exact : IsExact cmp) where
-  -- a key isn't behind another
+  -- a key isn't after another
   abbrev pub AtMost : List ℕ → List ℕ → Type 0
   AtMost k m = is_le (internal_cmp cmp k m) ≡ true
 
@@ -69,8 +69,8 @@ module _ (cmp : List ℕ → List ℕ → Ordering) (total : IsTotalOrder cmp) (
       refuted : cmp (user_of k) (user_of m) ≡ Less → ⊥
       refuted less = not_before_itself cmp total (user_of k) (subst (λ (u : List ℕ). cmp (user_of k) u ≡ Less) same (before less))
 
-  -- Of the user keys of a kind: an entry that all others are at or behind, and the first of the others. Where that is of another user key,
-  -- or stands behind it in the list and is older, then so is each other.
+  -- Of the user keys of a kind: an entry that all others are at or after, and the first of the others. Where that is of another user key,
+  -- or stands after it in the list and is older, then so is each other.
   module _ (P : List ℕ → Type 0) where
     pub passes : (front behind : List Entry) (a b : Entry) → AtMost a.key b.key → ((c : Entry) → Contains (front ++ behind) c → AtMost b.key c.key)
         → (P (user_of a.key) → user_of b.key ≡ user_of a.key → Contains behind b × (sequence_of b.key < sequence_of a.key)) → Pairs (IsNewerIn P) (front ++ behind) → Pairs (IsNewerIn P) (front ++ a ∷ behind)
@@ -123,7 +123,7 @@ module _ (cmp : List ℕ → List ℕ → Ordering) (total : IsTotalOrder cmp) (
     alone [] (b ∷ behind) a none = absurd cc
     alone (b ∷ front) behind a none = absurd cc
 
-    -- where no user key is of the kind
+    -- if no user key is of the kind
     pub no_pairs : (es : List Entry) → ((c : Entry) → Contains es c → P (user_of c.key) → ⊥) → Pairs (IsNewerIn P) es
     no_pairs [] none = tt
     no_pairs (e ∷ es) none = (λ c at of_kind same. absurd (none e (first_in e es) of_kind), no_pairs es (λ c at. none c (later_in e es c at)))
@@ -282,12 +282,12 @@ module _ (cmp : List ℕ → List ℕ → Ordering) (total : IsTotalOrder cmp) (
 
   -- ---- the walk
 
-  -- the entries of lists fall, one list behind the other, those of the user keys of a kind
+  -- the entries of lists fall, one list after the other, those of the user keys of a kind
   pub record Fall (P : List ℕ → Type 0) (lists : List (List Entry)) : Type 0 where
     pub keys : (e : Entry) → Contains (entries_of_lists lists) e → P (user_of e.key) → IsInternalKey e.key
     pub newer : Pairs (IsNewerIn P) (entries_of_lists lists)
 
-  -- what is left of lists falls exactly where the whole lists do
+  -- what is left of lists falls exactly if the whole lists do
   pub record IsLeft (P : List ℕ → Type 0) (left all : List (List Entry)) : Type 0 where
     pub up : Fall P left → Fall P all
     pub down : Fall P all → Fall P left
@@ -412,11 +412,11 @@ module _ (cmp : List ℕ → List ℕ → Ordering) (total : IsTotalOrder cmp) (
       let none = joined_none lists m.least in
       left.up (record { keys = λ c at of_kind. absurd (none_in c (subst (λ (es : List Entry). Contains es c) none at)); newer = subst (Pairs (IsNewerIn P)) (sym none) tt })
 
-  -- where the next key and all behind it are of no user key of the kind
+  -- where the next key and all after it are of no user key of the kind
   pub none_of_kind : (P : List ℕ → Type 0) (lists all : List (List Entry)) → ((c : Entry) → Contains (entries_of_lists lists) c → P (user_of c.key) → ⊥) → IsLeft P lists all → Fall P all
   none_of_kind P lists all none left = left.up (record { keys = λ c at of_kind. absurd (none c at of_kind); newer = no_pairs cmp total exact P (entries_of_lists lists) none })
 
-  -- no user key behind the first one is before a bound that that isn't before
+  -- no user key after the first one is before a bound that that isn't before
   pub behind_bound : (lists : List (List Entry)) (place : ℕ) (m : IsMerging cmp lists (Some place)) (bound : List ℕ) → (cmp (user_of m.least.first.key) bound ≡ Less → ⊥)
       → (c : Entry) → Contains (entries_of_lists lists) c → cmp (user_of c.key) bound ≡ Less → ⊥
   behind_bound lists place m bound behind c at less = elim (users_at_most cmp total exact m.least.first.key c.key (at_most_all lists place m c at)) [

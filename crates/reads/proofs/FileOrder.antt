@@ -101,7 +101,7 @@ module _ (cmp : List ℕ → List ℕ → Ordering) (total : IsTotalOrder cmp) w
   chain f g h range (inr at) (inl lt) = let same : f.level ≡ g.level = at.0 in inl (omega arith)
   chain f g h range (inr at) (inr next) = at_one_level f g h range at.0 next.0 (inr at) (inr next)
 
-  -- each file stands before the one behind it
+  -- each file stands before the one after it
   abbrev Turn : List NewFile → Type 0
   Turn [] = Unit {0}
   Turn (f ∷ []) = Unit {0}

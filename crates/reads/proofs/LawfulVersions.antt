@@ -52,7 +52,7 @@ module _ (cmp : List ℕ → List ℕ → Ordering) (total : IsTotalOrder cmp) (
   abbrev Ordered : NewFile → NewFile → Type 0
   Ordered f g = (Before cmp f g × AreNewer (held f) (held g)) ⊎ (Before cmp g f × AreNewer (held g) (held f))
 
-  -- files whose entries fall, one behind the other
+  -- files whose entries fall, one after the other
   newer_pairs : (fs : List NewFile) → Pairs IsNewer (all_entries tables fs) → Pairs (λ f g. AreNewer (held f) (held g)) fs
   newer_pairs [] pairs = tt
   newer_pairs (f ∷ fs) pairs = (

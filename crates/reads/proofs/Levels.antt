@@ -155,7 +155,7 @@ pub done_is : (b : Bool) → tested b ≡ done tt → b ≡ true
 done_is true e = refl
 done_is false e = absurd cc
 
--- where each file has a table, each of a level has one
+-- if each file has a table, each of a level has one
 pub level_there : (cmp : List ℕ → List ℕ → Ordering) (total : IsTotalOrder cmp) (tables : List NumberedContents) (files : List NewFile) (level : ℕ) (items : List (Bor FileMeta))
     → map (λ (f : Bor FileMeta). f.now) items ≡ in_version_order cmp (files_at files level) → tables_test tables files ≡ Ok tt → All (λ (f : Bor FileMeta). is_some (table_of_number tables f.now.number) ≡ true) items
 level_there cmp total tables files level items is test k d lt =

@@ -25,7 +25,7 @@ use Rattle.reads.proofs.OrderedFiles.{Before}
 use Rattle.reads.proofs.FileOrder.{is_range, before_pairs}
 use Rattle.reads.proofs.LawfulVersions.{lawful_of, is_as_stated, stand_in_turn, entries_fall}
 
--- the entries of the files' tables, one behind the other
+-- the entries of the files' tables, one after the other
 joined_entries : (tables : List NumberedContents) (items : List LevelFile) → entries_of_lists (map (λ (f : LevelFile). table_entries tables f.meta.now.number) items) ≡ all_entries tables (map level_file_in items)
 joined_entries tables [] = refl
 joined_entries tables (f ∷ items) = ap (λ (es : List Entry). table_entries tables f.meta.now.number ++ es) (joined_entries tables items)
@@ -53,7 +53,7 @@ module _ (cmp : List ℕ → List ℕ → Ordering) (total : IsTotalOrder cmp) (
   listed_lawful stated turn lists is falling =
       lawful_of cmp total v tables (map level_file_in items) listing.all (stated_at stated) (before stated turn) (subst AreFalling (ap entries_of_lists is ∙ joined_entries tables items) falling)
 
-  -- where a test of all that a lawful version has fails, the version isn't lawful
+  -- if a test of all that a lawful version has fails, the version isn't lawful
   pub not_lawful : (P : Type 0) (b : Bool) (e : Fault) → tables_test tables v.files ≡ Ok tt → e ≡ fault Lawless → (P → b ≡ true) → b ≡ false → (IsLawful cmp v tables → P) → UnlessMemory e (IsUnlawful cmp v tables e)
   not_lawful P b e test is told untrue follows =
       let refuted : IsLawful cmp v tables → ⊥ = λ lawful. absurd (no_both (told (follows lawful)) untrue) in

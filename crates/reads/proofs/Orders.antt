@@ -103,7 +103,7 @@ module _ (cmp : List ℕ → List ℕ → Ordering) (total : IsTotalOrder cmp) w
           total.antisymm u (user_of m) ∙ ap ordering_reverse back ∙ sym (total.antisymm u (user_of k)) ∙ before
 
   module _ (exact : IsExact cmp) where
-    -- behind a key that isn't before a target and of another user key, each key is of another user key
+    -- after a key that isn't before a target and of another user key, each key is of another user key
     pub other_user : (k m t : List ℕ) → is_lt (internal_cmp cmp k t) ≡ false → user_of k ≢ user_of t → internal_cmp cmp k m ≡ Less → user_of m ≢ user_of t
     other_user k m t not_below other below same = by_order (cmp (user_of k) (user_of t)) refl
       where

@@ -18,7 +18,7 @@ use Rattle.reads.specs.Visible.{VisibleEntry, visible_of, IsVisible, IsAnswer}
 use Rattle.reads.proofs.Members.{first_or_later, later_in, first_in, none_in}
 use Rattle.reads.proofs.Orders.{later_older, before_put, not_before, other_user}
 
--- each entry behind the first is above it
+-- each entry after the first is above it
 pub above_first : (cmp : List ℕ → List ℕ → Ordering) (e : Entry) (es : List Entry) (f : Entry) → EntriesRise cmp (e ∷ es) → Contains es f → internal_cmp cmp e.key f.key ≡ Less
 above_first cmp e es f rising at =
     let P : Entry → Type 0 = λ x. internal_cmp cmp e.key x.key ≡ Less in

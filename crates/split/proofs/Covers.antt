@@ -65,7 +65,7 @@ module _ (cmp : List ℕ → List ℕ → Ordering) (total : IsTotalOrder cmp) w
         let P : List ℕ → Type 0 = λ b. cmp key b ≡ Less in
         subst P (get_or_from_slice_get bs i upper [] e) (before (is_within i upper e))
 
-    -- a key that is behind the first i boundaries, and before the next where there is one, is in range i
+    -- a key that is after the first i boundaries, and before the next if there is one, is in range i
     in_range : (key : List ℕ) (i : ℕ) → i ≤ length bs → IsBehind key i → (i < length bs → cmp key (at i) ≡ Less) → IsIn cmp (range_at bs i) key
     in_range key zero le behind before = record {
       from = λ lower e. absurd (none-some lower e);

@@ -19,7 +19,7 @@ module _ (cmp : List ℕ → List ℕ → Ordering) (ks : List (List ℕ)) (want
   abbrev pub StandsBelow : ℕ → List ℕ → Type 0
   StandsBelow free key = (p : ℕ) × (p < free) × (slice_get ks p ≡ Some key)
 
-  -- what the numbers below this gave: boundaries that stand before the place `free`, which is behind the last one
+  -- what the numbers below this gave: boundaries that stand before the place `free`, which is after the last one
   pub record Taken (number free : ℕ) (bs : List (List ℕ)) : Type 0 where
     pub few : length bs < number
     pub listed : IsListOf cmp (IsAtPlaceBelow ks want number) bs

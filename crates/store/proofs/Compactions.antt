@@ -51,13 +51,13 @@ is_compacted cmp short_keys joint order v loaded tables level p s answer lines s
   told = told;
 }
 
--- a refusal behind a test that passed
+-- a refusal after a test that passed
 pub refused_behind : {A B : Type 0} (first : Result (Unit {0}) Fault) (second : Result A Fault) (f : A → Result B Fault) (e : Fault) → first ≡ Ok tt → FailsOrMemory e second → FailsOrMemory e (first >>= λ _. second >>= f)
 refused_behind {A = A} {B = B} first second f e passed given =
     unless_from e (second ≡ Err e) ((first >>= λ _. second >>= f) ≡ Err e)
     (λ is. ap (λ (w : Result (Unit {0}) Fault). w >>= λ _. second >>= f) passed ∙ ap (λ (a : Result A Fault). a >>= f) is) given
 
--- a value behind a test that passed
+-- a value after a test that passed
 pub answer_behind : {A B : Type 0} (first : Result (Unit {0}) Fault) (second : Result A Fault) (f : A → Result B Fault) (a : A) → first ≡ Ok tt → second ≡ Ok a → (first >>= λ _. second >>= f) ≡ f a
 answer_behind {A = A} first second f a passed is = ap (λ (w : Result (Unit {0}) Fault). w >>= λ _. second >>= f) passed ∙ ap (λ (x : Result A Fault). x >>= f) is
 

@@ -47,11 +47,11 @@ loaded_in tells files numbers r h loaded = loaded_before (IsHeldIn files) tells 
 pub first_refused : {A B : Type 0} (IsFirst : Result A Fault → Type 0) (IsNext : A → Result B Fault → Type 0) (e : Fault) → IsFirst (Err e) → IsThen IsFirst IsNext (Err e)
 first_refused IsFirst IsNext e h = (Err e, (h, refl))
 
--- behind a step's value the next one answers
+-- after a step's value the next one answers
 pub first_passed : {A B : Type 0} (IsFirst : Result A Fault → Type 0) (IsNext : A → Result B Fault → Type 0) (a : A) (answer : Result B Fault) → IsFirst (Ok a) → IsNext a answer → IsThen IsFirst IsNext answer
 first_passed IsFirst IsNext a answer h next = (Ok a, (h, next))
 
--- the answer of a step behind one that was answered
+-- the answer of a step after one that was answered
 pub answers_behind : {A B X : Type 0} (view : X → B) (before middle now : ℕ) (r : Result X Fault) (IsFirst : Result A Fault → Type 0) (IsNext IsLater : A → Result B Fault → Type 0) (a : A)
     → before ≤ middle → middle ≤ now → IsFirst (Ok a) → ((answer : Result B Fault) → IsLater a answer → IsNext a answer) → FolderAnswers view middle now r (IsLater a) → FolderAnswers view before now r (IsThen IsFirst IsNext)
 answers_behind view before middle now (Ok x) IsFirst IsNext IsLater a one two h f given = (Ok a, (h, f (Ok (view x)) given))
@@ -61,7 +61,7 @@ answers_behind view before middle now (Err e) IsFirst IsNext IsLater a one two h
       | inr found ↦ inr (Ok a, (h, f (Err e) found))
     ]) given
 
--- a failure of the device, or want of memory, is handed on
+-- a failure of the device, or Memory, is handed on
 pub stopped_on : {X Y : Type 0} (view : X → Y) (before middle now : ℕ) (r : Result X Fault) (e : Fault) (IsAnswer : Result Y Fault → Type 0)
     → IsErrAnd r (λ f. f ≡ e) → before ≤ middle → middle ≤ now → UnlessMemory e (IsStopped middle now e) → FolderAnswers view before now r IsAnswer
 stopped_on {Y = Y} view before middle now r e IsAnswer h one two given =

@@ -60,7 +60,7 @@ module _ (cmp : List ℕ → List ℕ → Ordering) (total : IsTotalOrder cmp) (
     previous_log = previous;
   }
 
-  -- where there is an input, the version has a next file
+  -- if there is an input, the version has a next file
   pub has_next : (i : InputFile) → Contains p.files i → v.next_file ≡ Some (manifest_of v)
   has_next i at =
       let f = input_file cmp total v tables lawful level p picked i at in

@@ -65,7 +65,7 @@ found_first R p (x ∷ xs) g f rise found i passes = by_head (p x) refl found i 
     by_head false e h (inr later) rest = rest h later
 
 module _ (cmp : List ℕ → List ℕ → Ordering) (total : IsTotalOrder cmp) where
-  -- a file begins behind the end of another, within its user key
+  -- a file begins after the end of another, within its user key
   pub record Follows (i f : FileMeta) : Type 0 where
     pub behind : internal_cmp cmp i.largest f.smallest ≡ Less
     pub within : cmp (user_of i.largest) (user_of f.smallest) ≡ Equal
@@ -187,7 +187,7 @@ module _ (cmp : List ℕ → List ℕ → Ordering) (total : IsTotalOrder cmp) w
         let lt : internal_cmp cmp key g.largest ≡ Less = below_upto (internal_cmp cmp) (keys_total cmp total) key g.smallest g.largest (goes_behind key g goes) (ordered g at) in
         ap (λ (k : List ℕ). Some k) (cond_true (is_lt (internal_cmp cmp key g.largest)) g.largest key (ap is_lt lt))
 
-    -- what goes on behind the boundary file that is added goes on within its user key
+    -- what goes on after the boundary file that is added goes on within its user key
     goes_past : (o : Option (List ℕ)) (g f : FileMeta) → IsIn files g → goes_on cmp o g ≡ true → goes_on cmp o f ≡ true → internal_cmp cmp g.largest f.smallest ≡ Less → goes_on cmp (Some g.largest) f ≡ true
     goes_past None g f at goes also behind = absurd cc
     goes_past (Some key) g f at goes also behind =

@@ -24,7 +24,7 @@ use Rattle.reads.proofs.Pairs.{Pairs, pairs_from, pairs_to, pairs_part, pairs_jo
 use Rattle.reads.proofs.Sought.{above_first}
 use Rattle.survival.proofs.ReadOrder.{IsNewer}
 
--- of one user key, the entry behind has the lower sequence
+-- of one user key, the entry after has the lower sequence
 abbrev pub IsLower : Entry → Entry → Type 0
 IsLower a b = user_of a.key ≡ user_of b.key → sequence_of b.key < sequence_of a.key
 

@@ -165,7 +165,7 @@ module _ (cmp : List ℕ → List ℕ → Ordering) (total : IsTotalOrder cmp) (
         by true is = absurd (h (of_user user e is))
         by false is = refl
 
-    -- behind an entry of another user key that stands behind one of the user key, none is of the user key
+    -- after an entry of another user key that stands after one of the user key, none is of the user key
     none_behind : (p e : Entry) (es : List Entry) → user_of p.key ≡ user → VersionsRise cmp (p ∷ e ∷ es) → is_of user e ≡ false → (x : Entry) → Contains es x → is_of user x ≡ false
     none_behind p e es own rise other x at = not_of x later
       where
@@ -212,7 +212,7 @@ module _ (cmp : List ℕ → List ℕ → Ordering) (total : IsTotalOrder cmp) (
       filter_other true e rest out = rw out refl
       filter_other false e rest out = refl
 
-      -- behind one of the user key
+      -- after one of the user key
       of_behind : (p : Entry) (es : List Entry) → user_of p.key ≡ user → VersionsRise cmp (p ∷ es) → filter (is_of user) (behind (Some p) es) ≡ behind (Some p) (filter (is_of user) es)
       of_behind p [] own rise = refl
       of_behind p (e ∷ es) own rise = by_test (is_of user e) refl (of_behind e es)
@@ -236,7 +236,7 @@ module _ (cmp : List ℕ → List ℕ → Ordering) (total : IsTotalOrder cmp) (
       keeps_first None e out own = refl
       keeps_first (Some p) e out own = other_before p e out own
 
-      -- behind none of the user key
+      -- after none of the user key
       of_other : (before : Option Entry) (es : List Entry) → IsOther before → VersionsRise cmp es → filter (is_of user) (behind before es) ≡ behind None (filter (is_of user) es)
       of_other before [] out rise = refl
       of_other before (e ∷ es) out rise = by_test (is_of user e) refl (of_other (Some e) es)

@@ -261,7 +261,7 @@ module _ (cmp : List ℕ → List ℕ → Ordering) (total : IsTotalOrder cmp) (
   ends : (q : Output) → Contains outputs q → HasEnds q.entries
   ends q at = has_ends q.entries (written q at).some
 
-  -- a file that stays at the outputs' level lies before an output or behind it
+  -- a file that stays at the outputs' level lies before an output or after it
   beside : (f : NewFile) → Contains (staying_files v r.picked) f → f.level ≡ r.picked.level + 1 → (q : Output) → Contains outputs q
       → (internal_cmp cmp f.meta.largest (first_key q.entries) ≡ Less) ⊎ (internal_cmp cmp (last_key [] q.entries) f.meta.smallest ≡ Less)
   beside f i own q at =

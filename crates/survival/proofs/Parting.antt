@@ -67,7 +67,7 @@ module _ (cmp : List ℕ → List ℕ → Ordering) (total : IsTotalOrder cmp) (
       ∙ sym (append_assoc (own f) (read (filter stays files)) (read (filter taken files)))
       ∙ ap (λ (l : List Entry). l ++ read (filter taken files)) (sym (filter-append (is_of user) (table_entries tables f.number) (flat_map (λ (m : FileMeta). table_entries tables m.number) (filter stays files))))
 
-  -- where the files are in order, and those that stay are newer than those that are taken
+  -- if the files are in order, and those that stay are newer than those that are taken
   pub parted : (files : List FileMeta) → Pairs (IsNewer cmp total v tables lawful) files
       → ((f g : FileMeta) → Contains files f → Contains files g → taken f ≡ false → taken g ≡ true → IsNewer cmp total v tables lawful f g)
       → read files ≡ read (filter stays files) ++ read (filter taken files)

@@ -187,7 +187,7 @@ module _ (cmp : List ℕ → List ℕ → Ordering) (total : IsTotalOrder cmp) (
       let above : a.file.level < b.at.file.level = omega (arith, a.stands, b.at.stands, b.low) in
       of_files f g a.file b.at.file a.is b.at.is (lawful.newer_above a.file b.at.file a.there b.at.there (inl above)))
 
--- the levels of two ranges, one behind the other
+-- the levels of two ranges, one after the other
 pub read_split : (cmp : List ℕ → List ℕ → Ordering) (v : State) (m n from : ℕ) → files_read cmp v from (m + n) ≡ files_read cmp v from m ++ files_read cmp v (from + m) n
 unfolding files_read
 read_split cmp v zero n from = ap (λ (k : ℕ). files_read cmp v from k) (zero-add n) ∙ ap (λ (k : ℕ). files_read cmp v k n) (sym (add-zero from))

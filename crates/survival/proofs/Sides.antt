@@ -48,7 +48,7 @@ both_false : (a b : Bool) → (a && b) ≡ false → (a ≡ false) ⊎ (b ≡ fa
 both_false true b e = inr e
 both_false false b e = inl refl
 
--- where none of a list passes a test, an element doesn't
+-- if none of a list passes a test, an element doesn't
 none_passes : {X : Type 0} (p : X → Bool) (xs : List X) → list_any p xs ≡ false → (x : X) → Contains xs x → p x ≡ false
 none_passes p xs h x at = refuted (p x) (λ passes. false_true (list_any p xs) (any_at p xs x at passes) h)
 
@@ -64,7 +64,7 @@ module _ (cmp : List ℕ → List ℕ → Ordering) (total : IsTotalOrder cmp) w
   goes_behind : (key : List ℕ) (g : FileMeta) → goes_on cmp (Some key) g ≡ true → internal_cmp cmp key g.smallest ≡ Less
   goes_behind key g h = is_less (internal_cmp cmp key g.smallest) (and_first (is_lt (internal_cmp cmp key g.smallest)) (is_eq (cmp (user_of key) (user_of g.smallest))) h)
 
-  -- a boundary file goes on behind the file with the largest key of those chosen before it
+  -- a boundary file goes on after the file with the largest key of those chosen before it
   record GoesOn (chosen : List FileMeta) (g : FileMeta) : Type 0 where
     last : FileMeta
     there : IsIn chosen last
@@ -87,7 +87,7 @@ module _ (cmp : List ℕ → List ℕ → Ordering) (total : IsTotalOrder cmp) w
     chain_inside chosen (g ∷ added) chain q (inl same) = subst (IsIn files) (sym same) (next_in chosen g chain.0).0
     chain_inside chosen (g ∷ added) chain q (inr i) = chain_inside (chosen ++ g ∷ []) added chain.1 q i
 
-    -- a boundary file stands behind some chosen file
+    -- a boundary file stands after some chosen file
     record StandsBehind (chosen : List FileMeta) (l : FileMeta) : Type 0 where
       file : FileMeta
       there : IsIn chosen file
@@ -163,7 +163,7 @@ module _ (cmp : List ℕ → List ℕ → Ordering) (total : IsTotalOrder cmp) w
         let kept = from_filter (is_among (overlapping ++ added)) files l (subst (λ (x : List FileMeta). Contains x l) picked.are_lower.these i) in
         among_is cmp files (overlapping ++ added) (level_of cmp total v tables lawful (level + 1)) inside l (is_in files l kept.0) kept.1
 
-    -- whether it lies before an input, or behind it
+    -- whether it lies before an input, or after it
     abbrev Before : FileMeta → Type 0
     Before m = internal_cmp cmp f.largest m.smallest ≡ Less
 
@@ -200,7 +200,7 @@ module _ (cmp : List ℕ → List ℕ → Ordering) (total : IsTotalOrder cmp) w
       before_lower : (l : FileMeta) → Contains picked.lower l → Before l
       before_lower l i = elim (in_either overlapping added l (lower_among l i)) [ inl j ↦ before_overlapping l j | inr j ↦ before_added l j ]
 
-    -- ---- behind the upper inputs
+    -- ---- after the upper inputs
 
     module _ (right : ends_at_or_after cmp picked.upper (user_of f.smallest) ≡ false) where
       behind_upper : (g : FileMeta) → Contains picked.upper g → Behind g
@@ -220,7 +220,7 @@ module _ (cmp : List ℕ → List ℕ → Ordering) (total : IsTotalOrder cmp) w
               le_trans cmp total (user_of f.smallest) (user_of f.largest) (user_of l.smallest) own (user_upto cmp total f.largest l.smallest (less_upto cmp total f.largest l.smallest before)) in
               false_true (ends_at_or_after cmp picked.upper (user_of f.smallest)) (ends_on cmp total picked.upper (user_of l.smallest) (user_of f.smallest) ends le) right
 
-      -- a boundary file behind files that it lies behind
+      -- a boundary file after files that it lies after
       behind_next : (chosen : List FileMeta) (g : FileMeta) → ((c : FileMeta) → IsIn chosen c → IsIn (overlapping ++ added) c) → ((c : FileMeta) → IsIn chosen c → Behind c) → IsIn (overlapping ++ added) g → goes_on cmp (largest_key cmp chosen) g ≡ true → Behind g
       behind_next chosen g into behind there goes = of_side (apart g there)
         where

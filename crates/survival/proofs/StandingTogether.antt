@@ -273,7 +273,7 @@ module _ (cmp : List ℕ → List ℕ → Ordering) (total : IsTotalOrder cmp) (
   upto_parted : entries_read tables user upto ≡ above ++ inputs
   upto_parted = parted cmp total v tables lawful user taken upto (read_order cmp total v tables lawful (p.level + 2) 0) newer
 
-  -- nothing stands behind level 6
+  -- nothing stands after level 6
   none_behind : (n : ℕ) → files_read cmp v 7 n ≡ []
   none_behind n =
       nothing_in (files_read cmp v 7 n)

@@ -55,7 +55,7 @@ turned true false b = refl
 turned false true b = refl
 turned false false b = refl
 
--- one more block, by what is read of those behind it
+-- one more block, by what is read of those after it
 more_by : (cmp : List ℕ → List ℕ → Ordering) (x : Ends) (below : List ℕ) (fits : Bool) (key : List ℕ) (e : Entry) (es : List Entry) (r : Result (List DataBlock) Fault) → let b : DataBlock = record { index_key = key; entries = e ∷ es } in
     (r >>= λ bs. finished ((is_between_index_keys cmp (Some below) b && fits) && index_fits cmp (Some key) bs) (record { smallest = x.smallest; largest = last_key (last_key e.key es) (entries_of bs) }))
     ≡ ((r >>= λ bs. Ok (b ∷ bs)) >>= λ bs. finished (fits && index_fits cmp (Some below) bs) (record { smallest = x.smallest; largest = last_key x.largest (entries_of bs) }))

@@ -100,7 +100,7 @@ less_is Less h = refl
 less_is Equal h = absurd cc
 less_is Greater h = absurd cc
 
--- each of these is above this key, where there is one
+-- each of these is above this key, if there is one
 abbrev pub AllAbove : (List ℕ → List ℕ → Ordering) → Option (List ℕ) → List Entry → Type 0
 AllAbove cmp None es = Unit {0}
 AllAbove cmp (Some before) es = AllByRecursion (λ f. internal_cmp cmp before f.key ≡ Less) es

@@ -23,7 +23,7 @@ length-index_part index i =
     ap index_entries (sym (take-append-drop i index)) ∙ map-append (λ (x : FlushedBlock). handle_entry x.key x.handle.offset x.handle.size) (take i index) (drop i index) in
     omega (arith, length-block-append 1 (index_entries (take i index)) (index_entries (drop i index)), ap (λ (x : List Entry). length (block 1 x)) parts)
 
--- one more entry of the index, behind an index that is no longer than a table
+-- one more entry of the index, after an index that is no longer than a table
 pub index_fits : (b : BlockBuilding) (key handle : List ℕ) (offset size : ℕ) → length (block b.interval b.entries) ≤ 2 ^ 30 → length key ≤ 65535 + 8 → handle ≡ handle_bytes offset size → length (block b.interval (with_entry b.entries key handle)) ≤ 2 ^ 31
 index_fits b key handle offset size len key_fits handle_is =
     fits_with_entry b key handle (omega (arith, ap length handle_is, length-handle_bytes offset size))
@@ -34,7 +34,7 @@ length-closing at index =
     let last : List ℕ = footer_bytes (footer_at at (length (block 1 index))) in
     omega (arith, length-append (stored_block metaindex) (stored_block (block 1 index) ++ last), length-append (stored_block (block 1 index)) last, length-stored metaindex, length-stored (block 1 index), length-block-nil 1, length-footer_bytes (footer_at at (length (block 1 index))))
 
--- metaindex, index and footer behind other bytes
+-- metaindex, index and footer after other bytes
 pub closing_written : (out a b : List ℕ) (index : List Entry) (first second : BlockHandle) → a ≡ out ++ stored_block metaindex → first ≡ record { offset = length out; size = length metaindex }
     → b ≡ a ++ stored_block (block 1 index) → second ≡ record { offset = length a; size = length (block 1 index) } → b ++ footer_bytes (record { metaindex = first; index = second }) ≡ out ++ closing_bytes (length out) index
 unfolding closing_bytes

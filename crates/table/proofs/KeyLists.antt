@@ -21,7 +21,7 @@ drop_all zero (x ∷ xs) is = absurd (omega arith)
 drop_all (suc n) [] is = absurd (omega arith)
 drop_all (suc n) (x ∷ xs) is = drop_all n xs (omega arith)
 
--- one more key stands behind the others
+-- one more key stands after the others
 pub cut_pushed : (from : ℕ) (ends bytes key : List ℕ) (to : ℕ) → AreKeyEnds from ends bytes → to ≡ from + length bytes + length key → cut_at from (ends ++ to ∷ []) (bytes ++ key) ≡ cut_at from ends bytes ++ key ∷ []
 cut_pushed from [] bytes key to are is =
     let none : length bytes ≡ 0 = ap length are in

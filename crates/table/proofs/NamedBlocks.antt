@@ -166,7 +166,7 @@ read_named cmp bytes (e ∷ es) before index bs fits h k =
 
 -- ---- the index keys in order
 
--- the first block, where there is one, is above this index key, where there is one
+-- the first block, if there is one, is above this index key, if there is one
 abbrev pub IsAboveNext : (List ℕ → List ℕ → Ordering) → Option (List ℕ) → List DataBlock → Type 0
 IsAboveNext cmp None bs = Unit {0}
 IsAboveNext cmp (Some key) bs = IsBelowNextBlock cmp key bs

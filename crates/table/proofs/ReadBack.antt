@@ -166,7 +166,7 @@ ends_with bytes before f whole =
       len = omega (arith, length-append (handles_bytes f) zeros, length-replicate {A = ℕ} (40 - length (handles_bytes f)) 0, length-handles_bytes f);
     }
 
--- what stands behind the data blocks
+-- what stands after the data blocks
 record Closed (bytes stored_bytes : List ℕ) (index : List Entry) (f : Footer) : Type 0 where
   ends : EndsWith bytes f
   metaindex_block : IsStoredAt bytes f.metaindex []

@@ -102,7 +102,7 @@ ends_refused cmp before (e ∷ q) d some h = ap (λ (r : Result (Unit {0}) Fault
 
 -- ---- a loop's list
 
--- the element at a place, and those behind it
+-- the element at a place, and those after it
 pub next_item : {A : Type 0} (xs : List A) (i : ℕ) (x : A) → i < length xs → x ≡ get_or xs i x → drop i xs ≡ x ∷ drop (i + 1) xs
 next_item {A} xs i x lt e = drop_more xs i x lt ∙ ap (λ (y : A). y ∷ drop (i + 1) xs) (sym e)
 

@@ -191,7 +191,7 @@ users_named bytes (e ∷ es) index h =
     ∙ ap (λ (us : List (List ℕ)). user_of a.0.key ∷ us) (users_named bytes es c.0 c.1)
     ∙ ap users_of (ok_is (a.0 ∷ c.0) index c.2)
 
--- the user keys of the first entry and of those behind it
+-- the user keys of the first entry and of those after it
 pub users_go_on : (front : List (List ℕ)) (es : List Entry) (key user : List ℕ) (total : List (List ℕ)) → 0 < length es → option_map (λ e. e.key) (slice_get es 0) ≡ Some key → user ≡ user_of key
     → front ++ map (λ (e : Entry). user_of e.key) es ≡ total → (front ++ user ∷ []) ++ map (λ (e : Entry). user_of e.key) (drop 1 es) ≡ total
 users_go_on front [] key user total some first u h = absurd (omega arith)
@@ -262,7 +262,7 @@ stands bytes value stored o h e place =
 
 -- ---- what is left of it all
 
--- the entries from an internal key on, where these are what is left of a block from there on
+-- the entries from an internal key on, if these are what is left of a block from there on
 abbrev pub from_left : (List ℕ → List ℕ → Ordering) → List ℕ → List Entry → List Entry → List Entry
 from_left cmp target [] ahead = entries_from cmp target ahead
 from_left cmp target (e ∷ es) ahead = e ∷ (es ++ ahead)
@@ -305,7 +305,7 @@ from_drops cmp target (e ∷ es) = by_test (is_lt (internal_cmp cmp e.key target
 
 -- ---- a walk within a table
 
--- What is left of a block from an internal key on, and the index behind it, where the entries from there on are these.
+-- What is left of a block from an internal key on, and the index after it, if the entries from there on are these.
 pub record Seeks (cmp : List ℕ → List ℕ → Ordering) (bytes target : List ℕ) (block index total : List Entry) : Type 0 where
   pub keys : HaveKeys block
   pub named : AllByRecursion (NamesBlock cmp bytes) index
@@ -338,7 +338,7 @@ seek_begins cmp bytes target names block index total laws k same below =
           ∙ sym (ap (entries_from cmp target) left);
     }
 
--- the first of the index, where nothing is left of the block
+-- the first of the index, if nothing is left of the block
 record Next (cmp : List ℕ → List ℕ → Ordering) (bytes target : List ℕ) (i : Entry) (is total : List Entry) : Type 0 where
   first : NamesBlock cmp bytes i
   behind : AllByRecursion (NamesBlock cmp bytes) is
@@ -435,7 +435,7 @@ some_left cmp bytes names [] index total k same some =
     absurd (omega (arith, ap length none, ap length same))
 some_left cmp bytes names (e ∷ es) index total k same some = omega arith
 
--- behind an entry that is not the last another is left
+-- after an entry that is not the last another is left
 pub not_last : (b : Bool) (block : List Entry) → (length block ≡ 1 → b ≡ true) → b ≡ false → 0 < length block → drop 1 block ≡ [] → ⊥
 not_last b [] last h some none = omega arith
 not_last b (e ∷ es) last h some none = true≢false (sym (last (ap (λ (q : List Entry). suc (length q)) none)) ∙ h)
@@ -481,7 +481,7 @@ none_valid b (e ∷ q) some h = let yes : b ≡ true = some (omega arith) in abs
 pub some_valid : (b : Bool) (q : List Entry) → (b ≡ true → 0 < length q) → b ≡ true → q ≡ [] → ⊥
 some_valid b q some h none = omega (arith, some h, ap length none)
 
--- the keys of the entries behind the first
+-- the keys of the entries after the first
 pub keys_behind : (es : List Entry) → HaveKeys es → HaveKeys (drop 1 es)
 keys_behind [] h = tt
 keys_behind (e ∷ es) h = h.1

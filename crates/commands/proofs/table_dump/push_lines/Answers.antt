@@ -6,7 +6,7 @@ use Rattle.commands.specs.Dump.{dump_lines}
 use Rattle.coding.proofs.Binds.{ok_is}
 use Rattle.commands.proofs.table_dump.push_lines.Goals as goal
 
--- no line is left where no entry is
+-- no line is left if no entry is
 all_told : (out : List ℕ) (q : List Entry) (some : Bool) → some ≡ false → (0 < length q → some ≡ true) → out ++ dump_lines q ≡ out
 all_told out [] some none left = append-nil out
 all_told out (e ∷ q) some none left = absurd (false≢true (sym none ∙ left (omega arith)))

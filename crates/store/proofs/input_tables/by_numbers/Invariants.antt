@@ -2,7 +2,7 @@ use Rattle.std.proofs.Common.{length}
 use Rattle.store.proofs.Taken.{AreNumberedFrom}
 use Rattle.store.proofs.input_tables.by_numbers.Given as goal
 
--- those behind are under their numbers
+-- those after are under their numbers
 abbrev pub invariant-loop-table : goal.invariant-loop-table
 invariant-loop-table g l = AreNumberedFrom l.fn.tables.items l.tables.items l.numbered.entries
 

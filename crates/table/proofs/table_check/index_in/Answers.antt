@@ -14,11 +14,11 @@ use Rattle.table.specs.TableContents.{index_in}
 use Rattle.table.proofs.Steps.{handed_on}
 use Rattle.table.proofs.table_check.index_in.Goals as goal
 
--- the index block, where the metaindex block passes its tests
+-- the index block, if the metaindex block passes its tests
 abbrev of_blocks : List ℕ → List ℕ → Result (List Entry) Fault
 of_blocks metaindex index = block_in metaindex >>= λ _. block_in index
 
--- the index block of this footer, where the metaindex has these bytes
+-- the index block of this footer, if the metaindex has these bytes
 abbrev behind_metaindex : List ℕ → Footer → List ℕ → Result (List Entry) Fault
 behind_metaindex bytes footer metaindex = stored_at bytes footer.index >>= of_blocks metaindex
 

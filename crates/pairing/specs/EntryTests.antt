@@ -22,7 +22,7 @@ abbrev pub file_entry_test : Option (List ℕ) → List ℕ → List ℕ → Res
 file_entry_test before key value = do
   internal ← internal_key_reading key
   if nat_lt MAX_VALUE_LEN (length value) then Err (fault TooLarge)
-  else if is_above_bytewise before key
+      else if is_above_bytewise before key
       then Ok internal else Err (fault Order)
 
 -- the entries, if each passes its tests after the one before it; else the first test that fails

@@ -6,12 +6,13 @@
 //!     is worth the turn of a worker then.
 //! (3) No piece has blocks of two outputs. Why: a table is its pieces and its closing then.
 
-ghost use Rattle.std.specs.Prelude.{◌≡◌, ◌≤◌, ◌<◌, ◌^◌, ◌++◌, OnOk, length, IfOk, IfErr};
+ghost use Rattle.std.specs.Prelude.{◌≡◌, ◌≤◌, ◌<◌, ◌++◌, OnOk, length, IfOk, IfErr};
 ghost use Rattle.std.specs.List.{AllByRecursion};
 ghost use Rattle.coding.specs.Answers.{fault};
 ghost use Rattle.coding.specs.declared.fault.FaultName.TheVariants.{Memory};
 ghost use Rattle.cut.specs.Divided.{piece_places_from, places_all, counts_all};
 ghost use Rattle.cut.specs.TableLength.{lens_of};
+ghost use Rattle.table.specs.declared.table_check.TheConstants.{MAX_TABLE_LEN};
 
 use crate::piece::Piece;
 use crate::planned_output::PlannedOutput;
@@ -29,7 +30,7 @@ fn push_pieces(
     blocks: &[PlannedBlock<'_, '_>],
     limit: u64,
 ) -> Result<usize, Fault>
-    requires { lens_of blocks.now ≤ 2 ^ 30 }
+    requires { lens_of blocks.now ≤ MAX_TABLE_LEN }
     ensures ok { OnOk result (pieces.new.items ≡ pieces.old.items
         ++ piece_places_from output limit 0 0 0 blocks.now) }
     ensures count { IfOk result (λ count. count
@@ -71,7 +72,7 @@ pub(crate) fn pieces_of(
     outputs: &[PlannedOutput<'_, '_>],
     limit: u64,
 ) -> Result<Division, Fault>
-    requires { AllByRecursion (λ p. lens_of p.blocks.items ≤ 2 ^ 30) outputs.now }
+    requires { AllByRecursion (λ p. lens_of p.blocks.items ≤ MAX_TABLE_LEN) outputs.now }
     ensures pieces { IfOk result (λ division. division.pieces.items
         ≡ places_all limit 0 outputs.now) }
     ensures counts { IfOk result (λ division. division.counts.items

@@ -26,6 +26,7 @@ ghost use Rattle.std.specs.Option.{option_map};
 ghost use Rattle.coding.specs.Answers.{EqualOrMemory, fault};
 ghost use Rattle.coding.specs.declared.fault.FaultName.TheVariants.{Memory};
 ghost use Rattle.edit.specs.declared.meta.FileMeta.{FileMeta};
+ghost use Rattle.table.specs.declared.table_check.TheConstants.{MAX_TABLE_LEN};
 ghost use Rattle.keep.specs.declared.mark.Mark.{Mark};
 ghost use Rattle.keep.specs.Runs.{joined_marks, moved_mark};
 ghost use Rattle.cut.specs.Stops.{size_between, stops};
@@ -129,7 +130,7 @@ impl Stopping {
         file_size: u64,
     ) -> Result<(), Fault>
         requires fits { passed + 2 ^ 64 ≤ 2 ^ 128 }
-        requires limited { file_size ≤ 2 ^ 30 }
+        requires limited { file_size ≤ MAX_TABLE_LEN }
         requires counted { AreCounted grandparents.now file_size self.old }
         ensures ok { OnOk result ((rest : List Mark) →
             all_stops grandparents.now file_size self.new rest
@@ -161,7 +162,7 @@ impl Stopping {
         file_size: u64,
     ) -> Result<(), Fault>
         requires fits { passed + 2 ^ 64 ≤ 2 ^ 128 }
-        requires limited { file_size ≤ 2 ^ 30 }
+        requires limited { file_size ≤ MAX_TABLE_LEN }
         requires counted { AreCounted grandparents.now file_size self.old }
         ensures ok { OnOk result ((rest : List Mark) →
             all_stops grandparents.now file_size self.new rest
@@ -185,7 +186,7 @@ pub(crate) fn stops(
     grandparents: &[FileMeta],
     file_size: u64,
 ) -> Result<Vec<u128>, Fault>
-    requires { file_size ≤ 2 ^ 30 }
+    requires { file_size ≤ MAX_TABLE_LEN }
     ensures { EqualOrMemory (λ places. places.items) result
         (Ok (stops grandparents.now file_size (joined_marks 0 runs.now))) }
 {

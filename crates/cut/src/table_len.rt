@@ -7,11 +7,12 @@
 //!
 //! Why: the version edit and the test for `TooLarge` need it before the table is written.
 
-ghost use Rattle.std.specs.Prelude.{◌≡◌, ◌≢◌, ◌^◌, ◌≤◌, ◌<◌, [], length, drop, Ok};
+ghost use Rattle.std.specs.Prelude.{◌≡◌, ◌≢◌, ◌≤◌, ◌<◌, [], length, drop, Ok};
 ghost use Rattle.std.specs.List.{AllByRecursion};
 ghost use Rattle.coding.specs.Answers.{EqualOrMemory};
 ghost use Rattle.block.specs.BlockFormat.{block};
 ghost use Rattle.table.specs.Table.{index_keys};
+ghost use Rattle.table.specs.declared.table_check.TheConstants.{MAX_TABLE_LEN};
 ghost use Rattle.cut.specs.Sizes.{saturated_length};
 ghost use Rattle.cut.specs.TableLength.{planned_index_entries, planned_index_key, lens_of};
 ghost use Rattle.cut.specs.TableLength.{table_size};
@@ -70,7 +71,7 @@ fn index_key<C: Comparator>(
 fn index_len<C: Comparator>(alloc: Global, blocks: &[PlannedBlock<'_, '_>]) -> Result<u64, Fault>
     requires any { blocks.now ≢ [] }
     requires some { AllByRecursion (λ b. b.entries.entries ≢ []) blocks.now }
-    requires short { lens_of blocks.now ≤ 2 ^ 30 }
+    requires short { lens_of blocks.now ≤ MAX_TABLE_LEN }
     ensures { EqualOrMemory (λ len. len) result
         (Ok (saturated_length
         (length (block 1

@@ -1,25 +1,25 @@
 -- The entries of planned data blocks: their number, the first and the last.
-use Rattle.std.proofs.Common.{◌≡◌, ◌≢◌, ℕ, zero, suc, ◌+◌, ◌-◌, ◌^◌, ◌<◌, List, [], ◌∷◌, ◌++◌, length, drop, get_or, min, refl, sym, ap, subst, ◌∙◌, append-nil, arith}
+use Rattle.std.proofs.Common.{◌≡◌, ◌≢◌, ℕ, zero, suc, ◌+◌, ◌<◌, List, [], ◌∷◌, ◌++◌, length, drop, get_or, refl, sym, ap, subst, ◌∙◌, append-nil, arith}
 use Rattle.std.specs.Prelude.{Option, Some, None, slice_get}
 use Rattle.std.specs.List.{AllByRecursion, last_or}
 use Rattle.std.specs.Option.{option_map}
 use Rattle.std.proofs.lemmas.List.{length-append, length-map, drop_more}
+use Rattle.std.proofs.lemmas.Option.{same_Some}
 use Rattle.block.specs.EncodedEntry.{Entry}
+use Rattle.block.specs.BuilderView.{last_key}
+use Rattle.table.specs.ReadingEntries.{first_key}
 use Rattle.encoding.specs.declared.planned_block.PlannedBlock.{PlannedBlock}
 use Rattle.cut.specs.Metered.{last_entry_key}
 use Rattle.cut.specs.Opened.{parts_of, entries_in_blocks}
 use Rattle.cut.specs.Plan.{block_ends_from}
-use Rattle.cut.specs.Sizes.{saturated_length}
+use Rattle.cut.specs.PlanInvariant.{HaveEntries}
+use Rattle.cut.proofs.Metered.{ended_is}
 
 -- the entries of a block and those after it
 pub count_here : (blocks : List PlannedBlock) (i : ℕ) (b : PlannedBlock) → i < length blocks → get_or blocks i b ≡ b → length (entries_in_blocks (drop i blocks)) ≡ length b.entries.entries + length (entries_in_blocks (drop (i + 1) blocks))
 count_here blocks i b lt is =
     ap (λ (bs : List PlannedBlock). length (entries_in_blocks bs)) (drop_more blocks i b lt ∙ ap (λ (x : PlannedBlock). x ∷ drop (i + 1) blocks) is)
     ∙ length-append b.entries.entries (entries_in_blocks (drop (i + 1) blocks))
-
-pub count_more : (blocks : List PlannedBlock) (i count all : ℕ) (b : PlannedBlock) → i < length blocks → get_or blocks i b ≡ b → saturated_length (count + length (entries_in_blocks (drop i blocks))) ≡ all
-    → saturated_length (min (count + length b.entries.entries) (2 ^ 64 - 1) + length (entries_in_blocks (drop (i + 1) blocks))) ≡ all
-count_more blocks i count all b lt is h = omega (arith, h, count_here blocks i b lt is)
 
 first_same : (q here there : List Entry) (key : List ℕ) → q ≢ [] → option_map (λ (e : Entry). e.key) (slice_get (q ++ here) 0) ≡ Some key → option_map (λ (e : Entry). e.key) (slice_get (q ++ there) 0) ≡ Some key
 first_same [] here there key some is = absurd (some refl)
@@ -42,6 +42,20 @@ ended_append xs ys some = ap (option_map (λ (e : Entry). e.key)) (last_of None 
 front_some : (xs ys : List Entry) → xs ≢ [] → xs ++ ys ≢ []
 front_some [] ys some = absurd (some refl)
 front_some (x ∷ xs) ys some = λ none. absurd (cc)
+
+-- ---- the bounds
+
+pub entries_some : (blocks : List PlannedBlock) → HaveEntries blocks → entries_in_blocks blocks ≢ []
+entries_some [] h = absurd (h.any refl)
+entries_some (b ∷ bs) h = front_some b.entries.entries (entries_in_blocks bs) h.some.0
+
+pub first_is : (es : List Entry) (key : List ℕ) → option_map (λ (e : Entry). e.key) (slice_get es 0) ≡ Some key → key ≡ first_key es
+first_is [] key h = absurd cc
+first_is (e ∷ es) key h = sym (same_Some e.key key h)
+
+pub last_is : (es : List Entry) (key : List ℕ) → last_entry_key es ≡ Some key → key ≡ last_key [] es
+last_is [] key h = absurd cc
+last_is (e ∷ es) key h = sym (same_Some (last_key e.key es) key (sym (ended_is e es) ∙ h))
 
 pub last_block : (blocks : List PlannedBlock) (i : ℕ) (b : PlannedBlock) → i + 1 ≡ length blocks → AllByRecursion (λ (x : PlannedBlock). x.entries.entries ≢ []) blocks → get_or blocks i b ≡ b → last_entry_key (entries_in_blocks blocks) ≡ last_entry_key b.entries.entries
 last_block [] i b end some is = absurd (omega arith)

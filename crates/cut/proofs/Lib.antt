@@ -16,6 +16,7 @@ pub mod Cuts
 pub mod TableLengths
 pub mod Planned
 pub mod BlockSums
+pub mod BlockEnds
 pub mod PiecePlaces
 pub mod Dealt
 pub mod PlanPieces

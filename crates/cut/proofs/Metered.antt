@@ -44,7 +44,7 @@ added_first since e none =
     let whole : length e.key - 0 ≡ length e.key = omega arith in
     rw none (ap (λ (n : ℕ). n + 0) (length-piece (piece_at_restart true [] e) ∙ ap (λ (n : ℕ). encoded_entry_size 0 n (length e.value)) (sym whole)))
 
-ended_is : (x : Entry) (xs : List Entry) → option_map (λ (e : Entry). e.key) (last_or (Some x) xs) ≡ Some (last_key x.key xs)
+pub ended_is : (x : Entry) (xs : List Entry) → option_map (λ (e : Entry). e.key) (last_or (Some x) xs) ≡ Some (last_key x.key xs)
 ended_is x [] = refl
 ended_is x (y ∷ ys) = ended_is y ys
 

@@ -1,6 +1,6 @@
 -- The pieces of a plan: each has its place, and together they are those of the definition.
 use Rattle.std.proofs.Common.{◌≡◌, ℕ, zero, suc, ◌+◌, ◌-◌, ◌^◌, ◌<◌, ◌≤◌, Bool, true, false, List, [], ◌∷◌, ◌++◌, length, map, take, drop, get_or, Result, Ok, Err, refl, sym, ap, subst, ◌∙◌, append_assoc, arith}
-use Rattle.std.specs.Prelude.{nat_lt, nat_le, flat_map, slice_range, slice_get, Option, Some, IfOk}
+use Rattle.std.specs.Prelude.{nat_lt, nat_le, flat_map, slice_range, slice_get, Option, Some, IfOk, IfSome}
 use Rattle.std.specs.Global.{Vec}
 use Rattle.std.specs.List.{AllByRecursion}
 use Rattle.std.specs.declared.cmp.Ordering.{Ordering}
@@ -19,8 +19,9 @@ use Rattle.cut.specs.declared.piece.Piece.{Piece}
 use Rattle.cut.specs.declared.planned_output.PlannedOutput.{PlannedOutput}
 use Rattle.cut.specs.Divided.{blocks_at, piece_blocks, piece_places_from, places_all, piece_limit}
 use Rattle.cut.specs.Opened.{parts_of, entries_in_blocks, HasLen}
-use Rattle.cut.specs.Plan.{parts, pieces, pieces_in}
-use Rattle.cut.specs.OutputPlan.{planned_of, block_count, IsPlannedOutput, IsPlan, lists_in}
+use Rattle.cut.specs.Plan.{OutputView, parts, pieces, pieces_in}
+use Rattle.cut.specs.OutputPlan.{lists_in}
+use Rattle.cut.specs.PlanInvariant.{planned_of, block_count, IsPlannedOutput, IsPlan}
 use Rattle.cut.specs.TableLength.{lens_of}
 use Rattle.cut.proofs.PiecePlaces.{IsShort, all_are, pieces_are}
 use Rattle.cut.proofs.TableLengths.{exact_one, length-table, stored_more}
@@ -159,6 +160,10 @@ module _ (cmp : List ℕ → List ℕ → Ordering) (short_keys : ShortKeys) (o 
   plan_place outputs places counts i p h lt is =
       at (IsPlace outputs) places i p lt (subst (AllByRecursion (IsPlace outputs)) (sym h.places) (places_stand (piece_limit (block_count outputs)) [] outputs outputs 0 refl refl)) is
 
+  -- the output at a place
+  pub output_at : (outputs : List PlannedOutput) (places : List Piece) (counts : List ℕ) (i : ℕ) (p : PlannedOutput) → IsPlan T o outputs places counts → i < length outputs → get_or outputs i p ≡ p → IsPlannedOutput T o p
+  output_at outputs places counts i p h lt is = at (IsPlannedOutput T o) outputs i p lt h.each is
+
   -- the bytes of the piece at a place
   pub piece_at : (outputs : List PlannedOutput) (places : List Piece) (counts : List ℕ) (i : ℕ) (p : Piece) → IsPlan T o outputs places counts → i < length places → get_or places i p ≡ p
       → slice_get (map (stored_blocks o.restart_interval) (pieces o (lists_in (map planned_of outputs)))) i ≡ Some (stored_blocks o.restart_interval (parts_of (piece_blocks outputs p)))
@@ -188,6 +193,15 @@ pub blocks_here : (outputs : List PlannedOutput) (i : ℕ) (p : PlannedOutput) �
 blocks_here [] i p lt is = absurd (omega arith)
 blocks_here (x ∷ xs) zero p lt is = ap (λ (y : PlannedOutput). y.blocks.items) is
 blocks_here (x ∷ xs) (suc i) p lt is = blocks_here xs i p (omega arith) is
+
+output_here : (outputs : List PlannedOutput) (i : ℕ) (p : PlannedOutput) → i < length outputs → get_or outputs i p ≡ p → slice_get (map planned_of outputs) i ≡ Some (planned_of p)
+output_here [] i p lt is = absurd (omega arith)
+output_here (x ∷ xs) zero p lt is = ap (λ (y : PlannedOutput). Some (planned_of y)) is
+output_here (x ∷ xs) (suc i) p lt is = output_here xs i p (omega arith) is
+
+-- what holds of the output at a place, as contracts say it
+pub if_here : (P : OutputView → Type 0) (outputs : List PlannedOutput) (i : ℕ) (p : PlannedOutput) → i < length outputs → get_or outputs i p ≡ p → P (planned_of p) → IfSome (slice_get (map planned_of outputs) i) P
+if_here P outputs i p lt is h = subst (λ (found : Option OutputView). IfSome found P) (sym (output_here outputs i p lt is)) h
 
 -- an answer that is the bytes of a piece
 pub bytes_are : (r : Result (Vec ℕ) Fault) (bytes : List ℕ) (found : Option (List ℕ)) → EqualOrMemory (λ (v : Vec ℕ). v.items) r (Ok bytes) → found ≡ Some bytes → IfOk r (λ (v : Vec ℕ). found ≡ Some v.items)

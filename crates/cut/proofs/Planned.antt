@@ -21,7 +21,7 @@ use Rattle.cut.specs.declared.planned_output.PlannedOutput.{PlannedOutput}
 use Rattle.cut.specs.Divided.{places_all, counts_all, piece_limit}
 use Rattle.cut.specs.Opened.{parts_of, entries_in_blocks, ArePlanned}
 use Rattle.cut.specs.Plan.{OutputView, block_ends_from, planned_from, parts, plan_of}
-use Rattle.cut.specs.OutputPlan.{planned_of, HaveEntries, numbered_from, block_count, IsPlannedOutput, IsPlan}
+use Rattle.cut.specs.PlanInvariant.{planned_of, HaveEntries, numbered_from, block_count, IsPlannedOutput, IsPlan}
 use Rattle.cut.specs.Sizes.{saturated_length}
 use Rattle.cut.specs.TableLength.{capped_length, table_size}
 use Rattle.cut.proofs.TableLengths.{size_is}

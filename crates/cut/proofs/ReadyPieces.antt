@@ -15,7 +15,8 @@ use Rattle.cut.specs.PlanTables.{IsReady, AreReady, tables_of}
 use Rattle.cut.specs.Divided.{piece_places_from, counts_all, piece_limit}
 use Rattle.cut.specs.Opened.{parts_of, entries_in_blocks, HasLen, ArePlanned}
 use Rattle.cut.specs.Plan.{plan_tables, encoded_pieces, pieces_in}
-use Rattle.cut.specs.OutputPlan.{planned_of, block_count, IsPlannedOutput, IsPlan, lists_in}
+use Rattle.cut.specs.OutputPlan.{lists_in}
+use Rattle.cut.specs.PlanInvariant.{planned_of, block_count, IsPlannedOutput, IsPlan}
 use Rattle.std.specs.Prelude.{slice_range}
 use Rattle.cut.proofs.JoinedPieces.{pieces_join}
 use Rattle.cut.proofs.PiecePlaces.{divided_behind, places_are, one_are}

@@ -167,7 +167,7 @@ pub exact_one : (o : Options) (b : PlannedBlock) → HasLen o b → b.len ≤ 2 
 exact_one o b h le = omega arith
 
 module _ (o : Options) where
-  stored_cons : (p : List Entry) (ps : List (List Entry)) → stored_len o.restart_interval (p ∷ ps) ≡ length (block o.restart_interval p) + 5 + stored_len o.restart_interval ps
+  pub stored_cons : (p : List Entry) (ps : List (List Entry)) → stored_len o.restart_interval (p ∷ ps) ≡ length (block o.restart_interval p) + 5 + stored_len o.restart_interval ps
   stored_cons p ps = omega (arith, length-append (stored_block (block o.restart_interval p)) (stored_blocks o.restart_interval ps), length-stored (block o.restart_interval p))
 
   pub stored_exact : (blocks : List PlannedBlock) → AllByRecursion (HasLen o) blocks → lens_of blocks ≤ 2 ^ 30 → stored_len o.restart_interval (parts_of blocks) ≡ lens_of blocks

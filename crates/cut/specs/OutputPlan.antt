@@ -1,69 +1,14 @@
 -- A plan, as contracts see it.
-use Rattle.std.specs.Prelude.{◌≡◌, ◌≢◌, ℕ, ◌+◌, ◌^◌, ◌≤◌, List, [], ◌∷◌, length, map}
-use Rattle.std.specs.Global.{Vec}
-use Rattle.std.specs.List.{AllByRecursion, sum_by}
+use Rattle.std.specs.Prelude.{List, map}
 use Rattle.block.specs.EncodedEntry.{Entry}
 use Rattle.table.specs.declared.options.Options.{Options}
-use Rattle.table.specs.Options.{AreInLimits}
-use Rattle.encoding.specs.declared.planned_block.PlannedBlock.{PlannedBlock}
-use Rattle.cut.specs.declared.piece.Piece.{Piece}
-use Rattle.cut.specs.declared.planned_output.PlannedOutput.{PlannedOutput}
-use Rattle.cut.specs.Divided.{places_all, counts_all, piece_limit}
-use Rattle.cut.specs.Opened.{parts_of, entries_in_blocks, ArePlanned}
-use Rattle.cut.specs.Plan.{OutputView, block_ends_from}
-use Rattle.table.specs.declared.table_check.TheConstants.{MAX_TABLE_LEN}
-use Rattle.cut.specs.declared.output_plan.TheConstants.{MAX_BLOCKS}
+use Rattle.cut.specs.Plan.{OutputView}
 
 -- the options of a plan, and its outputs
 pub record PlanSeen : Type 0 where
   pub options : Options
   pub outputs : List OutputView
 
--- an output as contracts see it: its number, its entries, the place after the last entry of each
--- data block, and its length
-abbrev pub planned_of : PlannedOutput → OutputView
-planned_of p = record {
-  number = p.number;
-  entries = entries_in_blocks p.blocks.items;
-  blocks = block_ends_from 0 (parts_of p.blocks.items);
-  length = p.len;
-}
-
--- there are blocks, and each has an entry
-pub record HaveEntries (blocks : List PlannedBlock) : Type 0 where
-  pub any : blocks ≢ []
-  pub some : AllByRecursion (λ (b : PlannedBlock). b.entries.entries ≢ []) blocks
-
--- outputs of these data blocks, numbered from `number` on; `size_of` tells the length of a table
-abbrev pub numbered_from : (List PlannedBlock → ℕ) → ℕ → List (Vec PlannedBlock) →
-    List PlannedOutput
-numbered_from size_of number [] = []
-numbered_from size_of number (b ∷ bs) =
-    record { number = number; blocks = b; len = size_of b.items } ∷ numbered_from size_of
-    (number + 1) bs
-
--- how many data blocks all outputs have
-abbrev pub block_count : List PlannedOutput → ℕ
-block_count outputs = sum_by (λ (p : PlannedOutput). length p.blocks.items) outputs
-
--- an output of a plan: its blocks are the data blocks of their entries, and its length, at most 2 ^
--- 30, is that of its table
-pub record IsPlannedOutput (table_of : List Entry → List ℕ) (o : Options) (p : PlannedOutput) : Type
-    0 where
-  pub planned : ArePlanned o p.blocks.items
-  pub some : HaveEntries p.blocks.items
-  pub len_is : p.len ≡ length (table_of (entries_in_blocks p.blocks.items))
-  pub len_le : p.len ≤ MAX_TABLE_LEN
-
 -- the entries of each output
 abbrev pub lists_in : List OutputView → List (List Entry)
 lists_in outputs = map (λ (p : OutputView). p.entries) outputs
-
--- what a plan keeps: outputs in their limits, their pieces, and how many pieces each output has
-pub record IsPlan (table_of : List Entry → List ℕ) (o : Options) (outputs : List PlannedOutput)
-    (pieces : List Piece) (counts : List ℕ) : Type 0 where
-  pub limits : AreInLimits o
-  pub each : AllByRecursion (IsPlannedOutput table_of o) outputs
-  pub few : block_count outputs ≤ MAX_BLOCKS
-  pub places : pieces ≡ places_all (piece_limit (block_count outputs)) 0 outputs
-  pub counts_are : counts ≡ counts_all (piece_limit (block_count outputs)) 0 outputs

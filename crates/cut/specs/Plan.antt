@@ -29,6 +29,10 @@ abbrev pub block_ends_from : ℕ → List (List Entry) → List ℕ
 block_ends_from at [] = []
 block_ends_from at (p ∷ ps) = (at + length p) ∷ block_ends_from (at + length p) ps
 
+-- the place after the last entry of each data block of an output's entries
+abbrev pub block_ends : Options → List Entry → List ℕ
+block_ends o q = block_ends_from 0 (data_blocks o q)
+
 -- the outputs of these lists of entries, numbered from `number` on; `table_of` is how a table is
 -- written
 abbrev pub planned_from : (List Entry → List ℕ) → Options → ℕ → List (List Entry) → List OutputView
@@ -37,7 +41,7 @@ planned_from table_of o number (q ∷ qs) =
     record {
       number = number;
       entries = q;
-      blocks = block_ends_from 0 (data_blocks o q);
+      blocks = block_ends o q;
       length =
           length (table_of q);
     }

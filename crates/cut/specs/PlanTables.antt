@@ -1,5 +1,5 @@
 -- The tables of a plan, joined of its encoded pieces.
-use Rattle.std.specs.Prelude.{◌≡◌, ℕ, ◌≤◌, ◌^◌, List, [], ◌∷◌, length, map, take, drop, flat_map}
+use Rattle.std.specs.Prelude.{◌≡◌, ℕ, ◌≤◌, List, [], ◌∷◌, length, map, take, drop, flat_map}
 use Rattle.std.specs.List.{AllByRecursion}
 use Rattle.table.specs.Table.{IndexKeys, stored_blocks, table_of_blocks}
 use Rattle.encoding.specs.Planned.{IsPlanned}

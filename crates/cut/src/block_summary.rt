@@ -1,27 +1,41 @@
 //! What planned data blocks have together.
 
-ghost use Rattle.std.specs.Prelude.{◌≡◌, length, slice_get, Some};
+ghost use Rattle.std.specs.Prelude.{◌≡◌, ◌≤◌, length, slice_get, Some};
 ghost use Rattle.std.specs.Option.{option_map};
+ghost use Rattle.table.specs.declared.table_check.TheConstants.{MAX_TABLE_LEN};
 ghost use Rattle.cut.specs.Metered.{last_entry_key};
 ghost use Rattle.cut.specs.OutputMeta.{IsMetaOf};
-ghost use Rattle.cut.specs.Opened.{entries_in_blocks};
-ghost use Rattle.cut.specs.OutputPlan.{HaveEntries, planned_of};
-ghost use Rattle.cut.specs.Sizes.{saturated_length};
+ghost use Rattle.cut.specs.Opened.{entries_in_blocks, parts_of};
+ghost use Rattle.cut.specs.Plan.{block_ends_from};
+ghost use Rattle.cut.specs.PlanInvariant.{HaveEntries, planned_of};
 
 use crate::output_meta::OutputMeta;
 use crate::planned_output::PlannedOutput;
 use encoding::PlannedBlock;
 use ikey::InternalKey;
 
-/// The number of entries of data blocks; 2^64 - 1 if there are more.
+/// The number of entries of data blocks.
 fn count_entries(blocks: &[PlannedBlock<'_, '_>]) -> u64
-    ensures { result ≡ saturated_length (length (entries_in_blocks blocks.now)) }
+    requires { length (entries_in_blocks blocks.now) ≤ MAX_TABLE_LEN }
+    ensures { result ≡ length (entries_in_blocks blocks.now) }
 {
-    let mut count: u64 = 0;
+    let mut count = 0;
     for block in blocks {
-        count = count.saturating_add(block.entries.len());
+        count += block.entries.len();
     }
     count
+}
+
+/// The place after the last entry of the data block of number `block`; None if there are not so
+/// many.
+pub(crate) fn end_of(blocks: &[PlannedBlock<'_, '_>], block: usize) -> Option<u64>
+    requires { length (entries_in_blocks blocks.now) ≤ MAX_TABLE_LEN }
+    ensures { result ≡ slice_get (block_ends_from 0 (parts_of blocks.now)) block }
+{
+    if block >= blocks.len() {
+        return None;
+    }
+    Some(count_entries(&blocks[..block + 1]))
 }
 
 /// The first key of data blocks.
@@ -47,7 +61,8 @@ fn last_key<'r>(blocks: &[PlannedBlock<'r, '_>]) -> InternalKey<'r>
 
 /// What is known of an output before it is written.
 pub(crate) fn meta_of<'r>(output: &PlannedOutput<'r, '_>) -> OutputMeta<'r>
-    requires { HaveEntries output.now.blocks.items }
+    requires some { HaveEntries output.now.blocks.items }
+    requires fits { length (entries_in_blocks output.now.blocks.items) ≤ MAX_TABLE_LEN }
     ensures { IsMetaOf (planned_of output.now) result }
 {
     OutputMeta {

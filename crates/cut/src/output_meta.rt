@@ -7,7 +7,7 @@ use ikey::InternalKey;
 pub struct OutputMeta<'r> {
     /// The number of its file.
     pub number: u64,
-    /// The number of its entries; 2^64 - 1 if there are more.
+    /// The number of its entries.
     pub entries: u64,
     /// The number of its data blocks.
     pub blocks: usize,

@@ -7,13 +7,15 @@ ghost use Rattle.coding.specs.Answers.{EqualOrMemory, fault};
 ghost use Rattle.coding.specs.declared.fault.FaultName.TheVariants.{Memory};
 ghost use Rattle.table.specs.Options.{AreInLimits};
 ghost use Rattle.table.specs.Table.{index_keys, table};
+ghost use Rattle.table.specs.declared.table_check.TheConstants.{MAX_TABLE_LEN};
 ghost use Rattle.keep.specs.Runs.{joined_run};
 ghost use Rattle.cut.specs.Divided.{places_all, counts_all, piece_limit};
 ghost use Rattle.cut.specs.Outputs.{outputs_of};
 ghost use Rattle.cut.specs.Plan.{plan_of};
-ghost use Rattle.cut.specs.OutputPlan.{HaveEntries, block_count, numbered_from};
+ghost use Rattle.cut.specs.PlanInvariant.{HaveEntries, block_count, numbered_from};
 ghost use Rattle.cut.specs.Sizes.{saturated_length};
 ghost use Rattle.cut.specs.TableLength.{lens_of, table_size};
+ghost use Rattle.cut.specs.declared.output_plan.TheConstants.{MAX_BLOCKS};
 
 use crate::output_cuts::outputs;
 use crate::piece_division::{Division, pieces_of};
@@ -109,15 +111,15 @@ fn numbered<'r, 'a, C: Comparator>(
 /// Whether each output has at most 2^30 bytes, and all have at most 2^40 data blocks together.
 fn are_small(outputs: &[PlannedOutput<'_, '_>]) -> bool
     ensures { result
-        ≡ (list_all (λ p. nat_le p.len (2 ^ 30)) outputs.now
-        && nat_le (block_count outputs.now) (2 ^ 40)) }
+        ≡ (list_all (λ p. nat_le p.len MAX_TABLE_LEN) outputs.now
+        && nat_le (block_count outputs.now) MAX_BLOCKS) }
 {
     are_short(outputs) && count_blocks(outputs) <= MAX_BLOCKS
 }
 
 /// Whether each output has at most 2^30 bytes.
 fn are_short(outputs: &[PlannedOutput<'_, '_>]) -> bool
-    ensures { result ≡ list_all (λ p. nat_le p.len (2 ^ 30)) outputs.now }
+    ensures { result ≡ list_all (λ p. nat_le p.len MAX_TABLE_LEN) outputs.now }
 {
     let limit = MAX_TABLE_LEN as u64;
     outputs.iter().all(|output| output.len <= limit)
@@ -136,7 +138,7 @@ fn count_blocks(outputs: &[PlannedOutput<'_, '_>]) -> u64
 
 /// The pieces of outputs, in order. The only fault is Memory.
 fn divided(alloc: Global, outputs: &[PlannedOutput<'_, '_>]) -> Result<Division, Fault>
-    requires { AllByRecursion (λ p. lens_of p.blocks.items ≤ 2 ^ 30) outputs.now }
+    requires { AllByRecursion (λ p. lens_of p.blocks.items ≤ MAX_TABLE_LEN) outputs.now }
     ensures pieces { IfOk result (λ division. division.pieces.items
         ≡ places_all (piece_limit (block_count outputs.now)) 0 outputs.now) }
     ensures counts { IfOk result (λ division. division.counts.items

@@ -1,15 +1,17 @@
 //! A plan that is made.
 
-ghost use Rattle.std.specs.Prelude.{◌≡◌, ◌<◌, ◌≤◌, ◌^◌, ◌↔◌, [], length, slice_get, slice_range};
+ghost use Rattle.std.specs.Prelude.{◌≡◌, ◌<◌, ◌≤◌, ◌↔◌, [], length, slice_get, slice_range};
 ghost use Rattle.std.specs.Prelude.{IfSome, IfOk, IfErr, IsTrue, Ok, Some, map};
 ghost use Rattle.coding.specs.Answers.{EqualOrMemory, fault};
 ghost use Rattle.coding.specs.declared.fault.FaultName.TheVariants.{Memory};
 ghost use Rattle.table.specs.Table.{table};
+ghost use Rattle.table.specs.declared.table_check.TheConstants.{MAX_TABLE_LEN};
 ghost use Rattle.cut.specs.OutputMeta.{IsMetaOf};
-ghost use Rattle.cut.specs.Plan.{jobs, plan_tables, encoded_pieces};
+ghost use Rattle.cut.specs.Plan.{block_ends, jobs, plan_tables, encoded_pieces};
 ghost use Rattle.cut.specs.OutputPlan.{lists_in};
+ghost use Rattle.cut.specs.declared.output_plan.TheConstants.{MAX_BLOCKS};
 
-use crate::block_summary::meta_of;
+use crate::block_summary::{end_of, meta_of};
 use crate::output_meta::OutputMeta;
 use crate::piece::Piece;
 use crate::plan_assembly::assemble_all;
@@ -41,7 +43,8 @@ pub struct Plan<'r, 'a, C: Comparator> {
 impl<'r, 'a, C: Comparator> Model for Plan<'r, 'a, C> {
     ghost use Rattle.std.specs.Prelude.{map};
     ghost use Rattle.table.specs.Table.{table};
-    ghost use Rattle.cut.specs.OutputPlan.{PlanSeen, planned_of, IsPlan};
+    ghost use Rattle.cut.specs.OutputPlan.{PlanSeen};
+    ghost use Rattle.cut.specs.PlanInvariant.{planned_of, IsPlan};
 
     ghost Value = { PlanSeen };
 
@@ -86,7 +89,7 @@ impl<'r, 'a, C: Comparator> Plan<'r, 'a, C> {
     /// block at which its bytes reach 2^22.
     pub fn jobs(&self) -> u64
         ensures number { result ≡ jobs self.now.options (lists_in self.now.outputs) }
-        ensures few { result ≤ 2 ^ 40 }
+        ensures few { result ≤ MAX_BLOCKS }
     {
         self.pieces.len() as u64
     }
@@ -132,11 +135,31 @@ impl<'r, 'a, C: Comparator> Plan<'r, 'a, C> {
     }
 
     /// What is known of the output at `place`. Takes no memory.
+    ///
+    /// An output has an entry. Its blocks are the data blocks of its entries under the options of
+    /// the plan, and its length, at most 2^30, is that of its table.
     pub fn output(&self, place: usize) -> OutputMeta<'r>
         requires { place < length self.now.outputs }
-        ensures { IfSome (slice_get self.now.outputs place) (λ p. IsMetaOf p result) }
+        ensures meta { IfSome (slice_get self.now.outputs place) (λ p. IsMetaOf p result) }
+        ensures ended { IfSome (slice_get self.now.outputs place)
+            (λ p. p.blocks ≡ block_ends self.now.options p.entries) }
+        ensures sized { IfSome (slice_get self.now.outputs place)
+            (λ p. p.length ≡ length (table C.cmp C.short_keys self.now.options p.entries)) }
+        ensures fits { result.len ≤ MAX_TABLE_LEN }
     {
         let output = &self.outputs[place];
         meta_of(output)
+    }
+
+    /// Where a data block of the output at `place` ends: how many of the output's entries lie in it
+    /// and in the blocks before it. `block` counts from 0; None if the output has not so many
+    /// blocks. Takes no memory.
+    pub fn block_end(&self, place: usize, block: usize) -> Option<u64>
+        requires { place < length self.now.outputs }
+        ensures { IfSome (slice_get self.now.outputs place)
+            (λ p. result ≡ slice_get (block_ends self.now.options p.entries) block) }
+    {
+        let output = &self.outputs[place];
+        end_of(&output.blocks, block)
     }
 }

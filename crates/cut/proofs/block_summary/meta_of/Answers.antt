@@ -5,17 +5,18 @@ use Rattle.block.specs.EncodedEntry.{Entry}
 use Rattle.encoding.specs.declared.planned_block.PlannedBlock.{PlannedBlock}
 use Rattle.cut.specs.Metered.{last_entry_key}
 use Rattle.cut.specs.Opened.{entries_in_blocks}
-use Rattle.cut.specs.Sizes.{saturated_length}
-use Rattle.cut.proofs.BlockSums.{blocks_are}
+use Rattle.cut.proofs.BlockSums.{blocks_are, entries_some, first_is, last_is}
 use Rattle.cut.proofs.block_summary.meta_of.Goals as goal
 
 pub returns : goal.returns
 returns c =
+    let blocks : List PlannedBlock = c.args.output.now.blocks.items in
     record {
       number = refl;
-      entries = c.count_entries.ensures ∙ ap (λ (bs : List PlannedBlock). saturated_length (length (entries_in_blocks bs))) c.deref.ensures.value;
-      blocks = omega (arith, c.len.ensures, c.deref.ensures.len, ap length c.deref.ensures.value, blocks_are c.args.output.now.blocks.items);
+      some = entries_some blocks c.requires.some;
+      entries = c.count_entries.ensures ∙ ap (λ (bs : List PlannedBlock). length (entries_in_blocks bs)) c.deref.ensures.value;
+      blocks = omega (arith, c.len.ensures, c.deref.ensures.len, ap length c.deref.ensures.value, blocks_are blocks);
       len = refl;
-      smallest = sym (ap (λ (bs : List PlannedBlock). option_map (λ (e : Entry). e.key) (slice_get (entries_in_blocks bs) 0)) c.deref-2.ensures.value) ∙ c.first_key.ensures;
-      largest = sym (ap (λ (bs : List PlannedBlock). last_entry_key (entries_in_blocks bs)) c.deref-3.ensures.value) ∙ c.last_key.ensures;
+      smallest = first_is (entries_in_blocks blocks) _ (sym (ap (λ (bs : List PlannedBlock). option_map (λ (e : Entry). e.key) (slice_get (entries_in_blocks bs) 0)) c.deref-2.ensures.value) ∙ c.first_key.ensures);
+      largest = last_is (entries_in_blocks blocks) _ (sym (ap (λ (bs : List PlannedBlock). last_entry_key (entries_in_blocks bs)) c.deref-3.ensures.value) ∙ c.last_key.ensures);
     }

@@ -1,6 +1,6 @@
 use Rattle.std.proofs.Common.{◌^◌, ℕ, sym, ap, ◌∙◌}
 use Rattle.std.specs.Prelude.{Bool, ◌&&◌, nat_le}
-use Rattle.cut.specs.OutputPlan.{block_count}
+use Rattle.cut.specs.PlanInvariant.{block_count}
 use Rattle.cut.proofs.Planned.{count_le}
 use Rattle.cut.proofs.output_plan.are_small.Goals as goal
 

@@ -1,5 +1,5 @@
 use Rattle.std.proofs.Common.{◌≡◌, ◌+◌, ◌-◌, ◌^◌, ◌≤◌, drop}
-use Rattle.cut.specs.OutputPlan.{block_count}
+use Rattle.cut.specs.PlanInvariant.{block_count}
 use Rattle.cut.specs.Sizes.{saturated_length}
 use Rattle.cut.proofs.output_plan.count_blocks.Given as goal
 

@@ -4,7 +4,7 @@ use Rattle.table.specs.Table.{index_keys}
 use Rattle.keep.proofs.OnAnswers.{same_ok}
 use Rattle.encoding.specs.declared.planned_block.PlannedBlock.{PlannedBlock}
 use Rattle.cut.specs.declared.planned_output.PlannedOutput.{PlannedOutput}
-use Rattle.cut.specs.OutputPlan.{numbered_from}
+use Rattle.cut.specs.PlanInvariant.{numbered_from}
 use Rattle.cut.specs.TableLength.{table_size}
 use Rattle.cut.proofs.Planned.{numbered_push}
 use Rattle.cut.proofs.output_plan.numbered.Goals as goal

@@ -1,6 +1,6 @@
 use Rattle.std.proofs.Common.{◌≡◌, ◌+◌, length}
 use Rattle.table.specs.Table.{index_keys}
-use Rattle.cut.specs.OutputPlan.{numbered_from}
+use Rattle.cut.specs.PlanInvariant.{numbered_from}
 use Rattle.cut.specs.TableLength.{table_size}
 use Rattle.cut.proofs.output_plan.numbered.Given as goal
 

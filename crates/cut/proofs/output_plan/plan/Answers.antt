@@ -7,7 +7,7 @@ use Rattle.keep.specs.Runs.{Run, joined_run}
 use Rattle.cut.specs.declared.planned_output.PlannedOutput.{PlannedOutput}
 use Rattle.cut.specs.Outputs.{outputs_of}
 use Rattle.cut.specs.Divided.{places_all, counts_all, piece_limit}
-use Rattle.cut.specs.OutputPlan.{IsPlan, block_count, numbered_from, planned_of}
+use Rattle.cut.specs.PlanInvariant.{IsPlan, block_count, numbered_from, planned_of}
 use Rattle.cut.specs.Stops.{stops}
 use Rattle.cut.specs.TableLength.{lens_of, table_size}
 use Rattle.cut.proofs.Planned.{IsMade, are_small, have_entries, plan_each, plan_large, plan_made, plan_kept}

@@ -6,7 +6,8 @@ use Rattle.cut.specs.declared.planned_output.PlannedOutput.{PlannedOutput}
 use Rattle.cut.specs.PlanTables.{AreReady, tables_of}
 use Rattle.cut.specs.Divided.{piece_limit}
 use Rattle.cut.specs.Plan.{plan_tables, encoded_pieces}
-use Rattle.cut.specs.OutputPlan.{PlanSeen, block_count, planned_of, lists_in}
+use Rattle.cut.specs.OutputPlan.{PlanSeen, lists_in}
+use Rattle.cut.specs.PlanInvariant.{block_count, planned_of}
 use Rattle.cut.proofs.ReadyPieces.{counts_len, plan_ready, tables_are}
 use Rattle.cut.proofs.whole_plan.Plan.assemble.Goals as goal
 

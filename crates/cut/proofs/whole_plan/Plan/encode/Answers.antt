@@ -9,7 +9,8 @@ use Rattle.cut.specs.declared.planned_output.PlannedOutput.{PlannedOutput}
 use Rattle.cut.specs.Divided.{blocks_at, piece_blocks}
 use Rattle.cut.specs.Opened.{parts_of}
 use Rattle.cut.specs.Plan.{jobs, encoded_pieces}
-use Rattle.cut.specs.OutputPlan.{PlanSeen, IsPlannedOutput, planned_of, lists_in}
+use Rattle.cut.specs.OutputPlan.{PlanSeen, lists_in}
+use Rattle.cut.specs.PlanInvariant.{IsPlannedOutput, planned_of}
 use Rattle.cut.proofs.PlanPieces.{IsPlace, all_range, at, block_short, blocks_here, bytes_are, piece_at, plan_jobs, plan_place}
 use Rattle.cut.proofs.whole_plan.Plan.encode.Goals as goal
 

@@ -1,7 +1,8 @@
 use Rattle.std.proofs.Common.{◌≡◌, length, map, ap, subst, arith}
 use Rattle.cut.specs.Divided.{piece_limit}
 use Rattle.cut.specs.Plan.{jobs}
-use Rattle.cut.specs.OutputPlan.{PlanSeen, block_count, planned_of, lists_in}
+use Rattle.cut.specs.OutputPlan.{PlanSeen, lists_in}
+use Rattle.cut.specs.PlanInvariant.{block_count, planned_of}
 use Rattle.cut.proofs.PlanPieces.{places_few, plan_jobs}
 use Rattle.cut.proofs.whole_plan.Plan.jobs.Goals as goal
 

@@ -1,17 +1,13 @@
 -- Outputs of a plan as new files.
-use Rattle.std.proofs.Common.{◌≡◌, ℕ, zero, suc, ◌+◌, ◌≤◌, ◌<◌, true, eqb, ◌||◌, List, [], ◌∷◌, ◌++◌, map, take, length, Some, refl, sym, ap, ◌∙◌, arith}
+use Rattle.std.proofs.Common.{◌≡◌, ℕ, zero, suc, ◌+◌, ◌≤◌, ◌<◌, true, eqb, ◌||◌, List, [], ◌∷◌, ◌++◌, map, take, length, sym, ap, ◌∙◌, arith}
 use Rattle.std.specs.Prelude.{slice_get, nat_le, IfSome}
-use Rattle.std.specs.List.{All, list_all, last_or}
-use Rattle.std.specs.Option.{option_map}
-use Rattle.std.proofs.lemmas.Option.{same_Some}
+use Rattle.std.specs.List.{All, list_all}
 use Rattle.std.proofs.lemmas.Bool.{and_parts}
 use Rattle.std.proofs.lemmas.Bool.Decides.{nat_tests}
 use Rattle.std.proofs.lemmas.List.Elements.{All-nil, All-cons}
-use Rattle.block.specs.EncodedEntry.{Entry}
 use Rattle.block.specs.BuilderView.{last_key}
 use Rattle.table.specs.ReadingEntries.{first_key}
 use Rattle.edit.specs.declared.meta.NewFile.{NewFile}
-use Rattle.cut.specs.Metered.{last_entry_key}
 use Rattle.cut.specs.OutputMeta.{IsMetaOf}
 use Rattle.cut.specs.Plan.{OutputView}
 use Rattle.cut.specs.declared.output_meta.OutputMeta.{OutputMeta}
@@ -20,19 +16,7 @@ use Rattle.pick.specs.declared.picked.InputFile.{InputFile}
 use Rattle.compact.specs.Written.{planned_file}
 use Rattle.request.specs.Request.{has_levels}
 
--- ---- the bounds of an output
-
-first_of : (es : List Entry) (key : List ℕ) → option_map (λ (e : Entry). e.key) (slice_get es 0) ≡ Some key → key ≡ first_key es
-first_of [] key h = absurd cc
-first_of (e ∷ es) key h = sym (same_Some e.key key h)
-
-ended_is : (x : Entry) (xs : List Entry) → option_map (λ (e : Entry). e.key) (last_or (Some x) xs) ≡ Some (last_key x.key xs)
-ended_is x [] = refl
-ended_is x (y ∷ ys) = ended_is y ys
-
-last_of : (es : List Entry) (key : List ℕ) → last_entry_key es ≡ Some key → key ≡ last_key [] es
-last_of [] key h = absurd cc
-last_of (e ∷ es) key h = sym (same_Some (last_key e.key es) key (sym (ended_is e es) ∙ h))
+-- ---- an output
 
 abbrev file_of : ℕ → ℕ → ℕ → List ℕ → List ℕ → NewFile
 file_of level number size smallest largest = record { level = level; meta = record { number = number; size = size; smallest = smallest; largest = largest } }
@@ -43,8 +27,8 @@ pub file_is : (p : OutputView) (m : OutputMeta) (level : ℕ) (smallest largest 
 file_is p m level smallest largest is s l =
     ap (λ (n : ℕ). file_of level n m.len smallest largest) is.number
     ∙ ap (λ (n : ℕ). file_of level p.number n smallest largest) is.len
-    ∙ ap (λ (k : List ℕ). file_of level p.number p.length k largest) (s ∙ first_of p.entries m.smallest.bytes.now is.smallest)
-    ∙ ap (λ (k : List ℕ). file_of level p.number p.length (first_key p.entries) k) (l ∙ last_of p.entries m.largest.bytes.now is.largest)
+    ∙ ap (λ (k : List ℕ). file_of level p.number p.length k largest) (s ∙ is.smallest)
+    ∙ ap (λ (k : List ℕ). file_of level p.number p.length (first_key p.entries) k) (l ∙ is.largest)
 
 -- ---- one output more
 

@@ -13,4 +13,4 @@ loop-place-preserved g c =
     let pushed : c.push.new.self.items ≡ c.loop-place.files.items ++ file ∷ [] = c.in_ok-push.ensures.items in
     let before : c.loop-place.files.items ≡ map (planned_file c.args.level) (take c.loop-place.place outputs) = c.loop-place.invariant in
     pushed ∙ ap (λ (fs : List NewFile). fs ++ file ∷ []) before
-    ∙ sym (one_more c.args.level outputs c.loop-place.place c.output-output.result file within c.output-output.ensures c.in_ok-new_file.ensures.ok)
+    ∙ sym (one_more c.args.level outputs c.loop-place.place c.output-output.result file within c.output-output.ensures.meta c.in_ok-new_file.ensures.ok)

@@ -1,0 +1,36 @@
+# Completes sedvokt in fish.
+
+set -l commands blocks dump manifest verify get compact
+set -l folders manifest verify get compact
+
+complete -c sedvokt -f
+complete -c sedvokt -s h -l help -d 'Print help'
+complete -c sedvokt -n __fish_use_subcommand -s V -l version -d 'Print the version and the kit'
+
+complete -c sedvokt -n __fish_use_subcommand -a blocks -d 'Merge two blocks of tables into one'
+complete -c sedvokt -n __fish_use_subcommand -a dump -d 'Print the entries of a table'
+complete -c sedvokt -n __fish_use_subcommand -a manifest -d 'Print the version of a database'
+complete -c sedvokt -n __fish_use_subcommand -a verify -d 'Test all tables of a database'
+complete -c sedvokt -n __fish_use_subcommand -a get -d 'Print the value of a key'
+complete -c sedvokt -n __fish_use_subcommand -a compact -d 'Merge files of a level into the next'
+complete -c sedvokt -n __fish_use_subcommand -a help -d 'Print help'
+
+complete -c sedvokt -n '__fish_seen_subcommand_from help' -a "$commands"
+complete -c sedvokt -n '__fish_seen_subcommand_from blocks dump' -F
+complete -c sedvokt -n "__fish_seen_subcommand_from $folders" -a '(__fish_complete_directories)'
+complete -c sedvokt -n "__fish_seen_subcommand_from $folders" -s v -l verbose \
+    -d 'Tell how long it took, and what was refused and why'
+complete -c sedvokt -n '__fish_seen_subcommand_from get' -l at -x -d 'Read at this sequence'
+complete -c sedvokt -n '__fish_seen_subcommand_from blocks' -l at -x \
+    -d 'The key where the second range begins'
+
+set -l compact '__fish_seen_subcommand_from compact'
+complete -c sedvokt -n $compact -l level -x -a '0 1 2 3 4 5' -d 'The level whose files move down'
+complete -c sedvokt -n $compact -l all -d 'All levels, down to the deepest'
+complete -c sedvokt -n $compact -l workers -x -d 'How many workers do it, 1 to 64'
+complete -c sedvokt -n $compact -l ranges -x -d 'At most how many ranges of keys, 1 to 4096'
+complete -c sedvokt -n $compact -l explain -d 'Tell how each compaction went, with bars'
+complete -c sedvokt -n $compact -l snapshot -x -d 'The oldest snapshot that stays'
+complete -c sedvokt -n $compact -l snapshots -x -d 'The snapshots that stay, as 3,7,9'
+complete -c sedvokt -n $compact -l block-size -x -d 'Bytes at which a block ends'
+complete -c sedvokt -n $compact -l file-size -x -d 'Bytes at which a table ends'

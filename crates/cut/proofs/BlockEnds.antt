@@ -1,5 +1,5 @@
 -- Where the data blocks of an output end, and that there are no more entries than bytes.
-use Rattle.std.proofs.Common.{◌≡◌, ℕ, zero, suc, ◌+◌, ◌<◌, ◌≤◌, List, [], ◌∷◌, ◌++◌, length, take, ap, sym, ◌∙◌, append-nil, append_assoc, arith, refl}
+use Rattle.std.proofs.Common.{◌≡◌, ℕ, zero, suc, ◌+◌, ◌<◌, ◌≤◌, List, [], ◌∷◌, ◌++◌, length, take, get_or, ap, sym, ◌∙◌, append-nil, append_assoc, arith, refl}
 use Rattle.std.specs.Prelude.{Some, None, slice_get}
 use Rattle.std.specs.declared.cmp.Ordering.{Ordering}
 use Rattle.std.proofs.lemmas.List.{length-append}
@@ -45,6 +45,19 @@ stored_holds o (b ∷ bs) =
 pub output_holds : (cmp : List ℕ → List ℕ → Ordering) (short_keys : ShortKeys) (o : Options) (p : PlannedOutput) → IsPlannedOutput (table cmp short_keys o) o p → length (entries_in_blocks p.blocks.items) ≤ MAX_TABLE_LEN
 output_holds cmp short_keys o p h =
     omega (arith, h.len_is, h.len_le, length-table cmp short_keys o p.blocks.items h.planned, stored_holds o p.blocks.items)
+
+-- ---- a block
+
+pub part_at : (blocks : List PlannedBlock) (i : ℕ) (b : PlannedBlock) → i < length blocks → slice_get (parts_of blocks) i ≡ Some (get_or blocks i b).entries.entries
+part_at [] i b lt = absurd (omega arith)
+part_at (x ∷ xs) zero b lt = refl
+part_at (x ∷ xs) (suc i) b lt = part_at xs i b (omega arith)
+
+pub part_none : (blocks : List PlannedBlock) (i : ℕ) → length blocks ≤ i → slice_get (parts_of blocks) i ≡ None
+part_none [] zero le = refl
+part_none [] (suc i) le = refl
+part_none (b ∷ bs) zero le = absurd (omega arith)
+part_none (b ∷ bs) (suc i) le = part_none bs i (omega arith)
 
 -- ---- the ends
 

@@ -11,7 +11,7 @@ ghost use Rattle.cut.specs.PlanInvariant.{HaveEntries, planned_of};
 
 use crate::output_meta::OutputMeta;
 use crate::planned_output::PlannedOutput;
-use encoding::PlannedBlock;
+use encoding::{EntryRef, PlannedBlock};
 use ikey::InternalKey;
 
 /// The number of entries of data blocks.
@@ -36,6 +36,20 @@ pub(crate) fn end_of(blocks: &[PlannedBlock<'_, '_>], block: usize) -> Option<u6
         return None;
     }
     Some(count_entries(&blocks[..block + 1]))
+}
+
+/// The entries of the data block of number `block`; None if there are not so many.
+pub(crate) fn entries_of<'p, 'r, 'a>(
+    blocks: &'p [PlannedBlock<'r, 'a>],
+    block: usize,
+) -> Option<&'p EntryRef<'r, 'a>>
+    ensures { option_map (λ entries. entries.now.entries) result
+        ≡ slice_get (parts_of blocks.now) block }
+{
+    if block >= blocks.len() {
+        return None;
+    }
+    Some(&blocks[block].entries)
 }
 
 /// The first key of data blocks.

@@ -3,8 +3,8 @@
 //! 1. [`plan`] takes the runs of all ranges, and answers a [`Plan`]: each output, its data blocks
 //!    and the exact length of its table, before a byte is written. It doesn't depend on how the
 //!    entries were dealt out to ranges.
-//! 2. [`Plan::output`] tells of an output what its entry in the edit needs, and
-//!    [`Plan::block_end`] where its data blocks end.
+//! 2. [`Plan::output`] tells of an output what its entry in the edit needs, [`Plan::block`] the
+//!    entries of its data blocks, and [`Plan::block_end`] where they end.
 //! 3. [`Plan::jobs`] says how many pieces are to be encoded, and [`Plan::encode`] encodes one. Any
 //!    thread may encode any piece.
 //! 4. [`Plan::assemble`] joins the pieces, in the order of their jobs, to tables.

@@ -4,6 +4,8 @@ ghost use Rattle.std.specs.Prelude.{◌≡◌, ◌<◌, ◌≤◌, ◌↔◌, []
 ghost use Rattle.std.specs.Prelude.{IfSome, IfOk, IfErr, IsTrue, Ok, Some, map};
 ghost use Rattle.coding.specs.Answers.{EqualOrMemory, fault};
 ghost use Rattle.coding.specs.declared.fault.FaultName.TheVariants.{Memory};
+ghost use Rattle.std.specs.Option.{option_map};
+ghost use Rattle.table.specs.DataBlocks.{data_blocks};
 ghost use Rattle.table.specs.Table.{table};
 ghost use Rattle.table.specs.declared.table_check.TheConstants.{MAX_TABLE_LEN};
 ghost use Rattle.cut.specs.OutputMeta.{IsMetaOf};
@@ -11,14 +13,14 @@ ghost use Rattle.cut.specs.Plan.{block_ends, jobs, plan_tables, encoded_pieces};
 ghost use Rattle.cut.specs.OutputPlan.{lists_in};
 ghost use Rattle.cut.specs.declared.output_plan.TheConstants.{MAX_BLOCKS};
 
-use crate::block_summary::{end_of, meta_of};
+use crate::block_summary::{end_of, entries_of, meta_of};
 use crate::output_meta::OutputMeta;
 use crate::piece::Piece;
 use crate::plan_assembly::assemble_all;
 use crate::planned_output::PlannedOutput;
 use crate::table_len::stored_len;
 use coding::Fault;
-use encoding::{PlannedBlock, encode_blocks};
+use encoding::{EntryRef, PlannedBlock, encode_blocks};
 use ikey::Comparator;
 use std::alloc::Global;
 use std::marker::{Model, PhantomData};
@@ -149,6 +151,18 @@ impl<'r, 'a, C: Comparator> Plan<'r, 'a, C> {
     {
         let output = &self.outputs[place];
         meta_of(output)
+    }
+
+    /// The entries of a data block of the output at `place`, which stay in their runs. `block`
+    /// counts from 0; None if the output has not so many blocks. Takes no memory.
+    pub fn block(&self, place: usize, block: usize) -> Option<&EntryRef<'r, 'a>>
+        requires { place < length self.now.outputs }
+        ensures { IfSome (slice_get self.now.outputs place)
+            (λ p. option_map (λ entries. entries.now.entries) result
+            ≡ slice_get (data_blocks self.now.options p.entries) block) }
+    {
+        let output = &self.outputs[place];
+        entries_of(&output.blocks, block)
     }
 
     /// Where a data block of the output at `place` ends: how many of the output's entries lie in it

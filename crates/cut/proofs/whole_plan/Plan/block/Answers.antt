@@ -1,0 +1,26 @@
+use Rattle.std.proofs.Common.{◌≡◌, ◌<◌, List, length, sym, ap, subst, ◌∙◌, arith}
+use Rattle.std.specs.Prelude.{IfSome, slice_get}
+use Rattle.std.specs.Option.{option_map}
+use Rattle.std.proofs.lemmas.List.{length-map}
+use Rattle.block.specs.EncodedEntry.{Entry}
+use Rattle.table.specs.DataBlocks.{data_blocks}
+use Rattle.encoding.specs.declared.planned_block.PlannedBlock.{PlannedBlock}
+use Rattle.cut.specs.declared.planned_output.PlannedOutput.{PlannedOutput}
+use Rattle.cut.specs.Opened.{parts_of}
+use Rattle.cut.specs.OutputPlan.{PlanSeen}
+use Rattle.cut.specs.Plan.{OutputView}
+use Rattle.cut.specs.PlanInvariant.{planned_of}
+use Rattle.cut.proofs.PlanPieces.{if_here, output_at}
+use Rattle.cut.proofs.whole_plan.Plan.block.Goals as goal
+
+pub returns : goal.returns
+returns g c =
+    let was = c.self.inside in
+    let p : PlannedOutput = c.index-output.result.now in
+    let lt : c.args.place < length was.outputs.items = omega (arith, subst (λ (s : PlanSeen). c.args.place < length s.outputs) (sym c.self.view_is) c.requires, length-map was.outputs.items planned_of) in
+    let planned = output_at g.C.Comparator.cmp g.C.Comparator.short_keys was.options was.outputs.items was.pieces.items was.counts.items c.args.place p c.self.invariant lt (sym c.index-output.ensures) in
+    subst (λ (s : PlanSeen). IfSome (slice_get s.outputs c.args.place) (λ (q : OutputView). option_map (λ entries. entries.now.entries) c.entries_of.result ≡ slice_get (data_blocks s.options q.entries) c.args.block)) c.self.view_is
+    (if_here (λ (q : OutputView). option_map (λ entries. entries.now.entries) c.entries_of.result ≡ slice_get (data_blocks was.options q.entries) c.args.block) was.outputs.items c.args.place p lt (sym c.index-output.ensures)
+    (c.entries_of.ensures
+    ∙ ap (λ (bs : List PlannedBlock). slice_get (parts_of bs) c.args.block) c.deref.ensures.value
+    ∙ ap (λ (ps : List (List Entry)). slice_get ps c.args.block) planned.planned.cut))

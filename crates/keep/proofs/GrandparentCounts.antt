@@ -11,6 +11,7 @@ use Rattle.ikey.proofs.Ordered.{internal_cmp-total}
 use Rattle.edit.specs.declared.meta.FileMeta.{FileMeta}
 use Rattle.merge.proofs.Orders.{less_is, lt_le_trans}
 use Rattle.keep.specs.Marks.{grandparents_below, LargestRise}
+use Rattle.keep.proofs.RisingTests.{largest_told}
 
 -- whether a grandparent lies below a key
 abbrev pub is_below : (List ℕ → List ℕ → Ordering) → List ℕ → FileMeta → Bool
@@ -66,7 +67,7 @@ module _ (cmp : List ℕ → List ℕ → Ordering) (total : IsTotalOrder cmp) w
   -- a grandparent before one that lies below a key lies below it
   pub downward : (fs : List FileMeta) (key : List ℕ) → LargestRise cmp fs → (j k : ℕ) (d : FileMeta) → j < k → k < length fs → is_below cmp key (get_or fs k d) ≡ true → is_below cmp key (get_or fs j d) ≡ true
   downward fs key rise j k d below within h =
-      ap is_lt ((internal_cmp-total total).trans (get_or fs j d).largest (get_or fs k d).largest key (rise j k d below within) (less_is (internal_cmp cmp (get_or fs k d).largest key) h))
+      ap is_lt ((internal_cmp-total total).trans (get_or fs j d).largest (get_or fs k d).largest key (largest_told cmp total fs rise j k d below within) (less_is (internal_cmp cmp (get_or fs k d).largest key) h))
 
   below_more : (f : FileMeta) (a b : List ℕ) → is_le (internal_cmp cmp a b) ≡ true → is_below cmp a f ≡ true → is_below cmp b f ≡ true
   below_more f a b le h = ap is_lt (lt_le_trans cmp total f.largest a b (less_is (internal_cmp cmp f.largest a) h) le)

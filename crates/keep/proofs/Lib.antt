@@ -12,6 +12,7 @@ pub mod PieceLists
 pub mod RisingSearch
 pub mod RangeWalks
 pub mod Neighbours
+pub mod RisingTests
 pub mod OnAnswers
 pub mod Sought
 pub mod TableBytes

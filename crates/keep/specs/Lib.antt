@@ -2,6 +2,7 @@
 pub mod Readable
 pub mod DropRule
 pub mod InRange
+pub mod Rising
 pub mod Marks
 pub mod Runs
 pub mod Left

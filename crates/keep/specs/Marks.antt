@@ -1,9 +1,8 @@
 -- How many grandparents lie below the entries of a compaction, and where that number changes.
-use Rattle.std.specs.Prelude.{◌≡◌, ℕ, ◌+◌, nat_eq, Bool, true, not, if◌then◌else◌, List, [], ◌∷◌}
-use Rattle.std.specs.Prelude.{◌++◌, count_by, AllPairs, Option, Some, None}
+use Rattle.std.specs.Prelude.{ℕ, ◌+◌, nat_eq, Bool, true, not, if◌then◌else◌, List, [], ◌∷◌}
+use Rattle.std.specs.Prelude.{◌++◌, count_by, IsTrue, Option, Some, None}
 use Rattle.std.specs.Ordering.{is_lt}
 use Rattle.std.specs.declared.cmp.Ordering.{Ordering}
-use Rattle.std.specs.declared.cmp.Ordering.TheVariants.{Less}
 use Rattle.ikey.specs.Order.{internal_cmp}
 use Rattle.block.specs.EncodedEntry.{Entry}
 use Rattle.edit.specs.declared.meta.FileMeta.{FileMeta}
@@ -11,16 +10,21 @@ use Rattle.pick.specs.declared.picked.Inputs.{Inputs}
 use Rattle.keep.specs.declared.mark.Mark.{Mark}
 use Rattle.keep.specs.Readable.{Readable}
 use Rattle.keep.specs.DropRule.{is_same_user, keeps}
+use Rattle.keep.specs.Rising.{rises_by}
 
 -- how many grandparents lie below an internal key: their largest keys are below it
 abbrev pub grandparents_below : (List ℕ → List ℕ → Ordering) → List FileMeta → List ℕ → ℕ
 grandparents_below cmp grandparents key =
     count_by (λ (f : FileMeta). is_lt (internal_cmp cmp f.largest key)) grandparents
 
--- each grandparent's largest key is below those of all later ones
+-- whether the largest keys of files rise strictly
+abbrev pub largest_rise : (List ℕ → List ℕ → Ordering) → List FileMeta → Bool
+largest_rise cmp files = rises_by (λ (f g : FileMeta). is_lt (internal_cmp cmp f.largest g.largest))
+    files
+
+-- the largest keys of grandparents rise strictly
 abbrev pub LargestRise : (List ℕ → List ℕ → Ordering) → List FileMeta → Type 0
-LargestRise cmp grandparents =
-    AllPairs (λ (f later : FileMeta). internal_cmp cmp f.largest later.largest ≡ Less) grandparents
+LargestRise cmp grandparents = IsTrue (largest_rise cmp grandparents)
 
 -- what the drop rule and the marks need to know: which sequences stay readable, the deeper files,
 -- and the grandparents

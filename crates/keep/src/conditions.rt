@@ -1,22 +1,24 @@
 //! Tests of what [`crate::merge_range`] requires.
 
-ghost use Rattle.std.specs.Prelude.{◌≡◌, ◌↔◌, true};
+ghost use Rattle.std.specs.Prelude.{◌≡◌, ◌↔◌, nat_lt, IsTrue};
 ghost use Rattle.std.specs.List.Sorted.{IsStrictlyIncreasing};
-ghost use Rattle.keep.specs.Marks.{LargestRise};
+ghost use Rattle.keep.specs.Marks.{largest_rise};
+ghost use Rattle.keep.specs.Rising.{rises_by};
 
 use edit::FileMeta;
 use ikey::Comparator;
 
 /// Whether the sequences of `listed` rise strictly. Takes no memory.
 pub fn is_rising(listed: &[u64]) -> bool
-    ensures { (result ≡ true) ↔ IsStrictlyIncreasing listed.now }
+    ensures test { result ≡ rises_by nat_lt listed.now }
+    ensures rising { IsTrue result ↔ IsStrictlyIncreasing listed.now }
 {
     listed.is_sorted_by(|sequence, next| sequence < next)
 }
 
 /// Whether the largest keys of `grandparents` rise strictly. Takes no memory.
 pub fn largest_rise<C: Comparator>(grandparents: &[FileMeta]) -> bool
-    ensures { (result ≡ true) ↔ LargestRise C.cmp grandparents.now }
+    ensures { result ≡ largest_rise C.cmp grandparents.now }
 {
     grandparents.is_sorted_by(|file, next| {
         file.largest

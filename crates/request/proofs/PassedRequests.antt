@@ -3,7 +3,6 @@ use Rattle.std.proofs.Common.{◌≡◌, ◌≢◌, ℕ, ◌+◌, ◌-◌, ◌<�
 use Rattle.std.specs.Prelude.{◌⊎◌, nat_lt, nat_le}
 use Rattle.std.specs.List.{All, list_all}
 use Rattle.std.specs.List.Sorted.{IsStrictlyIncreasing}
-use Rattle.std.specs.Cmp.{IsTotalOrder}
 use Rattle.std.specs.declared.cmp.Ordering.{Ordering}
 use Rattle.std.proofs.lemmas.Bool.{eqb-true, and_parts}
 use Rattle.std.proofs.lemmas.Bool.Decides.{nat_tests}
@@ -11,16 +10,20 @@ use Rattle.std.proofs.lemmas.List.Elements.{All-cons, All-nil}
 use Rattle.coding.specs.Answers.{◌>>=◌}
 use Rattle.coding.specs.declared.fault.Fault.{Fault}
 use Rattle.coding.specs.declared.fault.FaultName.TheVariants.{NoInput, Level, Options, Snapshot, SnapshotList}
+use Rattle.table.specs.Options.{are_in_limits}
 use Rattle.table.specs.ReadingEntries.{is_some_list}
 use Rattle.table.specs.ReadingSteps.{test_result}
 use Rattle.table.proofs.EntryTests.{passed}
 use Rattle.pick.specs.declared.picked.InputFile.{InputFile}
+use Rattle.keep.specs.Marks.{largest_rise}
+use Rattle.keep.specs.Rising.{rises_by}
 use Rattle.keep.specs.Readable.{listed_of}
+use Rattle.keep.proofs.RisingTests.{rise_told}
 use Rattle.keep.specs.declared.snapshots.Snapshots.{Snapshots}
 use Rattle.keep.specs.declared.snapshots.Snapshots.TheVariants.{From, Listed}
 use Rattle.request.specs.Passed.{PassedLaw}
-use Rattle.request.specs.Request.{are_in_limits, has_levels, has_options, has_snapshots, is_snapshot_list, largest_rise, named_by, rises_by}
-use Rattle.request.proofs.RisingTests.{largest_told, limits_told, rise_told}
+use Rattle.request.specs.Request.{has_levels, has_options, has_snapshots, is_snapshot_list, named_by}
+use Rattle.request.proofs.OptionLimits.{limits_told}
 
 -- a step that was taken, and what follows it
 step : (own : Result (Unit {0}) Fault) (rest : Result (Unit {0}) Fault) → (own >>= λ _. rest) ≡ Ok tt → (x : Unit {0}) × (own ≡ Ok x) × (rest ≡ Ok tt)
@@ -66,8 +69,8 @@ listed_rise (From oldest) last h = λ k within. absurd (omega arith)
 listed_rise (Listed list) last h =
     rise_told list.now (parts_of_three (nat_le (length list.now) 4096) (rises_by nat_lt list.now) (list_all (λ n. nat_le n last) list.now) h).1
 
-pub passed_law : (cmp : List ℕ → List ℕ → Ordering) → IsTotalOrder cmp → PassedLaw cmp
-passed_law cmp total r h =
+pub passed_law : (cmp : List ℕ → List ℕ → Ordering) → PassedLaw cmp
+passed_law cmp r h =
     let listed = test_result (is_snapshot_list r.snapshots r.last_sequence) SnapshotList in
     let behind_options = test_result (has_snapshots r) Snapshot >>= λ _. listed in
     let behind_levels = test_result (has_options cmp r) Options >>= λ _. behind_options in
@@ -86,7 +89,7 @@ passed_law cmp total r h =
       level = low r.picked.level 5 levels.0;
       levels = of_levels r.picked.level r.picked.files levels.1;
       limits = limits_told r.options options.0;
-      grandparents = largest_told cmp total r.picked.grandparents options.3;
+      grandparents = options.3;
       listed = listed_rise r.snapshots r.last_sequence (passed (is_snapshot_list r.snapshots r.last_sequence) SnapshotList tt fourth.2);
       last_sequence = below r.last_sequence (2 ^ 56 - 1) (and_parts (nat_lt r.last_sequence (2 ^ 56 - 1)) (list_all (λ n. nat_lt n (2 ^ 56 - 1)) (named_by r.snapshots)) (passed (has_snapshots r) Snapshot fourth.0 fourth.1)).0;
     }

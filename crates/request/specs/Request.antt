@@ -2,28 +2,24 @@
 use Rattle.std.specs.Prelude.{ℕ, ◌+◌, ◌-◌, ◌^◌, nat_eq, nat_lt, nat_le, Bool, true, ◌&&◌, ◌||◌}
 use Rattle.std.specs.Prelude.{List, [], ◌∷◌, length, map, Result}
 use Rattle.std.specs.List.{list_all}
-use Rattle.std.specs.Ordering.{is_lt}
 use Rattle.std.specs.declared.cmp.Ordering.{Ordering}
 use Rattle.coding.specs.Answers.{◌>>=◌}
 use Rattle.coding.specs.declared.fault.Fault.{Fault}
 use Rattle.coding.specs.declared.fault.FaultName.TheVariants.{NoInput, Level, Options, Snapshot}
 use Rattle.coding.specs.declared.fault.FaultName.TheVariants.{SnapshotList}
-use Rattle.ikey.specs.Order.{internal_cmp}
+use Rattle.table.specs.Options.{are_in_limits}
 use Rattle.table.specs.declared.options.Options as declared
 use Rattle.table.specs.ReadingSteps.{test_result}
 use Rattle.table.specs.ReadingEntries.{is_some_list}
-use Rattle.edit.specs.declared.meta.FileMeta.{FileMeta}
 use Rattle.pick.specs.Picked.{PickedInputs, picked_in}
 use Rattle.pick.specs.declared.picked.InputFile.{InputFile}
 use Rattle.keep.specs.Readable.{readable_of}
-use Rattle.keep.specs.Marks.{CompactionContext}
+use Rattle.keep.specs.Marks.{CompactionContext, largest_rise}
+use Rattle.keep.specs.Rising.{rises_by}
 use Rattle.keep.specs.declared.snapshots.Snapshots.{Snapshots}
 use Rattle.keep.specs.declared.snapshots.Snapshots.TheVariants.{From, Listed}
 use Rattle.request.specs.declared.request.Request.{Request}
 use Rattle.ikey.specs.declared.key.TheConstants.{MAX_SEQUENCE}
-use Rattle.block.specs.declared.builder.TheConstants.{MAX_RESTART_INTERVAL}
-use Rattle.table.specs.declared.options.TheConstants.{MAX_BLOCK_SIZE}
-use Rattle.table.specs.declared.table_check.TheConstants.{MAX_TABLE_LEN}
 use Rattle.request.specs.declared.request_conditions.TheConstants.{MAX_SNAPSHOTS}
 
 -- a request as contracts see it: its bytes, not where they are in memory
@@ -63,23 +59,6 @@ below_request r = record {
 abbrev pub has_levels : PickedInputs → Bool
 has_levels p = nat_le p.level 5
     && list_all (λ (i : InputFile). nat_eq i.level p.level || nat_eq i.level (p.level + 1)) p.files
-
--- whether each option is in its limits
-abbrev pub are_in_limits : declared.Options → Bool
-are_in_limits o =
-    nat_le 1 o.block_size && nat_le o.block_size MAX_BLOCK_SIZE
-    && nat_le 1 o.restart_interval && nat_le o.restart_interval MAX_RESTART_INTERVAL
-    && nat_le 1 o.file_size && nat_le o.file_size MAX_TABLE_LEN
-
--- whether each element of a list is below the next one
-abbrev pub rises_by : {A : Type 0} → (A → A → Bool) → List A → Bool
-rises_by is_below (x ∷ y ∷ more) = is_below x y && rises_by is_below (y ∷ more)
-rises_by is_below _ = true
-
--- whether the largest keys of files rise strictly
-abbrev pub largest_rise : (List ℕ → List ℕ → Ordering) → List FileMeta → Bool
-largest_rise cmp files = rises_by (λ (f g : FileMeta). is_lt (internal_cmp cmp f.largest g.largest))
-    files
 
 -- whether the options are in their limits, there are at most 256 inputs with a table each, and the
 -- largest keys of the grandparents rise

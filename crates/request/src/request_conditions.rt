@@ -4,15 +4,13 @@ ghost use Rattle.std.specs.Prelude.{◌≡◌, nat_eq, nat_lt, nat_le, ◌||◌}
 ghost use Rattle.std.specs.List.{list_all};
 ghost use Rattle.pick.specs.Picked.{picked_in};
 ghost use Rattle.pick.specs.declared.picked.InputFile.{InputFile};
-ghost use Rattle.request.specs.Request.{are_in_limits, has_levels, has_options, has_snapshots};
-ghost use Rattle.request.specs.Request.{is_snapshot_list, largest_rise, request_in, rises_by};
+ghost use Rattle.request.specs.Request.{has_levels, has_options, has_snapshots};
+ghost use Rattle.request.specs.Request.{is_snapshot_list, request_in};
 
 use crate::request::Request;
-use edit::FileMeta;
 use ikey::{Comparator, MAX_SEQUENCE};
-use keep::Snapshots;
+use keep::{Snapshots, is_rising, largest_rise};
 use pick::{InputFile, Inputs};
-use table::Options;
 
 /// The greatest number of inputs.
 pub const MAX_INPUTS: usize = 256;
@@ -35,7 +33,7 @@ pub(crate) fn has_levels(picked: &Inputs) -> bool
 pub(crate) fn has_options<C: Comparator>(request: &Request<'_>) -> bool
     ensures { result ≡ has_options C.cmp (request_in request.now) }
 {
-    are_in_limits(&request.options)
+    request.options.are_in_limits()
         && request.picked.files.len() <= MAX_INPUTS
         && request.tables.len() == request.picked.files.len()
         && largest_rise::<C>(&request.picked.grandparents)
@@ -59,7 +57,7 @@ pub(crate) fn is_snapshot_list(snapshots: Snapshots<'_>, last_sequence: u64) -> 
     match snapshots {
         Snapshots::From(_) => true,
         Snapshots::Listed(list) => {
-            list.len() <= MAX_SNAPSHOTS && rise(list) && are_at_most(list, last_sequence)
+            list.len() <= MAX_SNAPSHOTS && is_rising(list) && are_at_most(list, last_sequence)
         }
     }
 }
@@ -74,32 +72,11 @@ fn are_of(files: &[InputFile], level: u64, next: u64) -> bool
         .all(|input| input.level == level || input.level == next)
 }
 
-/// Whether each option is in its limits.
-fn are_in_limits(options: &Options) -> bool
-    ensures { result ≡ are_in_limits options.now }
-{
-    options.are_in_limits()
-}
-
-/// Whether the largest keys of files rise strictly.
-fn largest_rise<C: Comparator>(files: &[FileMeta]) -> bool
-    ensures { result ≡ largest_rise C.cmp files.now }
-{
-    keep::largest_rise::<C>(files)
-}
-
 /// Whether all `numbers` are below `limit`.
 fn are_below(numbers: &[u64], limit: u64) -> bool
     ensures { result ≡ list_all (λ n. nat_lt n limit) numbers.now }
 {
     numbers.iter().all(|number| *number < limit)
-}
-
-/// Whether `numbers` rise strictly.
-fn rise(numbers: &[u64]) -> bool
-    ensures { result ≡ rises_by nat_lt numbers.now }
-{
-    keep::is_rising(numbers)
 }
 
 /// Whether no number is above `limit`.

@@ -22,11 +22,12 @@ pub struct Options {
 }
 
 impl Options {
-    ghost use Rattle.table.specs.Options.{AreInLimits};
+    ghost use Rattle.table.specs.Options.{are_in_limits, AreInLimits};
 
     /// Whether each option is in its limits.
     pub fn are_in_limits(&self) -> bool
-        ensures { IsTrue result ↔ AreInLimits self.now }
+        ensures test { result ≡ are_in_limits self.now }
+        ensures limits { IsTrue result ↔ AreInLimits self.now }
     {
         (1..=MAX_BLOCK_SIZE).contains(&self.block_size)
             && (1..=MAX_RESTART_INTERVAL).contains(&self.restart_interval)

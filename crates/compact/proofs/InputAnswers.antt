@@ -1,8 +1,7 @@
 -- The answers for the inputs, one by one.
 use Rattle.std.proofs.Common.{◌≡◌, ℕ, zero, suc, ◌+◌, ◌-◌, ◌<◌, Bool, true, false, List, [], ◌∷◌, map, length, Some, Result, Ok, Err, refl, sym, ap, ◌∙◌, arith}
-use Rattle.std.specs.Prelude.{slice_get, min, nat_eq, ◌&&◌, get_or}
+use Rattle.std.specs.Prelude.{slice_get, min, get_or}
 use Rattle.std.specs.Option.{option_map}
-use Rattle.std.specs.Str.{bytes_eq}
 use Rattle.std.specs.declared.cmp.Ordering.{Ordering}
 use Rattle.std.proofs.lemmas.List.{length-map}
 use Rattle.std.proofs.lemmas.Option.{same_Some, slice_get-get_or, slice_get-map, slice_get_read}
@@ -11,7 +10,6 @@ use Rattle.coding.specs.declared.fault.FaultName.TheVariants.{Bounds}
 use Rattle.coding.specs.Answers.{fault, ◌>>=◌, FailsOrMemory}
 use Rattle.coding.proofs.Refusals.{unless_from}
 use Rattle.block.specs.EncodedEntry.{Entry}
-use Rattle.block.specs.BuilderView.{last_key}
 use Rattle.table.specs.TableContents.{Contents, contents_reading}
 use Rattle.table.specs.ReadingEntries.{first_key}
 use Rattle.table.specs.ReadingSteps.{test_result}
@@ -25,10 +23,6 @@ use Rattle.compact.specs.JobAnswers.{input_answers}
 
 -- ---- what a version states
 
-all_of_three : (a b c : Bool) → (a && (b && c)) ≡ (a && b && c)
-all_of_three true b c = refl
-all_of_three false b c = refl
-
 -- the test, by a table's bytes, its first and its last key
 pub stated_by : (f : FileMeta) (t : Contents) (bytes smallest largest : List ℕ) → bytes ≡ t.bytes
     → Some smallest ≡ option_map (λ e. e.key) (slice_get t.entries 0) → Some largest ≡ option_map (λ e. e.key) (slice_get t.entries (length t.entries - 1))
@@ -37,7 +31,6 @@ stated_by f t bytes smallest largest b s l =
     ap (λ (bs : List ℕ). has_bounds f (length bs) smallest largest) b
     ∙ ap (λ (k : List ℕ). has_bounds f (length t.bytes) k largest) (first_from t.entries smallest s)
     ∙ ap (λ (k : List ℕ). has_bounds f (length t.bytes) (first_key t.entries) k) (last_from t.entries largest l)
-    ∙ all_of_three (nat_eq f.size (length t.bytes)) (bytes_eq f.smallest (first_key t.entries)) (bytes_eq f.largest (last_key [] t.entries))
 
 -- ---- the reading of an input
 

@@ -1,7 +1,6 @@
 -- The tests of the inputs, and their union.
-use Rattle.std.specs.Prelude.{ℕ, ◌+◌, nat_eq, Bool, ◌&&◌, if◌then◌else◌, List, [], ◌∷◌, length}
+use Rattle.std.specs.Prelude.{ℕ, ◌+◌, Bool, if◌then◌else◌, List, [], ◌∷◌, length}
 use Rattle.std.specs.Prelude.{Some, Result, Ok, Err}
-use Rattle.std.specs.Str.{bytes_eq}
 use Rattle.std.specs.declared.cmp.Ordering.{Ordering}
 use Rattle.coding.specs.Answers.{fault, ◌>>=◌}
 use Rattle.coding.specs.declared.fault.Fault.{Fault}
@@ -14,6 +13,7 @@ use Rattle.table.specs.ReadingSteps.{test_result}
 use Rattle.edit.specs.declared.meta.FileMeta.{FileMeta}
 use Rattle.merge.specs.Merged.{merged}
 use Rattle.pick.specs.declared.picked.InputFile.{InputFile}
+use Rattle.reads.specs.Bounds.{has_bounds}
 use Rattle.keep.specs.Runs.{are_distinct}
 
 -- a fault gets the place of the input that it is about
@@ -24,8 +24,7 @@ result_at_input place (Err e) = Err (record e { input = Some place })
 -- whether a table's length, first and last key are those that the version states
 abbrev pub table_matches_metadata : FileMeta → Contents → Bool
 table_matches_metadata f table =
-    nat_eq f.size (length table.bytes) && bytes_eq f.smallest (first_key table.entries)
-    && bytes_eq f.largest (last_key [] table.entries)
+    has_bounds f (length table.bytes) (first_key table.entries) (last_key [] table.entries)
 
 -- the entries of an input's table, or the first test that fails: those of a table, then Bounds
 abbrev pub input_reading : (List ℕ → List ℕ → Ordering) → FileMeta → List ℕ →

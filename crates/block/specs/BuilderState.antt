@@ -1,5 +1,5 @@
 -- What is kept of a block: of one that was checked, and of one that is being written.
-use Rattle.std.specs.Prelude.{◌≡◌, ℕ, ◌%◌, ◌≤◌, ◌^◌, List, [], map, length, take}
+use Rattle.std.specs.Prelude.{◌≡◌, ℕ, ◌%◌, ◌≤◌, List, [], map, length, take}
 use Rattle.std.specs.List.{flat_map}
 use Rattle.byteorder.specs.Endian.{little_bytes}
 use Rattle.block.specs.EncodedEntry.{Entry, EncodedEntry, AreOfBlock, encoded_entry_bytes}

@@ -1,5 +1,5 @@
 -- What is kept of a table that is being written: flushed blocks, and the open one.
-use Rattle.std.specs.Prelude.{◌≡◌, ℕ, ◌+◌, ◌-◌, ◌*◌, ◌<◌, ◌≤◌, ◌^◌, List, [], ◌∷◌, ◌++◌, map}
+use Rattle.std.specs.Prelude.{◌≡◌, ℕ, ◌+◌, ◌-◌, ◌*◌, ◌<◌, ◌≤◌, List, [], ◌∷◌, ◌++◌, map}
 use Rattle.std.specs.Prelude.{length, take, drop}
 use Rattle.std.specs.List.{flat_map, sum_by, AllByRecursion}
 use Rattle.byteorder.specs.Endian.{little_number}

@@ -1,5 +1,5 @@
 -- Lists that can be written as a table and read again.
-use Rattle.std.specs.Prelude.{◌≢◌, ℕ, ◌≤◌, ◌^◌, List, [], length}
+use Rattle.std.specs.Prelude.{◌≢◌, ℕ, ◌≤◌, List, [], length}
 use Rattle.std.specs.List.{AllByRecursion}
 use Rattle.std.specs.declared.cmp.Ordering.{Ordering}
 use Rattle.ikey.specs.Key.{IsInternalKey}

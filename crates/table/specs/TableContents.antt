@@ -1,5 +1,5 @@
 -- What is in a table's bytes, and the first test that other bytes fail.
-use Rattle.std.specs.Prelude.{ℕ, ◌-◌, ◌^◌, nat_le, Bool, true, ◌&&◌, not, List, [], ◌∷◌, length}
+use Rattle.std.specs.Prelude.{ℕ, ◌-◌, nat_le, Bool, true, ◌&&◌, not, List, [], ◌∷◌, length}
 use Rattle.std.specs.Prelude.{map, drop, Option, Some, None, Result, Ok}
 use Rattle.std.specs.List.{flat_map}
 use Rattle.std.specs.Ordering.{is_gt}

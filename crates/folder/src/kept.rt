@@ -47,7 +47,8 @@ impl Kept {
         Ok(())
     }
 
-    /// Takes the file that was made under this `name`. None if there is none, or it was synced since.
+    /// Takes the file that was made under this `name`. None if there is none, or it was synced
+    /// since.
     pub fn taken(&mut self, name: &str) -> Option<File> {
         let place = place_of(&self.made, name)?;
         Some(self.made.swap_remove(place).file)

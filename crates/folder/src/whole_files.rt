@@ -16,8 +16,8 @@ const THREADS: usize = 16;
 /// Files that are read or synced whole, through a handle that threads share.
 pub trait WholeFiles: Send + Sync {
     /// The bytes of the file at `path`. The system's error if there is no such file, if it can't be
-    /// read, or if memory runs out. Other if it is no regular file, FileTooLarge if it has more than
-    /// 2^30 bytes.
+    /// read, or if memory runs out. Other if it is no regular file, FileTooLarge if it has more
+    /// than 2^30 bytes.
     fn whole(&self, alloc: Global, path: &str) -> io::Result<Vec<u8>>;
 
     /// Writes the bytes of the file at `path` through to the device. The system's error if there is

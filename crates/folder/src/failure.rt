@@ -1,8 +1,8 @@
 //! Which call of a folder of the system failed, and why.
 
-use std::alloc::Global;
+use std::alloc::{AllocError, Global};
 use std::fmt::{self, Display, Formatter, Write};
-use std::{io, str};
+use std::io;
 
 /// A call of a folder.
 #[derive(Clone, Copy, Debug, PartialEq, Eq)]
@@ -27,6 +27,8 @@ pub struct Failure {
     pub name: String,
     /// What the system answered.
     pub error: io::Error,
+    /// That in the system's words, without its number. It is empty if memory for it was refused.
+    words: String,
 }
 
 impl Failure {
@@ -36,7 +38,12 @@ impl Failure {
             Ok(name) => name,
             Err(_) => String::new(alloc),
         };
-        Failure { call, name, error }
+        Failure {
+            call,
+            name,
+            error,
+            words: words_in(alloc, &error).unwrap_or(String::new(alloc)),
+        }
     }
 }
 
@@ -45,7 +52,11 @@ impl Display for Failure {
         f.write_str(words_of(self.call))?;
         f.write_str(self.name.as_str())?;
         f.write_str(": ")?;
-        write_error(f, &self.error)
+        if self.words.is_empty() {
+            Display::fmt(&self.error, f)
+        } else {
+            f.write_str(self.words.as_str())
+        }
     }
 }
 
@@ -60,15 +71,11 @@ fn words_of(call: FolderCall) -> &'static str {
     }
 }
 
-/// Writes an error in the system's words, without its number.
-fn write_error<W: Write>(f: &mut Formatter<W>, error: &io::Error) -> fmt::Result {
-    let Some(code) = error.raw_os_error() else {
-        return Display::fmt(error, f);
-    };
-    let mut words = [0; 256];
-    let len = os::error_text(code, &mut words);
-    match str::from_utf8(&words[..len]) {
-        Ok(words) => f.write_str(words),
-        Err(_) => Display::fmt(error, f),
+/// An error in the system's words, without its number.
+fn words_in(alloc: Global, error: &io::Error) -> Result<String, AllocError> {
+    let text = format!(in alloc; "{error}")?;
+    match text.as_str().split_once(" (os error ") {
+        Some((words, _)) => String::from_str(alloc, words),
+        None => Ok(text),
     }
 }

@@ -1,27 +1,36 @@
-//! The lock of a folder: the one that LevelDB takes, on the whole of its file LOCK.
+//! The lock of a folder, on its file LOCK.
+//!
+//! LevelDB locks the whole of LOCK by `fcntl`. A [`FolderLock`] is two locks on that file:
+//!
+//! 1. A lock by `flock`, which this program alone asks for. Those who read share it.
+//! 2. The lock that the kit's `sqlite_std_file` takes by `fcntl`, on bytes of the file. It is in the
+//!    way of LevelDB's, and LevelDB's is in its way. It can't be shared: of several that read one
+//!    folder, the first holds it.
+//!
+//! Why the first: if the second is held, it tells whether that is by this program.
 
 use crate::owned::new_file;
-use crate::system_files::{SystemFiles, opened, regular};
+use crate::system_files::{ByteLock, SystemFiles, opened, regular};
 use crate::whole_files::path_in;
 use coding::{Fault, FaultName};
-use os::RangeLock;
 use std::alloc::Global;
 use std::fs::{File, OpenOptions};
-use std::io;
 use std::io::ErrorKind;
-use std::os::fd::AsRawFd;
+use std::{fs, io};
 
 /// The file whose lock stands for the folder.
 const LOCK: &str = "LOCK";
 
-/// The system's number for "no locks available", as a remote folder may answer.
-const NO_LOCKS: i32 = 37;
+/// What `sqlite_std_file` makes beside LOCK. It is removed again.
+const BESIDE: &str = "LOCK-wal";
 
 /// The lock of a folder. It is held until this is dropped, or the program ends.
 #[derive(Drop)]
 pub struct FolderLock {
-    /// The lock ends as the file is closed.
-    _file: File,
+    /// Holds the first lock until it is closed.
+    _own: File,
+    /// Holds the second one.
+    _bytes: Option<ByteLock>,
 }
 
 /// Locks the folder at `path` against every other program that reads or changes it as LevelDB does,
@@ -30,7 +39,7 @@ pub struct FolderLock {
 /// LOCK is made if it isn't there, as the folder's other new files are. It does not wait.
 ///
 /// - Locked: another holds a lock.
-/// - Device: LOCK can't be made, opened or locked, or is no regular file.
+/// - Device: LOCK can't be made, opened or locked, or is no regular file with one name.
 /// - Memory: out of memory.
 pub fn lock_to_change<R: SystemFiles>(
     rt: &R,
@@ -41,13 +50,14 @@ pub fn lock_to_change<R: SystemFiles>(
 }
 
 /// Locks the folder at `path` against every program that changes it as LevelDB does. Others may
-/// read it. It does not wait.
+/// read it by this program. It does not wait.
 ///
 /// None if there is no LOCK, if it may not be opened, or if the system has no locks for it: then
-/// nothing keeps others out.
+/// nothing keeps others out. If LOCK may not be written, only this program is kept from changing
+/// the folder.
 ///
 /// - Locked: another holds the lock of [`lock_to_change`], or has the database open.
-/// - Device: LOCK can't be opened for any other reason, or is no regular file.
+/// - Device: LOCK can't be opened or locked for any other reason, or is no regular file.
 /// - Memory: out of memory.
 pub fn lock_to_read<R: SystemFiles>(
     rt: &R,
@@ -56,19 +66,24 @@ pub fn lock_to_read<R: SystemFiles>(
 ) -> Result<Option<FolderLock>, Fault> {
     match locked_to_read(rt, alloc, path) {
         Ok(lock) => Ok(Some(lock)),
-        Err(error) if is_without_locks(&error) => Ok(None),
+        Err(error) if is_without_locks(error.kind()) => Ok(None),
         Err(error) => Err(fault_of(error)),
     }
 }
 
 fn locked_to_change<R: SystemFiles>(rt: &R, alloc: Global, folder: &str) -> io::Result<FolderLock> {
     let path = path_in(alloc, folder, LOCK)?;
-    let file = match regular(rt, path.as_str()) {
+    let own = match regular(rt, path.as_str()) {
         Err(error) if error.kind() == ErrorKind::NotFound => made(rt, alloc, folder, path.as_str()),
         Err(error) => Err(error),
         Ok(_) => opened(rt, &to_write(), path.as_str()),
     }?;
-    locked(file, RangeLock::Exclusive)
+    own.try_lock()?;
+    let bytes = bytes_locked(rt, alloc, folder, path.as_str())?;
+    Ok(FolderLock {
+        _own: own,
+        _bytes: Some(bytes),
+    })
 }
 
 fn locked_to_read<R: SystemFiles>(rt: &R, alloc: Global, folder: &str) -> io::Result<FolderLock> {
@@ -76,7 +91,44 @@ fn locked_to_read<R: SystemFiles>(rt: &R, alloc: Global, folder: &str) -> io::Re
     regular(rt, path.as_str())?;
     let mut how = OpenOptions::new();
     how.read(true);
-    locked(opened(rt, &how, path.as_str())?, RangeLock::Shared)
+    let own = opened(rt, &how, path.as_str())?;
+    own.try_lock_shared()?;
+    let bytes = match bytes_locked(rt, alloc, folder, path.as_str()) {
+        Ok(bytes) => Some(bytes),
+        Err(error) if is_without_locks(error.kind()) => None,
+        Err(error) if error.kind() == ErrorKind::WouldBlock => {
+            share(&own)?;
+            None
+        }
+        Err(error) => return Err(error),
+    };
+    Ok(FolderLock {
+        _own: own,
+        _bytes: bytes,
+    })
+}
+
+/// Keeps the first lock shared, if another that reads by this program has it too. Else WouldBlock:
+/// it is another program that has the second one.
+fn share(own: &File) -> io::Result<()> {
+    if own.try_lock().is_ok() {
+        return Err(ErrorKind::WouldBlock.into());
+    }
+    own.try_lock_shared()?;
+    Ok(())
+}
+
+/// Takes the second lock. WouldBlock if another program is in the way.
+fn bytes_locked<R: SystemFiles>(
+    rt: &R,
+    alloc: Global,
+    folder: &str,
+    path: &str,
+) -> io::Result<ByteLock> {
+    let beside = path_in(alloc, folder, BESIDE)?;
+    let bytes = rt.lock_bytes(path)?;
+    let _ = fs::remove_file(rt, beside.as_str());
+    Ok(bytes)
 }
 
 /// LOCK, made unless another program has just done so.
@@ -94,26 +146,16 @@ fn to_write() -> OpenOptions {
     how
 }
 
-/// Locks the whole of a file, from its first byte to the last that it can have. WouldBlock if
-/// another's lock is in the way.
-fn locked(file: File, kind: RangeLock) -> io::Result<FolderLock> {
-    if os::try_lock_range(file.as_raw_fd(), kind, 0, i64::MAX as u64) == 0 {
-        Ok(FolderLock { _file: file })
-    } else {
-        Err(io::Error::from_raw_os_error(os::errno()))
-    }
-}
-
 /// Whether there is no lock to take: no file, none that may be opened, or a system without locks.
-fn is_without_locks(error: &io::Error) -> bool {
-    error.raw_os_error() == Some(NO_LOCKS)
-        || matches!(
-            error.kind(),
-            ErrorKind::NotFound
-                | ErrorKind::PermissionDenied
-                | ErrorKind::Unsupported
-                | ErrorKind::InvalidInput
-        )
+fn is_without_locks(kind: ErrorKind) -> bool {
+    matches!(
+        kind,
+        ErrorKind::NotFound
+            | ErrorKind::PermissionDenied
+            | ErrorKind::ReadOnlyFilesystem
+            | ErrorKind::Unsupported
+            | ErrorKind::InvalidInput
+    )
 }
 
 /// The fault of an error of the system.

@@ -1,6 +1,9 @@
 //! Files of the system, opened under descriptors of their own.
 
+use sqlite_disk::Unknown;
+use sqlite_std_file::OpenError;
 use std::fs::{File, Metadata, OpenOptions};
+use std::io::ErrorKind;
 use std::os::fd::AsRawFd;
 use std::rt::Files;
 use std::{fs, io};
@@ -8,15 +11,39 @@ use std::{fs, io};
 /// The last descriptor of a standard stream.
 const LAST_STREAM: i32 = 2;
 
+/// A lock on bytes of a file, which is held until this is dropped.
+#[derive(Drop)]
+pub struct ByteLock {
+    /// It is taken for the two files of a database of SQLite, of which nothing else is asked.
+    _files: sqlite_disk::Files<sqlite_std_file::File>,
+}
+
 /// Files of the system, which have descriptors, and so locks and owners.
 pub trait SystemFiles: Files {
     /// Opens the file at `path` as [`Files`] does.
     fn open_own(&self, how: &OpenOptions, path: &str) -> io::Result<File>;
+
+    /// Takes a lock on bytes of the file at `path` that nobody shares. It does not wait. A lock that
+    /// another program has on the whole file is in its way, and this one in the way of such a lock.
+    ///
+    /// It needs a regular file with one name that may be read and written. A file of its name and
+    /// `-wal` after it is made beside it, and can be removed. WouldBlock if another is in the way.
+    fn lock_bytes(&self, path: &str) -> io::Result<ByteLock>;
 }
 
 impl SystemFiles for HostRuntime {
     fn open_own(&self, how: &OpenOptions, path: &str) -> io::Result<File> {
         self.open_file(how, path)
+    }
+
+    fn lock_bytes(&self, path: &str) -> io::Result<ByteLock> {
+        match sqlite_std_file::open(self, path, Unknown) {
+            Ok(files) => Ok(ByteLock { _files: files }),
+            Err(OpenError::Io(error)) => Err(error),
+            Err(OpenError::Busy) => Err(ErrorKind::WouldBlock.into()),
+            Err(OpenError::OutOfMemory) => Err(ErrorKind::OutOfMemory.into()),
+            Err(OpenError::HotJournal) => Err(ErrorKind::InvalidData.into()),
+        }
     }
 }
 

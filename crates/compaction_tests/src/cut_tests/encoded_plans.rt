@@ -1,6 +1,6 @@
 //! The outputs of plans, and the tables made of their pieces.
 
-ghost use Rattle.std.specs.Prelude.{◌≡◌, map, IfOk};
+ghost use Rattle.std.specs.Prelude.{◌≡◌, ◌<◌, length, map, IfOk};
 ghost use Rattle.cut.specs.Plan.{encoded_pieces};
 ghost use Rattle.cut.specs.OutputPlan.{lists_in};
 
@@ -29,6 +29,18 @@ fn encoded(alloc: Global, plan: &Plan<'_, '_, Bytewise>) -> Result<Vec<Vec<u8>>,
     Ok(pieces)
 }
 
+/// Whether the blocks of the output at `place` end at these places, and there are no more.
+fn are_ends(plan: &Plan<'_, '_, Bytewise>, place: usize, ends: &[u64]) -> bool
+    requires { place < length plan.now.outputs }
+{
+    for (block, end) in ends.iter().enumerate() {
+        if plan.block_end(place, block) != Some(*end) {
+            return false;
+        }
+    }
+    plan.block_end(place, ends.len()).is_none()
+}
+
 /// Whether a plan has these outputs, whose tables these are.
 fn are_outputs(
     plan: &Plan<'_, '_, Bytewise>,
@@ -42,10 +54,12 @@ fn are_outputs(
         let meta = plan.output(place);
         let table = &tables[place];
         let output = &outputs[place];
-        let told = (meta.number, meta.entries, meta.blocks, meta.len);
-        if told != (output.0, output.1, output.2, output.3.len() as u64)
-            || table.0 != output.0
-            || table.1.as_slice() != output.3
+        let told = (meta.number, Some(meta.entries), meta.blocks, meta.len);
+        let (number, ends, bytes) = *output;
+        if told != (number, ends.last().copied(), ends.len(), bytes.len() as u64)
+            || !are_ends(plan, place, ends)
+            || table.0 != number
+            || table.1.as_slice() != bytes
         {
             return false;
         }
@@ -56,7 +70,7 @@ fn are_outputs(
 /// Whether the first piece has `len` bytes, and the table of the first output begins with them.
 fn begins(pieces: &[Vec<u8>], outputs: &[Output], len: usize) -> bool {
     match (pieces.first(), outputs.first()) {
-        (Some(piece), Some(output)) => piece.len() == len && output.3.starts_with(piece),
+        (Some(piece), Some(output)) => piece.len() == len && output.2.starts_with(piece),
         (None, None) => true,
         _ => false,
     }

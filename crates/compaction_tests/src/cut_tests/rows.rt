@@ -26,8 +26,8 @@ const AT_C_AND_F: &[Range<'static>] = &[
     },
 ];
 
-/// An output: its number, the numbers of its entries and blocks, and its table.
-pub(crate) type Output = (u64, u64, usize, &'static [u8]);
+/// An output: its number, the place after the last entry of each block, and its table.
+pub(crate) type Output = (u64, &'static [u64], &'static [u8]);
 
 /// What a plan is.
 #[derive(Clone, Copy)]
@@ -77,7 +77,7 @@ const DROPPED: Row<'static> = Row {
     block_size: 4_096,
     file_size: 10,
     first_number: 5,
-    answer: Answer::Outputs(&[(5, 2, 1, A_B), (6, 1, 1, F), (7, 1, 1, G)], (3, 39)),
+    answer: Answer::Outputs(&[(5, &[2], A_B), (6, &[1], F), (7, &[1], G)], (3, 39)),
 };
 
 /// File 7 of level 0, from `a` at 1 to `g` at 5. File 4 of level 2: `f` at 6, of 120 bytes.
@@ -95,7 +95,7 @@ const EACH: Row<'static> = Row {
     block_size: 1,
     file_size: 1,
     first_number: 5,
-    answer: Answer::Outputs(&[(5, 1, 1, A), (6, 1, 1, B), (7, 1, 1, C)], (3, 26)),
+    answer: Answer::Outputs(&[(5, &[1], A), (6, &[1], B), (7, &[1], C)], (3, 26)),
 };
 
 /// Entries without grandparents, in blocks and files of ordinary sizes.
@@ -121,14 +121,14 @@ pub(crate) const ROWS: &[Row<'static>] = &[
         name: "a stop between two versions",
         files: WAITING_FILES,
         table: A_F_F_G,
-        answer: Answer::Outputs(&[(5, 3, 1, A_F_F), (6, 1, 1, G)], (2, 50)),
+        answer: Answer::Outputs(&[(5, &[3], A_F_F), (6, &[1], G)], (2, 50)),
         ..DROPPED
     },
     EACH,
     Row {
         name: "three versions and another user key",
         table: VERSIONS_TABLE,
-        answer: Answer::Outputs(&[(5, 3, 3, U_APART), (6, 1, 1, V)], (4, 26)),
+        answer: Answer::Outputs(&[(5, &[1, 2, 3], U_APART), (6, &[1], V)], (4, 26)),
         ..EACH
     },
     NOTHING,

@@ -17,6 +17,9 @@ use reads::{NumberedTable, standing_tables};
 use std::alloc::Global;
 use std::thread::Threads;
 
+/// How many workers check the tables of a folder for a command.
+pub const CHECKERS: u64 = 4;
+
 /// The tables of these numbers and bytes, checked by 1 to 64 workers, with which a version is
 /// lawful.
 ///

@@ -5,8 +5,7 @@ ghost use Rattle.std.specs.Option.{option_map};
 ghost use Rattle.coding.specs.Answers.{HoldsOrMemory, EqualOrMemory};
 ghost use Rattle.commands.specs.FolderLines.{IsLineOfLoaded, got_line, sequence_at, value_line};
 
-use crate::version_verdict::WORKERS;
-use checks::{Watch, Work, lawful_tables};
+use checks::{CHECKERS, Watch, Work, lawful_tables};
 use coding::Fault;
 use edit::Version;
 use ikey::SharedComparator;
@@ -30,7 +29,7 @@ pub(crate) fn got<C: SharedComparator + 'static, W: Watch + Sync, R: Threads + S
         (got_line key.now at version.now)) }
 {
     watch.begin(Work::Check, loaded.len() as u64);
-    let tables = lawful_tables::<C, W, R>(rt, alloc, version, loaded, WORKERS, watch)?;
+    let tables = lawful_tables::<C, W, R>(rt, alloc, version, loaded, CHECKERS, watch)?;
     let sequence = sequence_at(version, at);
     let value = get(alloc, version, &tables, key, sequence)?;
     value_line(alloc, value)

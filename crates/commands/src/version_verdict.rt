@@ -6,15 +6,12 @@ ghost use Rattle.coding.specs.declared.fault.FaultName.TheVariants.{Memory};
 ghost use Rattle.commands.specs.FolderLines.{IsLineOfLoaded, lawful_line, verified_line};
 
 use crate::entry_counts::entry_count;
-use checks::{Watch, Work, lawful_tables};
+use checks::{CHECKERS, Watch, Work, lawful_tables};
 use coding::Fault;
 use edit::Version;
 use ikey::SharedComparator;
 use std::alloc::Global;
 use std::thread::Threads;
-
-/// The workers that check the tables of a folder.
-pub(crate) const WORKERS: u64 = 4;
 
 /// Checks a version with tables of these numbers and bytes.
 pub(crate) fn verified<C: SharedComparator + 'static, W: Watch + Sync, R: Threads + Sync>(
@@ -28,7 +25,7 @@ pub(crate) fn verified<C: SharedComparator + 'static, W: Watch + Sync, R: Thread
         (IsLineOfLoaded C.cmp version.now (map (λ t. (t.0, t.1.items)) loaded.now) verified_line) }
 {
     watch.begin(Work::Check, loaded.len() as u64);
-    let tables = lawful_tables::<C, W, R>(rt, alloc, version, loaded, WORKERS, watch)?;
+    let tables = lawful_tables::<C, W, R>(rt, alloc, version, loaded, CHECKERS, watch)?;
     let entries = entry_count(alloc, &tables)?;
     lawful_line(alloc, tables.len(), entries)
 }

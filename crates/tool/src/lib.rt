@@ -6,12 +6,17 @@
 //! tell.
 #![tactic(auto)]
 
+mod block_files;
 mod explanations;
 mod files;
+mod folder_refusal;
 mod folder_work;
+mod logs;
 mod program;
 mod progress_line;
+mod refusal;
 mod reporter;
+mod settings_refusal;
 
 pub use commands::{bottom, dump, get_dir, manifest, next_level, progress_text, status, verify};
 pub use folder::{Disk, Folder, FolderFault, Order, load, open};

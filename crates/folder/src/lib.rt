@@ -26,11 +26,14 @@ mod disk;
 mod edits;
 mod folder;
 mod folder_answer_laws;
+mod folder_lock;
 mod names;
 mod order;
+mod owned;
 mod shelf;
 mod shelf_step;
 mod system;
+mod system_files;
 mod table_loader;
 mod trail;
 mod whole_files;
@@ -39,6 +42,7 @@ pub use current_version::{Opened, open};
 pub use disk::Disk;
 pub use folder::{Folder, FolderFault};
 pub use folder_answer_laws::{crash_laws, folder_laws, reading_laws};
+pub use folder_lock::{FolderLock, lock_to_change, lock_to_read};
 pub use names::{
     CURRENT, current_text, manifest_name, number_in_current, old_table_name, table_name,
     temporary_name,
@@ -46,5 +50,6 @@ pub use names::{
 pub use order::Order;
 pub use shelf::{Failing, Shelf};
 pub use shelf_step::{ShelfCall, ShelfStep};
+pub use system_files::SystemFiles;
 pub use table_loader::load;
 pub use whole_files::WholeFiles;

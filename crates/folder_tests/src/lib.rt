@@ -7,6 +7,8 @@ mod folder_ahead_tests;
 #[cfg(test)]
 mod folder_disk_tests;
 #[cfg(test)]
+mod folder_lock_tests;
+#[cfg(test)]
 mod folder_opening_tests;
 #[cfg(test)]
 mod folder_shelf_tests;

@@ -1,0 +1,73 @@
+//! New files of a folder, which belong to whom its CURRENT belongs.
+
+use crate::names::CURRENT;
+use crate::system_files::SystemFiles;
+use crate::whole_files::path_in;
+use std::alloc::Global;
+use std::fs::{OpenFile, OpenOptions, Permissions};
+use std::io::ErrorKind;
+use std::os::unix::fs::{MetadataExt, OpenOptionsExt, PermissionsExt};
+use std::{fs, io};
+
+/// The bits of a mode that say who may read, write and run a file.
+const PERMISSIONS: u32 = 0o777;
+
+/// Those of them that speak of the file's owner.
+const OF_OWNER: u32 = 0o700;
+
+/// Who may use a file, and whose it is.
+#[derive(Clone, Copy, Drop)]
+struct Access {
+    mode: u32,
+    owner: u32,
+    group: u32,
+}
+
+/// Makes a file of a folder, open for reading and writing. AlreadyExists if anything has its name,
+/// a symbolic link too.
+///
+/// It gets the permissions of the folder's CURRENT, and its owner and group if the program may set
+/// them; in between it never has more. Without CURRENT it gets what the system gives new files.
+pub(crate) fn new_file<R: SystemFiles>(
+    rt: &R,
+    alloc: Global,
+    folder: &str,
+    name: &str,
+) -> io::Result<R::File> {
+    let path = path_in(alloc, folder, name)?;
+    let access = access_in(rt, alloc, folder)?;
+    let mut options = OpenOptions::new();
+    options.read(true).write(true).create_new(true);
+    if let Some(access) = access {
+        options.mode(access.mode & OF_OWNER);
+    }
+    let file = rt.apart(options.open(rt, path.as_str())?)?;
+    if let Some(access) = access {
+        give(rt, &file, access)?;
+    }
+    Ok(file)
+}
+
+/// Who may use CURRENT, and whose it is. None if there is no CURRENT.
+fn access_in<R: SystemFiles>(rt: &R, alloc: Global, folder: &str) -> io::Result<Option<Access>> {
+    let path = path_in(alloc, folder, CURRENT)?;
+    match fs::metadata(rt, path.as_str()) {
+        Ok(found) => Ok(Some(Access {
+            mode: found.mode() & PERMISSIONS,
+            owner: found.uid(),
+            group: found.gid(),
+        })),
+        Err(error) if error.kind() == ErrorKind::NotFound => Ok(None),
+        Err(error) => Err(error),
+    }
+}
+
+/// Gives a file this access. If the program may not set its owner or its group, they stay.
+fn give<R: SystemFiles>(rt: &R, file: &R::File, access: Access) -> io::Result<()> {
+    let _ = rt.give(file, None, Some(access.group));
+    let _ = rt.give(file, Some(access.owner), None);
+    if file.metadata()?.mode() & PERMISSIONS == access.mode {
+        return Ok(());
+    }
+    file.set_permissions(Permissions::from_mode(access.mode))
+}

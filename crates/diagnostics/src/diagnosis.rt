@@ -44,10 +44,7 @@ pub fn refused_file<F: Folder>(alloc: Global, folder: &mut F) -> Result<Option<R
             Order::Bytewise => refused_table::<Bytewise, F>(alloc, folder, &opened.version),
             Order::Shortlex => refused_table::<Shortlex, F>(alloc, folder, &opened.version),
         },
-        Err(fault) => {
-            let file = opening_file(alloc, folder, fault)?;
-            Ok(Some(file))
-        }
+        Err(fault) => opening_file(alloc, folder, fault),
     }
 }
 
@@ -57,24 +54,24 @@ fn opening_file<F: Folder>(
     alloc: Global,
     folder: &mut F,
     fault: Fault,
-) -> Result<RefusedFile, Fault>
+) -> Result<Option<RefusedFile>, Fault>
     ensures reads { OnlyReads F.Folder folder.old folder.new }
 {
     let Some(number) = manifest_named(alloc, folder)? else {
         let name = String::from_str(alloc, CURRENT)?;
-        return Ok(RefusedFile {
+        return Ok(Some(RefusedFile {
             name,
             fault,
             detail: None,
-        });
+        }));
     };
     let name = manifest_name(alloc, number)?;
     let detail = manifest_detail(alloc, folder, name.as_str(), number, fault.name)?;
-    Ok(RefusedFile {
+    Ok(Some(RefusedFile {
         name,
         fault,
         detail,
-    })
+    }))
 }
 
 /// The number of the manifest that CURRENT names. None if it names none, or isn't there.

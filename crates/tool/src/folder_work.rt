@@ -1,6 +1,7 @@
 //! The work on a folder, from its path to what is printed.
 
 use crate::explanations::in_words;
+use crate::folder_locks::{locked_to_change, locked_to_read};
 use crate::folder_refusal::{compaction_explained, explained};
 use crate::progress_line::ProgressLine;
 use crate::refusal::Refusal;
@@ -9,7 +10,7 @@ use account::text;
 use coding::Fault;
 use commands::{Question, answer_opened, bottom, manifest_lines, next_level};
 use diagnostics::account_of;
-use folder::{Disk, Folder, Opened, WholeFiles, open};
+use folder::{Disk, Folder, Opened, SystemFiles, WholeFiles, open};
 use keep::Snapshots;
 use std::alloc::Global;
 use std::io;
@@ -21,10 +22,11 @@ use store::{Settings, compact_opened};
 use usage::{CompactSettings, Levels, Readable};
 
 /// Prints the version of a folder.
-pub(crate) fn print_version<R: Files + Print + Eprint + Clock + AllocGlobal>(
+pub(crate) fn print_version<R: SystemFiles + Print + Eprint + Clock + AllocGlobal>(
     rt: &R,
     telling: Telling<'_>,
 ) -> Result<(), Refusal> {
+    let _lock = locked_to_read(rt, telling.folder)?;
     version_printed(rt, telling).map_err(|refusal| explained(rt, telling.folder, refusal))
 }
 
@@ -41,16 +43,18 @@ fn version_printed<R: Files + Print + Eprint + Clock + AllocGlobal>(
 
 /// Checks the version of a folder, and prints the line of a lawful one.
 pub(crate) fn print_verdict<
-    R: Files + WholeFiles + Print + Eprint + Clock + AllocGlobal + Threads + Sync,
+    R: SystemFiles + WholeFiles + Print + Eprint + Clock + AllocGlobal + Threads + Sync,
 >(rt: &R, telling: Telling<'_>) -> Result<(), Refusal> {
+    let _lock = locked_to_read(rt, telling.folder)?;
     answer_printed(rt, telling, "verify", Question::Lawful)
         .map_err(|refusal| explained(rt, telling.folder, refusal))
 }
 
 /// Prints the value of a key in a folder.
 pub(crate) fn print_value<
-    R: Files + WholeFiles + Print + Eprint + Clock + AllocGlobal + Threads + Sync,
+    R: SystemFiles + WholeFiles + Print + Eprint + Clock + AllocGlobal + Threads + Sync,
 >(rt: &R, telling: Telling<'_>, key: &[u8], at: Option<u64>) -> Result<(), Refusal> {
+    let _lock = locked_to_read(rt, telling.folder)?;
     answer_printed(rt, telling, "get", Question::Value { key, at })
         .map_err(|refusal| explained(rt, telling.folder, refusal))
 }
@@ -75,7 +79,7 @@ fn begin_work<R: Files + Eprint + Clock + AllocGlobal>(
     telling: Telling<'_>,
 ) -> Result<Opened, Refusal> {
     let opened = open_folder(rt, telling.folder)?;
-    telling.tell_logs(rt, &opened.version);
+    telling.tell_logs(rt, &opened.version)?;
     Ok(opened)
 }
 
@@ -101,11 +105,12 @@ fn answered<R: Files + WholeFiles + Eprint + Clock + AllocGlobal + Threads + Syn
     answer.map_err(|fault| refused_at(telling.folder, &folder, fault))
 }
 
-/// Compacts a level of a folder, or all of them one after the other. The folder is synced first, so
-/// that what is read of it outlives a crash.
+/// Compacts a level of a folder, or all of them one after the other. The folder is locked before
+/// anything is read of it, and then synced, so that what is read outlives a crash.
 pub(crate) fn compact_folder<
-    R: Files + WholeFiles + Print + Eprint + Clock + AllocGlobal + Threads + Sync,
+    R: SystemFiles + WholeFiles + Print + Eprint + Clock + AllocGlobal + Threads + Sync,
 >(rt: &R, telling: Telling<'_>, levels: Levels, settings: &CompactSettings) -> Result<(), Refusal> {
+    let _lock = locked_to_change(rt, telling.folder)?;
     compact_levels(rt, telling, levels, settings).map_err(|refusal| {
         compaction_explained(rt, telling.folder, levels, settings, refusal)
     })

@@ -9,6 +9,7 @@
 mod block_files;
 mod explanations;
 mod files;
+mod folder_locks;
 mod folder_refusal;
 mod folder_work;
 mod logs;

@@ -3,7 +3,9 @@
 ghost use Rattle.std.specs.Prelude.{◌≡◌, true, IfSome};
 
 use crate::logs::logs_with_writes;
+use coding::{Fault, FaultName};
 use edit::Version;
+use std::io::ErrorKind;
 use std::rt::Files;
 use std::time::{Clock, Instant};
 
@@ -42,10 +44,18 @@ impl<'a> Telling<'a> {
         }
     }
 
-    /// Tells of the logs with writes that are in no table of the version.
-    pub fn tell_logs<R: Files + Eprint + AllocGlobal>(self, rt: &R, version: &Version) {
+    /// Tells of the logs with writes that are in no table of the version. The only fault is Memory:
+    /// that the folder can't be listed is told.
+    pub fn tell_logs<R: Files + Eprint + AllocGlobal>(
+        self,
+        rt: &R,
+        version: &Version,
+    ) -> Result<(), Fault> {
         match logs_with_writes(rt, self.folder, version) {
             Ok(numbers) => tell_logs(rt, &numbers),
+            Err(error) if error.kind() == ErrorKind::OutOfMemory => {
+                return Err(Fault::of(FaultName::Memory));
+            }
             Err(_) => {
                 let path = self.folder;
                 let _ = eprintln!(rt;
@@ -53,6 +63,7 @@ impl<'a> Telling<'a> {
                 );
             }
         }
+        Ok(())
     }
 }
 

@@ -8,18 +8,17 @@ use account::text;
 use coding::Fault;
 use commands::{Question, answer_opened, bottom, manifest_lines, next_level};
 use diagnostics::account_of;
-use folder::{Disk, Folder, Opened, WholeFiles, open};
+use folder::{Disk, Folder, Opened, SystemFiles, WholeFiles, open};
 use keep::Snapshots;
 use std::io;
 use std::io::Write;
-use std::rt::Files;
 use std::thread::Threads;
 use std::time::{Clock, Instant};
 use store::{Settings, compact_opened};
 use usage::{CompactSettings, Levels, Readable};
 
 /// Prints the version of a folder.
-pub(crate) fn print_version<R: Files + Print + Eprint + Clock + AllocGlobal>(
+pub(crate) fn print_version<R: SystemFiles + Print + Eprint + Clock + AllocGlobal>(
     rt: &R,
     telling: Telling<'_>,
 ) -> Result<(), Fault> {
@@ -31,7 +30,7 @@ pub(crate) fn print_version<R: Files + Print + Eprint + Clock + AllocGlobal>(
 
 /// Checks the version of a folder, and prints the line of a lawful one.
 pub(crate) fn print_verdict<
-    R: Files + WholeFiles + Print + Eprint + Clock + AllocGlobal + Threads + Sync,
+    R: SystemFiles + WholeFiles + Print + Eprint + Clock + AllocGlobal + Threads + Sync,
 >(rt: &R, telling: Telling<'_>) -> Result<(), Fault> {
     let begun = telling.begin(rt);
     let opened = begin_work(rt, telling)?;
@@ -41,7 +40,7 @@ pub(crate) fn print_verdict<
 
 /// Prints the value of a key in a folder.
 pub(crate) fn print_value<
-    R: Files + WholeFiles + Print + Eprint + Clock + AllocGlobal + Threads + Sync,
+    R: SystemFiles + WholeFiles + Print + Eprint + Clock + AllocGlobal + Threads + Sync,
 >(rt: &R, telling: Telling<'_>, key: &[u8], at: Option<u64>) -> Result<(), Fault> {
     let begun = telling.begin(rt);
     let opened = begin_work(rt, telling)?;
@@ -50,7 +49,7 @@ pub(crate) fn print_value<
 }
 
 /// Opens a folder, and tells of its log.
-fn begin_work<R: Files + Eprint + Clock + AllocGlobal>(
+fn begin_work<R: SystemFiles + Eprint + Clock + AllocGlobal>(
     rt: &R,
     telling: Telling<'_>,
 ) -> Result<Opened, Fault> {
@@ -60,7 +59,7 @@ fn begin_work<R: Files + Eprint + Clock + AllocGlobal>(
 }
 
 /// What the version of a folder answers to a question.
-fn answered<R: Files + WholeFiles + Eprint + Clock + AllocGlobal + Threads + Sync>(
+fn answered<R: SystemFiles + WholeFiles + Eprint + Clock + AllocGlobal + Threads + Sync>(
     rt: &R,
     telling: Telling<'_>,
     opened: &Opened,
@@ -82,7 +81,7 @@ fn answered<R: Files + WholeFiles + Eprint + Clock + AllocGlobal + Threads + Syn
 }
 
 /// Tells how a step went that began at `begun`, and prints the lines of its answer.
-fn print_answer<R: Files + Print + Eprint + Clock + AllocGlobal>(
+fn print_answer<R: SystemFiles + Print + Eprint + Clock + AllocGlobal>(
     rt: &R,
     telling: Telling<'_>,
     step: &str,
@@ -96,7 +95,7 @@ fn print_answer<R: Files + Print + Eprint + Clock + AllocGlobal>(
 /// Compacts a level of a folder, or all of them one after the other. The folder is synced first, so
 /// that what is read of it outlives a crash.
 pub(crate) fn compact_folder<
-    R: Files + WholeFiles + Print + Eprint + Clock + AllocGlobal + Threads + Sync,
+    R: SystemFiles + WholeFiles + Print + Eprint + Clock + AllocGlobal + Threads + Sync,
 >(rt: &R, telling: Telling<'_>, levels: Levels, settings: &CompactSettings) -> Result<(), Fault> {
     sync(rt, telling)?;
     let opened = begin_work(rt, telling)?;
@@ -107,7 +106,7 @@ pub(crate) fn compact_folder<
 }
 
 /// Compacts a level of a folder.
-fn compact_one<R: Files + WholeFiles + Print + Eprint + Clock + AllocGlobal + Threads + Sync>(
+fn compact_one<R: SystemFiles + WholeFiles + Print + Eprint + Clock + AllocGlobal + Threads + Sync>(
     rt: &R,
     telling: Telling<'_>,
     opened: &Opened,
@@ -130,7 +129,7 @@ fn compact_one<R: Files + WholeFiles + Print + Eprint + Clock + AllocGlobal + Th
 
 /// Compacts the first level that has a file, again and again, until all files are at the bottom.
 /// What the folder is opened as after a compaction is where the next one starts.
-fn compact_all<R: Files + WholeFiles + Print + Eprint + Clock + AllocGlobal + Threads + Sync>(
+fn compact_all<R: SystemFiles + WholeFiles + Print + Eprint + Clock + AllocGlobal + Threads + Sync>(
     rt: &R,
     telling: Telling<'_>,
     first: Opened,
@@ -148,7 +147,9 @@ fn compact_all<R: Files + WholeFiles + Print + Eprint + Clock + AllocGlobal + Th
 }
 
 /// Compacts a level of a folder, and answers what the folder is opened as after it.
-fn compact_step<R: Files + WholeFiles + Print + Eprint + Clock + AllocGlobal + Threads + Sync>(
+fn compact_step<
+    R: SystemFiles + WholeFiles + Print + Eprint + Clock + AllocGlobal + Threads + Sync,
+>(
     rt: &R,
     telling: Telling<'_>,
     opened: &Opened,
@@ -167,7 +168,7 @@ fn compact_step<R: Files + WholeFiles + Print + Eprint + Clock + AllocGlobal + T
 }
 
 /// Syncs a folder, so that what is read of it from then on outlives a crash.
-fn sync<R: Files + Eprint + Clock + AllocGlobal>(
+fn sync<R: SystemFiles + Eprint + Clock + AllocGlobal>(
     rt: &R,
     telling: Telling<'_>,
 ) -> Result<(), Fault> {
@@ -180,7 +181,7 @@ fn sync<R: Files + Eprint + Clock + AllocGlobal>(
 }
 
 /// What a folder is opened as. A refusal is told.
-fn open_folder<R: Files + Eprint + Clock + AllocGlobal>(
+fn open_folder<R: SystemFiles + Eprint + Clock + AllocGlobal>(
     rt: &R,
     telling: Telling<'_>,
 ) -> Result<Opened, Fault> {
@@ -192,12 +193,17 @@ fn open_folder<R: Files + Eprint + Clock + AllocGlobal>(
 }
 
 /// What a folder is opened as. Nothing is told of a refusal.
-fn open_quietly<R: Files + AllocGlobal>(rt: &R, telling: Telling<'_>) -> Result<Opened, Fault> {
+fn open_quietly<R: SystemFiles + AllocGlobal>(
+    rt: &R,
+    telling: Telling<'_>,
+) -> Result<Opened, Fault> {
     open(rt.alloc(), &mut Disk::new(rt, telling.folder))
 }
 
 /// Compacts a level of a folder, and prints what was made.
-fn compact_level<R: Files + WholeFiles + Print + Eprint + Clock + AllocGlobal + Threads + Sync>(
+fn compact_level<
+    R: SystemFiles + WholeFiles + Print + Eprint + Clock + AllocGlobal + Threads + Sync,
+>(
     rt: &R,
     telling: Telling<'_>,
     opened: &Opened,
@@ -211,7 +217,7 @@ fn compact_level<R: Files + WholeFiles + Print + Eprint + Clock + AllocGlobal + 
 }
 
 /// Compacts a level of a folder.
-fn compacted<R: Files + WholeFiles + Eprint + Clock + AllocGlobal + Threads + Sync>(
+fn compacted<R: SystemFiles + WholeFiles + Eprint + Clock + AllocGlobal + Threads + Sync>(
     rt: &R,
     telling: Telling<'_>,
     opened: &Opened,
@@ -237,7 +243,7 @@ fn compacted<R: Files + WholeFiles + Eprint + Clock + AllocGlobal + Threads + Sy
 
 /// The folder at a path, with its version's tables read ahead by several threads. A table that
 /// can't be read ahead is read when it is asked for.
-fn read_ahead<'r, R: Files + WholeFiles + AllocGlobal + Threads>(
+fn read_ahead<'r, R: SystemFiles + WholeFiles + AllocGlobal + Threads>(
     rt: &'r R,
     path: &'r str,
     opened: &Opened,
@@ -249,7 +255,7 @@ fn read_ahead<'r, R: Files + WholeFiles + AllocGlobal + Threads>(
 
 /// Tells the account of the compaction of a level, from what the folder was opened as before it and
 /// after it. If it can't be told, nothing else changes.
-fn explain<R: Files + Eprint + AllocGlobal>(
+fn explain<R: SystemFiles + Eprint + AllocGlobal>(
     rt: &R,
     folder: &str,
     before: &Opened,
@@ -269,7 +275,7 @@ fn explain<R: Files + Eprint + AllocGlobal>(
 }
 
 /// The lines of that account.
-fn explanation<R: Files + AllocGlobal>(
+fn explanation<R: SystemFiles + AllocGlobal>(
     rt: &R,
     folder: &str,
     before: &Opened,

@@ -5,7 +5,7 @@ use crate::folder_work::{compact_folder, print_lines, print_value, print_verdict
 use crate::reporter::Telling;
 use coding::{Fault, FaultName};
 use commands::{dump, status};
-use folder::WholeFiles;
+use folder::{SystemFiles, WholeFiles};
 use pairing::blocks;
 use std::env::Env;
 use std::io::ErrorKind;
@@ -29,10 +29,9 @@ const USAGE: u8 = 2;
 /// - If nothing can be written to the standard error, the status is the same.
 /// - The work on a folder is told on the standard error as `-v` asks. If `is_watched`, as a
 ///   terminal is, long work shows a line of progress there.
-pub fn run<R: Env + Files + WholeFiles + Print + Eprint + Clock + AllocGlobal + Threads + Sync>(
-    rt: &R,
-    is_watched: bool,
-) -> u8 {
+pub fn run<
+    R: Env + SystemFiles + WholeFiles + Print + Eprint + Clock + AllocGlobal + Threads + Sync,
+>(rt: &R, is_watched: bool) -> u8 {
     let words = match words_given(rt) {
         Ok(words) => words,
         Err(error) if error.kind() == ErrorKind::InvalidData => {
@@ -56,7 +55,7 @@ fn words_given<R: Env + AllocGlobal>(rt: &R) -> io::Result<Vec<String>> {
 }
 
 /// Does what a command line asks for.
-fn carry_out<R: Files + WholeFiles + Print + Eprint + Clock + AllocGlobal + Threads + Sync>(
+fn carry_out<R: SystemFiles + WholeFiles + Print + Eprint + Clock + AllocGlobal + Threads + Sync>(
     rt: &R,
     line: Line<'_>,
     is_watched: bool,

@@ -6,8 +6,7 @@ use crate::explanations::in_words;
 use coding::{Fault, FaultName};
 use diagnostics::{log_with_writes, refused_file};
 use edit::Version;
-use folder::Disk;
-use std::rt::Files;
+use folder::{Disk, SystemFiles};
 use std::time::{Clock, Instant};
 
 /// What is to be told of the work on a folder. If it can't be told, nothing else changes.
@@ -46,7 +45,7 @@ impl<'a> Telling<'a> {
     }
 
     /// Tells how long a step took if it was done, else which file was refused and why.
-    pub fn end<R: Files + Eprint + Clock + AllocGlobal, T>(
+    pub fn end<R: SystemFiles + Eprint + Clock + AllocGlobal, T>(
         self,
         rt: &R,
         step: &str,
@@ -63,7 +62,7 @@ impl<'a> Telling<'a> {
     }
 
     /// Tells of the log that the folder's version names, if it has writes that are in no table.
-    pub fn tell_log<R: Files + Eprint + AllocGlobal>(self, rt: &R, version: &Version) {
+    pub fn tell_log<R: SystemFiles + Eprint + AllocGlobal>(self, rt: &R, version: &Version) {
         if !self.is_on {
             return;
         }
@@ -76,7 +75,7 @@ impl<'a> Telling<'a> {
     }
 
     /// Tells why the work was refused, and at which file.
-    fn tell_refusal<R: Files + Eprint + AllocGlobal>(self, rt: &R, fault: &Fault) {
+    fn tell_refusal<R: SystemFiles + Eprint + AllocGlobal>(self, rt: &R, fault: &Fault) {
         match refused_file(rt.alloc(), &mut Disk::new(rt, self.folder)) {
             Ok(Some(file)) if explains(&file.fault, fault) => {
                 let (name, words) = (file.name, in_words(file.fault.name));

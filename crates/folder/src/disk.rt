@@ -2,20 +2,24 @@
 
 ghost use Rattle.std.specs.Prelude.{◌≡◌, [], ◌∷◌, ◌++◌};
 ghost use Rattle.folder.specs.Calls.{step_of};
-ghost use Rattle.folder.specs.Folder.{failures_after};
+ghost use Rattle.folder.specs.Folder.{failures_after, one_more};
 ghost use Rattle.folder.specs.Attempts.{call_in};
 
+use crate::failure::{Failure, FolderCall};
 use crate::folder::{Folder, FolderFault};
+use crate::kept::Kept;
 use crate::order::Order;
 use crate::system::{done_in, read_in};
-use crate::table_loader::tables_ahead;
+use crate::system_files::SystemFiles;
+use crate::table_loader::{files_due, numbers_in, tables_ahead};
+use crate::table_sizes::check_sizes_in;
 use crate::trail::{Attempt, Trail, WriteCall};
-use crate::whole_files::{Ahead, WholeFiles, read_all, take};
+use crate::whole_files::{Ahead, WholeFiles, read_all, sync_all, take};
+use coding::Fault;
 use edit::Version;
 use std::io;
 use std::io::ErrorKind;
 use std::marker::Model;
-use std::rt::Files;
 use std::thread::Threads;
 
 /// A folder of the system, at a path. It tells contracts nothing of what it holds.
@@ -29,6 +33,8 @@ pub struct Disk<'r, R> {
     trail: Trail,
     /// Tables that were read before they are asked for. The next one asked for is last.
     ahead: Vec<Ahead>,
+    kept: Kept,
+    last_failure: Option<Failure>,
 }
 
 impl<'r, R> Model for Disk<'r, R> {
@@ -39,7 +45,7 @@ impl<'r, R> Model for Disk<'r, R> {
     ghost view = { λ d. record { trail = d.trail.steps; failures = d.failures } };
 }
 
-impl<'r, R: Files + AllocGlobal> Disk<'r, R> {
+impl<'r, R: SystemFiles + AllocGlobal> Disk<'r, R> {
     /// The folder at `path`. No call of it has failed yet, and nothing is read.
     pub fn new(rt: &'r R, path: &'r str) -> Disk<'r, R>
         ensures failed { ⟦<Disk<'r, R> as Folder>⟧.failed result ≡ 0 }
@@ -51,11 +57,32 @@ impl<'r, R: Files + AllocGlobal> Disk<'r, R> {
             failures: 0,
             trail: Trail::new(),
             ahead: Vec::new(rt.alloc()),
+            kept: Kept::new(rt.alloc()),
+            last_failure: None,
         }
+    }
+
+    /// Tests the sizes of the tables of `version` before [`load`](crate::load) reads them.
+    ///
+    /// - Missing: a table is missing.
+    /// - TooLarge: none is, and a table has more than 2^30 bytes.
+    /// - Memory: out of memory.
+    ///
+    /// Tables from the first on that the system tells nothing of are not tested, since loading
+    /// fails there.
+    pub fn check_sizes(&self, order: Order, version: &Version) -> Result<(), Fault> {
+        let alloc = self.rt.alloc();
+        let numbers = numbers_in(alloc, order, version)?;
+        check_sizes_in(self.rt, alloc, self.path, &numbers)
+    }
+
+    /// The newest call that failed by the device. None if none did.
+    pub fn last_failure(&self) -> Option<&Failure> {
+        self.last_failure.as_ref()
     }
 }
 
-impl<'r, R: Files + AllocGlobal + WholeFiles + Threads> Disk<'r, R> {
+impl<'r, R: SystemFiles + WholeFiles + AllocGlobal + Threads> Disk<'r, R> {
     /// Reads the tables of `version` by several threads, before [`load`](crate::load) asks for them
     /// in `order`.
     ///
@@ -73,9 +100,28 @@ impl<'r, R: Files + AllocGlobal + WholeFiles + Threads> Disk<'r, R> {
             self.ahead = files;
         }
     }
+
+    /// Syncs the files of `version` by several threads, before [`Folder::sync`] of them is asked
+    /// for: CURRENT, the manifest of the number `manifest`, and each table, under its older name if
+    /// it has only that.
+    ///
+    /// A later sync of such a file makes no call, until a file is made or renamed. A file that
+    /// can't be synced now, for whatever reason, is synced when that is asked for.
+    pub fn sync_ahead(&mut self, order: Order, version: &Version, manifest: u64)
+        ensures failed { ⟦<Disk<'r, R> as Folder>⟧.failed self.new
+            ≡ ⟦<Disk<'r, R> as Folder>⟧.failed self.old }
+        ensures calls { ⟦<Disk<'r, R> as Folder>⟧.calls self.new
+            ≡ ⟦<Disk<'r, R> as Folder>⟧.calls self.old }
+    {
+        let alloc = self.rt.alloc();
+        if let Ok(mut files) = files_due(alloc, order, version, manifest) {
+            sync_all(self.rt, alloc, self.path, &mut files);
+            self.kept.keep_ahead(files);
+        }
+    }
 }
 
-impl<'r, R: Files + AllocGlobal> Folder for Disk<'r, R> {
+impl<'r, R: SystemFiles + AllocGlobal> Folder for Disk<'r, R> {
     ghost tells = { λ _ _ _. Unit {0} };
 
     ghost calls = { λ disk. disk.trail };
@@ -87,7 +133,7 @@ impl<'r, R: Files + AllocGlobal> Folder for Disk<'r, R> {
             return Ok(Some(bytes));
         }
         let answer = read_in(self.rt, self.rt.alloc(), self.path, name);
-        self.counted(answer)
+        self.counted(answer, FolderCall::Read, name)
     }
 
     fn create(&mut self, name: &str, bytes: &[u8]) -> Result<(), FolderFault> {
@@ -113,7 +159,7 @@ impl<'r, R: Files + AllocGlobal> Folder for Disk<'r, R> {
     }
 }
 
-impl<'r, R: Files + AllocGlobal> Disk<'r, R> {
+impl<'r, R: SystemFiles + AllocGlobal> Disk<'r, R> {
     /// The bytes of a table that were read ahead. None of any other file.
     fn taken_ahead(&mut self, name: &str) -> Option<Vec<u8>>
         ensures failures { self.new.failures ≡ self.old.failures }
@@ -126,17 +172,23 @@ impl<'r, R: Files + AllocGlobal> Disk<'r, R> {
         }
     }
 
-    /// What a call of the system answered. A failure other than out of memory is `Device`, and is
-    /// counted.
-    fn counted<T>(&mut self, answer: io::Result<T>) -> Result<T, FolderFault>
+    /// What a call of the system answered, on the file of this `name`. A failure other than out of
+    /// memory is `Device`, is counted, and is the last one from then on.
+    fn counted<T>(
+        &mut self,
+        answer: io::Result<T>,
+        call: FolderCall,
+        name: &str,
+    ) -> Result<T, FolderFault>
         ensures failures { self.new.failures ≡ failures_after self.old.failures result }
         ensures trail { self.new.trail ≡ self.old.trail }
     {
         match answer {
             Ok(value) => Ok(value),
             Err(error) if error.kind() == ErrorKind::OutOfMemory => Err(FolderFault::Memory),
-            Err(_) => {
-                self.failures = self.failures.saturating_add(1);
+            Err(error) => {
+                self.failures = one_more(self.failures);
+                self.last_failure = Some(Failure::new(self.rt.alloc(), call, name, error));
                 Err(FolderFault::Device)
             }
         }
@@ -148,10 +200,18 @@ impl<'r, R: Files + AllocGlobal> Disk<'r, R> {
             ++ step_of (call_in call.entry) result ∷ [] }
         ensures failures { self.new.failures ≡ failures_after self.old.failures result }
     {
-        let done = done_in(self.rt, self.rt.alloc(), self.path, call);
-        let answer = self.counted(done);
+        let done = done_in(self.rt, self.rt.alloc(), self.path, &mut self.kept, call);
+        let (kind, name) = call.told();
+        let answer = self.counted(done, kind, name);
         let is_done = answer.is_ok();
         self.trail = self.trail.then(&Attempt { call, is_done });
         answer
     }
+}
+
+/// One failure more.
+fn one_more(failures: u64) -> u64
+    ensures { result ≡ one_more failures }
+{
+    failures.saturating_add(1)
 }

@@ -84,7 +84,8 @@ pub trait Folder {
             (tells self.new) }
         ensures failures { failed self.new ≡ failures_after (failed self.old) result };
 
-    /// Writes a file's bytes through to the device.
+    /// Writes a file's bytes through to the device. If no file has this name, nothing is written, and
+    /// that is no failure.
     fn sync(&mut self, name: &str) -> Result<(), FolderFault>
         ensures calls { calls self.new ≡ calls self.old ++ step_of (Synced name.now) result ∷ [] }
         ensures change { TellsAfter (step_of (Synced name.now) result) (tells self.old)

@@ -1,7 +1,7 @@
 //! The lock of a folder: the one that LevelDB takes, on the whole of its file LOCK.
 
 use crate::owned::new_file;
-use crate::system_files::{SystemFiles, regular};
+use crate::system_files::{SystemFiles, opened, regular};
 use crate::whole_files::path_in;
 use coding::{Fault, FaultName};
 use os::RangeLock;
@@ -9,6 +9,7 @@ use std::alloc::Global;
 use std::fs::{File, OpenOptions};
 use std::io;
 use std::io::ErrorKind;
+use std::os::fd::AsRawFd;
 
 /// The file whose lock stands for the folder.
 const LOCK: &str = "LOCK";
@@ -21,13 +22,6 @@ const NO_LOCKS: i32 = 37;
 pub struct FolderLock {
     /// The lock ends as the file is closed.
     _file: File,
-}
-
-impl FolderLock {
-    /// The lock that this open file holds.
-    pub(crate) fn of(file: File) -> FolderLock {
-        FolderLock { _file: file }
-    }
 }
 
 /// Locks the folder at `path` against every other program that reads or changes it as LevelDB does,
@@ -72,32 +66,42 @@ fn locked_to_change<R: SystemFiles>(rt: &R, alloc: Global, folder: &str) -> io::
     let file = match regular(rt, path.as_str()) {
         Err(error) if error.kind() == ErrorKind::NotFound => made(rt, alloc, folder, path.as_str()),
         Err(error) => Err(error),
-        Ok(_) => opened(rt, path.as_str(), true),
+        Ok(_) => opened(rt, &to_write(), path.as_str()),
     }?;
-    rt.lock(file, RangeLock::Exclusive)
+    locked(file, RangeLock::Exclusive)
 }
 
 fn locked_to_read<R: SystemFiles>(rt: &R, alloc: Global, folder: &str) -> io::Result<FolderLock> {
     let path = path_in(alloc, folder, LOCK)?;
     regular(rt, path.as_str())?;
-    rt.lock(opened(rt, path.as_str(), false)?, RangeLock::Shared)
+    let mut how = OpenOptions::new();
+    how.read(true);
+    locked(opened(rt, &how, path.as_str())?, RangeLock::Shared)
 }
 
 /// LOCK, made unless another program has just done so.
-fn made<R: SystemFiles>(rt: &R, alloc: Global, folder: &str, path: &str) -> io::Result<R::File> {
+fn made<R: SystemFiles>(rt: &R, alloc: Global, folder: &str, path: &str) -> io::Result<File> {
     match new_file(rt, alloc, folder, LOCK) {
-        Err(error) if error.kind() == ErrorKind::AlreadyExists => opened(rt, path, true),
+        Err(error) if error.kind() == ErrorKind::AlreadyExists => opened(rt, &to_write(), path),
         answer => answer,
     }
 }
 
-/// The file at a path, open for reading, and for writing too if so asked.
-fn opened<R: SystemFiles>(rt: &R, path: &str, is_written: bool) -> io::Result<R::File> {
-    let file = OpenOptions::new()
-        .read(true)
-        .write(is_written)
-        .open(rt, path)?;
-    rt.apart(file)
+/// How LOCK is opened for a lock that others can't share.
+fn to_write() -> OpenOptions {
+    let mut how = OpenOptions::new();
+    how.read(true).write(true);
+    how
+}
+
+/// Locks the whole of a file, from its first byte to the last that it can have. WouldBlock if
+/// another's lock is in the way.
+fn locked(file: File, kind: RangeLock) -> io::Result<FolderLock> {
+    if os::try_lock_range(file.as_raw_fd(), kind, 0, i64::MAX as u64) == 0 {
+        Ok(FolderLock { _file: file })
+    } else {
+        Err(io::Error::from_raw_os_error(os::errno()))
+    }
 }
 
 /// Whether there is no lock to take: no file, none that may be opened, or a system without locks.

@@ -7,8 +7,15 @@
 //! 3. [`load`] gives the tables of a version.
 //! 4. [`table_name`] and its neighbours give the names of files.
 //!
-//! `Disk`: create is `fs::write`, sync is `sync_all` of the file, rename is `fs::rename`,
-//! sync_folder is `sync_all` of the folder. A `Disk` tells contracts nothing of what it holds.
+//! What a `Disk` does. It tells contracts nothing of what it holds.
+//!
+//! - read: what is no regular file, or has more than 2^30 bytes, is Device, and isn't read.
+//! - create: the name is removed, and a new file is made of the bytes. So no file that is there is
+//!   written to, be it through a link. The new one gets the permissions of CURRENT, and its owner
+//!   and group if the program may set them.
+//! - sync: `sync_all`, through the handle that made the file, or else under its name.
+//! - rename is `fs::rename`, sync_folder is `sync_all` of the folder.
+//! - [`lock_to_change`] and [`lock_to_read`] keep out others that lock the folder as LevelDB does.
 //!
 //! The crash model (`specs/Calls.antt`, `specs/Crash.antt`). That a device keeps to it is a
 //! premise:
@@ -24,9 +31,11 @@
 mod current_version;
 mod disk;
 mod edits;
+mod failure;
 mod folder;
 mod folder_answer_laws;
 mod folder_lock;
+mod kept;
 mod names;
 mod order;
 mod owned;
@@ -35,11 +44,13 @@ mod shelf_step;
 mod system;
 mod system_files;
 mod table_loader;
+mod table_sizes;
 mod trail;
 mod whole_files;
 
 pub use current_version::{Opened, open};
 pub use disk::Disk;
+pub use failure::{Failure, FolderCall};
 pub use folder::{Folder, FolderFault};
 pub use folder_answer_laws::{crash_laws, folder_laws, reading_laws};
 pub use folder_lock::{FolderLock, lock_to_change, lock_to_read};
@@ -51,5 +62,5 @@ pub use order::Order;
 pub use shelf::{Failing, Shelf};
 pub use shelf_step::{ShelfCall, ShelfStep};
 pub use system_files::SystemFiles;
-pub use table_loader::load;
+pub use table_loader::{file_numbers, load};
 pub use whole_files::WholeFiles;

@@ -1,12 +1,12 @@
 //! New files of a folder, which belong to whom its CURRENT belongs.
 
 use crate::names::CURRENT;
-use crate::system_files::SystemFiles;
+use crate::system_files::{SystemFiles, opened};
 use crate::whole_files::path_in;
 use std::alloc::Global;
-use std::fs::{OpenFile, OpenOptions, Permissions};
+use std::fs::{File, OpenOptions, Permissions};
 use std::io::ErrorKind;
-use std::os::unix::fs::{MetadataExt, OpenOptionsExt, PermissionsExt};
+use std::os::unix::fs::{MetadataExt, OpenOptionsExt, PermissionsExt, fchown};
 use std::{fs, io};
 
 /// The bits of a mode that say who may read, write and run a file.
@@ -33,7 +33,7 @@ pub(crate) fn new_file<R: SystemFiles>(
     alloc: Global,
     folder: &str,
     name: &str,
-) -> io::Result<R::File> {
+) -> io::Result<File> {
     let path = path_in(alloc, folder, name)?;
     let access = access_in(rt, alloc, folder)?;
     let mut options = OpenOptions::new();
@@ -41,9 +41,9 @@ pub(crate) fn new_file<R: SystemFiles>(
     if let Some(access) = access {
         options.mode(access.mode & OF_OWNER);
     }
-    let file = rt.apart(options.open(rt, path.as_str())?)?;
+    let file = opened(rt, &options, path.as_str())?;
     if let Some(access) = access {
-        give(rt, &file, access)?;
+        give(&file, access)?;
     }
     Ok(file)
 }
@@ -63,9 +63,9 @@ fn access_in<R: SystemFiles>(rt: &R, alloc: Global, folder: &str) -> io::Result<
 }
 
 /// Gives a file this access. If the program may not set its owner or its group, they stay.
-fn give<R: SystemFiles>(rt: &R, file: &R::File, access: Access) -> io::Result<()> {
-    let _ = rt.give(file, None, Some(access.group));
-    let _ = rt.give(file, Some(access.owner), None);
+fn give(file: &File, access: Access) -> io::Result<()> {
+    let _ = fchown(file, None, Some(access.group));
+    let _ = fchown(file, Some(access.owner), None);
     if file.metadata()?.mode() & PERMISSIONS == access.mode {
         return Ok(());
     }

@@ -1,12 +1,18 @@
 //! The calls of a folder of the system, as the system answers them.
 
+use crate::kept::Kept;
+use crate::owned::new_file;
+use crate::system_files::{SystemFiles, regular};
 use crate::trail::WriteCall;
-use crate::whole_files::{path_in, whole};
+use crate::whole_files::{path_in, synced, whole};
 use std::alloc::Global;
-use std::fs::{File, OpenFile, OpenOptions};
-use std::io::ErrorKind;
+use std::fs::{File, OpenFile};
+use std::io::{ErrorKind, Write};
 use std::rt::Files;
 use std::{fs, io};
+
+/// The most bytes that a file may have to be read: 2^30.
+pub(crate) const MOST_BYTES: u64 = 1 << 30;
 
 /// The bytes of a file. None if no file has this `name`.
 pub(crate) fn read_in<R: Files>(
@@ -23,48 +29,108 @@ pub(crate) fn read_in<R: Files>(
     }
 }
 
-/// Makes a call that writes.
-pub(crate) fn done_in<R: Files>(
-    rt: &R,
-    alloc: Global,
-    folder: &str,
-    call: WriteCall<'_>,
-) -> io::Result<()> {
-    match call {
-        WriteCall::Create(name, bytes) => create_in(rt, alloc, folder, name, bytes),
-        WriteCall::Sync(name) => sync_in(rt, alloc, folder, name),
-        WriteCall::Rename(from, to) => rename_in(rt, alloc, folder, from, to),
-        WriteCall::SyncFolder => File::open(rt, folder)?.sync_all(),
-    }
-}
-
-fn create_in<R: Files>(
+/// The length of a file in bytes. None if no file has this `name`.
+pub(crate) fn length_in<R: Files>(
     rt: &R,
     alloc: Global,
     folder: &str,
     name: &str,
-    bytes: &[u8],
-) -> io::Result<()> {
+) -> io::Result<Option<u64>> {
     let path = path_in(alloc, folder, name)?;
-    fs::write(rt, path.as_str(), bytes)
+    match regular(rt, path.as_str()) {
+        Ok(found) => Ok(Some(found.len())),
+        Err(error) if error.kind() == ErrorKind::NotFound => Ok(None),
+        Err(error) => Err(error),
+    }
 }
 
-fn sync_in<R: Files>(rt: &R, alloc: Global, folder: &str, name: &str) -> io::Result<()> {
+/// Makes a call that writes.
+pub(crate) fn done_in<R: SystemFiles>(
+    rt: &R,
+    alloc: Global,
+    folder: &str,
+    kept: &mut Kept,
+    call: WriteCall<'_>,
+) -> io::Result<()> {
+    match call {
+        WriteCall::Create(name, bytes) => create_in(rt, alloc, folder, kept, name, bytes),
+        WriteCall::Sync(name) => sync_in(rt, alloc, folder, kept, name),
+        WriteCall::Rename(from, to) => rename_in(rt, alloc, folder, kept, from, to),
+        WriteCall::SyncFolder => sync_folder(rt, folder),
+    }
+}
+
+/// Makes a file anew, and keeps it open. What had its name before keeps its bytes, if it has
+/// another name or is open elsewhere.
+fn create_in<R: SystemFiles>(
+    rt: &R,
+    alloc: Global,
+    folder: &str,
+    kept: &mut Kept,
+    name: &str,
+    bytes: &[u8],
+) -> io::Result<()> {
+    kept.forget_ahead();
+    drop(kept.taken(name));
+    remove_in(rt, alloc, folder, name)?;
+    let mut file = new_file(rt, alloc, folder, name)?;
+    file.write_all(bytes)?;
+    kept.keep(name, file)?;
+    Ok(())
+}
+
+/// Removes a name, if it is there.
+fn remove_in<R: Files>(rt: &R, alloc: Global, folder: &str, name: &str) -> io::Result<()> {
     let path = path_in(alloc, folder, name)?;
-    OpenOptions::new()
-        .write(true)
-        .open(rt, path.as_str())?
-        .sync_all()
+    match fs::remove_file(rt, path.as_str()) {
+        Err(error) if error.kind() == ErrorKind::NotFound => Ok(()),
+        answer => answer,
+    }
+}
+
+/// Syncs a file: by the handle that it was made with, or else under its name. If no file has the
+/// name, nothing is done.
+fn sync_in<R: Files>(
+    rt: &R,
+    alloc: Global,
+    folder: &str,
+    kept: &mut Kept,
+    name: &str,
+) -> io::Result<()> {
+    if let Some(file) = kept.taken(name) {
+        return file.sync_all();
+    }
+    if kept.is_synced(name) {
+        return Ok(());
+    }
+    let path = path_in(alloc, folder, name)?;
+    match synced(rt, path.as_str()) {
+        Err(error) if error.kind() == ErrorKind::NotFound => Ok(()),
+        answer => answer,
+    }
 }
 
 fn rename_in<R: Files>(
     rt: &R,
     alloc: Global,
     folder: &str,
+    kept: &mut Kept,
     from: &str,
     to: &str,
 ) -> io::Result<()> {
+    kept.forget_ahead();
+    drop(kept.taken(from));
+    drop(kept.taken(to));
     let from = path_in(alloc, folder, from)?;
     let to = path_in(alloc, folder, to)?;
     fs::rename(rt, from.as_str(), to.as_str())
+}
+
+/// Syncs a folder. What is no folder isn't opened: that may block.
+fn sync_folder<R: Files>(rt: &R, folder: &str) -> io::Result<()> {
+    if fs::metadata(rt, folder)?.is_dir() {
+        File::open(rt, folder)?.sync_all()
+    } else {
+        Err(ErrorKind::NotADirectory.into())
+    }
 }

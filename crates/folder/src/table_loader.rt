@@ -10,7 +10,8 @@ ghost use Rattle.folder.specs.Reports.{OnlyReads, ReportsDevice};
 
 use crate::current_version::held;
 use crate::folder::Folder;
-use crate::names::{old_table_name, table_name};
+use crate::kept::Due;
+use crate::names::{CURRENT, manifest_name, old_table_name, table_name};
 use crate::order::Order;
 use crate::whole_files::Ahead;
 use coding::{Fault, FaultName};
@@ -48,16 +49,53 @@ pub(crate) fn tables_ahead(
     order: Order,
     version: &Version,
 ) -> Result<Vec<Ahead>, Fault> {
-    let numbers = match order {
-        Order::Bytewise => file_numbers::<Bytewise>(alloc, version)?,
-        Order::Shortlex => file_numbers::<Shortlex>(alloc, version)?,
-    };
+    let numbers = numbers_in(alloc, order, version)?;
     let mut files = Vec::with_capacity(alloc, numbers.len())?;
     for number in numbers.iter().rev() {
         let name = table_name(alloc, *number)?;
         files.push(Ahead { name, bytes: None })?;
     }
     Ok(files)
+}
+
+/// The files on which a version rests: CURRENT, the `manifest` of that number, and each table under
+/// its first name, or its older one. None is synced yet.
+pub(crate) fn files_due(
+    alloc: Global,
+    order: Order,
+    version: &Version,
+    manifest: u64,
+) -> Result<Vec<Due>, Fault> {
+    let numbers = numbers_in(alloc, order, version)?;
+    let mut files = Vec::with_capacity(alloc, numbers.len().saturating_add(2))?;
+    files.push(due(String::from_str(alloc, CURRENT)?, None))?;
+    files.push(due(manifest_name(alloc, manifest)?, None))?;
+    for number in numbers.iter() {
+        let older = old_table_name(alloc, *number)?;
+        files.push(due(table_name(alloc, *number)?, Some(older)))?;
+    }
+    Ok(files)
+}
+
+/// A file that is not synced yet.
+fn due(name: String, older: Option<String>) -> Due {
+    Due {
+        name,
+        older,
+        is_synced: false,
+    }
+}
+
+/// The numbers of a version's files in an order, as [`load`] asks for their tables.
+pub(crate) fn numbers_in(
+    alloc: Global,
+    order: Order,
+    version: &Version,
+) -> Result<Vec<u64>, Fault> {
+    match order {
+        Order::Bytewise => file_numbers::<Bytewise>(alloc, version),
+        Order::Shortlex => file_numbers::<Shortlex>(alloc, version),
+    }
 }
 
 /// The tables of these `numbers`, in order.
@@ -95,8 +133,9 @@ fn table<F: Folder>(alloc: Global, folder: &mut F, number: u64) -> Result<Vec<u8
     }
 }
 
-/// The numbers of a version's files: by level, and in each level in version order.
-fn file_numbers<C: Comparator>(alloc: Global, version: &Version) -> Result<Vec<u64>, Fault>
+/// The numbers of a version's files: by level, and in each level in version order. The only fault is
+/// Memory.
+pub fn file_numbers<C: Comparator>(alloc: Global, version: &Version) -> Result<Vec<u64>, Fault>
     ensures { EqualOrMemory (λ v. v.items) result (Ok (file_numbers C.cmp version.now)) }
 {
     let mut numbers = Vec::new(alloc);

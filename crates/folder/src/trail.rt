@@ -4,6 +4,7 @@ ghost use Rattle.std.specs.Prelude.{◌≡◌, List, [], ◌∷◌, ◌++◌};
 ghost use Rattle.std.specs.Borrow.{ftrue};
 ghost use Rattle.folder.specs.Calls.{Step};
 
+use crate::failure::FolderCall;
 use std::marker::Model;
 
 /// The calls so far. A proof's value: it takes no memory, and nothing is done with it at run time.
@@ -30,6 +31,18 @@ pub enum WriteCall<'a> {
 pub struct Attempt<'a> {
     pub call: WriteCall<'a>,
     pub is_done: bool,
+}
+
+impl<'a> WriteCall<'a> {
+    /// Which call it is, and the name of its file. The name is empty of the folder.
+    pub fn told(self) -> (FolderCall, &'a str) {
+        match self {
+            WriteCall::Create(name, _) => (FolderCall::Create, name),
+            WriteCall::Sync(name) => (FolderCall::Sync, name),
+            WriteCall::Rename(from, _) => (FolderCall::Rename, from),
+            WriteCall::SyncFolder => (FolderCall::SyncFolder, ""),
+        }
+    }
 }
 
 impl Trail {

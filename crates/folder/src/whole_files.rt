@@ -1,20 +1,28 @@
-//! Files of the system, read whole by several threads.
+//! Files of the system, read whole or synced by several threads.
 
+use crate::kept::Due;
+use crate::system::MOST_BYTES;
+use crate::system_files::regular;
 use std::alloc::{AllocError, Global};
 use std::fs::{File, OpenFile};
-use std::io::Read;
+use std::io::{ErrorKind, Read};
 use std::rt::Files;
 use std::thread::Threads;
 use std::{io, thread};
 
-/// The most threads that read. Why more than processors: they mostly wait for the system.
-const READERS: usize = 16;
+/// The most threads that read, or sync. Why more than processors: they mostly wait for the system.
+const THREADS: usize = 16;
 
-/// Files that are read whole, through a handle that threads share.
+/// Files that are read or synced whole, through a handle that threads share.
 pub trait WholeFiles: Send + Sync {
     /// The bytes of the file at `path`. The system's error if there is no such file, if it can't be
-    /// read, or if memory runs out.
+    /// read, or if memory runs out. Other if it is no regular file, FileTooLarge if it has more than
+    /// 2^30 bytes.
     fn whole(&self, alloc: Global, path: &str) -> io::Result<Vec<u8>>;
+
+    /// Writes the bytes of the file at `path` through to the device. The system's error if there is
+    /// no such file, or if it can't be synced. Other if it is no regular file.
+    fn synced(&self, path: &str) -> io::Result<()>;
 }
 
 /// A file that is read ahead.
@@ -29,16 +37,35 @@ impl WholeFiles for HostRuntime {
     fn whole(&self, alloc: Global, path: &str) -> io::Result<Vec<u8>> {
         whole(self, alloc, path)
     }
+
+    fn synced(&self, path: &str) -> io::Result<()> {
+        synced(self, path)
+    }
 }
 
 /// The bytes of the file at `path`. Memory is taken for its length and one byte more, so that it
 /// need not grow. Fails as [`WholeFiles::whole`] does.
 pub(crate) fn whole<R: Files>(rt: &R, alloc: Global, path: &str) -> io::Result<Vec<u8>> {
-    let mut file = File::open(rt, path)?;
-    let length = file.metadata()?.len() as usize;
-    let mut bytes = Vec::with_capacity(alloc, length.saturating_add(1))?;
-    file.read_to_end(&mut bytes)?;
+    regular(rt, path)?;
+    let file = File::open(rt, path)?;
+    let length = file.metadata()?.len();
+    if length > MOST_BYTES {
+        return Err(ErrorKind::FileTooLarge.into());
+    }
+    let mut bytes = Vec::with_capacity(alloc, (length as usize).saturating_add(1))?;
+    // A file that grows meanwhile is read no further.
+    file.take(MOST_BYTES + 1).read_to_end(&mut bytes)?;
+    if bytes.len() as u64 > MOST_BYTES {
+        return Err(ErrorKind::FileTooLarge.into());
+    }
     Ok(bytes)
+}
+
+/// Syncs the file at `path`. It is opened for reading, which suffices for that. Fails as
+/// [`WholeFiles::synced`] does.
+pub(crate) fn synced<R: Files>(rt: &R, path: &str) -> io::Result<()> {
+    regular(rt, path)?;
+    File::open(rt, path)?.sync_all()
 }
 
 /// Reads these files of a folder, each by one of several threads. One that can't be read stays
@@ -52,11 +79,41 @@ pub(crate) fn read_all<R: WholeFiles + Threads>(
     thread::for_each_mut(
         rt,
         files,
-        READERS,
+        THREADS,
         &|_, file| {
             file.bytes = bytes_in(rt, alloc, folder, file.name.as_str()).ok();
         },
     );
+}
+
+/// Syncs these files of a folder, each by one of several threads. One that can't be synced stays
+/// as not synced.
+pub(crate) fn sync_all<R: WholeFiles + Threads>(
+    rt: &R,
+    alloc: Global,
+    folder: &str,
+    files: &mut [Due],
+) {
+    thread::for_each_mut(
+        rt,
+        files,
+        THREADS,
+        &|_, due| sync_due(rt, alloc, folder, due),
+    );
+}
+
+/// Syncs a file of a folder, under its older name if no file has the first one.
+fn sync_due<R: WholeFiles>(rt: &R, alloc: Global, folder: &str, due: &mut Due) {
+    let answer = synced_in(rt, alloc, folder, due.name.as_str());
+    match answer {
+        Err(error) if error.kind() == ErrorKind::NotFound => {
+            if let Some(older) = due.older.take() {
+                due.is_synced = synced_in(rt, alloc, folder, older.as_str()).is_ok();
+                due.name = older;
+            }
+        }
+        _ => due.is_synced = answer.is_ok(),
+    }
 }
 
 /// Takes the bytes of the file of this `name`. Files are asked for from the last one on. Those that
@@ -84,4 +141,10 @@ pub(crate) fn path_in(alloc: Global, folder: &str, name: &str) -> Result<String,
 fn bytes_in<R: WholeFiles>(rt: &R, alloc: Global, folder: &str, name: &str) -> io::Result<Vec<u8>> {
     let path = path_in(alloc, folder, name)?;
     rt.whole(alloc, path.as_str())
+}
+
+/// Syncs the file of this `name` in a folder.
+fn synced_in<R: WholeFiles>(rt: &R, alloc: Global, folder: &str, name: &str) -> io::Result<()> {
+    let path = path_in(alloc, folder, name)?;
+    rt.synced(path.as_str())
 }

@@ -9,7 +9,6 @@ use ikey::{Bytewise, Shortlex};
 use std::alloc::Global;
 use std::fs;
 use std::process::Abort;
-use std::rt::Files;
 use std::test::Fail;
 use std::thread::Threads;
 
@@ -301,7 +300,7 @@ fn is_answered<F: Folder>(alloc: Global, disk: &mut F, version: &Version, trial:
 }
 
 /// Whether it has them after tables were read ahead. One handle reads, and another one writes.
-fn is_right_ahead<R: Files + WholeFiles + Threads + AllocGlobal>(
+fn is_right_ahead<R: SystemFiles + WholeFiles + Threads + AllocGlobal>(
     rt: &R,
     path: &str,
     trial: &Trial,
@@ -314,7 +313,7 @@ fn is_right_ahead<R: Files + WholeFiles + Threads + AllocGlobal>(
 }
 
 /// The same of the version that the trial's manifest gives.
-fn is_right_at<R: Files + WholeFiles + Threads + AllocGlobal>(
+fn is_right_at<R: SystemFiles + WholeFiles + Threads + AllocGlobal>(
     rt: &R,
     path: &str,
     trial: &Trial,
@@ -328,7 +327,7 @@ fn is_right_at<R: Files + WholeFiles + Threads + AllocGlobal>(
 /// Whether that holds in a folder that is made for it and then removed, with a folder in it if the
 /// trial has one. If the trial has no folder, whether it holds of the empty path and of one that
 /// leads nowhere.
-fn is_right_in<R: Files + WholeFiles + Threads + AllocGlobal>(
+fn is_right_in<R: SystemFiles + WholeFiles + Threads + AllocGlobal>(
     rt: &R,
     (path, inner): (&str, &str),
     trial: &Trial,

@@ -49,19 +49,19 @@ fn gets_its_name(disk: &mut impl Folder) -> bool {
         && disk.failures() == 0
 }
 
-/// Whether the system refuses calls on names without a file.
+/// Whether the system refuses calls on names without a file, but for a sync, which does nothing.
 fn refuses_names(disk: &mut impl Folder) -> bool {
-    disk.sync("1") == Err(FolderFault::Device)
+    disk.sync("1").is_ok()
         && disk.rename("1", "2") == Err(FolderFault::Device)
         // A folder is no file.
         && disk.read(".").is_err()
 }
 
-/// Whether the system refuses calls on a missing folder, and five calls were refused by then.
+/// Whether the system refuses calls on a missing folder, and four calls were refused by then.
 fn refuses_all(disk: &mut impl Folder) -> bool {
     disk.sync_folder() == Err(FolderFault::Device)
         && disk.create("1", b"text") == Err(FolderFault::Device)
-        && disk.failures() == 5
+        && disk.failures() == 4
 }
 
 /// Whether all of that holds in a folder of the system that is made for it, and is removed in

@@ -46,7 +46,7 @@ fn is_shared(rt: &HostRuntime, path: &str) -> bool {
     }
 }
 
-/// Whether both locks are refused of a folder, since LOCK is none or can't be made.
+/// Whether a folder can't be locked to be changed, since LOCK is no file or can't be made.
 fn is_none(rt: &HostRuntime, path: &str) -> bool {
     is_refused(lock_to_change(rt, rt.alloc(), path), FaultName::Device)
 }

@@ -13,4 +13,6 @@ mod folder_opening_tests;
 #[cfg(test)]
 mod folder_shelf_tests;
 #[cfg(test)]
+mod folder_system_tests;
+#[cfg(test)]
 mod install_tests;

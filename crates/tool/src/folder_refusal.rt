@@ -5,16 +5,15 @@ use crate::refusal::{Refusal, told};
 use crate::settings_refusal::settings_told;
 use coding::{Fault, FaultName};
 use diagnostics::{Detail, RefusedFile, refused_file};
-use folder::{CURRENT, Disk};
+use folder::{CURRENT, Disk, SystemFiles};
 use std::alloc::Global;
-use std::rt::Files;
 use texts::text_of;
 use usage::{CompactSettings, Levels};
 
 /// The refusal of a command on the folder at a path, with what is told of it: the first file that
 /// is refused, for which the folder is read again. It isn't read after Locked, Changed, Device and
 /// Memory, nor if it is known already what is told.
-pub(crate) fn explained<R: Files + AllocGlobal>(
+pub(crate) fn explained<R: SystemFiles + AllocGlobal>(
     rt: &R,
     folder: &str,
     refusal: Refusal,
@@ -29,7 +28,7 @@ pub(crate) fn explained<R: Files + AllocGlobal>(
 }
 
 /// The same of a compaction: a refusal of what was asked for is told without reading.
-pub(crate) fn compaction_explained<R: Files + AllocGlobal>(
+pub(crate) fn compaction_explained<R: SystemFiles + AllocGlobal>(
     rt: &R,
     folder: &str,
     levels: Levels,
@@ -58,7 +57,7 @@ fn is_of_no_file(name: FaultName) -> bool {
 
 /// What is told of the folder's first refused file, if it is refused by this name. None if there is
 /// none, or if it can't be found.
-fn file_found<R: Files + AllocGlobal>(rt: &R, folder: &str, name: FaultName) -> Option<String> {
+fn file_found<R: SystemFiles + AllocGlobal>(rt: &R, folder: &str, name: FaultName) -> Option<String> {
     match refused_file(rt.alloc(), &mut Disk::new(rt, folder)) {
         Ok(Some(file)) if file.fault.name == name => file_told(rt.alloc(), folder, &file),
         _ => None,
@@ -79,7 +78,7 @@ fn file_told(alloc: Global, folder: &str, file: &RefusedFile) -> Option<String> 
 }
 
 /// The path of a folder's file.
-fn path_in(alloc: Global, folder: &str, name: &str) -> Option<String> {
+pub(crate) fn path_in(alloc: Global, folder: &str, name: &str) -> Option<String> {
     if folder.ends_with('/') {
         format!(in alloc; "{folder}{name}").ok()
     } else {

@@ -6,19 +6,19 @@ use crate::folder_refusal::{compaction_explained, explained};
 use crate::progress_line::ProgressLine;
 use crate::refusal::Refusal;
 use crate::reporter::{Telling, tell_time};
+use crate::table_sizes::sizes_tested;
 use account::text;
-use coding::Fault;
+use coding::{Fault, FaultName};
 use commands::{Question, answer_opened, bottom, manifest_lines, next_level};
 use diagnostics::account_of;
-use folder::{Disk, Folder, Opened, SystemFiles, WholeFiles, open};
+use folder::{Disk, Opened, SystemFiles, WholeFiles, open};
 use keep::Snapshots;
 use std::alloc::Global;
 use std::io;
 use std::io::Write;
-use std::rt::Files;
 use std::thread::Threads;
 use std::time::Clock;
-use store::{Settings, compact_opened};
+use store::{Settings, compact_opened, sync_version};
 use usage::{CompactSettings, Levels, Readable};
 
 /// Prints the version of a folder.
@@ -30,7 +30,7 @@ pub(crate) fn print_version<R: SystemFiles + Print + Eprint + Clock + AllocGloba
     version_printed(rt, telling).map_err(|refusal| explained(rt, telling.folder, refusal))
 }
 
-fn version_printed<R: Files + Print + Eprint + Clock + AllocGlobal>(
+fn version_printed<R: SystemFiles + Print + Eprint + Clock + AllocGlobal>(
     rt: &R,
     telling: Telling<'_>,
 ) -> Result<(), Refusal> {
@@ -60,7 +60,7 @@ pub(crate) fn print_value<
 }
 
 /// Prints what the version of a folder answers to a question. The command is told as this `step`.
-fn answer_printed<R: Files + WholeFiles + Print + Eprint + Clock + AllocGlobal + Threads + Sync>(
+fn answer_printed<R: SystemFiles + WholeFiles + Print + Eprint + Clock + AllocGlobal + Threads + Sync>(
     rt: &R,
     telling: Telling<'_>,
     step: &str,
@@ -68,13 +68,14 @@ fn answer_printed<R: Files + WholeFiles + Print + Eprint + Clock + AllocGlobal +
 ) -> Result<(), Refusal> {
     let begun = telling.begin(rt);
     let opened = begin_work(rt, telling)?;
+    sizes_tested(rt, telling.folder, &opened)?;
     let lines = answered(rt, telling, &opened, question)?;
     tell_time(rt, step, begun);
     print_lines(rt, lines.as_slice())
 }
 
 /// Opens a folder, and tells of its logs.
-fn begin_work<R: Files + Eprint + Clock + AllocGlobal>(
+fn begin_work<R: SystemFiles + Eprint + Clock + AllocGlobal>(
     rt: &R,
     telling: Telling<'_>,
 ) -> Result<Opened, Refusal> {
@@ -84,7 +85,7 @@ fn begin_work<R: Files + Eprint + Clock + AllocGlobal>(
 }
 
 /// What the version of a folder answers to a question.
-fn answered<R: Files + WholeFiles + Eprint + Clock + AllocGlobal + Threads + Sync>(
+fn answered<R: SystemFiles + WholeFiles + Eprint + Clock + AllocGlobal + Threads + Sync>(
     rt: &R,
     telling: Telling<'_>,
     opened: &Opened,
@@ -102,11 +103,11 @@ fn answered<R: Files + WholeFiles + Eprint + Clock + AllocGlobal + Threads + Syn
         &progress,
     );
     progress.erase();
-    answer.map_err(|fault| refused_at(telling.folder, &folder, fault))
+    answer.map_err(|fault| refused_at(rt, telling.folder, &folder, fault))
 }
 
 /// Compacts a level of a folder, or all of them one after the other. The folder is locked before
-/// anything is read of it, and then synced, so that what is read outlives a crash.
+/// anything is read of it. What it was opened as is synced once, so that it outlives a crash.
 pub(crate) fn compact_folder<
     R: SystemFiles + WholeFiles + Print + Eprint + Clock + AllocGlobal + Threads + Sync,
 >(rt: &R, telling: Telling<'_>, levels: Levels, settings: &CompactSettings) -> Result<(), Refusal> {
@@ -116,14 +117,15 @@ pub(crate) fn compact_folder<
     })
 }
 
-fn compact_levels<R: Files + WholeFiles + Print + Eprint + Clock + AllocGlobal + Threads + Sync>(
+fn compact_levels<R: SystemFiles + WholeFiles + Print + Eprint + Clock + AllocGlobal + Threads + Sync>(
     rt: &R,
     telling: Telling<'_>,
     levels: Levels,
     settings: &CompactSettings,
 ) -> Result<(), Refusal> {
-    sync(rt, telling.folder)?;
     let opened = begin_work(rt, telling)?;
+    sizes_tested(rt, telling.folder, &opened)?;
+    sync(rt, telling.folder, &opened)?;
     match levels {
         Levels::One(level) => compact_one(rt, telling, &opened, level, settings),
         Levels::All => compact_all(rt, telling, opened, settings),
@@ -131,7 +133,7 @@ fn compact_levels<R: Files + WholeFiles + Print + Eprint + Clock + AllocGlobal +
 }
 
 /// Compacts a level of a folder.
-fn compact_one<R: Files + WholeFiles + Print + Eprint + Clock + AllocGlobal + Threads + Sync>(
+fn compact_one<R: SystemFiles + WholeFiles + Print + Eprint + Clock + AllocGlobal + Threads + Sync>(
     rt: &R,
     telling: Telling<'_>,
     opened: &Opened,
@@ -148,7 +150,7 @@ fn compact_one<R: Files + WholeFiles + Print + Eprint + Clock + AllocGlobal + Th
 
 /// Compacts the first level that has a file, again and again, until all files are at the bottom.
 /// What the folder is opened as after a compaction is where the next one starts.
-fn compact_all<R: Files + WholeFiles + Print + Eprint + Clock + AllocGlobal + Threads + Sync>(
+fn compact_all<R: SystemFiles + WholeFiles + Print + Eprint + Clock + AllocGlobal + Threads + Sync>(
     rt: &R,
     telling: Telling<'_>,
     first: Opened,
@@ -166,7 +168,7 @@ fn compact_all<R: Files + WholeFiles + Print + Eprint + Clock + AllocGlobal + Th
 }
 
 /// Compacts a level of a folder, and answers what the folder is opened as after it.
-fn compact_step<R: Files + WholeFiles + Print + Eprint + Clock + AllocGlobal + Threads + Sync>(
+fn compact_step<R: SystemFiles + WholeFiles + Print + Eprint + Clock + AllocGlobal + Threads + Sync>(
     rt: &R,
     telling: Telling<'_>,
     opened: &Opened,
@@ -181,22 +183,27 @@ fn compact_step<R: Files + WholeFiles + Print + Eprint + Clock + AllocGlobal + T
     after
 }
 
-/// Syncs a folder, so that what is read of it from then on outlives a crash.
-fn sync<R: Files + AllocGlobal>(rt: &R, path: &str) -> Result<(), Refusal> {
+/// Syncs what a folder was opened as, so that it outlives a crash.
+fn sync<R: SystemFiles + WholeFiles + AllocGlobal + Threads>(
+    rt: &R,
+    path: &str,
+    opened: &Opened,
+) -> Result<(), Refusal> {
     let mut folder = Disk::new(rt, path);
-    let synced = folder.sync_folder();
-    synced.map_err(|failure| refused_at(path, &folder, Fault::from(failure)))
+    folder.sync_ahead(opened.order, &opened.version, opened.manifest);
+    let synced = sync_version(rt.alloc(), &mut folder, opened);
+    synced.map_err(|fault| refused_at(rt, path, &folder, fault))
 }
 
 /// What a folder is opened as.
-fn open_folder<R: Files + AllocGlobal>(rt: &R, path: &str) -> Result<Opened, Refusal> {
+fn open_folder<R: SystemFiles + AllocGlobal>(rt: &R, path: &str) -> Result<Opened, Refusal> {
     let mut folder = Disk::new(rt, path);
     let opened = open(rt.alloc(), &mut folder);
-    opened.map_err(|fault| refused_at(path, &folder, fault))
+    opened.map_err(|fault| refused_at(rt, path, &folder, fault))
 }
 
 /// Compacts a level of a folder, and prints what was made.
-fn compact_level<R: Files + WholeFiles + Print + Eprint + Clock + AllocGlobal + Threads + Sync>(
+fn compact_level<R: SystemFiles + WholeFiles + Print + Eprint + Clock + AllocGlobal + Threads + Sync>(
     rt: &R,
     telling: Telling<'_>,
     opened: &Opened,
@@ -223,7 +230,7 @@ fn unprinted(alloc: Global, refusal: Refusal) -> Refusal {
 }
 
 /// Compacts a level of a folder.
-fn compacted<R: Files + WholeFiles + Eprint + Clock + AllocGlobal + Threads + Sync>(
+fn compacted<R: SystemFiles + WholeFiles + Eprint + Clock + AllocGlobal + Threads + Sync>(
     rt: &R,
     telling: Telling<'_>,
     opened: &Opened,
@@ -237,24 +244,34 @@ fn compacted<R: Files + WholeFiles + Eprint + Clock + AllocGlobal + Threads + Sy
         rt,
         rt.alloc(),
         &mut folder,
-        opened.order,
-        &opened.version,
+        opened,
         level,
         &settings,
         &progress,
     );
     progress.erase();
-    answer.map_err(|fault| refused_at(telling.folder, &folder, fault))
+    answer.map_err(|fault| refused_at(rt, telling.folder, &folder, fault))
 }
 
-/// The refusal of work on the folder at a path.
-fn refused_at<R>(_path: &str, _folder: &Disk<'_, R>, fault: Fault) -> Refusal {
-    Refusal::from(fault)
+/// The refusal of work on the folder at a path. If the device failed, the call that failed is told.
+fn refused_at<R: SystemFiles + AllocGlobal>(
+    rt: &R,
+    path: &str,
+    folder: &Disk<'_, R>,
+    fault: Fault,
+) -> Refusal {
+    let told = match folder.last_failure() {
+        Some(failure) if fault.name == FaultName::Device => {
+            format!(in rt.alloc(); "{path}: {failure}").ok()
+        }
+        _ => None,
+    };
+    Refusal { fault, told }
 }
 
 /// The folder at a path, with its version's tables read ahead by several threads. A table that
 /// can't be read ahead is read when it is asked for.
-fn read_ahead<'r, R: Files + WholeFiles + AllocGlobal + Threads>(
+fn read_ahead<'r, R: SystemFiles + WholeFiles + AllocGlobal + Threads>(
     rt: &'r R,
     path: &'r str,
     opened: &Opened,
@@ -266,7 +283,7 @@ fn read_ahead<'r, R: Files + WholeFiles + AllocGlobal + Threads>(
 
 /// Tells the account of the compaction of a level, from what the folder was opened as before it and
 /// after it. If it can't be told, nothing else changes.
-fn explain<R: Files + Eprint + AllocGlobal>(
+fn explain<R: SystemFiles + Eprint + AllocGlobal>(
     rt: &R,
     folder: &str,
     before: &Opened,
@@ -286,7 +303,7 @@ fn explain<R: Files + Eprint + AllocGlobal>(
 }
 
 /// The lines of that account.
-fn explanation<R: Files + AllocGlobal>(
+fn explanation<R: SystemFiles + AllocGlobal>(
     rt: &R,
     folder: &str,
     before: &Opened,

@@ -18,6 +18,7 @@ mod progress_line;
 mod refusal;
 mod reporter;
 mod settings_refusal;
+mod table_sizes;
 
 pub use commands::{bottom, dump, get_dir, manifest, next_level, progress_text, status, verify};
 pub use folder::{Disk, Folder, FolderFault, Order, load, open};

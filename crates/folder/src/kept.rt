@@ -1,0 +1,87 @@
+//! What a folder of the system keeps of its files from one call to the next.
+
+ghost use Rattle.std.specs.Prelude.{◌<◌, length, IfSome};
+
+use std::alloc::{AllocError, Global};
+use std::fs::File;
+
+/// A file that was made, and is open until it is synced.
+#[derive(Drop)]
+struct Made {
+    name: String,
+    file: File,
+}
+
+/// A file that is synced before that is asked for.
+#[derive(Drop)]
+pub(crate) struct Due {
+    pub name: String,
+    /// The name that it has instead if no file has the first one.
+    pub older: Option<String>,
+    /// Whether it was synced, under the name that it has now.
+    pub is_synced: bool,
+}
+
+/// The files that were made and not synced since, and those that were synced ahead.
+#[derive(Drop)]
+pub(crate) struct Kept {
+    alloc: Global,
+    made: Vec<Made>,
+    ahead: Vec<Due>,
+}
+
+impl Kept {
+    /// No file.
+    pub fn new(alloc: Global) -> Kept {
+        Kept {
+            alloc,
+            made: Vec::new(alloc),
+            ahead: Vec::new(alloc),
+        }
+    }
+
+    /// Keeps a file that was made under this `name`.
+    pub fn keep(&mut self, name: &str, file: File) -> Result<(), AllocError> {
+        let name = String::from_str(self.alloc, name)?;
+        self.made.push(Made { name, file })?;
+        Ok(())
+    }
+
+    /// Takes the file that was made under this `name`. None if there is none, or it was synced since.
+    pub fn taken(&mut self, name: &str) -> Option<File> {
+        let place = place_of(&self.made, name)?;
+        Some(self.made.swap_remove(place).file)
+    }
+
+    /// Keeps which files were synced ahead.
+    pub fn keep_ahead(&mut self, files: Vec<Due>) {
+        self.ahead = files;
+    }
+
+    /// Forgets which files were synced ahead.
+    pub fn forget_ahead(&mut self) {
+        self.ahead.clear();
+    }
+
+    /// Whether the file of this `name` was synced ahead.
+    pub fn is_synced(&self, name: &str) -> bool {
+        for due in &self.ahead {
+            if due.is_synced && due.name.as_str() == name {
+                return true;
+            }
+        }
+        false
+    }
+}
+
+/// The place of the file that was made under this `name`.
+fn place_of(made: &[Made], name: &str) -> Option<usize>
+    ensures { IfSome result (λ place. place < length made.now) }
+{
+    for (place, file) in made.iter().enumerate() {
+        if file.name.as_str() == name {
+            return Some(place);
+        }
+    }
+    None
+}

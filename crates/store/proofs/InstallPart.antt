@@ -1,5 +1,5 @@
 -- The installation of a compaction, as a part of the call.
-use Rattle.std.proofs.Common.{◌≡◌, ℕ, false, List, [], ◌∷◌, ◌++◌, Option, Result, Ok, Err, IfErr, IfOk, IsErrAnd, OnOk, refl, sym, ap, subst, ◌∙◌, inl, inr}
+use Rattle.std.proofs.Common.{◌≡◌, ℕ, List, ◌++◌, map, codes, Option, Some, Result, Ok, Err, IfErr, IfOk, IsErrAnd, OnOk, sym, ap, subst, ◌∙◌, inl, inr}
 use Rattle.std.specs.Global.{Vec}
 use Rattle.std.specs.declared.cmp.Ordering.{Ordering}
 use Rattle.coding.specs.Answers.{UnlessMemory, fault}
@@ -7,24 +7,27 @@ use Rattle.coding.specs.declared.fault.Fault.{Fault}
 use Rattle.coding.specs.declared.fault.FaultName.TheVariants.{Device}
 use Rattle.coding.proofs.Refusals.{unless_from}
 use Rattle.edit.specs.Version.{State}
-use Rattle.folder.specs.Calls.{Done, Files, FolderSynced, FolderView, Step, Tells, TellsAfter, step_of}
-use Rattle.folder.specs.Crash.{call_of}
-use Rattle.folder.proofs.LoadingLemmas.{told_since}
+use Rattle.folder.specs.Calls.{Call, Done, Files, Step, Tells}
+use Rattle.folder.specs.CallSequence.{AreMadeBy, MakesCalls}
 use Rattle.folder.specs.Folder.{TellsSame}
 use Rattle.folder.specs.Levels.{file_numbers}
 use Rattle.folder.specs.LoadedTables.{IsLoaded}
 use Rattle.folder.specs.Manifest.{order_name}
+use Rattle.folder.specs.Names.{current_text}
 use Rattle.folder.specs.OpenAnswer.{IsOpened, IsStopped}
 use Rattle.folder.specs.ReadsAs.{IsHeldIn, ReadsAs}
-use Rattle.folder.specs.declared.folder.FolderFault.{FolderFault}
 use Rattle.folder.specs.declared.order.Order.{Order}
 use Rattle.install.specs.Install.{IsEditedBy, SurvivesCrash, next_version_tables}
+use Rattle.install.proofs.Moments.{made_by}
 use Rattle.request.specs.OneThread.{Answer}
 use Rattle.store.specs.FolderRequest.{manifest_of}
 use Rattle.store.specs.Compaction.{VersionCompaction, IsInstalled, IsFolderLeft, IsVersionLeft, next_of}
 use Rattle.folder.specs.Orders.{order_cmp, order_short_keys}
 use Rattle.store.specs.declared.settings.Settings.{Settings}
 use Rattle.ikey.specs.Comparator.{ShortKeys}
+use Rattle.store.specs.VersionSync.{sync_calls}
+use Rattle.store.proofs.Synced.{version_stands}
+use Rattle.store.proofs.SyncsTold.{syncs_tell}
 
 -- what survives of one answer does of another one that is a value where the first is
 survives_on : {T E U G : Type 0} (cmp : List ℕ → List ℕ → Ordering) (order : Order) (v next : State) (tables tables' : List (ℕ × List ℕ)) (before after : List Step) (old middle new : List ℕ → Option (List ℕ) → Type 0) (r : Result T E) (q : Result U G)
@@ -50,11 +53,11 @@ pub installed_by : {T : Type 0} (name : List ℕ) (order : Order) (cmp : List �
     (before after : List Step) (old middle new : List ℕ → Option (List ℕ) → Type 0) (r : Result T Fault) (q : Result (Vec ℕ) Fault)
     → order_name order ≡ name → ReadsAs cmp order v loaded files → VersionCompaction order cmp short_keys v loaded level s answer lines → ((P : Type 0) → OnOk r P → OnOk q P) → TellsSame old middle
     → IfOk q (λ text. text.items ≡ lines) → IfErr q (λ e. UnlessMemory e (e ≡ fault Device)) → Promises name cmp v (manifest_of v) answer before after middle new r
-    → IsInstalled order cmp short_keys files level s before after old new q
+    → IsInstalled order cmp short_keys v files level s before after old new q
 installed_by name order cmp short_keys files v loaded level s answer lines before after old middle new r q named reads done f same printed refused promises =
     let edited = subst (λ (n : List ℕ). IsEditedBy n cmp order v (manifest_of v) answer.tables answer.edit done.edited.next) named done.edited.edited in
     record {
-      compaction = record { version = v; loaded = loaded; reads = reads; answer = answer; lines = lines; compacted = done };
+      compaction = record { loaded = loaded; reads = reads; answer = answer; lines = lines; compacted = done };
       survives = survives_on cmp order v done.edited.next loaded (next_version_tables cmp done.edited.next answer.tables loaded) before after old middle new r q f
           (λ files tells name held. (λ h. (tells name held).0 ((same name held).1 h), λ h. (same name held).0 ((tells name held).1 h)))
           (promises order done.edited.next loaded edited);
@@ -88,68 +91,77 @@ still : (old new : List ℕ → Option (List ℕ) → Type 0) → TellsSame old 
 still old new same files tells name held = (λ h. (tells name held).0 ((same name held).1 h), λ h. (same name held).0 ((tells name held).1 h))
 
 -- an installation, told from earlier calls on
-installed_since : (order : Order) (cmp : List ℕ → List ℕ → Ordering) (short_keys : ShortKeys) (files : Files) (level : ℕ) (s : Settings)
+installed_since : (order : Order) (cmp : List ℕ → List ℕ → Ordering) (short_keys : ShortKeys) (v : State) (files : Files) (level : ℕ) (s : Settings)
     (first before after : List Step) (zero old new : List ℕ → Option (List ℕ) → Type 0) (r : Result (Vec ℕ) Fault) → before ≡ first → ((files : Files) → Tells zero files → Tells old files)
-    → IsInstalled order cmp short_keys files level s before after old new r → IsInstalled order cmp short_keys files level s first after zero new r
-installed_since order cmp short_keys files level s first before after zero old new r is told i = record {
+    → IsInstalled order cmp short_keys v files level s before after old new r → IsInstalled order cmp short_keys v files level s first after zero new r
+installed_since order cmp short_keys v files level s first before after zero old new r is told i = record {
   compaction = i.compaction;
-  survives = subst (λ (b : List Step). SurvivesCrash cmp order i.compaction.version i.compaction.loaded (next_of i.compaction) (next_version_tables cmp (next_of i.compaction) i.compaction.answer.tables i.compaction.loaded) b after zero new r) is
-      (survives_on cmp order i.compaction.version (next_of i.compaction) i.compaction.loaded (next_version_tables cmp (next_of i.compaction) i.compaction.answer.tables i.compaction.loaded) before after zero old new r r (λ P x. x) told i.survives);
+  survives = subst (λ (b : List Step). SurvivesCrash cmp order v i.compaction.loaded (next_of i.compaction) (next_version_tables cmp (next_of i.compaction) i.compaction.answer.tables i.compaction.loaded) b after zero new r) is
+      (survives_on cmp order v (next_of i.compaction) i.compaction.loaded (next_version_tables cmp (next_of i.compaction) i.compaction.answer.tables i.compaction.loaded) before after zero old new r r (λ P x. x) told i.survives);
   printed = i.printed;
   refused = i.refused;
 }
 
--- a sync of the folder changes nothing of what may be read
-pub sync_told : {T : Type 0} (r : Result T FolderFault) (old new : List ℕ → Option (List ℕ) → Type 0) → TellsAfter (step_of FolderSynced r) old new → (files : Files) → Tells old files → Tells new files
-sync_told (Ok x) old new change files tells =
-    let s = change (record { files = files; synced = λ name. false }) tells in
-    subst (λ (t : FolderView). Tells new t.files) s.1 s.2
-sync_told (Err e) old new change files tells =
-    let s = change (record { files = files; synced = λ name. false }) tells in
-    subst (λ (t : FolderView). Tells new t.files) s.1 s.2
-
-sync_call : {T : Type 0} (r : Result T FolderFault) → call_of (step_of FolderSynced r) ≡ FolderSynced
-sync_call (Ok x) = refl
-sync_call (Err e) = refl
-
--- the sync was refused
-pub sync_refused : {T : Type 0} (files : Files) (level : ℕ) (s : Settings) (before after : List Step) (old new : List ℕ → Option (List ℕ) → Type 0) (r : Result T FolderFault) (q : Result (Vec ℕ) Fault)
-    → after ≡ before ++ step_of FolderSynced r ∷ [] → TellsAfter (step_of FolderSynced r) old new → OnOk q ⊥ → IsFolderLeft files level s before after old new q
-sync_refused files level s before after old new r q calls change refused =
-    inl (record { step = step_of FolderSynced r; call = sync_call r; calls = calls; same = sync_told r old new change; refused = refused })
-
--- it was synced, and nothing was called that writes
-pub synced_still : {T : Type 0} (files : Files) (level : ℕ) (s : Settings) (first before after : List Step) (zero old new : List ℕ → Option (List ℕ) → Type 0) (r : Result T FolderFault) (q : Result (Vec ℕ) Fault)
-    → before ≡ first ++ step_of FolderSynced r ∷ [] → TellsAfter (step_of FolderSynced r) zero old → after ≡ before → TellsSame old new → OnOk q ⊥ → IsFolderLeft files level s first after zero new q
-synced_still files level s first before after zero old new r q calls change no_more same refused =
-    inl (record {
-      step = step_of FolderSynced r;
-      call = sync_call r;
-      calls = no_more ∙ calls;
-      same = λ fs tells. still old new same fs (sync_told r zero old change fs tells);
-      refused = refused;
+-- the version was opened, and its sync was refused
+pub sync_refused : {T : Type 0} (order : Order) (v : State) (manifest : ℕ) (files : Files) (level : ℕ) (s : Settings) (first before after : List Step) (zero old new : List ℕ → Option (List ℕ) → Type 0) (r : Result T Fault) (q : Result (Vec ℕ) Fault)
+    → IsOpened (IsHeldIn files) (Ok (order, v)) → files (codes "CURRENT") ≡ Some (current_text manifest) → before ≡ first → TellsSame zero old → MakesCalls (sync_calls (order_cmp order) v manifest) before after old new r → OnOk q ⊥
+    → IsFolderLeft files level s first after zero new q
+sync_refused order v manifest files level s first before after zero old new r q opened named is same runs refused =
+    let calls = sync_calls (order_cmp order) v manifest in
+    inr (record {
+      order = order;
+      version = v;
+      manifest = manifest;
+      opened = opened;
+      named = named;
+      left = inl (record {
+        steps = runs.steps;
+        made = made_by calls runs.steps r runs.made;
+        calls = runs.appended ∙ ap (λ (t : List Step). t ++ runs.steps) is;
+        same = λ fs tells. syncs_tell (order_cmp order) v manifest before after old new r runs fs (still zero old same fs tells);
+        refused = refused;
+      });
+      stands = λ tables start. version_stands (order_cmp order) order v manifest tables start first;
     })
 
--- what is left of a folder that was synced and opened
-pub synced_left : {T : Type 0} (order : Order) (files : Files) (level : ℕ) (s : Settings) (first synced before after : List Step) (zero middle old new : List ℕ → Option (List ℕ) → Type 0)
-    (r : Result T FolderFault) (x : T) (q : Result (Vec ℕ) Fault) → r ≡ Ok x → synced ≡ first ++ step_of FolderSynced r ∷ [] → TellsAfter (step_of FolderSynced r) zero middle → before ≡ synced → TellsSame middle old
-    → IsVersionLeft order (order_cmp order) (order_short_keys order) files level s before after old new q → IsFolderLeft files level s first after zero new q
-synced_left order files level s first synced before after zero middle old new r x q done calls change is same (inl u) =
-    synced_still files level s first synced after zero middle new r q calls change (u.calls ∙ is) (told_since middle old new same u.same) u.refused
-synced_left order files level s first synced before after zero middle old new r x q done calls change is same (inr i) =
-    let begun : before ≡ first ++ Done FolderSynced ∷ [] = is ∙ calls ∙ ap (λ (a : Result _ FolderFault). first ++ step_of FolderSynced a ∷ []) done in
-    inr (
-      order,
-      installed_since order (order_cmp order) (order_short_keys order) files level s (first ++ Done FolderSynced ∷ []) before after zero old new q begun
-          (λ fs tells. still middle old same fs (sync_told r zero middle change fs tells)) i,
-    )
+-- the calls of a sync that was not refused
+all_made : {T : Type 0} (calls : List Call) (steps : List Step) (r : Result T Fault) (x : T) → r ≡ Ok x → AreMadeBy calls steps r → steps ≡ map Done calls
+all_made {T = T} calls steps r x was made = subst (λ (q : Result T Fault). AreMadeBy calls steps q) was made
+
+-- the version was opened and synced, and then compacted
+pub synced_left : {T : Type 0} (order : Order) (v : State) (manifest : ℕ) (files : Files) (level : ℕ) (s : Settings) (first before synced after : List Step) (zero old middle new : List ℕ → Option (List ℕ) → Type 0) (r : Result T Fault) (x : T) (q : Result (Vec ℕ) Fault)
+    → IsOpened (IsHeldIn files) (Ok (order, v)) → files (codes "CURRENT") ≡ Some (current_text manifest) → before ≡ first → TellsSame zero old → r ≡ Ok x → MakesCalls (sync_calls (order_cmp order) v manifest) before synced old middle r
+    → IsVersionLeft order (order_cmp order) (order_short_keys order) v files level s synced after middle new q → IsFolderLeft files level s first after zero new q
+synced_left order v manifest files level s first before synced after zero old middle new r x q opened named is same was runs left =
+    let calls = sync_calls (order_cmp order) v manifest in
+    let told = λ (fs : Files) (tells : Tells zero fs). syncs_tell (order_cmp order) v manifest before synced old middle r runs fs (still zero old same fs tells) in
+    let all : runs.steps ≡ map Done calls = all_made calls runs.steps r x was runs.made in
+    inr (record {
+      order = order;
+      version = v;
+      manifest = manifest;
+      opened = opened;
+      named = named;
+      left = elim left [
+        | inl u ↦ inl (record {
+          steps = runs.steps;
+          made = made_by calls runs.steps r runs.made;
+          calls = u.calls ∙ (runs.appended ∙ ap (λ (t : List Step). t ++ runs.steps) is);
+          same = λ fs tells. still middle new u.same fs (told fs tells);
+          refused = u.refused;
+        })
+        | inr i ↦ inr (installed_since order (order_cmp order) (order_short_keys order) v files level s (first ++ map Done calls) synced after zero middle new q
+            (runs.appended ∙ (ap (λ (t : List Step). t ++ runs.steps) is ∙ ap (λ (t : List Step). first ++ t) all)) told i)
+      ];
+      stands = λ tables start. version_stands (order_cmp order) order v manifest tables start first;
+    })
 
 -- what is left of a folder whose version was compacted
 pub version_left : {T : Type 0} (name : List ℕ) (order : Order) (cmp : List ℕ → List ℕ → Ordering) (short_keys : ShortKeys) (files : Files) (v : State) (loaded : List (ℕ × List ℕ)) (level : ℕ) (s : Settings) (answer : Answer) (lines : List ℕ)
     (first before after : List Step) (zero old new : List ℕ → Option (List ℕ) → Type 0) (r : Result T Fault) (q : Result (Vec ℕ) Fault)
     → order_name order ≡ name → ReadsAs cmp order v loaded files → VersionCompaction order cmp short_keys v loaded level s answer lines → ((P : Type 0) → OnOk r P → OnOk q P) → before ≡ first → TellsSame zero old
     → IfOk q (λ text. text.items ≡ lines) → IfErr q (λ e. UnlessMemory e (e ≡ fault Device)) → Promises name cmp v (manifest_of v) answer before after old new r
-    → IsVersionLeft order cmp short_keys files level s first after zero new q
+    → IsVersionLeft order cmp short_keys v files level s first after zero new q
 version_left name order cmp short_keys files v loaded level s answer lines first before after zero old new r q named reads done f is same printed refused promises =
-    inr (installed_since order cmp short_keys files level s first before after zero old new q is (still zero old same)
+    inr (installed_since order cmp short_keys v files level s first before after zero old new q is (still zero old same)
     (installed_by name order cmp short_keys files v loaded level s answer lines before after old old new r q named reads done f (λ n held. (λ h. h, λ h. h)) printed refused promises))

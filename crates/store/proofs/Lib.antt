@@ -9,7 +9,10 @@ mod EditedBy
 mod Joint
 mod NoDevice
 mod Synced
+mod SyncsTold
+mod TableSyncs
 mod Flow
 mod LineLemmas
 mod Compactions
 mod InstallPart
+mod Runs

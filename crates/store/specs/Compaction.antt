@@ -1,17 +1,20 @@
 -- What a compaction makes of a folder.
-use Rattle.std.specs.Prelude.{◌≡◌, ◌⊎◌, ℕ, true, List, [], ◌∷◌, ◌++◌, Option, Result, Ok, IfErr}
-use Rattle.std.specs.Prelude.{IfOk, OnOk}
+use Rattle.std.specs.Prelude.{◌≡◌, ◌⊎◌, ℕ, true, List, [], ◌∷◌, ◌++◌, map, codes, Option, Some}
+use Rattle.std.specs.Prelude.{Result, Ok, IfErr, IfOk, OnOk}
 use Rattle.std.specs.Global.{Vec}
 use Rattle.std.specs.declared.cmp.Ordering.{Ordering}
 use Rattle.coding.specs.Answers.{UnlessMemory, fault}
 use Rattle.coding.specs.declared.fault.Fault.{Fault}
 use Rattle.coding.specs.declared.fault.FaultName.TheVariants.{Device}
 use Rattle.edit.specs.Version.{State}
-use Rattle.folder.specs.Calls.{Done, Files, FolderSynced, Step, Tells}
-use Rattle.folder.specs.Crash.{IsDurable, Leads, World, call_of}
+use Rattle.folder.specs.Calls.{Call, Done, Files, FolderSynced, Step, Tells}
+use Rattle.folder.specs.CallSequence.{AreMade}
+use Rattle.folder.specs.Crash.{IsDurable, Leads, World}
 use Rattle.folder.specs.Folder.{TellsSame}
 use Rattle.folder.specs.Manifest.{order_name}
-use Rattle.folder.specs.ReadsAs.{ReadsAs, RestsOn}
+use Rattle.folder.specs.Names.{current_text}
+use Rattle.folder.specs.OpenAnswer.{IsOpened}
+use Rattle.folder.specs.ReadsAs.{IsHeldIn, ReadsAs, RestsOn}
 use Rattle.folder.specs.declared.order.Order.{Order}
 use Rattle.pick.specs.Picked.{IsPicked, PickedInputs}
 use Rattle.reads.specs.Gets.{get_of}
@@ -22,6 +25,7 @@ use Rattle.request.specs.OneThread.{Answer}
 use Rattle.install.specs.Install.{IsEditedBy, AlwaysStandsAs, SurvivesCrash, next_version_tables}
 use Rattle.store.specs.FolderRequest.{compaction_of, last_of, manifest_of}
 use Rattle.store.specs.Lines.{compaction_lines}
+use Rattle.store.specs.VersionSync.{AlwaysReadsBy, sync_calls}
 use Rattle.folder.specs.Orders.{order_cmp, order_short_keys}
 use Rattle.store.specs.declared.settings.Settings.{Settings}
 use Rattle.ikey.specs.Comparator.{ShortKeys}
@@ -55,21 +59,19 @@ pub record VersionCompaction (order : Order) (cmp : List ℕ → List ℕ →
   pub edited : EditedVersion order cmp v loaded tables s answer
   pub told : lines ≡ compaction_lines answer.tables picked.files (manifest_of v)
 
--- a compaction of a level of the version that files read as
+-- a compaction of a level of this version, as which the files read
 pub record Compaction (order : Order) (cmp : List ℕ → List ℕ → Ordering) (short_keys : ShortKeys)
-    (files : Files) (level : ℕ) (s : Settings) : Type 0 where
-  pub version : State
+    (v : State) (files : Files) (level : ℕ) (s : Settings) : Type 0 where
   pub loaded : List (ℕ × List ℕ)
-  pub reads : ReadsAs cmp order version loaded files
+  pub reads : ReadsAs cmp order v loaded files
   pub answer : Answer
   pub lines : List ℕ
-  pub compacted : VersionCompaction order cmp short_keys version loaded level s
-      answer lines
+  pub compacted : VersionCompaction order cmp short_keys v loaded level s answer lines
 
 -- the edited version of a compaction
 abbrev pub next_of : {order : Order} {cmp : List ℕ → List ℕ → Ordering} {short_keys : ShortKeys}
-    {files : Files} {level : ℕ} {s : Settings} →
-    Compaction order cmp short_keys files level s → State
+    {v : State} {files : Files} {level : ℕ} {s : Settings} →
+    Compaction order cmp short_keys v files level s → State
 next_of c = c.compacted.edited.next
 
 -- No call that writes was made, and the folder holds what it held.
@@ -79,12 +81,12 @@ pub record IsUnchanged {T : Type 0} (before after : List Step) (old new : List �
   pub same : TellsSame old new
   pub refused : OnOk result ⊥
 
--- The only call that writes was a sync of the folder, and it holds what it held.
-pub record IsSynced {T : Type 0} (before after : List Step) (old new : List ℕ → Option (List ℕ) →
-    Type 0) (result : Result T Fault) : Type 0 where
-  pub step : Step
-  pub call : call_of step ≡ FolderSynced
-  pub calls : after ≡ before ++ step ∷ []
+-- The only calls that write were syncs, the first of these, and the folder holds what it held.
+pub record IsSynced {T : Type 0} (syncs : List Call) (before after : List Step)
+    (old new : List ℕ → Option (List ℕ) → Type 0) (result : Result T Fault) : Type 0 where
+  pub steps : List Step
+  pub made : AreMade syncs steps
+  pub calls : after ≡ before ++ steps
   pub same : (files : Files) → Tells old files → Tells new files
   pub refused : OnOk result ⊥
 
@@ -93,35 +95,50 @@ pub record IsSynced {T : Type 0} (before after : List Step) (old new : List ℕ 
 -- Device and Memory.
 pub record IsInstalled (order : Order) (cmp : List ℕ → List ℕ → Ordering)
     (short_keys : ShortKeys)
-    (files : Files) (level : ℕ) (s : Settings) (before after : List Step)
+    (v : State) (files : Files) (level : ℕ) (s : Settings) (before after : List Step)
     (old new : List ℕ → Option (List ℕ) → Type 0) (result : Result (Vec ℕ) Fault) : Type 0 where
-  pub compaction : Compaction order cmp short_keys files level s
-  pub survives : SurvivesCrash cmp order compaction.version compaction.loaded (next_of compaction)
+  pub compaction : Compaction order cmp short_keys v files level s
+  pub survives : SurvivesCrash cmp order v compaction.loaded (next_of compaction)
       (next_version_tables cmp (next_of compaction) compaction.answer.tables compaction.loaded)
       before after old new result
   pub printed : IfOk result (λ text. text.items ≡ compaction.lines)
   pub refused : IfErr result (λ e. UnlessMemory e (e ≡ fault Device))
 
--- what is left of a folder whose version has this order: it is unchanged, or a compaction was
--- installed
-abbrev pub IsVersionLeft : Order → (List ℕ → List ℕ → Ordering) → ShortKeys → Files → ℕ → Settings
-    → List Step → List Step → (List ℕ → Option (List ℕ) → Type 0) →
+-- what is left of a folder that reads as this version, which has this order: it is unchanged, or a
+-- compaction was installed
+abbrev pub IsVersionLeft : Order → (List ℕ → List ℕ → Ordering) → ShortKeys → State → Files → ℕ →
+    Settings → List Step → List Step → (List ℕ → Option (List ℕ) → Type 0) →
     (List ℕ → Option (List ℕ) → Type 0) → Result (Vec ℕ) Fault → Type 0
-IsVersionLeft order cmp short_keys files level s before after old new result =
+IsVersionLeft order cmp short_keys v files level s before after old new result =
     IsUnchanged before after old new result
-    ⊎ IsInstalled order cmp short_keys files level s before after old new result
+    ⊎ IsInstalled order cmp short_keys v files level s before after old new result
 
--- What is left of a folder that held these files: it holds what it held, or after a sync of the
--- folder a compaction was installed.
+-- What is left of a folder that was opened as a version by the manifest of a number. It holds what
+-- it held, and at most the version was synced; or after the sync of it a compaction was installed.
+-- If the folder reads as the version, whatever was synced before, it stands for it after that sync.
+pub record IsOpenedLeft (files : Files) (level : ℕ) (s : Settings) (before after : List Step)
+    (old new : List ℕ → Option (List ℕ) → Type 0) (result : Result (Vec ℕ) Fault) : Type 0 where
+  pub order : Order
+  pub version : State
+  pub manifest : ℕ
+  pub opened : IsOpened (IsHeldIn files) (Ok (order, version))
+  pub named : files (codes "CURRENT") ≡ Some (current_text manifest)
+  pub left : IsSynced (sync_calls (order_cmp order) version manifest) before after old new result
+      ⊎ IsInstalled order (order_cmp order) (order_short_keys order) version files level s
+      (before ++ map Done (sync_calls (order_cmp order) version manifest)) after old new result
+  pub stands : (tables : List (ℕ × List ℕ)) (start : World) →
+      AlwaysReadsBy (order_cmp order) order version manifest tables start before →
+      AlwaysStandsAs (order_cmp order) order version tables start
+      (before ++ map Done (sync_calls (order_cmp order) version manifest))
+
+-- What is left of a folder that held these files: it is untouched, as if it can't be opened, or it
+-- was opened.
 abbrev pub IsFolderLeft : Files → ℕ → Settings
     → List Step → List Step → (List ℕ → Option (List ℕ) → Type 0) →
     (List ℕ → Option (List ℕ) → Type 0) → Result (Vec ℕ) Fault → Type 0
 IsFolderLeft files level s before after old new result =
-    IsSynced before after old new result
-    ⊎ ((order : Order)
-    × IsInstalled order (order_cmp order) (order_short_keys order) files
-    level s
-    (before ++ Done FolderSynced ∷ []) after old new result)
+    IsUnchanged before after old new result
+    ⊎ IsOpenedLeft files level s before after old new result
 
 -- If a sync of the folder keeps each name on which a version rests, the folder stands for the
 -- version after it. It keeps each file that was synced, and each name without a file.

@@ -14,9 +14,9 @@ ghost use Rattle.store.specs.Compaction.{IsFolderLeft, IsVersionLeft};
 use crate::folder_request::manifest_of;
 use crate::loaded_compaction::compact_loaded;
 use crate::settings::Settings;
+use crate::version_sync::sync_version;
 use checks::Watch;
 use coding::Fault;
-use edit::Version;
 use folder::{Folder, Opened, Order, load, open};
 use ikey::{Bytewise, SharedComparator, Shortlex};
 use install::install;
@@ -30,9 +30,12 @@ use std::thread::Threads;
 /// - `deleted LEVEL NUMBER` of each input by level and number;
 /// - `installed MANIFEST-NNNNNN`.
 ///
-/// The folder is synced first, so that what is opened outlives a crash. What is said of a crash
-/// begins after this sync, and asks that what the version rests on was synced or is missing
-/// (`sync_stands`). Then the folder is opened, and [`compact_opened`] compacts what was read.
+/// The folder is opened first. Then [`sync_version`] syncs what was opened, so that it outlives a
+/// crash, and [`compact_opened`] compacts it. So a folder that can't be opened isn't touched.
+///
+/// What is said of a crash begins after that sync, and asks only that the folder reads as the
+/// version: nothing need have been synced before. A crash before it is done may leave anything of
+/// what was not.
 ///
 /// The first that applies:
 ///
@@ -69,53 +72,52 @@ pub fn compact_dir<F: Folder, W: Watch + Sync, R: Threads + Sync>(
         (F.tells folder.old) (F.tells folder.new) result }
     ensures device { ReportsDevice F.Folder folder.old folder.new result }
 {
-    folder.sync_folder()?;
-    let Opened { order, version, .. } = open(alloc, folder)?;
-    compact_opened(rt, alloc, folder, order, &version, level, settings, watch)
+    let opened = open(alloc, folder)?;
+    sync_version(alloc, folder, &opened)?;
+    compact_opened(rt, alloc, folder, &opened, level, settings, watch)
 }
 
-/// Compacts a `level` of the `version` and the `order` that a folder was opened as, and installs
-/// the outcome: what [`compact_dir`] does after the folder was synced and opened. The number of the
+/// Compacts a `level` of what a folder was `opened` as, and installs the outcome: what
+/// [`compact_dir`] does after the folder was opened and the version synced. The number of the
 /// manifest is the version's next file; the outputs have the numbers after it.
 pub fn compact_opened<F: Folder, W: Watch + Sync, R: Threads + Sync>(
     rt: &R,
     alloc: Global,
     folder: &mut F,
-    order: Order,
-    version: &Version,
+    opened: &Opened,
     level: u64,
     settings: &Settings<'_>,
     watch: &W,
 ) -> Result<Vec<u8>, Fault>
     ensures answer { (files : Files) → Tells (F.tells folder.old) files →
         FolderAnswers (λ v. v.items) (F.failed folder.old) (F.failed folder.new) result
-        (IsVersionCompacted (order_cmp order) (order_short_keys order)
-        files version.now level settings.now) }
+        (IsVersionCompacted (order_cmp opened.now.order) (order_short_keys opened.now.order)
+        files opened.now.version level settings.now) }
     // If the folder's files open as this version in this order.
     ensures left { (files : Files) → Tells (F.tells folder.old) files →
-        IsOpened (IsHeldIn files) (Ok (order, version.now)) →
-        IsVersionLeft order (order_cmp order) (order_short_keys order)
-        files level settings.now
+        IsOpened (IsHeldIn files) (Ok (opened.now.order, opened.now.version)) →
+        IsVersionLeft opened.now.order (order_cmp opened.now.order)
+        (order_short_keys opened.now.order) opened.now.version files level settings.now
         (F.calls folder.old) (F.calls folder.new) (F.tells folder.old) (F.tells folder.new) result }
     ensures device { ReportsDevice F.Folder folder.old folder.new result }
 {
-    match order {
+    match opened.order {
         Order::Bytewise => {
-            compact_version::<Bytewise, F, W, R>(rt, alloc, folder, version, level, settings, watch)
+            compact_version::<Bytewise, F, W, R>(rt, alloc, folder, opened, level, settings, watch)
         }
         Order::Shortlex => {
-            compact_version::<Shortlex, F, W, R>(rt, alloc, folder, version, level, settings, watch)
+            compact_version::<Shortlex, F, W, R>(rt, alloc, folder, opened, level, settings, watch)
         }
     }
 }
 
-/// Compacts a `level` of a version, and installs the outcome. The comparator's name has fewer than
-/// 2^32 bytes.
+/// Compacts a `level` of the version that a folder was `opened` as, and installs the outcome. The
+/// comparator's name has fewer than 2^32 bytes.
 fn compact_version<C: SharedComparator + 'static, F: Folder, W: Watch + Sync, R: Threads + Sync>(
     rt: &R,
     alloc: Global,
     folder: &mut F,
-    version: &Version,
+    opened: &Opened,
     level: u64,
     settings: &Settings<'_>,
     watch: &W,
@@ -124,14 +126,15 @@ fn compact_version<C: SharedComparator + 'static, F: Folder, W: Watch + Sync, R:
     ensures answer { (files : Files) → Tells (F.tells folder.old) files →
         FolderAnswers (λ v. v.items) (F.failed folder.old) (F.failed folder.new) result
         (IsVersionCompacted C.cmp C.short_keys
-        files version.now level settings.now) }
+        files opened.now.version level settings.now) }
     ensures left { (files : Files) (order : Order) → Tells (F.tells folder.old) files →
         order_name order ≡ C.name_bytes →
-        IsOpened (IsHeldIn files) (Ok (order, version.now)) →
-        IsVersionLeft order C.cmp C.short_keys files level settings.now
+        IsOpened (IsHeldIn files) (Ok (order, opened.now.version)) →
+        IsVersionLeft order C.cmp C.short_keys opened.now.version files level settings.now
         (F.calls folder.old) (F.calls folder.new) (F.tells folder.old) (F.tells folder.new) result }
     ensures device { ReportsDevice F.Folder folder.old folder.new result }
 {
+    let version = &opened.version;
     let loaded = load::<C, F>(alloc, folder, version)?;
     let compacted = compact_loaded::<C, W, R>(rt, alloc, version, &loaded, level, settings, watch)?;
     let outcome = &compacted.outcome;

@@ -18,9 +18,11 @@ mod install_laws;
 mod lines;
 mod loaded_compaction;
 mod settings;
+mod version_sync;
 
 pub use board::Open;
 pub use checks::{Watch, Work};
 pub use folder_compaction::{compact_dir, compact_opened};
 pub use install_laws::{answer_is_installed, inputs_are_tables, request_is_over, sync_stands};
 pub use settings::Settings;
+pub use version_sync::sync_version;

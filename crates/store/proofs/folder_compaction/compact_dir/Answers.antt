@@ -1,79 +1,85 @@
-use Rattle.std.proofs.Common.{Ok, Err}
+use Rattle.std.proofs.Common.{Ok, Err, Some, arith, codes, inl}
 use Rattle.edit.specs.Version.{State}
-use Rattle.folder.proofs.CountLemmas.{count_later, later_still, read_same}
+use Rattle.folder.proofs.CountLemmas.{later_still}
 use Rattle.folder.proofs.OpeningLemmas.{hands_on}
-use Rattle.folder.proofs.ReportLemmas.{reports_failed, reports_handed, reports_on, reports_then}
+use Rattle.folder.proofs.ReportLemmas.{reports_handed, reports_then}
+use Rattle.folder.specs.Names.{current_text}
 use Rattle.folder.specs.OpenAnswer.{IsOpened}
 use Rattle.folder.specs.Orders.{order_cmp, order_short_keys}
 use Rattle.folder.specs.ReadsAs.{IsHeldIn}
 use Rattle.folder.specs.declared.order.Order.{Order}
 use Rattle.store.specs.Answers.{IsFolderCompacted, IsVersionCompacted}
-use Rattle.store.proofs.Flow.{answers_behind, first_refused, no_value, opened_in, told_still}
-use Rattle.store.proofs.InstallPart.{sync_refused, sync_told, synced_left, synced_still}
+use Rattle.store.proofs.Flow.{answers_behind, first_refused, no_value, opened_in, stopped_on, told_still}
+use Rattle.store.proofs.InstallPart.{sync_refused, synced_left}
 use Rattle.store.proofs.folder_compaction.compact_dir.Goals as goal
 
-pub returns-in_err-sync_folder-clause-left : goal.returns-in_err-sync_folder-clause-left
-returns-in_err-sync_folder-clause-left g c files told =
-    let tells = g.F.Folder.tells in
-    let calls = g.F.Folder.calls in
-    sync_refused files c.args.level c.args.settings.now (calls c.args.folder.now) (calls c.sync_folder.new.self) (tells c.args.folder.now) (tells c.sync_folder.new.self) c.sync_folder.result c.from_residual.result
-    c.sync_folder.ensures.calls c.sync_folder.ensures.change (no_value c.from_residual.result _ c.from_residual.ensures.1)
-
-pub returns-in_err-sync_folder-clause-device : goal.returns-in_err-sync_folder-clause-device
-returns-in_err-sync_folder-clause-device g c = reports_failed c.from_residual.result c.in_err-sync_folder.was c.sync_folder.ensures.failures c.from_residual.ensures.1
-
-pub returns-in_err-order-clause-answer : goal.returns-in_err-order-clause-answer
-returns-in_err-order-clause-answer g c files told =
+pub returns-in_err-opened-clause-answer : goal.returns-in_err-opened-clause-answer
+returns-in_err-opened-clause-answer g c files told =
     let tells = g.F.Folder.tells in
     let failed = g.F.Folder.failed in
-    let e = c.in_err-order.field-0.0 in
+    let e = c.in_err-opened.field-0.0 in
     let next = λ (opened : Order × State). IsVersionCompacted (order_cmp opened.0) (order_short_keys opened.0) files opened.1 c.args.level c.args.settings.now in
-    let synced = sync_told c.sync_folder.result (tells c.args.folder.now) (tells c.sync_folder.new.self) c.sync_folder.ensures.change files told in
-    hands_on (λ v. v.items) (failed c.args.folder.now) (failed c.sync_folder.new.self) (failed c.open.new.folder) c.from_residual-in_err-order.result e (IsOpened (tells c.sync_folder.new.self)) (IsFolderCompacted files c.args.level c.args.settings.now)
-    c.from_residual-in_err-order.ensures.1 (count_later (failed c.args.folder.now) (failed c.sync_folder.new.self) c.sync_folder.result c.sync_folder.ensures.failures) c.open.ensures.device.later c.in_err-order.ensures.answer
-    (λ h. first_refused (IsOpened (IsHeldIn files)) next e (opened_in (tells c.sync_folder.new.self) files (Err e) synced h))
+    hands_on (λ v. v.items) (failed c.args.folder.now) (failed c.args.folder.now) (failed c.open.new.folder) c.from_residual.result e (IsOpened (tells c.args.folder.now)) (IsFolderCompacted files c.args.level c.args.settings.now)
+    c.from_residual.ensures.1 (omega arith) c.open.ensures.device.later c.in_err-opened.ensures.answer
+    (λ h. first_refused (IsOpened (IsHeldIn files)) next e (opened_in (tells c.args.folder.now) files (Err e) told h))
 
-pub returns-in_err-order-clause-left : goal.returns-in_err-order-clause-left
-returns-in_err-order-clause-left g c files told =
+pub returns-in_err-opened-clause-left : goal.returns-in_err-opened-clause-left
+returns-in_err-opened-clause-left g c files told =
+    inl (record { calls = c.open.ensures.reads.calls; same = c.open.ensures.reads.same; refused = no_value c.from_residual.result _ c.from_residual.ensures.1 })
+
+pub returns-in_err-opened-clause-device : goal.returns-in_err-opened-clause-device
+returns-in_err-opened-clause-device g c = reports_handed c.from_residual.result c.in_err-opened.was c.open.ensures.device c.from_residual.ensures.1
+
+pub returns-in_err-sync_version-clause-answer : goal.returns-in_err-sync_version-clause-answer
+returns-in_err-sync_version-clause-answer g c files told =
+    let failed = g.F.Folder.failed in
+    stopped_on (λ v. v.items) (failed c.args.folder.now) (failed c.open.new.folder) (failed c.sync_version.new.folder) c.from_residual-in_err-sync_version.result c.in_err-sync_version.field-0.0
+    (IsFolderCompacted files c.args.level c.args.settings.now)
+    c.from_residual-in_err-sync_version.ensures.1 c.open.ensures.device.later c.sync_version.ensures.device.later c.in_err-sync_version.ensures.refused
+
+pub returns-in_err-sync_version-clause-left : goal.returns-in_err-sync_version-clause-left
+returns-in_err-sync_version-clause-left g c files told =
     let tells = g.F.Folder.tells in
     let calls = g.F.Folder.calls in
-    synced_still files c.args.level c.args.settings.now (calls c.args.folder.now) (calls c.sync_folder.new.self) (calls c.open.new.folder) (tells c.args.folder.now) (tells c.sync_folder.new.self) (tells c.open.new.folder)
-    c.sync_folder.result c.from_residual-in_err-order.result c.sync_folder.ensures.calls c.sync_folder.ensures.change c.open.ensures.reads.calls c.open.ensures.reads.same
-    (no_value c.from_residual-in_err-order.result _ c.from_residual-in_err-order.ensures.1)
+    let o = c.in_ok-opened.opened in
+    sync_refused o.order o.version o.manifest files c.args.level c.args.settings.now (calls c.args.folder.now) (calls c.open.new.folder) (calls c.sync_version.new.folder)
+    (tells c.args.folder.now) (tells c.open.new.folder) (tells c.sync_version.new.folder) c.sync_version.result c.from_residual-in_err-sync_version.result
+    (opened_in (tells c.args.folder.now) files (Ok (o.order, o.version)) told c.in_ok-opened.ensures.answer)
+    ((told (codes "CURRENT") (Some (current_text o.manifest))).0 c.in_ok-opened.ensures.named)
+    c.open.ensures.reads.calls c.open.ensures.reads.same c.sync_version.ensures.runs (no_value c.from_residual-in_err-sync_version.result _ c.from_residual-in_err-sync_version.ensures.1)
 
-pub returns-in_err-order-clause-device : goal.returns-in_err-order-clause-device
-returns-in_err-order-clause-device g c =
-    let failed = g.F.Folder.failed in
-    reports_on (read_same (failed c.args.folder.now) (failed c.sync_folder.new.self) _ c.sync_folder.result c.in_ok-sync_folder.was c.sync_folder.ensures.failures)
-    (reports_handed c.from_residual-in_err-order.result c.in_err-order.was c.open.ensures.device c.from_residual-in_err-order.ensures.1)
+pub returns-in_err-sync_version-clause-device : goal.returns-in_err-sync_version-clause-device
+returns-in_err-sync_version-clause-device g c =
+    reports_then c.in_ok-opened.was c.open.ensures.device
+    (reports_handed c.from_residual-in_err-sync_version.result c.in_err-sync_version.was c.sync_version.ensures.device c.from_residual-in_err-sync_version.ensures.1)
 
 pub returns-clause-answer : goal.returns-clause-answer
 returns-clause-answer g c files told =
     let tells = g.F.Folder.tells in
     let failed = g.F.Folder.failed in
-    let opened : Order × State = (c.in_ok-order.order, c.in_ok-order.version) in
+    let o = c.in_ok-opened.opened in
+    let opened : Order × State = (o.order, o.version) in
     let next = λ (opened : Order × State). IsVersionCompacted (order_cmp opened.0) (order_short_keys opened.0) files opened.1 c.args.level c.args.settings.now in
-    let synced = sync_told c.sync_folder.result (tells c.args.folder.now) (tells c.sync_folder.new.self) c.sync_folder.ensures.change files told in
-    let begun = count_later (failed c.args.folder.now) (failed c.sync_folder.new.self) c.sync_folder.result c.sync_folder.ensures.failures in
-    answers_behind (λ v. v.items) (failed c.args.folder.now) (failed c.open.new.folder) (failed c.compact_opened.new.folder) c.compact_opened.result (IsOpened (IsHeldIn files)) next next opened
-    (later_still (failed c.args.folder.now) (failed c.sync_folder.new.self) (failed c.open.new.folder) begun c.open.ensures.device.later) c.compact_opened.ensures.device.later
-    (opened_in (tells c.sync_folder.new.self) files (Ok opened) synced c.in_ok-order.ensures.answer) (λ a h. h)
-    (c.compact_opened.ensures.answer files (told_still (tells c.sync_folder.new.self) (tells c.open.new.folder) files c.open.ensures.reads.same synced))
+    let synced = c.sync_version.ensures.same files (told_still (tells c.args.folder.now) (tells c.open.new.folder) files c.open.ensures.reads.same told) in
+    answers_behind (λ v. v.items) (failed c.args.folder.now) (failed c.sync_version.new.folder) (failed c.compact_opened.new.folder) c.compact_opened.result (IsOpened (IsHeldIn files)) next next opened
+    (later_still (failed c.args.folder.now) (failed c.open.new.folder) (failed c.sync_version.new.folder) c.open.ensures.device.later c.sync_version.ensures.device.later) c.compact_opened.ensures.device.later
+    (opened_in (tells c.args.folder.now) files (Ok opened) told c.in_ok-opened.ensures.answer) (λ a h. h)
+    (c.compact_opened.ensures.answer files synced)
 
 pub returns-clause-left : goal.returns-clause-left
 returns-clause-left g c files told =
     let tells = g.F.Folder.tells in
     let calls = g.F.Folder.calls in
-    let opened : Order × State = (c.in_ok-order.order, c.in_ok-order.version) in
-    let synced = sync_told c.sync_folder.result (tells c.args.folder.now) (tells c.sync_folder.new.self) c.sync_folder.ensures.change files told in
-    synced_left c.in_ok-order.order files c.args.level c.args.settings.now (calls c.args.folder.now) (calls c.sync_folder.new.self) (calls c.open.new.folder) (calls c.compact_opened.new.folder)
-    (tells c.args.folder.now) (tells c.sync_folder.new.self) (tells c.open.new.folder) (tells c.compact_opened.new.folder) c.sync_folder.result _ c.compact_opened.result c.in_ok-sync_folder.was
-    c.sync_folder.ensures.calls c.sync_folder.ensures.change c.open.ensures.reads.calls c.open.ensures.reads.same
-    (c.compact_opened.ensures.left files (told_still (tells c.sync_folder.new.self) (tells c.open.new.folder) files c.open.ensures.reads.same synced)
-    (opened_in (tells c.sync_folder.new.self) files (Ok opened) synced c.in_ok-order.ensures.answer))
+    let o = c.in_ok-opened.opened in
+    let opened = opened_in (tells c.args.folder.now) files (Ok (o.order, o.version)) told c.in_ok-opened.ensures.answer in
+    let synced = c.sync_version.ensures.same files (told_still (tells c.args.folder.now) (tells c.open.new.folder) files c.open.ensures.reads.same told) in
+    synced_left o.order o.version o.manifest files c.args.level c.args.settings.now (calls c.args.folder.now) (calls c.open.new.folder) (calls c.sync_version.new.folder) (calls c.compact_opened.new.folder)
+    (tells c.args.folder.now) (tells c.open.new.folder) (tells c.sync_version.new.folder) (tells c.compact_opened.new.folder) c.sync_version.result _ c.compact_opened.result
+    opened ((told (codes "CURRENT") (Some (current_text o.manifest))).0 c.in_ok-opened.ensures.named)
+    c.open.ensures.reads.calls c.open.ensures.reads.same c.in_ok-sync_version.was c.sync_version.ensures.runs
+    (c.compact_opened.ensures.left files synced opened)
 
 pub returns-clause-device : goal.returns-clause-device
 returns-clause-device g c =
-    let failed = g.F.Folder.failed in
-    reports_on (read_same (failed c.args.folder.now) (failed c.sync_folder.new.self) _ c.sync_folder.result c.in_ok-sync_folder.was c.sync_folder.ensures.failures)
-    (reports_then c.in_ok-order.was c.open.ensures.device c.compact_opened.ensures.device)
+    reports_then c.in_ok-opened.was c.open.ensures.device
+    (reports_then c.in_ok-sync_version.was c.sync_version.ensures.device c.compact_opened.ensures.device)

@@ -9,12 +9,12 @@ pub returns-in-Bytewise-clause-answer : goal.returns-in-Bytewise-clause-answer
 returns-in-Bytewise-clause-answer g c files told =
     let failed = g.F.Folder.failed in
     subst (λ (order : Order). FolderAnswers (λ v. v.items) (failed c.args.folder.now) (failed c.compact_version.new.folder) c.compact_version.result
-    (IsVersionCompacted (order_cmp order) (order_short_keys order) files c.args.version.now c.args.level c.args.settings.now))
+    (IsVersionCompacted (order_cmp order) (order_short_keys order) files c.args.opened.now.version c.args.level c.args.settings.now))
     (sym c.in-Bytewise.is) (c.compact_version.ensures.answer files told)
 
 pub returns-in-Shortlex-clause-answer : goal.returns-in-Shortlex-clause-answer
 returns-in-Shortlex-clause-answer g c files told =
     let failed = g.F.Folder.failed in
     subst (λ (order : Order). FolderAnswers (λ v. v.items) (failed c.args.folder.now) (failed c.compact_version-in-Shortlex.new.folder) c.compact_version-in-Shortlex.result
-    (IsVersionCompacted (order_cmp order) (order_short_keys order) files c.args.version.now c.args.level c.args.settings.now))
+    (IsVersionCompacted (order_cmp order) (order_short_keys order) files c.args.opened.now.version c.args.level c.args.settings.now))
     (sym c.in-Shortlex.is) (c.compact_version-in-Shortlex.ensures.answer files told)

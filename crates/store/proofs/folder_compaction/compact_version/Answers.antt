@@ -19,7 +19,7 @@ use Rattle.store.proofs.folder_compaction.compact_version.Goals as goal
 pub returns-in_err-loaded-clause-answer : goal.returns-in_err-loaded-clause-answer
 returns-in_err-loaded-clause-answer g c files told =
     let cmp = g.C.Comparator.cmp in
-    let v = c.args.version.now in
+    let v = c.args.opened.now.version in
     let tells = g.F.Folder.tells c.args.folder.now in
     let failed = g.F.Folder.failed in
     let e = c.in_err-loaded.field-0.0 in
@@ -37,7 +37,7 @@ returns-in_err-loaded-clause-left g c files order told named opened =
 pub returns-in_err-compacted-clause-answer : goal.returns-in_err-compacted-clause-answer
 returns-in_err-compacted-clause-answer g c files told =
     let cmp = g.C.Comparator.cmp in
-    let v = c.args.version.now in
+    let v = c.args.opened.now.version in
     let tells = g.F.Folder.tells c.args.folder.now in
     let failed = g.F.Folder.failed in
     let e = c.in_err-compacted.field-0.0 in
@@ -58,13 +58,13 @@ pub returns-in_err-install-clause-answer : goal.returns-in_err-install-clause-an
 returns-in_err-install-clause-answer g c files told =
     let failed = g.F.Folder.failed in
     stopped_on (λ v. v.items) (failed c.args.folder.now) (failed c.load.new.folder) (failed c.install.new.folder) c.from_residual-in_err-install.result c.in_err-install.field-0.0
-    (IsVersionCompacted g.C.Comparator.cmp g.C.Comparator.short_keys files c.args.version.now c.args.level c.args.settings.now)
+    (IsVersionCompacted g.C.Comparator.cmp g.C.Comparator.short_keys files c.args.opened.now.version c.args.level c.args.settings.now)
     c.from_residual-in_err-install.ensures.1 c.load.ensures.device.later c.install.ensures.device.later c.in_err-install.ensures.refused
 
 pub returns-in_err-install-clause-left : goal.returns-in_err-install-clause-left
 returns-in_err-install-clause-left g c files order told named opened =
     let cmp = g.C.Comparator.cmp in
-    let v = c.args.version.now in
+    let v = c.args.opened.now.version in
     let name = g.C.Comparator.name_bytes in
     let calls = g.F.Folder.calls in
     let tells = g.F.Folder.tells in
@@ -87,7 +87,7 @@ returns-in_err-install-clause-left g c files order told named opened =
 pub returns-clause-answer : goal.returns-clause-answer
 returns-clause-answer g c files told =
     let cmp = g.C.Comparator.cmp in
-    let v = c.args.version.now in
+    let v = c.args.opened.now.version in
     let tells = g.F.Folder.tells c.args.folder.now in
     let numbers = file_numbers cmp v in
     let loaded = tables_in c.in_ok-loaded.loaded.items in
@@ -99,7 +99,7 @@ returns-clause-answer g c files told =
 pub returns-clause-left : goal.returns-clause-left
 returns-clause-left g c files order told named opened =
     let cmp = g.C.Comparator.cmp in
-    let v = c.args.version.now in
+    let v = c.args.opened.now.version in
     let name = g.C.Comparator.name_bytes in
     let calls = g.F.Folder.calls in
     let tells = g.F.Folder.tells in
@@ -121,7 +121,7 @@ returns-in_err-loaded-clause-device g c = reports_handed c.from_residual.result 
 pub returns-in_err-compacted-clause-device : goal.returns-in_err-compacted-clause-device
 returns-in_err-compacted-clause-device g c =
     let cmp = g.C.Comparator.cmp in
-    let v = c.args.version.now in
+    let v = c.args.opened.now.version in
     let failed = g.F.Folder.failed in
     let e = c.in_err-compacted.field-0.0 in
     let IsAnswer = IsLoadedCompacted cmp g.C.Comparator.short_keys v (tables_in c.deref.result.now) c.args.level c.args.settings.now in

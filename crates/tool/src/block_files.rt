@@ -81,12 +81,10 @@ fn refused_together(alloc: Global, a: &str, b: &str, out: &str, fault: Fault) ->
     let told = match fault.name {
         FaultName::Duplicate => format!(in alloc;
             "{a}: it has a user key and sequence that {b} has too; give blocks that share none"
-        )
-        .ok(),
+        ).ok(),
         FaultName::TooLarge => format!(in alloc;
             "{out}: the block would have more than 1073741824 bytes; merge smaller ones"
-        )
-        .ok(),
+        ).ok(),
         _ => None,
     };
     Refusal { fault, told }

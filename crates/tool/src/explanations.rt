@@ -58,10 +58,7 @@ fn of_settings(name: FaultName) -> Option<Words> {
             "there is nothing to compact at this level: it has no file",
             "manifest shows which levels have files",
         ),
-        FaultName::Level => (
-            "this level cannot be compacted",
-            "give a level from 0 to 5",
-        ),
+        FaultName::Level => ("this level cannot be compacted", "give a level from 0 to 5"),
         FaultName::Workers => ("--workers is outside 1 to 64", "give a number within"),
         FaultName::SplitCount => ("--ranges is outside 1 to 4096", "give a number within"),
         FaultName::Options => (

@@ -89,14 +89,21 @@ fn swap_in_at<R: Files + AllocGlobal>(
         let _ = fs::remove_file(rt, name);
         return Err(Refusal::of_call(alloc, path, "replace", &error));
     }
-    sync_folder_of(rt, target)
-        .map_err(|error| Refusal::of_call(alloc, path, "sync its folder", &error))
+    sync_folder_of(rt, target).map_err(|error| Refusal::of_call(
+        alloc,
+        path,
+        "sync its folder",
+        &error,
+    ))
 }
 
 /// A new file of this name. What an earlier run left under it is removed before.
 fn made_anew<R: Files>(rt: &R, name: &str) -> io::Result<R::File> {
     let _ = fs::remove_file(rt, name);
-    OpenOptions::new().write(true).create_new(true).open(rt, name)
+    OpenOptions::new()
+        .write(true)
+        .create_new(true)
+        .open(rt, name)
 }
 
 /// Writes the bytes through to the device.

@@ -57,7 +57,11 @@ fn is_of_no_file(name: FaultName) -> bool {
 
 /// What is told of the folder's first refused file, if it is refused by this name. None if there is
 /// none, or if it can't be found.
-fn file_found<R: SystemFiles + AllocGlobal>(rt: &R, folder: &str, name: FaultName) -> Option<String> {
+fn file_found<R: SystemFiles + AllocGlobal>(
+    rt: &R,
+    folder: &str,
+    name: FaultName,
+) -> Option<String> {
     match refused_file(rt.alloc(), &mut Disk::new(rt, folder)) {
         Ok(Some(file)) if file.fault.name == name => file_told(rt.alloc(), folder, &file),
         _ => None,
@@ -172,7 +176,10 @@ fn of_detail(detail: &Detail) -> Option<Words> {
 
 /// The words of a counter that was never set.
 fn of_counter(wrong: &'static str) -> (&'static str, &'static str) {
-    (wrong, "restore the folder from a copy, or have LevelDB repair it")
+    (
+        wrong,
+        "restore the folder from a copy, or have LevelDB repair it",
+    )
 }
 
 /// What is told of a table that makes a version unlawful.

@@ -46,8 +46,11 @@ pub(crate) fn print_verdict<
     R: SystemFiles + WholeFiles + Print + Eprint + Clock + AllocGlobal + Threads + Sync,
 >(rt: &R, telling: Telling<'_>) -> Result<(), Refusal> {
     let _lock = locked_to_read(rt, telling.folder)?;
-    answer_printed(rt, telling, "verify", Question::Lawful)
-        .map_err(|refusal| explained(rt, telling.folder, refusal))
+    answer_printed(rt, telling, "verify", Question::Lawful).map_err(|refusal| explained(
+        rt,
+        telling.folder,
+        refusal,
+    ))
 }
 
 /// Prints the value of a key in a folder.
@@ -55,17 +58,17 @@ pub(crate) fn print_value<
     R: SystemFiles + WholeFiles + Print + Eprint + Clock + AllocGlobal + Threads + Sync,
 >(rt: &R, telling: Telling<'_>, key: &[u8], at: Option<u64>) -> Result<(), Refusal> {
     let _lock = locked_to_read(rt, telling.folder)?;
-    answer_printed(rt, telling, "get", Question::Value { key, at })
-        .map_err(|refusal| explained(rt, telling.folder, refusal))
+    answer_printed(rt, telling, "get", Question::Value { key, at }).map_err(|refusal| explained(
+        rt,
+        telling.folder,
+        refusal,
+    ))
 }
 
 /// Prints what the version of a folder answers to a question. The command is told as this `step`.
-fn answer_printed<R: SystemFiles + WholeFiles + Print + Eprint + Clock + AllocGlobal + Threads + Sync>(
-    rt: &R,
-    telling: Telling<'_>,
-    step: &str,
-    question: Question<'_>,
-) -> Result<(), Refusal> {
+fn answer_printed<
+    R: SystemFiles + WholeFiles + Print + Eprint + Clock + AllocGlobal + Threads + Sync,
+>(rt: &R, telling: Telling<'_>, step: &str, question: Question<'_>) -> Result<(), Refusal> {
     let begun = telling.begin(rt);
     let opened = begin_work(rt, telling)?;
     sizes_tested(rt, telling.folder, &opened)?;
@@ -117,12 +120,9 @@ pub(crate) fn compact_folder<
     })
 }
 
-fn compact_levels<R: SystemFiles + WholeFiles + Print + Eprint + Clock + AllocGlobal + Threads + Sync>(
-    rt: &R,
-    telling: Telling<'_>,
-    levels: Levels,
-    settings: &CompactSettings,
-) -> Result<(), Refusal> {
+fn compact_levels<
+    R: SystemFiles + WholeFiles + Print + Eprint + Clock + AllocGlobal + Threads + Sync,
+>(rt: &R, telling: Telling<'_>, levels: Levels, settings: &CompactSettings) -> Result<(), Refusal> {
     let opened = begin_work(rt, telling)?;
     sizes_tested(rt, telling.folder, &opened)?;
     sync(rt, telling.folder, &opened)?;
@@ -168,7 +168,9 @@ fn compact_all<R: SystemFiles + WholeFiles + Print + Eprint + Clock + AllocGloba
 }
 
 /// Compacts a level of a folder, and answers what the folder is opened as after it.
-fn compact_step<R: SystemFiles + WholeFiles + Print + Eprint + Clock + AllocGlobal + Threads + Sync>(
+fn compact_step<
+    R: SystemFiles + WholeFiles + Print + Eprint + Clock + AllocGlobal + Threads + Sync,
+>(
     rt: &R,
     telling: Telling<'_>,
     opened: &Opened,
@@ -203,7 +205,9 @@ fn open_folder<R: SystemFiles + AllocGlobal>(rt: &R, path: &str) -> Result<Opene
 }
 
 /// Compacts a level of a folder, and prints what was made.
-fn compact_level<R: SystemFiles + WholeFiles + Print + Eprint + Clock + AllocGlobal + Threads + Sync>(
+fn compact_level<
+    R: SystemFiles + WholeFiles + Print + Eprint + Clock + AllocGlobal + Threads + Sync,
+>(
     rt: &R,
     telling: Telling<'_>,
     opened: &Opened,

@@ -96,7 +96,12 @@ fn carry_out<R: SystemFiles + WholeFiles + Print + Eprint + Clock + AllocGlobal 
             key,
             at,
             verbose,
-        } => print_value(rt, telling(folder, *verbose, is_watched), key.as_slice(), *at),
+        } => print_value(
+            rt,
+            telling(folder, *verbose, is_watched),
+            key.as_slice(),
+            *at,
+        ),
     }
 }
 
@@ -115,8 +120,11 @@ fn subject<'a>(line: &Line<'a>) -> &'a str {
 /// Prints the entries of the table in a file.
 fn print_table<R: Files + Print + AllocGlobal>(rt: &R, table: &str) -> Result<(), Refusal> {
     let bytes = files::read(rt, table)?;
-    let lines = dump(rt.alloc(), bytes.as_slice())
-        .map_err(|fault| Refusal::of_file(rt.alloc(), table, fault))?;
+    let lines = dump(rt.alloc(), bytes.as_slice()).map_err(|fault| Refusal::of_file(
+        rt.alloc(),
+        table,
+        fault,
+    ))?;
     print_lines(rt, lines.as_slice())
 }
 

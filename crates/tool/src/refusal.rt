@@ -32,7 +32,9 @@ impl Refusal {
 
     /// The refusal that the file at `path` isn't there.
     pub fn of_missing(alloc: Global, path: &str) -> Refusal {
-        let text = format!(in alloc; "{path}: it is missing; give the path of a file that is there");
+        let text = format!(in alloc;
+            "{path}: it is missing; give the path of a file that is there"
+        );
         Refusal {
             fault: Fault::of(FaultName::Missing),
             told: text.ok(),

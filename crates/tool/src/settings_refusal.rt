@@ -38,8 +38,7 @@ fn level_told(alloc: Global, folder: &str, levels: Levels, name: FaultName) -> O
     if name == FaultName::Level {
         return format!(in alloc;
             "{folder}: level {level} cannot be compacted; give a level from 0 to 5"
-        )
-        .ok();
+        ).ok();
     }
     format!(in alloc;
         "{folder}: there is nothing to compact at level {level}: it has no file; manifest shows \
@@ -55,8 +54,7 @@ fn outside(alloc: Global, folder: &str, option: &str, value: u64, most: u64) -> 
     }
     format!(in alloc;
         "{folder}: {option} {value} is outside 1 to {most}; give a number within these limits"
-    )
-    .ok()
+    ).ok()
 }
 
 /// What is told of the option of the outputs that is outside its limits. None if none is.
@@ -66,7 +64,13 @@ fn options_told(alloc: Global, folder: &str, settings: &CompactSettings) -> Opti
     if block_size.is_some() {
         return block_size;
     }
-    outside(alloc, folder, "--file-size", options.file_size, 1_073_741_824)
+    outside(
+        alloc,
+        folder,
+        "--file-size",
+        options.file_size,
+        1_073_741_824,
+    )
 }
 
 /// What is told of a snapshot that is 2^56 - 1 or more. None if there is none.
@@ -112,8 +116,7 @@ fn list_told(alloc: Global, folder: &str, readable: &Readable) -> Option<String>
     if count > MAX_LISTED {
         return format!(in alloc;
             "{folder}: --snapshots has {count} sequences; give at most {MAX_LISTED}"
-        )
-        .ok();
+        ).ok();
     }
     if let Some((before, after)) = first_fall(list) {
         return format!(in alloc;
@@ -125,8 +128,7 @@ fn list_told(alloc: Global, folder: &str, readable: &Readable) -> Option<String>
     let greatest = list.last()?;
     format!(in alloc;
         "{folder}: --snapshots has {greatest}, which is above the last sequence; leave it out"
-    )
-    .ok()
+    ).ok()
 }
 
 /// The first two neighbours of a list that don't rise.

@@ -17,7 +17,7 @@ use crate::version_verdict::verified;
 use checks::Watch;
 use coding::Fault;
 use edit::Version;
-use folder::{Folder, Opened, Order, load, open};
+use folder::{Folder, Order, load, open};
 use ikey::{Bytewise, SharedComparator, Shortlex};
 use std::alloc::Global;
 use std::thread::Threads;
@@ -36,8 +36,8 @@ pub fn manifest<F: Folder>(alloc: Global, folder: &mut F) -> Result<Vec<u8>, Fau
     ensures device { ReportsDevice F.Folder folder.old folder.new result }
     ensures reads { OnlyReads F.Folder folder.old folder.new }
 {
-    let Opened { order, version, .. } = open(alloc, folder)?;
-    manifest_lines(alloc, order, &version)
+    let opened = open(alloc, folder)?;
+    manifest_lines(alloc, opened.order, &opened.version)
 }
 
 /// The lines of a `version` of this `order`: what [`manifest`] answers of a folder that is opened
@@ -114,8 +114,16 @@ fn answered<F: Folder, W: Watch + Sync, R: Threads + Sync>(
     ensures device { ReportsDevice F.Folder folder.old folder.new result }
     ensures reads { OnlyReads F.Folder folder.old folder.new }
 {
-    let Opened { order, version, .. } = open(alloc, folder)?;
-    answer_opened(rt, alloc, folder, order, &version, question, watch)
+    let opened = open(alloc, folder)?;
+    answer_opened(
+        rt,
+        alloc,
+        folder,
+        opened.order,
+        &opened.version,
+        question,
+        watch,
+    )
 }
 
 /// What a `version` of this `order` answers with the tables in the folder: what [`verify`] and

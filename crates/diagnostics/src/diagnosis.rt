@@ -1,15 +1,15 @@
-//! Which file of a folder is refused, and whether its log has writes. Both are told if that is
-//! asked for. No contract says which file or log this is.
+//! Which file of a folder is refused. No contract says which one it is.
 
 ghost use Rattle.folder.specs.Reports.{OnlyReads};
 
+use crate::checked_tables::refused_among;
+use crate::detail::Detail;
+use crate::manifest_diagnosis::manifest_detail;
 use coding::{Fault, FaultName};
 use edit::{FileMeta, Version};
-use folder::{CURRENT, Folder, Order, open, table_name};
+use folder::{CURRENT, Folder, Order, manifest_name, number_in_current, open, table_name};
 use ikey::{Bytewise, Comparator, Shortlex};
-use reads::has_bounds;
 use std::alloc::Global;
-use table::check;
 
 /// The number of a version's levels.
 pub(crate) const LEVELS: u64 = 7;
@@ -19,17 +19,19 @@ pub(crate) const LEVELS: u64 = 7;
 pub struct RefusedFile {
     /// Its name in the folder.
     pub name: String,
-    /// The first test that it fails.
+    /// The first test that it fails; Lawless if each file by itself is accepted.
     pub fault: Fault,
+    /// What is known beside.
+    pub detail: Option<Detail>,
 }
 
-/// The first file of a folder that is refused; None if each file by itself is accepted. It only
-/// reads. The file is
+/// The first file of a folder that is refused; None if the folder is accepted. It only reads. The
+/// file is
 ///
 /// - CURRENT, if it names no manifest;
 /// - the manifest, if the folder can't be opened;
 /// - the first missing table, else the first invalid one, by level and in version order;
-/// - else the first table whose size or keys aren't those of the manifest: `Bounds`.
+/// - else the first table that makes the version unlawful, those with newer entries first.
 ///
 /// The only faults are Device and Memory: what is wrong with a file is the answer. If one of these
 /// two comes while the folder is opened, or if memory runs out while a table is checked, it may be
@@ -42,53 +44,53 @@ pub fn refused_file<F: Folder>(alloc: Global, folder: &mut F) -> Result<Option<R
             Order::Bytewise => refused_table::<Bytewise, F>(alloc, folder, &opened.version),
             Order::Shortlex => refused_table::<Shortlex, F>(alloc, folder, &opened.version),
         },
-        Err(fault) => {
-            let name = opening_file(alloc, folder)?;
-            Ok(Some(RefusedFile { name, fault }))
-        }
+        Err(fault) => opening_file(alloc, folder, fault),
     }
 }
 
-/// The file at which opening is refused: the manifest, if CURRENT names one, else CURRENT.
-fn opening_file<F: Folder>(alloc: Global, folder: &mut F) -> Result<String, Fault>
+/// The file at which opening is refused with this `fault`: the manifest, if CURRENT names one, else
+/// CURRENT.
+fn opening_file<F: Folder>(
+    alloc: Global,
+    folder: &mut F,
+    fault: Fault,
+) -> Result<Option<RefusedFile>, Fault>
     ensures reads { OnlyReads F.Folder folder.old folder.new }
 {
-    let current = folder.read(CURRENT)?;
-    let name = match &current {
-        Some(bytes) => manifest_named(bytes),
-        None => None,
+    let Some(number) = manifest_named(alloc, folder)? else {
+        let name = String::from_str(alloc, CURRENT)?;
+        return Ok(Some(RefusedFile {
+            name,
+            fault,
+            detail: None,
+        }));
     };
-    Ok(String::from_str(alloc, name.unwrap_or(CURRENT))?)
+    let name = manifest_name(alloc, number)?;
+    let detail = manifest_detail(alloc, folder, name.as_str(), number, fault.name)?;
+    Ok(Some(RefusedFile {
+        name,
+        fault,
+        detail,
+    }))
 }
 
-/// The name of the manifest that the bytes of CURRENT give.
-fn manifest_named(bytes: &[u8]) -> Option<&str> {
-    let Ok(text) = str::from_utf8(bytes) else {
-        return None;
-    };
-    let Some(name) = text.strip_suffix("\n") else {
-        return None;
-    };
-    let Some(digits) = name.strip_prefix("MANIFEST-") else {
-        return None;
-    };
-    let digits = digits.as_bytes();
-    if digits.len() < 6 {
-        return None;
+/// The number of the manifest that CURRENT names. None if it names none, or isn't there.
+fn manifest_named<F: Folder>(alloc: Global, folder: &mut F) -> Result<Option<u64>, Fault>
+    ensures reads { OnlyReads F.Folder folder.old folder.new }
+{
+    match folder.read(CURRENT)? {
+        Some(bytes) => Ok(number_in_current(alloc, &bytes).ok()),
+        None => Ok(None),
     }
-    for digit in digits {
-        if !digit.is_ascii_digit() {
-            return None;
-        }
-    }
-    Some(name)
 }
 
 /// A table of the folder, and what the manifest says of it.
 #[derive(Drop)]
-struct ListedTable<'v> {
-    meta: &'v FileMeta,
-    file: TableFile,
+pub(crate) struct ListedTable<'v> {
+    /// From 0 to 6.
+    pub level: u64,
+    pub meta: &'v FileMeta,
+    pub file: TableFile,
 }
 
 /// The first missing table of a version, or else the first that is refused.
@@ -102,18 +104,19 @@ fn refused_table<C: Comparator, F: Folder>(
     let mut tables = Vec::new(alloc);
     for level in 0..LEVELS {
         let files = version.files::<C>(alloc, level)?;
-        let missing = push_tables(alloc, folder, &files, &mut tables)?;
+        let missing = push_tables(alloc, folder, level, &files, &mut tables)?;
         if missing.is_some() {
             return Ok(missing);
         }
     }
-    first_refused::<C>(alloc, &tables)
+    refused_among::<C>(alloc, version, &tables)
 }
 
-/// Appends the tables of these files. Answers the first missing one, if there is one.
+/// Appends the tables of these files of a level. Answers the first missing one, if there is one.
 fn push_tables<'v, F: Folder>(
     alloc: Global,
     folder: &mut F,
+    level: u64,
     files: &[&'v FileMeta],
     tables: &mut Vec<ListedTable<'v>>,
 ) -> Result<Option<RefusedFile>, Fault>
@@ -121,7 +124,7 @@ fn push_tables<'v, F: Folder>(
 {
     for meta in files {
         match table_file(alloc, folder, meta.number)? {
-            Some(file) => tables.push(ListedTable { meta, file })?,
+            Some(file) => tables.push(ListedTable { level, meta, file })?,
             None => return missing(alloc, meta.number),
         }
     }
@@ -131,8 +134,11 @@ fn push_tables<'v, F: Folder>(
 /// The answer that the table of this `number` is missing.
 fn missing(alloc: Global, number: u64) -> Result<Option<RefusedFile>, Fault> {
     let name = table_name(alloc, number)?;
-    let fault = Fault::of(FaultName::Missing);
-    Ok(Some(RefusedFile { name, fault }))
+    Ok(Some(RefusedFile {
+        name,
+        fault: Fault::of(FaultName::Missing),
+        detail: None,
+    }))
 }
 
 /// A table of the folder.
@@ -158,69 +164,5 @@ pub(crate) fn table_file<F: Folder>(
     match folder.read(name.as_str())? {
         Some(bytes) => Ok(Some(TableFile { name, bytes })),
         None => Ok(None),
-    }
-}
-
-/// The first invalid table, or else the first that isn't as the manifest says.
-fn first_refused<C: Comparator>(
-    alloc: Global,
-    tables: &[ListedTable<'_>],
-) -> Result<Option<RefusedFile>, Fault> {
-    let mut unlike = None;
-    for table in tables {
-        match is_as_stated::<C>(alloc, table) {
-            Ok(true) => {}
-            Ok(false) => unlike = unlike.or(Some(table)),
-            Err(fault) => return named(alloc, table, fault),
-        }
-    }
-    match unlike {
-        Some(table) => named(alloc, table, Fault::of(FaultName::Bounds)),
-        None => Ok(None),
-    }
-}
-
-/// The answer that a table is refused, by its name.
-fn named(
-    alloc: Global,
-    table: &ListedTable<'_>,
-    fault: Fault,
-) -> Result<Option<RefusedFile>, Fault> {
-    let name = String::from_str(alloc, table.file.name.as_str())?;
-    Ok(Some(RefusedFile { name, fault }))
-}
-
-/// Whether a table has the size and the smallest and largest key that the manifest says. Refused if
-/// it is invalid.
-fn is_as_stated<C: Comparator>(alloc: Global, table: &ListedTable<'_>) -> Result<bool, Fault> {
-    let sound = check::<C>(alloc, &table.file.bytes)?;
-    Ok(has_bounds(table.meta, sound.bytes(), sound.smallest(), sound.largest()))
-}
-
-/// The name of the log that a version names, if it is there and holds writes. Refused if the log
-/// can't be read. Only reads.
-pub fn log_with_writes<F: Folder>(
-    alloc: Global,
-    folder: &mut F,
-    version: &Version,
-) -> Result<Option<String>, Fault>
-    ensures reads { OnlyReads F.Folder folder.old folder.new }
-{
-    let number = version.log_number().unwrap_or(0);
-    let name = format!(in alloc; "{number:06}.log")?;
-    if holds_bytes(folder, name.as_str())? {
-        Ok(Some(name))
-    } else {
-        Ok(None)
-    }
-}
-
-/// Whether a folder has a file of this name that isn't empty.
-fn holds_bytes<F: Folder>(folder: &mut F, name: &str) -> Result<bool, Fault>
-    ensures reads { OnlyReads F.Folder folder.old folder.new }
-{
-    match folder.read(name)? {
-        Some(bytes) => Ok(!bytes.is_empty()),
-        None => Ok(false),
     }
 }

@@ -1,14 +1,21 @@
-//! What is read of a folder again to tell of the work on it, if that is asked for.
+//! What is read of a folder again to tell of the work on it.
 //!
 //! 1. [`refused_file`]: which file is refused, and why.
-//! 2. [`log_with_writes`]: the log that the version names, if it has writes.
+//! 2. [`replayed_log`]: which logs LevelDB would replay, by their names.
 //! 3. [`account_of`]: the numbers of a compaction, after it was installed.
 //!
 //! None of them changes a folder. No contract says which file, log or numbers these are.
 #![tactic(auto)]
 
+mod checked_tables;
 mod compaction_account;
+mod detail;
 mod diagnosis;
+mod manifest_diagnosis;
+mod misplaced_entry;
+mod replayed_logs;
 
 pub use compaction_account::account_of;
-pub use diagnosis::{RefusedFile, log_with_writes, refused_file};
+pub use detail::Detail;
+pub use diagnosis::{RefusedFile, refused_file};
+pub use replayed_logs::replayed_log;

@@ -50,9 +50,7 @@ const ALL_HELP: &str =
     "All levels: each that has files, from 0 down, again and again until all files are at the \
         deepest one";
 
-const VERBOSE_HELP: &str =
-    "Tells on the standard error how long the work took, which file was refused and why, and of a \
-        log with writes";
+const VERBOSE_HELP: &str = "Tells on the standard error how long the work took";
 
 const EXPLAIN_HELP: &str =
     "Tells on the standard error, behind the lines of each compaction, how it went: inputs, ranges, \

@@ -3,7 +3,7 @@ use account::{Account, text};
 use checks::Work;
 use coding::{Fault, FaultName};
 use commands::{Open, bottom, dump, get_dir, manifest, next_level, progress_text, status, verify};
-use diagnostics::{RefusedFile, account_of, log_with_writes, refused_file};
+use diagnostics::{RefusedFile, account_of, refused_file, replayed_log};
 use folder::{Failing, FolderFault, Shelf, open};
 use std::alloc::Global;
 use std::test::*;
@@ -17,7 +17,8 @@ enum Call {
     /// A key, and a sequence.
     Get(&'static [u8], Option<u64>),
     RefusedFile,
-    Log,
+    /// Which of [`LOGS`] are replayed.
+    Logs,
     /// The folder before a compaction, and its level.
     Account(Place, u64),
     /// The first level with files above the deepest one, and the bottom.
@@ -41,6 +42,19 @@ const DEEPEST: u64 = 6;
 
 /// No call has this number.
 const NEVER: u64 = u64::MAX;
+
+/// Names of logs, and some that are none.
+const LOGS: &[&str] = &[
+    "000002.log",
+    "000003.log",
+    "000012.log",
+    "1000000.log",
+    "0000004.log",
+    "5.log",
+    "00x006.log",
+    "18446744073709551616.log",
+    "000003.ldb",
+];
 
 const ROWS: &[Row] = &[
     ("a file", Call::Manifest, Place::One, NEVER, Ok(ONE_LINES)),
@@ -73,11 +87,11 @@ const ROWS: &[Row] = &[
         Ok("000007.ldb: Short"),
     ),
     (
-        "a log with writes",
-        Call::Log,
-        Place::Logged,
+        "logs from number 3 on",
+        Call::Logs,
+        Place::One,
         NEVER,
-        Ok("000003.log"),
+        Ok("3 12 1000000 "),
     ),
     (
         "entries that were dropped",
@@ -233,13 +247,16 @@ fn first_refusal(alloc: Global, folder: &mut Shelf<'_>) -> Result<Vec<u8>, Fault
     }
 }
 
-/// The name of a log with writes, if there is one.
-fn log_name(alloc: Global, folder: &mut Shelf<'_>) -> Result<Vec<u8>, Fault> {
+/// The numbers of the logs that are replayed over a folder's version, a space after each.
+fn replayed_logs(alloc: Global, folder: &mut Shelf<'_>) -> Result<Vec<u8>, Fault> {
     let version = open(alloc, folder)?.version;
-    match log_with_writes(alloc, folder, &version)? {
-        Some(name) => Ok(name.into_bytes()),
-        None => Ok(Vec::new(alloc)),
+    let mut numbers = String::new(alloc);
+    for name in LOGS {
+        if let Some(number) = replayed_log(&version, name) {
+            write!(numbers, "{number} ")?;
+        }
     }
+    Ok(numbers.into_bytes())
 }
 
 /// A folder's first level with files above the deepest one, and the bottom.
@@ -272,7 +289,7 @@ fn answer<R: AllocGlobal + Threads + Sync>(
         Call::Verify => verify(rt, alloc, folder, &Open),
         Call::Get(key, at) => get_dir(rt, alloc, folder, key, *at, &Open),
         Call::RefusedFile => first_refusal(alloc, folder),
-        Call::Log => log_name(alloc, folder),
+        Call::Logs => replayed_logs(alloc, folder),
         Call::Account(before, level) => explained(alloc, files_of(*before), folder, *level),
         Call::NextLevel => levels_of(alloc, folder),
         Call::Progress(done) => bytes_of(progress_text(alloc, Work::Compact, 8, *done)),

@@ -39,16 +39,12 @@ const ONE_DAMAGED: Files = &[CURRENT, ONE_MANIFEST, DAMAGED];
 /// The folder of file 7, compacted.
 const NONE_LEFT: Files = &[CURRENT, ("MANIFEST-000005", NO_FILE), SEVEN];
 
-/// The folder of file 7's version with a log that isn't empty.
-const LOGGED: Files = &[CURRENT, ONE_MANIFEST, ("000003.log", b"x")];
-
 /// One of these folders, or an empty one.
 #[derive(Clone, Copy)]
 pub(crate) enum Place {
     One,
     Damaged,
     NoneLeft,
-    Logged,
     Empty,
 }
 
@@ -58,7 +54,6 @@ pub(crate) fn files_of(place: Place) -> Files {
         Place::One => ONE,
         Place::Damaged => ONE_DAMAGED,
         Place::NoneLeft => NONE_LEFT,
-        Place::Logged => LOGGED,
         Place::Empty => &[],
     }
 }

@@ -1,86 +1,168 @@
-//! What the name of a refusal means, in plain words.
+//! What a refusal means and what to do about it, in plain words.
 
 use coding::FaultName;
 
-/// What is wrong, if the refusal has this name.
-pub(crate) fn in_words(name: FaultName) -> &'static str {
+/// What is wrong, and what to do about it.
+#[derive(Clone, Copy)]
+pub(crate) struct Words {
+    pub wrong: &'static str,
+    pub remedy: &'static str,
+}
+
+/// The words of a refusal that is about a folder or a machine; if there are none, those of a file
+/// that is refused so.
+pub(crate) fn in_words(name: FaultName) -> Words {
     match of_work(name) {
         Some(words) => words,
-        None => match of_settings(name) {
-            Some(words) => words,
-            None => of_bytes(name),
-        },
+        None => of_file(name),
     }
 }
 
-/// What is wrong with the folder or the machine.
-fn of_work(name: FaultName) -> Option<&'static str> {
-    Some(match name {
-        FaultName::Missing => "it isn't there",
-        FaultName::Locked => "another program has the folder open",
-        FaultName::Changed => "the folder changed while it was read",
-        FaultName::Device => "a call of the system failed",
-        FaultName::Memory => "there is not enough memory",
-        FaultName::NoInput => "the level has no file",
-        FaultName::Numbers => "file numbers would pass 2^64 - 1",
-        FaultName::Duplicate => "one user key and sequence come twice",
-        FaultName::Lawless => {
-            "what the manifest says of the files isn't what they hold, or newer entries lie below \
-                older ones"
-        }
-        _ => return None,
-    })
+/// The words of a refusal that is about no file.
+fn of_work(name: FaultName) -> Option<Words> {
+    let (wrong, remedy) = match name {
+        FaultName::Locked => (
+            "another program has the database open",
+            "close it and try again",
+        ),
+        FaultName::Changed => (
+            "another program changed the database meanwhile",
+            "run it again",
+        ),
+        FaultName::Device => ("a call of the system failed", "run it again"),
+        FaultName::Memory => (
+            "there is not enough memory to hold all that is read",
+            "give the program more of it",
+        ),
+        FaultName::Numbers => (
+            "the numbers of new files would pass 18446744073709551615",
+            "copy what it holds into a new database",
+        ),
+        FaultName::Duplicate => (
+            "one user key and sequence come twice",
+            "restore the folder from a copy",
+        ),
+        FaultName::Lawless => (
+            "the version is not lawful",
+            "restore the folder from a copy, or have LevelDB compact all of it",
+        ),
+        name => return of_settings(name),
+    };
+    Some(Words { wrong, remedy })
 }
 
-/// What is wrong with what was asked for.
-fn of_settings(name: FaultName) -> Option<&'static str> {
-    Some(match name {
-        FaultName::Level => "only files of the levels 0 to 5 can be compacted",
-        FaultName::Options => {
-            "the size of a block or of a file is outside its limits, or there are too many inputs"
-        }
-        FaultName::SplitCount => "the number of ranges isn't from 1 to 4096",
-        FaultName::SplitOrder => "the boundaries of the ranges don't rise",
-        FaultName::Workers => "the number of workers isn't from 1 to 64",
-        FaultName::Snapshot => "a snapshot, or the last sequence, is 2^56 - 1 or more",
-        FaultName::SnapshotList => {
-            "the listed snapshots don't rise, are more than 4096, or one is above the last sequence"
-        }
+/// The words of a refusal of what was asked for.
+fn of_settings(name: FaultName) -> Option<Words> {
+    let (wrong, remedy) = match name {
+        FaultName::NoInput => (
+            "there is nothing to compact at this level: it has no file",
+            "manifest shows which levels have files",
+        ),
+        FaultName::Level => ("this level cannot be compacted", "give a level from 0 to 5"),
+        FaultName::Workers => ("--workers is outside 1 to 64", "give a number within"),
+        FaultName::SplitCount => ("--ranges is outside 1 to 4096", "give a number within"),
+        FaultName::Options => (
+            "the compaction takes more than 256 files",
+            "have LevelDB compact the level",
+        ),
+        FaultName::Snapshot => (
+            "the last sequence is 72057594037927935 or more, which no database reaches",
+            "restore the folder from a copy",
+        ),
+        FaultName::SnapshotList => (
+            "--snapshots does not rise, or has a sequence above the last one",
+            "leave that sequence out",
+        ),
+        FaultName::TooLarge => (
+            "an output would have more than 1073741824 bytes, or all more than 2^40 data blocks",
+            "give a smaller --file-size, or a larger --block-size",
+        ),
         _ => return None,
-    })
+    };
+    Some(Words { wrong, remedy })
 }
 
-/// What is wrong with the bytes of a file.
-fn of_bytes(name: FaultName) -> &'static str {
-    match name {
-        FaultName::LogShape => "its bytes aren't laid out as a log of whole records",
-        FaultName::LogChecksum => "a record's checksum is not that of its bytes",
-        FaultName::EditTag => "a version edit has an unknown tag",
-        FaultName::EditField => "a field of a version edit can't be read",
-        FaultName::Comparator => "it names no comparator, or one that isn't known here",
-        FaultName::Apply => "it names no manifest, or its edits don't fit together",
-        name => of_table(name),
+/// The words of a file that is refused.
+pub(crate) fn of_file(name: FaultName) -> Words {
+    match of_manifest(name) {
+        Some(words) => words,
+        None => of_table(name),
     }
 }
 
-/// What is wrong with the bytes of a table.
-fn of_table(name: FaultName) -> &'static str {
+/// The words of a manifest that is refused, or of CURRENT.
+fn of_manifest(name: FaultName) -> Option<Words> {
+    let (wrong, remedy) = match name {
+        FaultName::LogShape => (
+            "it is not laid out as a log of whole records: the database is damaged",
+            "restore the folder from a copy, or open it once with LevelDB, which drops a cut end",
+        ),
+        FaultName::LogChecksum => (
+            "a record's checksum is wrong: the database is damaged",
+            "restore the folder from a copy",
+        ),
+        FaultName::EditTag => (
+            "a version edit has an unknown tag: the database is damaged",
+            "restore the folder from a copy",
+        ),
+        FaultName::EditField => (
+            "a field of a version edit cannot be read: the database is damaged",
+            "restore the folder from a copy",
+        ),
+        FaultName::Comparator => (
+            "it names no comparator that is known",
+            "compact it with the program that wrote it",
+        ),
+        FaultName::Apply => (
+            "it names no manifest: the database is damaged",
+            "restore the folder from a copy",
+        ),
+        _ => return None,
+    };
+    Some(Words { wrong, remedy })
+}
+
+/// The words of a table that is refused.
+fn of_table(name: FaultName) -> Words {
+    Words {
+        wrong: in_table(name),
+        remedy: remedy_of_table(name),
+    }
+}
+
+/// What is wrong with a table.
+fn in_table(name: FaultName) -> &'static str {
     match name {
-        FaultName::Size => "it has more than 2^30 bytes",
+        FaultName::Missing => "it is missing",
+        FaultName::Size => "it has more than 1073741824 bytes, the most that a table may have",
         FaultName::Short => "it is shorter than a table's footer",
-        FaultName::Magic => "it doesn't end as a table does",
-        FaultName::Handle => "it doesn't say where its blocks are",
+        FaultName::Magic => "it does not end as a table does",
+        FaultName::Handle => "it does not say where its blocks are",
         FaultName::Range => "a block would lie outside the file",
-        FaultName::Trailer => "a block's checksum is not that of its bytes",
-        FaultName::Compressed => "a block is compressed, and none can be read so",
+        FaultName::Trailer => "a block's checksum is wrong",
+        FaultName::Compressed => "a block is compressed",
         FaultName::BlockType => "a block is of an unknown type",
-        FaultName::Block => "a block's bytes can't be read as entries",
+        FaultName::Block => "a block's bytes cannot be read as entries",
         FaultName::Key => "a key is no internal key",
-        FaultName::TooLarge => "a user key, a value or a file is over its limit",
+        FaultName::TooLarge => {
+            "a user key has more than 65535 bytes, or a value more than 16777215"
+        }
         FaultName::Empty => "it, or a block of it, has no entry",
-        FaultName::Order => "its keys don't rise",
-        FaultName::Index => "its index doesn't fit its blocks",
-        FaultName::Bounds => "its size or keys aren't those that the manifest says",
+        FaultName::Order => "its keys do not rise",
+        FaultName::Index => "its index does not fit its blocks",
         _ => "it is refused",
+    }
+}
+
+/// What to do about a table.
+fn remedy_of_table(name: FaultName) -> &'static str {
+    match name {
+        FaultName::Compressed => "have LevelDB write the database anew with compression off",
+        FaultName::BlockType => {
+            "restore the file from a copy, or have LevelDB write the database anew with \
+                compression off"
+        }
+        FaultName::Size | FaultName::TooLarge => "have LevelDB compact the database",
+        _ => "restore the file from a copy",
     }
 }

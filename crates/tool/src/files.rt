@@ -1,65 +1,109 @@
 //! Whole files, read and replaced.
 
-use coding::{Fault, FaultName};
-use std::fs::{OpenFile, OpenOptions, Permissions};
+use crate::refusal::Refusal;
+use coding::Fault;
+use std::fs::{File, OpenFile, OpenOptions, Permissions};
 use std::io::{ErrorKind, Write};
 use std::rt::Files;
 use std::{fs, io};
 
-/// The most names of temporary files that are tried.
-const ATTEMPTS: u32 = 1_000;
-
 /// The bytes of a file. Missing if there is no such file, Device if it can't be read.
-pub(crate) fn read<R: Files + AllocGlobal>(rt: &R, path: &str) -> Result<Vec<u8>, Fault> {
+pub(crate) fn read<R: Files + AllocGlobal>(rt: &R, path: &str) -> Result<Vec<u8>, Refusal> {
     fs::read(rt, path).map_err(|error| match error.kind() {
-        ErrorKind::NotFound => Fault::of(FaultName::Missing),
-        _ => failed(&error),
+        ErrorKind::NotFound => Refusal::of_missing(rt.alloc(), path),
+        _ => Refusal::of_call(rt.alloc(), path, "read", &error),
     })
 }
 
-/// Replaces what a file holds by these bytes. If that is refused, the file holds what it held.
+/// Replaces what a file holds by these bytes. If that is refused, the file holds what it held,
+/// unless the last step is.
 ///
-/// The bytes go into a temporary file in the same folder, which is then renamed. Anything that is
-/// no file, as a terminal or a pipe, is written directly.
+/// The bytes go into a temporary file in the same folder, which is synced and then renamed. The
+/// last step syncs the folder. Anything that is no file, as a terminal or a pipe, is written
+/// directly.
 pub(crate) fn replace<R: Files + AllocGlobal>(
     rt: &R,
     path: &str,
     bytes: &[u8],
-) -> Result<(), Fault> {
-    let permissions = match OpenOptions::new().write(true).open(rt, path) {
-        Ok(mut file) => {
-            let metadata = file.metadata().map_err(|error| failed(&error))?;
-            if !metadata.is_file() {
-                return file.write_all(bytes).map_err(|error| failed(&error));
-            }
-            Some(metadata.permissions())
-        }
-        Err(error) if error.kind() == ErrorKind::NotFound => None,
-        Err(error) => return Err(failed(&error)),
-    };
-    // A link stays a link: the file that it leads to is replaced.
-    match fs::canonicalize(rt, path) {
-        Ok(target) => swap_in(rt, target.as_str(), bytes, permissions),
-        Err(_) => swap_in(rt, path, bytes, permissions),
+) -> Result<(), Refusal> {
+    match permissions_or_written(rt, path, bytes) {
+        Ok(None) => Ok(()),
+        Ok(permissions) => swap_in(rt, path, bytes, permissions),
+        Err(error) if error.kind() == ErrorKind::NotFound => swap_in(rt, path, bytes, None),
+        Err(error) => Err(Refusal::of_call(rt.alloc(), path, "write", &error)),
     }
 }
 
-/// Writes a temporary file beside the path, and renames it to the path.
+/// The permissions of a file at a path, which is left as it is. What is there and is no file is
+/// written, and the answer is None.
+fn permissions_or_written<R: Files>(
+    rt: &R,
+    path: &str,
+    bytes: &[u8],
+) -> io::Result<Option<Permissions>> {
+    let mut file = OpenOptions::new().write(true).open(rt, path)?;
+    let metadata = file.metadata()?;
+    if metadata.is_file() {
+        return Ok(Some(metadata.permissions()));
+    }
+    file.write_all(bytes)?;
+    Ok(None)
+}
+
+/// Writes a temporary file beside the file at a path, and renames it. A link stays a link: the file
+/// that it leads to is replaced.
 fn swap_in<R: Files + AllocGlobal>(
     rt: &R,
     path: &str,
     bytes: &[u8],
     permissions: Option<Permissions>,
-) -> Result<(), Fault> {
-    let (file, temporary) = create_beside(rt, path)?;
+) -> Result<(), Refusal> {
+    match fs::canonicalize(rt, path) {
+        Ok(target) => swap_in_at(rt, path, target.as_str(), bytes, permissions),
+        Err(_) => swap_in_at(rt, path, path, bytes, permissions),
+    }
+}
+
+/// The same, of the `target` to which the path leads.
+fn swap_in_at<R: Files + AllocGlobal>(
+    rt: &R,
+    path: &str,
+    target: &str,
+    bytes: &[u8],
+    permissions: Option<Permissions>,
+) -> Result<(), Refusal> {
+    let alloc = rt.alloc();
+    let temporary = format!(in alloc; "{target}.sedvokt.tmp").map_err(Fault::from)?;
     let name = temporary.as_str();
-    fill::<R>(file, bytes, permissions)
-        .and_then(|()| fs::rename(rt, name, path))
-        .map_err(|error| {
-            // What is told is the first failure.
-            let _ = fs::remove_file(rt, name);
-            failed(&error)
-        })
+    let file = match made_anew(rt, name) {
+        Ok(file) => file,
+        Err(error) => {
+            return Err(Refusal::of_call(alloc, path, "make a temporary file beside it", &error));
+        }
+    };
+    if let Err(error) = fill::<R>(file, bytes, permissions) {
+        let _ = fs::remove_file(rt, name);
+        return Err(Refusal::of_call(alloc, path, "write", &error));
+    }
+    if let Err(error) = fs::rename(rt, name, target) {
+        let _ = fs::remove_file(rt, name);
+        return Err(Refusal::of_call(alloc, path, "replace", &error));
+    }
+    sync_folder_of(rt, target).map_err(|error| Refusal::of_call(
+        alloc,
+        path,
+        "sync its folder",
+        &error,
+    ))
+}
+
+/// A new file of this name. What an earlier run left under it is removed before.
+fn made_anew<R: Files>(rt: &R, name: &str) -> io::Result<R::File> {
+    let _ = fs::remove_file(rt, name);
+    OpenOptions::new()
+        .write(true)
+        .create_new(true)
+        .open(rt, name)
 }
 
 /// Writes the bytes through to the device.
@@ -75,27 +119,12 @@ fn fill<R: Files>(
     file.sync_all()
 }
 
-/// Creates a file in the same folder, under a name that no file has.
-fn create_beside<R: Files + AllocGlobal>(rt: &R, path: &str) -> Result<(R::File, String), Fault> {
-    for attempt in 0..ATTEMPTS {
-        let temporary = format!(in rt.alloc(); "{path}.{attempt}.tmp")?;
-        match OpenOptions::new()
-            .write(true)
-            .create_new(true)
-            .open(rt, temporary.as_str())
-        {
-            Ok(file) => return Ok((file, temporary)),
-            Err(error) if error.kind() == ErrorKind::AlreadyExists => {}
-            Err(error) => return Err(failed(&error)),
-        }
-    }
-    Err(Fault::of(FaultName::Device))
-}
-
-/// The fault of a call that failed: `Memory` if memory ran out, else `Device`.
-pub(crate) fn failed(error: &io::Error) -> Fault {
-    match error.kind() {
-        ErrorKind::OutOfMemory => Fault::of(FaultName::Memory),
-        _ => Fault::of(FaultName::Device),
-    }
+/// Writes the names of the folder of a file through to the device.
+fn sync_folder_of<R: Files>(rt: &R, path: &str) -> io::Result<()> {
+    let folder = match path.rsplit_once('/') {
+        Some(("", _)) => "/",
+        Some((folder, _)) => folder,
+        None => ".",
+    };
+    File::open(rt, folder)?.sync_all()
 }

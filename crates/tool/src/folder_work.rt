@@ -1,60 +1,89 @@
 //! The work on a folder, from its path to what is printed.
 
 use crate::explanations::in_words;
-use crate::files;
+use crate::folder_locks::{locked_to_change, locked_to_read};
+use crate::folder_refusal::{compaction_explained, explained};
 use crate::progress_line::ProgressLine;
-use crate::reporter::Telling;
+use crate::refusal::Refusal;
+use crate::reporter::{Telling, tell_time};
+use crate::table_sizes::sizes_tested;
 use account::text;
-use coding::Fault;
+use coding::{Fault, FaultName};
 use commands::{Question, answer_opened, bottom, manifest_lines, next_level};
 use diagnostics::account_of;
-use folder::{Disk, Folder, Opened, SystemFiles, WholeFiles, open};
+use folder::{Disk, Opened, SystemFiles, WholeFiles, open};
 use keep::Snapshots;
+use std::alloc::Global;
 use std::io;
 use std::io::Write;
 use std::thread::Threads;
-use std::time::{Clock, Instant};
-use store::{Settings, compact_opened};
+use std::time::Clock;
+use store::{Settings, compact_opened, sync_version};
 use usage::{CompactSettings, Levels, Readable};
 
 /// Prints the version of a folder.
 pub(crate) fn print_version<R: SystemFiles + Print + Eprint + Clock + AllocGlobal>(
     rt: &R,
     telling: Telling<'_>,
-) -> Result<(), Fault> {
+) -> Result<(), Refusal> {
+    let _lock = locked_to_read(rt, telling.folder)?;
+    version_printed(rt, telling).map_err(|refusal| explained(rt, telling.folder, refusal))
+}
+
+fn version_printed<R: SystemFiles + Print + Eprint + Clock + AllocGlobal>(
+    rt: &R,
+    telling: Telling<'_>,
+) -> Result<(), Refusal> {
     let begun = telling.begin(rt);
     let opened = begin_work(rt, telling)?;
-    let answer = manifest_lines(rt.alloc(), opened.order, &opened.version);
-    print_answer(rt, telling, "manifest", begun, answer)
+    let lines = manifest_lines(rt.alloc(), opened.order, &opened.version)?;
+    tell_time(rt, "manifest", begun);
+    print_lines(rt, lines.as_slice())
 }
 
 /// Checks the version of a folder, and prints the line of a lawful one.
 pub(crate) fn print_verdict<
     R: SystemFiles + WholeFiles + Print + Eprint + Clock + AllocGlobal + Threads + Sync,
->(rt: &R, telling: Telling<'_>) -> Result<(), Fault> {
-    let begun = telling.begin(rt);
-    let opened = begin_work(rt, telling)?;
-    let answer = answered(rt, telling, &opened, Question::Lawful);
-    print_answer(rt, telling, "verify", begun, answer)
+>(rt: &R, telling: Telling<'_>) -> Result<(), Refusal> {
+    let _lock = locked_to_read(rt, telling.folder)?;
+    answer_printed(rt, telling, "verify", Question::Lawful).map_err(|refusal| explained(
+        rt,
+        telling.folder,
+        refusal,
+    ))
 }
 
 /// Prints the value of a key in a folder.
 pub(crate) fn print_value<
     R: SystemFiles + WholeFiles + Print + Eprint + Clock + AllocGlobal + Threads + Sync,
->(rt: &R, telling: Telling<'_>, key: &[u8], at: Option<u64>) -> Result<(), Fault> {
-    let begun = telling.begin(rt);
-    let opened = begin_work(rt, telling)?;
-    let answer = answered(rt, telling, &opened, Question::Value { key, at });
-    print_answer(rt, telling, "get", begun, answer)
+>(rt: &R, telling: Telling<'_>, key: &[u8], at: Option<u64>) -> Result<(), Refusal> {
+    let _lock = locked_to_read(rt, telling.folder)?;
+    answer_printed(rt, telling, "get", Question::Value { key, at }).map_err(|refusal| explained(
+        rt,
+        telling.folder,
+        refusal,
+    ))
 }
 
-/// Opens a folder, and tells of its log.
+/// Prints what the version of a folder answers to a question. The command is told as this `step`.
+fn answer_printed<
+    R: SystemFiles + WholeFiles + Print + Eprint + Clock + AllocGlobal + Threads + Sync,
+>(rt: &R, telling: Telling<'_>, step: &str, question: Question<'_>) -> Result<(), Refusal> {
+    let begun = telling.begin(rt);
+    let opened = begin_work(rt, telling)?;
+    sizes_tested(rt, telling.folder, &opened)?;
+    let lines = answered(rt, telling, &opened, question)?;
+    tell_time(rt, step, begun);
+    print_lines(rt, lines.as_slice())
+}
+
+/// Opens a folder, and tells of its logs.
 fn begin_work<R: SystemFiles + Eprint + Clock + AllocGlobal>(
     rt: &R,
     telling: Telling<'_>,
-) -> Result<Opened, Fault> {
-    let opened = open_folder(rt, telling)?;
-    telling.tell_log(rt, &opened.version);
+) -> Result<Opened, Refusal> {
+    let opened = open_folder(rt, telling.folder)?;
+    telling.tell_logs(rt, &opened.version)?;
     Ok(opened)
 }
 
@@ -64,7 +93,7 @@ fn answered<R: SystemFiles + WholeFiles + Eprint + Clock + AllocGlobal + Threads
     telling: Telling<'_>,
     opened: &Opened,
     question: Question<'_>,
-) -> Result<Vec<u8>, Fault> {
+) -> Result<Vec<u8>, Refusal> {
     let progress = ProgressLine::new(rt, telling.is_watched);
     let mut folder = read_ahead(rt, telling.folder, opened);
     let answer = answer_opened(
@@ -77,28 +106,26 @@ fn answered<R: SystemFiles + WholeFiles + Eprint + Clock + AllocGlobal + Threads
         &progress,
     );
     progress.erase();
-    answer
+    answer.map_err(|fault| refused_at(rt, telling.folder, &folder, fault))
 }
 
-/// Tells how a step went that began at `begun`, and prints the lines of its answer.
-fn print_answer<R: SystemFiles + Print + Eprint + Clock + AllocGlobal>(
-    rt: &R,
-    telling: Telling<'_>,
-    step: &str,
-    begun: Option<Instant>,
-    answer: Result<Vec<u8>, Fault>,
-) -> Result<(), Fault> {
-    telling.end(rt, step, begun, &answer);
-    print_lines(rt, answer?.as_slice())
-}
-
-/// Compacts a level of a folder, or all of them one after the other. The folder is synced first, so
-/// that what is read of it outlives a crash.
+/// Compacts a level of a folder, or all of them one after the other. The folder is locked before
+/// anything is read of it. What it was opened as is synced once, so that it outlives a crash.
 pub(crate) fn compact_folder<
     R: SystemFiles + WholeFiles + Print + Eprint + Clock + AllocGlobal + Threads + Sync,
->(rt: &R, telling: Telling<'_>, levels: Levels, settings: &CompactSettings) -> Result<(), Fault> {
-    sync(rt, telling)?;
+>(rt: &R, telling: Telling<'_>, levels: Levels, settings: &CompactSettings) -> Result<(), Refusal> {
+    let _lock = locked_to_change(rt, telling.folder)?;
+    compact_levels(rt, telling, levels, settings).map_err(|refusal| {
+        compaction_explained(rt, telling.folder, levels, settings, refusal)
+    })
+}
+
+fn compact_levels<
+    R: SystemFiles + WholeFiles + Print + Eprint + Clock + AllocGlobal + Threads + Sync,
+>(rt: &R, telling: Telling<'_>, levels: Levels, settings: &CompactSettings) -> Result<(), Refusal> {
     let opened = begin_work(rt, telling)?;
+    sizes_tested(rt, telling.folder, &opened)?;
+    sync(rt, telling.folder, &opened)?;
     match levels {
         Levels::One(level) => compact_one(rt, telling, &opened, level, settings),
         Levels::All => compact_all(rt, telling, opened, settings),
@@ -112,17 +139,11 @@ fn compact_one<R: SystemFiles + WholeFiles + Print + Eprint + Clock + AllocGloba
     opened: &Opened,
     level: u64,
     settings: &CompactSettings,
-) -> Result<(), Fault> {
+) -> Result<(), Refusal> {
     compact_level(rt, telling, opened, level, settings)?;
     if telling.is_explaining {
-        explain(
-            rt,
-            telling.folder,
-            opened,
-            &open_quietly(rt, telling),
-            level,
-            settings.ranges,
-        );
+        let after = open_folder(rt, telling.folder);
+        explain(rt, telling.folder, opened, &after, level, settings.ranges);
     }
     Ok(())
 }
@@ -134,7 +155,7 @@ fn compact_all<R: SystemFiles + WholeFiles + Print + Eprint + Clock + AllocGloba
     telling: Telling<'_>,
     first: Opened,
     settings: &CompactSettings,
-) -> Result<(), Fault> {
+) -> Result<(), Refusal> {
     let bottom = bottom(rt.alloc(), &first.version)?;
     let mut opened = first;
     for _ in 0..u64::MAX {
@@ -155,49 +176,32 @@ fn compact_step<
     opened: &Opened,
     level: u64,
     settings: &CompactSettings,
-) -> Result<Opened, Fault> {
+) -> Result<Opened, Refusal> {
     compact_level(rt, telling, opened, level, settings)?;
-    let after = open_quietly(rt, telling);
+    let after = open_folder(rt, telling.folder);
     if telling.is_explaining {
         explain(rt, telling.folder, opened, &after, level, settings.ranges);
-    }
-    if after.is_err() {
-        telling.end(rt, "open", None, &after);
     }
     after
 }
 
-/// Syncs a folder, so that what is read of it from then on outlives a crash.
-fn sync<R: SystemFiles + Eprint + Clock + AllocGlobal>(
+/// Syncs what a folder was opened as, so that it outlives a crash.
+fn sync<R: SystemFiles + WholeFiles + AllocGlobal + Threads>(
     rt: &R,
-    telling: Telling<'_>,
-) -> Result<(), Fault> {
-    let synced = Disk::new(rt, telling.folder).sync_folder();
-    let answer = synced.map_err(Fault::from);
-    if answer.is_err() {
-        telling.end(rt, "sync", None, &answer);
-    }
-    answer
+    path: &str,
+    opened: &Opened,
+) -> Result<(), Refusal> {
+    let mut folder = Disk::new(rt, path);
+    folder.sync_ahead(opened.order, &opened.version, opened.manifest);
+    let synced = sync_version(rt.alloc(), &mut folder, opened);
+    synced.map_err(|fault| refused_at(rt, path, &folder, fault))
 }
 
-/// What a folder is opened as. A refusal is told.
-fn open_folder<R: SystemFiles + Eprint + Clock + AllocGlobal>(
-    rt: &R,
-    telling: Telling<'_>,
-) -> Result<Opened, Fault> {
-    let answer = open_quietly(rt, telling);
-    if answer.is_err() {
-        telling.end(rt, "open", None, &answer);
-    }
-    answer
-}
-
-/// What a folder is opened as. Nothing is told of a refusal.
-fn open_quietly<R: SystemFiles + AllocGlobal>(
-    rt: &R,
-    telling: Telling<'_>,
-) -> Result<Opened, Fault> {
-    open(rt.alloc(), &mut Disk::new(rt, telling.folder))
+/// What a folder is opened as.
+fn open_folder<R: SystemFiles + AllocGlobal>(rt: &R, path: &str) -> Result<Opened, Refusal> {
+    let mut folder = Disk::new(rt, path);
+    let opened = open(rt.alloc(), &mut folder);
+    opened.map_err(|fault| refused_at(rt, path, &folder, fault))
 }
 
 /// Compacts a level of a folder, and prints what was made.
@@ -209,11 +213,24 @@ fn compact_level<
     opened: &Opened,
     level: u64,
     settings: &CompactSettings,
-) -> Result<(), Fault> {
-    let step = format!(in rt.alloc(); "compact --level {level}")?;
+) -> Result<(), Refusal> {
+    let step = format!(in rt.alloc(); "compact --level {level}").map_err(Fault::from)?;
     let begun = telling.begin(rt);
-    let answer = compacted(rt, telling, opened, level, settings);
-    print_answer(rt, telling, step.as_str(), begun, answer)
+    let lines = compacted(rt, telling, opened, level, settings)?;
+    tell_time(rt, step.as_str(), begun);
+    print_lines(rt, lines.as_slice()).map_err(|refusal| unprinted(rt.alloc(), refusal))
+}
+
+/// The refusal that a compaction's lines can't be written. It is installed by then.
+fn unprinted(alloc: Global, refusal: Refusal) -> Refusal {
+    let told = String::from_str(
+        alloc,
+        "the version is installed, but its lines could not be written",
+    );
+    Refusal {
+        fault: refusal.fault,
+        told: told.ok(),
+    }
 }
 
 /// Compacts a level of a folder.
@@ -223,7 +240,7 @@ fn compacted<R: SystemFiles + WholeFiles + Eprint + Clock + AllocGlobal + Thread
     opened: &Opened,
     level: u64,
     settings: &CompactSettings,
-) -> Result<Vec<u8>, Fault> {
+) -> Result<Vec<u8>, Refusal> {
     let progress = ProgressLine::new(rt, telling.is_watched);
     let mut folder = read_ahead(rt, telling.folder, opened);
     let settings = kept_to(settings);
@@ -231,14 +248,29 @@ fn compacted<R: SystemFiles + WholeFiles + Eprint + Clock + AllocGlobal + Thread
         rt,
         rt.alloc(),
         &mut folder,
-        opened.order,
-        &opened.version,
+        opened,
         level,
         &settings,
         &progress,
     );
     progress.erase();
-    answer
+    answer.map_err(|fault| refused_at(rt, telling.folder, &folder, fault))
+}
+
+/// The refusal of work on the folder at a path. If the device failed, the call that failed is told.
+fn refused_at<R: SystemFiles + AllocGlobal>(
+    rt: &R,
+    path: &str,
+    folder: &Disk<'_, R>,
+    fault: Fault,
+) -> Refusal {
+    let told = match folder.last_failure() {
+        Some(failure) if fault.name == FaultName::Device => {
+            format!(in rt.alloc(); "{path}: {failure}").ok()
+        }
+        _ => None,
+    };
+    Refusal { fault, told }
 }
 
 /// The folder at a path, with its version's tables read ahead by several threads. A table that
@@ -259,7 +291,7 @@ fn explain<R: SystemFiles + Eprint + AllocGlobal>(
     rt: &R,
     folder: &str,
     before: &Opened,
-    after: &Result<Opened, Fault>,
+    after: &Result<Opened, Refusal>,
     level: u64,
     ranges: u64,
 ) {
@@ -268,8 +300,8 @@ fn explain<R: SystemFiles + Eprint + AllocGlobal>(
             let _ = rt.eprint(lines.as_str());
         }
         Err(fault) => {
-            let words = in_words(fault.name);
-            let _ = eprintln!(rt; "compacted, but not explained: {fault}: {words}");
+            let wrong = in_words(fault.name).wrong;
+            let _ = eprintln!(rt; "compacted, but not explained: {fault}: {wrong}");
         }
     }
 }
@@ -279,7 +311,7 @@ fn explanation<R: SystemFiles + AllocGlobal>(
     rt: &R,
     folder: &str,
     before: &Opened,
-    after: &Result<Opened, Fault>,
+    after: &Result<Opened, Refusal>,
     level: u64,
     ranges: u64,
 ) -> Result<String, Fault> {
@@ -293,7 +325,7 @@ fn explanation<R: SystemFiles + AllocGlobal>(
             level,
             ranges,
         )?,
-        Err(fault) => return Err(*fault),
+        Err(refusal) => return Err(refusal.fault),
     };
     text(rt.alloc(), &account)
 }
@@ -312,8 +344,13 @@ fn kept_to(settings: &CompactSettings) -> Settings<'_> {
 }
 
 /// Writes lines to the standard output.
-pub(crate) fn print_lines<R: Print>(rt: &R, lines: &[u8]) -> Result<(), Fault> {
+pub(crate) fn print_lines<R: Print + AllocGlobal>(rt: &R, lines: &[u8]) -> Result<(), Refusal> {
     io::writer(rt)
         .write_all(lines)
-        .map_err(|error| files::failed(&error))
+        .map_err(|error| unwritten(rt.alloc(), &error))
+}
+
+/// The refusal that the standard output can't be written.
+pub(crate) fn unwritten(alloc: Global, error: &io::Error) -> Refusal {
+    Refusal::of_call(alloc, "standard output", "write", error)
 }

@@ -1,12 +1,12 @@
-//! What is told on the standard error of the work on a folder, if that is asked for.
+//! What is told on the standard error of the work on a folder.
 
 ghost use Rattle.std.specs.Prelude.{◌≡◌, true, IfSome};
 
-use crate::explanations::in_words;
+use crate::logs::logs_with_writes;
 use coding::{Fault, FaultName};
-use diagnostics::{log_with_writes, refused_file};
 use edit::Version;
-use folder::{Disk, SystemFiles};
+use std::io::ErrorKind;
+use std::rt::Files;
 use std::time::{Clock, Instant};
 
 /// What is to be told of the work on a folder. If it can't be told, nothing else changes.
@@ -14,7 +14,7 @@ use std::time::{Clock, Instant};
 pub struct Telling<'a> {
     /// The path of the folder.
     pub folder: &'a str,
-    /// Whether anything is told.
+    /// Whether the times of steps are told.
     pub is_on: bool,
     /// Whether somebody watches, as at a terminal, so that a line of progress is shown.
     pub is_watched: bool,
@@ -44,59 +44,40 @@ impl<'a> Telling<'a> {
         }
     }
 
-    /// Tells how long a step took if it was done, else which file was refused and why.
-    pub fn end<R: SystemFiles + Eprint + Clock + AllocGlobal, T>(
+    /// Tells of the logs with writes that are in no table of the version. The only fault is Memory:
+    /// that the folder can't be listed is told.
+    pub fn tell_logs<R: Files + Eprint + AllocGlobal>(
         self,
         rt: &R,
-        step: &str,
-        begun: Option<Instant>,
-        answer: &Result<T, Fault>,
-    ) {
-        if !self.is_on {
-            return;
-        }
-        match answer {
-            Ok(_) => tell_time(rt, step, begun),
-            Err(fault) => self.tell_refusal(rt, fault),
-        }
-    }
-
-    /// Tells of the log that the folder's version names, if it has writes that are in no table.
-    pub fn tell_log<R: SystemFiles + Eprint + AllocGlobal>(self, rt: &R, version: &Version) {
-        if !self.is_on {
-            return;
-        }
-        let mut folder = Disk::new(rt, self.folder);
-        if let Ok(Some(log)) = log_with_writes(rt.alloc(), &mut folder, version) {
-            let _ = eprintln!(rt;
-                "{log}: holds writes that are in no table yet, and are not seen here"
-            );
-        }
-    }
-
-    /// Tells why the work was refused, and at which file.
-    fn tell_refusal<R: SystemFiles + Eprint + AllocGlobal>(self, rt: &R, fault: &Fault) {
-        match refused_file(rt.alloc(), &mut Disk::new(rt, self.folder)) {
-            Ok(Some(file)) if explains(&file.fault, fault) => {
-                let (name, words) = (file.name, in_words(file.fault.name));
-                let _ = eprintln!(rt; "{name}: {fault}: {words}");
+        version: &Version,
+    ) -> Result<(), Fault> {
+        match logs_with_writes(rt, self.folder, version) {
+            Ok(numbers) => tell_logs(rt, &numbers),
+            Err(error) if error.kind() == ErrorKind::OutOfMemory => {
+                return Err(Fault::of(FaultName::Memory));
             }
-            _ => {
-                let words = in_words(fault.name);
-                let _ = eprintln!(rt; "{fault}: {words}");
+            Err(_) => {
+                let path = self.folder;
+                let _ = eprintln!(rt;
+                    "sedvokt: {path}: its files cannot be listed; there may be logs with writes"
+                );
             }
         }
+        Ok(())
     }
 }
 
-/// Whether the fault of a file is why the work on its folder was refused. A table that isn't as the
-/// manifest says makes the version lawless.
-fn explains(file: &Fault, work: &Fault) -> bool {
-    file.name == work.name || file.name == FaultName::Bounds && work.name == FaultName::Lawless
+/// Tells of the logs of these numbers, a line each.
+fn tell_logs<R: Eprint>(rt: &R, numbers: &[u64]) {
+    for number in numbers {
+        let _ = eprintln!(rt;
+            "sedvokt: {number:06}.log: writes that are in no table; they are not seen here"
+        );
+    }
 }
 
-/// Tells how long a step took.
-fn tell_time<R: Eprint + Clock>(rt: &R, step: &str, begun: Option<Instant>) {
+/// Tells how long a step took that was done, if its beginning is known.
+pub(crate) fn tell_time<R: Eprint + Clock>(rt: &R, step: &str, begun: Option<Instant>) {
     let Some(begun) = begun else {
         return;
     };

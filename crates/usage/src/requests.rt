@@ -68,7 +68,7 @@ pub enum Line<'a> {
 /// What is told of a compaction on the standard error.
 #[derive(Clone, Copy, Debug)]
 pub struct Verbosity {
-    /// Whether more is told: how long it took, and which file was refused.
+    /// Whether more is told: how long it took.
     pub verbose: bool,
     /// Whether the account of the compaction is told: inputs, ranges, kept and dropped entries,
     /// outputs.

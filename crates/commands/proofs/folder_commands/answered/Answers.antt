@@ -7,26 +7,26 @@ use Rattle.commands.specs.FolderLines.{IsLineOfFolder}
 use Rattle.commands.specs.Questions.{line_of}
 use Rattle.commands.proofs.folder_commands.answered.Goals as goal
 
-pub returns-in_err-order-clause-answer : goal.returns-in_err-order-clause-answer
-returns-in_err-order-clause-answer g c =
+pub returns-in_err-opened-clause-answer : goal.returns-in_err-opened-clause-answer
+returns-in_err-opened-clause-answer g c =
     let tells = g.F.Folder.tells c.args.folder.now in
     let failed = g.F.Folder.failed in
-    let e = c.in_err-order.field-0.0 in
+    let e = c.in_err-opened.field-0.0 in
     hands_on (λ v. v.items) (failed c.args.folder.now) (failed c.args.folder.now) (failed c.open.new.folder) c.from_residual.result e (IsOpened tells) (IsLineOfFolder tells (line_of c.args.question))
-    c.from_residual.ensures.1 (omega arith) c.open.ensures.device.later c.in_err-order.ensures.answer (not_opened tells (line_of c.args.question) e)
+    c.from_residual.ensures.1 (omega arith) c.open.ensures.device.later c.in_err-opened.ensures.answer (not_opened tells (line_of c.args.question) e)
 
 pub returns-clause-answer : goal.returns-clause-answer
 returns-clause-answer g c =
     let tells = g.F.Folder.tells in
     let failed = g.F.Folder.failed in
-    opened_answer (tells c.args.folder.now) (tells c.open.new.folder) c.open.ensures.reads.same c.in_ok-order.order c.in_ok-order.version (line_of c.args.question) c.in_ok-order.ensures.answer
+    opened_answer (tells c.args.folder.now) (tells c.open.new.folder) c.open.ensures.reads.same c.in_ok-opened.opened.order c.in_ok-opened.opened.version (line_of c.args.question) c.in_ok-opened.ensures.answer
     (λ v. v.items) (failed c.args.folder.now) (failed c.open.new.folder) (failed c.answer_opened.new.folder) c.answer_opened.result c.open.ensures.device.later c.answer_opened.ensures.device.later c.answer_opened.ensures.answer
 
-pub returns-in_err-order-clause-device : goal.returns-in_err-order-clause-device
-returns-in_err-order-clause-device g c = reports_handed c.from_residual.result c.in_err-order.was c.open.ensures.device c.from_residual.ensures.1
+pub returns-in_err-opened-clause-device : goal.returns-in_err-opened-clause-device
+returns-in_err-opened-clause-device g c = reports_handed c.from_residual.result c.in_err-opened.was c.open.ensures.device c.from_residual.ensures.1
 
 pub returns-clause-device : goal.returns-clause-device
-returns-clause-device g c = reports_then c.in_ok-order.was c.open.ensures.device c.answer_opened.ensures.device
+returns-clause-device g c = reports_then c.in_ok-opened.was c.open.ensures.device c.answer_opened.ensures.device
 
 pub returns-clause-reads : goal.returns-clause-reads
 returns-clause-reads g c = reads_then c.open.ensures.reads c.answer_opened.ensures.reads

@@ -1,0 +1,6 @@
+use Rattle.std.proofs.Common.{length}
+use Rattle.merge.specs.Merged.{merged}
+use Rattle.diagnostics.proofs.misplaced_entry.step_back.Given as goal
+
+abbrev pub decreases-loop-merging : goal.decreases-loop-merging
+decreases-loop-merging g l = length (merged g.C.Comparator.cmp l.merging)

@@ -1,0 +1,91 @@
+//! The work on two files of blocks.
+
+use crate::explanations::{Words, of_file};
+use crate::files;
+use crate::folder_work::unwritten;
+use crate::refusal::{Refusal, told};
+use coding::{Fault, FaultName};
+use pairing::blocks;
+use std::alloc::Global;
+use std::rt::Files;
+use std::thread::Threads;
+
+/// The block of no entries.
+const NO_ENTRIES: &[u8] = b"\0\0\0\0\x01\0\0\0";
+
+/// Merges the blocks in two files into one, and prints how large it is.
+pub(crate) fn merge<R: Files + Print + AllocGlobal + Threads + Sync>(
+    rt: &R,
+    a: &str,
+    b: &str,
+    at: &[u8],
+    out: &str,
+) -> Result<(), Refusal> {
+    let (entries, block) = merged(rt, a, b, at, out)?;
+    files::replace(rt, out, block.as_slice())?;
+    let length = block.len();
+    println!(rt; "{entries} entries, {length} bytes").map_err(|error| unwritten(rt.alloc(), &error))
+}
+
+/// The block of the entries of the blocks in two files, and the number of entries.
+fn merged<R: Files + AllocGlobal + Threads + Sync>(
+    rt: &R,
+    a: &str,
+    b: &str,
+    at: &[u8],
+    out: &str,
+) -> Result<(u64, Vec<u8>), Refusal> {
+    let first = files::read(rt, a)?;
+    let second = files::read(rt, b)?;
+    let answer = blocks(rt, rt.alloc(), first.as_slice(), second.as_slice(), at);
+    answer.map_err(|fault| {
+        if is_refused(rt, first.as_slice(), fault) {
+            refused_alone(rt.alloc(), a, fault)
+        } else if is_refused(rt, second.as_slice(), fault) {
+            refused_alone(rt.alloc(), b, fault)
+        } else {
+            refused_together(rt.alloc(), a, b, out, fault)
+        }
+    })
+}
+
+/// Whether a block is refused so by itself. A block that isn't read again, for want of memory, is
+/// not.
+fn is_refused<R: AllocGlobal + Threads + Sync>(rt: &R, bytes: &[u8], fault: Fault) -> bool {
+    match blocks(rt, rt.alloc(), bytes, NO_ENTRIES, &[]) {
+        Ok(_) => false,
+        Err(again) => again.name == fault.name && fault.name != FaultName::Memory,
+    }
+}
+
+/// The refusal of the block in one file.
+fn refused_alone(alloc: Global, path: &str, fault: Fault) -> Refusal {
+    let wrong = match fault.name {
+        FaultName::Duplicate => "it has one user key and sequence twice",
+        FaultName::TooLarge => {
+            "a user key has more than 65535 bytes, a value more than 16777215, or all together \
+                more than 1073741824"
+        }
+        FaultName::Block => "its bytes cannot be read as entries",
+        name => of_file(name).wrong,
+    };
+    let remedy = "give a block of a table, without its trailer";
+    Refusal {
+        fault,
+        told: told(alloc, path, Words { wrong, remedy }),
+    }
+}
+
+/// The refusal of the blocks in two files, each of which is accepted alone.
+fn refused_together(alloc: Global, a: &str, b: &str, out: &str, fault: Fault) -> Refusal {
+    let told = match fault.name {
+        FaultName::Duplicate => format!(in alloc;
+            "{a}: it has a user key and sequence that {b} has too; give blocks that share none"
+        ).ok(),
+        FaultName::TooLarge => format!(in alloc;
+            "{out}: the block would have more than 1073741824 bytes; merge smaller ones"
+        ).ok(),
+        _ => None,
+    };
+    Refusal { fault, told }
+}

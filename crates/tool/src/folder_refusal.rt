@@ -1,0 +1,234 @@
+//! What is told of the refusal of a command on a folder.
+
+use crate::explanations::{Words, of_file};
+use crate::refusal::{Refusal, told};
+use crate::settings_refusal::settings_told;
+use coding::{Fault, FaultName};
+use diagnostics::{Detail, RefusedFile, refused_file};
+use folder::{CURRENT, Disk, SystemFiles};
+use std::alloc::Global;
+use texts::text_of;
+use usage::{CompactSettings, Levels};
+
+/// The refusal of a command on the folder at a path, with what is told of it: the first file that
+/// is refused, for which the folder is read again. It isn't read after Locked, Changed, Device and
+/// Memory, nor if it is known already what is told.
+pub(crate) fn explained<R: SystemFiles + AllocGlobal>(
+    rt: &R,
+    folder: &str,
+    refusal: Refusal,
+) -> Refusal {
+    if refusal.told.is_some() || is_of_no_file(refusal.fault.name) {
+        return refusal;
+    }
+    Refusal {
+        fault: refusal.fault,
+        told: file_found(rt, folder, refusal.fault.name),
+    }
+}
+
+/// The same of a compaction: a refusal of what was asked for is told without reading.
+pub(crate) fn compaction_explained<R: SystemFiles + AllocGlobal>(
+    rt: &R,
+    folder: &str,
+    levels: Levels,
+    settings: &CompactSettings,
+    refusal: Refusal,
+) -> Refusal {
+    if refusal.told.is_some() {
+        return refusal;
+    }
+    match settings_told(rt.alloc(), folder, levels, settings, refusal.fault.name) {
+        None => explained(rt, folder, refusal),
+        told => Refusal {
+            fault: refusal.fault,
+            told,
+        },
+    }
+}
+
+/// Whether a refusal of this name is about no file that can be found.
+fn is_of_no_file(name: FaultName) -> bool {
+    matches!(
+        name,
+        FaultName::Locked | FaultName::Changed | FaultName::Device | FaultName::Memory
+    )
+}
+
+/// What is told of the folder's first refused file, if it is refused by this name. None if there is
+/// none, or if it can't be found.
+fn file_found<R: SystemFiles + AllocGlobal>(
+    rt: &R,
+    folder: &str,
+    name: FaultName,
+) -> Option<String> {
+    match refused_file(rt.alloc(), &mut Disk::new(rt, folder)) {
+        Ok(Some(file)) if file.fault.name == name => file_told(rt.alloc(), folder, &file),
+        _ => None,
+    }
+}
+
+/// What is told of a refused file of a folder.
+fn file_told(alloc: Global, folder: &str, file: &RefusedFile) -> Option<String> {
+    let path = path_in(alloc, folder, file.name.as_str())?;
+    let path = path.as_str();
+    match &file.detail {
+        Some(detail) => detail_told(alloc, path, file.fault.name, detail),
+        None if file.fault.name == FaultName::Missing => {
+            told(alloc, path, of_missing(file.name.as_str()))
+        }
+        None => told(alloc, path, of_file(file.fault.name)),
+    }
+}
+
+/// The path of a folder's file.
+pub(crate) fn path_in(alloc: Global, folder: &str, name: &str) -> Option<String> {
+    if folder.ends_with('/') {
+        format!(in alloc; "{folder}{name}").ok()
+    } else {
+        format!(in alloc; "{folder}/{name}").ok()
+    }
+}
+
+/// The words of a file of this name that is missing.
+fn of_missing(name: &str) -> Words {
+    if name == CURRENT {
+        return Words {
+            wrong: "it is missing: the folder holds no database, or a damaged one",
+            remedy: "restore the folder from a copy",
+        };
+    }
+    if name.starts_with("MANIFEST-") {
+        return Words {
+            wrong: "it is missing, and CURRENT names it: the database is damaged",
+            remedy: "restore the folder from a copy",
+        };
+    }
+    Words {
+        wrong: "it is missing, and the manifest names it",
+        remedy: "restore the file from a copy",
+    }
+}
+
+/// What is told of a file of which more is known.
+fn detail_told(alloc: Global, path: &str, name: FaultName, detail: &Detail) -> Option<String> {
+    match detail {
+        Detail::NotBelow(next) => not_below(alloc, path, name, *next),
+        Detail::UnknownComparator(name) => format!(in alloc;
+            "{path}: it names the comparator {name:?}, and only leveldb.BytewiseComparator and \
+                subcompaction.ShortlexComparator are known; compact it with the program that wrote \
+                it"
+        )
+        .ok(),
+        Detail::OtherComparator(name) => format!(in alloc;
+            "{path}: it names a second comparator, {name:?}: the database is damaged; restore the \
+                folder from a copy"
+        )
+        .ok(),
+        detail => match of_detail(detail) {
+            Some(words) => told(alloc, path, words),
+            None => lawless_told(alloc, path, detail),
+        },
+    }
+}
+
+/// What is told of a file whose number is not below next file.
+fn not_below(alloc: Global, path: &str, name: FaultName, next: u64) -> Option<String> {
+    let remedy = if name == FaultName::Apply {
+        "open the database once with LevelDB, which mends it"
+    } else {
+        "restore the folder from a copy"
+    };
+    format!(in alloc; "{path}: its number is not below the next file number, {next}; {remedy}").ok()
+}
+
+/// The words of what is known, if it has no value.
+fn of_detail(detail: &Detail) -> Option<Words> {
+    let (wrong, remedy) = match detail {
+        Detail::NoComparator => (
+            "no record names a comparator",
+            "open the database once with LevelDB, which writes the manifest anew",
+        ),
+        Detail::NoFit => (
+            "its edits do not fit together",
+            "restore the folder from a copy, or open it once with LevelDB, which writes the \
+                manifest anew",
+        ),
+        Detail::NoLog => of_counter("no record sets the log number: the database is damaged"),
+        Detail::NoNextFile => {
+            of_counter("no record sets the next file number: the database is damaged")
+        }
+        Detail::NoLastSequence => {
+            of_counter("no record sets the last sequence: the database is damaged")
+        }
+        Detail::Smallest => (
+            "its smallest key is not the one that the manifest says",
+            "restore the file from a copy",
+        ),
+        Detail::Largest => (
+            "its largest key is not the one that the manifest says",
+            "restore the file from a copy",
+        ),
+        _ => return None,
+    };
+    Some(Words { wrong, remedy })
+}
+
+/// The words of a counter that was never set.
+fn of_counter(wrong: &'static str) -> (&'static str, &'static str) {
+    (
+        wrong,
+        "restore the folder from a copy, or have LevelDB repair it",
+    )
+}
+
+/// What is told of a table that makes a version unlawful.
+fn lawless_told(alloc: Global, path: &str, detail: &Detail) -> Option<String> {
+    match detail {
+        Detail::Size { held, stated } => format!(in alloc;
+            "{path}: it has {held} bytes, and the manifest says {stated}; restore the file from a \
+                copy"
+        )
+        .ok(),
+        Detail::Overlap { other, level } => format!(in alloc;
+            "{path}: its keys overlap those of {other} at level {level}; restore the folder from a \
+                copy"
+        )
+        .ok(),
+        Detail::Misplaced {
+            user,
+            here,
+            there,
+            other,
+        } => {
+            let key = text_of(alloc, user).ok()?;
+            misplaced_told(alloc, path, key.as_str(), (*here, *there), other.as_str())
+        }
+        _ => None,
+    }
+}
+
+/// What is told of a table that has a user key's older entry, and of the `other` one that has a
+/// newer or the same: the sequence in the first, and that in the second.
+fn misplaced_told(
+    alloc: Global,
+    path: &str,
+    key: &str,
+    sequences: (u64, u64),
+    other: &str,
+) -> Option<String> {
+    let (here, there) = sequences;
+    if here != there {
+        return format!(in alloc;
+            "{path}: user key {key} has sequence {here} here, and the newer {there} in {other}, \
+                which is searched later; restore the folder from a copy, or have LevelDB compact \
+                all of it"
+        )
+        .ok();
+    }
+    format!(in alloc;
+        "{path}: user key {key} has sequence {here} here, and once more in {other}; restore the \
+            folder from a copy"
+    )
+    .ok()
+}

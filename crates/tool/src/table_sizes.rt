@@ -1,0 +1,80 @@
+//! The sizes of a version's tables, before any is read.
+
+use crate::explanations::of_file;
+use crate::folder_refusal::path_in;
+use crate::refusal::{Refusal, told};
+use coding::FaultName;
+use edit::FileMeta;
+use folder::{Disk, Opened, SystemFiles, old_table_name, table_name};
+use ikey::Bytewise;
+use std::fs;
+
+/// The most bytes of a table: 2^30.
+const MOST_BYTES: u64 = 1 << 30;
+
+/// Tests whether each table of a version is there and has at most 2^30 bytes. Missing if one is
+/// missing; else TooLarge if one is too large. None is read.
+pub(crate) fn sizes_tested<R: SystemFiles + AllocGlobal>(
+    rt: &R,
+    path: &str,
+    opened: &Opened,
+) -> Result<(), Refusal> {
+    let tested = Disk::new(rt, path).check_sizes(opened.order, &opened.version);
+    tested.map_err(|fault| {
+        let told = if fault.name == FaultName::TooLarge {
+            large_told(rt, path, opened)
+        } else {
+            None
+        };
+        Refusal { fault, told }
+    })
+}
+
+/// What is told of the first table that is too large. None if there is none.
+fn large_told<R: SystemFiles + AllocGlobal>(rt: &R, path: &str, opened: &Opened) -> Option<String> {
+    for level in 0..7 {
+        let files = opened.version.files::<Bytewise>(rt.alloc(), level).ok()?;
+        let told = large_among(rt, path, &files);
+        if told.is_some() {
+            return told;
+        }
+    }
+    None
+}
+
+/// What is told of the first table of these files that is too large. None if there is none.
+fn large_among<R: SystemFiles + AllocGlobal>(
+    rt: &R,
+    path: &str,
+    files: &[&FileMeta],
+) -> Option<String> {
+    for file in files {
+        let told = large_of(rt, path, file.number);
+        if told.is_some() {
+            return told;
+        }
+    }
+    None
+}
+
+/// What is told of the table of a number, if it is too large.
+fn large_of<R: SystemFiles + AllocGlobal>(rt: &R, path: &str, number: u64) -> Option<String> {
+    let name = table_name(rt.alloc(), number).ok()?;
+    let older = old_table_name(rt.alloc(), number).ok()?;
+    let told = told_if_large(rt, path, name.as_str());
+    if told.is_some() {
+        return told;
+    }
+    told_if_large(rt, path, older.as_str())
+}
+
+/// What is told of the file of this name, if it is too large.
+fn told_if_large<R: SystemFiles + AllocGlobal>(rt: &R, folder: &str, name: &str) -> Option<String> {
+    let path = path_in(rt.alloc(), folder, name)?;
+    match fs::metadata(rt, path.as_str()) {
+        Ok(metadata) if metadata.len() > MOST_BYTES => {
+            told(rt.alloc(), path.as_str(), of_file(FaultName::Size))
+        }
+        _ => None,
+    }
+}

@@ -10,7 +10,7 @@ use Rattle.folder.specs.Calls.{Call, Created, Done, FolderView, Step, Synced}
 use Rattle.folder.specs.CallSequence.{AreMade, MakesCalls}
 use Rattle.folder.specs.Crash.{Leads, World, open_world}
 use Rattle.folder.specs.Names.{current_text, manifest_name, temporary_name}
-use Rattle.folder.specs.ReadsAs.{ReadsAs, StandsAs}
+use Rattle.folder.specs.ReadsAs.{StandsAs}
 use Rattle.folder.specs.declared.order.Order.{Order}
 use Rattle.folder.proofs.CrashLemmas.{left_reads, shown_left}
 use Rattle.folder.proofs.WrittenLemmas.{file_passed}

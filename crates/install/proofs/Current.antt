@@ -1,7 +1,7 @@
 -- CURRENT as the calls before the rename leave it, and what comes of reading it again.
-use Rattle.std.proofs.Common.{◌≡◌, ◌≢◌, ◌⊎◌, ◌<◌, ◌≤◌, ◌^◌, ℕ, true, List, [], ◌∷◌, ◌++◌, map, Option, Some, Result, Ok, Err, IsErrAnd, IfErr, refl, sym, ap, subst, ◌∙◌, inl, inr}
+use Rattle.std.proofs.Common.{◌≡◌, ◌≢◌, ◌⊎◌, ◌<◌, ◌≤◌, ◌^◌, ℕ, true, List, [], ◌∷◌, ◌++◌, map, Option, Some, Result, Ok, Err, IsErrAnd, IfErr, sym, ap, subst, ◌∙◌, inl, inr}
 use Rattle.coding.proofs.Refusals.{unless_device, unless_from}
-use Rattle.coding.specs.Answers.{UnlessMemory, fault}
+use Rattle.coding.specs.Answers.{UnlessMemory}
 use Rattle.coding.specs.declared.fault.Fault.{Fault}
 use Rattle.coding.specs.declared.fault.FaultName.TheVariants as name
 use Rattle.folder.specs.Calls.{Call, Created, Done, Files, FolderSynced, FolderView, Renamed, Shows, Step, Synced, Tells}

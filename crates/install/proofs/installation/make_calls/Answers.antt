@@ -1,4 +1,4 @@
-use Rattle.std.proofs.Common.{◌≡◌, ◌<◌, ◌^◌, ◌∙◌, sym, arith, rules}
+use Rattle.std.proofs.Common.{◌<◌, ◌^◌, ◌∙◌, sym, arith}
 use Rattle.folder.proofs.RunLemmas.{runs_then}
 use Rattle.install.specs.Install.{calls_before_rename, current_calls, tables_in}
 use Rattle.install.proofs.Current.{handed_if, runs_read, same_refused, told_current}

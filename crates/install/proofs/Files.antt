@@ -44,7 +44,7 @@ module _ (cmp : List ℕ → List ℕ → Ordering) (order : Order) (v : State) 
       (end.0, end.1 runs.made)
   file_written start before now old new (Err e) stands runs = tt
 
-  abbrev AtLast : World → Type 0
+  abbrev pub AtLast : World → Type 0
   AtLast w = IsWritten w (name, bytes) × IsSettled w name
 
   -- the folder is synced behind a file that is written
@@ -65,7 +65,7 @@ module _ (cmp : List ℕ → List ℕ → Ordering) (order : Order) (v : State) 
   abbrev pub settled_calls : List Call
   settled_calls = write_calls name bytes ++ FolderSynced ∷ []
 
-  settled_stands : (start w : World) (steps : List Step) → StandsAs cmp order v tables start → AreMade settled_calls steps → Leads start steps w
+  pub settled_stands : (start w : World) (steps : List Step) → StandsAs cmp order v tables start → AreMade settled_calls steps → Leads start steps w
       → StandsAs cmp order v tables w × (steps ≡ map Done settled_calls → AtLast w)
   settled_stands start w steps h made l =
       elim (file_passed cmp order v tables name bytes (FolderSynced ∷ []) [] steps start w h free tt tt made l) [

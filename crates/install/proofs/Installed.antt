@@ -14,7 +14,8 @@ use Rattle.folder.specs.Manifest.{order_name}
 use Rattle.install.specs.Install.{IsBeforeOrAfter, IsEditedBy, SurvivesCrash, install_calls, manifest_bytes, next_version_tables}
 use Rattle.edit.proofs.Remade.{remade}
 use Rattle.install.proofs.Edited.{apart_of, setting_of}
-use Rattle.install.proofs.Moments.{any_moment, nothing_done, reads_then, stands_installed}
+use Rattle.install.proofs.Moments.{any_moment, chained, install_chain, nothing_done, reads_then, stands_installed}
+use Rattle.install.proofs.Parts.{runs_same}
 use Rattle.install.proofs.Switch.{Setting}
 
 -- what is asked of the version before and of the snapshot
@@ -26,7 +27,7 @@ module _ (cmp : List ℕ → List ℕ → Ordering) (order : Order) (v next : St
   after = next_version_tables cmp next outputs tables
 
   abbrev calls : List ℕ → List Rattle.folder.specs.Calls.Call
-  calls name = install_calls number outputs (manifest_bytes name cmp v bytes)
+  calls name = install_chain number outputs (manifest_bytes name cmp v bytes)
 
   setting : IsEditedBy (order_name order) cmp order v number outputs bytes next → ReadsBack (order_name order) cmp v → (w : World) → StandsAs cmp order v tables w → Setting cmp order v next tables outputs number (manifest_bytes (order_name order) cmp v bytes)
   setting h back w stands = setting_of cmp order v next number outputs bytes h small tables state (remade total (order_name order) v state) back
@@ -63,12 +64,14 @@ module _ (cmp : List ℕ → List ℕ → Ordering) (order : Order) (v next : St
 
   -- all three
   pub survives : {T E : Type 0} (name : List ℕ) → IsEditedBy name cmp order v number outputs bytes next → ReadsBack name cmp v → (before now : List Step) (old new : List ℕ → Option (List ℕ) → Type 0) (r : Result T E)
-      → MakesCalls (calls name) before now old new r → SurvivesCrash cmp order v tables next after before now old new r
-  survives name h back before now old new r runs = record {
-    any_moment = λ start stands. moments name h back start before now old new r stands runs;
-    installed = λ start stands. installed name h back start before now old new r stands runs;
-    read = reads name h back before now old new r runs;
-  }
+      → MakesCalls (install_calls number outputs (manifest_bytes name cmp v bytes)) before now old new r → SurvivesCrash cmp order v tables next after before now old new r
+  survives name h back before now old new r made =
+      let runs = runs_same (install_calls number outputs (manifest_bytes name cmp v bytes)) (calls name) before now old new r (chained number outputs (manifest_bytes name cmp v bytes)) made in
+      record {
+        any_moment = λ start stands. moments name h back start before now old new r stands runs;
+        installed = λ start stands. installed name h back start before now old new r stands runs;
+        read = reads name h back before now old new r runs;
+      }
 
 -- what failed before the first call
 pub undone : {T E : Type 0} (P : E → Type 0) (cmp : List ℕ → List ℕ → Ordering) (order : Order) (v next : State) (tables tables' : List (ℕ × List ℕ)) (calls : List Step) (tells : List ℕ → Option (List ℕ) → Type 0) (r : Result T E) → IsErrAnd r P

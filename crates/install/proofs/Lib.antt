@@ -7,3 +7,5 @@ pub mod Numbers
 mod Edited
 mod Installed
 mod Files
+mod Current
+mod Before

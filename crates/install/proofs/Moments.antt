@@ -1,5 +1,5 @@
 -- Every moment of an installation.
-use Rattle.std.proofs.Common.{◌≡◌, ℕ, true, List, [], ◌∷◌, ◌++◌, map, Option, Result, Ok, Err, OnOk, refl, sym, ap, subst, ◌∙◌, inl, inr}
+use Rattle.std.proofs.Common.{◌≡◌, ℕ, true, List, [], ◌∷◌, ◌++◌, map, Option, Result, Ok, Err, OnOk, refl, sym, ap, subst, ◌∙◌, inl, inr, append_assoc}
 use Rattle.std.proofs.lemmas.List.{append-nil, append_cancel_left, map-append}
 use Rattle.std.specs.declared.cmp.Ordering.{Ordering}
 use Rattle.edit.specs.Version.{State}
@@ -13,7 +13,7 @@ use Rattle.folder.specs.declared.order.Order.{Order}
 use Rattle.folder.proofs.CrashLemmas.{left_reads, shown_left}
 use Rattle.folder.proofs.RunLemmas.{made_behind}
 use Rattle.folder.proofs.WrittenLemmas.{AllOther, IsShort, file_passed}
-use Rattle.install.specs.Install.{IsBeforeOrAfter, install_calls, table_calls, next_version_tables}
+use Rattle.install.specs.Install.{IsBeforeOrAfter, current_calls, install_calls, table_calls, temporary_calls, next_version_tables, write_calls}
 use Rattle.install.proofs.Outputs.{AreApart, filed, tables_passed}
 use Rattle.install.proofs.Switch.{Setting, ends, last_calls}
 
@@ -49,6 +49,13 @@ made_by calls steps (Ok x) h =
     rw h (subst (λ (s : List Step). AreMade calls s) (append-nil (map Done calls)) (subst (λ (c : List Call). AreMade c (map Done calls ++ [])) (append-nil calls) all))
 made_by calls steps (Err e) h = h
 
+-- the calls of an installation, each part before all that follow
+abbrev pub install_chain : ℕ → List (ℕ × List ℕ) → List ℕ → List Call
+install_chain number outputs manifest = table_calls outputs ++ (write_calls (manifest_name number) manifest ++ (temporary_calls number ++ current_calls number))
+
+pub chained : (number : ℕ) (outputs : List (ℕ × List ℕ)) (manifest : List ℕ) → install_calls number outputs manifest ≡ install_chain number outputs manifest
+chained number outputs manifest = append_assoc (table_calls outputs) (write_calls (manifest_name number) manifest ++ temporary_calls number) (current_calls number)
+
 -- no two of the names are one, and none is of use to the version before
 pub record Apart (cmp : List ℕ → List ℕ → Ordering) (v : State) (outputs : List (ℕ × List ℕ)) (number : ℕ) (manifest : List ℕ) : Type 0 where
   pub outputs_apart : AreApart cmp v outputs []
@@ -65,7 +72,7 @@ module _ (cmp : List ℕ → List ℕ → Ordering) (order : Order) (v next : St
   StandsNext w = StandsAs cmp order next (next_version_tables cmp next outputs tables) w
 
   abbrev all_calls : List Call
-  all_calls = install_calls number outputs manifest
+  all_calls = install_chain number outputs manifest
 
   short_of : (steps : List Step) (w : World) → StandsAs cmp order v tables w × IsShort steps all_calls → IsLeft w × (steps ≡ map Done all_calls → StandsNext w)
   short_of steps w h = (inl (left_reads cmp order v tables w h.0), λ done. absurd (h.1 done))

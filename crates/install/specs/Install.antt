@@ -4,6 +4,9 @@ use Rattle.std.specs.Prelude.{codes, Some, None, is_some, true, Option, Result, 
 use Rattle.std.specs.Global.{Vec}
 use Rattle.std.specs.Map.{lookup}
 use Rattle.std.specs.declared.cmp.Ordering.{Ordering}
+use Rattle.coding.specs.Answers.{fault}
+use Rattle.coding.specs.declared.fault.Fault.{Fault}
+use Rattle.coding.specs.declared.fault.FaultName.TheVariants.{Changed}
 use Rattle.logrec.specs.Log.{log}
 use Rattle.edit.specs.Edit.{Edit, IsEdit, edit_bytes}
 use Rattle.edit.specs.Version.{State, applied}
@@ -14,6 +17,7 @@ use Rattle.folder.specs.Crash.{Leads, LeavesOnly, World}
 use Rattle.folder.specs.Levels.{file_numbers}
 use Rattle.folder.specs.Manifest.{order_name}
 use Rattle.folder.specs.Names.{current_text, manifest_name, table_name, temporary_name}
+use Rattle.folder.specs.OpenAnswer.{IsStopped}
 use Rattle.folder.specs.ReadsAs.{IsOneOf, ReadsAs, StandsAs}
 use Rattle.folder.specs.declared.order.Order.{Order}
 
@@ -43,12 +47,19 @@ temporary_calls number = write_calls (temporary_name number) (current_text numbe
 abbrev pub current_calls : ℕ → List Call
 current_calls number = Renamed (temporary_name number) (codes "CURRENT") ∷ FolderSynced ∷ []
 
--- The calls of an installation: tables, manifest, CURRENT's text, CURRENT.
+-- the calls before the rename: tables, manifest, CURRENT's text
+abbrev pub calls_before_rename : ℕ → List (ℕ × List ℕ) → List ℕ → List Call
+calls_before_rename number outputs manifest =
+    table_calls outputs ++ (write_calls (manifest_name number) manifest ++ temporary_calls number)
+
+-- The calls of an installation that write. CURRENT is read again between the two parts.
 abbrev pub install_calls : ℕ → List (ℕ × List ℕ) → List ℕ → List Call
 install_calls number outputs manifest =
-    table_calls outputs
-    ++ (write_calls (manifest_name number) manifest
-    ++ (temporary_calls number ++ current_calls number))
+    calls_before_rename number outputs manifest ++ current_calls number
+
+-- the device failed, and Device is the answer; or CURRENT was not as it was, and Changed is
+abbrev pub IsStoppedOrChanged : ℕ → ℕ → Fault → Type 0
+IsStoppedOrChanged before now e = IsStopped before now e ⊎ (e ≡ fault Changed)
 
 -- the numbers of tables
 abbrev pub numbers_of : List (ℕ × List ℕ) → List ℕ

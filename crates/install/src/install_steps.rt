@@ -13,12 +13,14 @@ ghost use Rattle.folder.specs.declared.order.Order.{Order};
 ghost use Rattle.coding.specs.Answers.{UnlessMemory};
 ghost use Rattle.folder.specs.CallSequence.{MakesCalls};
 ghost use Rattle.folder.specs.Folder.{failures_after};
-ghost use Rattle.folder.specs.OpenAnswer.{IsStopped, StopsAtDevice};
+ghost use Rattle.folder.specs.OpenAnswer.{FolderAnswers, IsStopped, StopsAtDevice};
+ghost use Rattle.folder.specs.Reports.{OnlyReads, ReportsDevice};
+ghost use Rattle.install.specs.CurrentAnswer.{IsCurrentAnswer};
 ghost use Rattle.install.specs.Install.{AlwaysStandsAs, current_calls, table_calls, tables_in};
 ghost use Rattle.install.specs.Install.{temporary_calls, write_calls};
 ghost use Rattle.folder.specs.Names.{current_text, temporary_name};
 
-use coding::Fault;
+use coding::{Fault, FaultName};
 use folder::{CURRENT, Folder, FolderFault, current_text, table_name, temporary_name};
 use std::alloc::Global;
 
@@ -90,6 +92,25 @@ pub(crate) fn write_temporary<F: Folder>(
     ensures later { F.failed folder.old ≤ F.failed folder.new }
 {
     make_temporary(alloc, folder, number)
+}
+
+/// Changed if CURRENT doesn't name the manifest of the number `opened`, or isn't there. It only
+/// reads.
+pub(crate) fn test_current<F: Folder>(
+    alloc: Global,
+    folder: &mut F,
+    opened: u64,
+) -> Result<(), Fault>
+    ensures answer { FolderAnswers (λ u. u) (F.failed folder.old) (F.failed folder.new) result
+        (IsCurrentAnswer (F.tells folder.old) opened) }
+    ensures device { ReportsDevice F.Folder folder.old folder.new result }
+    ensures reads { OnlyReads F.Folder folder.old folder.new }
+{
+    let text = current_text(alloc, opened)?;
+    match folder.read(CURRENT)? {
+        Some(bytes) if bytes.as_slice() == text.as_bytes() => Ok(()),
+        _ => Err(Fault::of(FaultName::Changed)),
+    }
 }
 
 /// Renames the file of the temporary name to CURRENT, and syncs the folder.

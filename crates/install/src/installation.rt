@@ -1,16 +1,21 @@
 //! Installing the outcome of a compaction.
 
-ghost use Rattle.std.specs.Prelude.{◌<◌, ◌≤◌, ◌^◌, ℕ, List, length, IfErr};
-ghost use Rattle.coding.specs.Answers.{UnlessMemory};
+ghost use Rattle.std.specs.Prelude.{◌≡◌, ◌≢◌, ◌++◌, ◌<◌, ◌≤◌, ◌^◌, ℕ, List, length, map, codes};
+ghost use Rattle.std.specs.Prelude.{IfErr, IsErrAnd, Some};
+ghost use Rattle.coding.specs.Answers.{UnlessMemory, fault};
+ghost use Rattle.coding.specs.declared.fault.FaultName.TheVariants.{Changed};
 ghost use Rattle.edit.specs.Version.{State};
 ghost use Rattle.folder.specs.CallSequence.{MakesCalls};
+ghost use Rattle.folder.specs.Calls.{Done, Files, Tells};
+ghost use Rattle.folder.specs.Names.{current_text};
 ghost use Rattle.folder.specs.OpenAnswer.{IsStopped, StopsAtDevice};
 ghost use Rattle.folder.specs.Reports.{ReportsDevice};
 ghost use Rattle.folder.specs.declared.order.Order.{Order};
-ghost use Rattle.install.specs.Install.{IsEditedBy, SurvivesCrash, install_calls, manifest_bytes};
+ghost use Rattle.install.specs.Install.{IsEditedBy, IsStoppedOrChanged, SurvivesCrash};
+ghost use Rattle.install.specs.Install.{calls_before_rename, install_calls, manifest_bytes};
 ghost use Rattle.install.specs.Install.{next_version_tables, tables_in};
 
-use crate::install_steps::{name_current, write, write_tables, write_temporary};
+use crate::install_steps::{name_current, test_current, write, write_tables, write_temporary};
 use crate::manifest::manifest_bytes;
 use coding::Fault;
 use edit::{Outcome, Version};
@@ -21,23 +26,33 @@ use std::alloc::Global;
 /// Makes the edited version the folder's version: writes the outcome's tables, a manifest of this
 /// `manifest_number`, and CURRENT.
 ///
-/// The faults are `Device` and `Memory`. After one of them the folder reads as the version before
-/// or as the edited one, and has to be opened again. If the device fails a call, no further call is
-/// made. The comparator's name has fewer than 2^32 bytes.
+/// `opened` is the number of the manifest that CURRENT named when `version` was opened. CURRENT is
+/// read again just before it is replaced. If it holds anything else by then, or isn't there, the
+/// answer is `Changed` and no further call is made; what was written by then stays.
+///
+/// The other faults are `Device` and `Memory`. After one of them the folder reads as the version
+/// before or as the edited one, and has to be opened again. If the device fails a call, no further
+/// call is made. The comparator's name has fewer than 2^32 bytes.
 pub fn install<C: Comparator, F: Folder>(
     alloc: Global,
     folder: &mut F,
+    opened: u64,
     version: &Version,
     manifest_number: u64,
     outcome: &Outcome,
 ) -> Result<(), Fault>
     requires { length C.name_bytes < 2 ^ 32 }
 
-    // The calls in their order, up to one that fails.
+    // The calls that write, in their order, up to one that fails.
     ensures runs { MakesCalls
         (install_calls manifest_number (tables_in outcome.now.tables.items)
         (manifest_bytes C.name_bytes C.cmp version.now outcome.now.edit.items))
         (F.calls folder.old) (F.calls folder.new) (F.tells folder.old) (F.tells folder.new) result }
+
+    // At Changed those before the rename were made, and no others.
+    ensures left { IfErr result (λ e. e ≡ fault Changed → F.calls folder.new ≡ F.calls folder.old
+        ++ map Done (calls_before_rename manifest_number (tables_in outcome.now.tables.items)
+        (manifest_bytes C.name_bytes C.cmp version.now outcome.now.edit.items))) }
 
     // If the folder stands for the version, a crash at any moment leaves it or the edited version.
     // At Ok the folder stands for the edited one. Without a crash it reads as one of the two.
@@ -48,25 +63,80 @@ pub fn install<C: Comparator, F: Folder>(
         (next_version_tables C.cmp next (tables_in outcome.now.tables.items) tables)
         (F.calls folder.old) (F.calls folder.new) (F.tells folder.old) (F.tells folder.new) result }
 
-    // Only Device and Memory are answered, Device only if the device failed. Then no further call
-    // is made.
+    // At Changed the same holds with the version before in place of the edited one.
+    ensures before { (order : Order) (next : State) (tables : List (ℕ × List ℕ))
+        → IsEditedBy C.name_bytes C.cmp order version.now manifest_number
+        (tables_in outcome.now.tables.items) outcome.now.edit.items next
+        → IfErr result (λ e. e ≡ fault Changed
+        → SurvivesCrash C.cmp order version.now tables version.now tables (F.calls folder.old)
+        (F.calls folder.new) (F.tells folder.old) (F.tells folder.new) result) }
+
+    // Only Device, Changed and Memory are answered, Device only if the device failed. Then no
+    // further call is made.
     ensures refused { IfErr result
+        (λ e. UnlessMemory e (IsStoppedOrChanged (F.failed folder.old) (F.failed folder.new) e)) }
+
+    // If the folder tells files: Changed isn't answered if CURRENT is the one that was opened, and
+    // Ok isn't if it is another one.
+    ensures same_current { (files : Files) → Tells (F.tells folder.old) files →
+        files (codes "CURRENT") ≡ Some (current_text opened) → IfErr result
         (λ e. UnlessMemory e (IsStopped (F.failed folder.old) (F.failed folder.new) e)) }
+    ensures other_current { (files : Files) → Tells (F.tells folder.old) files →
+        files (codes "CURRENT") ≢ Some (current_text opened) → IsErrAnd result
+        (λ e. UnlessMemory e (IsStoppedOrChanged (F.failed folder.old) (F.failed folder.new) e)) }
     ensures device { ReportsDevice F.Folder folder.old folder.new result }
 {
     let manifest = manifest_bytes::<C>(alloc, version, &outcome.edit)?;
-    make_calls(alloc, folder, manifest_number, &outcome.tables, &manifest)
+    make_calls(
+        alloc,
+        folder,
+        opened,
+        manifest_number,
+        &outcome.tables,
+        &manifest,
+    )
 }
 
-/// Writes the tables, the manifest and CURRENT.
+/// Writes the tables, the manifest and CURRENT, if CURRENT still names the manifest of the number
+/// `opened`.
 fn make_calls<F: Folder>(
+    alloc: Global,
+    folder: &mut F,
+    opened: u64,
+    manifest_number: u64,
+    tables: &[(u64, Vec<u8>)],
+    manifest: &[u8],
+) -> Result<(), Fault>
+    ensures runs { MakesCalls (install_calls manifest_number (tables_in tables.now) manifest.now)
+        (F.calls folder.old) (F.calls folder.new) (F.tells folder.old) (F.tells folder.new) result }
+    ensures left { IfErr result (λ e. e ≡ fault Changed → F.calls folder.new ≡ F.calls folder.old
+        ++ map Done (calls_before_rename manifest_number (tables_in tables.now) manifest.now)) }
+    ensures refused { IfErr result
+        (λ e. UnlessMemory e (IsStoppedOrChanged (F.failed folder.old) (F.failed folder.new) e)) }
+    ensures same_current { (files : Files) → Tells (F.tells folder.old) files →
+        files (codes "CURRENT") ≡ Some (current_text opened) → IfErr result
+        (λ e. UnlessMemory e (IsStopped (F.failed folder.old) (F.failed folder.new) e)) }
+    ensures other_current { (files : Files) → Tells (F.tells folder.old) files →
+        files (codes "CURRENT") ≢ Some (current_text opened) → IsErrAnd result
+        (λ e. UnlessMemory e (IsStoppedOrChanged (F.failed folder.old) (F.failed folder.new) e)) }
+    ensures at_once { StopsAtDevice (F.failed folder.old) (F.failed folder.new) result }
+    ensures later { F.failed folder.old ≤ F.failed folder.new }
+{
+    write_files(alloc, folder, manifest_number, tables, manifest)?;
+    test_current(alloc, folder, opened)?;
+    name_current(alloc, folder, manifest_number)
+}
+
+/// Writes the tables, the manifest, and CURRENT's text under its temporary name.
+fn write_files<F: Folder>(
     alloc: Global,
     folder: &mut F,
     manifest_number: u64,
     tables: &[(u64, Vec<u8>)],
     manifest: &[u8],
 ) -> Result<(), Fault>
-    ensures runs { MakesCalls (install_calls manifest_number (tables_in tables.now) manifest.now)
+    ensures runs { MakesCalls
+        (calls_before_rename manifest_number (tables_in tables.now) manifest.now)
         (F.calls folder.old) (F.calls folder.new) (F.tells folder.old) (F.tells folder.new) result }
     ensures refused { IfErr result
         (λ e. UnlessMemory e (IsStopped (F.failed folder.old) (F.failed folder.new) e)) }
@@ -76,6 +146,5 @@ fn make_calls<F: Folder>(
     let name = manifest_name(alloc, manifest_number)?;
     write_tables(alloc, folder, tables)?;
     write(folder, name.as_str(), manifest)?;
-    write_temporary(alloc, folder, manifest_number)?;
-    name_current(alloc, folder, manifest_number)
+    write_temporary(alloc, folder, manifest_number)
 }

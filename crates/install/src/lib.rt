@@ -6,9 +6,15 @@
 //! 1. each table is made and synced;
 //! 2. the manifest is made and synced;
 //! 3. CURRENT's text is made under a temporary name and synced, and the folder is synced;
-//! 4. the temporary name is renamed to CURRENT, and the folder is synced.
+//! 4. CURRENT is read: if it isn't what it was when the version was opened, the answer is Changed
+//!    and no further call is made;
+//! 5. the temporary name is renamed to CURRENT, and the folder is synced.
 //!
-//! Why: CURRENT never names a manifest that a crash could take away.
+//! Why the first three: CURRENT never names a manifest that a crash could take away.
+//!
+//! Why the fourth: a program that ignores the folder's lock may have changed the version meanwhile,
+//! and the rename would undo that. A change between this read and the rename isn't seen. Files that
+//! the other program made under the names of the first three are replaced by then.
 //!
 //! Premises of what is said of a crash: nobody else writes the folder; it stands for the version
 //! (`StandsAs`); the outcome makes the edited version of it (`IsEditedBy`); and the crash model of

@@ -28,6 +28,9 @@ const FILES: &[(&str, &[u8])] = &[
 /// both names.
 const READS: u64 = 5;
 
+/// The calls of an installation that only read: CURRENT, before the last two calls that write.
+const READS_AGAIN: u64 = 1;
+
 /// Tables by their numbers.
 type Tables = &'static [(u64, &'static [u8])];
 
@@ -50,6 +53,8 @@ const VERSIONS: &[(u64, Tables)] = &[
 /// An outcome and its installation.
 #[derive(Drop)]
 struct Row {
+    /// The number of the manifest that CURRENT names before.
+    opened: u64,
     /// The number of the manifest that is written.
     manifest: u64,
     edit: &'static [u8],
@@ -67,6 +72,7 @@ struct Row {
 /// 9 of 4 bytes for `u`, number 10 of 3 bytes for `v` and number 11 of 6 bytes for `w`.
 const ROWS: &[&Row] = &[
     &Row {
+        opened: 5,
         manifest: BEFORE,
         edit: b"\x02\x03\x09\0\x03\x09\x04\x04\x06\x01\x07",
         tables: &[],
@@ -76,6 +82,7 @@ const ROWS: &[&Row] = &[
     },
     ONE,
     &Row {
+        opened: 5,
         manifest: BEFORE,
         edit: b"\
             \x02\x03\x09\0\x03\x0c\x04\x04\x06\x01\x07\
@@ -91,6 +98,7 @@ const ROWS: &[&Row] = &[
 
 /// That of one output.
 const ONE: &Row = &Row {
+    opened: 5,
     manifest: BEFORE,
     edit: b"\
         \x02\x03\x09\0\x03\x0a\x04\x04\x06\x01\x07\
@@ -104,6 +112,7 @@ const ONE: &Row = &Row {
 /// The outcome of a second run over the version of one output: next file is 13, file 9 at level 2
 /// is deleted, and number 12 of 6 bytes for `u` is new there.
 const SECOND: &Row = &Row {
+    opened: BEFORE,
     manifest: 10,
     edit: b"\
         \x02\x03\x09\0\x03\x0d\x04\x04\x06\x02\x09\
@@ -139,15 +148,15 @@ fn tables_of(
     load::<Bytewise, Shelf<'_>>(alloc, folder, version)
 }
 
-/// Installs over a version.
+/// Installs the outcome of a row over a version.
 fn installed(
     alloc: Global,
     shelf: &mut Shelf<'_>,
     version: &Version,
-    manifest_number: u64,
-    outcome: &Outcome,
+    row: &Row,
 ) -> Result<(), Fault> {
-    install::<Bytewise, Shelf<'_>>(alloc, shelf, version, manifest_number, outcome)
+    let outcome = outcome_of(alloc, row)?;
+    install::<Bytewise, Shelf<'_>>(alloc, shelf, row.opened, version, row.manifest, &outcome)
 }
 
 /// Whether the tables are these.
@@ -194,8 +203,7 @@ fn read_as(alloc: Global, folder: &mut Shelf<'_>) -> u64 {
 /// Opens a folder, loads its tables and installs the outcome of a row.
 fn install_row(alloc: Global, shelf: &mut Shelf<'_>, row: &Row) -> Result<(), Fault> {
     let (version, _number) = opened(alloc, shelf)?;
-    let outcome = outcome_of(alloc, row)?;
-    installed(alloc, shelf, &version, row.manifest, &outcome)
+    installed(alloc, shelf, &version, row)
 }
 
 /// The same, and then opens it and loads its tables again. The next file of what it reads as.
@@ -286,12 +294,17 @@ fn is_last(shelf: &Shelf<'_>, answer: Result<(), Fault>, failing: Failing) -> bo
         && shelf.failures() == failures
 }
 
+/// How many calls open a folder, load its tables and install the outcome of a row.
+fn calls_of(row: &Row) -> u64 {
+    READS.saturating_add(row.calls).saturating_add(READS_AGAIN)
+}
+
 /// Whether an installation ends at a call that fails. A crash then leaves the version before, or
 /// from the rename on either. The folder reads as the version before, or after the rename as the
 /// edited one. A second run goes on from there.
 fn ends_there(alloc: Global, shelf: &mut Shelf<'_>, row: &Row, failing: Failing) -> bool {
     let answer = install_row(alloc, shelf, row);
-    let rename = READS.saturating_add(row.calls).saturating_sub(1);
+    let rename = calls_of(row).saturating_sub(1);
     let is_renamed = failing.call > rename || (failing.call == rename && failing.is_half_done);
     let (read, again) = if is_renamed {
         (row.edited, row.again)
@@ -310,7 +323,7 @@ fn ends_there(alloc: Global, shelf: &mut Shelf<'_>, row: &Row, failing: Failing)
 /// The first call of reading and installing a row for whose failure this is wrong: by the device or
 /// by memory, half done or not at all.
 fn wrong_failure(alloc: Global, row: &Row) -> Option<usize> {
-    let calls = READS.saturating_add(row.calls);
+    let calls = calls_of(row);
     for way in 0..calls.saturating_mul(4) {
         let failing = Failing {
             call: way / 4 + 1,
@@ -348,7 +361,7 @@ fn crashes_and_calls_that_fail(rt: HostRuntime) {
 
 /// The failure of the last call.
 const LAST_SYNC: Failing = Failing {
-    call: READS + 9,
+    call: READS + 9 + READS_AGAIN,
     fault: FolderFault::Device,
     is_half_done: false,
 };
@@ -406,5 +419,54 @@ fn a_refused_growth_is_memory(rt: HostRuntime) {
             "of {} calls",
             row.calls
         );
+    }
+}
+
+/// What another program may leave as CURRENT while the folder is open: that of another manifest,
+/// one of a manifest's name that isn't written so, and none.
+const REPLACED: &[Option<&[u8]>] = &[Some(b"MANIFEST-000007\n"), Some(b"MANIFEST-000005"), None];
+
+/// Replaces CURRENT, or removes it.
+fn replace(shelf: &mut Shelf<'_>, current: Option<&[u8]>) -> Result<(), FolderFault> {
+    match current {
+        Some(bytes) => shelf.create("CURRENT", bytes),
+        // Renaming a missing file removes the file of the new name.
+        None => shelf.rename("", "CURRENT"),
+    }
+}
+
+/// Opens a folder, replaces CURRENT, and installs the outcome of a row.
+fn install_late(
+    alloc: Global,
+    shelf: &mut Shelf<'_>,
+    row: &Row,
+    current: Option<&[u8]>,
+) -> Result<(), Fault> {
+    let (version, _number) = opened(alloc, shelf)?;
+    replace(shelf, current)?;
+    installed(alloc, shelf, &version, row)
+}
+
+/// Whether it is refused as Changed, after all calls but the last two, and leaves that CURRENT.
+fn is_refused(alloc: Global, row: &Row, current: Option<&[u8]>) -> bool {
+    let mut shelf = Shelf::new(alloc, FILES);
+    let answer = install_late(alloc, &mut shelf, row, current);
+    // The call that replaced CURRENT is counted too.
+    answer == Err(Fault::of(FaultName::Changed))
+        && shelf.calls() == calls_of(row).saturating_sub(1)
+        && shelf.steps().len() as u64 == row.calls.saturating_sub(1)
+        && shelf.held("CURRENT") == current
+}
+
+#[test]
+fn current_that_changed(rt: HostRuntime) {
+    for row in ROWS {
+        for current in REPLACED {
+            assert!(rt;
+                is_refused(rt.alloc(), row, *current),
+                "of {} calls",
+                row.calls
+            );
+        }
     }
 }

@@ -1,6 +1,11 @@
-use Rattle.std.proofs.Common.{◌≡◌, ◌<◌, ◌^◌, ℕ, List, refl, ap, ◌∙◌, arith, rules}
-use Rattle.folder.proofs.ReportLemmas.{reports_steady, stopped_device}
-use Rattle.install.specs.Install.{install_calls, manifest_bytes, next_version_tables, tables_in}
+use Rattle.std.proofs.Common.{◌≡◌, ◌++◌, ◌<◌, ◌^◌, ℕ, List, IfErr, map, refl, ap, subst, ◌∙◌, arith, rules}
+use Rattle.coding.specs.Answers.{fault}
+use Rattle.coding.specs.declared.fault.FaultName.TheVariants.{Changed}
+use Rattle.folder.specs.Calls.{Done}
+use Rattle.folder.proofs.ReportLemmas.{reports_steady}
+use Rattle.install.specs.Install.{calls_before_rename, install_calls, manifest_bytes, next_version_tables, tables_in}
+use Rattle.install.proofs.Before.{stays_before}
+use Rattle.install.proofs.Current.{changed_device}
 use Rattle.install.proofs.Installed.{survives, undone}
 use Rattle.install.proofs.Parts.{hands_none, runs_same}
 use Rattle.install.proofs.installation.install.Goals as goal
@@ -40,7 +45,24 @@ pub returns-clause-device : goal.returns-clause-device
 returns-clause-device g c =
     let failed = g.F.Folder.failed in
     record {
-      device = stopped_device (failed c.args.folder.now) (failed c.make_calls.new.folder) c.make_calls.result c.make_calls.ensures.refused;
+      device = changed_device (failed c.args.folder.now) (failed c.make_calls.new.folder) c.make_calls.result c.make_calls.ensures.refused;
       at_once = c.make_calls.ensures.at_once;
       later = c.make_calls.ensures.later;
     }
+
+pub returns-clause-before : goal.returns-clause-before
+returns-clause-before g c order next tables h =
+    let calls = g.F.Folder.calls in
+    let tells' = g.F.Folder.tells in
+    let name = g.C.Comparator.name_bytes in
+    let cmp = g.C.Comparator.cmp in
+    let v = c.args.version.now in
+    let n = c.args.manifest_number in
+    let outputs = tables_in c.args.outcome.now.tables.items in
+    let edit = c.args.outcome.now.edit.items in
+    let before = c.args.folder.now in
+    let now = c.make_calls.new.folder in
+    let small : n < 2 ^ 64 = omega arith in
+    let one : tables_in c.deref-2.result.now ≡ outputs = ap tables_in c.deref-2.ensures.value in
+    let left = subst (λ (t : List (ℕ × List ℕ)). IfErr c.make_calls.result (λ e. e ≡ fault Changed → calls now ≡ calls before ++ map Done (calls_before_rename n t c.deref-3.result.now))) one c.make_calls.ensures.left in
+    stays_before name cmp order v next tables outputs n edit c.deref-3.result.now small h (install_calls n (tables_in c.deref-2.result.now) c.deref-3.result.now) (calls before) (calls now) (tells' before) (tells' now) c.make_calls.result c.make_calls.ensures.runs left

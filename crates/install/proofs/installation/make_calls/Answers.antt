@@ -1,72 +1,69 @@
-use Rattle.std.proofs.Common.{◌≡◌, ◌++◌, string_bytes, refl, sym, ◌∙◌}
-use Rattle.coding.proofs.Binds.{ok_is}
-use Rattle.folder.specs.Names.{manifest_name}
+use Rattle.std.proofs.Common.{◌<◌, ◌^◌, ◌∙◌, sym, arith}
 use Rattle.folder.proofs.RunLemmas.{runs_then}
-use Rattle.install.specs.Install.{current_calls, install_calls, table_calls, tables_in, temporary_calls, write_calls}
-use Rattle.install.proofs.Parts.{hands_none, hands_stopped, runs_same, runs_whole, same_writes}
+use Rattle.install.specs.Install.{calls_before_rename, current_calls, tables_in}
+use Rattle.install.proofs.Current.{handed_if, runs_read, same_refused, told_current}
+use Rattle.install.proofs.Parts.{hands_behind, hands_stopped, runs_whole}
 use Rattle.install.proofs.installation.make_calls.Goals as goal
 
-pub returns-in_err-name-clause-runs : goal.returns-in_err-name-clause-runs
-returns-in_err-name-clause-runs g c =
-    hands_none _ (install_calls c.args.manifest_number (tables_in c.args.tables.now) c.args.manifest.now) (g.F.Folder.calls c.args.folder.now) (g.F.Folder.tells c.args.folder.now) c.from_residual.result c.from_residual.ensures.1
-
-pub returns-in_err-write_tables-clause-runs : goal.returns-in_err-write_tables-clause-runs
-returns-in_err-write_tables-clause-runs g c =
+pub returns-in_err-write_files-clause-runs : goal.returns-in_err-write_files-clause-runs
+returns-in_err-write_files-clause-runs g c =
     let calls = g.F.Folder.calls in
     let tells = g.F.Folder.tells in
     let n = c.args.manifest_number in
-    hands_stopped _ (table_calls (tables_in c.args.tables.now)) (write_calls (manifest_name n) c.args.manifest.now ++ (temporary_calls n ++ current_calls n)) (calls c.args.folder.now) (calls c.write_tables.new.folder) (tells c.args.folder.now) (tells c.write_tables.new.folder)
-    c.in_err-write_tables.field-0.0 c.from_residual-in_err-write_tables.result c.from_residual-in_err-write_tables.ensures.1 c.in_err-write_tables.ensures.runs
+    hands_stopped _ (calls_before_rename n (tables_in c.args.tables.now) c.args.manifest.now) (current_calls n) (calls c.args.folder.now) (calls c.write_files.new.folder) (tells c.args.folder.now) (tells c.write_files.new.folder)
+    c.in_err-write_files.field-0.0 c.from_residual.result c.from_residual.ensures.1 c.in_err-write_files.ensures.runs
 
-pub returns-in_err-write-clause-runs : goal.returns-in_err-write-clause-runs
-returns-in_err-write-clause-runs g c =
+pub returns-in_err-test_current-clause-runs : goal.returns-in_err-test_current-clause-runs
+returns-in_err-test_current-clause-runs g c =
     let calls = g.F.Folder.calls in
     let tells = g.F.Folder.tells in
     let n = c.args.manifest_number in
+    let first = calls_before_rename n (tables_in c.args.tables.now) c.args.manifest.now in
     let a = c.args.folder.now in
-    let b = c.write_tables.new.folder in
-    let d = c.write.new.folder in
-    let named : c.as_str.result.now ≡ manifest_name n = c.as_str.ensures.value ∙ sym (ok_is (manifest_name n) (string_bytes c.in_ok-name.name) c.in_ok-name.ensures) in
-    let one = write_calls (manifest_name n) c.args.manifest.now in
-    runs_then (table_calls (tables_in c.args.tables.now)) (one ++ (temporary_calls n ++ current_calls n)) (calls a) (calls b) (calls d) (tells a) (tells b) (tells d) tt c.from_residual-in_err-write.result
-    (runs_whole _ (calls a) (calls b) (tells a) (tells b) _ c.in_ok-write_tables.ensures.runs)
-    (hands_stopped _ one (temporary_calls n ++ current_calls n) (calls b) (calls d) (tells b) (tells d) c.in_err-write.field-0.0 c.from_residual-in_err-write.result c.from_residual-in_err-write.ensures.1
-    (runs_same (write_calls c.as_str.result.now c.args.manifest.now) one (calls b) (calls d) (tells b) (tells d) _ (same_writes _ _ _ _ named refl) c.in_err-write.ensures.runs))
+    let b = c.write_files.new.folder in
+    let d = c.test_current.new.folder in
+    hands_behind _ first (current_calls n) (calls a) (calls d) (tells a) (tells d) c.from_residual-in_err-test_current.result c.from_residual-in_err-test_current.ensures.1
+    (runs_read first (calls a) (calls b) (calls d) (tells a) (tells b) (tells d) _ c.test_current.ensures.reads.same c.test_current.ensures.reads.calls
+    (runs_whole first (calls a) (calls b) (tells a) (tells b) _ c.in_ok-write_files.ensures.runs))
 
-pub returns-in_err-write_temporary-clause-runs : goal.returns-in_err-write_temporary-clause-runs
-returns-in_err-write_temporary-clause-runs g c =
+pub returns-in_err-test_current-clause-same_current : goal.returns-in_err-test_current-clause-same_current
+returns-in_err-test_current-clause-same_current g c files tell is =
     let calls = g.F.Folder.calls in
     let tells = g.F.Folder.tells in
+    let failed = g.F.Folder.failed in
     let n = c.args.manifest_number in
+    let first = calls_before_rename n (tables_in c.args.tables.now) c.args.manifest.now in
     let a = c.args.folder.now in
-    let b = c.write_tables.new.folder in
-    let d = c.write.new.folder in
-    let e = c.write_temporary.new.folder in
-    let named : c.as_str.result.now ≡ manifest_name n = c.as_str.ensures.value ∙ sym (ok_is (manifest_name n) (string_bytes c.in_ok-name.name) c.in_ok-name.ensures) in
-    let one = write_calls (manifest_name n) c.args.manifest.now in
-    let r = c.from_residual-in_err-write_temporary.result in
-    runs_then (table_calls (tables_in c.args.tables.now)) (one ++ (temporary_calls n ++ current_calls n)) (calls a) (calls b) (calls e) (tells a) (tells b) (tells e) tt r
-    (runs_whole _ (calls a) (calls b) (tells a) (tells b) _ c.in_ok-write_tables.ensures.runs)
-    (runs_then one (temporary_calls n ++ current_calls n) (calls b) (calls d) (calls e) (tells b) (tells d) (tells e) tt r
-    (runs_whole one (calls b) (calls d) (tells b) (tells d) _ (runs_same (write_calls c.as_str.result.now c.args.manifest.now) one (calls b) (calls d) (tells b) (tells d) _ (same_writes _ _ _ _ named refl) c.in_ok-write.ensures.runs))
-    (hands_stopped _ (temporary_calls n) (current_calls n) (calls d) (calls e) (tells d) (tells e) c.in_err-write_temporary.field-0.0 r c.from_residual-in_err-write_temporary.ensures.1 c.in_err-write_temporary.ensures.runs))
+    let b = c.write_files.new.folder in
+    let d = c.test_current.new.folder in
+    let e = c.in_err-test_current.field-0.0 in
+    let small : n < 2 ^ 64 = omega arith in
+    let then = told_current n (tables_in c.args.tables.now) c.args.manifest.now small (calls a) (calls b) (tells a) (tells b) (runs_whole first (calls a) (calls b) (tells a) (tells b) _ c.in_ok-write_files.ensures.runs) files tell in
+    handed_if _ c.from_residual-in_err-test_current.result e c.from_residual-in_err-test_current.ensures.1
+    (same_refused (tells b) c.args.opened (failed a) (failed b) (failed d) c.write_files.ensures.later c.test_current.ensures.device.later then.0 then.1 (then.2 ∙ is) c.test_current.result e c.in_err-test_current.ensures.answer)
 
 pub returns-clause-runs : goal.returns-clause-runs
 returns-clause-runs g c =
     let calls = g.F.Folder.calls in
     let tells = g.F.Folder.tells in
     let n = c.args.manifest_number in
+    let first = calls_before_rename n (tables_in c.args.tables.now) c.args.manifest.now in
     let a = c.args.folder.now in
-    let b = c.write_tables.new.folder in
-    let d = c.write.new.folder in
-    let e = c.write_temporary.new.folder in
-    let f = c.name_current.new.folder in
-    let named : c.as_str.result.now ≡ manifest_name n = c.as_str.ensures.value ∙ sym (ok_is (manifest_name n) (string_bytes c.in_ok-name.name) c.in_ok-name.ensures) in
-    let one = write_calls (manifest_name n) c.args.manifest.now in
-    let r = c.name_current.result in
-    runs_then (table_calls (tables_in c.args.tables.now)) (one ++ (temporary_calls n ++ current_calls n)) (calls a) (calls b) (calls f) (tells a) (tells b) (tells f) tt r
-    (runs_whole _ (calls a) (calls b) (tells a) (tells b) _ c.in_ok-write_tables.ensures.runs)
-    (runs_then one (temporary_calls n ++ current_calls n) (calls b) (calls d) (calls f) (tells b) (tells d) (tells f) tt r
-    (runs_whole one (calls b) (calls d) (tells b) (tells d) _ (runs_same (write_calls c.as_str.result.now c.args.manifest.now) one (calls b) (calls d) (tells b) (tells d) _ (same_writes _ _ _ _ named refl) c.in_ok-write.ensures.runs))
-    (runs_then (temporary_calls n) (current_calls n) (calls d) (calls e) (calls f) (tells d) (tells e) (tells f) tt r
-    (runs_whole _ (calls d) (calls e) (tells d) (tells e) _ c.in_ok-write_temporary.ensures.runs) c.name_current.ensures.runs))
+    let b = c.write_files.new.folder in
+    let d = c.test_current.new.folder in
+    let e = c.name_current.new.folder in
+    runs_then first (current_calls n) (calls a) (calls d) (calls e) (tells a) (tells d) (tells e) _ c.name_current.result
+    (runs_read first (calls a) (calls b) (calls d) (tells a) (tells b) (tells d) _ c.test_current.ensures.reads.same c.test_current.ensures.reads.calls c.in_ok-write_files.ensures.runs)
+    c.name_current.ensures.runs
+
+pub returns-clause-other_current : goal.returns-clause-other_current
+returns-clause-other_current g c files tell other =
+    let calls = g.F.Folder.calls in
+    let tells = g.F.Folder.tells in
+    let n = c.args.manifest_number in
+    let first = calls_before_rename n (tables_in c.args.tables.now) c.args.manifest.now in
+    let a = c.args.folder.now in
+    let b = c.write_files.new.folder in
+    let small : n < 2 ^ 64 = omega arith in
+    let then = told_current n (tables_in c.args.tables.now) c.args.manifest.now small (calls a) (calls b) (tells a) (tells b) (runs_whole first (calls a) (calls b) (tells a) (tells b) _ c.in_ok-write_files.ensures.runs) files tell in
+    absurd (other (sym then.2 ∙ (then.1 _ _).0 c.in_ok-test_current.ensures.answer))

@@ -1,0 +1,94 @@
+-- CURRENT as the calls before the rename leave it, and what comes of reading it again.
+use Rattle.std.proofs.Common.{◌≡◌, ◌≢◌, ◌⊎◌, ◌<◌, ◌≤◌, ◌^◌, ℕ, true, List, [], ◌∷◌, ◌++◌, map, Option, Some, Result, Ok, Err, IsErrAnd, IfErr, sym, ap, subst, ◌∙◌, inl, inr}
+use Rattle.coding.proofs.Refusals.{unless_device, unless_from}
+use Rattle.coding.specs.Answers.{UnlessMemory}
+use Rattle.coding.specs.declared.fault.Fault.{Fault}
+use Rattle.coding.specs.declared.fault.FaultName.TheVariants as name
+use Rattle.folder.specs.Calls.{Call, Created, Done, Files, FolderSynced, FolderView, Renamed, Shows, Step, Synced, Tells}
+use Rattle.folder.specs.CallSequence.{MakesCalls, ShowsAll}
+use Rattle.folder.specs.Folder.{TellsSame}
+use Rattle.folder.specs.Names.{current_text}
+use Rattle.folder.specs.OpenAnswer.{HasDeviceFailed, IsStopped}
+use Rattle.folder.proofs.OpeningLemmas.{failed_since}
+use Rattle.folder.proofs.PutLemmas.{put_other}
+use Rattle.install.specs.CurrentAnswer.{IsCurrentAnswer}
+use Rattle.install.specs.Install.{IsStoppedOrChanged, calls_before_rename, table_calls}
+use Rattle.install.proofs.Parts.{RunsWhole}
+use Rattle.install.proofs.Switch.{CURRENT, manifest_no_current, table_no_current, temporary_no_current}
+
+-- a call that leaves CURRENT as it is
+abbrev LeavesCurrent : Call → Type 0
+LeavesCurrent (Created name bytes) = name ≢ CURRENT
+LeavesCurrent (Synced name) = Unit {0}
+LeavesCurrent (Renamed from to) = ⊥
+LeavesCurrent FolderSynced = Unit {0}
+
+abbrev AllLeaveCurrent : List Call → Type 0
+AllLeaveCurrent [] = Unit {0}
+AllLeaveCurrent (call ∷ calls) = LeavesCurrent call × AllLeaveCurrent calls
+
+all_leave : (calls more : List Call) → AllLeaveCurrent calls → AllLeaveCurrent more → AllLeaveCurrent (calls ++ more)
+all_leave [] more h k = k
+all_leave (call ∷ calls) more h k = (h.0, all_leave calls more h.1 k)
+
+tables_leave : (outputs : List (ℕ × List ℕ)) → AllLeaveCurrent (table_calls outputs)
+tables_leave [] = tt
+tables_leave (t ∷ outputs) = (table_no_current t.0, (tt, tables_leave outputs))
+
+-- none of the calls before the rename is one of CURRENT
+files_leave : (number : ℕ) (outputs : List (ℕ × List ℕ)) (manifest : List ℕ) → number < 2 ^ 64 → AllLeaveCurrent (calls_before_rename number outputs manifest)
+files_leave number outputs manifest small = all_leave (table_calls outputs) _ (tables_leave outputs) (manifest_no_current number small, (tt, (temporary_no_current number, (tt, (tt, tt)))))
+
+shows_current : (call : Call) (s next : FolderView) → LeavesCurrent call → Shows (Done call) s next → next.files CURRENT ≡ s.files CURRENT
+shows_current (Created name bytes) s next h is = ap (λ (v : FolderView). v.files CURRENT) is ∙ put_other s.files name (Some bytes) CURRENT (λ e. h (sym e))
+shows_current (Synced name) s next h is = ap (λ (v : FolderView). v.files CURRENT) is
+shows_current (Renamed from to) s next h is = absurd h
+shows_current FolderSynced s next h is = ap (λ (v : FolderView). v.files CURRENT) is
+
+show_current : (calls : List Call) (s last : FolderView) → AllLeaveCurrent calls → ShowsAll (map Done calls) s last → last.files CURRENT ≡ s.files CURRENT
+show_current [] s last h is = ap (λ (v : FolderView). v.files CURRENT) is
+show_current (call ∷ calls) s last h shows = show_current calls shows.0 last h.1 shows.2 ∙ shows_current call s shows.0 h.0 shows.1
+
+-- a folder that tells files tells the same CURRENT after the calls before the rename
+pub told_current : (number : ℕ) (outputs : List (ℕ × List ℕ)) (manifest : List ℕ) → number < 2 ^ 64 → (before after : List Step) (old new : List ℕ → Option (List ℕ) → Type 0) → RunsWhole (calls_before_rename number outputs manifest) before after old new
+    → (files : Files) → Tells old files → (now : Files) × Tells new now × (now CURRENT ≡ files CURRENT)
+told_current number outputs manifest small before after old new runs files tell =
+    let s : FolderView = record { files = files; synced = λ name. true } in
+    let last = runs.change s tell in
+    let shows = subst (λ (steps : List Step). ShowsAll steps s last.0) runs.made last.1 in
+    (last.0.files, last.2, show_current (calls_before_rename number outputs manifest) s last.0 (files_leave number outputs manifest small) shows)
+
+-- reading changes nothing of what was made
+pub runs_read : {T E : Type 0} (calls : List Call) (before middle after : List Step) (old between new : List ℕ → Option (List ℕ) → Type 0) (r : Result T E) → TellsSame between new → after ≡ middle → MakesCalls calls before middle old between r
+    → MakesCalls calls before after old new r
+runs_read calls before middle after old between new r same is h = record {
+  steps = h.steps;
+  made = h.made;
+  appended = is ∙ h.appended;
+  change = λ s tell.
+      let last = h.change s tell in
+      let told : Tells new last.0.files = λ name held. (λ x. (last.2 name held).0 ((same name held).1 x), λ x. (same name held).0 ((last.2 name held).1 x)) in
+      (last.0, last.1, told);
+}
+
+-- an error that `?` hands on
+pub handed_if : {X : Type 0} (P : Fault → Type 0) (r : Result X Fault) (e : Fault) → IsErrAnd r (λ f. f ≡ e) → P e → IfErr r P
+handed_if P (Ok x) e h p = tt
+handed_if P (Err f) e h p = subst P (sym h) p
+
+-- the device failed if Device is answered
+pub changed_device : {X : Type 0} (before now : ℕ) (r : Result X Fault) → IfErr r (λ e. UnlessMemory e (IsStoppedOrChanged before now e)) → IfErr r (HasDeviceFailed before now)
+changed_device before now (Ok x) h = tt
+changed_device before now (Err e) h = λ same.
+    elim (unless_device e (IsStoppedOrChanged before now e) same h) [
+      | inl stopped ↦ stopped.1
+      | inr changed ↦ let other : name.Changed ≡ name.Device = sym (ap (λ (f : Fault). f.name) changed) ∙ same in absurd (cc other)
+    ]
+
+-- what a second reading of CURRENT is refused as, of all calls, if CURRENT is as it was
+pub same_refused : {T : Type 0} (tells : List ℕ → Option (List ℕ) → Type 0) (opened before middle now : ℕ) → before ≤ middle → middle ≤ now → (files : Files) → Tells tells files → files CURRENT ≡ Some (current_text opened)
+    → (first : Result T Fault) (e : Fault) → UnlessMemory e (IsStopped middle now e ⊎ IsCurrentAnswer {T = T} tells opened (Err e)) → UnlessMemory e (IsStopped before now e)
+same_refused {T} tells opened before middle now one two files tell is first e h = unless_from e (IsStopped middle now e ⊎ IsCurrentAnswer {T = T} tells opened (Err e)) (IsStopped before now e) (λ g. elim g [
+  | inl s ↦ (s.0, failed_since before middle now one two s.1)
+  | inr changed ↦ absurd (changed.2 (sym ((tell CURRENT changed.0).0 changed.1) ∙ is))
+]) h

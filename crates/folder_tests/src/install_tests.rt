@@ -1,4 +1,4 @@
 //! The tests of `install`.
 
-mod crashes;
+pub(crate) mod crashes;
 mod tests;

@@ -1,7 +1,9 @@
 //! The tests of `folder` and `install`: folders that are opened and loaded, and installations that
-//! are cut short or fail.
+//! are cut short or fail. So is a whole compaction of a folder that was never synced.
 #![tactic(auto)]
 
+#[cfg(test)]
+mod compaction_crash_tests;
 #[cfg(test)]
 mod folder_ahead_tests;
 #[cfg(test)]

@@ -32,6 +32,7 @@ const FILES: &[(&str, &[u8])] = &[
 
 /// The next file of the version before, and of the edited one, which has no file.
 const BEFORE: u64 = 9;
+
 const EDITED: u64 = 10;
 
 /// The calls that write, in order: what each does, and to which name. The first three make the
@@ -165,6 +166,10 @@ fn crashes_of_a_folder_that_was_not_synced(rt: HostRuntime) {
     let alloc = rt.alloc();
     let mut shelf = Shelf::new(alloc, &[]);
     assert_eq!(rt; is_compacted(&rt, &mut shelf), Ok(true));
-    assert_eq!(rt; found(alloc, unsynced(shelf.steps())), None, "nothing is kept yet");
+    assert_eq!(rt;
+        found(alloc, unsynced(shelf.steps())),
+        None,
+        "nothing is kept yet"
+    );
     assert_eq!(rt; wrong_moment(alloc, shelf.steps()), None);
 }

@@ -152,6 +152,7 @@ fn compact_version<C: SharedComparator + 'static, F: Folder, W: Watch + Sync, R:
     let loaded = load::<C, F>(alloc, folder, version)?;
     let compacted = compact_loaded::<C, W, R>(rt, alloc, version, &loaded, level, settings, watch)?;
     let outcome = &compacted.outcome;
-    install::<C, F>(alloc, folder, opened.manifest, version, manifest_of(version), outcome)?;
+    let number = manifest_of(version);
+    install::<C, F>(alloc, folder, opened.manifest, version, number, outcome)?;
     Ok(compacted.lines)
 }

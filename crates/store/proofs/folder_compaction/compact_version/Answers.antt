@@ -77,7 +77,7 @@ returns-in_err-install-clause-left g c files order told current named opened =
     let e = c.in_err-install.field-0.0 in
     let h = c.from_residual-in_err-install.ensures.1 in
     let done = subst (λ (ts : List (ℕ × Vec ℕ)). VersionCompaction order cmp g.C.Comparator.short_keys v (tables_in ts) c.args.level s answer lines) c.deref.ensures.value (c.in_ok-compacted.ensures.compacted order) in
-    let promises = subst (λ (n : ℕ). Promises name cmp v n answer (calls c.load.new.folder) (calls c.install.new.folder) (tells c.load.new.folder) (tells c.install.new.folder) c.install.result) c.manifest_of.ensures c.install.ensures.survives in
+    let promises = subst (λ (n : ℕ). Promises name cmp v n answer (calls c.load.new.folder) (calls c.install.new.folder) (tells c.load.new.folder) (tells c.install.new.folder) c.install.result) c.manifest_of-number.ensures c.install.ensures.survives in
     version_left name order cmp g.C.Comparator.short_keys files v loaded c.args.level s answer lines
     (calls c.args.folder.now) (calls c.load.new.folder) (calls c.install.new.folder) (tells c.args.folder.now) (tells c.load.new.folder) (tells c.install.new.folder) c.install.result q
     named (reads_as cmp order v loaded files opened (loaded_in (tells c.args.folder.now) files (file_numbers cmp v) (Ok loaded) told c.in_ok-loaded.ensures.answer)) done
@@ -109,7 +109,7 @@ returns-clause-left g c files order told current named opened =
     let lines = c.in_ok-compacted.compacted.lines.items in
     let q : Result (Vec ℕ) Fault = Ok c.in_ok-compacted.compacted.lines in
     let done = subst (λ (ts : List (ℕ × Vec ℕ)). VersionCompaction order cmp g.C.Comparator.short_keys v (tables_in ts) c.args.level s answer lines) c.deref.ensures.value (c.in_ok-compacted.ensures.compacted order) in
-    let promises = subst (λ (n : ℕ). Promises name cmp v n answer (calls c.load.new.folder) (calls c.install.new.folder) (tells c.load.new.folder) (tells c.install.new.folder) c.install.result) c.manifest_of.ensures c.install.ensures.survives in
+    let promises = subst (λ (n : ℕ). Promises name cmp v n answer (calls c.load.new.folder) (calls c.install.new.folder) (tells c.load.new.folder) (tells c.install.new.folder) c.install.result) c.manifest_of-number.ensures c.install.ensures.survives in
     version_left name order cmp g.C.Comparator.short_keys files v loaded c.args.level s answer lines
     (calls c.args.folder.now) (calls c.load.new.folder) (calls c.install.new.folder) (tells c.args.folder.now) (tells c.load.new.folder) (tells c.install.new.folder) c.install.result q
     named (reads_as cmp order v loaded files opened (loaded_in (tells c.args.folder.now) files (file_numbers cmp v) (Ok loaded) told c.in_ok-loaded.ensures.answer)) done

@@ -59,13 +59,13 @@ fn is_loaded(alloc: Global, shelf: &mut Shelf<'_>, version: &Version) -> Result<
     Ok(tables.len() == 1 && *number == 7 && table.as_slice() == TABLE_U_TWICE)
 }
 
-/// Installs the edit that deletes the folder's file.
+/// Installs the edit that deletes the folder's file. CURRENT named manifest 5 when it was opened.
 fn install_next(alloc: Global, shelf: &mut Shelf<'_>, version: &Version) -> Result<(), Fault> {
     let outcome = Outcome {
         tables: Vec::new(alloc),
         edit: Vec::from_slice(alloc, NEXT_TEN)?,
     };
-    install::<Bytewise, Shelf<'_>>(alloc, shelf, version, 9, &outcome)
+    install::<Bytewise, Shelf<'_>>(alloc, shelf, 5, version, 9, &outcome)
 }
 
 /// Loads and installs, if this is the version before.

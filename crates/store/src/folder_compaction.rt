@@ -1,8 +1,9 @@
 //! The compaction of a database folder.
 
-ghost use Rattle.std.specs.Prelude.{◌≡◌, ◌<◌, ◌^◌, length, Ok};
+ghost use Rattle.std.specs.Prelude.{◌≡◌, ◌≢◌, ◌<◌, ◌^◌, length, codes, Some, Ok, OnOk};
 ghost use Rattle.folder.specs.Calls.{Files, Tells};
 ghost use Rattle.folder.specs.Manifest.{order_name};
+ghost use Rattle.folder.specs.Names.{current_text};
 ghost use Rattle.folder.specs.OpenAnswer.{FolderAnswers, IsOpened};
 ghost use Rattle.folder.specs.Orders.{order_cmp, order_short_keys};
 ghost use Rattle.folder.specs.ReadsAs.{IsHeldIn};
@@ -46,11 +47,14 @@ use std::thread::Threads;
 /// - Level: the level is above 5; NoInput: it has no file;
 /// - SplitCount: `settings.ranges` is outside 1 to 4,096;
 /// - Numbers: next file is 2^64 - 1;
-/// - what `compact::compact` is refused as, Workers first.
+/// - what `compact::compact` is refused as, Workers first;
+/// - Changed: just before CURRENT is replaced it isn't what it was when the folder was opened, since
+///   another program wrote it meanwhile. A folder that tells what it holds is never refused so.
 ///
 /// If the device fails a call, the answer is Device and no further call is made. If memory runs
 /// out, it is Memory. After these two the folder reads as the version before or as the edited one,
-/// and has to be opened again. After any other refusal it holds what it held.
+/// and has to be opened again. After Changed CURRENT stays as it is, and the tables and the manifest
+/// that were written stay too. After any other refusal the folder holds what it held.
 ///
 /// The work is told to `watch`, which is `&Open` if nobody watches. It doesn't change the answer.
 pub fn compact_dir<F: Folder, W: Watch + Sync, R: Threads + Sync>(
@@ -89,16 +93,22 @@ pub fn compact_opened<F: Folder, W: Watch + Sync, R: Threads + Sync>(
     settings: &Settings<'_>,
     watch: &W,
 ) -> Result<Vec<u8>, Fault>
+    // If the folder tells files, and CURRENT is the one that was opened.
     ensures answer { (files : Files) → Tells (F.tells folder.old) files →
+        files (codes "CURRENT") ≡ Some (current_text opened.now.manifest) →
         FolderAnswers (λ v. v.items) (F.failed folder.old) (F.failed folder.new) result
         (IsVersionCompacted (order_cmp opened.now.order) (order_short_keys opened.now.order)
         files opened.now.version level settings.now) }
-    // If the folder's files open as this version in this order.
+    // If moreover they open as this version in this order.
     ensures left { (files : Files) → Tells (F.tells folder.old) files →
+        files (codes "CURRENT") ≡ Some (current_text opened.now.manifest) →
         IsOpened (IsHeldIn files) (Ok (opened.now.order, opened.now.version)) →
         IsVersionLeft opened.now.order (order_cmp opened.now.order)
         (order_short_keys opened.now.order) opened.now.version files level settings.now
         (F.calls folder.old) (F.calls folder.new) (F.tells folder.old) (F.tells folder.new) result }
+    // If CURRENT is another one, nothing is installed.
+    ensures other { (files : Files) → Tells (F.tells folder.old) files →
+        files (codes "CURRENT") ≢ Some (current_text opened.now.manifest) → OnOk result ⊥ }
     ensures device { ReportsDevice F.Folder folder.old folder.new result }
 {
     match opened.order {
@@ -124,20 +134,25 @@ fn compact_version<C: SharedComparator + 'static, F: Folder, W: Watch + Sync, R:
 ) -> Result<Vec<u8>, Fault>
     requires { length C.name_bytes < 2 ^ 32 }
     ensures answer { (files : Files) → Tells (F.tells folder.old) files →
+        files (codes "CURRENT") ≡ Some (current_text opened.now.manifest) →
         FolderAnswers (λ v. v.items) (F.failed folder.old) (F.failed folder.new) result
         (IsVersionCompacted C.cmp C.short_keys
         files opened.now.version level settings.now) }
     ensures left { (files : Files) (order : Order) → Tells (F.tells folder.old) files →
+        files (codes "CURRENT") ≡ Some (current_text opened.now.manifest) →
         order_name order ≡ C.name_bytes →
         IsOpened (IsHeldIn files) (Ok (order, opened.now.version)) →
         IsVersionLeft order C.cmp C.short_keys opened.now.version files level settings.now
         (F.calls folder.old) (F.calls folder.new) (F.tells folder.old) (F.tells folder.new) result }
+    ensures other { (files : Files) → Tells (F.tells folder.old) files →
+        files (codes "CURRENT") ≢ Some (current_text opened.now.manifest) → OnOk result ⊥ }
     ensures device { ReportsDevice F.Folder folder.old folder.new result }
 {
     let version = &opened.version;
     let loaded = load::<C, F>(alloc, folder, version)?;
     let compacted = compact_loaded::<C, W, R>(rt, alloc, version, &loaded, level, settings, watch)?;
     let outcome = &compacted.outcome;
-    install::<C, F>(alloc, folder, version, manifest_of(version), outcome)?;
+    let number = manifest_of(version);
+    install::<C, F>(alloc, folder, opened.manifest, version, number, outcome)?;
     Ok(compacted.lines)
 }

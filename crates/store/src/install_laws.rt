@@ -33,7 +33,7 @@ pub fn answer_is_installed<C: Comparator>()
 }
 
 /// If CURRENT, its manifest and the tables were synced or are missing, a sync of the folder makes
-/// it stand for the version that it reads as. A call does nothing.
+/// it stand for the version that it reads as. `sync_version` syncs those too. A call does nothing.
 pub fn sync_stands()
     ensures { SyncLaw }
 {}

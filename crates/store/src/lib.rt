@@ -1,14 +1,14 @@
-//! One compaction of a database folder: it is synced and opened, its tables are checked, inputs are
-//! picked and compacted, and the outcome is installed.
+//! One compaction of a database folder: it is opened, what was opened is synced, its tables are
+//! checked, inputs are picked and compacted, and the outcome is installed.
 //!
 //! 1. [`Settings`] says which workers, ranges, snapshots and options.
-//! 2. [`compact_dir`] does all of it; [`compact_opened`] does it with a folder that is synced and
-//!    opened already.
+//! 2. [`compact_dir`] does all of it. Its steps are `folder::open`, [`sync_version`] and
+//!    [`compact_opened`], for callers that need what was opened in between.
 //! 3. Both tell a [`Watch`] of the work; [`Open`] is the one that does nothing.
 //!
-//! The laws tie a compaction to its installation. That a synced folder stands for its version is
-//! the law [`sync_stands`], which has a premise: what the version rests on was synced or is
-//! missing.
+//! The laws tie a compaction to its installation. After [`sync_version`] a folder stands for the
+//! version that was opened, whatever was synced before. The law [`sync_stands`] says when a sync of
+//! the folder alone is enough.
 #![tactic(auto)]
 
 mod folder_compaction;

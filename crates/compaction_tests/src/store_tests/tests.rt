@@ -93,9 +93,9 @@ const FAILURES: &[(FolderFault, bool, FaultName)] = &[
     (FolderFault::Memory, true, FaultName::Memory),
 ];
 
-/// The calls of the compaction of the deletion: a sync of the folder, three reads, and seven of the
-/// installation, the last but one of which renames the new CURRENT.
-const CALLS: u64 = 11;
+/// The calls of the compaction of the deletion: two reads, five syncs, the read of the table, and
+/// eight of the installation, the last but one of which renames the new CURRENT.
+const CALLS: u64 = 16;
 
 /// What a second compaction answers: that no input is left if CURRENT was renamed, else the lines
 /// of the first.

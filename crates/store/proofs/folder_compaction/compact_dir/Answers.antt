@@ -60,11 +60,12 @@ returns-clause-answer g c files told =
     let o = c.in_ok-opened.opened in
     let opened : Order × State = (o.order, o.version) in
     let next = λ (opened : Order × State). IsVersionCompacted (order_cmp opened.0) (order_short_keys opened.0) files opened.1 c.args.level c.args.settings.now in
+    let named = (told (codes "CURRENT") (Some (current_text o.manifest))).0 c.in_ok-opened.ensures.named in
     let synced = c.sync_version.ensures.same files (told_still (tells c.args.folder.now) (tells c.open.new.folder) files c.open.ensures.reads.same told) in
     answers_behind (λ v. v.items) (failed c.args.folder.now) (failed c.sync_version.new.folder) (failed c.compact_opened.new.folder) c.compact_opened.result (IsOpened (IsHeldIn files)) next next opened
     (later_still (failed c.args.folder.now) (failed c.open.new.folder) (failed c.sync_version.new.folder) c.open.ensures.device.later c.sync_version.ensures.device.later) c.compact_opened.ensures.device.later
     (opened_in (tells c.args.folder.now) files (Ok opened) told c.in_ok-opened.ensures.answer) (λ a h. h)
-    (c.compact_opened.ensures.answer files synced)
+    (c.compact_opened.ensures.answer files synced named)
 
 pub returns-clause-left : goal.returns-clause-left
 returns-clause-left g c files told =
@@ -72,12 +73,13 @@ returns-clause-left g c files told =
     let calls = g.F.Folder.calls in
     let o = c.in_ok-opened.opened in
     let opened = opened_in (tells c.args.folder.now) files (Ok (o.order, o.version)) told c.in_ok-opened.ensures.answer in
+    let named = (told (codes "CURRENT") (Some (current_text o.manifest))).0 c.in_ok-opened.ensures.named in
     let synced = c.sync_version.ensures.same files (told_still (tells c.args.folder.now) (tells c.open.new.folder) files c.open.ensures.reads.same told) in
     synced_left o.order o.version o.manifest files c.args.level c.args.settings.now (calls c.args.folder.now) (calls c.open.new.folder) (calls c.sync_version.new.folder) (calls c.compact_opened.new.folder)
     (tells c.args.folder.now) (tells c.open.new.folder) (tells c.sync_version.new.folder) (tells c.compact_opened.new.folder) c.sync_version.result _ c.compact_opened.result
-    opened ((told (codes "CURRENT") (Some (current_text o.manifest))).0 c.in_ok-opened.ensures.named)
+    opened named
     c.open.ensures.reads.calls c.open.ensures.reads.same c.in_ok-sync_version.was c.sync_version.ensures.runs
-    (c.compact_opened.ensures.left files synced opened)
+    (c.compact_opened.ensures.left files synced named opened)
 
 pub returns-clause-device : goal.returns-clause-device
 returns-clause-device g c =

@@ -11,13 +11,13 @@ use Rattle.install.specs.Install.{tables_in}
 use Rattle.compact.specs.Answered.{answer_in}
 use Rattle.store.specs.Answers.{IsLoadedCompacted, IsVersionCompacted}
 use Rattle.store.specs.Compaction.{VersionCompaction}
-use Rattle.store.proofs.Flow.{first_passed, first_refused, loaded_in, never_device, no_value, stopped_on}
+use Rattle.store.proofs.Flow.{first_passed, first_refused, loaded_in, never_device, no_value, stopped_on, told_still}
 use Rattle.store.proofs.InstallPart.{Promises, reads_as, refused_ok, refused_on, stopped_named, valued_on, version_left}
 use Rattle.store.proofs.NoDevice.{loaded_other}
 use Rattle.store.proofs.folder_compaction.compact_version.Goals as goal
 
 pub returns-in_err-loaded-clause-answer : goal.returns-in_err-loaded-clause-answer
-returns-in_err-loaded-clause-answer g c files told =
+returns-in_err-loaded-clause-answer g c files told current =
     let cmp = g.C.Comparator.cmp in
     let v = c.args.opened.now.version in
     let tells = g.F.Folder.tells c.args.folder.now in
@@ -31,11 +31,11 @@ returns-in_err-loaded-clause-answer g c files told =
     (λ h. first_refused (IsLoaded (IsHeldIn files) numbers) later e (loaded_in tells files numbers (Err e) told h))
 
 pub returns-in_err-loaded-clause-left : goal.returns-in_err-loaded-clause-left
-returns-in_err-loaded-clause-left g c files order told named opened =
+returns-in_err-loaded-clause-left g c files order told current named opened =
     inl (record { calls = c.load.ensures.reads.calls; same = c.load.ensures.reads.same; refused = no_value c.from_residual.result _ c.from_residual.ensures.1 })
 
 pub returns-in_err-compacted-clause-answer : goal.returns-in_err-compacted-clause-answer
-returns-in_err-compacted-clause-answer g c files told =
+returns-in_err-compacted-clause-answer g c files told current =
     let cmp = g.C.Comparator.cmp in
     let v = c.args.opened.now.version in
     let tells = g.F.Folder.tells c.args.folder.now in
@@ -51,18 +51,18 @@ returns-in_err-compacted-clause-answer g c files told =
     (λ h. first_passed (IsLoaded (IsHeldIn files) numbers) later loaded (Err e) (loaded_in tells files numbers (Ok loaded) told c.in_ok-loaded.ensures.answer) h)
 
 pub returns-in_err-compacted-clause-left : goal.returns-in_err-compacted-clause-left
-returns-in_err-compacted-clause-left g c files order told named opened =
+returns-in_err-compacted-clause-left g c files order told current named opened =
     inl (record { calls = c.load.ensures.reads.calls; same = c.load.ensures.reads.same; refused = no_value c.from_residual-in_err-compacted.result _ c.from_residual-in_err-compacted.ensures.1 })
 
 pub returns-in_err-install-clause-answer : goal.returns-in_err-install-clause-answer
-returns-in_err-install-clause-answer g c files told =
+returns-in_err-install-clause-answer g c files told current =
     let failed = g.F.Folder.failed in
     stopped_on (λ v. v.items) (failed c.args.folder.now) (failed c.load.new.folder) (failed c.install.new.folder) c.from_residual-in_err-install.result c.in_err-install.field-0.0
     (IsVersionCompacted g.C.Comparator.cmp g.C.Comparator.short_keys files c.args.opened.now.version c.args.level c.args.settings.now)
-    c.from_residual-in_err-install.ensures.1 c.load.ensures.device.later c.install.ensures.device.later c.in_err-install.ensures.refused
+    c.from_residual-in_err-install.ensures.1 c.load.ensures.device.later c.install.ensures.device.later (c.in_err-install.ensures.same_current files (told_still (g.F.Folder.tells c.args.folder.now) (g.F.Folder.tells c.load.new.folder) files c.load.ensures.reads.same told) current)
 
 pub returns-in_err-install-clause-left : goal.returns-in_err-install-clause-left
-returns-in_err-install-clause-left g c files order told named opened =
+returns-in_err-install-clause-left g c files order told current named opened =
     let cmp = g.C.Comparator.cmp in
     let v = c.args.opened.now.version in
     let name = g.C.Comparator.name_bytes in
@@ -77,15 +77,15 @@ returns-in_err-install-clause-left g c files order told named opened =
     let e = c.in_err-install.field-0.0 in
     let h = c.from_residual-in_err-install.ensures.1 in
     let done = subst (λ (ts : List (ℕ × Vec ℕ)). VersionCompaction order cmp g.C.Comparator.short_keys v (tables_in ts) c.args.level s answer lines) c.deref.ensures.value (c.in_ok-compacted.ensures.compacted order) in
-    let promises = subst (λ (n : ℕ). Promises name cmp v n answer (calls c.load.new.folder) (calls c.install.new.folder) (tells c.load.new.folder) (tells c.install.new.folder) c.install.result) c.manifest_of.ensures c.install.ensures.survives in
+    let promises = subst (λ (n : ℕ). Promises name cmp v n answer (calls c.load.new.folder) (calls c.install.new.folder) (tells c.load.new.folder) (tells c.install.new.folder) c.install.result) c.manifest_of-number.ensures c.install.ensures.survives in
     version_left name order cmp g.C.Comparator.short_keys files v loaded c.args.level s answer lines
     (calls c.args.folder.now) (calls c.load.new.folder) (calls c.install.new.folder) (tells c.args.folder.now) (tells c.load.new.folder) (tells c.install.new.folder) c.install.result q
     named (reads_as cmp order v loaded files opened (loaded_in (tells c.args.folder.now) files (file_numbers cmp v) (Ok loaded) told c.in_ok-loaded.ensures.answer)) done
     (λ P x. refused_on c.install.result q e P h x) c.load.ensures.reads.calls c.load.ensures.reads.same
-    (refused_ok q e (λ text. text.items ≡ lines) h) (stopped_named (failed c.load.new.folder) (failed c.install.new.folder) q e h c.in_err-install.ensures.refused) promises
+    (refused_ok q e (λ text. text.items ≡ lines) h) (stopped_named (failed c.load.new.folder) (failed c.install.new.folder) q e h (c.in_err-install.ensures.same_current files (told_still (g.F.Folder.tells c.args.folder.now) (g.F.Folder.tells c.load.new.folder) files c.load.ensures.reads.same told) current)) promises
 
 pub returns-clause-answer : goal.returns-clause-answer
-returns-clause-answer g c files told =
+returns-clause-answer g c files told current =
     let cmp = g.C.Comparator.cmp in
     let v = c.args.opened.now.version in
     let tells = g.F.Folder.tells c.args.folder.now in
@@ -97,7 +97,7 @@ returns-clause-answer g c files told =
     (subst (λ (ts : List (ℕ × Vec ℕ)). later (tables_in ts) (Ok lines)) c.deref.ensures.value c.in_ok-compacted.ensures.answer)
 
 pub returns-clause-left : goal.returns-clause-left
-returns-clause-left g c files order told named opened =
+returns-clause-left g c files order told current named opened =
     let cmp = g.C.Comparator.cmp in
     let v = c.args.opened.now.version in
     let name = g.C.Comparator.name_bytes in
@@ -109,7 +109,7 @@ returns-clause-left g c files order told named opened =
     let lines = c.in_ok-compacted.compacted.lines.items in
     let q : Result (Vec ℕ) Fault = Ok c.in_ok-compacted.compacted.lines in
     let done = subst (λ (ts : List (ℕ × Vec ℕ)). VersionCompaction order cmp g.C.Comparator.short_keys v (tables_in ts) c.args.level s answer lines) c.deref.ensures.value (c.in_ok-compacted.ensures.compacted order) in
-    let promises = subst (λ (n : ℕ). Promises name cmp v n answer (calls c.load.new.folder) (calls c.install.new.folder) (tells c.load.new.folder) (tells c.install.new.folder) c.install.result) c.manifest_of.ensures c.install.ensures.survives in
+    let promises = subst (λ (n : ℕ). Promises name cmp v n answer (calls c.load.new.folder) (calls c.install.new.folder) (tells c.load.new.folder) (tells c.install.new.folder) c.install.result) c.manifest_of-number.ensures c.install.ensures.survives in
     version_left name order cmp g.C.Comparator.short_keys files v loaded c.args.level s answer lines
     (calls c.args.folder.now) (calls c.load.new.folder) (calls c.install.new.folder) (tells c.args.folder.now) (tells c.load.new.folder) (tells c.install.new.folder) c.install.result q
     named (reads_as cmp order v loaded files opened (loaded_in (tells c.args.folder.now) files (file_numbers cmp v) (Ok loaded) told c.in_ok-loaded.ensures.answer)) done
@@ -139,3 +139,16 @@ pub returns-clause-device : goal.returns-clause-device
 returns-clause-device g c =
     let q : Result (Vec ℕ) Fault = Ok c.in_ok-compacted.compacted.lines in
     reports_then c.in_ok-loaded.was c.load.ensures.device (reports_after q c.in_ok-install.was c.install.ensures.device tt)
+
+pub returns-in_err-loaded-clause-other : goal.returns-in_err-loaded-clause-other
+returns-in_err-loaded-clause-other g c files told other = no_value c.from_residual.result _ c.from_residual.ensures.1
+
+pub returns-in_err-compacted-clause-other : goal.returns-in_err-compacted-clause-other
+returns-in_err-compacted-clause-other g c files told other = no_value c.from_residual-in_err-compacted.result _ c.from_residual-in_err-compacted.ensures.1
+
+pub returns-in_err-install-clause-other : goal.returns-in_err-install-clause-other
+returns-in_err-install-clause-other g c files told other = no_value c.from_residual-in_err-install.result _ c.from_residual-in_err-install.ensures.1
+
+pub returns-clause-other : goal.returns-clause-other
+returns-clause-other g c files told other =
+    c.in_ok-install.ensures.other_current files (told_still (g.F.Folder.tells c.args.folder.now) (g.F.Folder.tells c.load.new.folder) files c.load.ensures.reads.same told) other

@@ -34,22 +34,22 @@ const ROWS: &[Row] = &[
     ),
     (
         "sedvokt|compact|one|--level|1",
-        "Compact { folder: \"one\", levels: One(1), settings: CompactSettings { workers: 4, ranges: \
-            8, readable: Listed([]), options: Options { block_size: 4096, restart_interval: 16, \
+        "Compact { folder: \"one\", levels: One(1), settings: Settings { workers: 4, ranges: 8, \
+            snapshots: Listed([]), options: Options { block_size: 4096, restart_interval: 16, \
             file_size: 2097152 } }, verbosity: Verbosity { verbose: false, explain: false } }",
     ),
     (
         "sedvokt|compact|--workers|0|--file-size=18446744073709551615|one|--ranges|4097|--block-siz\
             e|007|--level|6|--snapshot|3",
-        "Compact { folder: \"one\", levels: One(6), settings: CompactSettings { workers: 0, ranges: \
-            4097, readable: From(3), options: Options { block_size: 7, restart_interval: 16, \
+        "Compact { folder: \"one\", levels: One(6), settings: Settings { workers: 0, ranges: 4097, \
+            snapshots: From(3), options: Options { block_size: 7, restart_interval: 16, \
             file_size: 18446744073709551615 } }, verbosity: Verbosity { verbose: false, explain: \
             false } }",
     ),
     (
         "sedvokt|compact|--explain|one|-v|--all|--snapshots|9,0,18446744073709551615",
-        "Compact { folder: \"one\", levels: All, settings: CompactSettings { workers: 4, ranges: 8, \
-            readable: Listed([9, 0, 18446744073709551615]), options: Options { block_size: 4096, \
+        "Compact { folder: \"one\", levels: All, settings: Settings { workers: 4, ranges: 8, \
+            snapshots: Listed([9, 0, 18446744073709551615]), options: Options { block_size: 4096, \
             restart_interval: 16, file_size: 2097152 } }, verbosity: Verbosity { verbose: true, \
             explain: true } }",
     ),
@@ -90,7 +90,8 @@ fn is_told(alloc: Global, line: &Line<'_>, wanted: &str) -> bool {
 
 /// Whether the program makes the expected line or reason of these words.
 fn is_made_of(alloc: Global, words: &[&str], wanted: &str) -> bool {
-    match line(alloc, words) {
+    let mut listed = Vec::new(alloc);
+    match line(alloc, words, &mut listed) {
         Ok(line) => is_told(alloc, &line, wanted),
         Err(usage) => reason(&usage) == wanted,
     }

@@ -8,9 +8,9 @@ use Rattle.usage.specs.Flags.{is_flagged}
 use Rattle.texts.specs.Text.{IsNoNumber, IsNumberOf, IsNumberText}
 use Rattle.usage.specs.declared.requests.Levels.{Levels}
 use Rattle.usage.specs.declared.requests.Levels.TheVariants.{One, All as AllLevels}
-use Rattle.usage.specs.declared.requests.Readable.{Readable}
-use Rattle.usage.specs.declared.requests.Readable.TheVariants.{From, Listed}
-use Rattle.usage.specs.declared.requests.CompactSettings.{CompactSettings}
+use Rattle.keep.specs.declared.snapshots.Snapshots.{Snapshots}
+use Rattle.keep.specs.declared.snapshots.Snapshots.TheVariants.{From, Listed}
+use Rattle.settings.specs.declared.settings.Settings.{Settings}
 use Rattle.usage.specs.declared.requests.Verbosity.{Verbosity}
 use Rattle.usage.specs.declared.compact_texts.CompactNumbers.{CompactNumbers}
 
@@ -88,15 +88,15 @@ IsNoNumberList text = All IsNumberText (numerals_in text) → ⊥
 
 -- the sequences that stay readable: one and all later ones, or those of a list, which is empty if
 -- neither option is given
-abbrev pub IsReadable : Option ℕ → Option Text → Readable → Type 0
+abbrev pub IsReadable : Option ℕ → Option Text → Snapshots → Type 0
 IsReadable (Some sequence) listed (From first) = first ≡ sequence
 IsReadable (Some sequence) listed (Listed sequences) = ⊥
 IsReadable None listed (From first) = ⊥
-IsReadable None None (Listed sequences) = sequences.items ≡ []
-IsReadable None (Some text) (Listed sequences) = IsNumberList text sequences.items
+IsReadable None None (Listed sequences) = sequences.now ≡ []
+IsReadable None (Some text) (Listed sequences) = IsNumberList text sequences.now
 
 -- the settings that the options ask for; an option that isn't given has its default
-abbrev pub AreSettings : CompactNumbers → Option ℕ → Option Text → CompactSettings → Type 0
+abbrev pub AreSettings : CompactNumbers → Option ℕ → Option Text → Settings → Type 0
 AreSettings numbers since listed settings = (settings.workers ≡ unwrap_or numbers.workers 4)
     × (settings.ranges ≡ unwrap_or numbers.ranges 8)
     × (settings.options
@@ -106,4 +106,4 @@ AreSettings numbers since listed settings = (settings.workers ≡ unwrap_or numb
           16;
       file_size = unwrap_or numbers.file_size 2097152;
     })
-    × IsReadable since listed settings.readable
+    × IsReadable since listed settings.snapshots

@@ -6,7 +6,7 @@ use Rattle.usage.specs.declared.compact_texts.CompactNumbers.{CompactNumbers}
 use Rattle.usage.specs.declared.requests.Levels.{Levels}
 use Rattle.usage.specs.declared.requests.Line.{Line}
 use Rattle.usage.specs.declared.requests.Line.TheVariants as line
-use Rattle.usage.specs.declared.requests.Readable.{Readable}
+use Rattle.keep.specs.declared.snapshots.Snapshots as lent
 use Rattle.usage.specs.declared.requests.Verbosity.{Verbosity}
 use Rattle.usage.specs.declared.requests.Usage.{Usage}
 use Rattle.usage.specs.declared.requests.Usage.TheVariants.{Key, Snapshots, Memory, Clap}
@@ -18,7 +18,7 @@ IsNoList None None = ⊥
 IsNoList None (Some text) = IsNoNumberList text
 
 -- the sequences that the options ask for, or Snapshots if the text is no list of numbers
-abbrev pub IsReadableAnswer : Option ℕ → Option Text → Result Readable Usage → Type 0
+abbrev pub IsReadableAnswer : Option ℕ → Option Text → Result lent.Snapshots Usage → Type 0
 IsReadableAnswer since listed (Ok readable) = IsReadable since listed readable
 IsReadableAnswer since listed (Err Snapshots) = IsNoList since listed
 IsReadableAnswer since listed (Err Memory) = Unit {0}

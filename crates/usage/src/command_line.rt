@@ -33,7 +33,8 @@ const SNAPSHOT_WITH_LIST: &str =
 /// The message for a text that is no number.
 const NO_DIGITS: &str = "a number is written in decimal digits alone";
 
-/// What the words of a command line ask for. The first word is the program's name.
+/// What the words of a command line ask for. The first word is the program's name. The answer lends
+/// the words, and `listed`, which gets the snapshots that `compact` lists.
 ///
 /// Of several faults of usage the first of these is answered:
 ///
@@ -43,7 +44,11 @@ const NO_DIGITS: &str = "a number is written in decimal digits alone";
 /// 4. `Key` or `Snapshots`: a text that is no key, or no list of numbers.
 ///
 /// `Memory` may come for any words.
-pub fn line<'a, S: AsStr>(alloc: Global, words: &'a [S]) -> Result<Line<'a>, Usage>
+pub fn line<'a, S: AsStr>(
+    alloc: Global,
+    words: &'a [S],
+    listed: &'a mut Vec<u64>,
+) -> Result<Line<'a>, Usage>
     ensures { LineGives (map S.text words.entry.now) result }
 {
     match texts_given(alloc, words)? {
@@ -58,7 +63,7 @@ pub fn line<'a, S: AsStr>(alloc: Global, words: &'a [S]) -> Result<Line<'a>, Usa
             verbose: texts.verbose,
         }),
         Given::Get(texts) => get_line(alloc, texts),
-        Given::Compact(texts) => compact_line(alloc, texts),
+        Given::Compact(texts) => compact_line(alloc, texts, listed),
     }
 }
 

@@ -8,56 +8,64 @@ ghost use Rattle.texts.specs.Text.{IsNumberText};
 ghost use Rattle.usage.specs.CompactLineParts.{CompactLine, IsReadableAnswer};
 
 use crate::compact_texts::{CompactTexts, ReadableTexts};
-use crate::requests::{CompactSettings, Line, Readable, Usage};
+use crate::requests::{Line, Usage};
+use keep::Snapshots;
+use settings::Settings;
 use std::alloc::{AllocError, Global};
 use table::Options;
 use texts::number_of;
 
-/// The workers of a compaction if no number is given.
-const WORKERS: u64 = 4;
-
-/// The most ranges of user keys into which it is split if no number is given.
-const RANGES: u64 = 8;
-
-/// The line of `compact`. Snapshots if the text of its list is no list of numbers.
-pub(crate) fn compact_line<'a>(alloc: Global, texts: CompactTexts<'a>) -> Result<Line<'a>, Usage>
+/// The line of `compact`, with the numbers of its list in `listed`. Snapshots if the text of the
+/// list is no list of numbers.
+pub(crate) fn compact_line<'a>(
+    alloc: Global,
+    texts: CompactTexts<'a>,
+    listed: &'a mut Vec<u64>,
+) -> Result<Line<'a>, Usage>
     ensures { CompactLine texts.entry.folder.now texts.entry.levels texts.entry.numbers
         texts.entry.readable.since
         (option_map (λ text. text.now) texts.entry.readable.listed) texts.entry.verbosity result }
 {
-    let readable = readable(alloc, texts.readable)?;
+    let snapshots = snapshots(alloc, texts.readable, listed)?;
     let numbers = texts.numbers;
-    let defaults = Options::default();
+    let defaults = Settings::default();
     Ok(Line::Compact {
         folder: texts.folder,
         levels: texts.levels,
-        settings: CompactSettings {
-            workers: numbers.workers.unwrap_or(WORKERS),
-            ranges: numbers.ranges.unwrap_or(RANGES),
-            readable,
+        settings: Settings {
+            workers: numbers.workers.unwrap_or(defaults.workers),
+            ranges: numbers.ranges.unwrap_or(defaults.ranges),
+            snapshots,
             options: Options {
-                block_size: numbers.block_size.unwrap_or(defaults.block_size),
-                restart_interval: defaults.restart_interval,
-                file_size: numbers.file_size.unwrap_or(defaults.file_size),
+                block_size: numbers.block_size.unwrap_or(defaults.options.block_size),
+                restart_interval: defaults.options.restart_interval,
+                file_size: numbers.file_size.unwrap_or(defaults.options.file_size),
             },
         },
         verbosity: texts.verbosity,
     })
 }
 
-/// The sequences that stay readable.
-fn readable(alloc: Global, texts: ReadableTexts<'_>) -> Result<Readable, Usage>
+/// The sequences that stay readable, with the numbers of a list in `listed`.
+fn snapshots<'a>(
+    alloc: Global,
+    texts: ReadableTexts<'_>,
+    listed: &'a mut Vec<u64>,
+) -> Result<Snapshots<'a>, Usage>
     ensures { IsReadableAnswer texts.entry.since (option_map (λ text. text.now) texts.entry.listed)
         result }
 {
     if let Some(sequence) = texts.since {
-        return Ok(Readable::From(sequence));
+        return Ok(Snapshots::From(sequence));
     }
     let Some(text) = texts.listed else {
-        return Ok(Readable::Listed(Vec::new(alloc)));
+        return Ok(Snapshots::Listed(&[]));
     };
     match numbers_of(alloc, text)? {
-        Some(sequences) => Ok(Readable::Listed(sequences)),
+        Some(sequences) => {
+            *listed = sequences;
+            Ok(Snapshots::Listed(listed.as_slice()))
+        }
         None => Err(Usage::Snapshots),
     }
 }

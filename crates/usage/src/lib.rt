@@ -12,4 +12,4 @@ mod compact_texts;
 mod requests;
 
 pub use command_line::line;
-pub use requests::{CompactSettings, Levels, Line, Readable, Usage, Verbosity};
+pub use requests::{Levels, Line, Usage, Verbosity};

@@ -5,8 +5,8 @@ ghost use Rattle.usage.specs.Usage.{TurnsInto};
 ghost use Rattle.usage.specs.declared.requests.Usage.TheVariants.{Memory};
 
 use clap::error::ErrorKind;
+use settings::Settings;
 use std::alloc::AllocError;
-use table::Options;
 
 /// What a command line asks for.
 #[derive(Debug, Drop)]
@@ -59,7 +59,7 @@ pub enum Line<'a> {
         /// Which levels.
         levels: Levels,
         /// The settings of each compaction.
-        settings: CompactSettings,
+        settings: Settings<'a>,
         /// What is told of it on the standard error.
         verbosity: Verbosity,
     },
@@ -82,28 +82,6 @@ pub enum Levels {
     One(u64),
     /// Each level from 0 down, until all files are at the deepest level that has any.
     All,
-}
-
-/// The settings of a compaction.
-#[derive(Debug, Drop)]
-pub struct CompactSettings {
-    /// Its workers.
-    pub workers: u64,
-    /// The most ranges of user keys into which it is split.
-    pub ranges: u64,
-    /// Which sequences stay readable.
-    pub readable: Readable,
-    /// The options of the outputs.
-    pub options: Options,
-}
-
-/// Which sequences stay readable after a compaction.
-#[derive(Debug, Drop)]
-pub enum Readable {
-    /// This sequence and all later ones.
-    From(u64),
-    /// Each of these, and the version's last sequence and all later ones.
-    Listed(Vec<u64>),
 }
 
 /// Why a command line asks for nothing that can be done.

@@ -21,7 +21,7 @@ use Rattle.store.specs.FolderRequest.{numbered_request, compaction_of, manifest_
 use Rattle.store.specs.Compaction.{VersionCompaction}
 use Rattle.store.specs.Joint.{JointLaw}
 use Rattle.store.specs.Lines.{compaction_lines}
-use Rattle.store.specs.declared.settings.Settings.{Settings}
+use Rattle.settings.specs.declared.settings.Settings.{Settings}
 use Rattle.ikey.specs.Comparator.{ShortKeys}
 
 -- the answer of a compaction is that of one thread

@@ -32,7 +32,7 @@ use Rattle.survival.specs.Over.{HoldOutputs, IsOver}
 use Rattle.survival.proofs.SurvivingReads.{is_edit}
 use Rattle.checks.specs.Checked.{tables_reading}
 use Rattle.store.specs.FolderRequest.{manifest_of, request_of}
-use Rattle.store.specs.declared.settings.Settings.{Settings}
+use Rattle.settings.specs.declared.settings.Settings.{Settings}
 use Rattle.store.proofs.Over.{has_next}
 use Rattle.store.proofs.TablesAfter.{HasNumber, number_of}
 

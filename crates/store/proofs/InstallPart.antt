@@ -23,7 +23,7 @@ use Rattle.request.specs.OneThread.{Answer}
 use Rattle.store.specs.FolderRequest.{manifest_of}
 use Rattle.store.specs.Compaction.{VersionCompaction, IsInstalled, IsFolderLeft, IsVersionLeft, next_of}
 use Rattle.folder.specs.Orders.{order_cmp, order_short_keys}
-use Rattle.store.specs.declared.settings.Settings.{Settings}
+use Rattle.settings.specs.declared.settings.Settings.{Settings}
 use Rattle.ikey.specs.Comparator.{ShortKeys}
 use Rattle.store.specs.VersionSync.{sync_calls}
 use Rattle.store.proofs.Synced.{version_stands}

@@ -27,7 +27,7 @@ use Rattle.request.specs.OutputTables.{Output, outputs_from, outputs_test}
 use Rattle.request.specs.Request.{RequestView, below_request, has_levels, has_options, has_snapshots, is_snapshot_list, request_test}
 use Rattle.store.specs.Answers.{IsLoadedCompacted, lines_of}
 use Rattle.store.specs.FolderRequest.{numbered_request, compaction_of, manifest_of, request_of}
-use Rattle.store.specs.declared.settings.Settings.{Settings}
+use Rattle.settings.specs.declared.settings.Settings.{Settings}
 use Rattle.ikey.specs.Comparator.{ShortKeys}
 
 abbrev refusal : {Y : Type 0} → Fault → Result Y Fault

@@ -18,7 +18,7 @@ use Rattle.install.specs.Install as install
 use Rattle.survival.specs.Over.{IsOver, input_bytes_of}
 use Rattle.survival.proofs.Inputs.{input_file}
 use Rattle.store.specs.FolderRequest.{manifest_of, request_of}
-use Rattle.store.specs.declared.settings.Settings.{Settings}
+use Rattle.settings.specs.declared.settings.Settings.{Settings}
 use Rattle.store.proofs.Loaded.{bytes_found, found_loaded}
 
 -- a number below the next one tells that there is one

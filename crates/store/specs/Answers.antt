@@ -16,7 +16,7 @@ use Rattle.ikey.specs.Comparator.{ShortKeys}
 use Rattle.store.specs.FolderRequest.{compaction_of, manifest_of}
 use Rattle.store.specs.Lines.{compaction_lines}
 use Rattle.folder.specs.Orders.{order_cmp, order_short_keys}
-use Rattle.store.specs.declared.settings.Settings.{Settings}
+use Rattle.settings.specs.declared.settings.Settings.{Settings}
 
 -- the lines of a compaction's answer, or its refusal
 abbrev pub lines_of : State → PickedInputs → Result Answer Fault → Result (List ℕ) Fault

@@ -27,7 +27,7 @@ use Rattle.store.specs.FolderRequest.{compaction_of, last_of, manifest_of}
 use Rattle.store.specs.Lines.{compaction_lines}
 use Rattle.store.specs.VersionSync.{AlwaysReadsBy, sync_calls}
 use Rattle.folder.specs.Orders.{order_cmp, order_short_keys}
-use Rattle.store.specs.declared.settings.Settings.{Settings}
+use Rattle.settings.specs.declared.settings.Settings.{Settings}
 use Rattle.ikey.specs.Comparator.{ShortKeys}
 
 -- The edited version of a compaction's answer: the answer's edit makes it of the version, by a

@@ -13,7 +13,7 @@ use Rattle.install.specs.Install.{table_bytes_of}
 use Rattle.request.specs.OneThread.{Answer, compaction_result}
 use Rattle.request.specs.Request.{RequestView}
 use Rattle.ikey.specs.Comparator.{ShortKeys}
-use Rattle.store.specs.declared.settings.Settings.{Settings}
+use Rattle.settings.specs.declared.settings.Settings.{Settings}
 use Rattle.split.specs.declared.split.TheConstants.{MAX_RANGES}
 
 -- The number of the new manifest: the version's next file. Each version that a folder opens as has

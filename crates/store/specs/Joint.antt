@@ -15,7 +15,7 @@ use Rattle.survival.specs.Over.{IsOver}
 use Rattle.store.specs.FolderRequest.{request_of}
 use Rattle.store.specs.Compaction.{EditedVersion}
 use Rattle.store.specs.InputTables.{AreLoaded, HaveTables}
-use Rattle.store.specs.declared.settings.Settings.{Settings}
+use Rattle.settings.specs.declared.settings.Settings.{Settings}
 use Rattle.ikey.specs.Comparator.{ShortKeys}
 
 -- If inputs are picked from a lawful version, and its log numbers are below 2^64, the request for

@@ -14,13 +14,13 @@ ghost use Rattle.store.specs.Compaction.{IsFolderLeft, IsVersionLeft};
 
 use crate::folder_request::manifest_of;
 use crate::loaded_compaction::compact_loaded;
-use crate::settings::Settings;
 use crate::version_sync::sync_version;
 use checks::Watch;
 use coding::Fault;
 use folder::{Folder, Opened, Order, load, open};
 use ikey::{Bytewise, SharedComparator, Shortlex};
 use install::install;
+use settings::Settings;
 use std::alloc::Global;
 use std::thread::Threads;
 

@@ -7,11 +7,11 @@ ghost use Rattle.pick.specs.Picked.{picked_in};
 ghost use Rattle.request.specs.Request.{request_in};
 ghost use Rattle.store.specs.FolderRequest.{manifest_of, numbered_request};
 
-use crate::settings::Settings;
 use coding::{Fault, FaultName};
 use edit::Version;
 use pick::Inputs;
 use request::Request;
+use settings::Settings;
 
 /// The number of the new manifest: the version's next file.
 pub(crate) fn manifest_of(version: &Version) -> u64

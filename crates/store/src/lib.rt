@@ -17,7 +17,6 @@ mod input_tables;
 mod install_laws;
 mod lines;
 mod loaded_compaction;
-mod settings;
 mod version_sync;
 
 pub use board::Open;

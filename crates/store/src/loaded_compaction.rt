@@ -17,21 +17,18 @@ use crate::folder_request::{manifest_of, request_of};
 use crate::input_tables::{bytes_of, take_tables};
 use crate::install_laws::{answer_is_installed, inputs_are_tables};
 use crate::lines::compaction_lines;
-use crate::settings::Settings;
-use checks::{Watch, Work, lawful_tables};
+use checks::{CHECKERS, Watch, Work, lawful_tables};
 use coding::Fault;
 use compact::compact_tables;
 use edit::{Outcome, Version};
 use ikey::{Comparator, SharedComparator};
 use pick::{Inputs, inputs};
 use reads::NumberedTable;
+use settings::Settings;
 use split::Split;
 use std::alloc::Global;
 use std::thread::Threads;
 use table::SoundTable;
-
-/// The workers that check the tables of a folder.
-const CHECKERS: u64 = 4;
 
 /// What is ready to be installed: the outcome of a compaction, and its lines.
 #[derive(Drop)]

@@ -6,9 +6,10 @@ use crate::settings_refusal::settings_told;
 use coding::{Fault, FaultName};
 use diagnostics::{Detail, RefusedFile, refused_file};
 use folder::{CURRENT, Disk, SystemFiles};
+use settings::Settings;
 use std::alloc::Global;
 use texts::text_of;
-use usage::{CompactSettings, Levels};
+use usage::Levels;
 
 /// The refusal of a command on the folder at a path, with what is told of it: the first file that
 /// is refused, for which the folder is read again. It isn't read after Locked, Changed, Device and
@@ -32,7 +33,7 @@ pub(crate) fn compaction_explained<R: SystemFiles + AllocGlobal>(
     rt: &R,
     folder: &str,
     levels: Levels,
-    settings: &CompactSettings,
+    settings: &Settings<'_>,
     refusal: Refusal,
 ) -> Refusal {
     if refusal.told.is_some() {

@@ -12,14 +12,14 @@ use coding::{Fault, FaultName};
 use commands::{Question, answer_opened, bottom, manifest_lines, next_level};
 use diagnostics::account_of;
 use folder::{Disk, Opened, SystemFiles, WholeFiles, open};
-use keep::Snapshots;
+use settings::Settings;
 use std::alloc::Global;
 use std::io;
 use std::io::Write;
 use std::thread::Threads;
 use std::time::Clock;
-use store::{Settings, compact_opened, sync_version};
-use usage::{CompactSettings, Levels, Readable};
+use store::{compact_opened, sync_version};
+use usage::Levels;
 
 /// Prints the version of a folder.
 pub(crate) fn print_version<R: SystemFiles + Print + Eprint + Clock + AllocGlobal>(
@@ -113,7 +113,7 @@ fn answered<R: SystemFiles + WholeFiles + Eprint + Clock + AllocGlobal + Threads
 /// anything is read of it. What it was opened as is synced once, so that it outlives a crash.
 pub(crate) fn compact_folder<
     R: SystemFiles + WholeFiles + Print + Eprint + Clock + AllocGlobal + Threads + Sync,
->(rt: &R, telling: Telling<'_>, levels: Levels, settings: &CompactSettings) -> Result<(), Refusal> {
+>(rt: &R, telling: Telling<'_>, levels: Levels, settings: &Settings<'_>) -> Result<(), Refusal> {
     let _lock = locked_to_change(rt, telling.folder)?;
     compact_levels(rt, telling, levels, settings).map_err(|refusal| {
         compaction_explained(rt, telling.folder, levels, settings, refusal)
@@ -122,7 +122,7 @@ pub(crate) fn compact_folder<
 
 fn compact_levels<
     R: SystemFiles + WholeFiles + Print + Eprint + Clock + AllocGlobal + Threads + Sync,
->(rt: &R, telling: Telling<'_>, levels: Levels, settings: &CompactSettings) -> Result<(), Refusal> {
+>(rt: &R, telling: Telling<'_>, levels: Levels, settings: &Settings<'_>) -> Result<(), Refusal> {
     let opened = begin_work(rt, telling)?;
     sizes_tested(rt, telling.folder, &opened)?;
     sync(rt, telling.folder, &opened)?;
@@ -138,7 +138,7 @@ fn compact_one<R: SystemFiles + WholeFiles + Print + Eprint + Clock + AllocGloba
     telling: Telling<'_>,
     opened: &Opened,
     level: u64,
-    settings: &CompactSettings,
+    settings: &Settings<'_>,
 ) -> Result<(), Refusal> {
     compact_level(rt, telling, opened, level, settings)?;
     if telling.is_explaining {
@@ -154,7 +154,7 @@ fn compact_all<R: SystemFiles + WholeFiles + Print + Eprint + Clock + AllocGloba
     rt: &R,
     telling: Telling<'_>,
     first: Opened,
-    settings: &CompactSettings,
+    settings: &Settings<'_>,
 ) -> Result<(), Refusal> {
     let bottom = bottom(rt.alloc(), &first.version)?;
     let mut opened = first;
@@ -175,7 +175,7 @@ fn compact_step<
     telling: Telling<'_>,
     opened: &Opened,
     level: u64,
-    settings: &CompactSettings,
+    settings: &Settings<'_>,
 ) -> Result<Opened, Refusal> {
     compact_level(rt, telling, opened, level, settings)?;
     let after = open_folder(rt, telling.folder);
@@ -212,7 +212,7 @@ fn compact_level<
     telling: Telling<'_>,
     opened: &Opened,
     level: u64,
-    settings: &CompactSettings,
+    settings: &Settings<'_>,
 ) -> Result<(), Refusal> {
     let step = format!(in rt.alloc(); "compact --level {level}").map_err(Fault::from)?;
     let begun = telling.begin(rt);
@@ -239,18 +239,17 @@ fn compacted<R: SystemFiles + WholeFiles + Eprint + Clock + AllocGlobal + Thread
     telling: Telling<'_>,
     opened: &Opened,
     level: u64,
-    settings: &CompactSettings,
+    settings: &Settings<'_>,
 ) -> Result<Vec<u8>, Refusal> {
     let progress = ProgressLine::new(rt, telling.is_watched);
     let mut folder = read_ahead(rt, telling.folder, opened);
-    let settings = kept_to(settings);
     let answer = compact_opened(
         rt,
         rt.alloc(),
         &mut folder,
         opened,
         level,
-        &settings,
+        settings,
         &progress,
     );
     progress.erase();
@@ -328,19 +327,6 @@ fn explanation<R: SystemFiles + AllocGlobal>(
         Err(refusal) => return Err(refusal.fault),
     };
     text(rt.alloc(), &account)
-}
-
-/// The settings of a compaction, as its command line gives them.
-fn kept_to(settings: &CompactSettings) -> Settings<'_> {
-    Settings {
-        workers: settings.workers,
-        ranges: settings.ranges,
-        snapshots: match &settings.readable {
-            Readable::From(sequence) => Snapshots::From(*sequence),
-            Readable::Listed(sequences) => Snapshots::Listed(sequences.as_slice()),
-        },
-        options: settings.options,
-    }
 }
 
 /// Writes lines to the standard output.

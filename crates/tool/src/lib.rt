@@ -24,5 +24,6 @@ pub use commands::{bottom, dump, get_dir, manifest, next_level, progress_text, s
 pub use folder::{Disk, Folder, FolderFault, Order, load, open};
 pub use pairing::blocks;
 pub use program::run;
+pub use settings::Settings;
 pub use texts::{key_of, text_of};
-pub use usage::{CompactSettings, Levels, Line, Readable, Usage, Verbosity, line};
+pub use usage::{Levels, Line, Usage, Verbosity, line};

@@ -50,7 +50,8 @@ pub fn run<
             return report_refusal(rt, COMMAND_LINE, &refusal);
         }
     };
-    match line(rt.alloc(), words.as_slice()) {
+    let mut listed = Vec::new(rt.alloc());
+    match line(rt.alloc(), words.as_slice(), &mut listed) {
         Ok(line) => match carry_out(rt, &line, is_watched) {
             Ok(()) => DONE,
             Err(refusal) => report_refusal(rt, subject(&line), &refusal),

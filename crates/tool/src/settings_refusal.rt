@@ -1,11 +1,11 @@
 //! What is told if a compaction is refused for what was asked for.
 
 use coding::FaultName;
+use ikey::MAX_SEQUENCE;
+use keep::Snapshots;
+use settings::Settings;
 use std::alloc::Global;
-use usage::{CompactSettings, Levels, Readable};
-
-/// The least sequence that no snapshot may have: 2^56 - 1.
-const FIRST_BEYOND: u64 = 72_057_594_037_927_935;
+use usage::Levels;
 
 /// The most snapshots in a list.
 const MAX_LISTED: usize = 4_096;
@@ -16,7 +16,7 @@ pub(crate) fn settings_told(
     alloc: Global,
     folder: &str,
     levels: Levels,
-    settings: &CompactSettings,
+    settings: &Settings<'_>,
     name: FaultName,
 ) -> Option<String> {
     match name {
@@ -24,8 +24,8 @@ pub(crate) fn settings_told(
         FaultName::Workers => outside(alloc, folder, "--workers", settings.workers, 64),
         FaultName::SplitCount => outside(alloc, folder, "--ranges", settings.ranges, 4_096),
         FaultName::Options => options_told(alloc, folder, settings),
-        FaultName::Snapshot => snapshot_told(alloc, folder, &settings.readable),
-        FaultName::SnapshotList => list_told(alloc, folder, &settings.readable),
+        FaultName::Snapshot => snapshot_told(alloc, folder, settings.snapshots),
+        FaultName::SnapshotList => list_told(alloc, folder, settings.snapshots),
         _ => None,
     }
 }
@@ -58,7 +58,7 @@ fn outside(alloc: Global, folder: &str, option: &str, value: u64, most: u64) -> 
 }
 
 /// What is told of the option of the outputs that is outside its limits. None if none is.
-fn options_told(alloc: Global, folder: &str, settings: &CompactSettings) -> Option<String> {
+fn options_told(alloc: Global, folder: &str, settings: &Settings<'_>) -> Option<String> {
     let options = &settings.options;
     let block_size = outside(alloc, folder, "--block-size", options.block_size, 4_194_304);
     if block_size.is_some() {
@@ -74,10 +74,10 @@ fn options_told(alloc: Global, folder: &str, settings: &CompactSettings) -> Opti
 }
 
 /// What is told of a snapshot that is 2^56 - 1 or more. None if there is none.
-fn snapshot_told(alloc: Global, folder: &str, readable: &Readable) -> Option<String> {
-    match readable {
-        Readable::From(sequence) => beyond(alloc, folder, "--snapshot", *sequence),
-        Readable::Listed(list) => {
+fn snapshot_told(alloc: Global, folder: &str, snapshots: Snapshots<'_>) -> Option<String> {
+    match snapshots {
+        Snapshots::From(sequence) => beyond(alloc, folder, "--snapshot", sequence),
+        Snapshots::Listed(list) => {
             let sequence = first_beyond(list)?;
             beyond(alloc, folder, "--snapshots", sequence)
         }
@@ -87,7 +87,7 @@ fn snapshot_told(alloc: Global, folder: &str, readable: &Readable) -> Option<Str
 /// The first sequence of a list that is 2^56 - 1 or more.
 fn first_beyond(list: &[u64]) -> Option<u64> {
     for sequence in list {
-        if *sequence >= FIRST_BEYOND {
+        if *sequence >= MAX_SEQUENCE {
             return Some(*sequence);
         }
     }
@@ -96,11 +96,11 @@ fn first_beyond(list: &[u64]) -> Option<u64> {
 
 /// What is told of a sequence that is 2^56 - 1 or more. None of any other.
 fn beyond(alloc: Global, folder: &str, option: &str, sequence: u64) -> Option<String> {
-    if sequence < FIRST_BEYOND {
+    if sequence < MAX_SEQUENCE {
         return None;
     }
     format!(in alloc;
-        "{folder}: {option} has {sequence}, and snapshots are below {FIRST_BEYOND}; give an \
+        "{folder}: {option} has {sequence}, and snapshots are below {MAX_SEQUENCE}; give an \
             earlier sequence"
     )
     .ok()
@@ -108,8 +108,8 @@ fn beyond(alloc: Global, folder: &str, option: &str, sequence: u64) -> Option<St
 
 /// What is told of a list of snapshots that is too long, doesn't rise, or has one above the last
 /// sequence: then the greatest.
-fn list_told(alloc: Global, folder: &str, readable: &Readable) -> Option<String> {
-    let Readable::Listed(list) = readable else {
+fn list_told(alloc: Global, folder: &str, snapshots: Snapshots<'_>) -> Option<String> {
+    let Snapshots::Listed(list) = snapshots else {
         return None;
     };
     let count = list.len();

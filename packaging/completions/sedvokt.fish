@@ -19,7 +19,7 @@ complete -c sedvokt -n '__fish_seen_subcommand_from help' -a "$commands"
 complete -c sedvokt -n '__fish_seen_subcommand_from blocks dump' -F
 complete -c sedvokt -n "__fish_seen_subcommand_from $folders" -a '(__fish_complete_directories)'
 complete -c sedvokt -n "__fish_seen_subcommand_from $folders" -s v -l verbose \
-    -d 'Tell how long it took, and what was refused and why'
+    -d 'Tell how long it took'
 complete -c sedvokt -n '__fish_seen_subcommand_from get' -l at -x -d 'Read at this sequence'
 complete -c sedvokt -n '__fish_seen_subcommand_from blocks' -l at -x \
     -d 'The key where the second range begins'

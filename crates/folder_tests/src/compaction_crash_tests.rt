@@ -99,10 +99,15 @@ fn is_compacted<R: AllocGlobal + Threads + Sync>(
 
 /// The next file of the version before or of the edited one, if the tables are its own. Else 0.
 fn known(version: &Version, tables: &[(u64, Vec<u8>)]) -> u64 {
-    match tables {
-        [(7, bytes)] if bytes.as_slice() == TABLE && version.next_file() == Some(BEFORE) => BEFORE,
-        [] if version.next_file() == Some(EDITED) => EDITED,
-        _ => 0,
+    let next_file = version.next_file();
+    let Some((number, bytes)) = tables.first() else {
+        return if next_file == Some(EDITED) { EDITED } else { 0 };
+    };
+    let is_its_own = tables.len() == 1 && *number == 7 && bytes.as_slice() == TABLE;
+    if is_its_own && next_file == Some(BEFORE) {
+        BEFORE
+    } else {
+        0
     }
 }
 

@@ -1,7 +1,8 @@
 //! Whole files, read and replaced.
 
 use crate::refusal::Refusal;
-use coding::Fault;
+use crate::table_sizes::MOST_BYTES;
+use coding::{Fault, FaultName};
 use std::fs::{File, OpenFile, OpenOptions, Permissions};
 use std::io::{ErrorKind, Write};
 use std::rt::Files;
@@ -13,6 +14,19 @@ pub(crate) fn read<R: Files + AllocGlobal>(rt: &R, path: &str) -> Result<Vec<u8>
         ErrorKind::NotFound => Refusal::of_missing(rt.alloc(), path),
         _ => Refusal::of_call(rt.alloc(), path, "read", &error),
     })
+}
+
+/// The bytes of a table's file. Size if it has more than 2^30 bytes: then it isn't read. Else as
+/// [`read`].
+pub(crate) fn read_table<R: Files + AllocGlobal>(rt: &R, path: &str) -> Result<Vec<u8>, Refusal> {
+    match fs::metadata(rt, path) {
+        Ok(found) if found.is_file() && found.len() > MOST_BYTES => Err(Refusal::of_file(
+            rt.alloc(),
+            path,
+            Fault::of(FaultName::Size),
+        )),
+        _ => read(rt, path),
+    }
 }
 
 /// Replaces what a file holds by these bytes. If that is refused, the file holds what it held,

@@ -10,7 +10,7 @@ use ikey::Bytewise;
 use std::fs;
 
 /// The most bytes of a table: 2^30.
-const MOST_BYTES: u64 = 1 << 30;
+pub(crate) const MOST_BYTES: u64 = 1 << 30;
 
 /// Tests whether each table of a version is there and has at most 2^30 bytes. Missing if one is
 /// missing; else TooLarge if one is too large. None is read.

@@ -3,4 +3,4 @@ use Rattle.compaction_tests.proofs.encoding_tests.assembled.Goals as goal
 
 pub assemble_table-requires-clause-fits : goal.assemble_table-requires-clause-fits
 assemble_table-requires-clause-fits g =
-    two_blocks_fit _ _ _ 16 g.args.first.entries.entries g.args.second.entries.entries g.requires.first_short g.requires.second_short g.requires.first_key g.requires.second_key
+    two_blocks_fit _ _ 16 g.args.first.entries.entries g.args.second.entries.entries g.requires.first_short g.requires.second_short g.requires.first_key g.requires.second_key

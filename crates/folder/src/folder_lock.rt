@@ -21,7 +21,7 @@ use std::{fs, io};
 /// The file whose lock stands for the folder.
 const LOCK: &str = "LOCK";
 
-/// What `sqlite_std_file` makes beside LOCK. It is removed again.
+/// What `sqlite_std_file` makes beside LOCK. It is removed again, unless it was there.
 const BESIDE: &str = "LOCK-wal";
 
 /// The lock of a folder. It is held until this is dropped, or the program ends.
@@ -53,8 +53,8 @@ pub fn lock_to_change<R: SystemFiles>(
 /// read it by this program. It does not wait.
 ///
 /// None if there is no LOCK, if it may not be opened, or if the system has no locks for it: then
-/// nothing keeps others out. If LOCK may not be written, only this program is kept from changing
-/// the folder.
+/// nothing keeps others out. If the second lock can't be had, since LOCK may not be written, has two
+/// names, or nothing can be made beside it, only this program is kept from changing the folder.
 ///
 /// - Locked: another holds the lock of [`lock_to_change`], or has the database open.
 /// - Device: LOCK can't be opened or locked for any other reason, or is no regular file.
@@ -126,8 +126,11 @@ fn bytes_locked<R: SystemFiles>(
     path: &str,
 ) -> io::Result<ByteLock> {
     let beside = path_in(alloc, folder, BESIDE)?;
+    let was_there = fs::symlink_metadata(rt, beside.as_str()).is_ok();
     let bytes = rt.lock_bytes(path)?;
-    let _ = fs::remove_file(rt, beside.as_str());
+    if !was_there {
+        let _ = fs::remove_file(rt, beside.as_str());
+    }
     Ok(bytes)
 }
 
@@ -153,6 +156,8 @@ fn is_without_locks(kind: ErrorKind) -> bool {
         ErrorKind::NotFound
             | ErrorKind::PermissionDenied
             | ErrorKind::ReadOnlyFilesystem
+            | ErrorKind::StorageFull
+            | ErrorKind::QuotaExceeded
             | ErrorKind::Unsupported
             | ErrorKind::InvalidInput
     )

@@ -15,6 +15,12 @@ const PERMISSIONS: u32 = 0o777;
 /// Those of them that speak of the file's owner.
 const OF_OWNER: u32 = 0o700;
 
+/// Those that speak of its group.
+const OF_GROUP: u32 = 0o070;
+
+/// That its owner may read and write it, as LevelDB has to.
+const OWNER_READS_AND_WRITES: u32 = 0o600;
+
 /// Who may use a file, and whose it is.
 #[derive(Clone, Copy, Drop)]
 struct Access {
@@ -27,7 +33,8 @@ struct Access {
 /// a symbolic link too.
 ///
 /// It gets the permissions of the folder's CURRENT, and its owner and group if the program may set
-/// them; in between it never has more. Without CURRENT it gets what the system gives new files.
+/// them; in between it never has more. Its owner may read and write it in any event, and its group
+/// may nothing if it isn't that of CURRENT. Without CURRENT it gets what the system gives new files.
 pub(crate) fn new_file<R: SystemFiles>(
     rt: &R,
     alloc: Global,
@@ -53,7 +60,7 @@ fn access_in<R: SystemFiles>(rt: &R, alloc: Global, folder: &str) -> io::Result<
     let path = path_in(alloc, folder, CURRENT)?;
     match fs::metadata(rt, path.as_str()) {
         Ok(found) => Ok(Some(Access {
-            mode: found.mode() & PERMISSIONS,
+            mode: found.mode() & PERMISSIONS | OWNER_READS_AND_WRITES,
             owner: found.uid(),
             group: found.gid(),
         })),
@@ -66,8 +73,14 @@ fn access_in<R: SystemFiles>(rt: &R, alloc: Global, folder: &str) -> io::Result<
 fn give(file: &File, access: Access) -> io::Result<()> {
     let _ = fchown(file, None, Some(access.group));
     let _ = fchown(file, Some(access.owner), None);
-    if file.metadata()?.mode() & PERMISSIONS == access.mode {
+    let found = file.metadata()?;
+    let mode = if found.gid() == access.group {
+        access.mode
+    } else {
+        access.mode & !OF_GROUP
+    };
+    if found.mode() & PERMISSIONS == mode {
         return Ok(());
     }
-    file.set_permissions(Permissions::from_mode(access.mode))
+    file.set_permissions(Permissions::from_mode(mode))
 }

@@ -53,7 +53,7 @@ const ALL_HELP: &str =
 const VERBOSE_HELP: &str = "Tells on the standard error how long the work took";
 
 const EXPLAIN_HELP: &str =
-    "Tells on the standard error, behind the lines of each compaction, how it went: inputs, ranges, \
+    "Tells on the standard error, after the lines of each compaction, how it went: inputs, ranges, \
         what was kept and dropped, and outputs, with bars";
 
 const BLOCKS_EXAMPLE: &str = "Example: sedvokt blocks A B --at 6b3130 OUT";

@@ -106,7 +106,7 @@ pub fn compact_opened<F: Folder, W: Watch + Sync, R: Threads + Sync>(
         IsVersionLeft opened.now.order (order_cmp opened.now.order)
         (order_short_keys opened.now.order) opened.now.version files level settings.now
         (F.calls folder.old) (F.calls folder.new) (F.tells folder.old) (F.tells folder.new) result }
-    // If CURRENT is another one, nothing is installed.
+    // If CURRENT is another one, the answer is never Ok.
     ensures other { (files : Files) → Tells (F.tells folder.old) files →
         files (codes "CURRENT") ≢ Some (current_text opened.now.manifest) → OnOk result ⊥ }
     ensures device { ReportsDevice F.Folder folder.old folder.new result }

@@ -4,6 +4,8 @@ use crate::refusal::Refusal;
 use coding::{Fault, FaultName};
 use folder::{FolderLock, SystemFiles, lock_to_change, lock_to_read};
 use std::fs;
+use std::fs::OpenOptions;
+use std::io::ErrorKind;
 
 /// Locks the folder at a path against every other program that reads or changes it.
 pub(crate) fn locked_to_change<R: SystemFiles + AllocGlobal>(
@@ -29,9 +31,7 @@ fn unlocked<R: SystemFiles + AllocGlobal>(rt: &R, path: &str, fault: Fault) -> R
     }
     let text = match fs::metadata(rt, path) {
         Err(error) => return Refusal::of_call(rt.alloc(), path, "read", &error),
-        Ok(metadata) if metadata.is_dir() => {
-            format!(in rt.alloc(); "{path}: cannot make or lock its file LOCK")
-        }
+        Ok(metadata) if metadata.is_dir() => return lock_refused(rt, path, fault),
         Ok(_) => {
             format!(in rt.alloc(); "{path}: it is no folder; give the folder of a database")
         }
@@ -39,5 +39,26 @@ fn unlocked<R: SystemFiles + AllocGlobal>(rt: &R, path: &str, fault: Fault) -> R
     Refusal {
         fault,
         told: text.ok(),
+    }
+}
+
+/// The refusal of a folder whose LOCK can't be locked, in the system's words if it can't be opened.
+fn lock_refused<R: SystemFiles + AllocGlobal>(rt: &R, path: &str, fault: Fault) -> Refusal {
+    let text = format!(in rt.alloc(); "{path}: cannot make or lock its file LOCK");
+    let Ok(lock) = format!(in rt.alloc(); "{path}/LOCK") else {
+        return Refusal::from(fault);
+    };
+    let opened = OpenOptions::new()
+        .read(true)
+        .write(true)
+        .open(rt, lock.as_str());
+    match opened {
+        Err(error) if error.kind() != ErrorKind::NotFound => {
+            Refusal::of_call(rt.alloc(), path, "open LOCK", &error)
+        }
+        _ => Refusal {
+            fault,
+            told: text.ok(),
+        },
     }
 }

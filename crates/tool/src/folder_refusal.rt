@@ -229,7 +229,7 @@ fn misplaced_told(
     }
     format!(in alloc;
         "{path}: user key {key} has sequence {here} here, and once more in {other}; restore the \
-            folder from a copy"
+            folder from a copy, or have LevelDB compact all of it"
     )
     .ok()
 }

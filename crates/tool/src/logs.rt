@@ -15,11 +15,9 @@ pub(crate) fn logs_with_writes<R: Files + AllocGlobal>(
 ) -> io::Result<Vec<u64>> {
     let mut numbers = Vec::new(rt.alloc());
     for entry in fs::read_dir(&rt, folder)? {
-        let Ok(entry) = entry else {
-            continue;
-        };
+        let entry = entry?;
         if let Some(number) = replayed_log(version, entry.file_name())
-            && holds_bytes(rt, entry.path())
+            && holds_bytes(rt, entry.path())?
         {
             numbers.push(number)?;
         }
@@ -29,9 +27,7 @@ pub(crate) fn logs_with_writes<R: Files + AllocGlobal>(
 }
 
 /// Whether a path is that of a file that isn't empty.
-fn holds_bytes<R: Files>(rt: &R, path: Path<'_>) -> bool {
-    match fs::metadata(rt, path) {
-        Ok(metadata) => metadata.is_file() && metadata.len() > 0,
-        Err(_) => false,
-    }
+fn holds_bytes<R: Files>(rt: &R, path: Path<'_>) -> io::Result<bool> {
+    let metadata = fs::metadata(rt, path)?;
+    Ok(metadata.is_file() && metadata.len() > 0)
 }

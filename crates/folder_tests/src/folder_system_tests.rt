@@ -54,7 +54,7 @@ fn files_are_as_open_as_current(rt: HostRuntime) -> Result<(), Fail> {
         fs::set_permissions(&rt, current.as_str(), Permissions::from_mode(mode))?;
         assert!(rt; makes(&mut disk, &[("1", b"one")]));
         assert!(rt;
-            fs::metadata(&rt, one.as_str())?.mode() & 0o7777 == mode,
+            fs::metadata(&rt, one.as_str())?.mode() & 0o7777 == mode | 0o600,
             "{mode}"
         );
     }

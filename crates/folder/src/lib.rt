@@ -4,7 +4,7 @@
 //! 1. [`Disk`] is a folder of the system, [`Shelf`] one in memory, for tests. Both are a
 //!    [`Folder`].
 //! 2. [`open`] gives the order and the version: CURRENT, then the manifest that it names.
-//! 3. [`load`] gives the tables of a version.
+//! 3. [`load`] gives the tables of a version, [`load_numbers`] those of some files.
 //! 4. [`table_name`] and its neighbours give the names of files.
 //!
 //! What a `Disk` does. It tells contracts nothing of what it holds.
@@ -62,5 +62,5 @@ pub use order::Order;
 pub use shelf::{Failing, Shelf};
 pub use shelf_step::{ShelfCall, ShelfStep};
 pub use system_files::SystemFiles;
-pub use table_loader::{file_numbers, load};
+pub use table_loader::{file_numbers, load, load_numbers};
 pub use whole_files::WholeFiles;

@@ -39,7 +39,7 @@ pub fn load<C: Comparator, F: Folder>(
     ensures reads { OnlyReads F.Folder folder.old folder.new }
 {
     let numbers = file_numbers::<C>(alloc, version)?;
-    tables(alloc, folder, &numbers)
+    load_numbers(alloc, folder, &numbers)
 }
 
 /// The tables of a version's files by their first names, in the reverse of the order in which
@@ -98,8 +98,10 @@ pub(crate) fn numbers_in(
     }
 }
 
-/// The tables of these `numbers`, in order.
-fn tables<F: Folder>(
+/// The tables of these `numbers` in order, with their numbers. It only reads.
+///
+/// A table is read, and refused, as [`load`] does it of all files of a version.
+pub fn load_numbers<F: Folder>(
     alloc: Global,
     folder: &mut F,
     numbers: &[u64],

@@ -4,7 +4,7 @@ use Rattle.folder.proofs.CountLemmas.{steady}
 use Rattle.folder.proofs.LoadingLemmas.{missing_there, table_before, table_of, tables_more}
 use Rattle.folder.proofs.OpeningLemmas.{hands_on}
 use Rattle.folder.proofs.ReportLemmas.{reads_then, reports_after, reports_handed, reports_on}
-use Rattle.folder.proofs.table_loader.tables.Goals as goal
+use Rattle.folder.proofs.table_loader.load_numbers.Goals as goal
 
 pub returns-in_err-bytes-clause-answer : goal.returns-in_err-bytes-clause-answer
 returns-in_err-bytes-clause-answer g c =

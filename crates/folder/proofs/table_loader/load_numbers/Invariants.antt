@@ -2,7 +2,7 @@ use Rattle.std.proofs.Common.{◌≡◌, map, take}
 use Rattle.std.specs.List.{AllZip}
 use Rattle.folder.specs.LoadedTables.{IsTableOf}
 use Rattle.folder.specs.Reports.{OnlyReads}
-use Rattle.folder.proofs.table_loader.tables.Given as goal
+use Rattle.folder.proofs.table_loader.load_numbers.Given as goal
 
 -- the tables so far are those of the numbers so far
 abbrev pub invariant-loop-number : goal.invariant-loop-number

@@ -1,18 +1,18 @@
 //! The commands of the program, as `clap` is told of them.
 
-ghost use Rattle.std.specs.Prelude.{◌≡◌, IfOk};
+ghost use Rattle.std.specs.Prelude.{◌≡◌, IfOk, codes};
 ghost use Rattle.clap.specs.Words.{App, app_of, new_app, with_subcommand};
 ghost use Rattle.grammar.specs.Commands.{Extends, IsCommand, with_argument};
 ghost use Rattle.grammar.specs.Apps.{at_rule, bare_app, blocks_app, compact_app, dump_app};
 ghost use Rattle.grammar.specs.Apps.{flag_rule, folder_app, get_app, number_rule, program_app};
-ghost use Rattle.grammar.specs.Apps.{snapshots_rule, verbose_rule, required_argument, with_levels};
+ghost use Rattle.grammar.specs.Apps.{required_argument, value_rule, verbose_rule, with_levels};
 ghost use Rattle.grammar.specs.Apps.{with_outputs, with_work};
 
 use clap::{Arg, ArgAction, Command, value_parser};
 use std::alloc::{AllocError, Global};
 
-/// The version, and the kit that proved it.
-const VERSION: &str = "0.1.0, proved with rattle-kit-13f logic dac8208d650f15bf";
+/// The version, and the logic of the kit that proved it.
+const VERSION: &str = "0.1.0, proved with a Rattle kit of logic dac8208d650f15bf";
 
 const FOLDER_HELP: &str = "The folder";
 
@@ -70,10 +70,10 @@ const COMPACT_EXAMPLE: &str = "Examples: sedvokt compact db --level 0
           sedvokt compact db --all --snapshots 900,1151
           sedvokt compact db --level 1 --explain";
 
-const WORKERS_HELP: &str = "How many workers carry it out: 1 to 64; 4 where it is left out";
+const WORKERS_HELP: &str = "How many workers carry it out: 1 to 64; 4 if it is left out";
 
 const RANGES_HELP: &str =
-    "Into at most how many ranges of user keys it is split: 1 to 4096; 8 where it is left out";
+    "Into at most how many ranges of user keys it is split: 1 to 4096; 8 if it is left out";
 
 const SNAPSHOT_HELP: &str = "The oldest snapshot: each get at this sequence or a later one stays";
 
@@ -82,12 +82,12 @@ const SNAPSHOTS_HELP: &str =
         one";
 
 const BLOCK_SIZE_HELP: &str =
-    "A data block ends with the entry that makes it so many bytes long: 1 to 4194304; 4096 where it \
-        is left out";
+    "A data block ends with the entry that brings it to B bytes: 1 to 4194304; 4096 if it is left \
+        out";
 
 const FILE_SIZE_HELP: &str =
-    "A file ends with the entry at which its blocks are so many bytes long: 1 to 1073741824; \
-        2097152 where it is left out";
+    "A file ends with the entry that brings its blocks to F bytes: 1 to 1073741824; 2097152 if it \
+        is left out";
 
 const STATUSES: &str =
     "A key is written as hexadecimal digits of either case, two a byte; - is the empty key.
@@ -296,7 +296,7 @@ fn with_at<'a>(alloc: Global, command: Command<'a>) -> Result<Command<'a>, Alloc
 
 /// The command with `--snapshots S,S,..`.
 fn with_snapshots<'a>(alloc: Global, command: Command<'a>) -> Result<Command<'a>, AllocError>
-    ensures { IfOk result (Extends (with_argument snapshots_rule) command.entry) }
+    ensures { IfOk result (Extends (with_argument (value_rule (codes "snapshots"))) command.entry) }
 {
     let snapshots = Arg::new(alloc, "snapshots")
         .long("snapshots")

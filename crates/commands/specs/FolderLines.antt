@@ -2,9 +2,9 @@
 use Rattle.std.specs.Prelude.{◌≡◌, ℕ, List, ◌++◌, codes, decimal, length, Option, Some, None}
 use Rattle.std.specs.Prelude.{unwrap_or, Result, Ok}
 use Rattle.std.specs.List.{flat_map}
-use Rattle.std.specs.declared.cmp.Ordering.{Ordering}
 use Rattle.coding.specs.Answers.{IsThen}
 use Rattle.coding.specs.declared.fault.Fault.{Fault}
+use Rattle.ikey.specs.Comparator.{KeyOrder}
 use Rattle.edit.specs.Version.{State}
 use Rattle.folder.specs.Levels.{file_numbers}
 use Rattle.folder.specs.LoadedTables.{IsLoaded}
@@ -13,25 +13,25 @@ use Rattle.reads.specs.Gets.{get_of}
 use Rattle.reads.specs.Tables.{NumberedContents}
 use Rattle.checks.specs.LawfulTables.{IsLawfulTables}
 use Rattle.folder.specs.Orders.{order_cmp}
+use Rattle.folder.specs.Calls.{ToldFiles}
 use Rattle.texts.specs.Text.{text_of_bytes}
 
 -- the line of the tables, if the version is lawful with them
-abbrev pub IsLineOfLoaded : (List ℕ → List ℕ → Ordering) → State → List (ℕ × List ℕ) →
+abbrev pub IsLineOfLoaded : KeyOrder → State → List (ℕ × List ℕ) →
     (List NumberedContents → List ℕ) → Result (List ℕ) Fault → Type 0
-IsLineOfLoaded cmp v loaded line_of = IsThen (IsLawfulTables cmp v loaded) (λ tables answer. answer
-    ≡ Ok (line_of tables))
+IsLineOfLoaded cmp v loaded line_of = IsThen (IsLawfulTables cmp v loaded)
+    (λ tables answer. answer ≡ Ok (line_of tables))
 
 -- the same with tables in a folder: first all of them are read, by level and in version order
-abbrev pub IsLineOfVersion : (List ℕ → Option (List ℕ) → Type 0) → (List ℕ → List ℕ → Ordering) →
-    State → (List NumberedContents → List ℕ) → Result (List ℕ) Fault → Type 0
+abbrev pub IsLineOfVersion : ToldFiles → KeyOrder → State → (List NumberedContents → List ℕ) →
+    Result (List ℕ) Fault → Type 0
 IsLineOfVersion tells cmp v line_of =
     IsThen (IsLoaded tells (file_numbers cmp v)) (λ loaded. IsLineOfLoaded cmp v loaded line_of)
 
 -- the same of the version that a folder opens as
-abbrev pub IsLineOfFolder : (List ℕ → Option (List ℕ) → Type 0) →
-    (State → List NumberedContents → List ℕ) → Result (List ℕ) Fault → Type 0
-IsLineOfFolder tells line_of =
-    IsThen (IsOpened tells)
+abbrev pub IsLineOfFolder : ToldFiles → (State → List NumberedContents → List ℕ) →
+    Result (List ℕ) Fault → Type 0
+IsLineOfFolder tells line_of = IsThen (IsOpened tells)
     (λ opened. IsLineOfVersion tells (order_cmp opened.0) opened.1 (line_of opened.1))
 
 -- the number of entries in all these tables

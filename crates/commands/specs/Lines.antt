@@ -2,10 +2,10 @@
 use Rattle.std.specs.Prelude.{◌≡◌, ℕ, List, [], ◌++◌, codes, decimal, Option, unwrap_or, Result, Ok}
 use Rattle.std.specs.List.{flat_map}
 use Rattle.std.specs.Option.{option_map_or}
-use Rattle.std.specs.declared.cmp.Ordering.{Ordering}
 use Rattle.coding.specs.Answers.{IsThen}
 use Rattle.coding.specs.declared.fault.Fault.{Fault}
 use Rattle.ikey.specs.Key.{kind_number, kind_of, sequence_of, user_of}
+use Rattle.ikey.specs.Comparator.{KeyOrder}
 use Rattle.edit.specs.Version.{State, pointer_of}
 use Rattle.edit.specs.VersionOrder.{level_files}
 use Rattle.edit.specs.declared.meta.FileMeta.{FileMeta}
@@ -15,6 +15,7 @@ use Rattle.folder.specs.OpenAnswer.{IsOpened}
 use Rattle.folder.specs.Orders.{order_cmp}
 use Rattle.texts.specs.Text.{text_of_bytes}
 use Rattle.folder.specs.declared.order.Order.{Order}
+use Rattle.folder.specs.Calls.{ToldFiles}
 
 -- the line of a counter, which is 0 if it was never set
 abbrev pub number_line : List ℕ → Option ℕ → List ℕ
@@ -26,17 +27,15 @@ comparator_line order = codes "comparator " ++ order_name order ++ codes "\n"
 
 -- the lines of the comparator and the counters
 abbrev pub head_lines : Order → State → List ℕ
-head_lines order v =
-    comparator_line order ++ number_line (codes "log") v.log_number
+head_lines order v = comparator_line order ++ number_line (codes "log") v.log_number
     ++ number_line (codes "previous") v.previous_log
     ++ number_line (codes "next") v.next_file ++ number_line (codes "last") v.last_sequence
 
 -- the line of a level's compact pointer: user key, sequence and type
 abbrev pub pointer_line : ℕ → List ℕ → List ℕ
-pointer_line level key =
-    codes "pointer " ++ decimal level ++ codes " " ++ text_of_bytes (user_of key) ++ codes " "
-    ++ decimal (sequence_of key) ++ codes " "
-    ++ decimal (kind_number (kind_of key)) ++ codes "\n"
+pointer_line level key = codes "pointer " ++ decimal level ++ codes " "
+    ++ text_of_bytes (user_of key) ++ codes " "
+    ++ decimal (sequence_of key) ++ codes " " ++ decimal (kind_number (kind_of key)) ++ codes "\n"
 
 -- the line of a level's compact pointer, if it has one
 abbrev pub pointer_lines : State → ℕ → List ℕ
@@ -48,12 +47,12 @@ file_line level f = codes "file " ++ decimal level ++ codes " " ++ decimal f.num
     ++ decimal f.size ++ codes "\n"
 
 -- the lines of a level's files, in version order
-abbrev pub file_lines : (List ℕ → List ℕ → Ordering) → State → ℕ → List ℕ
+abbrev pub file_lines : KeyOrder → State → ℕ → List ℕ
 file_lines cmp v level = flat_map (file_line level) (level_files cmp v level)
 
 -- the comparator and the counters, then the pointers by level, then the files by level and in this
 -- version order
-abbrev pub lines_by : Order → (List ℕ → List ℕ → Ordering) → State → List ℕ
+abbrev pub lines_by : Order → KeyOrder → State → List ℕ
 lines_by order cmp v = head_lines order v ++ all_levels (pointer_lines v)
     ++ all_levels (file_lines cmp v)
 
@@ -62,6 +61,6 @@ abbrev pub version_lines : Order → State → List ℕ
 version_lines order v = lines_by order (order_cmp order) v
 
 -- a folder is opened, and these are the lines of what that gives
-abbrev pub IsShown : (List ℕ → Option (List ℕ) → Type 0) → Result (List ℕ) Fault → Type 0
+abbrev pub IsShown : ToldFiles → Result (List ℕ) Fault → Type 0
 IsShown tells =
     IsThen (IsOpened tells) (λ opened answer. answer ≡ Ok (version_lines opened.0 opened.1))

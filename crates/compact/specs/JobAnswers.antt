@@ -1,7 +1,7 @@
 -- The answers of the jobs of a compaction's runs, each at the number of its job.
 use Rattle.std.specs.Prelude.{ℕ, ◌+◌, List, [], ◌∷◌, map, Result, Ok}
-use Rattle.std.specs.declared.cmp.Ordering.{Ordering}
 use Rattle.coding.specs.declared.fault.Fault.{Fault}
+use Rattle.ikey.specs.Comparator.{KeyOrder}
 use Rattle.block.specs.EncodedEntry.{Entry}
 use Rattle.pick.specs.declared.picked.InputFile.{InputFile}
 use Rattle.keep.specs.Marks.{CompactionContext}
@@ -11,16 +11,15 @@ use Rattle.cut.specs.OutputPlan.{PlanSeen, lists_in}
 use Rattle.request.specs.Inputs.{result_at_input, input_reading}
 
 -- the answer for each input, of which the first is at this place
-abbrev pub input_answers : (List ℕ → List ℕ → Ordering) → ℕ → List InputFile → List (List ℕ)
-    → List (Result (List Entry) Fault)
+abbrev pub input_answers : KeyOrder → ℕ → List InputFile → List (List ℕ) →
+    List (Result (List Entry) Fault)
 input_answers cmp place (i ∷ is) (bytes ∷ others) =
     result_at_input place (input_reading cmp i.meta bytes) ∷ input_answers cmp (place + 1) is others
 input_answers cmp place _ _ = []
 
 -- the answer for each range between boundaries
-abbrev pub range_answers : (List ℕ → List ℕ → Ordering) → CompactionContext → List (List ℕ) →
-    List (List Entry)
-    → List (Result Run Fault)
+abbrev pub range_answers : KeyOrder → CompactionContext → List (List ℕ) → List (List Entry) →
+    List (Result Run Fault)
 range_answers cmp b boundaries inputs = map (range_run cmp b inputs) (ranges_of boundaries)
 
 -- the answer for each piece, its bytes

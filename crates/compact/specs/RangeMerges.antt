@@ -1,9 +1,9 @@
 -- What the runs of a compaction answer.
 use Rattle.std.specs.Prelude.{ℕ, nat_le, ◌&&◌, List, Result, Ok}
-use Rattle.std.specs.declared.cmp.Ordering.{Ordering}
 use Rattle.coding.specs.Answers.{◌>>=◌}
 use Rattle.coding.specs.declared.fault.Fault.{Fault}
 use Rattle.coding.specs.declared.fault.FaultName.TheVariants.{Workers}
+use Rattle.ikey.specs.Comparator.{KeyOrder}
 use Rattle.block.specs.EncodedEntry.{Entry}
 use Rattle.table.specs.ReadingSteps.{test_result}
 use Rattle.keep.specs.Marks.{CompactionContext}
@@ -17,7 +17,7 @@ by_workers workers answer = test_result (nat_le 1 workers && nat_le workers 64) 
 
 -- the runs of the ranges between boundaries over the union of the inputs, or Duplicate if a user
 -- key has one sequence twice
-abbrev pub runs_reading : (List ℕ → List ℕ → Ordering) → CompactionContext → List (List ℕ) →
-    List (List Entry) → Result (List Run) Fault
+abbrev pub runs_reading : KeyOrder → CompactionContext → List (List ℕ) → List (List Entry) →
+    Result (List Run) Fault
 runs_reading cmp b boundaries inputs = union_reading cmp inputs >>=
     λ union. Ok (runs_of cmp b boundaries union)

@@ -1,13 +1,13 @@
 -- Checked tables, as those of inputs.
-use Rattle.std.specs.Prelude.{◌≡◌, ℕ, true, List, [], ◌∷◌, Ok}
-use Rattle.std.specs.declared.cmp.Ordering.{Ordering}
+use Rattle.std.specs.Prelude.{◌≡◌, true, List, [], ◌∷◌, Ok}
+use Rattle.ikey.specs.Comparator.{KeyOrder}
 use Rattle.table.specs.TableContents.{Contents, contents_reading}
 use Rattle.pick.specs.declared.picked.InputFile.{InputFile}
 use Rattle.request.specs.Inputs.{table_matches_metadata}
 
 -- each table is that of the input at its place: its bytes read as it, and it is as the version
 -- states
-abbrev pub AreInputs : (List ℕ → List ℕ → Ordering) → List InputFile → List Contents → Type 0
+abbrev pub AreInputs : KeyOrder → List InputFile → List Contents → Type 0
 AreInputs cmp [] [] = Unit {0}
 AreInputs cmp [] (t ∷ ts) = ⊥
 AreInputs cmp (i ∷ is) [] = ⊥

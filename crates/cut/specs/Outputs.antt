@@ -4,9 +4,9 @@ use Rattle.std.specs.Prelude.{◌≡◌, ◌≢◌, ◌⊎◌, ◌↔◌, ℕ, �
 use Rattle.std.specs.Prelude.{if◌then◌else◌, List, [], ◌∷◌, ◌++◌, length, take, drop, flat_map}
 use Rattle.std.specs.List.{AllByRecursion}
 use Rattle.std.specs.Str.{bytes_eq}
-use Rattle.std.specs.declared.cmp.Ordering.{Ordering}
 use Rattle.std.specs.declared.cmp.Ordering.TheVariants.{Less}
 use Rattle.ikey.specs.Key.{user_of}
+use Rattle.ikey.specs.Comparator.{KeyOrder}
 use Rattle.block.specs.EncodedEntry.{Entry}
 use Rattle.block.specs.BuilderView.{last_key}
 use Rattle.table.specs.declared.options.Options.{Options}
@@ -36,8 +36,8 @@ ends_before o (e ∷ es) next = nat_le o.file_size (flushed o (e ∷ es))
 abbrev pub outputs_behind : Options → List Entry → List Entry → List (List Entry)
 outputs_behind o latest [] = open_block latest
 outputs_behind o latest (e ∷ es) =
-    if ends_before o latest e then latest ∷ outputs_behind o (e ∷ []) es else outputs_behind o
-    (latest ++ e ∷ []) es
+    if ends_before o latest e then latest ∷ outputs_behind o (e ∷ []) es
+    else outputs_behind o (latest ++ e ∷ []) es
 
 -- the outputs of the kept entries of a segment
 abbrev pub outputs_in : Options → List Entry → List (List Entry)
@@ -50,10 +50,8 @@ outputs_of grandparents o run =
 
 -- The outputs of a compaction of the union of its inputs. The stops at the first entries of all
 -- user keys cut the union into segments, and the kept entries of each are cut into outputs by size.
-abbrev pub outputs : (List ℕ → List ℕ → Ordering) → CompactionContext → Options → List Entry →
-    List (List Entry)
-outputs cmp b o union =
-    outputs_of b.grandparents o
+abbrev pub outputs : KeyOrder → CompactionContext → Options → List Entry → List (List Entry)
+outputs cmp b o union = outputs_of b.grandparents o
     (record { kept = kept cmp b.readable b.deeper union; marks = heads cmp b union })
 
 -- An output of entries q may end before the rest: its flushed blocks have reached the maximal file
@@ -80,18 +78,18 @@ abbrev pub all_of : List (List Entry) → List Entry
 all_of parts = flat_map (λ q. q) parts
 
 -- the user keys of the first entries are below those of the second
-abbrev pub AreBelow : (List ℕ → List ℕ → Ordering) → List Entry → List Entry → Type 0
+abbrev pub AreBelow : KeyOrder → List Entry → List Entry → Type 0
 AreBelow cmp xs ys =
     AllByRecursion (λ x. AllByRecursion (λ y. cmp (user_of x.key) (user_of y.key) ≡ Less) ys) xs
 
 -- the user keys of each part are below those of all later parts, so no user key is in two
-abbrev pub UsersRise : (List ℕ → List ℕ → Ordering) → List (List Entry) → Type 0
+abbrev pub UsersRise : KeyOrder → List (List Entry) → Type 0
 UsersRise cmp [] = Unit {0}
 UsersRise cmp (q ∷ qs) = AreBelow cmp q (all_of qs) × UsersRise cmp qs
 
 -- Whole: the outputs are the kept entries, cut into parts of which none is empty, and all kept
 -- entries of a user key go to one.
-pub record WholeLaw (cmp : List ℕ → List ℕ → Ordering) : Type 0 where
+pub record WholeLaw (cmp : KeyOrder) : Type 0 where
   pub all : (grandparents : List FileMeta) (o : Options) (run : Run) →
       all_of (outputs_of grandparents o run) ≡ run.kept
   pub some : (grandparents : List FileMeta) (o : Options) (run : Run) →
@@ -100,13 +98,13 @@ pub record WholeLaw (cmp : List ℕ → List ℕ → Ordering) : Type 0 where
       UsersRise cmp (outputs cmp b o union)
 
 -- a segment whose entries are in order has these outputs and no others
-abbrev pub OutputsLaw : (List ℕ → List ℕ → Ordering) → Type 0
+abbrev pub OutputsLaw : KeyOrder → Type 0
 OutputsLaw cmp =
     (o : Options) (segment : List Entry) (qs : List (List Entry)) →
     VersionsRise cmp segment → AreOutputs o segment qs ↔ (outputs_in o segment ≡ qs)
 
 -- the runs of the ranges of a split have together the outputs of the union
-abbrev pub RangesCutLaw : (List ℕ → List ℕ → Ordering) → Type 0
+abbrev pub RangesCutLaw : KeyOrder → Type 0
 RangesCutLaw cmp =
     (b : CompactionContext) (o : Options) (boundaries : List (List ℕ)) (union : List Entry) →
     IsSplit cmp boundaries → VersionsRise cmp union →

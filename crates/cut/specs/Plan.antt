@@ -3,7 +3,6 @@
 use Rattle.std.specs.Prelude.{◌≡◌, ℕ, ◌+◌, ◌^◌, nat_lt, nat_le, ◌&&◌, if◌then◌else◌, List, [], ◌∷◌}
 use Rattle.std.specs.Prelude.{◌++◌, length, map, flat_map, Result, Ok}
 use Rattle.std.specs.List.{list_all}
-use Rattle.std.specs.declared.cmp.Ordering.{Ordering}
 use Rattle.coding.specs.Answers.{◌>>=◌}
 use Rattle.coding.specs.declared.fault.Fault.{Fault}
 use Rattle.coding.specs.declared.fault.FaultName.TheVariants.{Numbers, TooLarge}
@@ -12,7 +11,7 @@ use Rattle.table.specs.declared.options.Options.{Options}
 use Rattle.table.specs.DataBlocks.{data_blocks}
 use Rattle.table.specs.Table.{closing_bytes, index_from, index_keys, stored_blocks, table}
 use Rattle.table.specs.ReadingSteps.{test_result}
-use Rattle.ikey.specs.Comparator.{ShortKeys}
+use Rattle.ikey.specs.Comparator.{KeyOrder, ShortKeys}
 use Rattle.table.specs.declared.table_check.TheConstants.{MAX_TABLE_LEN}
 use Rattle.cut.specs.declared.output_plan.TheConstants.{MAX_BLOCKS}
 
@@ -107,7 +106,7 @@ encoded_pieces o outputs = map (stored_blocks o.restart_interval) (pieces o outp
 -- output, one after the other, and what closes its table are its table.
 abbrev pub PiecesLaw : Type 0
 PiecesLaw =
-    (cmp : List ℕ → List ℕ → Ordering) (short_keys : ShortKeys)
+    (cmp : KeyOrder) (short_keys : ShortKeys)
     (o : Options) (blocks : ℕ) (q : List Entry) →
     let bytes = flat_map (stored_blocks o.restart_interval) (pieces_in o blocks q) in
     table cmp short_keys o q

@@ -12,8 +12,8 @@
 -- All entries of the union count, dropped ones too. What is kept of a segment is then cut by size.
 use Rattle.std.specs.Prelude.{◌≡◌, ◌≢◌, ℕ, ◌*◌, ◌<◌, List, [], ◌∷◌, flat_map}
 use Rattle.std.specs.List.{AllByRecursion}
-use Rattle.std.specs.declared.cmp.Ordering.{Ordering}
 use Rattle.ikey.specs.Key.{user_of}
+use Rattle.ikey.specs.Comparator.{KeyOrder}
 use Rattle.block.specs.EncodedEntry.{Entry}
 use Rattle.table.specs.declared.options.Options.{Options}
 use Rattle.edit.specs.declared.meta.FileMeta.{FileMeta}
@@ -26,16 +26,16 @@ use Rattle.cut.specs.declared.stops.TheConstants.{MAX_OVERLAP}
 
 -- An entry begins a segment. `first` began the segment before, and `before` is the last entry of
 -- it.
-pub record BeginsSegment (cmp : List ℕ → List ℕ → Ordering) (grandparents : List FileMeta)
-    (file_size : ℕ) (first before e : Entry) : Type 0 where
+pub record BeginsSegment (cmp : KeyOrder) (grandparents : List FileMeta) (file_size : ℕ)
+    (first before e : Entry) : Type 0 where
   pub other : user_of before.key ≢ user_of e.key
   pub passed : MAX_OVERLAP * file_size < size_between grandparents
       (grandparents_below cmp grandparents first.key) (grandparents_below cmp grandparents e.key)
 
 -- In a segment that `first` began, and after `before`: none of these entries begins another
 -- segment, and the first of the rest does, if there is a rest.
-abbrev pub ReachesNext : (List ℕ → List ℕ → Ordering) → List FileMeta → ℕ →
-    Entry → Entry → List Entry → List Entry → Type 0
+abbrev pub ReachesNext : KeyOrder → List FileMeta → ℕ → Entry → Entry → List Entry → List Entry →
+    Type 0
 ReachesNext cmp grandparents file_size first before [] [] = Unit {0}
 ReachesNext cmp grandparents file_size first before [] (next ∷ rest) =
     BeginsSegment cmp grandparents file_size first before next
@@ -44,8 +44,7 @@ ReachesNext cmp grandparents file_size first before (e ∷ es) rest =
     × ReachesNext cmp grandparents file_size first e es rest
 
 -- each list has an entry, and reaches to where the next one begins
-abbrev pub EachReachesNext : (List ℕ → List ℕ → Ordering) → List FileMeta → ℕ →
-    List (List Entry) → Type 0
+abbrev pub EachReachesNext : KeyOrder → List FileMeta → ℕ → List (List Entry) → Type 0
 EachReachesNext cmp grandparents file_size [] = Unit {0}
 EachReachesNext cmp grandparents file_size ([] ∷ segments) = ⊥
 EachReachesNext cmp grandparents file_size ((first ∷ es) ∷ segments) =
@@ -53,15 +52,15 @@ EachReachesNext cmp grandparents file_size ((first ∷ es) ∷ segments) =
     × EachReachesNext cmp grandparents file_size segments
 
 -- the lists are the segments of a union
-pub record AreSegments (cmp : List ℕ → List ℕ → Ordering) (grandparents : List FileMeta)
-    (file_size : ℕ) (union : List Entry) (segments : List (List Entry)) : Type 0 where
+pub record AreSegments (cmp : KeyOrder) (grandparents : List FileMeta) (file_size : ℕ)
+    (union : List Entry) (segments : List (List Entry)) : Type 0 where
   pub all : all_of segments ≡ union
   pub each : EachReachesNext cmp grandparents file_size segments
 
 -- A union has segments, and only these. What is kept of the union is what is kept of each of them,
 -- and the outputs are those of what is kept of each: of entries in order, the shortest beginnings
 -- that may end.
-pub record SegmentsLaw (cmp : List ℕ → List ℕ → Ordering) : Type 0 where
+pub record SegmentsLaw (cmp : KeyOrder) : Type 0 where
   pub found : (grandparents : List FileMeta) (file_size : ℕ) (union : List Entry) →
       (segments : List (List Entry)) × AreSegments cmp grandparents file_size union segments
   pub only : (grandparents : List FileMeta) (file_size : ℕ) (union : List Entry)

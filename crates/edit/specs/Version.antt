@@ -91,9 +91,8 @@ with_file files f = insert_key number_cmp files f
 -- - a new file has the number of one that stays.
 abbrev pub files_after : List NewFile → List DeletedFile → List NewFile → Option (List NewFile)
 files_after files deleted added =
-    if list_all (has_place files) deleted
-    && are_new (undeleted_files deleted files) added then Some
-    (fold with_file (undeleted_files deleted files) added) else None
+    if list_all (has_place files) deleted && are_new (undeleted_files deleted files) added
+    then Some (fold with_file (undeleted_files deleted files) added) else None
 
 -- the pointers after a new one, which replaces that of its level
 abbrev pub with_pointer : List (ℕ × List ℕ) → CompactPointer → List (ℕ × List ℕ)

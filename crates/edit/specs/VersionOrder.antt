@@ -5,6 +5,7 @@ use Rattle.std.specs.Ordering.{nat_cmp, ordering_then}
 use Rattle.std.specs.BTreeSet.{insert_key}
 use Rattle.std.specs.declared.cmp.Ordering.{Ordering}
 use Rattle.ikey.specs.Order.{internal_cmp}
+use Rattle.ikey.specs.Comparator.{KeyOrder}
 use Rattle.edit.specs.Edit.{Edit}
 use Rattle.edit.specs.Version.{State}
 use Rattle.edit.specs.declared.meta.FileMeta.{FileMeta}
@@ -12,12 +13,12 @@ use Rattle.edit.specs.declared.meta.NewFile.{NewFile}
 use Rattle.edit.specs.declared.meta.CompactPointer.{CompactPointer}
 
 -- version order: by smallest internal key, then number
-abbrev pub file_cmp : (List ℕ → List ℕ → Ordering) → FileMeta → FileMeta → Ordering
+abbrev pub file_cmp : KeyOrder → FileMeta → FileMeta → Ordering
 file_cmp cmp a b = ordering_then (internal_cmp cmp a.smallest b.smallest)
     (nat_cmp a.number b.number)
 
 -- files in version order
-abbrev pub in_version_order : (List ℕ → List ℕ → Ordering) → List FileMeta → List FileMeta
+abbrev pub in_version_order : KeyOrder → List FileMeta → List FileMeta
 in_version_order cmp files = fold (insert_key (file_cmp cmp)) [] files
 
 -- the files at a level
@@ -26,7 +27,7 @@ files_at files level =
     map (λ (f : NewFile). f.meta) (filter (λ (f : NewFile). nat_eq f.level level) files)
 
 -- the files of a level of a version, in version order
-abbrev pub level_files : (List ℕ → List ℕ → Ordering) → State → ℕ → List FileMeta
+abbrev pub level_files : KeyOrder → State → ℕ → List FileMeta
 level_files cmp v level = in_version_order cmp (files_at v.files level)
 
 -- a file as a new file of a level
@@ -34,7 +35,7 @@ abbrev pub at_level : ℕ → FileMeta → NewFile
 at_level level f = record { level = level; meta = f }
 
 -- all files of the n levels from this one on as new files, by level and in version order
-unfoldable pub added_from : (List ℕ → List ℕ → Ordering) → List NewFile → ℕ → ℕ → List NewFile
+unfoldable pub added_from : KeyOrder → List NewFile → ℕ → ℕ → List NewFile
 added_from cmp files level zero = []
 added_from cmp files level (suc n) =
     map (at_level level) (in_version_order cmp (files_at files level))
@@ -46,7 +47,7 @@ pointer_entry p = record { level = p.0; key = p.1 }
 
 -- The edit that makes a version of an empty one, but without its numbers: the comparator's name,
 -- the compact pointers by level, and all files as new files, by level and in version order.
-abbrev pub snapshot_of : List ℕ → (List ℕ → List ℕ → Ordering) → State → Edit
+abbrev pub snapshot_of : List ℕ → KeyOrder → State → Edit
 snapshot_of name cmp v = record {
   comparator = Some name;
   log_number = None;

@@ -1,6 +1,6 @@
 -- The calls that a function makes one after the other.
-use Rattle.std.specs.Prelude.{◌≡◌, ◌⊎◌, ℕ, List, [], ◌∷◌, ◌++◌, map, Option, Result, Ok, Err}
-use Rattle.folder.specs.Calls.{Call, Done, FolderView, Shows, Step, Tells, Tried}
+use Rattle.std.specs.Prelude.{◌≡◌, ◌⊎◌, List, [], ◌∷◌, ◌++◌, map, Result, Ok, Err}
+use Rattle.folder.specs.Calls.{Call, Done, FolderView, Shows, Step, Tells, ToldFiles, Tried}
 
 -- The steps of these calls in their order, up to one that failed, or ended earlier without one.
 abbrev pub AreMade : List Call → List Step → Type 0
@@ -20,15 +20,14 @@ ShowsAll [] s last = last ≡ s
 ShowsAll (step ∷ steps) s last = (next : FolderView) × Shows step s next × ShowsAll steps next last
 
 -- what steps change of what a folder tells
-abbrev pub TellsThrough : List Step → (List ℕ → Option (List ℕ) → Type 0) →
-    (List ℕ → Option (List ℕ) → Type 0) → Type 0
+abbrev pub TellsThrough : List Step → ToldFiles → ToldFiles → Type 0
 TellsThrough steps old new = (s : FolderView) → Tells old s.files →
     (last : FolderView) × ShowsAll steps s last × Tells new last.files
 
 -- A function makes these calls in their order, each once and no others, up to one that fails. At Ok
 -- all were done.
 pub record MakesCalls {T E : Type 0} (calls : List Call) (before after : List Step)
-    (old new : List ℕ → Option (List ℕ) → Type 0) (result : Result T E) : Type 0 where
+    (old new : ToldFiles) (result : Result T E) : Type 0 where
   pub steps : List Step
   pub made : AreMadeBy calls steps result
   pub appended : after ≡ before ++ steps

@@ -63,12 +63,15 @@ Shows (Tried (Synced name)) s next = next ≡ s
 Shows (Done FolderSynced) s next = next ≡ s
 Shows (Tried FolderSynced) s next = next ≡ s
 
+-- what a folder tells of its files: which bytes are under a name, None for no file
+abbrev pub ToldFiles : Type 1
+ToldFiles = List ℕ → Option (List ℕ) → Type 0
+
 -- a folder tells just these files
-abbrev pub Tells : (List ℕ → Option (List ℕ) → Type 0) → Files → Type 0
+abbrev pub Tells : ToldFiles → Files → Type 0
 Tells tells files = (name : List ℕ) (held : Option (List ℕ)) → tells name held ↔ (files name ≡ held)
 
 -- What a step changes of what a folder tells. Nothing is said of a folder that tells no files.
-abbrev pub TellsAfter : Step → (List ℕ → Option (List ℕ) → Type 0) →
-    (List ℕ → Option (List ℕ) → Type 0) → Type 0
+abbrev pub TellsAfter : Step → ToldFiles → ToldFiles → Type 0
 TellsAfter step old new = (s : FolderView) → Tells old s.files →
     (next : FolderView) × Shows step s next × Tells new next.files

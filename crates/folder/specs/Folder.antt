@@ -3,7 +3,7 @@ use Rattle.std.specs.Prelude.{◌≡◌, ◌⊎◌, ◌↔◌, ℕ, ◌+◌, ◌
 use Rattle.std.specs.Prelude.{Option, Result, Ok, Err}
 use Rattle.coding.specs.declared.fault.FaultName.{FaultName}
 use Rattle.coding.specs.declared.fault.FaultName.TheVariants as name
-use Rattle.folder.specs.Calls.{Step}
+use Rattle.folder.specs.Calls.{Step, ToldFiles}
 use Rattle.folder.specs.declared.folder.FolderFault.{FolderFault}
 use Rattle.folder.specs.declared.folder.FolderFault.TheVariants.{Device, Memory}
 
@@ -27,8 +27,7 @@ abbrev pub DeviceFailed : ℕ → ℕ → Type 0
 DeviceFailed before now = (before < now) ⊎ (before ≡ 2 ^ 64 - 1)
 
 -- the folder tells the same as before
-abbrev pub TellsSame : (List ℕ → Option (List ℕ) → Type 0) → (List ℕ → Option (List ℕ) → Type 0) →
-    Type 0
+abbrev pub TellsSame : ToldFiles → ToldFiles → Type 0
 TellsSame old new = (name : List ℕ) (held : Option (List ℕ)) → old name held ↔ new name held
 
 -- what contracts see of a folder that tells nothing: the calls that write in their order, those

@@ -1,6 +1,6 @@
 -- Lists over the levels of a version.
 use Rattle.std.specs.Prelude.{ℕ, zero, suc, ◌+◌, List, [], ◌++◌, map}
-use Rattle.std.specs.declared.cmp.Ordering.{Ordering}
+use Rattle.ikey.specs.Comparator.{KeyOrder}
 use Rattle.edit.specs.Version.{State}
 use Rattle.edit.specs.VersionOrder.{level_files}
 use Rattle.edit.specs.declared.meta.FileMeta.{FileMeta}
@@ -15,9 +15,9 @@ abbrev pub all_levels : {A : Type 0} → (ℕ → List A) → List A
 all_levels of = by_level of 0 7
 
 -- the numbers of a level's files, in version order
-abbrev pub numbers_at : (List ℕ → List ℕ → Ordering) → State → ℕ → List ℕ
+abbrev pub numbers_at : KeyOrder → State → ℕ → List ℕ
 numbers_at cmp v level = map (λ (f : FileMeta). f.number) (level_files cmp v level)
 
 -- the numbers of a version's files: by level, and in each level in version order
-abbrev pub file_numbers : (List ℕ → List ℕ → Ordering) → State → List ℕ
+abbrev pub file_numbers : KeyOrder → State → List ℕ
 file_numbers cmp v = all_levels (numbers_at cmp v)

@@ -46,9 +46,8 @@ order_name Shortlex = shortlex_name
 
 -- the order of a comparator's name, or Comparator if it is neither of the two
 abbrev pub order_named : List ℕ → Result Order Fault
-order_named text =
-    if bytes_eq text bytewise_name then Ok Bytewise else if bytes_eq text shortlex_name then Ok
-    Shortlex else Err (fault name.Comparator)
+order_named text = if bytes_eq text bytewise_name then Ok Bytewise
+    else if bytes_eq text shortlex_name then Ok Shortlex else Err (fault name.Comparator)
 
 -- the order of the first name, or Comparator if no edit has one
 abbrev pub order_of : List Edit → Result Order Fault
@@ -76,7 +75,5 @@ version_from number edits = do
 -- What the bytes of the manifest of a number answer: they are read as a log, then each record as an
 -- edit, then the edits give a version.
 abbrev pub IsManifestAnswer : ℕ → List ℕ → Result (Order × State) Fault → Type 0
-IsManifestAnswer number bytes =
-    IsThen (λ records. records ≡ records_of bytes) (λ records.
-    IsThen (IsEditsAnswer records) (λ edits answer.
-    answer ≡ version_from number edits))
+IsManifestAnswer number bytes = IsThen (λ records. records ≡ records_of bytes) (λ records.
+    IsThen (IsEditsAnswer records) (λ edits answer. answer ≡ version_from number edits))

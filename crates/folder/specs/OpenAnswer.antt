@@ -1,5 +1,5 @@
 -- Opening a folder: what is read in which order, and how failures of the device are answered.
-use Rattle.std.specs.Prelude.{◌≡◌, ◌⊎◌, ℕ, ◌<◌, List, codes, Option, Some, None, Result, Ok, Err}
+use Rattle.std.specs.Prelude.{◌≡◌, ◌⊎◌, ℕ, ◌<◌, List, codes, Some, None, Result, Ok, Err}
 use Rattle.std.specs.Prelude.{IsErrOf}
 use Rattle.coding.specs.Answers.{UnlessMemory, fault, IsThen}
 use Rattle.coding.specs.declared.fault.Fault.{Fault}
@@ -12,6 +12,7 @@ use Rattle.folder.specs.Folder.{DeviceFailed}
 use Rattle.folder.specs.Manifest.{IsManifestAnswer}
 use Rattle.folder.specs.Names.{IsNumberAnswer, manifest_name}
 use Rattle.folder.specs.declared.order.Order.{Order}
+use Rattle.folder.specs.Calls.{ToldFiles}
 
 -- the device failed during the call, and Device is the answer
 abbrev pub IsStopped : ℕ → ℕ → Fault → Type 0
@@ -34,15 +35,14 @@ FolderAnswers view before now (Err e) IsAnswer =
     UnlessMemory e (IsStopped before now e ⊎ IsAnswer (Err e))
 
 -- the bytes under a name, or Missing if there is no file
-abbrev pub IsHeld : (List ℕ → Option (List ℕ) → Type 0) → List ℕ → Result (List ℕ) Fault → Type 0
+abbrev pub IsHeld : ToldFiles → List ℕ → Result (List ℕ) Fault → Type 0
 IsHeld tells name (Ok bytes) = tells name (Some bytes)
 IsHeld tells name (Err e) = tells name None × (e ≡ fault Missing)
 
 -- What opening answers: CURRENT is read, then its form is tested, then the manifest that it names
 -- is read, then the manifest's bytes.
-abbrev pub IsOpened : (List ℕ → Option (List ℕ) → Type 0) → Result (Order × State) Fault → Type 0
-IsOpened tells =
-    IsThen (IsHeld tells (codes "CURRENT")) (λ current.
+abbrev pub IsOpened : ToldFiles → Result (Order × State) Fault → Type 0
+IsOpened tells = IsThen (IsHeld tells (codes "CURRENT")) (λ current.
     IsThen (IsNumberAnswer current) (λ number.
     IsThen (IsHeld tells (manifest_name number)) (IsManifestAnswer number)))
 

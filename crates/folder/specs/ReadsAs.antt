@@ -1,6 +1,6 @@
 -- What the files of a folder read as: a version and its tables.
 use Rattle.std.specs.Prelude.{◌≡◌, ◌⊎◌, ◌<◌, ◌^◌, ℕ, List, [], ◌∷◌, codes, Option, Some, None, Ok}
-use Rattle.std.specs.declared.cmp.Ordering.{Ordering}
+use Rattle.ikey.specs.Comparator.{KeyOrder}
 use Rattle.edit.specs.Version.{State}
 use Rattle.folder.specs.Calls.{Files}
 use Rattle.folder.specs.Crash.{IsDurable, World}
@@ -17,8 +17,8 @@ IsHeldIn files name held = files name ≡ held
 -- The files read as a version of this order, and its tables. CURRENT names a manifest that gives
 -- the version, and each of the version's files has its table. cmp only orders the tables as they
 -- are loaded: nothing ties it to the version's order.
-pub record ReadsAs (cmp : List ℕ → List ℕ → Ordering) (order : Order) (v : State)
-    (tables : List (ℕ × List ℕ)) (files : Files) : Type 0 where
+pub record ReadsAs (cmp : KeyOrder) (order : Order) (v : State) (tables : List (ℕ × List ℕ))
+    (files : Files) : Type 0 where
   pub opened : IsOpened (IsHeldIn files) (Ok (order, v))
   pub loaded : IsLoaded (IsHeldIn files) (file_numbers cmp v) (Ok tables)
 
@@ -29,8 +29,7 @@ IsOneOf (m ∷ numbers) n = (n ≡ m) ⊎ IsOneOf numbers n
 
 -- The names on which that reading rests: CURRENT, the manifest that it names, and of each table its
 -- name, and its older name if there is no file under the first.
-pub data RestsOn (cmp : List ℕ → List ℕ → Ordering) (v : State) (files : Files) : List ℕ →
-    Type 0 where
+pub data RestsOn (cmp : KeyOrder) (v : State) (files : Files) : List ℕ → Type 0 where
   Current : RestsOn cmp v files (codes "CURRENT")
   Manifest : (number : ℕ) → number < 2 ^ 64 → files (codes "CURRENT") ≡ Some (current_text number) →
       RestsOn cmp v files (manifest_name number)
@@ -45,7 +44,7 @@ pub record IsSettled (w : World) (name : List ℕ) : Type 0 where
   pub left : w.left name ≡ w.shown.files name
 
 -- The folder reads as the version and its tables, and each name on which that rests is settled.
-pub record StandsAs (cmp : List ℕ → List ℕ → Ordering) (order : Order) (v : State)
-    (tables : List (ℕ × List ℕ)) (w : World) : Type 0 where
+pub record StandsAs (cmp : KeyOrder) (order : Order) (v : State) (tables : List (ℕ × List ℕ))
+    (w : World) : Type 0 where
   pub reads : ReadsAs cmp order v tables w.shown.files
   pub settled : (name : List ℕ) → RestsOn cmp v w.shown.files name → IsSettled w name

@@ -26,8 +26,7 @@ bytewise_separator start limit =
     let d = common_prefix_len nat_eq start limit in
     if nat_lt d (length start) && nat_lt (slice_index start d) 255
     && nat_lt (slice_index start d + 1) (slice_index limit d)
-    then raised_at d start
-    else start
+    then raised_at d start else start
 
 -- the place of the first byte that isn't 0xff, or the length
 abbrev pub first_raisable : List ℕ → ℕ
@@ -40,7 +39,4 @@ bytewise_successor key =
 
 -- the short keys of unsigned bytes
 abbrev pub bytewise_short_keys : ShortKeys
-bytewise_short_keys = record {
-  separator = bytewise_separator;
-  successor = bytewise_successor;
-}
+bytewise_short_keys = record { separator = bytewise_separator; successor = bytewise_successor }

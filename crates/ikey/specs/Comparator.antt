@@ -3,12 +3,16 @@ use Rattle.std.specs.Prelude.{◌≡◌, ◌≢◌, ℕ, List}
 use Rattle.std.specs.declared.cmp.Ordering.{Ordering}
 use Rattle.std.specs.declared.cmp.Ordering.TheVariants.{Less, Equal, Greater}
 
+-- an order of user keys: how two of them compare
+abbrev pub KeyOrder : Type 0
+KeyOrder = List ℕ → List ℕ → Ordering
+
 -- equal keys are the same bytes
-abbrev pub IsExact : (List ℕ → List ℕ → Ordering) → Type 0
+abbrev pub IsExact : KeyOrder → Type 0
 IsExact cmp = (a b : List ℕ) → cmp a b ≡ Equal → a ≡ b
 
 -- middle is at least start and below limit
-pub record IsBetween (cmp : List ℕ → List ℕ → Ordering) (start limit middle : List ℕ) : Type 0 where
+pub record IsBetween (cmp : KeyOrder) (start limit middle : List ℕ) : Type 0 where
   pub at_least : cmp start middle ≢ Greater
   pub below : cmp middle limit ≡ Less
 
@@ -18,11 +22,11 @@ pub record ShortKeys : Type 0 where
   pub successor : List ℕ → List ℕ
 
 -- each separator of start and limit is at least start, and below limit, if start is below limit
-abbrev pub Separates : (List ℕ → List ℕ → Ordering) → (List ℕ → List ℕ → List ℕ) → Type 0
+abbrev pub Separates : KeyOrder → (List ℕ → List ℕ → List ℕ) → Type 0
 Separates cmp separator_of =
     (start limit : List ℕ) → cmp start limit ≡ Less →
     IsBetween cmp start limit (separator_of start limit)
 
 -- each successor of a key is at least the key
-abbrev pub Succeeds : (List ℕ → List ℕ → Ordering) → (List ℕ → List ℕ) → Type 0
+abbrev pub Succeeds : KeyOrder → (List ℕ → List ℕ) → Type 0
 Succeeds cmp successor_of = (key : List ℕ) → cmp key (successor_of key) ≢ Greater

@@ -38,8 +38,8 @@ kind_of bytes = if nat_eq (tag_of bytes % 256) 1 then Put else Delete
 unfoldable pub internal_key : List ℕ → ℕ → Kind → List ℕ
 internal_key user sequence kind = user ++ tag_bytes (sequence * 256 + kind_number kind)
 
--- the bytes are an internal key: a user key of at most MAX_USER_KEY bytes, and then 8 bytes of a tag
--- of type 0 or 1
+-- the bytes are an internal key: a user key of at most MAX_USER_KEY bytes, and then 8 bytes of a
+-- tag of type 0 or 1
 pub record IsInternalKey (bytes : List ℕ) : Type 0 where
   pub tagged : 8 ≤ length bytes
   pub spelled : drop (length bytes - 8) bytes ≡ tag_bytes (tag_of bytes)
@@ -49,10 +49,7 @@ pub record IsInternalKey (bytes : List ℕ) : Type 0 where
 -- the bytes if they are an internal key, else the first test that fails
 abbrev pub internal_key_reading : List ℕ → Result (List ℕ) Fault
 internal_key_reading bytes =
-    if nat_lt (length bytes) 8
-    then Err (fault Key)
-    else if nat_lt 1 (tag_of bytes % 256)
-    then Err (fault Key)
-    else if nat_lt (MAX_USER_KEY + 8) (length bytes)
-    then Err (fault TooLarge)
+    if nat_lt (length bytes) 8 then Err (fault Key)
+    else if nat_lt 1 (tag_of bytes % 256) then Err (fault Key)
+    else if nat_lt (MAX_USER_KEY + 8) (length bytes) then Err (fault TooLarge)
     else Ok bytes

@@ -23,7 +23,4 @@ shortlex_successor key = key
 
 -- the short keys of the order by length first
 abbrev pub shortlex_short_keys : ShortKeys
-shortlex_short_keys = record {
-  separator = shortlex_separator;
-  successor = shortlex_successor;
-}
+shortlex_short_keys = record { separator = shortlex_separator; successor = shortlex_successor }

@@ -4,11 +4,11 @@ use Rattle.coding.specs.Answers.{fault}
 use Rattle.coding.specs.declared.fault.Fault.{Fault}
 use Rattle.coding.specs.declared.fault.FaultName.TheVariants.{Changed}
 use Rattle.folder.specs.Names.{current_text}
+use Rattle.folder.specs.Calls.{ToldFiles}
 
 -- Ok if CURRENT holds the text that names the manifest of this number, Changed if it holds anything
 -- else or isn't there.
-abbrev pub IsCurrentAnswer : {T : Type 0} → (List ℕ → Option (List ℕ) → Type 0) → ℕ →
-    Result T Fault → Type 0
+abbrev pub IsCurrentAnswer : {T : Type 0} → ToldFiles → ℕ → Result T Fault → Type 0
 IsCurrentAnswer tells opened (Ok _) = tells (codes "CURRENT") (Some (current_text opened))
 IsCurrentAnswer tells opened (Err e) = (held : Option (List ℕ)) × tells (codes "CURRENT") held
     × (held ≢ Some (current_text opened)) × (e ≡ fault Changed)

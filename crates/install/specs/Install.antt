@@ -1,18 +1,19 @@
 -- The calls of an installation, and what they make of a version.
 use Rattle.std.specs.Prelude.{◌≡◌, ◌⊎◌, ◌<◌, ◌≤◌, ℕ, nat_eq, List, [], ◌∷◌, ◌++◌, map, unwrap_or}
-use Rattle.std.specs.Prelude.{codes, Some, None, is_some, true, Option, Result, OnOk}
+use Rattle.std.specs.Prelude.{codes, Some, None, is_some, true, Result, OnOk}
 use Rattle.std.specs.Global.{Vec}
 use Rattle.std.specs.Map.{lookup}
-use Rattle.std.specs.declared.cmp.Ordering.{Ordering}
 use Rattle.coding.specs.Answers.{fault}
 use Rattle.coding.specs.declared.fault.Fault.{Fault}
 use Rattle.coding.specs.declared.fault.FaultName.TheVariants.{Changed}
+use Rattle.ikey.specs.Comparator.{KeyOrder}
 use Rattle.logrec.specs.Log.{log}
 use Rattle.edit.specs.Edit.{Edit, IsEdit, edit_bytes}
 use Rattle.edit.specs.Version.{State, applied}
 use Rattle.edit.specs.VersionOrder.{snapshot_of}
 use Rattle.edit.specs.declared.meta.NewFile.{NewFile}
 use Rattle.folder.specs.Calls.{Call, Created, Files, FolderSynced, Renamed, Step, Synced, Tells}
+use Rattle.folder.specs.Calls.{ToldFiles}
 use Rattle.folder.specs.Crash.{Leads, LeavesOnly, World}
 use Rattle.folder.specs.Levels.{file_numbers}
 use Rattle.folder.specs.Manifest.{order_name}
@@ -35,7 +36,7 @@ table_calls [] = []
 table_calls (table ∷ tables) = write_calls (table_name table.0) table.1 ++ table_calls tables
 
 -- the manifest of the edited version: a log of the snapshot of the version before, and the edit
-abbrev pub manifest_bytes : List ℕ → (List ℕ → List ℕ → Ordering) → State → List ℕ → List ℕ
+abbrev pub manifest_bytes : List ℕ → KeyOrder → State → List ℕ → List ℕ
 manifest_bytes name cmp v edit = log (edit_bytes (snapshot_of name cmp v) ∷ edit ∷ [])
 
 -- CURRENT's text is made under its temporary name and synced, and the folder is synced
@@ -71,15 +72,14 @@ abbrev pub table_bytes_of : List (ℕ × List ℕ) → ℕ → List ℕ
 table_bytes_of tables number = unwrap_or (lookup (nat_eq number) tables) []
 
 -- the tables of the next version: the outputs, and those of the tables before that stay
-abbrev pub next_version_tables : (List ℕ → List ℕ → Ordering) → State → List (ℕ × List ℕ) →
-    List (ℕ × List ℕ) → List (ℕ × List ℕ)
+abbrev pub next_version_tables : KeyOrder → State → List (ℕ × List ℕ) → List (ℕ × List ℕ) →
+    List (ℕ × List ℕ)
 next_version_tables cmp next outputs tables =
     map (λ (n : ℕ). (n, table_bytes_of (outputs ++ tables) n)) (file_numbers cmp next)
 
 -- The outputs and the bytes of an edit make the next version of this one, by a manifest of this
 -- number.
-pub record IsEditedBy (name : List ℕ) (cmp : List ℕ → List ℕ → Ordering) (order : Order) (v : State)
-    (number : ℕ)
+pub record IsEditedBy (name : List ℕ) (cmp : KeyOrder) (order : Order) (v : State) (number : ℕ)
     (outputs : List (ℕ × List ℕ)) (bytes : List ℕ) (next : State) : Type 0 where
   pub named : order_name order ≡ name
   -- the edit, which names no comparator and sets all counters of a database
@@ -104,23 +104,22 @@ pub record IsEditedBy (name : List ℕ) (cmp : List ℕ → List ℕ → Orderin
   pub manifest_below : number < next_free
 
 -- files that read as the version before or as the next one
-abbrev pub IsBeforeOrAfter : (List ℕ → List ℕ → Ordering) → Order → State → List (ℕ × List ℕ) →
-    State → List (ℕ × List ℕ) → Files → Type 0
+abbrev pub IsBeforeOrAfter : KeyOrder → Order → State → List (ℕ × List ℕ) → State →
+    List (ℕ × List ℕ) → Files → Type 0
 IsBeforeOrAfter cmp order v tables next tables' files = ReadsAs cmp order v tables files
     ⊎ ReadsAs cmp order next tables' files
 
 -- After these calls from the start, the folder stands for the version and its tables.
-abbrev pub AlwaysStandsAs : (List ℕ → List ℕ → Ordering) → Order → State → List (ℕ × List ℕ) →
-    World → List Step → Type 0
+abbrev pub AlwaysStandsAs : KeyOrder → Order → State → List (ℕ × List ℕ) → World → List Step →
+    Type 0
 AlwaysStandsAs cmp order v tables start calls = (w : World) → Leads start calls w →
     StandsAs cmp order v tables w
 
 -- What an installation of the next version guarantees, of its calls and of what the folder tells
 -- before and after them.
-pub record SurvivesCrash {T E : Type 0} (cmp : List ℕ → List ℕ → Ordering) (order : Order)
-    (v : State) (tables : List (ℕ × List ℕ)) (next : State) (tables' : List (ℕ × List ℕ))
-    (before after : List Step) (old new : List ℕ → Option (List ℕ) → Type 0) (result : Result T E)
-    : Type 0 where
+pub record SurvivesCrash {T E : Type 0} (cmp : KeyOrder) (order : Order) (v : State)
+    (tables : List (ℕ × List ℕ)) (next : State) (tables' : List (ℕ × List ℕ))
+    (before after : List Step) (old new : ToldFiles) (result : Result T E) : Type 0 where
   -- if the folder stands for the version, a crash at any moment leaves it or the next version
   pub any_moment : (start : World) → AlwaysStandsAs cmp order v tables start before →
       LeavesOnly start before after (IsBeforeOrAfter cmp order v tables next tables')

@@ -1,6 +1,6 @@
 -- Entries before a range take no part in it.
-use Rattle.std.specs.Prelude.{◌≡◌, ℕ, false, List}
-use Rattle.std.specs.declared.cmp.Ordering.{Ordering}
+use Rattle.std.specs.Prelude.{◌≡◌, false, List}
+use Rattle.ikey.specs.Comparator.{KeyOrder}
 use Rattle.block.specs.EncodedEntry.{Entry}
 use Rattle.split.specs.Ranges.{KeyRange}
 use Rattle.keep.specs.Left.{is_before, EachLosesOnly}
@@ -8,7 +8,7 @@ use Rattle.keep.specs.Marks.{CompactionContext}
 use Rattle.keep.specs.Runs.{range_run}
 
 -- lists that lost some entries before a range have the run of it that they had
-abbrev pub BegunLaw : (List ℕ → List ℕ → Ordering) → Type 0
+abbrev pub BegunLaw : KeyOrder → Type 0
 BegunLaw cmp =
     (b : CompactionContext) (range : KeyRange) (olds news : List (List Entry)) →
     EachLosesOnly (is_before cmp range.lower false) olds news → range_run cmp b news range

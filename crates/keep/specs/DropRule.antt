@@ -3,10 +3,10 @@ use Rattle.std.specs.Prelude.{ℕ, nat_lt, nat_le, Bool, true, false, not, ◌&&
 use Rattle.std.specs.Prelude.{[], ◌∷◌, ◌++◌, Option, Some, None}
 use Rattle.std.specs.List.{list_any, list_all}
 use Rattle.std.specs.Str.{bytes_eq}
-use Rattle.std.specs.declared.cmp.Ordering.{Ordering}
 use Rattle.ikey.specs.declared.kind.Kind.{Kind}
 use Rattle.ikey.specs.declared.kind.Kind.TheVariants.{Delete, Put}
 use Rattle.ikey.specs.Key.{user_of, sequence_of, kind_of}
+use Rattle.ikey.specs.Comparator.{KeyOrder}
 use Rattle.block.specs.EncodedEntry.{Entry}
 use Rattle.edit.specs.declared.meta.FileMeta.{FileMeta}
 use Rattle.pick.specs.Ranges.{is_in_none}
@@ -31,29 +31,26 @@ is_snapshot_between newer older at = nat_le (sequence_of older.key) at
 -- the floor, and no listed sequence is below that and at or above the entry's own.
 abbrev pub is_hidden : Readable → Option Entry → Entry → Bool
 is_hidden r None e = false
-is_hidden r (Some newer) e =
-    is_same_user newer e && nat_le (sequence_of newer.key) r.floor
+is_hidden r (Some newer) e = is_same_user newer e && nat_le (sequence_of newer.key) r.floor
     && not (list_any (is_snapshot_between newer e) r.listed)
 
 -- Whether an entry is a deletion that nothing needs: its sequence is at or below the floor and each
 -- listed one, so each readable sequence sees it; and no deeper file's range holds its user key.
-abbrev pub is_obsolete : (List ℕ → List ℕ → Ordering) → Readable → List FileMeta → Entry → Bool
-is_obsolete cmp r deeper e =
-    is_deletion (kind_of e.key) && nat_le (sequence_of e.key) r.floor
+abbrev pub is_obsolete : KeyOrder → Readable → List FileMeta → Entry → Bool
+is_obsolete cmp r deeper e = is_deletion (kind_of e.key) && nat_le (sequence_of e.key) r.floor
     && list_all (nat_le (sequence_of e.key)) r.listed && is_in_none cmp deeper (user_of e.key)
 
 -- whether a compaction keeps an entry of the union, with `before` as the previous one
-abbrev pub keeps : (List ℕ → List ℕ → Ordering) → Readable → List FileMeta → Option Entry → Entry →
-    Bool
+abbrev pub keeps : KeyOrder → Readable → List FileMeta → Option Entry → Entry → Bool
 keeps cmp r deeper before e = not (is_hidden r before e) && not (is_obsolete cmp r deeper e)
 
 -- the kept ones of entries, with `before` as the entry previous to the first
-abbrev pub kept_behind : (List ℕ → List ℕ → Ordering) → Readable → List FileMeta → Option Entry →
-    List Entry → List Entry
+abbrev pub kept_behind : KeyOrder → Readable → List FileMeta → Option Entry → List Entry →
+    List Entry
 kept_behind cmp r deeper before [] = []
 kept_behind cmp r deeper before (e ∷ es) =
     (if keeps cmp r deeper before e then e ∷ [] else []) ++ kept_behind cmp r deeper (Some e) es
 
 -- the entries of the union that a compaction keeps
-abbrev pub kept : (List ℕ → List ℕ → Ordering) → Readable → List FileMeta → List Entry → List Entry
+abbrev pub kept : KeyOrder → Readable → List FileMeta → List Entry → List Entry
 kept cmp r deeper union = kept_behind cmp r deeper None union

@@ -2,23 +2,23 @@
 use Rattle.std.specs.Prelude.{◌≡◌, ◌↔◌, ℕ, Bool, true, not, ◌&&◌, List, filter}
 use Rattle.std.specs.Option.{option_map_or}
 use Rattle.std.specs.Ordering.{is_lt}
-use Rattle.std.specs.declared.cmp.Ordering.{Ordering}
 use Rattle.ikey.specs.Key.{user_of}
+use Rattle.ikey.specs.Comparator.{KeyOrder}
 use Rattle.block.specs.EncodedEntry.{Entry}
 use Rattle.split.specs.Ranges.{KeyRange, IsIn}
 
 -- whether a range holds a user key: it is at or after the lower bound, if there is one, and before
 -- the upper bound, if there is one
-abbrev pub is_in_range : (List ℕ → List ℕ → Ordering) → KeyRange → List ℕ → Bool
+abbrev pub is_in_range : KeyOrder → KeyRange → List ℕ → Bool
 is_in_range cmp range user =
     option_map_or (λ lower. not (is_lt (cmp user lower))) range.lower true
     && option_map_or (λ upper. is_lt (cmp user upper)) range.upper true
 
 -- the entries whose user keys the range holds
-abbrev pub entries_in : (List ℕ → List ℕ → Ordering) → KeyRange → List Entry → List Entry
+abbrev pub entries_in : KeyOrder → KeyRange → List Entry → List Entry
 entries_in cmp range entries = filter (λ e. is_in_range cmp range (user_of e.key)) entries
 
 -- the test holds of just the user keys that a split states of a range
-abbrev pub HoldsLaw : (List ℕ → List ℕ → Ordering) → Type 0
+abbrev pub HoldsLaw : KeyOrder → Type 0
 HoldsLaw cmp = (range : KeyRange) (user : List ℕ) → (is_in_range cmp range user ≡ true)
     ↔ IsIn cmp range user

@@ -4,24 +4,23 @@ use Rattle.std.specs.Prelude.{List, [], ◌∷◌, ◌++◌, map, filter, Option
 use Rattle.std.specs.List.{AllByRecursion}
 use Rattle.std.specs.Option.{option_map_or}
 use Rattle.std.specs.Ordering.{is_lt}
-use Rattle.std.specs.declared.cmp.Ordering.{Ordering}
 use Rattle.ikey.specs.Key.{user_of}
+use Rattle.ikey.specs.Comparator.{KeyOrder}
 use Rattle.block.specs.EncodedEntry.{Entry}
 use Rattle.split.specs.Ranges.{KeyRange}
 
 -- whether an entry's user key is before a bound; `otherwise` if there is no bound
-abbrev pub is_before : (List ℕ → List ℕ → Ordering) → Option (List ℕ) → Bool → Entry → Bool
+abbrev pub is_before : KeyOrder → Option (List ℕ) → Bool → Entry → Bool
 is_before cmp bound otherwise e = option_map_or (λ limit. is_lt (cmp (user_of e.key) limit)) bound
     otherwise
 
 -- whether a walk of a range passes an entry: its user key is before the lower bound or before the
 -- upper one; without an upper bound all are passed
-abbrev pub is_passed : (List ℕ → List ℕ → Ordering) → KeyRange → Entry → Bool
+abbrev pub is_passed : KeyOrder → KeyRange → Entry → Bool
 is_passed cmp range e = is_before cmp range.lower false e || is_before cmp range.upper true e
 
 -- of each list the entries after a range
-abbrev pub each_behind : (List ℕ → List ℕ → Ordering) → KeyRange → List (List Entry) →
-    List (List Entry)
+abbrev pub each_behind : KeyOrder → KeyRange → List (List Entry) → List (List Entry)
 each_behind cmp range lists = map (λ entries. filter (λ e. not (is_passed cmp range e)) entries)
     lists
 

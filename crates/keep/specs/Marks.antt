@@ -2,8 +2,8 @@
 use Rattle.std.specs.Prelude.{ℕ, ◌+◌, nat_eq, Bool, true, not, if◌then◌else◌, List, [], ◌∷◌}
 use Rattle.std.specs.Prelude.{◌++◌, count_by, IsTrue, Option, Some, None}
 use Rattle.std.specs.Ordering.{is_lt}
-use Rattle.std.specs.declared.cmp.Ordering.{Ordering}
 use Rattle.ikey.specs.Order.{internal_cmp}
+use Rattle.ikey.specs.Comparator.{KeyOrder}
 use Rattle.block.specs.EncodedEntry.{Entry}
 use Rattle.edit.specs.declared.meta.FileMeta.{FileMeta}
 use Rattle.pick.specs.declared.picked.Inputs.{Inputs}
@@ -13,17 +13,17 @@ use Rattle.keep.specs.DropRule.{is_same_user, keeps}
 use Rattle.keep.specs.Rising.{rises_by}
 
 -- how many grandparents lie below an internal key: their largest keys are below it
-abbrev pub grandparents_below : (List ℕ → List ℕ → Ordering) → List FileMeta → List ℕ → ℕ
+abbrev pub grandparents_below : KeyOrder → List FileMeta → List ℕ → ℕ
 grandparents_below cmp grandparents key =
     count_by (λ (f : FileMeta). is_lt (internal_cmp cmp f.largest key)) grandparents
 
 -- whether the largest keys of files rise strictly
-abbrev pub largest_rise : (List ℕ → List ℕ → Ordering) → List FileMeta → Bool
+abbrev pub largest_rise : KeyOrder → List FileMeta → Bool
 largest_rise cmp files = rises_by (λ (f g : FileMeta). is_lt (internal_cmp cmp f.largest g.largest))
     files
 
 -- the largest keys of grandparents rise strictly
-abbrev pub LargestRise : (List ℕ → List ℕ → Ordering) → List FileMeta → Type 0
+abbrev pub LargestRise : KeyOrder → List FileMeta → Type 0
 LargestRise cmp grandparents = IsTrue (largest_rise cmp grandparents)
 
 -- what the drop rule and the marks need to know: which sequences stay readable, the deeper files,
@@ -48,19 +48,15 @@ is_first (Some before) e = not (is_same_user before e)
 
 -- A mark at the first entry of each user key, kept or dropped, with `before` as the entry previous
 -- to the first, and n kept entries before it.
-abbrev pub heads_behind : (List ℕ → List ℕ → Ordering) → CompactionContext → Option Entry → ℕ →
-    List Entry → List Mark
+abbrev pub heads_behind : KeyOrder → CompactionContext → Option Entry → ℕ → List Entry → List Mark
 heads_behind cmp b before n [] = []
 heads_behind cmp b before n (e ∷ es) =
-    (if is_first before e then record {
-      below = grandparents_below cmp b.grandparents e.key;
-      kept =
-          n;
-    } ∷ [] else [])
+    let mark : Mark = record { below = grandparents_below cmp b.grandparents e.key; kept = n } in
+    (if is_first before e then mark ∷ [] else [])
     ++ heads_behind cmp b (Some e) (if keeps cmp b.readable b.deeper before e then n + 1 else n) es
 
 -- a mark at the first entry of each user key, kept or dropped
-abbrev pub heads : (List ℕ → List ℕ → Ordering) → CompactionContext → List Entry → List Mark
+abbrev pub heads : KeyOrder → CompactionContext → List Entry → List Mark
 heads cmp b entries = heads_behind cmp b None 0 entries
 
 -- the marks that differ in their number from the mark before, the first being after one with
@@ -77,5 +73,5 @@ changes (m ∷ ms) = m ∷ changes_behind m.below ms
 
 -- The marks of entries: at the first of all, and at the first entry of each user key at which the
 -- number of grandparents below differs from that of the user key before.
-abbrev pub marks : (List ℕ → List ℕ → Ordering) → CompactionContext → List Entry → List Mark
+abbrev pub marks : KeyOrder → CompactionContext → List Entry → List Mark
 marks cmp b entries = changes (heads cmp b entries)

@@ -1,8 +1,8 @@
 -- What a compaction does to the entries of one user key, and that no readable sequence sees it.
 use Rattle.std.specs.Prelude.{◌≡◌, ◌⊎◌, ℕ, ◌≤◌, true, false, List, [], ◌∷◌, ◌++◌, Contains, None}
 use Rattle.std.specs.List.{last_or}
-use Rattle.std.specs.declared.cmp.Ordering.{Ordering}
 use Rattle.ikey.specs.Key.{sequence_of}
+use Rattle.ikey.specs.Comparator.{KeyOrder}
 use Rattle.block.specs.EncodedEntry.{Entry}
 use Rattle.edit.specs.declared.meta.FileMeta.{FileMeta}
 use Rattle.pick.specs.Ranges.{is_in_none}
@@ -16,14 +16,13 @@ Hides r newer older = (at : ℕ) → is_read r at ≡ true → sequence_of older
     sequence_of newer.key ≤ at
 
 -- among the kept ones of `front` is one that hides this entry
-abbrev pub IsUnderKept : (List ℕ → List ℕ → Ordering) → Readable → List FileMeta → List Entry →
-    Entry → Type 0
+abbrev pub IsUnderKept : KeyOrder → Readable → List FileMeta → List Entry → Entry → Type 0
 IsUnderKept cmp r deeper front e = (k : Entry) × Contains (kept cmp r deeper front) k × Hides r k e
 
 -- `front` are the entries up to a dropped one. The last of them or an earlier one is a deletion
 -- that nothing needs, and from that one on to the end of `all` none is kept.
-pub record IsUnderDeletion (cmp : List ℕ → List ℕ → Ordering) (r : Readable)
-    (deeper : List FileMeta) (front all : List Entry) : Type 0 where
+pub record IsUnderDeletion (cmp : KeyOrder) (r : Readable) (deeper : List FileMeta)
+    (front all : List Entry) : Type 0 where
   pub above : List Entry
   pub deletion : Entry
   pub under : List Entry
@@ -32,7 +31,7 @@ pub record IsUnderDeletion (cmp : List ℕ → List ℕ → Ordering) (r : Reada
   pub nothing : kept cmp r deeper all ≡ kept cmp r deeper above
 
 -- one key: under what a dropped entry lies, and that no readable sequence sees what is dropped
-pub record OneKeyLaw (cmp : List ℕ → List ℕ → Ordering) : Type 0 where
+pub record OneKeyLaw (cmp : KeyOrder) : Type 0 where
   -- Take the entries of a user key, the newest first. Each dropped one lies under a kept one that
   -- hides it, or is a dropped deletion with nothing left under it, or lies under such a deletion.
   pub dropped : (r : Readable) (deeper : List FileMeta) (user : List ℕ) (front : List Entry)

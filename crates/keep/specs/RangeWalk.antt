@@ -3,8 +3,8 @@ use Rattle.std.specs.Prelude.{ℕ, nat_eq, nat_lt, nat_le, Bool, false, not, ◌
 use Rattle.std.specs.Prelude.{if◌then◌else◌, List, [], ◌∷◌, ◌++◌, length, Option, Some, None}
 use Rattle.std.specs.List.{list_any}
 use Rattle.std.specs.Option.{is_none}
-use Rattle.std.specs.declared.cmp.Ordering.{Ordering}
 use Rattle.ikey.specs.Key.{user_of, sequence_of}
+use Rattle.ikey.specs.Comparator.{KeyOrder}
 use Rattle.block.specs.EncodedEntry.{Entry}
 use Rattle.keep.specs.declared.mark.Mark.{Mark}
 use Rattle.keep.specs.declared.walk.Walk.{Walk}
@@ -31,7 +31,7 @@ is_hidden_by r (Some newer) key = nat_le newer r.floor
 
 -- whether an entry is kept; `newer` is the sequence of the previous entry if it has the same user
 -- key
-abbrev pub keeps_behind : (List ℕ → List ℕ → Ordering) → CompactionContext → Option ℕ → Entry → Bool
+abbrev pub keeps_behind : KeyOrder → CompactionContext → Option ℕ → Entry → Bool
 keeps_behind cmp b newer e = not (is_hidden_by b.readable newer e.key)
     && not (is_obsolete cmp b.readable b.deeper e)
 
@@ -46,8 +46,7 @@ new_marks last passed below kept =
     if sets_mark last passed below then record { below = below; kept = kept } ∷ [] else []
 
 -- the walk after the marks of the first entry of a user key
-abbrev pub walk_after_first : (List ℕ → List ℕ → Ordering) → CompactionContext → Walk → List ℕ →
-    Walk
+abbrev pub walk_after_first : KeyOrder → CompactionContext → Walk → List ℕ → Walk
 walk_after_first cmp b w key = record {
   run = record {
     kept = w.run.kept;
@@ -60,8 +59,7 @@ walk_after_first cmp b w key = record {
 }
 
 -- the walk after an entry's marks: only the first entry of a user key may set one
-abbrev pub walk_after_head : (List ℕ → List ℕ → Ordering) → CompactionContext → Option ℕ → Walk →
-    List ℕ → Walk
+abbrev pub walk_after_head : KeyOrder → CompactionContext → Option ℕ → Walk → List ℕ → Walk
 walk_after_head cmp b None w key = walk_after_first cmp b w key
 walk_after_head cmp b (Some newer) w key = w
 
@@ -77,7 +75,7 @@ walk_after_entry keeps w e = record {
 }
 
 -- the walk after an entry
-abbrev pub walk_after : (List ℕ → List ℕ → Ordering) → CompactionContext → Walk → Entry → Walk
+abbrev pub walk_after : KeyOrder → CompactionContext → Walk → Entry → Walk
 walk_after cmp b w e =
     walk_after_entry (keeps_behind cmp b (newer_of w.last (user_of e.key)) e)
     (walk_after_head cmp b (newer_of w.last (user_of e.key)) w e.key) e

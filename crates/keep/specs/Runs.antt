@@ -3,11 +3,11 @@ use Rattle.std.specs.Prelude.{◌≡◌, ◌↔◌, ℕ, ◌+◌, ◌≤◌, nat
 use Rattle.std.specs.Prelude.{List, [], ◌∷◌, ◌++◌, length, map, flat_map, slice_get, Option, Some}
 use Rattle.std.specs.Prelude.{None, Result, Ok, Err}
 use Rattle.std.specs.List.{list_any, list_all}
-use Rattle.std.specs.declared.cmp.Ordering.{Ordering}
 use Rattle.coding.specs.Answers.{fault}
 use Rattle.coding.specs.declared.fault.Fault.{Fault}
 use Rattle.coding.specs.declared.fault.FaultName.TheVariants.{Duplicate}
 use Rattle.ikey.specs.Key.{sequence_of}
+use Rattle.ikey.specs.Comparator.{KeyOrder}
 use Rattle.block.specs.EncodedEntry.{Entry}
 use Rattle.merge.specs.Merged.{merged}
 use Rattle.merge.specs.Union.{VersionsRise, IsUnion}
@@ -24,7 +24,7 @@ pub record Run : Type 0 where
   pub marks : List Mark
 
 -- the run of entries: the kept ones of them, and their marks
-abbrev pub run_of : (List ℕ → List ℕ → Ordering) → CompactionContext → List Entry → Run
+abbrev pub run_of : KeyOrder → CompactionContext → List Entry → Run
 run_of cmp b entries =
     record { kept = kept cmp b.readable b.deeper entries; marks = marks cmp b entries }
 
@@ -39,8 +39,8 @@ are_distinct (e ∷ es) = not (list_any (is_same_version e) es) && are_distinct 
 
 -- The answer on a range of user keys: Duplicate if it holds one user key and sequence twice, else
 -- the run of the entries that the sorted merge of the inputs has there.
-abbrev pub range_run : (List ℕ → List ℕ → Ordering) → CompactionContext → List (List Entry) →
-    KeyRange → Result Run Fault
+abbrev pub range_run : KeyOrder → CompactionContext → List (List Entry) → KeyRange →
+    Result Run Fault
 range_run cmp b inputs range =
     if are_distinct (entries_in cmp range (merged cmp inputs))
     then Ok (run_of cmp b (entries_in cmp range (merged cmp inputs)))
@@ -69,21 +69,19 @@ abbrev pub ranges_of : List (List ℕ) → List KeyRange
 ranges_of boundaries = ranges_from None boundaries
 
 -- the entries of each range
-abbrev pub entries_by_range : (List ℕ → List ℕ → Ordering) → List (List ℕ) → List Entry →
-    List (List Entry)
+abbrev pub entries_by_range : KeyOrder → List (List ℕ) → List Entry → List (List Entry)
 entries_by_range cmp boundaries entries =
     map (λ range. entries_in cmp range entries) (ranges_of boundaries)
 
 -- the run of each range
-abbrev pub runs_of : (List ℕ → List ℕ → Ordering) → CompactionContext → List (List ℕ) → List Entry →
-    List Run
+abbrev pub runs_of : KeyOrder → CompactionContext → List (List ℕ) → List Entry → List Run
 runs_of cmp b boundaries union = map (run_of cmp b) (entries_by_range cmp boundaries union)
 
 -- Ranges compose, however they are cut between user keys. The kept entries of the ranges in order
 -- are those of the whole union. So are their marks, but a range's first mark may repeat the number
 -- before it. Some range is refused exactly if all inputs together hold one user key and sequence
 -- twice.
-pub record RangesCompose (cmp : List ℕ → List ℕ → Ordering) : Type 0 where
+pub record RangesCompose (cmp : KeyOrder) : Type 0 where
   pub kept : (b : CompactionContext) (boundaries : List (List ℕ)) (union : List Entry) →
       IsSplit cmp boundaries → VersionsRise cmp union →
       (joined_run (runs_of cmp b boundaries union)).kept ≡ (run_of cmp b union).kept
@@ -98,14 +96,14 @@ pub record RangesCompose (cmp : List ℕ → List ℕ → Ordering) : Type 0 whe
       slice_get (ranges_of boundaries) i ≡ Some (range_at boundaries i)
 
 -- inputs have a union exactly if no user key has one sequence twice, and it is their sorted merge
-abbrev pub DistinctLaw : (List ℕ → List ℕ → Ordering) → Type 0
+abbrev pub DistinctLaw : KeyOrder → Type 0
 DistinctLaw cmp =
     (inputs : List (List Entry)) (union : List Entry) →
     IsUnion cmp inputs union
     ↔ ((union ≡ merged cmp inputs) × (are_distinct (merged cmp inputs) ≡ true))
 
 -- what is kept of the entries of a range is what is kept of the whole union there
-abbrev pub KeptInRangeLaw : (List ℕ → List ℕ → Ordering) → Type 0
+abbrev pub KeptInRangeLaw : KeyOrder → Type 0
 KeptInRangeLaw cmp =
     (b : CompactionContext) (range : KeyRange) (union : List Entry) → VersionsRise cmp union →
     (run_of cmp b (entries_in cmp range union)).kept

@@ -1,16 +1,15 @@
 -- A seek of each of several lists.
 use Rattle.std.specs.Prelude.{ℕ, List, [], ◌∷◌, map}
-use Rattle.std.specs.declared.cmp.Ordering.{Ordering}
+use Rattle.ikey.specs.Comparator.{KeyOrder}
 use Rattle.block.specs.EncodedEntry.{Entry}
 use Rattle.table.specs.ReadingCursors.{entries_from, LeavesFrom}
 
 -- of each list the entries from the first one at or above this internal key
-abbrev pub each_from : (List ℕ → List ℕ → Ordering) → List ℕ → List (List Entry) → List (List Entry)
+abbrev pub each_from : KeyOrder → List ℕ → List (List Entry) → List (List Entry)
 each_from cmp target lists = map (entries_from cmp target) lists
 
 -- of each list what a refused seek to this internal key may leave
-abbrev pub EachLeavesFrom : (List ℕ → List ℕ → Ordering) → List ℕ → List (List Entry) →
-    List (List Entry) → Type 0
+abbrev pub EachLeavesFrom : KeyOrder → List ℕ → List (List Entry) → List (List Entry) → Type 0
 EachLeavesFrom cmp target [] [] = Unit {0}
 EachLeavesFrom cmp target [] (new ∷ news) = ⊥
 EachLeavesFrom cmp target (old ∷ olds) [] = ⊥

@@ -5,28 +5,28 @@ use Rattle.std.specs.Prelude.{false, Option, Some, None, nat_lt}
 use Rattle.std.specs.Ordering.{match_ordering}
 use Rattle.std.specs.Option.{option_map}
 use Rattle.std.specs.List.{AllByRecursion}
-use Rattle.std.specs.declared.cmp.Ordering.{Ordering}
 use Rattle.std.specs.declared.cmp.Ordering.TheVariants.{Less, Equal}
 use Rattle.block.specs.EncodedEntry.{Entry}
 use Rattle.ikey.specs.Order.{internal_cmp}
+use Rattle.ikey.specs.Comparator.{KeyOrder}
 use Rattle.table.specs.ReadingCursors.{NeverFalls}
 
 -- The first list wins, or is the other one: its first key is smaller, or equal at a place that
 -- isn't higher. A list without an entry loses against one with an entry.
-abbrev pub IsAhead : (List ℕ → List ℕ → Ordering) → ℕ → List Entry → ℕ → List Entry → Type 0
+abbrev pub IsAhead : KeyOrder → ℕ → List Entry → ℕ → List Entry → Type 0
 IsAhead cmp place list other [] = Unit {0}
 IsAhead cmp place [] other (f ∷ fs) = ⊥
 IsAhead cmp place (e ∷ es) other (f ∷ fs) = (internal_cmp cmp e.key f.key ≡ Less)
     ⊎ ((internal_cmp cmp e.key f.key ≡ Equal) × (place ≤ other))
 
 -- the list at one place wins against that at another, or is it
-abbrev pub Beats : (List ℕ → List ℕ → Ordering) → List (List Entry) → ℕ → ℕ → Type 0
+abbrev pub Beats : KeyOrder → List (List Entry) → ℕ → ℕ → Type 0
 Beats cmp lists place other = IsAhead cmp place (slice_index_or lists place []) other
     (slice_index_or lists other [])
 
 -- the winner of two places
-pub record IsWinner (cmp : List ℕ → List ℕ → Ordering) (lists : List (List Entry))
-    (one other winner : ℕ) : Type 0 where
+pub record IsWinner (cmp : KeyOrder) (lists : List (List Entry)) (one other winner : ℕ)
+    : Type 0 where
   pub either : (winner ≡ one) ⊎ (winner ≡ other)
   pub over_one : Beats cmp lists winner one
   pub over_other : Beats cmp lists winner other
@@ -36,7 +36,7 @@ abbrev pub first_key_at : List (List Entry) → ℕ → Option (List ℕ)
 first_key_at lists place = option_map (λ e. e.key) (slice_get (slice_index_or lists place []) 0)
 
 -- whether a key at a place comes before best at another place; if there is no best, it does
-abbrev pub comes_first : (List ℕ → List ℕ → Ordering) → List ℕ → ℕ → Option (List ℕ) → ℕ → Bool
+abbrev pub comes_first : KeyOrder → List ℕ → ℕ → Option (List ℕ) → ℕ → Bool
 comes_first cmp key place None other = true
 comes_first cmp key place (Some best) other =
     match_ordering (internal_cmp cmp best key) false (nat_lt place other) true
@@ -54,16 +54,16 @@ pub record IsBracket (number : ℕ) (winners : List ℕ) : Type 0 where
   pub leaves : (place : ℕ) → place < number → slice_index winners (number + place) ≡ place
 
 -- each node has the winner of the two below it, except those that are still to be played
-pub record IsPlayed (cmp : List ℕ → List ℕ → Ordering) (lists : List (List Entry))
-    (winners : List ℕ) (IsLeft : ℕ → Type 0) : Type 0 where
+pub record IsPlayed (cmp : KeyOrder) (lists : List (List Entry)) (winners : List ℕ)
+    (IsLeft : ℕ → Type 0) : Type 0 where
   pub played : (node : ℕ) → 0 < node → node < length lists →
       IsLeft node
       ⊎ IsWinner cmp lists (slice_index winners (2 * node)) (slice_index winners (2 * node + 1))
       (slice_index winners node)
 
 -- what the match at a node changes
-pub record IsMatch (cmp : List ℕ → List ℕ → Ordering) (lists : List (List Entry)) (old : List ℕ)
-    (node : ℕ) (new : List ℕ) : Type 0 where
+pub record IsMatch (cmp : KeyOrder) (lists : List (List Entry)) (old : List ℕ) (node : ℕ)
+    (new : List ℕ) : Type 0 where
   pub winner : ℕ
   pub wins : IsWinner cmp lists (slice_index old (2 * node)) (slice_index old (2 * node + 1)) winner
   pub noted : new ≡ set old node winner
@@ -78,8 +78,8 @@ abbrev pub IsAbove : ℕ → ℕ → Type 0
 IsAbove above node = (steps : ℕ) × IsAboveBy steps above node
 
 -- no list falls, and all matches are played
-pub record IsTournament (cmp : List ℕ → List ℕ → Ordering) (lists : List (List Entry))
-    (winners : List ℕ) : Type 0 where
+pub record IsTournament (cmp : KeyOrder) (lists : List (List Entry)) (winners : List ℕ)
+    : Type 0 where
   pub ordered : AllByRecursion (NeverFalls cmp) lists
   pub bracket : IsBracket (length lists) winners
   pub matches : IsPlayed cmp lists winners (λ node. ⊥)

@@ -7,28 +7,28 @@ use Rattle.std.specs.declared.cmp.Ordering.{Ordering}
 use Rattle.std.specs.declared.cmp.Ordering.TheVariants.{Less}
 use Rattle.block.specs.EncodedEntry.{Entry}
 use Rattle.ikey.specs.Key.{user_of, sequence_of}
+use Rattle.ikey.specs.Comparator.{KeyOrder}
 use Rattle.merge.specs.Merged.{entries_of_lists, merged}
 
 -- The order of internal keys without their types: user key rising, then sequence falling. Two keys
 -- of one user key and one sequence are equal in it.
-abbrev pub key_version_cmp : (List ℕ → List ℕ → Ordering) → List ℕ → List ℕ → Ordering
+abbrev pub key_version_cmp : KeyOrder → List ℕ → List ℕ → Ordering
 key_version_cmp cmp a b =
     ordering_then (cmp (user_of a) (user_of b)) (nat_cmp (sequence_of b) (sequence_of a))
 
 -- each entry is before all later ones in that order
-abbrev pub VersionsRise : (List ℕ → List ℕ → Ordering) → List Entry → Type 0
+abbrev pub VersionsRise : KeyOrder → List Entry → Type 0
 VersionsRise cmp [] = Unit {0}
 VersionsRise cmp (e ∷ es) = AllByRecursion (λ f. key_version_cmp cmp e.key f.key ≡ Less) es
     × VersionsRise cmp es
 
 -- The union of inputs: the one strictly sorted list of exactly their entries. There is none if a
 -- user key has one sequence twice.
-pub record IsUnion (cmp : List ℕ → List ℕ → Ordering) (inputs : List (List Entry))
-    (union : List Entry) : Type 0 where
+pub record IsUnion (cmp : KeyOrder) (inputs : List (List Entry)) (union : List Entry) : Type 0 where
   pub rising : VersionsRise cmp union
   pub same : IsPermutation (entries_of_lists inputs) union
 
 -- a list is the union of the inputs exactly if it is their sorted merge and rises strictly
-abbrev pub UnionLaw : (List ℕ → List ℕ → Ordering) → Type 0
+abbrev pub UnionLaw : KeyOrder → Type 0
 UnionLaw cmp = (inputs : List (List Entry)) (union : List Entry) → IsUnion cmp inputs union
     ↔ ((union ≡ merged cmp inputs) × VersionsRise cmp union)

@@ -24,9 +24,8 @@ use Rattle.table.specs.ReadingCursors.{NeverFalls}
 use Rattle.merge.specs.Merged.{entries_with, sorted_entries, entries_of_lists, merged}
 use Rattle.merge.specs.Union.{VersionsRise}
 use Rattle.merge.proofs.SortedEntries.{sorted_never_falls, all_sorted}
-use Rattle.pairing.specs.TestedUnion.{tested_entries, is_behind, distinct_after, union_of, IsLimited}
+use Rattle.pairing.specs.TestedUnion.{IsLimited, distinct_after, is_behind, last_key_or, tested_entries, union_of}
 use Rattle.pairing.specs.Repeats.{HasRepeat}
-use Rattle.pairing.specs.EntryTests.{last_key_or}
 use Rattle.pairing.specs.declared.tested.TestedEntry.{TestedEntry}
 use Rattle.pairing.proofs.TestedLists.{with_front, regroup, last_key-push}
 use Rattle.pairing.proofs.Unions.{version_total, all_append, all_weaker, guard, Below}

@@ -8,13 +8,15 @@ use Rattle.coding.proofs.Binds.{bind_ok, done, ok_is}
 use Rattle.coding.specs.Answers.{EqualOrMemory, fault, ◌>>=◌}
 use Rattle.coding.specs.declared.fault.Fault.{Fault}
 use Rattle.coding.specs.declared.fault.FaultName.TheVariants.{Key, TooLarge, Order}
+use Rattle.ikey.specs.Bytewise.{bytewise_cmp}
 use Rattle.ikey.specs.Key.{tag_of, internal_key_reading}
+use Rattle.table.specs.ReadingEntries.{is_above}
 use Rattle.std.specs.Prelude.{IfOk}
 use Rattle.std.specs.Global.{Vec}
 use Rattle.block.specs.EncodedEntry.{Entry, IsBlock}
-use Rattle.pairing.specs.TestedUnion.{tested_entries}
+use Rattle.pairing.specs.TestedUnion.{last_key_or, tested_entries}
 use Rattle.pairing.specs.declared.tested.TestedEntry.{TestedEntry}
-use Rattle.pairing.specs.EntryTests.{file_entry_test, is_above_bytewise, tested_after, last_key_or}
+use Rattle.pairing.specs.EntryTests.{file_entry_test, tested_after}
 
 -- what was tested before, and what is still tested
 abbrev pub with_front : List Entry → Result (List Entry) Fault → Result (List Entry) Fault
@@ -99,7 +101,7 @@ pub entry_test_same : (before : Option (List ℕ)) (key value internal : List �
 entry_test_same before key value internal h =
     let a = bind_ok (internal_key_reading key) _ internal h in
     three (nat_lt (length key) 8) (nat_lt 1 (tag_of key % 256)) (nat_lt (65535 + 8) (length key)) (fault Key) (fault Key) (fault TooLarge) key a.0 a.1
-    ∙ two (nat_lt 16777215 (length value)) (is_above_bytewise before key) (fault TooLarge) (fault Order) a.0 internal a.2
+    ∙ two (nat_lt 16777215 (length value)) (is_above bytewise_cmp before key) (fault TooLarge) (fault Order) a.0 internal a.2
 
 -- the entries that were tested are those of the block
 pub found_tested : (bytes : List ℕ) (q : List Entry) (r : Result (Vec TestedEntry) Fault) → IsBlock bytes q → EqualOrMemory (λ v. tested_entries v.items) r (tested_after None q) → IfOk r (λ v. IsBlock bytes (tested_entries v.items))

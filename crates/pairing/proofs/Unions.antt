@@ -27,11 +27,12 @@ use Rattle.ikey.specs.Order.{internal_cmp}
 use Rattle.ikey.proofs.Ordered.{internal_cmp-total}
 use Rattle.merge.specs.Union.{key_version_cmp, IsUnion, VersionsRise}
 use Rattle.table.specs.ReadingCursors.{EntriesRise, NeverFalls}
+use Rattle.table.specs.ReadingEntries.{is_above}
 use Rattle.table.proofs.Orders.{rising_never_falls}
 use Rattle.pairing.specs.Ranges.{IsBefore, IsFrom}
 use Rattle.pairing.specs.TestedUnion.{tested_entry, tested_entries}
 use Rattle.pairing.specs.declared.tested.TestedEntry.{TestedEntry}
-use Rattle.pairing.specs.EntryTests.{file_entry_test, is_above_bytewise, tested_after}
+use Rattle.pairing.specs.EntryTests.{file_entry_test, tested_after}
 use Rattle.coding.proofs.Binds.{bind_ok}
 use Rattle.pairing.proofs.TestedLists.{tested_same}
 
@@ -77,7 +78,7 @@ passed_above false false d e key internal h = absurd cc
 above_before : (before key value internal : List ℕ) → file_entry_test (Some before) key value ≡ Ok internal → internal_cmp bytewise_cmp before key ≡ Less
 above_before before key value internal h =
     let a = bind_ok (internal_key_reading key) _ internal h in
-    guard (internal_cmp bytewise_cmp before key) (passed_above (nat_lt 16777215 (length value)) (is_above_bytewise (Some before) key) (fault TooLarge) (fault Order) a.0 internal a.2)
+    guard (internal_cmp bytewise_cmp before key) (passed_above (nat_lt 16777215 (length value)) (is_above bytewise_cmp (Some before) key) (fault TooLarge) (fault Order) a.0 internal a.2)
 
 rising_after : (before : List ℕ) (q es : List Entry) → tested_after (Some before) q ≡ Ok es → AllByRecursion (Below (internal_cmp bytewise_cmp) before) q × EntriesRise bytewise_cmp q
 rising_after before [] es h = (tt, tt)

@@ -18,19 +18,12 @@ block_within entries =
     if nat_le (length (block INTERVAL entries)) MAX_TABLE_LEN then Ok (block INTERVAL entries)
     else Err (fault TooLarge)
 
--- the bytes are a block: its entries if each passes its tests, else the first test that fails
-abbrev pub IsTestedBlock : List ℕ → Result (List Entry) Fault → Type 0
-IsTestedBlock bytes answer = (entries : List Entry)
-    × (IsBlock bytes entries × (answer ≡ tested_after None entries))
-
--- the bytes aren't a block: Block
-abbrev pub IsNoBlock : List ℕ → Result (List Entry) Fault → Type 0
-IsNoBlock bytes answer = ((entries : List Entry) → IsBlock bytes entries → ⊥)
-    × (answer ≡ Err (fault Block))
-
--- what the tests of a file answer
+-- What the tests of a file answer. If the bytes are a block: its entries if each passes its tests,
+-- else the first test that fails. If they aren't: Block.
 abbrev pub IsFileAnswer : List ℕ → Result (List Entry) Fault → Type 0
-IsFileAnswer bytes answer = IsTestedBlock bytes answer ⊎ IsNoBlock bytes answer
+IsFileAnswer bytes answer =
+    ((entries : List Entry) × (IsBlock bytes entries × (answer ≡ tested_after None entries)))
+    ⊎ (((entries : List Entry) → IsBlock bytes entries → ⊥) × (answer ≡ Err (fault Block)))
 
 -- the union of two files; Duplicate if there is none
 abbrev pub IsUnionAnswer : List Entry → List Entry → Result (List Entry) Fault → Type 0
@@ -44,11 +37,8 @@ counted_block union = block_within union >>= λ bytes. Ok (length union, bytes)
 
 -- What two files answer: A is tested, then B; then their union is taken, and written as a block.
 abbrev pub IsBlocksAnswer : List ℕ → List ℕ → Result (ℕ × List ℕ) Fault → Type 0
-IsBlocksAnswer a b =
-    IsThen (IsFileAnswer a) (λ entries_a.
-    IsThen (IsFileAnswer b) (λ entries_b.
-    IsThen (IsUnionAnswer entries_a entries_b) (λ union answer.
-    answer ≡ counted_block union)))
+IsBlocksAnswer a b = IsThen (IsFileAnswer a) (λ entries_a. IsThen (IsFileAnswer b) (λ entries_b.
+    IsThen (IsUnionAnswer entries_a entries_b) (λ union answer. answer ≡ counted_block union)))
 
 -- Both files read as blocks. The bytes are the block of the union of their entries, and count is
 -- the number of these.

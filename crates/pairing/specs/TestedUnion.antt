@@ -18,6 +18,11 @@ tested_entry t = record { key = t.key; value = t.value.now }
 abbrev pub tested_entries : List TestedEntry → List Entry
 tested_entries ts = map tested_entry ts
 
+-- the key of the last entry; if there is none, the key before
+abbrev pub last_key_or : Option (List ℕ) → List Entry → Option (List ℕ)
+last_key_or before [] = before
+last_key_or before (e ∷ es) = last_key_or (Some e.key) es
+
 -- the value is within its limit
 abbrev pub IsLimited : Entry → Type 0
 IsLimited e = length e.value ≤ MAX_VALUE_LEN

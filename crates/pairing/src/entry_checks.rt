@@ -7,10 +7,10 @@ ghost use Rattle.block.specs.EncodedEntry.{Entry, IsBlock};
 ghost use Rattle.coding.specs.Answers.{EqualOrMemory, HoldsOrMemory, fault};
 ghost use Rattle.coding.specs.declared.fault.FaultName.TheVariants.{Memory};
 ghost use Rattle.pairing.specs.Blocks.{IsFileAnswer};
-ghost use Rattle.pairing.specs.TestedUnion.{tested_entries};
+ghost use Rattle.pairing.specs.TestedUnion.{last_key_or, tested_entries};
 ghost use Rattle.ikey.specs.Bytewise.{bytewise_cmp};
 ghost use Rattle.table.specs.ReadingCursors.{EntriesRise};
-ghost use Rattle.pairing.specs.EntryTests.{file_entry_test, last_key_or, tested_after};
+ghost use Rattle.pairing.specs.EntryTests.{file_entry_test, tested_after};
 
 use crate::tested::TestedEntry;
 use block::{BlockCursor, check};

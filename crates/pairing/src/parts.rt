@@ -10,8 +10,8 @@ ghost use Rattle.coding.specs.declared.fault.FaultName.TheVariants.{Duplicate};
 ghost use Rattle.ikey.specs.Bytewise.{bytewise_cmp};
 ghost use Rattle.table.specs.ReadingCursors.{NeverFalls};
 ghost use Rattle.merge.specs.Merged.{entries_of_lists};
-ghost use Rattle.pairing.specs.TestedUnion.{tested_entries, is_behind, union_of, IsLimited};
-ghost use Rattle.pairing.specs.EntryTests.{last_key_or};
+ghost use Rattle.pairing.specs.TestedUnion.{IsLimited, is_behind, last_key_or, tested_entries};
+ghost use Rattle.pairing.specs.TestedUnion.{union_of};
 
 use crate::entry_checks::{last_of, push_entry};
 use crate::tested::TestedEntry;

@@ -25,7 +25,8 @@ impl<'r, 'a> Labour for TwoRanges<'r, 'a> {
 
     ghost refusal = { λ s job. refusal_at (unions_of s.before s.from) job };
 
-    ghost gives = { λ s job out. HasValue (unions_of s.before s.from) job (tested_entries out.items) };
+    ghost gives = { λ s job out.
+        HasValue (unions_of s.before s.from) job (tested_entries out.items) };
 
     fn work(&self, job: u64) -> Result<Vec<TestedEntry<'a>>, Fault> {
         if job == 0 {

@@ -4,31 +4,27 @@ use Rattle.std.specs.Prelude.{Some, None}
 use Rattle.std.specs.List.{AllByRecursion, slice_get}
 use Rattle.std.specs.Option.{option_or}
 use Rattle.std.specs.Ordering.{is_lt}
-use Rattle.std.specs.declared.cmp.Ordering.{Ordering}
 use Rattle.ikey.specs.Order.{internal_cmp}
+use Rattle.ikey.specs.Comparator.{KeyOrder}
 use Rattle.edit.specs.declared.meta.FileMeta.{FileMeta}
 use Rattle.pick.specs.Ranges.{overlaps}
 
 -- The first file: in version order the first whose largest key is greater than the level's compact
 -- pointer. It is the first of all if there is no pointer or none is greater.
-abbrev pub first_file : (List ℕ → List ℕ → Ordering) → Option (List ℕ) → List FileMeta →
-    Option FileMeta
+abbrev pub first_file : KeyOrder → Option (List ℕ) → List FileMeta → Option FileMeta
 first_file cmp None files = slice_get files 0
-first_file cmp (Some pointer) files =
-    option_or (find (λ (f : FileMeta). is_lt (internal_cmp cmp pointer f.largest)) files)
-    (slice_get files 0)
+first_file cmp (Some pointer) files = option_or
+    (find (λ (f : FileMeta). is_lt (internal_cmp cmp pointer f.largest)) files) (slice_get files 0)
 
 -- The files that pass the test are a closed set: each file whose range overlaps that of the set
 -- passes.
-abbrev pub IsOverlapClosed : (List ℕ → List ℕ → Ordering) → List FileMeta → (FileMeta → Bool) →
-    Type 0
-IsOverlapClosed cmp files test =
-    AllByRecursion (λ (f : FileMeta). overlaps cmp (filter test files) f ≡ true →
-    test f ≡ true) files
+abbrev pub IsOverlapClosed : KeyOrder → List FileMeta → (FileMeta → Bool) → Type 0
+IsOverlapClosed cmp files test = AllByRecursion
+    (λ (f : FileMeta). overlaps cmp (filter test files) f ≡ true → test f ≡ true) files
 
 -- The least closed set of files that holds the first file, in version order.
-pub record IsLeastClosed (cmp : List ℕ → List ℕ → Ordering) (files : List FileMeta)
-    (first : FileMeta) (chosen : List FileMeta) : Type 0 where
+pub record IsLeastClosed (cmp : KeyOrder) (files : List FileMeta) (first : FileMeta)
+    (chosen : List FileMeta) : Type 0 where
   pub test : FileMeta → Bool
   pub passed : chosen ≡ filter test files
   pub holds_first : test first ≡ true
@@ -38,7 +34,6 @@ pub record IsLeastClosed (cmp : List ℕ → List ℕ → Ordering) (files : Lis
 
 -- The files chosen before boundary files are added: at level 0, where ranges overlap, the least
 -- closed set that holds the first file; at each other level the first file alone.
-abbrev pub AreChosen : (List ℕ → List ℕ → Ordering) → ℕ → List FileMeta → FileMeta → List FileMeta →
-    Type 0
+abbrev pub AreChosen : KeyOrder → ℕ → List FileMeta → FileMeta → List FileMeta → Type 0
 AreChosen cmp zero files first chosen = IsLeastClosed cmp files first chosen
 AreChosen cmp (suc _) files first chosen = chosen ≡ first ∷ []

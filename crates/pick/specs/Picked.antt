@@ -1,10 +1,10 @@
 -- The inputs of a compaction.
 use Rattle.std.specs.Prelude.{◌≡◌, ℕ, zero, suc, ◌+◌, ◌-◌, nat_lt, if◌then◌else◌, List, [], ◌++◌}
 use Rattle.std.specs.Prelude.{length, map, filter, Some, Result, Err, MatchBool, IsOkAnd}
-use Rattle.std.specs.declared.cmp.Ordering.{Ordering}
 use Rattle.coding.specs.Answers.{fault}
 use Rattle.coding.specs.declared.fault.Fault.{Fault}
 use Rattle.coding.specs.declared.fault.FaultName.TheVariants.{NoInput, Level}
+use Rattle.ikey.specs.Comparator.{KeyOrder}
 use Rattle.edit.specs.Version.{State, pointer_of}
 use Rattle.edit.specs.VersionOrder.{level_files}
 use Rattle.edit.specs.declared.meta.FileMeta.{FileMeta}
@@ -38,20 +38,18 @@ abbrev pub input_at : ℕ → FileMeta → InputFile
 input_at level f = record { level = level; meta = f }
 
 -- the files of n levels from this one on, by level and in version order
-unfoldable pub files_from : (List ℕ → List ℕ → Ordering) → State → ℕ → ℕ → List FileMeta
+unfoldable pub files_from : KeyOrder → State → ℕ → ℕ → List FileMeta
 files_from cmp v level zero = []
 files_from cmp v level (suc n) = level_files cmp v level ++ files_from cmp v (level + 1) n
 
 -- The grandparents: the files of level + 2 whose range overlaps that of all inputs. There are none
 -- if level + 2 exceeds 6.
-abbrev pub grandparents_of : (List ℕ → List ℕ → Ordering) → State → ℕ → List FileMeta →
-    List FileMeta
-grandparents_of cmp v level all = if nat_lt 6 (level + 2) then [] else filter (overlaps cmp all)
-    (level_files cmp v (level + 2))
+abbrev pub grandparents_of : KeyOrder → State → ℕ → List FileMeta → List FileMeta
+grandparents_of cmp v level all =
+    if nat_lt 6 (level + 2) then [] else filter (overlaps cmp all) (level_files cmp v (level + 2))
 
 -- The inputs of the level itself: the first file, what is chosen with it, and the boundary files.
-pub record AreUpper (cmp : List ℕ → List ℕ → Ordering) (v : State) (level : ℕ)
-    (upper : List FileMeta) : Type 0 where
+pub record AreUpper (cmp : KeyOrder) (v : State) (level : ℕ) (upper : List FileMeta) : Type 0 where
   pub first : FileMeta
   pub is_first : first_file cmp (pointer_of v level) (level_files cmp v level) ≡ Some first
   pub chosen : List FileMeta
@@ -60,18 +58,15 @@ pub record AreUpper (cmp : List ℕ → List ℕ → Ordering) (v : State) (leve
 
 -- The inputs of level + 1: the files whose range overlaps that of the inputs above, and their
 -- boundary files.
-abbrev pub AreLower : (List ℕ → List ℕ → Ordering) → State → ℕ → List FileMeta → List FileMeta →
-    Type 0
-AreLower cmp v level upper lower =
-    AreWithBoundaries cmp (level_files cmp v level)
+abbrev pub AreLower : KeyOrder → State → ℕ → List FileMeta → List FileMeta → Type 0
+AreLower cmp v level upper lower = AreWithBoundaries cmp (level_files cmp v level)
     (filter (overlaps cmp upper) (level_files cmp v level)) lower
 
 -- The inputs of a compaction:
 -- - its files of the level, then those of level + 1;
 -- - the grandparents, and all files from level + 2 on;
 -- - as new compact pointer, the largest key of its files of the level.
-pub record IsPicked (cmp : List ℕ → List ℕ → Ordering) (v : State) (level : ℕ) (p : PickedInputs)
-    : Type 0 where
+pub record IsPicked (cmp : KeyOrder) (v : State) (level : ℕ) (p : PickedInputs) : Type 0 where
   pub upper : List FileMeta
   pub are_upper : AreUpper cmp v level upper
   pub lower : List FileMeta
@@ -84,15 +79,12 @@ pub record IsPicked (cmp : List ℕ → List ℕ → Ordering) (v : State) (leve
   pub pointer_key : largest_key cmp upper ≡ Some p.pointer.key
 
 -- The answer for a level: Level if it is above 5; else NoInput if it has no file; else its inputs.
-abbrev pub IsInputsAnswer : (List ℕ → List ℕ → Ordering) → State → ℕ → Result PickedInputs Fault →
-    Type 0
-IsInputsAnswer cmp v level answer =
-    MatchBool (nat_lt 5 level) (answer ≡ Err (fault Level))
+abbrev pub IsInputsAnswer : KeyOrder → State → ℕ → Result PickedInputs Fault → Type 0
+IsInputsAnswer cmp v level answer = MatchBool (nat_lt 5 level) (answer ≡ Err (fault Level))
     (MatchBool (nat_lt 0 (length (level_files cmp v level)))
-    (IsOkAnd answer (IsPicked cmp v level))
-    (answer ≡ Err (fault NoInput)))
+    (IsOkAnd answer (IsPicked cmp v level)) (answer ≡ Err (fault NoInput)))
 
 -- a level of a version has at most one choice of inputs
-abbrev pub HasOneChoice : (List ℕ → List ℕ → Ordering) → Type 0
+abbrev pub HasOneChoice : KeyOrder → Type 0
 HasOneChoice cmp = (v : State) (level : ℕ) (p q : PickedInputs) → IsPicked cmp v level p →
     IsPicked cmp v level q → p ≡ q

@@ -10,6 +10,7 @@ use Rattle.std.specs.declared.cmp.Ordering.{Ordering}
 use Rattle.std.specs.Str.{bytes_eq}
 use Rattle.ikey.specs.Key.{user_of, sequence_of}
 use Rattle.ikey.specs.Order.{internal_cmp}
+use Rattle.ikey.specs.Comparator.{KeyOrder}
 use Rattle.table.specs.TableContents.{Contents, contents_reading}
 use Rattle.table.specs.ReadingCursors.{EntriesRise}
 use Rattle.split.specs.Ranges.{KeyRange}
@@ -26,11 +27,11 @@ abbrev pub level_file_in : LevelFile → NewFile
 level_file_in f = record { level = f.level; meta = f.meta.now }
 
 -- whether a user key is at or after a range's lower bound, if it has one
-abbrev pub is_from : (List ℕ → List ℕ → Ordering) → KeyRange → List ℕ → Bool
+abbrev pub is_from : KeyOrder → KeyRange → List ℕ → Bool
 is_from cmp range user = option_map_or (λ lower. not (is_lt (cmp user lower))) range.lower true
 
 -- whether a user key is before a range's upper bound, if it has one
-abbrev pub is_before_end : (List ℕ → List ℕ → Ordering) → KeyRange → List ℕ → Bool
+abbrev pub is_before_end : KeyOrder → KeyRange → List ℕ → Bool
 is_before_end cmp range user = option_map_or (λ upper. is_lt (cmp user upper)) range.upper true
 
 -- Whether the next key in a merge breaks the order after the last one: it has the same user key,
@@ -51,8 +52,8 @@ matches_metadata next f size smallest largest =
     is_below next f.number && has_bounds f size smallest largest
 
 -- a file's table is what the version states, and its number is below next file
-pub record IsStatedFile (cmp : List ℕ → List ℕ → Ordering) (tables : List NumberedContents)
-    (next : Option ℕ) (f : FileMeta) : Type 0 where
+pub record IsStatedFile (cmp : KeyOrder) (tables : List NumberedContents) (next : Option ℕ)
+    (f : FileMeta) : Type 0 where
   pub table : Contents
   pub there : table_of_number tables f.number ≡ Some table
   pub accepted : contents_reading cmp table.bytes ≡ Ok table
@@ -64,8 +65,8 @@ pub record IsStatedFile (cmp : List ℕ → List ℕ → Ordering) (tables : Lis
   pub below_next : IsBelowNextFile next f.number
 
 -- what is asked of each file alone
-pub record IsSoundFile (cmp : List ℕ → List ℕ → Ordering) (tables : List NumberedContents)
-    (next : Option ℕ) (f : FileMeta) : Type 0 where
+pub record IsSoundFile (cmp : KeyOrder) (tables : List NumberedContents) (next : Option ℕ)
+    (f : FileMeta) : Type 0 where
   pub file : IsFileOf cmp tables f
   pub below_next : IsBelowNextFile next f.number
   pub distinct : AllPairs AreDistinct (table_entries tables f.number)
@@ -73,7 +74,7 @@ pub record IsSoundFile (cmp : List ℕ → List ℕ → Ordering) (tables : List
 -- Whether a file comes before another. It is at a shallower level; or both are at level 0, and it
 -- has the higher number; or both are at one level from 1 on, and its range of internal keys is
 -- below that of the other.
-abbrev pub stands_before : (List ℕ → List ℕ → Ordering) → NewFile → NewFile → Bool
+abbrev pub stands_before : KeyOrder → NewFile → NewFile → Bool
 stands_before cmp f g =
     nat_lt f.level g.level
     || (nat_eq f.level g.level
@@ -97,21 +98,21 @@ rank_of f = if nat_eq f.level 0 then f.meta.number else 0
 
 -- The order of files, newer entries first: by level, at level 0 by falling number, at each other
 -- level by smallest key.
-abbrev pub standing_cmp : (List ℕ → List ℕ → Ordering) → NewFile → NewFile → Ordering
+abbrev pub standing_cmp : KeyOrder → NewFile → NewFile → Ordering
 standing_cmp cmp f g =
     ordering_then (nat_cmp f.level g.level)
     (ordering_then (nat_cmp (rank_of g) (rank_of f))
     (internal_cmp cmp f.meta.smallest g.meta.smallest))
 
 -- the listed files are all files of a version, in that order
-pub record AreListed (cmp : List ℕ → List ℕ → Ordering) (files : List NewFile)
-    (listed : List LevelFile) : Type 0 where
+pub record AreListed (cmp : KeyOrder) (files : List NewFile) (listed : List LevelFile)
+    : Type 0 where
   pub all : AreAll files (map level_file_in listed)
   pub sorted : IsSortedBy (λ f g. is_lt (standing_cmp cmp (level_file_in f) (level_file_in g)))
       listed
 
 -- each file comes before the next one
-abbrev pub AreInTurn : (List ℕ → List ℕ → Ordering) → List LevelFile → Type 0
+abbrev pub AreInTurn : KeyOrder → List LevelFile → Type 0
 AreInTurn cmp listed = (k : ℕ) (d : LevelFile) → k + 1 < length listed →
     stands_before cmp (level_file_in (slice_index_or listed k d))
     (level_file_in (slice_index_or listed (k + 1) d)) ≡ true

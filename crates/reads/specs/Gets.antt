@@ -37,6 +37,5 @@ value_in e = value_by (kind_of e.key) e.value
 -- version with a sequence of at most that, the value of the one of the greatest sequence. None if
 -- that is a deletion, or if there is no such entry.
 abbrev pub get_of : State → List NumberedContents → List ℕ → ℕ → Option (List ℕ)
-get_of v tables user at =
-    option_and_then value_in
+get_of v tables user at = option_and_then value_in
     (newest_entry (filter (is_visible user at) (all_entries tables v.files)))

@@ -3,13 +3,13 @@ use Rattle.std.specs.Prelude.{◌≡◌, ◌≢◌, ◌⊎◌, ℕ, ◌-◌, ◌
 use Rattle.std.specs.Prelude.{Some, None, Ok, Err, Contains, AllPairs}
 use Rattle.std.specs.List.{All}
 use Rattle.std.specs.Option.{option_map}
-use Rattle.std.specs.declared.cmp.Ordering.{Ordering}
 use Rattle.std.specs.declared.cmp.Ordering.TheVariants.{Less}
 use Rattle.coding.specs.Answers.{fault}
 use Rattle.coding.specs.declared.fault.Fault.{Fault}
 use Rattle.coding.specs.declared.fault.FaultName.TheVariants.{Lawless}
 use Rattle.ikey.specs.Key.{IsInternalKey, user_of, sequence_of}
 use Rattle.ikey.specs.Order.{internal_cmp}
+use Rattle.ikey.specs.Comparator.{KeyOrder}
 use Rattle.block.specs.EncodedEntry.{Entry}
 use Rattle.table.specs.TableContents.{Contents, contents_reading}
 use Rattle.table.specs.ReadingCursors.{EntriesRise}
@@ -21,8 +21,7 @@ use Rattle.reads.specs.Tables.{tables_test}
 
 -- A file's table is there and accepted: its bytes read as just that table, and its internal keys
 -- rise strictly. Its length, first and last key are those that the version states.
-pub record IsFileOf (cmp : List ℕ → List ℕ → Ordering) (tables : List NumberedContents)
-    (f : FileMeta) : Type 0 where
+pub record IsFileOf (cmp : KeyOrder) (tables : List NumberedContents) (f : FileMeta) : Type 0 where
   pub table : Contents
   pub there : table_of_number tables f.number ≡ Some table
   pub accepted : contents_reading cmp table.bytes ≡ Ok table
@@ -39,7 +38,7 @@ IsBelowNextFile None number = ⊥
 IsBelowNextFile (Some next) number = number < next
 
 -- the ranges of internal keys of two files are disjoint
-abbrev pub AreDisjoint : (List ℕ → List ℕ → Ordering) → FileMeta → FileMeta → Type 0
+abbrev pub AreDisjoint : KeyOrder → FileMeta → FileMeta → Type 0
 AreDisjoint cmp f g = (internal_cmp cmp f.largest g.smallest ≡ Less)
     ⊎ (internal_cmp cmp g.largest f.smallest ≡ Less)
 
@@ -65,21 +64,17 @@ StandsAbove f g = (f.level < g.level)
 -- - no user key has one sequence twice in all tables;
 -- - of one user key, the entries of a file have greater sequences than those of each file that it
 --   is above.
-pub record IsLawful (cmp : List ℕ → List ℕ → Ordering) (v : State) (tables : List NumberedContents)
-    : Type 0 where
+pub record IsLawful (cmp : KeyOrder) (v : State) (tables : List NumberedContents) : Type 0 where
   pub files : All (λ f. IsFileOf cmp tables f.meta) v.files
   pub apart : are_apart v.files ≡ true
   pub below_next : All (λ f. IsBelowNextFile v.next_file f.meta.number) v.files
   pub disjoint : (f g : NewFile) → Contains v.files f → Contains v.files g → f.level ≡ g.level →
-      0 < f.level
-      → f.meta.number ≢ g.meta.number → AreDisjoint cmp f.meta g.meta
+      0 < f.level → f.meta.number ≢ g.meta.number → AreDisjoint cmp f.meta g.meta
   pub sequences_once : AllPairs AreDistinct (all_entries tables v.files)
   pub newer_above : (f g : NewFile) → Contains v.files f → Contains v.files g → StandsAbove f g
       → AreNewer (table_entries tables f.meta.number) (table_entries tables g.meta.number)
 
 -- why a version is refused: Missing if a file has no table, else Lawless if it isn't lawful
-abbrev pub IsUnlawful : (List ℕ → List ℕ → Ordering) → State → List NumberedContents → Fault →
-    Type 0
-IsUnlawful cmp v tables e =
-    (tables_test tables v.files ≡ Err e)
+abbrev pub IsUnlawful : KeyOrder → State → List NumberedContents → Fault → Type 0
+IsUnlawful cmp v tables e = (tables_test tables v.files ≡ Err e)
     ⊎ ((tables_test tables v.files ≡ Ok tt) × (e ≡ fault Lawless) × (IsLawful cmp v tables → ⊥))

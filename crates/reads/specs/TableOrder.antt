@@ -1,8 +1,8 @@
 -- The order of a version's tables, and entries that fall.
 use Rattle.std.specs.Prelude.{◌≡◌, ◌↔◌, ℕ, ◌<◌, List, Ok, AllPairs}
 use Rattle.std.specs.List.{All}
-use Rattle.std.specs.declared.cmp.Ordering.{Ordering}
 use Rattle.ikey.specs.Key.{IsInternalKey, user_of, sequence_of}
+use Rattle.ikey.specs.Comparator.{KeyOrder}
 use Rattle.block.specs.EncodedEntry.{Entry}
 use Rattle.merge.specs.Merged.{entries_of_lists}
 use Rattle.edit.specs.Version.{State}
@@ -29,8 +29,7 @@ pub record AreFallingIn (P : List ℕ → Type 0) (entries : List Entry) : Type 
 
 -- The entries of a version's tables, those with newer entries first, and each table is what the
 -- version states. So the version is lawful exactly if of each user key the sequences fall.
-pub record AreStanding (cmp : List ℕ → List ℕ →
-    Ordering) (v : State) (tables : List NumberedContents) (lists : List (List Entry)) : Type 0
-  where
-    pub there : tables_test tables v.files ≡ Ok tt
-    pub lawful : IsLawful cmp v tables ↔ AreFalling (entries_of_lists lists)
+pub record AreStanding (cmp : KeyOrder) (v : State) (tables : List NumberedContents)
+    (lists : List (List Entry)) : Type 0 where
+  pub there : tables_test tables v.files ≡ Ok tt
+  pub lawful : IsLawful cmp v tables ↔ AreFalling (entries_of_lists lists)

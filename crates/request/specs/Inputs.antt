@@ -1,10 +1,10 @@
 -- The tests of the inputs, and their union.
 use Rattle.std.specs.Prelude.{ℕ, ◌+◌, Bool, if◌then◌else◌, List, [], ◌∷◌, length}
 use Rattle.std.specs.Prelude.{Some, Result, Ok, Err}
-use Rattle.std.specs.declared.cmp.Ordering.{Ordering}
 use Rattle.coding.specs.Answers.{fault, ◌>>=◌}
 use Rattle.coding.specs.declared.fault.Fault.{Fault}
 use Rattle.coding.specs.declared.fault.FaultName.TheVariants.{Bounds, Duplicate}
+use Rattle.ikey.specs.Comparator.{KeyOrder}
 use Rattle.block.specs.EncodedEntry.{Entry}
 use Rattle.block.specs.BuilderView.{last_key}
 use Rattle.table.specs.TableContents.{Contents, contents_reading}
@@ -27,8 +27,7 @@ table_matches_metadata f table =
     has_bounds f (length table.bytes) (first_key table.entries) (last_key [] table.entries)
 
 -- the entries of an input's table, or the first test that fails: those of a table, then Bounds
-abbrev pub input_reading : (List ℕ → List ℕ → Ordering) → FileMeta → List ℕ →
-    Result (List Entry) Fault
+abbrev pub input_reading : KeyOrder → FileMeta → List ℕ → Result (List Entry) Fault
 input_reading cmp f bytes = do
   table ← contents_reading cmp bytes
   _ ← test_result (table_matches_metadata f table) Bounds
@@ -36,7 +35,7 @@ input_reading cmp f bytes = do
 
 -- The entries of each input, the first of which is at `place`; or the fault of the first input that
 -- is refused, with its place.
-abbrev pub inputs_reading : (List ℕ → List ℕ → Ordering) → ℕ → List InputFile → List (List ℕ) →
+abbrev pub inputs_reading : KeyOrder → ℕ → List InputFile → List (List ℕ) →
     Result (List (List Entry)) Fault
 inputs_reading cmp place (i ∷ is) (bytes ∷ others) = do
   entries ← result_at_input place (input_reading cmp i.meta bytes)
@@ -45,7 +44,6 @@ inputs_reading cmp place (i ∷ is) (bytes ∷ others) = do
 inputs_reading cmp place _ _ = Ok []
 
 -- the union of the inputs; Duplicate if a user key has one sequence twice
-abbrev pub union_reading : (List ℕ → List ℕ → Ordering) → List (List Entry) →
-    Result (List Entry) Fault
-union_reading cmp inputs = if are_distinct (merged cmp inputs) then Ok (merged cmp inputs) else Err
-    (fault Duplicate)
+abbrev pub union_reading : KeyOrder → List (List Entry) → Result (List Entry) Fault
+union_reading cmp inputs =
+    if are_distinct (merged cmp inputs) then Ok (merged cmp inputs) else Err (fault Duplicate)

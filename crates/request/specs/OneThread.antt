@@ -1,6 +1,5 @@
 -- What one thread answers to a request, and what a compaction answers.
 use Rattle.std.specs.Prelude.{ℕ, nat_le, ◌&&◌, List, Result, Ok}
-use Rattle.std.specs.declared.cmp.Ordering.{Ordering}
 use Rattle.coding.specs.Answers.{◌>>=◌}
 use Rattle.coding.specs.declared.fault.Fault.{Fault}
 use Rattle.coding.specs.declared.fault.FaultName.TheVariants.{Workers}
@@ -13,7 +12,7 @@ use Rattle.request.specs.Request.{RequestView, below_request, request_test}
 use Rattle.request.specs.Inputs.{inputs_reading, union_reading}
 use Rattle.request.specs.EditOf.{edit_of, new_files}
 use Rattle.request.specs.OutputTables.{Output, numbered_tables, outputs_from, outputs_test}
-use Rattle.ikey.specs.Comparator.{ShortKeys}
+use Rattle.ikey.specs.Comparator.{KeyOrder, ShortKeys}
 
 -- the tables with their numbers, and the bytes of the edit
 pub record Answer : Type 0 where
@@ -21,7 +20,7 @@ pub record Answer : Type 0 where
   pub edit : List ℕ
 
 -- how the table of an output is written
-abbrev pub table_for : (List ℕ → List ℕ → Ordering) → ShortKeys → RequestView → List Entry → List ℕ
+abbrev pub table_for : KeyOrder → ShortKeys → RequestView → List Entry → List ℕ
 table_for cmp short_keys r = table cmp short_keys r.options
 
 -- the answer with these outputs: their refusal, or their tables and the bytes of the edit that has
@@ -37,7 +36,7 @@ outputs_answer r outputs = do
 -- What one thread answers: the first refusal of the request, then of the inputs in order, then
 -- Duplicate, then Numbers and TooLarge of the outputs. Else the table of each output with its
 -- number, and the bytes of the edit. It knows neither ranges nor workers.
-abbrev pub one_thread : (List ℕ → List ℕ → Ordering) → ShortKeys → RequestView → Result Answer Fault
+abbrev pub one_thread : KeyOrder → ShortKeys → RequestView → Result Answer Fault
 one_thread cmp short_keys r = do
   _ ← request_test cmp r
   inputs ← inputs_reading cmp 0 r.picked.files r.tables
@@ -48,8 +47,7 @@ one_thread cmp short_keys r = do
 
 -- What a compaction by `workers` workers answers: Workers unless they are from 1 to 64, else what
 -- one thread answers.
-abbrev pub compaction_result : (List ℕ → List ℕ → Ordering) → ShortKeys → ℕ → RequestView →
-    Result Answer Fault
+abbrev pub compaction_result : KeyOrder → ShortKeys → ℕ → RequestView → Result Answer Fault
 compaction_result cmp short_keys workers r = do
   _ ← test_result (nat_le 1 workers && nat_le workers 64) Workers
   one_thread cmp short_keys r

@@ -1,19 +1,19 @@
 -- What a request has that passes its tests.
-use Rattle.std.specs.Prelude.{◌≡◌, ◌≢◌, ◌⊎◌, ℕ, ◌+◌, ◌<◌, ◌≤◌, List, [], length, Ok}
+use Rattle.std.specs.Prelude.{◌≡◌, ◌≢◌, ◌⊎◌, ◌+◌, ◌<◌, ◌≤◌, [], length, Ok}
 use Rattle.std.specs.List.{All}
 use Rattle.std.specs.List.Sorted.{IsStrictlyIncreasing}
-use Rattle.std.specs.declared.cmp.Ordering.{Ordering}
 use Rattle.table.specs.Options.{AreInLimits}
 use Rattle.pick.specs.declared.picked.InputFile.{InputFile}
 use Rattle.keep.specs.Marks.{LargestRise}
 use Rattle.keep.specs.Readable.{listed_of}
 use Rattle.request.specs.Request.{RequestView, request_test}
 use Rattle.ikey.specs.declared.key.TheConstants.{MAX_SEQUENCE}
+use Rattle.ikey.specs.Comparator.{KeyOrder}
 
 -- What a request has that passes its tests: an input, at most 256, and a table for each; a level
 -- from 0 to 5, and inputs of it or of the next; options in their limits. The grandparents' largest
 -- keys and the listed snapshots rise strictly, and the last sequence is below MAX_SEQUENCE.
-pub record IsPassed (cmp : List ℕ → List ℕ → Ordering) (r : RequestView) : Type 0 where
+pub record IsPassed (cmp : KeyOrder) (r : RequestView) : Type 0 where
   pub some : r.picked.files ≢ []
   pub few : length r.picked.files ≤ 256
   pub tables : length r.tables ≡ length r.picked.files
@@ -26,5 +26,5 @@ pub record IsPassed (cmp : List ℕ → List ℕ → Ordering) (r : RequestView)
   pub last_sequence : r.last_sequence < MAX_SEQUENCE
 
 -- each request that passes its tests has all of this
-abbrev pub PassedLaw : (List ℕ → List ℕ → Ordering) → Type 0
+abbrev pub PassedLaw : KeyOrder → Type 0
 PassedLaw cmp = (r : RequestView) → request_test cmp r ≡ Ok tt → IsPassed cmp r

@@ -2,7 +2,6 @@
 use Rattle.std.specs.Prelude.{ℕ, ◌+◌, nat_eq, nat_lt, nat_le, Bool, true, ◌&&◌, ◌||◌}
 use Rattle.std.specs.Prelude.{List, [], ◌∷◌, length, map, Result}
 use Rattle.std.specs.List.{list_all}
-use Rattle.std.specs.declared.cmp.Ordering.{Ordering}
 use Rattle.coding.specs.Answers.{◌>>=◌}
 use Rattle.coding.specs.declared.fault.Fault.{Fault}
 use Rattle.coding.specs.declared.fault.FaultName.TheVariants.{NoInput, Level, Options, Snapshot}
@@ -20,6 +19,7 @@ use Rattle.keep.specs.declared.snapshots.Snapshots.{Snapshots}
 use Rattle.keep.specs.declared.snapshots.Snapshots.TheVariants.{From, Listed}
 use Rattle.request.specs.declared.request.Request.{Request}
 use Rattle.ikey.specs.declared.key.TheConstants.{MAX_SEQUENCE}
+use Rattle.ikey.specs.Comparator.{KeyOrder}
 use Rattle.request.specs.declared.request_conditions.TheConstants.{MAX_SNAPSHOTS}
 
 -- a request as contracts see it: its bytes, not where they are in memory
@@ -62,11 +62,9 @@ has_levels p = nat_le p.level 5
 
 -- whether the options are in their limits, there are at most 256 inputs with a table each, and the
 -- largest keys of the grandparents rise
-abbrev pub has_options : (List ℕ → List ℕ → Ordering) → RequestView → Bool
-has_options cmp r =
-    are_in_limits r.options && nat_le (length r.picked.files) 256
-    && nat_eq (length r.tables) (length r.picked.files)
-    && largest_rise cmp r.picked.grandparents
+abbrev pub has_options : KeyOrder → RequestView → Bool
+has_options cmp r = are_in_limits r.options && nat_le (length r.picked.files) 256
+    && nat_eq (length r.tables) (length r.picked.files) && largest_rise cmp r.picked.grandparents
 
 -- the snapshots that a request names
 abbrev pub named_by : Snapshots → List ℕ
@@ -81,12 +79,11 @@ has_snapshots r = list_all (λ n. nat_lt n MAX_SEQUENCE) (r.last_sequence ∷ na
 -- whether listed snapshots are at most 4,096, rise strictly, and none is above the last sequence
 abbrev pub is_snapshot_list : Snapshots → ℕ → Bool
 is_snapshot_list (From oldest) last = true
-is_snapshot_list (Listed list) last =
-    nat_le (length list.now) MAX_SNAPSHOTS && rises_by nat_lt list.now
-    && list_all (λ n. nat_le n last) list.now
+is_snapshot_list (Listed list) last = nat_le (length list.now) MAX_SNAPSHOTS
+    && rises_by nat_lt list.now && list_all (λ n. nat_le n last) list.now
 
 -- the tests of a request in their order; the first refusal counts
-abbrev pub request_test : (List ℕ → List ℕ → Ordering) → RequestView → Result (Unit {0}) Fault
+abbrev pub request_test : KeyOrder → RequestView → Result (Unit {0}) Fault
 request_test cmp r = do
   _ ← test_result (is_some_list r.picked.files) NoInput
   _ ← test_result (has_levels r.picked) Level

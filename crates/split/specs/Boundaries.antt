@@ -1,14 +1,14 @@
 -- The boundaries between ranges of user keys.
 use Rattle.std.specs.Prelude.{◌≡◌, ℕ, ◌<◌, List, length, AllPairs}
-use Rattle.std.specs.declared.cmp.Ordering.{Ordering}
 use Rattle.std.specs.declared.cmp.Ordering.TheVariants.{Less}
+use Rattle.ikey.specs.Comparator.{KeyOrder}
 use Rattle.split.specs.declared.split.TheConstants.{MAX_RANGES}
 
 -- each key is before all later ones
-abbrev pub KeysRise : (List ℕ → List ℕ → Ordering) → List (List ℕ) → Type 0
+abbrev pub KeysRise : KeyOrder → List (List ℕ) → Type 0
 KeysRise cmp keys = AllPairs (λ key later. cmp key later ≡ Less) keys
 
 -- the boundaries of a split: at most 4,095 user keys that rise strictly
-pub record IsSplit (cmp : List ℕ → List ℕ → Ordering) (boundaries : List (List ℕ)) : Type 0 where
+pub record IsSplit (cmp : KeyOrder) (boundaries : List (List ℕ)) : Type 0 where
   pub few : length boundaries < MAX_RANGES
   pub rising : KeysRise cmp boundaries

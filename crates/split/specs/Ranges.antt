@@ -2,8 +2,8 @@
 use Rattle.std.specs.Prelude.{◌≡◌, ◌≢◌, ℕ, zero, suc, ◌<◌, ◌≤◌, List, length, Option, None}
 use Rattle.std.specs.Prelude.{slice_get}
 use Rattle.std.specs.Option.{option_map, ForSome}
-use Rattle.std.specs.declared.cmp.Ordering.{Ordering}
 use Rattle.std.specs.declared.cmp.Ordering.TheVariants.{Less}
+use Rattle.ikey.specs.Comparator.{KeyOrder}
 use Rattle.split.specs.declared.range.Range.{Range}
 
 -- the first user key that may be in a range, and the first after it
@@ -28,13 +28,12 @@ range_at boundaries i =
     record { lower = boundary_before boundaries i; upper = slice_get boundaries i }
 
 -- the user key is at or after the lower bound, and before the upper bound, if there are these
-pub record IsIn (cmp : List ℕ → List ℕ → Ordering) (range : KeyRange) (key : List ℕ) : Type 0 where
+pub record IsIn (cmp : KeyOrder) (range : KeyRange) (key : List ℕ) : Type 0 where
   pub from : ForSome range.lower (λ lower. cmp key lower ≢ Less)
   pub before : ForSome range.upper (λ upper. cmp key upper ≡ Less)
 
 -- the user key is in exactly one range
-pub record LiesInOne (cmp : List ℕ → List ℕ → Ordering) (boundaries : List (List ℕ)) (key : List ℕ)
-    : Type 0 where
+pub record LiesInOne (cmp : KeyOrder) (boundaries : List (List ℕ)) (key : List ℕ) : Type 0 where
   pub number : ℕ
   pub below : number ≤ length boundaries
   pub within : IsIn cmp (range_at boundaries number) key
@@ -42,7 +41,7 @@ pub record LiesInOne (cmp : List ℕ → List ℕ → Ordering) (boundaries : Li
       other ≡ number
 
 -- the ranges between boundaries hold each user key once, in order
-pub record IsCover (cmp : List ℕ → List ℕ → Ordering) (boundaries : List (List ℕ)) : Type 0 where
+pub record IsCover (cmp : KeyOrder) (boundaries : List (List ℕ)) : Type 0 where
   pub each_once : (key : List ℕ) → LiesInOne cmp boundaries key
   pub in_order : (i j : ℕ) (key later : List ℕ) → i < j → j ≤ length boundaries
       → IsIn cmp (range_at boundaries i) key → IsIn cmp (range_at boundaries j) later →

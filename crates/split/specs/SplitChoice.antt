@@ -1,7 +1,7 @@
 -- The boundaries that are chosen for a wanted number of ranges.
 use Rattle.std.specs.Prelude.{◌≡◌, ℕ, ◌<◌, ◌*◌, ◌/◌, List, length, Some, slice_get, Contains}
 use Rattle.std.specs.List.{flat_map}
-use Rattle.std.specs.declared.cmp.Ordering.{Ordering}
+use Rattle.ikey.specs.Comparator.{KeyOrder}
 use Rattle.table.specs.TableContents.{Contents}
 use Rattle.split.specs.Boundaries.{KeysRise}
 
@@ -10,8 +10,7 @@ abbrev pub index_users_of : List Contents → List (List ℕ)
 index_users_of tables = flat_map (λ table. table.index_users) tables
 
 -- exactly the keys of which the fact holds, each once, in order
-pub record IsListOf (cmp : List ℕ → List ℕ → Ordering) (Fact : List ℕ →
-    Type 0) (keys : List (List ℕ)) : Type 0 where
+pub record IsListOf (cmp : KeyOrder) (Fact : List ℕ → Type 0) (keys : List (List ℕ)) : Type 0 where
   pub rising : KeysRise cmp keys
   pub all : (key : List ℕ) → Fact key → Contains keys key
   pub only : (key : List ℕ) → Contains keys key → Fact key
@@ -26,14 +25,14 @@ IsAtPlaceBelow keys want number key = (j : ℕ) × (0 < j) × (j < number) × Is
 
 -- The boundaries for this many ranges. Take the list of all m user keys, each once and in order.
 -- The boundaries are the keys at the places j * m / want for j from 1 to want - 1, each once.
-pub record IsChoice (cmp : List ℕ → List ℕ → Ordering) (users : List (List ℕ)) (want : ℕ)
-    (boundaries : List (List ℕ)) : Type 0 where
+pub record IsChoice (cmp : KeyOrder) (users : List (List ℕ)) (want : ℕ) (boundaries : List (List ℕ))
+    : Type 0 where
   pub keys : List (List ℕ)
   pub each_once : IsListOf cmp (Contains users) keys
   pub at_places : IsListOf cmp (IsAtPlaceBelow keys want want) boundaries
 
 -- user keys and a wanted number have at most one choice of boundaries
-abbrev pub OneChoiceLaw : (List ℕ → List ℕ → Ordering) → Type 0
+abbrev pub OneChoiceLaw : KeyOrder → Type 0
 OneChoiceLaw cmp =
     (users : List (List ℕ)) (want : ℕ) (boundaries others : List (List ℕ)) →
     IsChoice cmp users want boundaries → IsChoice cmp users want others → boundaries ≡ others

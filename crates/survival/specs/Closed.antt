@@ -3,8 +3,8 @@
 use Rattle.std.specs.Prelude.{◌≡◌, ℕ, ◌+◌, ◌≤◌, ◌<◌, nat_eq, Bool, false, ◌&&◌, List, map, filter}
 use Rattle.std.specs.Prelude.{Contains}
 use Rattle.std.specs.List.{All, list_any}
-use Rattle.std.specs.declared.cmp.Ordering.{Ordering}
 use Rattle.ikey.specs.Key.{user_of}
+use Rattle.ikey.specs.Comparator.{KeyOrder}
 use Rattle.block.specs.EncodedEntry.{Entry}
 use Rattle.edit.specs.Version.{State}
 use Rattle.edit.specs.declared.meta.FileMeta.{FileMeta}
@@ -25,7 +25,7 @@ upper_inputs p =
     map (λ (i : InputFile). i.meta) (filter (λ (i : InputFile). nat_eq i.level p.level) p.files)
 
 -- whether a user key is in the range of files, from the least of their user keys to the greatest
-abbrev pub is_within : (List ℕ → List ℕ → Ordering) → List FileMeta → List ℕ → Bool
+abbrev pub is_within : KeyOrder → List FileMeta → List ℕ → Bool
 is_within cmp files user = begins_by cmp files user && ends_at_or_after cmp files user
 
 -- of each user key, a file's entries are newer than the inputs'
@@ -41,7 +41,7 @@ IsOlderThanInputs tables p f =
     (table_entries tables f.meta.number)) p.files
 
 -- Closed inputs of a compaction of a level:
-pub record AreClosed (cmp : List ℕ → List ℕ → Ordering) (v : State) (tables : List NumberedContents)
+pub record AreClosed (cmp : KeyOrder) (v : State) (tables : List NumberedContents)
     (p : PickedInputs) : Type 0 where
   -- a file of the level that stays has, of the inputs' user keys, only newer entries;
   pub same_level : (f : NewFile) → Contains v.files f → is_input p f.meta.number ≡ false →
@@ -68,7 +68,7 @@ pub record AreClosed (cmp : List ℕ → List ℕ → Ordering) (v : State) (tab
       (table_entries tables f.meta.number)
 
 -- the picked inputs of each lawful version are closed, if its files are at levels up to 6
-abbrev pub ClosedInputs : (List ℕ → List ℕ → Ordering) → Type 0
+abbrev pub ClosedInputs : KeyOrder → Type 0
 ClosedInputs cmp =
     (v : State) (tables : List NumberedContents) (level : ℕ) (p : PickedInputs) →
     IsLawful cmp v tables → All (λ (f : NewFile). f.level ≤ 6) v.files → IsPicked cmp v level p →

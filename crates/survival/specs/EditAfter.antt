@@ -2,7 +2,7 @@
 use Rattle.std.specs.Prelude.{◌≡◌, ℕ, ◌+◌, ◌≤◌, List, [], ◌∷◌, ◌++◌, length, fold, Some}
 use Rattle.std.specs.List.Sorted.{IsPermutation}
 use Rattle.std.specs.Option.{ForSome}
-use Rattle.std.specs.declared.cmp.Ordering.{Ordering}
+use Rattle.ikey.specs.Comparator.{KeyOrder}
 use Rattle.edit.specs.Version.{State, applied, with_file, with_pointer}
 use Rattle.pick.specs.Picked.{IsPicked}
 use Rattle.reads.specs.Lawful.{IsLawful}
@@ -31,7 +31,7 @@ AreNumberedFrom number (w ∷ ws) = (w.number ≡ number) × AreNumberedFrom (nu
 
 -- If the inputs were picked from a lawful version and the outputs are numbered from its next file
 -- on, the edit applies and makes that version. Its files are those that stay, and the outputs.
-pub record EditApplies (cmp : List ℕ → List ℕ → Ordering) : Type 0 where
+pub record EditApplies (cmp : KeyOrder) : Type 0 where
   pub applies : (v : State) (tables : List NumberedContents) (level : ℕ) (r : RequestView)
       (outputs : List Output) →
       IsLawful cmp v tables → IsPicked cmp v level r.picked →

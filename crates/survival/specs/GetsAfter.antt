@@ -2,7 +2,7 @@
 -- answers as before.
 use Rattle.std.specs.Prelude.{◌≡◌, ◌⊎◌, ℕ, ◌≤◌, true, not, List, map, filter, Contains}
 use Rattle.std.specs.List.{All}
-use Rattle.std.specs.declared.cmp.Ordering.{Ordering}
+use Rattle.ikey.specs.Comparator.{KeyOrder}
 use Rattle.block.specs.EncodedEntry.{Entry}
 use Rattle.edit.specs.Version.{State}
 use Rattle.edit.specs.declared.meta.NewFile.{NewFile}
@@ -26,9 +26,9 @@ entries_of_inputs tables p = map (λ (i : InputFile). table_entries tables i.met
 
 -- The files of the version after have the entries of the files that stay, what is kept of the
 -- inputs' union, and no other entries.
-pub record HoldKept (cmp : List ℕ → List ℕ → Ordering) (v : State) (tables : List NumberedContents)
-    (p : PickedInputs) (r : Readable) (union : List Entry)
-    (after : State) (tables_after : List NumberedContents) : Type 0 where
+pub record HoldKept (cmp : KeyOrder) (v : State) (tables : List NumberedContents) (p : PickedInputs)
+    (r : Readable) (union : List Entry) (after : State) (tables_after : List NumberedContents)
+    : Type 0 where
   pub holds_staying : (e : Entry) → Contains (all_entries tables (staying_files v p)) e →
       Contains (all_entries tables_after after.files) e
   pub holds_kept : (e : Entry) → Contains (kept cmp r p.deeper union) e →
@@ -38,7 +38,7 @@ pub record HoldKept (cmp : List ℕ → List ℕ → Ordering) (v : State) (tabl
 
 -- Let the inputs be picked from a lawful version with files at levels up to 6. If the version after
 -- holds what is kept of their union, each get at a sequence that stays readable answers as before.
-abbrev pub GetsAfter : (List ℕ → List ℕ → Ordering) → Type 0
+abbrev pub GetsAfter : KeyOrder → Type 0
 GetsAfter cmp =
     (v : State) (tables : List NumberedContents) (level : ℕ) (p : PickedInputs) (r : Readable)
     (union : List Entry) (after : State) (tables_after : List NumberedContents) →

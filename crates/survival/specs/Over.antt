@@ -3,7 +3,6 @@ use Rattle.std.specs.Prelude.{◌≡◌, ◌≢◌, ℕ, ◌+◌, ◌<◌, ◌�
 use Rattle.std.specs.Prelude.{Ok}
 use Rattle.std.specs.List.{All, AllByRecursion}
 use Rattle.std.specs.Option.{option_map, ForSome}
-use Rattle.std.specs.declared.cmp.Ordering.{Ordering}
 use Rattle.ikey.specs.Key.{IsInternalKey}
 use Rattle.block.specs.EncodedEntry.{Entry}
 use Rattle.table.specs.Checked.{contents_in}
@@ -25,7 +24,7 @@ use Rattle.request.specs.EditOf.{edit_of, new_files}
 use Rattle.request.specs.OneThread.{Answer, one_thread, table_for}
 use Rattle.survival.specs.GetsAfter.{entries_of_inputs}
 use Rattle.survival.specs.EditAfter.{AreNumberedFrom}
-use Rattle.ikey.specs.Comparator.{ShortKeys}
+use Rattle.ikey.specs.Comparator.{KeyOrder, ShortKeys}
 use Rattle.table.specs.declared.table_check.TheConstants.{MAX_TABLE_LEN}
 
 -- the bytes of an input's table, if the version's tables have one
@@ -43,8 +42,7 @@ pub record IsOver (v : State) (tables : List NumberedContents) (r : RequestView)
 
 -- The bytes are a table of these entries: there is one, their internal keys rise strictly, the
 -- bytes are at most MAX_TABLE_LEN, and they read as just these entries.
-pub record AreWritten (cmp : List ℕ → List ℕ → Ordering) (bytes : List ℕ) (entries : List Entry)
-    : Type 0 where
+pub record AreWritten (cmp : KeyOrder) (bytes : List ℕ) (entries : List Entry) : Type 0 where
   pub some : entries ≢ []
   pub keys : AllByRecursion (λ e. IsInternalKey e.key) entries
   pub rising : EntriesRise cmp entries
@@ -60,8 +58,8 @@ output_entries outputs = map (λ (w : Output). w.entries) outputs
 -- What an answer is made of. The request passes its tests, and the inputs' tables have a union. The
 -- outputs are numbered from the first number on and hold what is kept of the union, no user key in
 -- two of them. Each is written as a table, and the edit is that of the outputs.
-pub record HoldOutputs (cmp : List ℕ → List ℕ → Ordering) (short_keys : ShortKeys)
-    (tables : List NumberedContents) (r : RequestView) (answer : Answer) : Type 0 where
+pub record HoldOutputs (cmp : KeyOrder) (short_keys : ShortKeys) (tables : List NumberedContents)
+    (r : RequestView) (answer : Answer) : Type 0 where
   pub tested : request_test cmp r ≡ Ok tt
   pub union : List Entry
   pub outputs : List Output
@@ -79,7 +77,7 @@ pub record HoldOutputs (cmp : List ℕ → List ℕ → Ordering) (short_keys : 
 
 -- each answer of one thread is made so, if the inputs were picked from a lawful version and the
 -- request is over it
-abbrev pub OutputsHold : (List ℕ → List ℕ → Ordering) → ShortKeys → Type 0
+abbrev pub OutputsHold : KeyOrder → ShortKeys → Type 0
 OutputsHold cmp short_keys =
     (v : State) (tables : List NumberedContents) (level : ℕ) (r : RequestView) (answer : Answer) →
     IsLawful cmp v tables → IsPicked cmp v level r.picked → IsOver v tables r →

@@ -2,7 +2,6 @@
 -- sequence.
 use Rattle.std.specs.Prelude.{◌≡◌, ℕ, ◌≤◌, true, not, List, ◌++◌, map, filter, Some, Ok}
 use Rattle.std.specs.List.{All}
-use Rattle.std.specs.declared.cmp.Ordering.{Ordering}
 use Rattle.table.specs.Checked.{contents_in}
 use Rattle.edit.specs.Edit.{Edit, IsEdit}
 use Rattle.edit.specs.Version.{State, applied}
@@ -18,15 +17,15 @@ use Rattle.request.specs.OneThread.{Answer, one_thread}
 use Rattle.survival.specs.GetsAfter.{HoldKept}
 use Rattle.survival.specs.EditAfter.{version_after}
 use Rattle.survival.specs.Over.{IsOver, HoldOutputs}
-use Rattle.ikey.specs.Comparator.{ShortKeys}
+use Rattle.ikey.specs.Comparator.{KeyOrder, ShortKeys}
 
 -- an output's number, and what its bytes hold
-abbrev pub output_table : (List ℕ → List ℕ → Ordering) → ℕ × List ℕ → NumberedContents
+abbrev pub output_table : KeyOrder → ℕ × List ℕ → NumberedContents
 output_table cmp output = record { number = output.0; contents = contents_in cmp output.1 }
 
 -- the tables after a compaction: the outputs, and the old tables less those of the inputs
-abbrev pub tables_after : (List ℕ → List ℕ → Ordering) → PickedInputs → Answer →
-    List NumberedContents → List NumberedContents
+abbrev pub tables_after : KeyOrder → PickedInputs → Answer → List NumberedContents →
+    List NumberedContents
 tables_after cmp p answer tables =
     map (output_table cmp) answer.tables
     ++ filter (λ (t : NumberedContents). not (is_input p t.number)) tables
@@ -34,8 +33,7 @@ tables_after cmp p answer tables =
 -- Let the inputs be picked from a lawful version with files at levels up to 6. If an answer's
 -- outputs hold what they should, the version after is lawful with the tables after. Its files hold
 -- the entries of the files that stay and what is kept of the inputs' union.
-pub record VersionAfterLaw (cmp : List ℕ → List ℕ → Ordering) (short_keys : ShortKeys)
-    : Type 0 where
+pub record VersionAfterLaw (cmp : KeyOrder) (short_keys : ShortKeys) : Type 0 where
   pub lawful : (v : State) (tables : List NumberedContents) (level : ℕ) (r : RequestView)
       (answer : Answer) →
       IsLawful cmp v tables → All (λ (f : NewFile). f.level ≤ 6) v.files →
@@ -52,8 +50,7 @@ pub record VersionAfterLaw (cmp : List ℕ → List ℕ → Ordering) (short_key
 
 -- The edit applies, the version after is lawful, and each get at a sequence that stays readable
 -- answers as before.
-pub record KeepsReads (cmp : List ℕ → List ℕ →
-    Ordering) (v : State) (tables : List NumberedContents)
+pub record KeepsReads (cmp : KeyOrder) (v : State) (tables : List NumberedContents)
     (r : RequestView) (answer : Answer) (e : Edit) : Type 0 where
   pub after : State
   pub is_after : applied v e ≡ Some after
@@ -65,8 +62,7 @@ pub record KeepsReads (cmp : List ℕ → List ℕ →
 -- What an answer leaves of each lawful version with files at levels up to 6 from which the
 -- request's inputs were picked: the bytes of the edit read as an edit, and in the version that any
 -- such edit makes reads survive.
-pub record LeavesReads (cmp : List ℕ → List ℕ → Ordering) (r : RequestView) (answer : Answer) : Type
-    0 where
+pub record LeavesReads (cmp : KeyOrder) (r : RequestView) (answer : Answer) : Type 0 where
   pub reads : (v : State) (tables : List NumberedContents) (level : ℕ) →
       IsLawful cmp v tables → All (λ (f : NewFile). f.level ≤ 6) v.files →
       IsPicked cmp v level r.picked → IsOver v tables r →
@@ -77,7 +73,7 @@ pub record LeavesReads (cmp : List ℕ → List ℕ → Ordering) (r : RequestVi
       IsEdit answer.edit e → KeepsReads cmp v tables r answer e
 
 -- each answer of one thread leaves reads so
-abbrev pub ReadsSurvive : (List ℕ → List ℕ → Ordering) → ShortKeys → Type 0
+abbrev pub ReadsSurvive : KeyOrder → ShortKeys → Type 0
 ReadsSurvive cmp short_keys =
     (r : RequestView) (answer : Answer) → one_thread cmp short_keys r ≡ Ok answer →
     LeavesReads cmp r answer

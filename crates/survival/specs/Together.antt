@@ -8,6 +8,7 @@ use Rattle.std.specs.Str.{bytes_eq}
 use Rattle.std.specs.BTreeSet.{insert_key}
 use Rattle.std.specs.declared.cmp.Ordering.{Ordering}
 use Rattle.ikey.specs.Key.{user_of}
+use Rattle.ikey.specs.Comparator.{KeyOrder}
 use Rattle.block.specs.EncodedEntry.{Entry}
 use Rattle.edit.specs.Version.{State}
 use Rattle.edit.specs.VersionOrder.{files_at, level_files}
@@ -28,12 +29,12 @@ newer_number a b = nat_cmp b.number a.number
 
 -- the files of a level in the order of reading: those of level 0 by falling number, those of each
 -- other level in version order
-abbrev pub level_read : (List ℕ → List ℕ → Ordering) → State → ℕ → List FileMeta
+abbrev pub level_read : KeyOrder → State → ℕ → List FileMeta
 level_read cmp v zero = fold (insert_key newer_number) [] (files_at v.files 0)
 level_read cmp v (suc n) = level_files cmp v (suc n)
 
 -- the files of n levels from this one on, level by level
-unfoldable pub files_read : (List ℕ → List ℕ → Ordering) → State → ℕ → ℕ → List FileMeta
+unfoldable pub files_read : KeyOrder → State → ℕ → ℕ → List FileMeta
 files_read cmp v level zero = []
 files_read cmp v level (suc n) = level_read cmp v level ++ files_read cmp v (level + 1) n
 
@@ -44,21 +45,20 @@ entries_read tables user files =
     (flat_map (λ f. table_entries tables f.number) files)
 
 -- the files above the inputs: those of the levels down to the inputs' lower one that stay
-abbrev pub files_above : (List ℕ → List ℕ → Ordering) → State → PickedInputs → List FileMeta
+abbrev pub files_above : KeyOrder → State → PickedInputs → List FileMeta
 files_above cmp v p = filter (λ f. not (is_input p f.number)) (files_read cmp v 0 (p.level + 2))
 
 -- the inputs, as they are read
-abbrev pub files_taken : (List ℕ → List ℕ → Ordering) → State → PickedInputs → List FileMeta
+abbrev pub files_taken : KeyOrder → State → PickedInputs → List FileMeta
 files_taken cmp v p = filter (λ f. is_input p f.number) (files_read cmp v 0 (p.level + 2))
 
 -- the files below the inputs: all of deeper levels
-abbrev pub files_below : (List ℕ → List ℕ → Ordering) → State → PickedInputs → List FileMeta
+abbrev pub files_below : KeyOrder → State → PickedInputs → List FileMeta
 files_below cmp v p = files_read cmp v (p.level + 2) (5 - p.level)
 
 -- The entries of a user key in a version's files:
-pub record StandTogether (cmp : List ℕ → List ℕ →
-    Ordering) (v : State) (tables : List NumberedContents) (p : PickedInputs)
-    (user : List ℕ) (above inputs below : List Entry) : Type 0 where
+pub record StandTogether (cmp : KeyOrder) (v : State) (tables : List NumberedContents)
+    (p : PickedInputs) (user : List ℕ) (above inputs below : List Entry) : Type 0 where
   -- as they are read they are those above the inputs, those of the inputs, and those below;
   pub read : entries_read tables user (files_read cmp v 0 7) ≡ above ++ (inputs ++ below)
   -- their sequences fall;
@@ -76,7 +76,7 @@ pub record StandTogether (cmp : List ℕ → List ℕ →
   pub answers : (at : ℕ) → get_of v tables user at ≡ answer_at at (above ++ (inputs ++ below))
 
 -- so they are in each lawful version with files at levels up to 6 and picked inputs
-abbrev pub InputsStandTogether : (List ℕ → List ℕ → Ordering) → Type 0
+abbrev pub InputsStandTogether : KeyOrder → Type 0
 InputsStandTogether cmp =
     (v : State) (tables : List NumberedContents) (level : ℕ) (p : PickedInputs) (user : List ℕ) →
     IsLawful cmp v tables → All (λ (f : NewFile). f.level ≤ 6) v.files → IsPicked cmp v level p →

@@ -21,8 +21,8 @@ open_block (e ∷ es) = (e ∷ es) ∷ []
 abbrev pub blocks_behind : Options → List Entry → List Entry → List (List Entry)
 blocks_behind o latest [] = open_block latest
 blocks_behind o latest (e ∷ es) =
-    if is_full o latest then latest ∷ blocks_behind o (e ∷ []) es else blocks_behind o (latest
-    ++ e ∷ []) es
+    if is_full o latest then latest ∷ blocks_behind o (e ∷ []) es
+    else blocks_behind o (latest ++ e ∷ []) es
 
 -- the data blocks of a list
 unfoldable pub data_blocks : Options → List Entry → List (List Entry)

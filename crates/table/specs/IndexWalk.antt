@@ -4,12 +4,12 @@ use Rattle.std.specs.Prelude.{◌≡◌, ℕ, ◌<◌, true, List, [], ◌++◌,
 use Rattle.std.specs.List.{flat_map, AllByRecursion}
 use Rattle.std.specs.Ordering.{is_le}
 use Rattle.std.specs.Result.{result_unwrap_or}
-use Rattle.std.specs.declared.cmp.Ordering.{Ordering}
 use Rattle.coding.specs.Answers.{◌>>=◌}
 use Rattle.coding.specs.declared.fault.Fault.{Fault}
 use Rattle.block.specs.EncodedEntry.{Entry}
 use Rattle.ikey.specs.Key.{internal_key_reading}
 use Rattle.ikey.specs.Order.{internal_cmp}
+use Rattle.ikey.specs.Comparator.{KeyOrder}
 use Rattle.frame.specs.Handle.{handle_reading}
 use Rattle.table.specs.ReadingIndex.{one_handle, stored_at, block_in}
 use Rattle.table.specs.ReadingCursors.{EntriesRise}
@@ -32,7 +32,7 @@ all_named bytes index = flat_map (entries_named bytes) index
 
 -- An entry of the index names a data block. The block has an entry, its internal keys rise
 -- strictly, and none of them is above the index key.
-pub record NamesBlock (cmp : List ℕ → List ℕ → Ordering) (bytes : List ℕ) (i : Entry) : Type 0 where
+pub record NamesBlock (cmp : KeyOrder) (bytes : List ℕ) (i : Entry) : Type 0 where
   pub key : internal_key_reading i.key ≡ Ok i.key
   pub block : block_named bytes i.value ≡ Ok (entries_named bytes i)
   pub some : 0 < length (entries_named bytes i)
@@ -43,8 +43,7 @@ pub record NamesBlock (cmp : List ℕ → List ℕ → Ordering) (bytes : List �
 
 -- These entries of the index name the data blocks of the table of these entries. The index keys
 -- rise strictly, and so do the entries' keys.
-pub record Indexes (cmp : List ℕ → List ℕ → Ordering) (bytes : List ℕ) (index entries : List Entry)
-    : Type 0 where
+pub record Indexes (cmp : KeyOrder) (bytes : List ℕ) (index entries : List Entry) : Type 0 where
   pub some : 0 < length index
   pub named : AllByRecursion (NamesBlock cmp bytes) index
   pub keys_rise : EntriesRise cmp index
@@ -53,8 +52,8 @@ pub record Indexes (cmp : List ℕ → List ℕ → Ordering) (bytes : List ℕ)
 
 -- What is left of a table whose index is known: all its entries but the first `passed`. If nothing
 -- is left of the data block, no other block is left.
-pub record IsWalkLeft (cmp : List ℕ → List ℕ → Ordering) (bytes : List ℕ)
-    (names block index : List Entry) : Type 0 where
+pub record IsWalkLeft (cmp : KeyOrder) (bytes : List ℕ) (names block index : List Entry)
+    : Type 0 where
   pub all : Indexes cmp bytes names (all_named bytes names)
   pub keys : HaveKeys block
   pub named : AllByRecursion (NamesBlock cmp bytes) index

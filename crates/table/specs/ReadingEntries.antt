@@ -3,7 +3,6 @@ use Rattle.std.specs.Prelude.{◌≡◌, ℕ, nat_le, Bool, true, false, List, [
 use Rattle.std.specs.Prelude.{Some, None, Result, Ok}
 use Rattle.std.specs.List.{AllByRecursion}
 use Rattle.std.specs.Ordering.{is_lt}
-use Rattle.std.specs.declared.cmp.Ordering.{Ordering}
 use Rattle.coding.specs.Answers.{◌>>=◌}
 use Rattle.coding.specs.declared.fault.Fault.{Fault}
 use Rattle.coding.specs.declared.fault.FaultName.TheVariants.{TooLarge, Order, Empty}
@@ -11,6 +10,7 @@ use Rattle.block.specs.EncodedEntry.{Entry}
 use Rattle.block.specs.BuilderView.{last_key}
 use Rattle.ikey.specs.Key.{internal_key_reading}
 use Rattle.ikey.specs.Order.{internal_cmp}
+use Rattle.ikey.specs.Comparator.{KeyOrder}
 use Rattle.table.specs.ReadingSteps.{test_result}
 use Rattle.table.specs.declared.table_check.TheConstants.{MAX_VALUE_LEN}
 
@@ -25,23 +25,21 @@ key_behind before [] = before
 key_behind before (e ∷ es) = Some (last_key e.key es)
 
 -- whether an internal key is above the one before it, if there is one
-abbrev pub is_above : (List ℕ → List ℕ → Ordering) → Option (List ℕ) → List ℕ → Bool
+abbrev pub is_above : KeyOrder → Option (List ℕ) → List ℕ → Bool
 is_above cmp None key = true
 is_above cmp (Some before) key = is_lt (internal_cmp cmp before key)
 
 -- The tests of an entry after the key `before`: its key is an internal key (Key) and within its
 -- limit (TooLarge), its value is within its limit (TooLarge), and its key is above `before`
 -- (Order).
-abbrev pub entry_test : (List ℕ → List ℕ → Ordering) → Option (List ℕ) → Entry →
-    Result (Unit {0}) Fault
+abbrev pub entry_test : KeyOrder → Option (List ℕ) → Entry → Result (Unit {0}) Fault
 entry_test cmp before e = do
   _ ← internal_key_reading e.key
   _ ← test_result (nat_le (length e.value) MAX_VALUE_LEN) TooLarge
   test_result (is_above cmp before e.key) Order
 
 -- each entry passes its tests after the one before it, the first after the key `before`
-abbrev pub entries_test : (List ℕ → List ℕ → Ordering) → Option (List ℕ) → List Entry →
-    Result (Unit {0}) Fault
+abbrev pub entries_test : KeyOrder → Option (List ℕ) → List Entry → Result (Unit {0}) Fault
 entries_test cmp before [] = Ok tt
 entries_test cmp before (e ∷ es) = do
   _ ← entry_test cmp before e
@@ -54,8 +52,7 @@ is_some_list (x ∷ xs) = true
 
 -- the tests of a data block after the key `before`: it has an entry (Empty), and each passes its
 -- tests
-abbrev pub data_test : (List ℕ → List ℕ → Ordering) → Option (List ℕ) → List Entry →
-    Result (Unit {0}) Fault
+abbrev pub data_test : KeyOrder → Option (List ℕ) → List Entry → Result (Unit {0}) Fault
 data_test cmp before entries = do
   _ ← test_result (is_some_list entries) Empty
   entries_test cmp before entries

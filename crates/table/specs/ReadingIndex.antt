@@ -32,8 +32,8 @@ one_handle (Some found) = handle_alone found.handle found.rest
 -- bytes of the footer; else Range.
 abbrev pub stored_at : List ℕ → BlockHandle → Result (List ℕ) Fault
 stored_at bytes handle =
-    if nat_le (handle.offset + handle.size + TRAILER_LEN + FOOTER_LEN) (length bytes) then Ok
-    (take (handle.size + 5) (drop handle.offset bytes)) else Err (fault Range)
+    if nat_le (handle.offset + handle.size + TRAILER_LEN + FOOTER_LEN) (length bytes)
+    then Ok (take (handle.size + 5) (drop handle.offset bytes)) else Err (fault Range)
 
 -- the entries of a stored block, or the first test that it fails: its checksum, its type, its
 -- contents

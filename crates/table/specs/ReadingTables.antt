@@ -3,12 +3,12 @@
 use Rattle.std.specs.Prelude.{◌≡◌, ◌≢◌, ℕ, ◌<◌, ◌≤◌, List, [], ◌∷◌, ◌++◌, length, slice_index}
 use Rattle.std.specs.Prelude.{Ok}
 use Rattle.std.specs.List.{AllByRecursion}
-use Rattle.std.specs.declared.cmp.Ordering.{Ordering}
 use Rattle.std.specs.declared.cmp.Ordering.TheVariants.{Less, Greater}
 use Rattle.block.specs.EncodedEntry.{Entry, IsBlock}
 use Rattle.block.specs.BuilderView.{last_key}
 use Rattle.ikey.specs.Key.{internal_key_reading}
 use Rattle.ikey.specs.Order.{internal_cmp}
+use Rattle.ikey.specs.Comparator.{KeyOrder}
 use Rattle.frame.specs.declared.handle.BlockHandle.{BlockHandle}
 use Rattle.frame.specs.declared.footer.Footer.{Footer}
 use Rattle.frame.specs.Handle.{handle_bytes}
@@ -55,19 +55,18 @@ AreNamed bytes (e ∷ es) (b ∷ bs) = IsNamed bytes e b × AreNamed bytes es bs
 AreNamed bytes _ _ = ⊥
 
 -- a key of the index is below the first key of the next block, if there is one
-abbrev pub IsBelowNextBlock : (List ℕ → List ℕ → Ordering) → List ℕ → List DataBlock → Type 0
+abbrev pub IsBelowNextBlock : KeyOrder → List ℕ → List DataBlock → Type 0
 IsBelowNextBlock cmp key [] = Unit {0}
 IsBelowNextBlock cmp key (b ∷ bs) = internal_cmp cmp key (first_key b.entries) ≡ Less
 
 -- each key of the index is at or above its block's last key, and below the next block's first key
-abbrev pub AreBetween : (List ℕ → List ℕ → Ordering) → List DataBlock → Type 0
+abbrev pub AreBetween : KeyOrder → List DataBlock → Type 0
 AreBetween cmp [] = Unit {0}
 AreBetween cmp (b ∷ bs) = (internal_cmp cmp (last_key [] b.entries) b.index_key ≢ Greater)
     × IsBelowNextBlock cmp b.index_key bs × AreBetween cmp bs
 
 -- The bytes are a table of these entries. The metaindex is a block of any entries.
-pub record IsTable (cmp : List ℕ → List ℕ → Ordering) (bytes : List ℕ) (entries : List Entry) : Type
-    0 where
+pub record IsTable (cmp : KeyOrder) (bytes : List ℕ) (entries : List Entry) : Type 0 where
   pub footer : Footer
   pub ignored : List Entry
   pub index : List Entry
@@ -89,7 +88,7 @@ abbrev pub AreBytes : List ℕ → Type 0
 AreBytes bytes = (i : ℕ) → slice_index bytes i < 256
 
 -- Bytes read as a list of entries exactly if they are a table of it.
-pub record ReadsTables (cmp : List ℕ → List ℕ → Ordering) : Type 0 where
+pub record ReadsTables (cmp : KeyOrder) : Type 0 where
   pub found : (bytes : List ℕ) (entries : List Entry) → AreBytes bytes →
       table_reading cmp bytes ≡ Ok entries → IsTable cmp bytes entries
   pub only : (bytes : List ℕ) (entries : List Entry) → IsTable cmp bytes entries →

@@ -1,6 +1,6 @@
 -- What is kept of a table that was checked.
 use Rattle.std.specs.Prelude.{◌≡◌, ℕ, List, [], Ok}
-use Rattle.std.specs.declared.cmp.Ordering.{Ordering}
+use Rattle.ikey.specs.Comparator.{KeyOrder}
 use Rattle.block.specs.EncodedEntry.{Entry}
 use Rattle.block.specs.BuilderView.{last_key}
 use Rattle.table.specs.ReadingEntries.{first_key}
@@ -9,7 +9,7 @@ use Rattle.table.specs.TableContents.{DataBlock, index_in, data_reading, entries
 
 -- The bytes have an index block of these entries, and data blocks that begin with the first of
 -- these keys and end with the second.
-pub record IsChecked (cmp : List ℕ → List ℕ → Ordering) (bytes : List ℕ) (named : List Entry)
+pub record IsChecked (cmp : KeyOrder) (bytes : List ℕ) (named : List Entry)
     (smallest largest : List ℕ) : Type 0 where
   pub index : List IndexEntry
   pub blocks : List DataBlock

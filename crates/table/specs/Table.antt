@@ -3,7 +3,6 @@
 use Rattle.std.specs.Prelude.{ℕ, ◌+◌, nat_le, if◌then◌else◌, List, [], ◌∷◌, ◌++◌, length}
 use Rattle.std.specs.Prelude.{Result, Ok, Err}
 use Rattle.std.specs.List.{flat_map}
-use Rattle.std.specs.declared.cmp.Ordering.{Ordering}
 use Rattle.coding.specs.Answers.{fault}
 use Rattle.coding.specs.declared.fault.Fault.{Fault}
 use Rattle.coding.specs.declared.fault.FaultName.TheVariants.{TooLarge}
@@ -18,7 +17,7 @@ use Rattle.frame.specs.declared.footer.Footer.{Footer}
 use Rattle.table.specs.declared.options.Options.{Options}
 use Rattle.table.specs.DataBlocks.{data_blocks}
 use Rattle.table.specs.ReadingEntries.{first_key}
-use Rattle.ikey.specs.Comparator.{ShortKeys}
+use Rattle.ikey.specs.Comparator.{KeyOrder, ShortKeys}
 use Rattle.table.specs.declared.table_check.TheConstants.{MAX_TABLE_LEN}
 
 -- how index keys are made: between two keys, and at or above a key
@@ -27,7 +26,7 @@ pub record IndexKeys : Type 0 where
   pub above : List ℕ → List ℕ
 
 -- the internal separator and the internal successor of a comparator
-unfoldable pub index_keys : (List ℕ → List ℕ → Ordering) → ShortKeys → IndexKeys
+unfoldable pub index_keys : KeyOrder → ShortKeys → IndexKeys
 index_keys cmp short_keys = record {
   between = internal_separator_of cmp short_keys.separator;
   above = internal_successor_of cmp short_keys.successor;
@@ -77,7 +76,7 @@ table_of_blocks keys interval parts =
     ++ closing_bytes (length (stored_blocks interval parts)) (index_from keys interval 0 parts)
 
 -- the table of a list
-unfoldable pub table : (List ℕ → List ℕ → Ordering) → ShortKeys → Options → List Entry → List ℕ
+unfoldable pub table : KeyOrder → ShortKeys → Options → List Entry → List ℕ
 table cmp short_keys o q =
     table_of_blocks (index_keys cmp short_keys) o.restart_interval (data_blocks o q)
 

@@ -3,7 +3,6 @@ use Rattle.std.specs.Prelude.{ℕ, ◌-◌, nat_le, Bool, true, ◌&&◌, not, L
 use Rattle.std.specs.Prelude.{map, drop, Option, Some, None, Result, Ok}
 use Rattle.std.specs.List.{flat_map}
 use Rattle.std.specs.Ordering.{is_gt}
-use Rattle.std.specs.declared.cmp.Ordering.{Ordering}
 use Rattle.coding.specs.Answers.{◌>>=◌}
 use Rattle.coding.specs.declared.fault.Fault.{Fault}
 use Rattle.coding.specs.declared.fault.FaultName.TheVariants.{Size, Short, Empty, Index}
@@ -11,6 +10,7 @@ use Rattle.block.specs.EncodedEntry.{Entry}
 use Rattle.block.specs.BuilderView.{last_key}
 use Rattle.ikey.specs.Key.{user_of}
 use Rattle.ikey.specs.Order.{internal_cmp}
+use Rattle.ikey.specs.Comparator.{KeyOrder}
 use Rattle.frame.specs.Footer.{footer_reading}
 use Rattle.table.specs.ReadingSteps.{test_result}
 use Rattle.table.specs.ReadingEntries.{first_key, key_behind, is_above, is_some_list, data_test}
@@ -25,7 +25,7 @@ pub record DataBlock : Type 0 where
 
 -- The data blocks in the order of the index, the first of them after the key `before`. Each is a
 -- block with an entry, and each entry passes its test after the key before it in the table.
-abbrev pub blocks_reading : (List ℕ → List ℕ → Ordering) → Option (List ℕ) → List IndexEntry →
+abbrev pub blocks_reading : KeyOrder → Option (List ℕ) → List IndexEntry →
     Result (List DataBlock) Fault
 blocks_reading cmp before [] = Ok []
 blocks_reading cmp before (i ∷ is) = do
@@ -36,20 +36,19 @@ blocks_reading cmp before (i ∷ is) = do
 
 -- whether a block is above the index key before it, if there is one, and none of its keys is above
 -- its own index key
-abbrev pub is_between_index_keys : (List ℕ → List ℕ → Ordering) → Option (List ℕ) → DataBlock → Bool
+abbrev pub is_between_index_keys : KeyOrder → Option (List ℕ) → DataBlock → Bool
 is_between_index_keys cmp below b = is_above cmp below (first_key b.entries)
     && not (is_gt (internal_cmp cmp (last_key [] b.entries) b.index_key))
 
 -- Whether each index key is at or above its block's last key and below the next block's first key.
 -- The first block is above the index key `below`, if there is one.
-abbrev pub index_fits : (List ℕ → List ℕ → Ordering) → Option (List ℕ) → List DataBlock → Bool
+abbrev pub index_fits : KeyOrder → Option (List ℕ) → List DataBlock → Bool
 index_fits cmp below [] = true
 index_fits cmp below (b ∷ bs) = is_between_index_keys cmp below b
     && index_fits cmp (Some b.index_key) bs
 
 -- the data blocks that the index names; Empty if there is none, Index if an index key doesn't fit
-abbrev pub data_reading : (List ℕ → List ℕ → Ordering) → List IndexEntry →
-    Result (List DataBlock) Fault
+abbrev pub data_reading : KeyOrder → List IndexEntry → Result (List DataBlock) Fault
 data_reading cmp index = do
   _ ← test_result (is_some_list index) Empty
   blocks ← blocks_reading cmp None index
@@ -69,7 +68,7 @@ index_in bytes = do
   block_in index
 
 -- the data blocks of the bytes
-unfoldable pub blocks_of : (List ℕ → List ℕ → Ordering) → List ℕ → Result (List DataBlock) Fault
+unfoldable pub blocks_of : KeyOrder → List ℕ → Result (List DataBlock) Fault
 blocks_of cmp bytes = do
   entries ← index_in bytes
   index ← index_reading bytes entries
@@ -94,9 +93,9 @@ contents_of bytes blocks = record {
 }
 
 -- what the bytes hold as a table, or the first test that they fail
-abbrev pub contents_reading : (List ℕ → List ℕ → Ordering) → List ℕ → Result Contents Fault
+abbrev pub contents_reading : KeyOrder → List ℕ → Result Contents Fault
 contents_reading cmp bytes = blocks_of cmp bytes >>= λ blocks. Ok (contents_of bytes blocks)
 
 -- the entries of the bytes as a table, or the first test that they fail
-abbrev pub table_reading : (List ℕ → List ℕ → Ordering) → List ℕ → Result (List Entry) Fault
+abbrev pub table_reading : KeyOrder → List ℕ → Result (List Entry) Fault
 table_reading cmp bytes = blocks_of cmp bytes >>= λ blocks. Ok (entries_of blocks)

@@ -121,7 +121,7 @@ GivesTexts-parsed app words s given same taken walked h = (
       (given_rows app words s same (walked (ap is_simple same ∙ is_simple-program)).1) h,
 )
 
--- `clap`'s error turns into want of memory or into itself
+-- `clap`'s error turns into Memory or into itself
 pub TurnsInto-only : (e : Error) (u : Usage) → TurnsInto e u → (u ≢ Key) × (u ≢ Snapshots)
 TurnsInto-only e Key h = absurd h
 TurnsInto-only e Snapshots h = absurd h

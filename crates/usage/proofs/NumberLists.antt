@@ -33,7 +33,7 @@ module _ (numerals : List (Bor Text)) (i : ℕ) (d : Bor Text) (lt : i < length 
             ∙ sym (map-append (digits_value 10) (texts_of (take i numerals)) (text ∷ [])),
       )
 
-  -- a text that is none
+  -- a text that is no number
   pub not_all : (IsNumberText text → ⊥) → All IsNumberText (texts_of numerals) → ⊥
   not_all none all =
       let many = length-map numerals (λ (m : Bor Text). m.now) in

@@ -95,17 +95,15 @@ GivesKeyText words text =
 
 -- `clap` accepts the words, and they give `compact` this text of a list of snapshots
 abbrev pub GivesListText : List Text → Text → Type 0
-GivesListText words text =
-    (folder : Text) × (levels : Levels) × (numbers : CompactNumbers) × (verbosity : Verbosity)
-    × GivesRows words (codes "compact")
+GivesListText words text = (folder : Text) × (levels : Levels) × (numbers : CompactNumbers)
+    × (verbosity : Verbosity) × GivesRows words (codes "compact")
     (HasCompact folder levels numbers None (Some text) verbosity)
 
 -- What a command line asks for: the texts of its command, with that of a key or of a list read. Key
 -- comes exactly if the text of the key is invalid, Snapshots exactly if the other is no list of
 -- numbers, and `clap`'s error if it refuses the words. Memory may come for any words.
 abbrev pub LineGives : List Text → Result Line Usage → Type 0
-LineGives words (Ok (line.Blocks a b at out)) =
-    (text : Text)
+LineGives words (Ok (line.Blocks a b at out)) = (text : Text)
     × (GivesRows words (codes "blocks") (HasBlocks a.now b.now text out.now)
     × (bytes_of_text text ≡ Some at.items))
 LineGives words (Ok (line.Dump table)) =
@@ -114,13 +112,11 @@ LineGives words (Ok (line.Manifest folder verbose)) =
     GivesRows words (codes "manifest") (HasFolder folder.now verbose)
 LineGives words (Ok (line.Verify folder verbose)) =
     GivesRows words (codes "verify") (HasFolder folder.now verbose)
-LineGives words (Ok (line.Get folder key at verbose)) =
-    (text : Text)
+LineGives words (Ok (line.Get folder key at verbose)) = (text : Text)
     × (GivesRows words (codes "get") (HasGet folder.now text at verbose)
     × (bytes_of_text text ≡ Some key.items))
-LineGives words (Ok (line.Compact folder levels settings verbosity)) =
-    (numbers : CompactNumbers) × (since : Option ℕ) × (listed : Option Text)
-    × (GivesRows words (codes "compact")
+LineGives words (Ok (line.Compact folder levels settings verbosity)) = (numbers : CompactNumbers)
+    × (since : Option ℕ) × (listed : Option Text) × (GivesRows words (codes "compact")
     (HasCompact folder.now levels numbers since listed verbosity)
     × AreSettings numbers since listed settings)
 LineGives words (Err Snapshots) = (text : Text) × (GivesListText words text × IsNoNumberList text)

@@ -70,8 +70,8 @@ fn snapshots<'a>(
     }
 }
 
-/// The numbers of a text, with commas between them. None if one of them is no number; the empty
-/// text is none.
+/// The numbers of a text, with commas between them. None if one of them is no number, as
+/// the empty text.
 fn numbers_of(alloc: Global, text: &str) -> Result<Option<Vec<u64>>, AllocError>
     ensures { IfOk result
         (λ found. MatchOption found (IsNoNumberList text.now)

@@ -1,8 +1,8 @@
 //! What is given to the command `compact`, read from the command line.
 
-ghost use Rattle.std.specs.Prelude.{◌≡◌, ◌≢◌, ◌⊎◌, None, MatchOption, codes};
+ghost use Rattle.std.specs.Prelude.{None, MatchOption, codes};
 ghost use Rattle.std.specs.Option.{option_map};
-ghost use Rattle.clap.specs.Words.{first_of, found_of, rows_of, subcommand_rows_of};
+ghost use Rattle.clap.specs.Words.{found_of, rows_of, subcommand_rows_of};
 ghost use Rattle.usage.specs.CompactLine.{HasCompact, HasLevels, HasNumbers, HasReadable};
 ghost use Rattle.usage.specs.CompactLine.{HasVerbosity, LacksCompact, LacksLevels, LacksNumbers};
 ghost use Rattle.usage.specs.CompactLine.{LacksReadable};

@@ -1,6 +1,6 @@
 use Rattle.std.proofs.Common.{◌≡◌, length, None}
-use Rattle.pairing.specs.TestedUnion.{tested_entries}
-use Rattle.pairing.specs.EntryTests.{last_key_or, tested_after}
+use Rattle.pairing.specs.TestedUnion.{last_key_or, tested_entries}
+use Rattle.pairing.specs.EntryTests.{tested_after}
 use Rattle.pairing.proofs.TestedLists.{with_front}
 use Rattle.pairing.proofs.entry_checks.tested_all.Given as goal
 

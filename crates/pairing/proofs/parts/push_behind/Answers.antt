@@ -2,8 +2,7 @@ use Rattle.std.proofs.Common.{◌≡◌, ℕ, Bool, true, false, List, Option, N
 use Rattle.coding.specs.Answers.{UnlessMemory, fault}
 use Rattle.coding.specs.declared.fault.Fault.{Fault}
 use Rattle.coding.specs.declared.fault.FaultName.TheVariants.{Memory}
-use Rattle.pairing.specs.TestedUnion.{is_behind, tested_entries}
-use Rattle.pairing.specs.EntryTests.{last_key_or}
+use Rattle.pairing.specs.TestedUnion.{is_behind, last_key_or, tested_entries}
 use Rattle.pairing.specs.declared.tested.TestedEntry.{TestedEntry}
 use Rattle.pairing.proofs.parts.push_behind.Goals as goal
 

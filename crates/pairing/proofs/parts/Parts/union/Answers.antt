@@ -8,8 +8,7 @@ use Rattle.block.specs.EncodedEntry.{Entry}
 use Rattle.ikey.specs.Bytewise.{bytewise_cmp}
 use Rattle.table.proofs.Walks.{none_valid}
 use Rattle.merge.specs.Merged.{merged}
-use Rattle.pairing.specs.TestedUnion.{tested_entries, is_behind, distinct_after, union_of}
-use Rattle.pairing.specs.EntryTests.{last_key_or}
+use Rattle.pairing.specs.TestedUnion.{distinct_after, is_behind, last_key_or, tested_entries, union_of}
 use Rattle.pairing.proofs.TestedLists.{with_front, first_entry}
 use Rattle.pairing.proofs.RangeUnions.{begins_with, begins_behind, goes_on_behind, ends_behind, is_done_behind, merged_limited, first_limited, rest_limited}
 use Rattle.pairing.proofs.parts.Parts.union.Goals as goal

@@ -2,8 +2,7 @@ use Rattle.std.proofs.Common.{◌≡◌, length, None}
 use Rattle.std.specs.List.{AllByRecursion}
 use Rattle.ikey.specs.Bytewise.{bytewise_cmp}
 use Rattle.merge.specs.Merged.{merged}
-use Rattle.pairing.specs.TestedUnion.{tested_entries, distinct_after, union_of, IsLimited}
-use Rattle.pairing.specs.EntryTests.{last_key_or}
+use Rattle.pairing.specs.TestedUnion.{IsLimited, distinct_after, last_key_or, tested_entries, union_of}
 use Rattle.pairing.proofs.TestedLists.{with_front}
 use Rattle.pairing.proofs.parts.Parts.union.Given as goal
 

@@ -1,7 +1,6 @@
 //! The lines of an account.
 
 ghost use Rattle.std.specs.Prelude.{◌≡◌, ◌++◌, map, max, Ok, IfErr, OnOk, string_bytes};
-ghost use Rattle.std.specs.List.{flat_map};
 ghost use Rattle.coding.specs.Answers.{EqualOrMemory, fault};
 ghost use Rattle.coding.specs.declared.fault.FaultName.TheVariants.{Memory};
 ghost use Rattle.account.specs.Bars.{largest_number};

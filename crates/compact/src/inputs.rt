@@ -35,10 +35,11 @@ impl<'r, 't, C: Comparator> Labour for Checks<'r, 't, C> {
     ghost use Rattle.board.specs.Collected.{refusal_at, HasValue};
     ghost use Rattle.compact.specs.JobAnswers.{input_answers};
 
-    ghost jobs = { λ s. length (input_answers C.cmp 0 s.files.now (map (λ t. t.now) s.tables.now)) };
+    ghost jobs = { λ s.
+        length (input_answers C.cmp 0 s.files.now (map (λ t. t.now) s.tables.now)) };
 
-    ghost refusal = { λ s job. refusal_at (input_answers C.cmp 0 s.files.now (map (λ t. t.now) s.tables.now))
-        job };
+    ghost refusal = { λ s job.
+        refusal_at (input_answers C.cmp 0 s.files.now (map (λ t. t.now) s.tables.now)) job };
 
     ghost gives = { λ s job out. HasValue
         (input_answers C.cmp 0 s.files.now (map (λ t. t.now) s.tables.now)) job out.entries };

@@ -1,6 +1,6 @@
 //! The third run: the pieces of a plan are encoded.
 
-ghost use Rattle.std.specs.Prelude.{◌≡◌, length, map, Ok};
+ghost use Rattle.std.specs.Prelude.{length, map, Ok};
 ghost use Rattle.coding.specs.Answers.{EqualOrMemory};
 ghost use Rattle.cut.specs.Plan.{encoded_pieces};
 ghost use Rattle.cut.specs.OutputPlan.{lists_in};

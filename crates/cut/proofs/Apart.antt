@@ -145,7 +145,7 @@ module _ (cmp : List ℕ → List ℕ → Ordering) (total : IsTotalOrder cmp) (
         let later = λ (x : Entry). AllByRecursion (λ y. cmp (user_of x.key) (user_of y.key) ≡ Less) (all_of qs) in
         (subst (AreBelow cmp p) (sym (all_two o ps qs)) (below_two p (all_of ps) (all_of qs) h.0 (front later p (all_of ps) b)), apart_two ps qs h.1 k (behind later p (all_of ps) b))
 
-    -- entries are cut between user keys at places, of which so many stand before the first
+    -- entries are cut between user keys at places; `first` entries came before these
     abbrev IsCut : ℕ → List ℕ → List Entry → Type 0
     IsCut first [] es = Unit {0}
     IsCut first (place ∷ places) es = AreBelow cmp (take (place - first) es) (drop (place - first) es) × IsCut place places (drop (place - first) es)
@@ -182,7 +182,7 @@ module _ (cmp : List ℕ → List ℕ → Ordering) (total : IsTotalOrder cmp) (
       abbrev rest : Entry → List Entry → List Entry
       rest e es = kept_behind cmp b.readable b.deeper (Some e) es
 
-      -- the stops after an entry, where so many entries before them are kept
+      -- the stops after an entry, with n kept entries before them
       abbrev stops_on : ℕ → Entry → ℕ → List Entry → List ℕ
       stops_on since e n es = stops_behind gs o.file_size since (heads_behind cmp b (Some e) n es)
 

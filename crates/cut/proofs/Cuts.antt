@@ -103,7 +103,7 @@ pub from_three : {P Q S T : ℕ → Type 0} (r : Result ℕ Fault) → IfOk r P 
 from_three (Ok n) p q s f = f n p q s
 from_three (Err e) p q s f = tt
 
--- ---- so many of a list
+-- ---- the first of a list
 
 pub take_some : (count taken : ℕ) (xs : List Entry) → taken ≤ count → take taken xs ++ take (count - taken) (drop taken xs) ≡ take count xs
 take_some count taken xs le = let sum : taken + (count - taken) ≡ count = omega (arith, le) in sym (take-add taken (count - taken) xs) ∙ ap (λ (n : ℕ). take n xs) sum

@@ -15,7 +15,7 @@ use Rattle.cut.specs.Metered.{BlockInProgress, IsMetered, block_after_entries, l
 use Rattle.cut.specs.Sizes.{saturated_length}
 use Rattle.cut.proofs.Metered.{few_entries, metered_push}
 
--- so many of the entries after are taken in, and the block was full before none of them
+-- `taken` of the entries after are taken in, and the block was full before none of them
 pub record IsFilling (o : Options) (m : BlockInProgress) (taken : ℕ) (q behind : List Entry) (len since : ℕ) : Type 0 where
   pub metered : IsMetered m.interval q len since
   pub entries : q ≡ m.entries ++ take taken m.behind

@@ -96,7 +96,7 @@ module _ (o : Options) where
   abbrev Cut_by : List PlannedBlock → List Entry → Type 0
   Cut_by blocks q = (rest : List Entry) → blocks_behind o [] ((entries_in_blocks blocks ++ q) ++ rest) ≡ parts_of blocks ++ blocks_behind o q rest
 
-  -- the same with so many entries more, if the open block is full before none of them
+  -- the same with n entries more, if the open block is full before none of them
   more_by : (blocks : List PlannedBlock) (n : ℕ) (q es : List Entry) → ((m : ℕ) → m < n → is_full o (q ++ take m es) ≡ false) → Cut_by blocks q → Cut_by blocks (q ++ take n es)
   more_by blocks zero q es part cuts = subst (Cut_by blocks) (sym (append-nil q)) cuts
   more_by blocks (suc n) q [] part cuts = subst (Cut_by blocks) (sym (append-nil q)) cuts
@@ -228,7 +228,7 @@ module _ (o : Options) where
 
   -- ---- where the output ends
 
-  -- a limit is reached by a length where it is reached by what stands for it
+  -- a limit of at most 2 ^ 30 is reached by a length exactly if the saturated length reaches it
   reached : (limit n : ℕ) → limit ≤ 2 ^ 30 → nat_le limit (saturated_length n) ≡ nat_le limit n
   reached limit n le =
       elim (cases_lt n limit) [

@@ -63,7 +63,7 @@ pub record IsPlace (outputs : List PlannedOutput) (p : Piece) : Type 0 where
   pub rises : p.from ≤ p.to
   pub within : p.to ≤ length (blocks_at outputs p.output)
 
--- a piece of this output, of so many blocks
+-- a piece of this output, which has `count` blocks
 pub record IsPlaceOf (output count : ℕ) (p : Piece) : Type 0 where
   pub of : p.output ≡ output
   pub rises : p.from ≤ p.to

@@ -25,7 +25,7 @@ use Rattle.ikey.specs.Comparator.{ShortKeys}
 
 -- ---- pieces are taken off
 
--- so many are taken of a list, and it has no more
+-- count are taken of a list, and it has no more
 pub all_taken : {X : Type 0} (own rest old : List X) (count : ℕ) → own ++ rest ≡ old → length own ≡ count → own ≡ take count old
 all_taken own rest old count whole len = sym (ap (take count) (sym whole) ∙ take_at own rest count len)
 

@@ -177,7 +177,7 @@ module _ (cmp : List ℕ → List ℕ → Ordering) (b : CompactionContext) (siz
   abbrev g : Entry → ℕ
   g e = grandparents_below cmp gs e.key
 
-  -- the stops after the first entry of a segment, before which so many entries are kept
+  -- the stops after the first entry of a segment, with n kept entries before it
   abbrev stops_in : ℕ → List Entry → List ℕ
   stops_in n [] = []
   stops_in n (f ∷ fs) = stops_behind gs size (g f) (heads_behind cmp b (Some f) (if is_kept None f then n + 1 else n) fs)

@@ -17,7 +17,7 @@ use Rattle.cut.proofs.RepeatedMarks.{running, none_between}
 abbrev pub sizes : List FileMeta → ℕ
 sizes files = sum_by (λ (f : FileMeta). f.size) files
 
--- the room that a limit leaves after so many files
+-- the room that a limit leaves after i files
 abbrev pub IsRoom : List FileMeta → ℕ → ℕ → ℕ → Type 0
 IsRoom files limit i room = room + sizes files ≡ limit + sizes (drop i files)
 

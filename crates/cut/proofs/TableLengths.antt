@@ -161,7 +161,7 @@ module _ (cmp : List ℕ → List ℕ → Ordering) (short_keys : ShortKeys) whe
       ∙ ap (internal_separator_of cmp short_keys.separator last) (first_next n.entries.entries n.entries.behind next some first)
       )
 
--- ---- if no length is so great that another one stands for it
+-- ---- if no length is saturated
 
 pub exact_one : (o : Options) (b : PlannedBlock) → HasLen o b → b.len ≤ 2 ^ 30 → b.len ≡ length (block o.restart_interval b.entries.entries)
 exact_one o b h le = omega arith

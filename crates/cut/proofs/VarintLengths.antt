@@ -15,7 +15,7 @@ groups_small (suc n) x lt = rw (lt-ltb x 128 lt) refl
 groups_large : (n x : ℕ) → 128 ≤ x → groups (suc n) x ≡ (128 + x % 128) ∷ groups n (x / 128)
 groups_large n x le = rw (le-ltb x 128 le) refl
 
--- so many groups of a number are counted, and the one that is counted now begins what is left
+-- len groups of a number are counted, and the one that is counted now begins what is left
 pub record IsCounted (number len rest : ℕ) : Type 0 where
   pub left : ℕ
   pub place : left + len ≡ 10

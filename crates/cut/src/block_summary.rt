@@ -38,7 +38,7 @@ pub(crate) fn end_of(blocks: &[PlannedBlock<'_, '_>], block: usize) -> Option<u6
     Some(count_entries(&blocks[..block + 1]))
 }
 
-/// The entries of the data block of number `block`; None if there are not so many.
+/// The entries of the data block of number `block`; None if there is no such block.
 pub(crate) fn entries_of<'p, 'r, 'a>(
     blocks: &'p [PlannedBlock<'r, 'a>],
     block: usize,

@@ -154,7 +154,7 @@ impl<'r, 'a, C: Comparator> Plan<'r, 'a, C> {
     }
 
     /// The entries of a data block of the output at `place`, which stay in their runs. `block`
-    /// counts from 0; None if the output has not so many blocks. Takes no memory.
+    /// counts from 0; None if the output has no such block. Takes no memory.
     pub fn block(&self, place: usize, block: usize) -> Option<&EntryRef<'r, 'a>>
         requires { place < length self.now.outputs }
         ensures { IfSome (slice_get self.now.outputs place)
@@ -166,8 +166,8 @@ impl<'r, 'a, C: Comparator> Plan<'r, 'a, C> {
     }
 
     /// Where a data block of the output at `place` ends: how many of the output's entries lie in it
-    /// and in the blocks before it. `block` counts from 0; None if the output has not so many
-    /// blocks. Takes no memory.
+    /// and in the blocks before it. `block` counts from 0; None if the output has no such block.
+    /// Takes no memory.
     pub fn block_end(&self, place: usize, block: usize) -> Option<u64>
         requires { place < length self.now.outputs }
         ensures { IfSome (slice_get self.now.outputs place)

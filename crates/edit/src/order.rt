@@ -1,6 +1,6 @@
 //! Version order: by smallest internal key, then number.
 
-ghost use Rattle.std.specs.Prelude.{◌≡◌, map, true, Ok, IfOk};
+ghost use Rattle.std.specs.Prelude.{◌≡◌, map, true, Ok};
 ghost use Rattle.coding.specs.Answers.{EqualOrMemory};
 ghost use Rattle.edit.specs.Version.{are_apart};
 ghost use Rattle.edit.specs.VersionOrder.{file_cmp, in_version_order, files_at};

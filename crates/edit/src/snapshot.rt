@@ -1,9 +1,8 @@
 //! The edit that makes a version of an empty one.
 
-ghost use Rattle.std.specs.Prelude.{◌≡◌, ◌++◌, ℕ, List, map, true, IfOk, IfErr, OnOk};
+ghost use Rattle.std.specs.Prelude.{◌≡◌, ◌++◌, map, IfOk, IfErr, OnOk};
 ghost use Rattle.coding.specs.Answers.{fault};
 ghost use Rattle.coding.specs.declared.fault.FaultName.TheVariants.{Memory};
-ghost use Rattle.edit.specs.Version.{are_apart};
 ghost use Rattle.edit.specs.VersionOrder.{in_version_order, files_at, pointer_entry, at_level};
 ghost use Rattle.edit.specs.VersionOrder.{added_from};
 

@@ -1,6 +1,6 @@
 //! Version edits, read and written.
 
-ghost use Rattle.std.specs.Prelude.{◌≡◌, ◌<◌, ◌^◌, ◌++◌, IfOk, IfErr, OnOk, IsOkUnless, Ok};
+ghost use Rattle.std.specs.Prelude.{◌≡◌, ◌<◌, ◌++◌, IfOk, IfErr, OnOk, IsOkUnless, Ok};
 ghost use Rattle.std.specs.List.{flat_map, AllByRecursion};
 ghost use Rattle.coding.specs.Answers.{EqualOrMemory, UnlessMemory, fault};
 ghost use Rattle.coding.specs.declared.fault.FaultName.TheVariants.{Memory};

@@ -1,5 +1,5 @@
 -- A block that is written entry by entry, after other bytes.
-use Rattle.std.proofs.Common.{◌≡◌, ℕ, ◌+◌, ◌%◌, ◌^◌, ◌<◌, ◌≤◌, Bool, true, false, cond, eqb, List, [], ◌∷◌, ◌++◌, length, drop, refl, sym, ap, ◌∙◌, append_assoc, arith}
+use Rattle.std.proofs.Common.{◌≡◌, ℕ, ◌+◌, ◌^◌, ◌<◌, ◌≤◌, true, false, cond, eqb, List, [], ◌∷◌, ◌++◌, length, drop, refl, sym, ap, ◌∙◌, append_assoc, arith}
 use Rattle.std.specs.List.{flat_map}
 use Rattle.std.proofs.lemmas.List.{append-nil, length-append}
 use Rattle.std.proofs.lemmas.Nat.{mod_below}
@@ -15,7 +15,7 @@ use Rattle.block.proofs.Written.{length-block}
 abbrev pub bytes_of : ℕ → List Entry → List ℕ
 bytes_of r q = flat_map encoded_entry_bytes (encoded_entries_from r 0 [] q)
 
--- Behind some bytes stand the pieces of these entries; and restarts, the last key and the number of entries after the last
+-- After some bytes come the encoded entries of these entries; and restarts, the last key and the number of entries after the last
 -- whole interval are those of the entries.
 pub record IsAppended (r : ℕ) (q : List Entry) (front out restarts last : List ℕ) (since : ℕ) : Type 0 where
   pub out_is : out ≡ front ++ bytes_of r q

@@ -10,7 +10,7 @@ use Rattle.keep.specs.Runs.{Run}
 use Rattle.encoding.specs.SlicePlaces.{slice_between, IsSliced}
 use Rattle.encoding.specs.RunPlace.{kept_of_runs, IsPlaceInRuns}
 
--- so many entries of these runs are still to be taken off, where so many are of all; and they are no more than the entries of
+-- `left` entries of these runs are still to be taken off, as `count` are of all; and they are no more than the entries of
 -- these runs and what a place in a run may be
 pub record IsSkipping (all : List Entry) (count : ℕ) (runs : List Run) (left : ℕ) : Type 0 where
   pub rest : drop left (kept_of_runs runs) ≡ drop count all

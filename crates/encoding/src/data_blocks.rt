@@ -1,6 +1,6 @@
 //! The bytes of data blocks.
 
-ghost use Rattle.std.specs.Prelude.{◌≤◌, ◌^◌, length, Ok};
+ghost use Rattle.std.specs.Prelude.{◌≤◌, length, Ok};
 ghost use Rattle.std.specs.List.{AllByRecursion};
 ghost use Rattle.coding.specs.Answers.{EqualOrMemory};
 ghost use Rattle.block.specs.BlockFormat.{block};

@@ -1,6 +1,6 @@
 //! The order of user keys as unsigned bytes.
 
-ghost use Rattle.std.specs.Prelude.{◌≡◌, ℕ, ◌+◌, ◌<◌, ◌≤◌, List, Ok, length, drop, slice_index};
+ghost use Rattle.std.specs.Prelude.{◌≡◌, ◌+◌, ◌<◌, ◌≤◌, Ok, length, drop, slice_index};
 ghost use Rattle.byteorder.specs.Endian.{big_number};
 ghost use Rattle.coding.specs.Answers.{EqualOrMemory};
 ghost use Rattle.ikey.specs.Bytewise.{bytewise_name, bytewise_cmp, bytewise_separator};

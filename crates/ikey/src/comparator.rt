@@ -1,6 +1,6 @@
 //! What an order of user keys promises.
 
-ghost use Rattle.std.specs.Prelude.{◌≡◌, ℕ, List, Ok, codes};
+ghost use Rattle.std.specs.Prelude.{◌≡◌, ℕ, List, Ok};
 ghost use Rattle.std.specs.declared.cmp.Ordering.{Ordering};
 ghost use Rattle.std.specs.Cmp.{IsTotalOrder};
 ghost use Rattle.coding.specs.Answers.{EqualOrMemory};

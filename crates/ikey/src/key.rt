@@ -1,6 +1,6 @@
 //! An internal key in the bytes where it lies.
 
-ghost use Rattle.std.specs.Prelude.{◌≡◌, ℕ, ◌^◌, ◌<◌, ◌≤◌, ◌↔◌, List, length, IsOk};
+ghost use Rattle.std.specs.Prelude.{◌≡◌, ◌^◌, ◌<◌, ◌≤◌, ◌↔◌, length, IsOk};
 ghost use Rattle.std.specs.Result.{result_map_both};
 ghost use Rattle.ikey.specs.Key.{IsInternalKey, internal_key_reading, user_of, tag_of, sequence_of};
 ghost use Rattle.ikey.specs.Key.{kind_of};

@@ -126,7 +126,7 @@ module _ (cmp : List ℕ → List ℕ → Ordering) (b : CompactionContext) wher
   headed_kept None w key = refl
   headed_kept (Some n) w key = refl
 
-  -- so many lie below each later entry
+  -- `passed` lie below each later entry
   headed_reached : (total : IsTotalOrder cmp) (newer : Option ℕ) (w : Walk) (e : Entry) (es : List Entry) → AllByRecursion (λ f. w.passed ≤ below f) es → AllByRecursion (λ f. is_le (internal_cmp cmp e.key f.key) ≡ true) es
       → AllByRecursion (λ f. (walk_after_head cmp b newer w e.key).passed ≤ below f) es
   headed_reached total None w e es h falls = all_weaker (λ (f : Entry). is_le (internal_cmp cmp e.key f.key) ≡ true) (λ f. below e ≤ below f) (λ f le. below_grows cmp total b.grandparents e.key f.key le) es falls

@@ -12,7 +12,7 @@ use Rattle.table.proofs.Orders.{leaves_all}
 use Rattle.merge.specs.Seeks.{each_from, EachLeavesFrom}
 use Rattle.merge.proofs.Orders.{less_is}
 
--- lists of which the first so many have been sought
+-- lists of which the first `number` have been sought
 abbrev pub sought : (List ℕ → List ℕ → Ordering) → List ℕ → ℕ → List (List Entry) → List (List Entry)
 sought cmp target number lists = each_from cmp target (take number lists) ++ drop number lists
 

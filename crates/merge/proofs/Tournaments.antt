@@ -435,7 +435,7 @@ ordered_behind cmp lists place list other ordered here is =
 
 -- ---- the bracket is made
 
--- a bracket of which so many leaves stand
+-- a bracket with its first `place` leaves
 pub record IsBegun (number place : ℕ) (winners : List ℕ) : Type 0 where
   pub size : length winners ≡ number + place
   pub within : (node : ℕ) → node < length winners → get_or winners node 0 < number

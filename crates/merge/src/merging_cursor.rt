@@ -1,6 +1,6 @@
 //! The cursor over the entries of several cursors.
 
-ghost use Rattle.std.specs.Prelude.{◌≡◌, ◌<◌, ◌↔◌, [], IsTrue, map, length, drop, slice_get, OnOk};
+ghost use Rattle.std.specs.Prelude.{◌≡◌, ◌<◌, [], map, length, drop, OnOk};
 ghost use Rattle.std.specs.Prelude.{OnErr, IsOkUnless, Ok};
 ghost use Rattle.coding.specs.Answers.{EqualOrMemory, fault};
 ghost use Rattle.coding.specs.declared.fault.FaultName.TheVariants.{Memory};

@@ -4,7 +4,7 @@
 //! at 5. If the first moved down alone, a get of `u` would find the older entry above the newer
 //! one.
 
-ghost use Rattle.std.specs.Prelude.{◌≡◌, Ok, Some, map, filter, fold};
+ghost use Rattle.std.specs.Prelude.{◌≡◌, Ok, Some, map, filter};
 ghost use Rattle.std.specs.Option.{option_copied};
 ghost use Rattle.coding.specs.Answers.{EqualOrMemory};
 ghost use Rattle.pick.specs.Boundaries.{greater_key, with_largest, largest_key};

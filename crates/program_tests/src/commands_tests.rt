@@ -43,7 +43,7 @@ const DEEPEST: u64 = 6;
 /// No call has this number.
 const NEVER: u64 = u64::MAX;
 
-/// Names of logs, and some that are none.
+/// Names of logs, and others.
 const LOGS: &[&str] = &[
     "000002.log",
     "000003.log",

@@ -50,7 +50,7 @@ type Row = (
 const ROWS: &[Row] = &[
     ("parted at the second", A, B, b"b", Ok((2, BOTH))),
     ("parted before both", A, B, b"", Ok((2, BOTH))),
-    ("parted behind both", B, A, b"c", Ok((2, BOTH))),
+    ("parted after both", B, A, b"c", Ok((2, BOTH))),
     ("no entries", NONE, NONE, b"", Ok((0, NONE))),
     ("one entry twice", A, A, b"a", Err(FaultName::Duplicate)),
     ("no bytes", b"", NONE, b"m", Err(FaultName::Block)),

@@ -185,14 +185,14 @@ lawful_there cmp v tables lawful = ap tested (all_of (λ (f : NewFile). is_some 
 ok_not_err : {Z : Type 0} (z : Z) (e : Fault) → done z ≡ failed e → ⊥
 ok_not_err z e h = absurd cc
 
--- what a step that isn't refused by its definition hands on is want of memory
+-- what a step that isn't refused by its definition hands on is Memory
 pub handed_on : {X Y Z : Type 0} (view : X → Y) (r : Result X Fault) (e : Fault) (y : Y) (z : Z) (first : Result Z Fault) → first ≡ done z → IsErrAnd r (λ f. f ≡ e) → FailsOrMemory e first → EqualOrMemory view r (Ok y)
 handed_on view (Ok x) e y z first is h given = absurd h
 handed_on {Y = Y} view (Err g) e y z first is h given =
     let never : first ≡ failed e → done y ≡ failed e = λ was. absurd (ok_not_err z e (sym is ∙ was)) in
     subst (λ (x : Fault). UnlessMemory x (done y ≡ failed x)) (sym h) (unless_from e (first ≡ failed e) (done y ≡ failed e) never given)
 
--- what a call gives that is refused for want of memory alone
+-- what a call gives that is refused as Memory alone
 pub given_or_memory : {X : Type 0} (r : Result X Fault) (P Q : X → Type 0) (R : Fault → Type 0) → ((x : X) → P x → Q x) → IfOk r P → IfErr r (λ e. e ≡ fault Memory) → MatchResult r Q (λ e. UnlessMemory e (R e))
 given_or_memory (Ok x) P Q R f p m = f x p
 given_or_memory (Err e) P Q R f p m = subst (λ (d : Fault). UnlessMemory d (R d)) (sym m) tt

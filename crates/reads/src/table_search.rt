@@ -1,14 +1,14 @@
 //! Finding the tables of files, and an entry in a table.
 
-ghost use Rattle.std.specs.Prelude.{◌≡◌, List, true, map, Ok, IfOk, IfErr};
-ghost use Rattle.std.specs.List.{list_all, All};
+ghost use Rattle.std.specs.Prelude.{◌≡◌, List, true, Ok, IfOk, IfErr};
+ghost use Rattle.std.specs.List.{list_all};
 ghost use Rattle.std.specs.Option.{option_map, is_some};
 ghost use Rattle.coding.specs.Answers.{EqualOrMemory, fault};
 ghost use Rattle.coding.specs.declared.fault.FaultName.TheVariants.{Memory};
-ghost use Rattle.ikey.specs.Key.{IsInternalKey, user_of, sequence_of, kind_of};
+ghost use Rattle.ikey.specs.Key.{user_of, sequence_of, kind_of};
 ghost use Rattle.ikey.specs.declared.kind.Kind.TheVariants.{Put};
 ghost use Rattle.block.specs.EncodedEntry.{Entry};
-ghost use Rattle.table.specs.ReadingCursors.{EntriesRise, entries_from};
+ghost use Rattle.table.specs.ReadingCursors.{entries_from};
 ghost use Rattle.reads.specs.Tables.{table_of_number, tables_test};
 ghost use Rattle.reads.specs.Visible.{visible_in, IsAnswer};
 

@@ -5,8 +5,8 @@
 //! (2) At a level it looks into the tables whose range of user keys holds the key, and takes the
 //!     entry of the greatest sequence. Why: tables of level 0 overlap.
 
-ghost use Rattle.std.specs.Prelude.{◌≡◌, ◌≤◌, ◌&&◌, true, map, Ok, IfOk, IfErr};
-ghost use Rattle.std.specs.List.{list_all, All, flat_map};
+ghost use Rattle.std.specs.Prelude.{◌≡◌, ◌&&◌, true, Ok, IfOk, IfErr};
+ghost use Rattle.std.specs.List.{All, flat_map};
 ghost use Rattle.std.specs.Option.{option_map, is_some};
 ghost use Rattle.std.specs.Ordering.{is_le};
 ghost use Rattle.coding.specs.Answers.{EqualOrMemory, fault};

@@ -1,6 +1,6 @@
 //! Boundaries, and the ranges between them.
 
-ghost use Rattle.std.specs.Prelude.{◌≡◌, ◌+◌, ◌<◌, ◌≤◌, ◌↔◌, ◌⊎◌, true, nat_le, if◌then◌else◌, map};
+ghost use Rattle.std.specs.Prelude.{◌≡◌, ◌+◌, ◌<◌, ◌↔◌, ◌⊎◌, true, nat_le, if◌then◌else◌, map};
 ghost use Rattle.std.specs.Prelude.{length, slice_get, IsOk, IfOk, IfErr};
 ghost use Rattle.std.specs.Option.{option_map};
 ghost use Rattle.coding.specs.Answers.{fault, UnlessMemory};

@@ -196,7 +196,7 @@ pub found_table : (cmp : List ℕ → List ℕ → Ordering) (bytes : List ℕ) 
 found_table cmp bytes (Ok x) law h = law x.entries (entries_read cmp bytes x h)
 found_table cmp bytes (Err e) law h = tt
 
--- bytes that read as a list give that list, or want of memory
+-- bytes that read as a list give that list, or Memory
 pub gives_entries : (cmp : List ℕ → List ℕ → Ordering) (bytes : List ℕ) (r : Result Contents Fault) (q : List Entry) → EqualOrMemory (λ t. t) r (contents_reading cmp bytes) → table_reading cmp bytes ≡ Ok q → EqualOrMemory (λ t. t.entries) r (Ok q)
 gives_entries cmp bytes (Ok x) q h e = sym e ∙ entries_read cmp bytes x h
 gives_entries cmp bytes (Err d) q h e =

@@ -9,7 +9,7 @@ use Rattle.table.specs.Ends.{Ends, ends_reading}
 use Rattle.table.proofs.Refused.{memory_alone}
 use Rattle.table.proofs.Steps.{fails_map}
 
--- a walk over a block is refused for want of memory alone
+-- a walk over a block is refused as Memory alone
 pub walk_refused : {X Y : Type 0} (e : Fault) (reading : Result X Fault) (total : Result Y Fault) → IsOk reading → FailsOrMemory e reading → FailsOrMemory e total
 walk_refused e (Ok x) total ok h = subst (λ (f : Fault). FailsOrMemory f total) (sym (memory_alone e x (Ok x) refl h)) tt
 walk_refused e (Err f) total ok h = absurd cc

@@ -17,7 +17,7 @@ rising_never_falls cmp (e ∷ es) rises = (all_at_least es rises.0, rising_never
     all_at_least [] h = tt
     all_at_least (f ∷ fs) h = (ap is_le h.0, all_at_least fs h.1)
 
--- a walk that was refused at once leaves all entries
+-- a walk that was refused before its first step leaves all entries
 pub leaves_all : (cmp : List ℕ → List ℕ → Ordering) (target : List ℕ) (es : List Entry) → LeavesFrom cmp target es es
 leaves_all cmp target [] = refl
 leaves_all cmp target (e ∷ es) = inr (es, (refl, leaves_all cmp target es))

@@ -294,7 +294,7 @@ keys_from cmp target (e ∷ es) h = by_test (is_lt (internal_cmp cmp e.key targe
     by_test true more = more
     by_test false more = h
 
--- the entries from an internal key on are all but the first so many
+-- the entries from an internal key on are all but the first n
 from_drops : (cmp : List ℕ → List ℕ → Ordering) (target : List ℕ) (q : List Entry) → (n : ℕ) × (entries_from cmp target q ≡ drop n q)
 from_drops cmp target [] = (0, refl)
 from_drops cmp target (e ∷ es) = by_test (is_lt (internal_cmp cmp e.key target)) (from_drops cmp target es)

@@ -34,7 +34,8 @@ impl<'a, C: Comparator> Model for SoundTable<'a, C> {
 
     ghost view = { λ t. contents_in C.cmp t.bytes.now };
 
-    ghost invariant = { λ t. IsChecked C.cmp t.bytes.now t.index.entries t.bounds.smallest t.bounds.largest };
+    ghost invariant = { λ t.
+        IsChecked C.cmp t.bytes.now t.index.entries t.bounds.smallest t.bounds.largest };
 }
 
 impl<'a, C: Comparator> SoundTable<'a, C> {

@@ -49,7 +49,7 @@ fn merged<R: Files + AllocGlobal + Threads + Sync>(
     })
 }
 
-/// Whether a block is refused so by itself. A block that isn't read again, for want of memory, is
+/// Whether a block is refused so by itself. If memory is short, so that it isn't read again, it is
 /// not.
 fn is_refused<R: AllocGlobal + Threads + Sync>(rt: &R, bytes: &[u8], fault: Fault) -> bool {
     match blocks(rt, rt.alloc(), bytes, NO_ENTRIES, &[]) {

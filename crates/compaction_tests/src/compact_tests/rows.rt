@@ -246,7 +246,7 @@ pub(crate) const WRITTEN: &[Row] = &[
     },
     // Each of the three boards has three jobs.
     Row {
-        name: "three grandparents, and job 0 behind job 2",
+        name: "three grandparents, and job 0 after job 2",
         files: APART_FILES,
         tables: &[A_F, B_G, C_DELETED],
         snapshots: Snapshots::From(9),
@@ -397,7 +397,7 @@ pub(crate) const REFUSED: &[Row] = &[
         ..PLAIN
     },
     Row {
-        name: "two spoilt blocks around an input, and job 0 behind job 2",
+        name: "two spoilt blocks around an input, and job 0 after job 2",
         files: SAME,
         tables: &[U5_BLOCK, U5, U5_BLOCK],
         runs: &[(WHOLE, 2), (AT_C_AND_F, 2), (AT_MANY, 2)],

@@ -1,8 +1,8 @@
-use Rattle.std.proofs.Common.{◌≡◌, ◌++◌, ◌∷◌, [], ◌<◌, ℕ, Vec, List, length, vec_len, sym, ap, subst, ◌∙◌, arith}
+use Rattle.std.proofs.Common.{◌≡◌, ◌++◌, ◌∷◌, [], ◌<◌, ℕ, List, length, vec_len, sym, ap, subst, ◌∙◌, arith}
 use Rattle.std.proofs.lemmas.Bool.{eqb-true, eqb-false}
 use Rattle.std.proofs.lemmas.List.{nil_from_length}
 use Rattle.block.specs.EncodedEntry.{Entry, restarts_of, restart_bytes}
-use Rattle.block.specs.BlockFormat.{encoded_entries_from, block}
+use Rattle.block.specs.BlockFormat.{encoded_entries_from}
 use Rattle.table.proofs.Refused.{OnOk-map}
 use Rattle.encoding.proofs.Appended.{restarts_none, restarts_some, restarts_fit, whole_block}
 use Rattle.encoding.proofs.block_writer.push_block.Goals as goal

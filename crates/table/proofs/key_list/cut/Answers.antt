@@ -1,4 +1,4 @@
-use Rattle.std.proofs.Common.{◌≡◌, ◌-◌, ◌≤◌, ℕ, List, length, get_or, take, drop, [], sym, ap, ◌∙◌, arith}
+use Rattle.std.proofs.Common.{◌-◌, ℕ, length, get_or, take, drop, ap, ◌∙◌, arith}
 use Rattle.std.proofs.lemmas.List.{length-drop}
 use Rattle.table.proofs.KeyLists.{cut_found, cut_is}
 use Rattle.table.proofs.key_list.cut.Goals as goal

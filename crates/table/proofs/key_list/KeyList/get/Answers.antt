@@ -1,4 +1,4 @@
-use Rattle.std.proofs.Common.{◌≡◌, ◌<◌, ℕ, List, length, get_or, [], sym, ap, subst, ◌∙◌, arith}
+use Rattle.std.proofs.Common.{ℕ, List, length, get_or, [], sym, ap, subst, ◌∙◌, arith}
 use Rattle.table.specs.KeyLists.{cut_at, AreKeyEnds}
 use Rattle.table.proofs.KeyLists.{counted}
 use Rattle.table.proofs.key_list.KeyList.get.Goals as goal

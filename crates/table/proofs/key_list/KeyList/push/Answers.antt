@@ -1,4 +1,4 @@
-use Rattle.std.proofs.Common.{◌≡◌, ◌+◌, ◌++◌, ◌∷◌, ℕ, List, length, [], sym, ap, subst, ◌∙◌, arith}
+use Rattle.std.proofs.Common.{◌+◌, ◌++◌, ◌∷◌, ℕ, List, length, [], sym, ap, subst, ◌∙◌, arith}
 use Rattle.table.specs.KeyLists.{cut_at, AreKeyEnds}
 use Rattle.table.proofs.KeyLists.{cut_pushed, ends_pushed}
 use Rattle.table.proofs.key_list.KeyList.push.Goals as goal

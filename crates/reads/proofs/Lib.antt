@@ -18,4 +18,5 @@ pub mod OrderedFiles
 pub mod FileOrder
 pub mod LawfulVersions
 pub mod Listed
+pub mod StandingFiles
 pub mod Places

@@ -18,7 +18,7 @@ use Rattle.edit.specs.Version.{are_apart}
 use Rattle.edit.specs.declared.meta.FileMeta.{FileMeta}
 use Rattle.edit.specs.declared.meta.NewFile.{NewFile}
 use Rattle.reads.specs.declared.level_file.LevelFile.{LevelFile}
-use Rattle.reads.specs.Bounds.{has_bounds}
+pub use Rattle.reads.specs.StatedFiles.{is_below, matches_metadata, IsStatedFile}
 use Rattle.reads.specs.Tables.{NumberedContents, table_of_number, table_entries}
 use Rattle.reads.specs.Lawful.{IsFileOf, IsBelowNextFile, AreDistinct}
 
@@ -39,30 +39,6 @@ is_before_end cmp range user = option_map_or (λ upper. is_lt (cmp user upper)) 
 abbrev pub steps_back : List ℕ → ℕ → List ℕ → ℕ → Bool
 steps_back last place key next = bytes_eq (user_of key) (user_of last)
     && (nat_lt next place || nat_le (sequence_of last) (sequence_of key))
-
--- whether a number is below next file; false if next file was never set
-abbrev pub is_below : Option ℕ → ℕ → Bool
-is_below None number = false
-is_below (Some next) number = nat_lt number next
-
--- whether the version states this length, first key and last key of a file, and its number is below
--- next file
-abbrev pub matches_metadata : Option ℕ → FileMeta → ℕ → List ℕ → List ℕ → Bool
-matches_metadata next f size smallest largest =
-    is_below next f.number && has_bounds f size smallest largest
-
--- a file's table is what the version states, and its number is below next file
-pub record IsStatedFile (cmp : KeyOrder) (tables : List NumberedContents) (next : Option ℕ)
-    (f : FileMeta) : Type 0 where
-  pub table : Contents
-  pub there : table_of_number tables f.number ≡ Some table
-  pub accepted : contents_reading cmp table.bytes ≡ Ok table
-  pub rising : EntriesRise cmp table.entries
-  pub size : f.size ≡ length table.bytes
-  pub smallest : option_map (λ e. e.key) (slice_get table.entries 0) ≡ Some f.smallest
-  pub largest : option_map (λ e. e.key) (slice_get table.entries (length table.entries - 1))
-      ≡ Some f.largest
-  pub below_next : IsBelowNextFile next f.number
 
 -- what is asked of each file alone
 pub record IsSoundFile (cmp : KeyOrder) (tables : List NumberedContents) (next : Option ℕ)

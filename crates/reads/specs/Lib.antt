@@ -3,8 +3,9 @@ pub mod Tables
 pub mod Gets
 pub mod Lawful
 pub mod NewestFirst
-pub mod TableOrder
 pub mod Bounds
+pub mod StatedFiles
+pub mod TableOrder
 -- serves proofs alone
 pub mod Visible
 pub mod FileChecks

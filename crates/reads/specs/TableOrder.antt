@@ -1,13 +1,18 @@
 -- The order of a version's tables, and entries that fall.
-use Rattle.std.specs.Prelude.{◌≡◌, ◌↔◌, ℕ, ◌<◌, List, Ok, AllPairs}
+use Rattle.std.specs.Prelude.{◌≡◌, ◌↔◌, ℕ, ◌<◌, List, map, Ok, AllPairs, Contains}
 use Rattle.std.specs.List.{All}
+use Rattle.std.specs.List.Sorted.{IsPermutation}
 use Rattle.ikey.specs.Key.{IsInternalKey, user_of, sequence_of}
 use Rattle.ikey.specs.Comparator.{KeyOrder}
 use Rattle.block.specs.EncodedEntry.{Entry}
 use Rattle.merge.specs.Merged.{entries_of_lists}
 use Rattle.edit.specs.Version.{State}
-use Rattle.reads.specs.Tables.{NumberedContents, tables_test}
+use Rattle.edit.specs.VersionOrder.{added_from}
+use Rattle.edit.specs.declared.meta.FileMeta.{FileMeta}
+use Rattle.edit.specs.declared.meta.NewFile.{NewFile}
+use Rattle.reads.specs.Tables.{NumberedContents, table_entries, tables_test}
 use Rattle.reads.specs.Lawful.{IsLawful}
+use Rattle.reads.specs.StatedFiles.{IsStatedFile}
 
 -- the first entry is newer: it has another user key, or a greater sequence
 abbrev pub IsNewer : Entry → Entry → Type 0
@@ -33,3 +38,24 @@ pub record AreStanding (cmp : KeyOrder) (v : State) (tables : List NumberedConte
     (lists : List (List Entry)) : Type 0 where
   pub there : tables_test tables v.files ≡ Ok tt
   pub lawful : IsLawful cmp v tables ↔ AreFalling (entries_of_lists lists)
+
+-- the version is lawful with no tables
+abbrev pub IsNeverLawful : KeyOrder → State → Type 0
+IsNeverLawful cmp v = (tables : List NumberedContents) → IsLawful cmp v tables → ⊥
+
+-- the entries of the tables of files, one list for each file
+abbrev pub lists_of_files : List NumberedContents → List FileMeta → List (List Entry)
+lists_of_files tables files = map (λ (f : FileMeta). table_entries tables f.number) files
+
+-- All files of a version, those with newer entries first. So the version is lawful with tables
+-- exactly if each file's table is what the version states and of each user key the sequences fall.
+pub record AreStandingFiles (cmp : KeyOrder) (v : State) (files : List FileMeta)
+    : Type 0 where
+  pub permutation : IsPermutation (map (λ (f : NewFile). f.meta) (added_from cmp v.files 0 7)) files
+  pub lawful : (tables : List NumberedContents) → IsLawful cmp v tables
+      ↔ (All (IsStatedFile cmp tables v.next_file) files
+      × AreFalling (entries_of_lists (lists_of_files tables files)))
+
+-- the files of all levels, in order, are all files of the version
+abbrev pub AreAllAdded : KeyOrder → State → Type 0
+AreAllAdded cmp v = (f : NewFile) → Contains v.files f → Contains (added_from cmp v.files 0 7) f

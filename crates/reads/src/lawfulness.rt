@@ -9,16 +9,17 @@ ghost use Rattle.std.specs.Prelude.{◌≡◌, ◌↔◌, true, map, Ok, IsTrue,
 ghost use Rattle.std.specs.Prelude.{length};
 ghost use Rattle.std.specs.List.{All};
 ghost use Rattle.std.specs.Result.{MatchResult};
-ghost use Rattle.std.specs.Option.{is_some};
+ghost use Rattle.std.specs.Option.{MatchOption, is_some};
+ghost use Rattle.std.specs.List.Sorted.{IsPermutation};
 ghost use Rattle.coding.specs.Answers.{fault, UnlessMemory};
 ghost use Rattle.coding.specs.declared.fault.FaultName.TheVariants.{Memory};
-ghost use Rattle.edit.specs.VersionOrder.{at_level};
+ghost use Rattle.edit.specs.VersionOrder.{added_from, at_level};
 ghost use Rattle.reads.specs.Tables.{table_of_number, table_entries, tables_test};
 ghost use Rattle.reads.specs.Lawful.{IsLawful, IsUnlawful};
-ghost use Rattle.reads.specs.FileChecks.{level_file_in, is_below, matches_metadata, IsStatedFile};
-ghost use Rattle.reads.specs.FileChecks.{stands_before, AreAll, rank_of, standing_cmp, AreListed};
-ghost use Rattle.reads.specs.FileChecks.{AreInTurn};
-ghost use Rattle.reads.specs.TableOrder.{AreStanding};
+ghost use Rattle.reads.specs.StatedFiles.{is_below, matches_metadata, IsStatedFile};
+ghost use Rattle.reads.specs.FileChecks.{level_file_in, stands_before, AreAll, rank_of};
+ghost use Rattle.reads.specs.FileChecks.{standing_cmp, AreListed, AreInTurn};
+ghost use Rattle.reads.specs.TableOrder.{AreAllAdded, AreStanding, AreStandingFiles, IsNeverLawful};
 
 use crate::bounds::has_bounds;
 use crate::entries_walk::falls_in;
@@ -109,6 +110,42 @@ fn standing_among<'t, 'a, C: Comparator>(
     tables_of(alloc, &files, tables)
 }
 
+/// All files of a version, those with newer entries first: by level, at level 0 by falling number,
+/// at each other level by smallest key. None if a file doesn't come before the next one, so that
+/// the version is lawful with no tables.
+///
+/// It makes all tests of [`lawful`] but those that need a table: that of each file, which
+/// [`is_stated`] makes, and that of each user key the sequences fall. The only fault is Memory.
+pub fn standing_files<'v, C: Comparator>(
+    alloc: Global,
+    version: &'v Version,
+) -> Result<Option<Vec<&'v FileMeta>>, Fault>
+    ensures standing { IfOk result (λ found.
+        MatchOption found (IsNeverLawful C.cmp version.now)
+        (λ files. AreStandingFiles C.cmp version.now (map (λ f. f.now) files.items))) }
+    ensures added { IfOk result (λ _. AreAllAdded C.cmp version.now) }
+    ensures memory { IfErr result (λ e. e ≡ fault Memory) }
+{
+    let files = listed_files::<C>(alloc, version)?;
+    if !are_in_turn::<C>(&files) {
+        return Ok(None);
+    }
+    Ok(Some(metas_of(alloc, &files)?))
+}
+
+/// What the version states of each file. The only fault is Memory.
+fn metas_of<'v>(alloc: Global, files: &[LevelFile<'v>]) -> Result<Vec<&'v FileMeta>, Fault>
+    ensures metas { IfOk result (λ v. map (λ f. f.now) v.items
+        ≡ map (λ f. f.meta.now) files.now) }
+    ensures memory { IfErr result (λ e. e ≡ fault Memory) }
+{
+    let mut metas = Vec::with_capacity(alloc, files.len())?;
+    for file in files {
+        metas.push(file.meta)?;
+    }
+    Ok(metas)
+}
+
 /// Appends the files of a level. The only fault is Memory.
 fn push_level<'v>(
     all: &mut Vec<LevelFile<'v>>,
@@ -131,6 +168,8 @@ fn all_files<'v, C: Comparator>(
     version: &'v Version,
 ) -> Result<Vec<LevelFile<'v>>, Fault>
     ensures all { IfOk result (λ files. AreAll version.now.files (map level_file_in files.items)) }
+    ensures order { IfOk result (λ files. map level_file_in files.items
+        ≡ added_from C.cmp version.now.files 0 7) }
     ensures memory { IfErr result (λ e. e ≡ fault Memory) }
 {
     let mut all = Vec::new(alloc);
@@ -165,6 +204,8 @@ fn listed_files<'v, C: Comparator>(
     version: &'v Version,
 ) -> Result<Vec<LevelFile<'v>>, Fault>
     ensures listed { IfOk result (λ files. AreListed C.cmp version.now.files files.items) }
+    ensures permutation { IfOk result (λ files.
+        IsPermutation (added_from C.cmp version.now.files 0 7) (map level_file_in files.items)) }
     ensures memory { IfErr result (λ e. e ≡ fault Memory) }
 {
     let mut files = all_files::<C>(alloc, version)?;
@@ -182,9 +223,9 @@ fn is_below(next: Option<u64>, number: u64) -> bool
     }
 }
 
-/// Whether the version states of `file` the length of `bytes` and these keys, and its number is
-/// below `next`.
-fn is_stated(
+/// Whether the version states of `file` the length of `bytes` and these smallest and largest keys,
+/// and its number is below `next`, the version's next file. Takes no memory.
+pub fn is_stated(
     next: Option<u64>,
     file: &FileMeta,
     bytes: &[u8],

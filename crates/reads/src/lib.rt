@@ -4,7 +4,7 @@
 //! 2. [`lawful`] tests a version with its tables: each table is what the version states of it, and
 //!    of each user key newer entries are above older ones.
 //! 3. [`standing_tables`] and [`falls_in`] make the same test in parts, so that workers may share
-//!    it.
+//!    it. [`standing_files`] and [`is_stated`] make the tests of the files, a table at a time.
 //! 4. [`get`] answers the value of a user key at a sequence.
 //!
 //! [`has_bounds`] tests what a version states of a file. [`answers_newest_first`] is the law that
@@ -27,7 +27,7 @@ mod version_get;
 
 pub use bounds::has_bounds;
 pub use entries_walk::falls_in;
-pub use lawfulness::{lawful, standing_tables};
+pub use lawfulness::{is_stated, lawful, standing_files, standing_tables};
 pub use newest_first_law::answers_newest_first;
 pub use numbered_table::NumberedTable;
 pub use version_get::get;

@@ -18,3 +18,4 @@ pub mod StoredTables
 pub mod Tables
 pub mod NamedBlocks
 pub mod KeyLists
+pub mod OwnedTables

@@ -18,3 +18,9 @@ pub record IsChecked (cmp : KeyOrder) (bytes : List ℕ) (named : List Entry)
   pub data_blocks : data_reading cmp index ≡ Ok blocks
   pub first : smallest ≡ first_key (entries_of blocks)
   pub last : largest ≡ last_key [] (entries_of blocks)
+
+-- the same for some entries of the index block
+pub record IsCheckedTable (cmp : List ℕ → List ℕ → Ordering) (bytes : List ℕ)
+    (smallest largest : List ℕ) : Type 0 where
+  pub named : List Entry
+  pub checked : IsChecked cmp bytes named smallest largest

@@ -1,7 +1,8 @@
 //! Tables: sorted lists of entries in files. `layout.rt` shows the format.
 //!
 //! 1. A [`TableBuilder`] with its [`Options`] writes a table, entry by entry.
-//! 2. [`check`] reads bytes as a table and answers a [`SoundTable`].
+//! 2. [`check`] reads bytes as a table and answers a [`SoundTable`]. An [`OwnedTable`] keeps its
+//!    bytes with that test, and lends a `SoundTable` again and again.
 //! 3. A [`TableCursor`] walks a `SoundTable`, and seeks in it, without a further test. [`Cursor`]
 //!    is what each cursor over sorted entries promises.
 //!
@@ -22,6 +23,7 @@ mod key_list;
 mod layout;
 mod named_block;
 mod options;
+mod owned_table;
 mod sound_table;
 mod table_check;
 mod table_cursor;
@@ -32,6 +34,7 @@ pub use cursor::{Cursor, Entries};
 pub use key_list::KeyList;
 pub use layout::{push_closing, push_index_entry, push_stored};
 pub use options::{MAX_BLOCK_SIZE, Options};
+pub use owned_table::OwnedTable;
 pub use sound_table::SoundTable;
 pub use table_check::{MAX_TABLE_LEN, MAX_VALUE_LEN, check, reads_tables};
 pub use table_cursor::TableCursor;

@@ -39,7 +39,7 @@ impl<'a, C: Comparator> Model for SoundTable<'a, C> {
 }
 
 impl<'a, C: Comparator> SoundTable<'a, C> {
-    ghost use Rattle.table.specs.SoundTables.{IsChecked};
+    ghost use Rattle.table.specs.SoundTables.{IsChecked, IsCheckedTable};
     ghost use Rattle.table.specs.IndexWalk.{Indexes};
 
     /// The bytes of the table, which read as what contracts see of it.
@@ -110,6 +110,13 @@ impl<'a, C: Comparator> SoundTable<'a, C> {
         }
     }
 
+    /// The first and the last key. Takes no memory.
+    pub(crate) fn into_bounds(self) -> Bounds
+        ensures { IsCheckedTable C.cmp self.entry.bytes result.smallest result.largest }
+    {
+        self.bounds
+    }
+
     /// The index block: its entries name the data blocks.
     pub(crate) fn index_block(&self) -> &SoundBlock<'a>
         ensures { Indexes C.cmp self.now.bytes result.now.entries self.now.entries }
@@ -123,4 +130,16 @@ impl<'a, C: Comparator> SoundTable<'a, C> {
 pub(crate) struct Bounds {
     pub smallest: KeyBuf,
     pub largest: KeyBuf,
+}
+
+impl Bounds {
+    /// A copy. The only fault is Memory.
+    pub fn copied(&self, alloc: Global) -> Result<Bounds, Fault>
+        ensures { EqualOrMemory (λ bounds. bounds) result (Ok self.now) }
+    {
+        Ok(Bounds {
+            smallest: KeyBuf::of(alloc, self.smallest.as_key())?,
+            largest: KeyBuf::of(alloc, self.largest.as_key())?,
+        })
+    }
 }

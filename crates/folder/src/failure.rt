@@ -3,6 +3,7 @@
 use std::alloc::{AllocError, Global};
 use std::fmt::{self, Display, Formatter, Write};
 use std::io;
+use std::io::ErrorKind;
 
 /// A call of a folder.
 #[derive(Clone, Copy, Debug, PartialEq, Eq)]
@@ -44,6 +45,11 @@ impl Failure {
             error,
             words: words_in(alloc, &error).unwrap_or(String::new(alloc)),
         }
+    }
+
+    /// Whether a file was not read since it has more than 2^30 bytes.
+    pub fn is_too_large(&self) -> bool {
+        self.call == FolderCall::Read && self.error.kind() == ErrorKind::FileTooLarge
     }
 }
 

@@ -70,6 +70,14 @@ fn is_told(rt: &HostRuntime, disk: &Disk<'_, HostRuntime>, line: &str) -> Result
     }
 }
 
+/// Whether the newest call that failed was to read a file that is too large.
+fn is_too_large(disk: &Disk<'_, HostRuntime>) -> bool {
+    match disk.last_failure() {
+        Some(failure) => failure.is_too_large(),
+        None => false,
+    }
+}
+
 #[test]
 fn failures_are_told(rt: HostRuntime) -> Result<(), Fail> {
     let path = new_path(&rt, "told")?;
@@ -125,6 +133,8 @@ fn tables_of_over_2_to_30_bytes_are_too_large(rt: HostRuntime) -> Result<(), Fai
     assert!(rt; sizes(&disk, &version) == Err(FaultName::TooLarge));
     assert!(rt; disk.read("000003.sst") == Err(FolderFault::Device));
     assert!(rt; is_told(&rt, &disk, "cannot read 000003.sst: file too large")?);
+    assert!(rt; is_too_large(&disk));
+    assert!(rt; disk.read(".").is_err() && !is_too_large(&disk));
     fs::remove_file(&rt, five.as_str())?;
     assert!(rt; sizes(&disk, &version) == Err(FaultName::Missing));
     // Loading fails at a table that is no file.

@@ -3,6 +3,7 @@ use Rattle.std.specs.Prelude.{Some, codes, true}
 use Rattle.clap.specs.Words.{App, Rule, Text, new_app, new_rule, with_rule, with_subcommand}
 use Rattle.clap.specs.declared.builder.action.ArgAction.TheVariants.{SetTrue}
 use Rattle.clap.specs.declared.builder.value_parser.ValueParser.TheVariants as parser
+use Rattle.grammar.specs.declared.commands.TheConstants.{MAX_MEMORY}
 
 -- an argument that must be given
 abbrev pub required_argument : Text → Rule
@@ -39,7 +40,7 @@ bare_app =
 abbrev pub dump_app : App
 dump_app = with_rule (new_app (codes "dump")) (required_argument (codes "TABLE"))
 
--- a command on a folder, as `verify DIR [-v]`
+-- a command on a folder, as `manifest DIR [-v]`
 abbrev pub folder_app : Text → App
 folder_app name = with_rule (with_rule (new_app name) (required_argument (codes "DIR")))
     verbose_rule
@@ -54,12 +55,34 @@ number_rule id =
           Some (parser.Unsigned 0 18446744073709551615);
     }
 
--- `get DIR HEXKEY [--at N] [-v]`
+-- `--memory MIB`: 1 to 2^24
+abbrev pub memory_rule : Rule
+memory_rule =
+    record (new_rule (codes "memory")) {
+      long = Some (codes "memory");
+      value_names = 1;
+      parser =
+          Some (parser.Unsigned 1 MAX_MEMORY);
+    }
+
+-- `[--no-verify] [--memory MIB]`, after what a command has
+abbrev pub with_testing : App → App
+with_testing app = with_rule (with_rule app (flag_rule (codes "no-verify"))) memory_rule
+
+-- `verify DIR [--memory MIB] [-v]`
+abbrev pub verify_app : App
+verify_app =
+    with_rule
+    (with_rule (with_rule (new_app (codes "verify")) (required_argument (codes "DIR"))) memory_rule)
+    verbose_rule
+
+-- `get DIR HEXKEY [--at N] [--no-verify] [--memory MIB] [-v]`
 abbrev pub get_app : App
 get_app =
     with_rule
+    (with_testing
     (with_rule (with_rule (with_rule (new_app (codes "get")) (required_argument (codes "DIR")))
-    (required_argument (codes "HEXKEY"))) (number_rule (codes "at")))
+    (required_argument (codes "HEXKEY"))) (number_rule (codes "at"))))
     verbose_rule
 
 -- `--snapshots S,S,..`
@@ -89,10 +112,10 @@ with_work app =
     (with_rule (with_rule app (number_rule (codes "workers"))) (number_rule (codes "ranges")))
     verbose_rule) (flag_rule (codes "explain"))
 
--- `compact DIR [--level N] [--all] [--workers W] [--ranges R] [-v] [--explain] [--snapshot S]
--- [--snapshots S,S,..] [--block-size B] [--file-size F]`
+-- `compact DIR [--level N] [--all] [--no-verify] [--memory MIB] [--workers W] [--ranges R] [-v]
+-- [--explain] [--snapshot S] [--snapshots S,S,..] [--block-size B] [--file-size F]`
 abbrev pub compact_app : App
-compact_app = with_outputs (with_work (with_levels (new_app (codes "compact"))))
+compact_app = with_outputs (with_work (with_testing (with_levels (new_app (codes "compact")))))
 
 -- the app with `blocks`, `dump` and `manifest`
 abbrev pub with_files_shown : App → App
@@ -104,4 +127,4 @@ with_files_shown app =
 abbrev pub program_app : App
 program_app =
     with_subcommand (with_subcommand (with_subcommand (with_files_shown bare_app)
-    (folder_app (codes "verify")).top) get_app.top) compact_app.top
+    verify_app.top) get_app.top) compact_app.top

@@ -14,3 +14,4 @@ mod AloneLemmas
 pub mod CountLemmas
 pub mod ReportLemmas
 mod ShelfLemmas
+mod PartLemmas

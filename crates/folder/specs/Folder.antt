@@ -1,6 +1,7 @@
 -- What the calls of a folder guarantee.
 use Rattle.std.specs.Prelude.{◌≡◌, ◌⊎◌, ◌↔◌, ℕ, ◌+◌, ◌<◌, ◌^◌, ◌-◌, nat_eq, if◌then◌else◌, List}
-use Rattle.std.specs.Prelude.{Option, Result, Ok, Err}
+use Rattle.std.specs.Prelude.{take, drop, Option, Result, Ok, Err}
+use Rattle.std.specs.Option.{option_map}
 use Rattle.coding.specs.declared.fault.FaultName.{FaultName}
 use Rattle.coding.specs.declared.fault.FaultName.TheVariants as name
 use Rattle.folder.specs.Calls.{Step, ToldFiles}
@@ -29,6 +30,17 @@ DeviceFailed before now = (before < now) ⊎ (before ≡ 2 ^ 64 - 1)
 -- the folder tells the same as before
 abbrev pub TellsSame : ToldFiles → ToldFiles → Type 0
 TellsSame old new = (name : List ℕ) (held : Option (List ℕ)) → old name held ↔ new name held
+
+-- at most this many bytes, from an offset on
+abbrev pub part_of : ℕ → ℕ → List ℕ → List ℕ
+part_of offset len bytes = take len (drop offset bytes)
+
+-- A read of a part may give this: that part of what a read of the whole may give, or None for no
+-- file.
+abbrev pub TellsPart : (List ℕ → Option (List ℕ) → Type 0) → List ℕ → ℕ → ℕ → Option (List ℕ) →
+    Type 0
+TellsPart tells name offset len part = (held : Option (List ℕ))
+    × (tells name held × (option_map (part_of offset len) held ≡ part))
 
 -- what contracts see of a folder that tells nothing: the calls that write in their order, those
 -- that failed too, and how often the device has failed

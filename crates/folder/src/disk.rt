@@ -1,6 +1,6 @@
 //! A folder of the system.
 
-ghost use Rattle.std.specs.Prelude.{◌≡◌, [], ◌∷◌, ◌++◌};
+ghost use Rattle.std.specs.Prelude.{◌≡◌, [], ◌∷◌, ◌++◌, IfOk, Ok};
 ghost use Rattle.folder.specs.Calls.{step_of};
 ghost use Rattle.folder.specs.Folder.{failures_after, one_more};
 ghost use Rattle.folder.specs.Attempts.{call_in};
@@ -9,7 +9,7 @@ use crate::failure::{Failure, FolderCall};
 use crate::folder::{Folder, FolderFault};
 use crate::kept::Kept;
 use crate::order::Order;
-use crate::system::{done_in, read_in};
+use crate::system::{done_in, part_in, read_in};
 use crate::system_files::SystemFiles;
 use crate::table_loader::{files_due, numbers_in, tables_ahead};
 use crate::table_sizes::check_sizes_in;
@@ -136,6 +136,16 @@ impl<'r, R: SystemFiles + AllocGlobal> Folder for Disk<'r, R> {
         self.counted(answer, FolderCall::Read, name)
     }
 
+    fn read_part(
+        &mut self,
+        name: &str,
+        offset: u64,
+        len: usize,
+    ) -> Result<Option<Vec<u8>>, FolderFault> {
+        let answer = part_in(self.rt, self.rt.alloc(), self.path, name, offset, len);
+        self.counted(answer, FolderCall::Read, name)
+    }
+
     fn create(&mut self, name: &str, bytes: &[u8]) -> Result<(), FolderFault> {
         self.ahead.clear();
         self.write(WriteCall::Create(name, bytes))
@@ -180,6 +190,7 @@ impl<'r, R: SystemFiles + AllocGlobal> Disk<'r, R> {
         call: FolderCall,
         name: &str,
     ) -> Result<T, FolderFault>
+        ensures value { IfOk result (λ value. answer ≡ Ok value) }
         ensures failures { self.new.failures ≡ failures_after self.old.failures result }
         ensures trail { self.new.trail ≡ self.old.trail }
     {

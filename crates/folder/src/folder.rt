@@ -55,7 +55,7 @@ pub trait Folder {
     ghost use Rattle.std.specs.Option.{option_map};
     ghost use Rattle.folder.specs.Calls.{Step, step_of, Created, Synced, Renamed, FolderSynced};
     ghost use Rattle.folder.specs.Calls.{TellsAfter};
-    ghost use Rattle.folder.specs.Folder.{TellsSame, failures_after};
+    ghost use Rattle.folder.specs.Folder.{TellsPart, TellsSame, failures_after};
 
     /// What the folder tells: whether a read of a name may give these bytes, or None. A folder that
     /// tells nothing allows every answer.
@@ -72,6 +72,20 @@ pub trait Folder {
     fn read(&mut self, name: &str) -> Result<Option<Vec<u8>>, FolderFault>
         ensures held { IfOk result
             (λ held. tells self.old name.now (option_map (λ bytes. bytes.items) held)) }
+        ensures same { TellsSame (tells self.old) (tells self.new) }
+        ensures calls { calls self.new ≡ calls self.old }
+        ensures failures { failed self.new ≡ failures_after (failed self.old) result };
+
+    /// The `len` bytes of a file from `offset` on, or as many as it has there. None if no file has
+    /// this name.
+    fn read_part(
+        &mut self,
+        name: &str,
+        offset: u64,
+        len: usize,
+    ) -> Result<Option<Vec<u8>>, FolderFault>
+        ensures held { IfOk result (λ part. TellsPart (tells self.old) name.now offset len
+            (option_map (λ bytes. bytes.items) part)) }
         ensures same { TellsSame (tells self.old) (tells self.new) }
         ensures calls { calls self.new ≡ calls self.old }
         ensures failures { failed self.new ≡ failures_after (failed self.old) result };

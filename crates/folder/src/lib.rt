@@ -9,7 +9,8 @@
 //!
 //! What a `Disk` does. It tells contracts nothing of what it holds.
 //!
-//! - read: what is no regular file, or has more than 2^30 bytes, is Device, and isn't read.
+//! - read, read_part: what is no regular file, or has more than 2^30 bytes, is Device, and isn't
+//!   read.
 //! - create: the name is removed, and a new file is made of the bytes. So no file that is there is
 //!   written to, be it through a link. The new one gets the permissions of CURRENT, and its owner
 //!   and group if the program may set them. If it can't be written whole, it is removed again.

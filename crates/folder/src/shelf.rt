@@ -4,7 +4,7 @@ ghost use Rattle.std.specs.Prelude.{◌≡◌, [], ◌∷◌, ◌++◌, map, Err
 ghost use Rattle.std.specs.Option.{option_map};
 ghost use Rattle.folder.specs.Attempts.{Alters, call_in, tried_if};
 ghost use Rattle.folder.specs.Calls.{Files, Tells, step_of};
-ghost use Rattle.folder.specs.Folder.{failures_after};
+ghost use Rattle.folder.specs.Folder.{failures_after, part_of};
 ghost use Rattle.folder.specs.Shelf.{files_after_steps, files_in, held_by, made_by};
 ghost use Rattle.folder.specs.declared.folder.FolderFault.TheVariants.{Memory};
 
@@ -143,6 +143,21 @@ impl<'a> Folder for Shelf<'a> {
         }
     }
 
+    fn read_part(
+        &mut self,
+        name: &str,
+        offset: u64,
+        len: usize,
+    ) -> Result<Option<Vec<u8>>, FolderFault> {
+        if let Some(failing) = self.called() {
+            return self.fail(failing.fault);
+        }
+        match self.held(name) {
+            Some(bytes) => Ok(Some(Vec::from_slice(self.alloc, part_of(bytes, offset, len))?)),
+            None => Ok(None),
+        }
+    }
+
     fn create(&mut self, name: &str, bytes: &[u8]) -> Result<(), FolderFault> {
         self.write(WriteCall::Create(name, bytes))
     }
@@ -230,6 +245,16 @@ impl<'a> Shelf<'a> {
         }
         Err(fault)
     }
+}
+
+/// The `len` bytes from `offset` on, or as many as there are.
+fn part_of(bytes: &[u8], offset: u64, len: usize) -> &[u8]
+    ensures { result.now ≡ part_of offset len bytes.now }
+{
+    let start = offset.min(bytes.len() as u64) as usize;
+    let (_, rest) = bytes.split_at(start);
+    let (part, _) = rest.split_at(len.min(rest.len()));
+    part
 }
 
 /// The bytes of the first file of a `name`.

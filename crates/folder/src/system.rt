@@ -1,5 +1,7 @@
 //! The calls of a folder of the system, as the system answers them.
 
+ghost use Rattle.std.specs.Prelude.{◌≤◌, length, IfOk, IfSome};
+
 use crate::kept::Kept;
 use crate::owned::new_file;
 use crate::system_files::{SystemFiles, regular};
@@ -7,7 +9,7 @@ use crate::trail::WriteCall;
 use crate::whole_files::{path_in, synced, whole};
 use std::alloc::Global;
 use std::fs::{File, OpenFile};
-use std::io::{ErrorKind, Write};
+use std::io::{ErrorKind, Read, Seek, SeekFrom, Write};
 use std::rt::Files;
 use std::{fs, io};
 
@@ -27,6 +29,46 @@ pub(crate) fn read_in<R: Files>(
         Err(error) if error.kind() == ErrorKind::NotFound => Ok(None),
         Err(error) => Err(error),
     }
+}
+
+/// The `len` bytes of a file from `offset` on, or as many as it has there. None if no file has this
+/// `name`.
+pub(crate) fn part_in<R: Files>(
+    rt: &R,
+    alloc: Global,
+    folder: &str,
+    name: &str,
+    offset: u64,
+    len: usize,
+) -> io::Result<Option<Vec<u8>>>
+    ensures { IfOk result (λ part. IfSome part (λ bytes. length bytes.items ≤ len)) }
+{
+    let path = path_in(alloc, folder, name)?;
+    match part(rt, alloc, path.as_str(), offset, len) {
+        Ok(bytes) => Ok(Some(bytes)),
+        Err(error) if error.kind() == ErrorKind::NotFound => Ok(None),
+        Err(error) => Err(error),
+    }
+}
+
+/// That part of the file at `path`. No more memory is taken than the file has bytes there. The
+/// system's error if there is no such file, or if it can't be read. Other if it is no regular file,
+/// FileTooLarge if it has more than 2^30 bytes.
+fn part<R: Files>(rt: &R, alloc: Global, path: &str, offset: u64, len: usize) -> io::Result<Vec<u8>>
+    ensures { IfOk result (λ bytes. length bytes.items ≤ len) }
+{
+    regular(rt, path)?;
+    let mut file = File::open(rt, path)?;
+    let length = file.metadata()?.len();
+    if length > MOST_BYTES {
+        return Err(ErrorKind::FileTooLarge.into());
+    }
+    let start = offset.min(length);
+    let there = (length - start).min(len as u64) as usize;
+    let mut bytes = vec![in alloc; 0; there]?;
+    file.seek(SeekFrom::Start(start))?;
+    file.read_exact(&mut bytes)?;
+    Ok(bytes)
 }
 
 /// The length of a file in bytes. None if no file has this `name`.

@@ -3,6 +3,7 @@ use Rattle.std.specs.Prelude.{List, [], ◌∷◌, Some, codes, true}
 use Rattle.clap.specs.Words.{App, Rule, Text, new_app, new_rule, with_rule, with_subcommand}
 use Rattle.clap.specs.declared.builder.action.ArgAction.TheVariants.{SetTrue}
 use Rattle.clap.specs.declared.builder.value_parser.ValueParser.TheVariants as parser
+use Rattle.grammar.specs.declared.commands.TheConstants.{MAX_MEMORY}
 
 -- the app with these arguments too, in their order
 abbrev pub with_rules : App → List Rule → App
@@ -47,14 +48,28 @@ bare_app = let app = new_app (codes "sedvokt") in
 abbrev pub dump_app : App
 dump_app = with_rule (new_app (codes "dump")) (required_argument (codes "TABLE"))
 
--- a command on a folder, as `verify DIR [-v]`
+-- a command on a folder, as `manifest DIR [-v]`
 abbrev pub folder_app : Text → App
 folder_app name = with_rules (new_app name) (required_argument (codes "DIR") ∷ verbose_rule ∷ [])
 
--- `get DIR HEXKEY [--at N] [-v]`
+-- `--memory MIB`: 1 to 2^24
+abbrev pub memory_rule : Rule
+memory_rule = record (value_rule (codes "memory")) { parser = Some (parser.Unsigned 1 MAX_MEMORY) }
+
+-- `[--no-verify] [--memory MIB]`, after what a command has
+abbrev pub with_testing : App → App
+with_testing app = with_rules app (flag_rule (codes "no-verify") ∷ memory_rule ∷ [])
+
+-- `verify DIR [--memory MIB] [-v]`
+abbrev pub verify_app : App
+verify_app = with_rules (new_app (codes "verify")) (required_argument (codes "DIR") ∷ memory_rule
+    ∷ verbose_rule ∷ [])
+
+-- `get DIR HEXKEY [--at N] [--no-verify] [--memory MIB] [-v]`
 abbrev pub get_app : App
-get_app = with_rules (new_app (codes "get")) (required_argument (codes "DIR")
-    ∷ required_argument (codes "HEXKEY") ∷ number_rule (codes "at") ∷ verbose_rule ∷ [])
+get_app = with_rule (with_testing (with_rules (new_app (codes "get")) (required_argument
+    (codes "DIR") ∷ required_argument (codes "HEXKEY") ∷ number_rule (codes "at") ∷ [])))
+    verbose_rule
 
 -- `[--snapshot S] [--snapshots S,S,..] [--block-size B] [--file-size F]`, after what a command has
 abbrev pub with_outputs : App → App
@@ -71,10 +86,10 @@ abbrev pub with_work : App → App
 with_work app = with_rules app (number_rule (codes "workers") ∷ number_rule (codes "ranges")
     ∷ verbose_rule ∷ flag_rule (codes "explain") ∷ [])
 
--- `compact DIR [--level N] [--all] [--workers W] [--ranges R] [-v] [--explain] [--snapshot S]
--- [--snapshots S,S,..] [--block-size B] [--file-size F]`
+-- `compact DIR [--level N] [--all] [--no-verify] [--memory MIB] [--workers W] [--ranges R] [-v]
+-- [--explain] [--snapshot S] [--snapshots S,S,..] [--block-size B] [--file-size F]`
 abbrev pub compact_app : App
-compact_app = with_outputs (with_work (with_levels (new_app (codes "compact"))))
+compact_app = with_outputs (with_work (with_testing (with_levels (new_app (codes "compact")))))
 
 -- the app with these commands too, in their order
 abbrev pub with_commands : App → List App → App
@@ -84,4 +99,4 @@ with_commands app (command ∷ commands) = with_commands (with_subcommand app co
 -- the program with its commands
 abbrev pub program_app : App
 program_app = with_commands bare_app (blocks_app ∷ dump_app ∷ folder_app (codes "manifest")
-    ∷ folder_app (codes "verify") ∷ get_app ∷ compact_app ∷ [])
+    ∷ verify_app ∷ get_app ∷ compact_app ∷ [])

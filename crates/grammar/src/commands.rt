@@ -4,12 +4,16 @@ ghost use Rattle.std.specs.Prelude.{◌≡◌, IfOk, codes};
 ghost use Rattle.clap.specs.Words.{App, app_of, new_app, with_subcommand};
 ghost use Rattle.grammar.specs.Commands.{Extends, IsCommand, with_argument};
 ghost use Rattle.grammar.specs.Apps.{at_rule, bare_app, blocks_app, compact_app, dump_app};
-ghost use Rattle.grammar.specs.Apps.{flag_rule, folder_app, get_app, number_rule, program_app};
-ghost use Rattle.grammar.specs.Apps.{required_argument, value_rule, verbose_rule, with_levels};
-ghost use Rattle.grammar.specs.Apps.{with_outputs, with_work};
+ghost use Rattle.grammar.specs.Apps.{flag_rule, folder_app, get_app, memory_rule, number_rule};
+ghost use Rattle.grammar.specs.Apps.{program_app, required_argument, value_rule, verbose_rule};
+ghost use Rattle.grammar.specs.Apps.{verify_app, with_levels, with_outputs, with_testing, with_work};
 
+use clap::builder::ValueParser;
 use clap::{Arg, ArgAction, Command, value_parser};
 use std::alloc::{AllocError, Global};
+
+/// The most MiB of memory that may be asked for, 2^24.
+pub const MAX_MEMORY: u64 = 16_777_216;
 
 /// The version, and the logic of the kit that proved it.
 const VERSION: &str = "0.1.0, proved with a Rattle kit of logic dac8208d650f15bf";
@@ -56,6 +60,14 @@ const EXPLAIN_HELP: &str =
     "Tells on the standard error, after the lines of each compaction, how it went: inputs, ranges, \
         what was kept and dropped, and outputs, with bars";
 
+const NO_VERIFY_HELP: &str =
+    "Takes the version for lawful and tests only what it reads: the version was verified before, and \
+        no other program changed it since";
+
+const MEMORY_HELP: &str =
+    "How many MiB of tables the test of the version may hold: 1 to 16777216; 1024 where it is left \
+        out";
+
 const BLOCKS_EXAMPLE: &str = "Example: sedvokt blocks A B --at 6b3130 OUT";
 
 const DUMP_EXAMPLE: &str = "Example: sedvokt dump db/000005.ldb";
@@ -64,11 +76,12 @@ const MANIFEST_EXAMPLE: &str = "Example: sedvokt manifest db";
 
 const VERIFY_EXAMPLE: &str = "Example: sedvokt verify db -v";
 
-const GET_EXAMPLE: &str = "Example: sedvokt get db 6b3030303031 --at 1151";
+const GET_EXAMPLE: &str = "Examples: sedvokt get db 6b3030303031 --at 1151
+          sedvokt get db 6b3030303031 --no-verify";
 
 const COMPACT_EXAMPLE: &str = "Examples: sedvokt compact db --level 0
           sedvokt compact db --all --snapshots 900,1151
-          sedvokt compact db --level 1 --explain";
+          sedvokt compact db --level 1 --no-verify --explain";
 
 const WORKERS_HELP: &str = "How many workers carry it out: 1 to 64; 4 if it is left out";
 
@@ -104,10 +117,7 @@ pub fn program_command<'a>(alloc: Global) -> Result<Command<'a>, AllocError>
         command,
         folder_command(alloc, "manifest", MANIFEST_ABOUT, MANIFEST_EXAMPLE),
     )?;
-    let command = with_command(
-        command,
-        folder_command(alloc, "verify", VERIFY_ABOUT, VERIFY_EXAMPLE),
-    )?;
+    let command = with_command(command, verify_command(alloc))?;
     let command = with_command(command, get_command(alloc))?;
     with_command(command, compact_command(alloc))
 }
@@ -145,7 +155,17 @@ fn blocks_command<'a>(alloc: Global) -> Result<Command<'a>, AllocError>
     with_wanted(alloc, command, "OUT", OUT_HELP)
 }
 
-/// The command `get DIR HEXKEY [--at N] [-v]`.
+/// The command `verify DIR [--memory MIB] [-v]`.
+fn verify_command<'a>(alloc: Global) -> Result<Command<'a>, AllocError>
+    ensures { IfOk result (IsCommand verify_app) }
+{
+    let command = named(alloc, "verify", VERIFY_ABOUT, VERIFY_EXAMPLE);
+    let command = with_wanted(alloc, command, "DIR", FOLDER_HELP)?;
+    let command = with_memory(alloc, command)?;
+    with_verbose(alloc, command)
+}
+
+/// The command `get DIR HEXKEY [--at N] [--no-verify] [--memory MIB] [-v]`.
 fn get_command<'a>(alloc: Global) -> Result<Command<'a>, AllocError>
     ensures { IfOk result (IsCommand get_app) }
 {
@@ -153,6 +173,7 @@ fn get_command<'a>(alloc: Global) -> Result<Command<'a>, AllocError>
     let command = with_wanted(alloc, command, "DIR", FOLDER_HELP)?;
     let command = with_wanted(alloc, command, "HEXKEY", GET_KEY_HELP)?;
     let command = with_number(alloc, command, "at", "N", GET_AT_HELP)?;
+    let command = with_testing(alloc, command)?;
     with_verbose(alloc, command)
 }
 
@@ -164,7 +185,7 @@ fn dump_command<'a>(alloc: Global) -> Result<Command<'a>, AllocError>
     with_wanted(alloc, command, "TABLE", "The file of the table")
 }
 
-/// A command on a folder, as `verify DIR [-v]`.
+/// A command on a folder, as `manifest DIR [-v]`.
 fn folder_command<'a>(
     alloc: Global,
     name: &'a str,
@@ -184,6 +205,7 @@ fn compact_command<'a>(alloc: Global) -> Result<Command<'a>, AllocError>
 {
     let command = named(alloc, "compact", COMPACT_ABOUT, COMPACT_EXAMPLE);
     let command = with_levels(alloc, command)?;
+    let command = with_testing(alloc, command)?;
     let command = with_work(alloc, command)?;
     with_outputs(alloc, command)
 }
@@ -195,6 +217,14 @@ fn with_levels<'a>(alloc: Global, command: Command<'a>) -> Result<Command<'a>, A
     let command = with_wanted(alloc, command, "DIR", FOLDER_HELP)?;
     let command = with_number(alloc, command, "level", "N", LEVEL_HELP)?;
     with_flag(alloc, command, "all", ALL_HELP)
+}
+
+/// The command with the options on the test of the version.
+fn with_testing<'a>(alloc: Global, command: Command<'a>) -> Result<Command<'a>, AllocError>
+    ensures { IfOk result (Extends with_testing command.entry) }
+{
+    let command = with_flag(alloc, command, "no-verify", NO_VERIFY_HELP)?;
+    with_memory(alloc, command)
 }
 
 /// The command with the options on workers and ranges, and on what is told.
@@ -252,6 +282,18 @@ fn with_number<'a>(
         .value_parser(value_parser!(u64))
         .help(help);
     command.arg(number)
+}
+
+/// The command with `--memory MIB`.
+fn with_memory<'a>(alloc: Global, command: Command<'a>) -> Result<Command<'a>, AllocError>
+    ensures { IfOk result (Extends (with_argument memory_rule) command.entry) }
+{
+    let memory = Arg::new(alloc, "memory")
+        .long("memory")
+        .value_name("MIB")
+        .value_parser(ValueParser::unsigned(1, MAX_MEMORY))
+        .help(MEMORY_HELP);
+    command.arg(memory)
 }
 
 /// The command with the flag `-v`.

@@ -5,8 +5,8 @@
 //!     blocks A B --at HEXKEY OUT
 //!     dump TABLE
 //!     manifest DIR [-v]
-//!     verify DIR [-v]
-//!     get DIR HEXKEY [--at N] [-v]
+//!     verify DIR [--memory MIB] [-v]
+//!     get DIR HEXKEY [--at N] [--no-verify] [--memory MIB] [-v]
 //!     compact DIR (--level N | --all) [options]
 //!
 //! That `--level` and `--all` exclude each other isn't said to `clap`: `usage` tests it. No
@@ -15,4 +15,4 @@
 
 mod commands;
 
-pub use commands::program_command;
+pub use commands::{MAX_MEMORY, program_command};

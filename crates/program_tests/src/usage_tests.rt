@@ -22,36 +22,44 @@ const ROWS: &[Row] = &[
     ),
     (
         "sedvokt|verify|one|-v",
-        r#"Verify { folder: "one", verbose: true }"#,
+        r#"Verify { folder: "one", memory: 1024, verbose: true }"#,
     ),
+    (
+        "sedvokt|verify|one|--memory|16777216",
+        r#"Verify { folder: "one", memory: 16777216, verbose: false }"#,
+    ),
+    ("sedvokt|verify|one|--memory|16777217", "mistake"),
     (
         "sedvokt|get|one|75",
-        r#"Get { folder: "one", key: [117], at: None, verbose: false }"#,
+        "Get { folder: \"one\", key: [117], at: None, testing: Testing { is_skipped: false, memory: \
+            1024 }, verbose: false }",
     ),
     (
-        "sedvokt|get|one|-|--at|18446744073709551615",
-        r#"Get { folder: "one", key: [], at: Some(18446744073709551615), verbose: false }"#,
+        "sedvokt|get|one|-|--no-verify|--at|18446744073709551615|--memory|1",
+        "Get { folder: \"one\", key: [], at: Some(18446744073709551615), testing: Testing { \
+            is_skipped: true, memory: 1 }, verbose: false }",
     ),
     (
         "sedvokt|compact|one|--level|1",
         "Compact { folder: \"one\", levels: One(1), settings: Settings { workers: 4, ranges: 8, \
             snapshots: Listed([]), options: Options { block_size: 4096, restart_interval: 16, \
-            file_size: 2097152 } }, verbosity: Verbosity { verbose: false, explain: false } }",
+            file_size: 2097152 } }, testing: Testing { is_skipped: false, memory: 1024 }, \
+            verbosity: Verbosity { verbose: false, explain: false } }",
     ),
     (
         "sedvokt|compact|--workers|0|--file-size=18446744073709551615|one|--ranges|4097|--block-siz\
             e|007|--level|6|--snapshot|3",
         "Compact { folder: \"one\", levels: One(6), settings: Settings { workers: 0, ranges: 4097, \
             snapshots: From(3), options: Options { block_size: 7, restart_interval: 16, \
-            file_size: 18446744073709551615 } }, verbosity: Verbosity { verbose: false, explain: \
-            false } }",
+            file_size: 18446744073709551615 } }, testing: Testing { is_skipped: false, memory: \
+            1024 }, verbosity: Verbosity { verbose: false, explain: false } }",
     ),
     (
-        "sedvokt|compact|--explain|one|-v|--all|--snapshots|9,0,18446744073709551615",
+        "sedvokt|compact|--explain|one|-v|--all|--snapshots|9,0,18446744073709551615|--no-verify",
         "Compact { folder: \"one\", levels: All, settings: Settings { workers: 4, ranges: 8, \
             snapshots: Listed([9, 0, 18446744073709551615]), options: Options { block_size: 4096, \
-            restart_interval: 16, file_size: 2097152 } }, verbosity: Verbosity { verbose: true, \
-            explain: true } }",
+            restart_interval: 16, file_size: 2097152 } }, testing: Testing { is_skipped: true, \
+            memory: 1024 }, verbosity: Verbosity { verbose: true, explain: true } }",
     ),
     (
         "sedvokt|compact|one|--all|--snapshots|18446744073709551616",

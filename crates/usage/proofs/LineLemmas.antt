@@ -24,6 +24,7 @@ use Rattle.usage.specs.declared.compact_texts.CompactNumbers.{CompactNumbers}
 use Rattle.usage.specs.declared.requests.Levels.{Levels}
 use Rattle.usage.specs.declared.requests.Line.{Line}
 use Rattle.usage.specs.declared.requests.Line.TheVariants as line
+use Rattle.usage.specs.declared.requests.Testing.{Testing}
 use Rattle.usage.specs.declared.requests.Verbosity.{Verbosity}
 use Rattle.usage.specs.Usage.{TurnsInto}
 use Rattle.usage.specs.declared.requests.Usage.{Usage}
@@ -151,61 +152,63 @@ LineGives-blocks words a b at out (Ok (line.Blocks a' b' key out')) given h = (
 )
 LineGives-blocks words a b at out (Ok (line.Dump table)) given h = absurd h
 LineGives-blocks words a b at out (Ok (line.Manifest folder verbose)) given h = absurd h
-LineGives-blocks words a b at out (Ok (line.Verify folder verbose)) given h = absurd h
-LineGives-blocks words a b at out (Ok (line.Get folder key sequence verbose)) given h = absurd h
+LineGives-blocks words a b at out (Ok (line.Verify folder memory verbose)) given h = absurd h
+LineGives-blocks words a b at out (Ok (line.Get folder key sequence testing verbose)) given h = absurd h
 LineGives-blocks words a b at out (Err Key) given h = (at, (inl (a, b, out, given), h))
-LineGives-blocks words a b at out (Ok (line.Compact folder levels settings verbose)) given h = absurd h
+LineGives-blocks words a b at out (Ok (line.Compact folder levels settings testing verbose)) given h = absurd h
 LineGives-blocks words a b at out (Err Snapshots) given h = absurd h
 LineGives-blocks words a b at out (Err Memory) given h = tt
 LineGives-blocks words a b at out (Err (Clap e)) given h = absurd h
 
 -- the line of the texts of `get`
-pub LineGives-get : (words : List Text) (folder key : Text) (at : Option ℕ) (verbose : Bool) (r : Result Line Usage) → GivesRows words (codes "get") (HasGet folder key at verbose)
-    → GetLine folder key at verbose r → LineGives words r
-LineGives-get words folder key at verbose (Ok (line.Get folder' key' at' verbose')) given h = (
+pub LineGives-get : (words : List Text) (folder key : Text) (at : Option ℕ) (testing : Testing) (verbose : Bool) (r : Result Line Usage) → GivesRows words (codes "get") (HasGet folder key at testing verbose)
+    → GetLine folder key at testing verbose r → LineGives words r
+LineGives-get words folder key at testing verbose (Ok (line.Get folder' key' at' testing' verbose')) given h = (
   key,
   (
-    subst (λ (x : Text). GivesRows words (codes "get") (HasGet x key at' verbose')) (sym h.0)
-        (subst (λ (n : Option ℕ). GivesRows words (codes "get") (HasGet folder key n verbose')) (sym h.1.1.0)
-        (subst (λ (v : Bool). GivesRows words (codes "get") (HasGet folder key at v)) (sym h.1.1.1) given)),
+    subst (λ (x : Text). GivesRows words (codes "get") (HasGet x key at' testing' verbose')) (sym h.0)
+        (subst (λ (n : Option ℕ). GivesRows words (codes "get") (HasGet folder key n testing' verbose')) (sym h.1.1.0)
+        (subst (λ (t : Testing). GivesRows words (codes "get") (HasGet folder key at t verbose')) (sym h.1.1.1.0)
+        (subst (λ (v : Bool). GivesRows words (codes "get") (HasGet folder key at testing v)) (sym h.1.1.1.1) given))),
     h.1.0,
   ),
 )
-LineGives-get words folder key at verbose (Ok (line.Blocks a b k out)) given h = absurd h
-LineGives-get words folder key at verbose (Ok (line.Dump table)) given h = absurd h
-LineGives-get words folder key at verbose (Ok (line.Manifest f v)) given h = absurd h
-LineGives-get words folder key at verbose (Ok (line.Verify f v)) given h = absurd h
-LineGives-get words folder key at verbose (Ok (line.Compact f levels settings v)) given h = absurd h
-LineGives-get words folder key at verbose (Err Key) given h = (key, (inr (folder, at, verbose, given), h))
-LineGives-get words folder key at verbose (Err Snapshots) given h = absurd h
-LineGives-get words folder key at verbose (Err Memory) given h = tt
-LineGives-get words folder key at verbose (Err (Clap e)) given h = absurd h
+LineGives-get words folder key at testing verbose (Ok (line.Blocks a b k out)) given h = absurd h
+LineGives-get words folder key at testing verbose (Ok (line.Dump table)) given h = absurd h
+LineGives-get words folder key at testing verbose (Ok (line.Manifest f v)) given h = absurd h
+LineGives-get words folder key at testing verbose (Ok (line.Verify f m v)) given h = absurd h
+LineGives-get words folder key at testing verbose (Ok (line.Compact f levels settings t v)) given h = absurd h
+LineGives-get words folder key at testing verbose (Err Key) given h = (key, (inr (folder, at, testing, verbose, given), h))
+LineGives-get words folder key at testing verbose (Err Snapshots) given h = absurd h
+LineGives-get words folder key at testing verbose (Err Memory) given h = tt
+LineGives-get words folder key at testing verbose (Err (Clap e)) given h = absurd h
 
 -- the line of the texts of `compact`
-pub LineGives-compact : (words : List Text) (folder : Text) (levels : Levels) (numbers : CompactNumbers) (since : Option ℕ) (listed : Option Text) (verbosity : Verbosity) (r : Result Line Usage)
-    → GivesRows words (codes "compact") (HasCompact folder levels numbers since listed verbosity) → CompactLine folder levels numbers since listed verbosity r → LineGives words r
-LineGives-compact words folder levels numbers since listed verbosity (Ok (line.Compact folder' levels' settings verbosity')) given h = (
+pub LineGives-compact : (words : List Text) (folder : Text) (levels : Levels) (numbers : CompactNumbers) (since : Option ℕ) (listed : Option Text) (testing : Testing) (verbosity : Verbosity) (r : Result Line Usage)
+    → GivesRows words (codes "compact") (HasCompact folder levels numbers since listed testing verbosity) → CompactLine folder levels numbers since listed testing verbosity r → LineGives words r
+LineGives-compact words folder levels numbers since listed testing verbosity (Ok (line.Compact folder' levels' settings testing' verbosity')) given h = (
   numbers,
   since,
   listed,
   (
-    subst (λ (x : Text). GivesRows words (codes "compact") (HasCompact x levels' numbers since listed verbosity')) (sym h.0)
-        (subst (λ (n : Levels). GivesRows words (codes "compact") (HasCompact folder n numbers since listed verbosity')) (sym h.1.0)
-        (subst (λ (v : Verbosity). GivesRows words (codes "compact") (HasCompact folder levels numbers since listed v)) (sym h.1.1.1) given)),
+    subst (λ (x : Text). GivesRows words (codes "compact") (HasCompact x levels' numbers since listed testing' verbosity')) (sym h.0)
+        (subst (λ (n : Levels). GivesRows words (codes "compact") (HasCompact folder n numbers since listed testing' verbosity')) (sym h.1.0)
+        (subst (λ (t : Testing). GivesRows words (codes "compact") (HasCompact folder levels numbers since listed t verbosity')) (sym h.1.1.1.0)
+        (subst (λ (v : Verbosity). GivesRows words (codes "compact") (HasCompact folder levels numbers since listed testing v)) (sym h.1.1.1.1) given))),
     h.1.1.0,
   ),
 )
-LineGives-compact words folder levels numbers since listed verbosity (Ok (line.Blocks a b k out)) given h = absurd h
-LineGives-compact words folder levels numbers since listed verbosity (Ok (line.Dump table)) given h = absurd h
-LineGives-compact words folder levels numbers since listed verbosity (Ok (line.Manifest f v)) given h = absurd h
-LineGives-compact words folder levels numbers since listed verbosity (Ok (line.Verify f v)) given h = absurd h
-LineGives-compact words folder levels numbers since listed verbosity (Ok (line.Get f key at v)) given h = absurd h
-LineGives-compact words folder levels numbers (Some sequence) listed verbosity (Err Snapshots) given h = absurd h
-LineGives-compact words folder levels numbers None None verbosity (Err Snapshots) given h = absurd h
-LineGives-compact words folder levels numbers None (Some text) verbosity (Err Snapshots) given h = (text, ((folder, levels, numbers, verbosity, given), h))
-LineGives-compact words folder levels numbers since listed verbosity (Err Key) given h = absurd h
-LineGives-compact words folder levels numbers since listed verbosity (Err Memory) given h = tt
-LineGives-compact words folder levels numbers since listed verbosity (Err (Clap e)) given h = absurd h
+LineGives-compact words folder levels numbers since listed testing verbosity (Ok (line.Blocks a b k out)) given h = absurd h
+LineGives-compact words folder levels numbers since listed testing verbosity (Ok (line.Dump table)) given h = absurd h
+LineGives-compact words folder levels numbers since listed testing verbosity (Ok (line.Manifest f v)) given h = absurd h
+LineGives-compact words folder levels numbers since listed testing verbosity (Ok (line.Verify f m v)) given h = absurd h
+LineGives-compact words folder levels numbers since listed testing verbosity (Ok (line.Get f key at t v)) given h = absurd h
+LineGives-compact words folder levels numbers (Some sequence) listed testing verbosity (Err Snapshots) given h = absurd h
+LineGives-compact words folder levels numbers None None testing verbosity (Err Snapshots) given h = absurd h
+LineGives-compact words folder levels numbers None (Some text) testing verbosity (Err Snapshots) given h = (text, ((folder, levels, numbers, testing, verbosity, given), h))
+LineGives-compact words folder levels numbers since listed testing verbosity (Err Key) given h = absurd h
+LineGives-compact words folder levels numbers since listed testing verbosity (Err Memory) given h = tt
+LineGives-compact words folder levels numbers since listed testing verbosity (Err (Clap e)) given h = absurd h
 
 -- none of the commands has its texts
 pub MatchOption-lacking : (parsed : Option (Text × List Row)) (r : Option Given) → r ≡ None → LacksAll parsed → MatchOption r (LacksAll parsed) (GivesCommand parsed)

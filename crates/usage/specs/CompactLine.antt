@@ -5,12 +5,14 @@ use Rattle.std.specs.List.{All, slice_split}
 use Rattle.std.specs.Str.Parse.{digits_value}
 use Rattle.clap.specs.Words.{Row, Text, first_of}
 use Rattle.usage.specs.Flags.{is_flagged}
+use Rattle.usage.specs.Testing.{HasTesting, LacksMemory}
 use Rattle.texts.specs.Text.{IsNoNumber, IsNumberOf, IsNumberText}
 use Rattle.usage.specs.declared.requests.Levels.{Levels}
 use Rattle.usage.specs.declared.requests.Levels.TheVariants.{One, All as AllLevels}
 use Rattle.keep.specs.declared.snapshots.Snapshots.{Snapshots}
 use Rattle.keep.specs.declared.snapshots.Snapshots.TheVariants.{From, Listed}
 use Rattle.settings.specs.declared.settings.Settings.{Settings}
+use Rattle.usage.specs.declared.requests.Testing.{Testing}
 use Rattle.usage.specs.declared.requests.Verbosity.{Verbosity}
 use Rattle.usage.specs.declared.compact_texts.CompactNumbers.{CompactNumbers}
 
@@ -58,17 +60,17 @@ HasVerbosity verbosity rows = (verbosity.verbose ≡ is_flagged (codes "verbose"
     × (verbosity.explain ≡ is_flagged (codes "explain") rows)
 
 -- the rows give this text of DIR, these levels, these options, and these flags
-abbrev pub HasCompact : Text → Levels → CompactNumbers → Option ℕ → Option Text → Verbosity →
-    List Row → Type 0
-HasCompact folder levels numbers since listed verbosity rows =
+abbrev pub HasCompact : Text → Levels → CompactNumbers → Option ℕ → Option Text → Testing →
+    Verbosity → List Row → Type 0
+HasCompact folder levels numbers since listed testing verbosity rows =
     (first_of (codes "DIR") rows ≡ Some folder)
     × HasLevels levels rows × HasNumbers numbers rows × HasReadable since listed rows
-    × HasVerbosity verbosity rows
+    × HasTesting testing rows × HasVerbosity verbosity rows
 
 -- the rows give no text of DIR, no levels, or an invalid option
 abbrev pub LacksCompact : List Row → Type 0
 LacksCompact rows = (first_of (codes "DIR") rows ≡ None) ⊎ (LacksLevels rows
-    ⊎ (LacksNumbers rows ⊎ LacksReadable rows))
+    ⊎ (LacksNumbers rows ⊎ (LacksReadable rows ⊎ LacksMemory rows)))
 
 -- the texts between commas
 abbrev pub numerals_in : Text → List Text

@@ -7,6 +7,7 @@ use Rattle.usage.specs.declared.requests.Levels.{Levels}
 use Rattle.usage.specs.declared.requests.Line.{Line}
 use Rattle.usage.specs.declared.requests.Line.TheVariants as line
 use Rattle.keep.specs.declared.snapshots.Snapshots as lent
+use Rattle.usage.specs.declared.requests.Testing.{Testing}
 use Rattle.usage.specs.declared.requests.Verbosity.{Verbosity}
 use Rattle.usage.specs.declared.requests.Usage.{Usage}
 use Rattle.usage.specs.declared.requests.Usage.TheVariants.{Key, Snapshots, Memory, Clap}
@@ -27,15 +28,16 @@ IsReadableAnswer since listed (Err (Clap e)) = ⊥
 
 -- the line of `compact` with these texts and numbers, or Snapshots if the text is no list of
 -- numbers
-abbrev pub CompactLine : Text → Levels → CompactNumbers → Option ℕ → Option Text → Verbosity →
-    Result Line Usage → Type 0
-CompactLine folder levels numbers since listed verbosity
-    (Ok (line.Compact folder' levels' settings verbosity')) =
+abbrev pub CompactLine : Text → Levels → CompactNumbers → Option ℕ → Option Text → Testing →
+    Verbosity → Result Line Usage → Type 0
+CompactLine folder levels numbers since listed testing verbosity
+    (Ok (line.Compact folder' levels' settings testing' verbosity')) =
     (folder'.now ≡ folder)
     × ((levels' ≡ levels)
-    × (AreSettings numbers since listed settings × (verbosity' ≡ verbosity)))
-CompactLine folder levels numbers since listed verbosity (Ok _) = ⊥
-CompactLine folder levels numbers since listed verbosity (Err Snapshots) = IsNoList since listed
-CompactLine folder levels numbers since listed verbosity (Err Memory) = Unit {0}
-CompactLine folder levels numbers since listed verbosity (Err Key) = ⊥
-CompactLine folder levels numbers since listed verbosity (Err (Clap e)) = ⊥
+    × (AreSettings numbers since listed settings
+    × ((testing' ≡ testing) × (verbosity' ≡ verbosity))))
+CompactLine folder levels numbers since listed testing verbosity (Ok _) = ⊥
+CompactLine folder levels numbers since listed testing verbosity (Err Snapshots) = IsNoList since listed
+CompactLine folder levels numbers since listed testing verbosity (Err Memory) = Unit {0}
+CompactLine folder levels numbers since listed testing verbosity (Err Key) = ⊥
+CompactLine folder levels numbers since listed testing verbosity (Err (Clap e)) = ⊥

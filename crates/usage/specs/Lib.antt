@@ -1,6 +1,7 @@
 -- what contracts rest on
 pub mod Usage
 pub mod Flags
+pub mod Testing
 pub mod CompactLine
 pub mod Line
 -- serves proofs alone

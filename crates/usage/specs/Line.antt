@@ -7,11 +7,13 @@ use Rattle.clap.specs.declared.error.Error.{Error}
 use Rattle.grammar.specs.Apps.{program_app}
 use Rattle.usage.specs.CompactLine.{AreSettings, HasCompact, IsNoNumberList, LacksCompact}
 use Rattle.usage.specs.Flags.{is_flagged}
+use Rattle.usage.specs.Testing.{HasTesting, IsMemoryOf, LacksMemory}
 use Rattle.texts.specs.Text.{IsNoNumber, IsNumberOf, bytes_of_text}
 use Rattle.usage.specs.declared.requests.Levels.{Levels}
 use Rattle.usage.specs.declared.compact_texts.CompactNumbers.{CompactNumbers}
 use Rattle.usage.specs.declared.requests.Line.{Line}
 use Rattle.usage.specs.declared.requests.Line.TheVariants as line
+use Rattle.usage.specs.declared.requests.Testing.{Testing}
 use Rattle.usage.specs.declared.requests.Verbosity.{Verbosity}
 use Rattle.usage.specs.declared.requests.Usage.{Usage}
 use Rattle.usage.specs.declared.requests.Usage.TheVariants.{Key, Snapshots, Memory, Clap}
@@ -56,23 +58,36 @@ abbrev pub HasFolder : Text → Bool → List Row → Type 0
 HasFolder folder verbose rows = (first_of (codes "DIR") rows ≡ Some folder)
     × (verbose ≡ is_flagged (codes "verbose") rows)
 
--- the rows give these texts of DIR and HEXKEY, this number of `--at`, and this flag of `--verbose`
-abbrev pub HasGet : Text → Text → Option ℕ → Bool → List Row → Type 0
-HasGet folder key at verbose rows = (first_of (codes "DIR") rows ≡ Some folder)
-    × (first_of (codes "HEXKEY") rows ≡ Some key)
-    × IsNumberOf (first_of (codes "at") rows) at × (verbose ≡ is_flagged (codes "verbose") rows)
+-- the rows give this text of DIR, this number of `--memory`, and this flag of `--verbose`
+abbrev pub HasVerify : Text → ℕ → Bool → List Row → Type 0
+HasVerify folder memory verbose rows = (first_of (codes "DIR") rows ≡ Some folder)
+    × IsMemoryOf (first_of (codes "memory") rows) memory
+    × (verbose ≡ is_flagged (codes "verbose") rows)
 
--- the rows give no text of DIR or HEXKEY, or a text of `--at` that is no number
+-- the rows give no text of DIR, or a text of `--memory` that is no number
+abbrev pub LacksVerify : List Row → Type 0
+LacksVerify rows = (first_of (codes "DIR") rows ≡ None) ⊎ LacksMemory rows
+
+-- the rows give these texts of DIR and HEXKEY, this number of `--at`, these options on the test, and
+-- this flag of `--verbose`
+abbrev pub HasGet : Text → Text → Option ℕ → Testing → Bool → List Row → Type 0
+HasGet folder key at testing verbose rows = (first_of (codes "DIR") rows ≡ Some folder)
+    × (first_of (codes "HEXKEY") rows ≡ Some key)
+    × IsNumberOf (first_of (codes "at") rows) at
+    × HasTesting testing rows × (verbose ≡ is_flagged (codes "verbose") rows)
+
+-- the rows give no text of DIR or HEXKEY, or a text of `--at` or `--memory` that is no number
 abbrev pub LacksGet : List Row → Type 0
 LacksGet rows = (first_of (codes "DIR") rows ≡ None)
-    ⊎ ((first_of (codes "HEXKEY") rows ≡ None) ⊎ IsNoNumber (first_of (codes "at") rows))
+    ⊎ ((first_of (codes "HEXKEY") rows ≡ None)
+    ⊎ (IsNoNumber (first_of (codes "at") rows) ⊎ LacksMemory rows))
 
 -- the parse is no command with all its texts
 abbrev pub LacksAll : Option (Text × List Row) → Type 0
 LacksAll parsed = LacksRows LacksBlocks (rows_under (codes "blocks") parsed)
     × (LacksRows (LacksPath (codes "TABLE")) (rows_under (codes "dump") parsed)
     × (LacksRows (LacksPath (codes "DIR")) (rows_under (codes "manifest") parsed)
-    × (LacksRows (LacksPath (codes "DIR")) (rows_under (codes "verify") parsed)
+    × (LacksRows LacksVerify (rows_under (codes "verify") parsed)
     × (LacksRows LacksGet (rows_under (codes "get") parsed)
     × LacksRows LacksCompact (rows_under (codes "compact") parsed)))))
 
@@ -90,14 +105,14 @@ GivesRows words name Has = (fault_of program_app words ≡ [])
 abbrev pub GivesKeyText : List Text → Text → Type 0
 GivesKeyText words text =
     ((a b out : Text) × GivesRows words (codes "blocks") (HasBlocks a b text out))
-    ⊎ ((folder : Text) × (at : Option ℕ) × (verbose : Bool)
-    × GivesRows words (codes "get") (HasGet folder text at verbose))
+    ⊎ ((folder : Text) × (at : Option ℕ) × (testing : Testing) × (verbose : Bool)
+    × GivesRows words (codes "get") (HasGet folder text at testing verbose))
 
 -- `clap` accepts the words, and they give `compact` this text of a list of snapshots
 abbrev pub GivesListText : List Text → Text → Type 0
 GivesListText words text = (folder : Text) × (levels : Levels) × (numbers : CompactNumbers)
-    × (verbosity : Verbosity) × GivesRows words (codes "compact")
-    (HasCompact folder levels numbers None (Some text) verbosity)
+    × (testing : Testing) × (verbosity : Verbosity) × GivesRows words (codes "compact")
+    (HasCompact folder levels numbers None (Some text) testing verbosity)
 
 -- What a command line asks for: the texts of its command, with that of a key or of a list read. Key
 -- comes exactly if the text of the key is invalid, Snapshots exactly if the other is no list of
@@ -110,14 +125,15 @@ LineGives words (Ok (line.Dump table)) =
     GivesRows words (codes "dump") (HasPath (codes "TABLE") table.now)
 LineGives words (Ok (line.Manifest folder verbose)) =
     GivesRows words (codes "manifest") (HasFolder folder.now verbose)
-LineGives words (Ok (line.Verify folder verbose)) =
-    GivesRows words (codes "verify") (HasFolder folder.now verbose)
-LineGives words (Ok (line.Get folder key at verbose)) = (text : Text)
-    × (GivesRows words (codes "get") (HasGet folder.now text at verbose)
+LineGives words (Ok (line.Verify folder memory verbose)) =
+    GivesRows words (codes "verify") (HasVerify folder.now memory verbose)
+LineGives words (Ok (line.Get folder key at testing verbose)) = (text : Text)
+    × (GivesRows words (codes "get") (HasGet folder.now text at testing verbose)
     × (bytes_of_text text ≡ Some key.items))
-LineGives words (Ok (line.Compact folder levels settings verbosity)) = (numbers : CompactNumbers)
-    × (since : Option ℕ) × (listed : Option Text) × (GivesRows words (codes "compact")
-    (HasCompact folder.now levels numbers since listed verbosity)
+LineGives words (Ok (line.Compact folder levels settings testing verbosity)) =
+    (numbers : CompactNumbers) × (since : Option ℕ) × (listed : Option Text)
+    × (GivesRows words (codes "compact")
+    (HasCompact folder.now levels numbers since listed testing verbosity)
     × AreSettings numbers since listed settings)
 LineGives words (Err Snapshots) = (text : Text) × (GivesListText words text × IsNoNumberList text)
 LineGives words (Err Key) = (text : Text) × (GivesKeyText words text × (bytes_of_text text ≡ None))

@@ -5,14 +5,15 @@ use Rattle.std.specs.Global.{Vec}
 use Rattle.clap.specs.Words.{Row, Text, fault_of, subcommand_of}
 use Rattle.usage.specs.CompactLine.{HasCompact}
 use Rattle.grammar.specs.Apps.{program_app}
-use Rattle.usage.specs.Line.{HasBlocks, HasFolder, HasGet, HasPath, HasRows, RefusedWith}
-use Rattle.usage.specs.Line.{rows_under}
+use Rattle.usage.specs.Line.{HasBlocks, HasFolder, HasGet, HasPath, HasRows, HasVerify}
+use Rattle.usage.specs.Line.{RefusedWith, rows_under}
 use Rattle.texts.specs.Text.{bytes_of_text}
 use Rattle.usage.specs.declared.command_line.Given.{Given}
 use Rattle.usage.specs.declared.command_line.Given.TheVariants.{Blocks, Dump, Manifest, Verify, Get}
 use Rattle.usage.specs.declared.command_line.Given.TheVariants.{Compact}
 use Rattle.usage.specs.declared.requests.Line.{Line}
 use Rattle.usage.specs.declared.requests.Line.TheVariants as line
+use Rattle.usage.specs.declared.requests.Testing.{Testing}
 use Rattle.usage.specs.declared.requests.Usage.{Usage}
 use Rattle.usage.specs.declared.requests.Usage.TheVariants.{Key, Snapshots, Memory, Clap}
 
@@ -25,14 +26,15 @@ GivesCommand parsed (Dump table) =
     HasRows (HasPath (codes "TABLE") table.now) (rows_under (codes "dump") parsed)
 GivesCommand parsed (Manifest texts) = HasRows (HasFolder texts.folder.now texts.verbose)
     (rows_under (codes "manifest") parsed)
-GivesCommand parsed (Verify texts) = HasRows (HasFolder texts.folder.now texts.verbose)
+GivesCommand parsed (Verify texts) =
+    HasRows (HasVerify texts.folder.now texts.memory texts.verbose)
     (rows_under (codes "verify") parsed)
 GivesCommand parsed (Get texts) =
-    HasRows (HasGet texts.folder.now texts.key.now texts.at texts.verbose)
+    HasRows (HasGet texts.folder.now texts.key.now texts.at texts.testing texts.verbose)
     (rows_under (codes "get") parsed)
 GivesCommand parsed (Compact texts) =
     HasRows (HasCompact texts.folder.now texts.levels texts.numbers texts.readable.since
-    (option_map (λ text. text.now) texts.readable.listed) texts.verbosity)
+    (option_map (λ text. text.now) texts.readable.listed) texts.testing texts.verbosity)
     (rows_under (codes "compact") parsed)
 
 -- `clap` accepts the words, and they give a command with these texts
@@ -67,12 +69,13 @@ BlocksLine a b at out (Err Memory) = Unit {0}
 BlocksLine a b at out (Err (Clap e)) = ⊥
 
 -- the line of `get` with these texts, or Key if that of the key is invalid
-abbrev pub GetLine : Text → Text → Option ℕ → Bool → Result Line Usage → Type 0
-GetLine folder key at verbose (Ok (line.Get folder' key' at' verbose')) =
+abbrev pub GetLine : Text → Text → Option ℕ → Testing → Bool → Result Line Usage → Type 0
+GetLine folder key at testing verbose (Ok (line.Get folder' key' at' testing' verbose')) =
     (folder'.now ≡ folder)
-    × ((bytes_of_text key ≡ Some key'.items) × ((at' ≡ at) × (verbose' ≡ verbose)))
-GetLine folder key at verbose (Ok _) = ⊥
-GetLine folder key at verbose (Err Key) = bytes_of_text key ≡ None
-GetLine folder key at verbose (Err Snapshots) = ⊥
-GetLine folder key at verbose (Err Memory) = Unit {0}
-GetLine folder key at verbose (Err (Clap e)) = ⊥
+    × ((bytes_of_text key ≡ Some key'.items)
+    × ((at' ≡ at) × ((testing' ≡ testing) × (verbose' ≡ verbose))))
+GetLine folder key at testing verbose (Ok _) = ⊥
+GetLine folder key at testing verbose (Err Key) = bytes_of_text key ≡ None
+GetLine folder key at testing verbose (Err Snapshots) = ⊥
+GetLine folder key at testing verbose (Err Memory) = Unit {0}
+GetLine folder key at testing verbose (Err (Clap e)) = ⊥

@@ -3,15 +3,17 @@
 ghost use Rattle.std.specs.Prelude.{◌≡◌, ◌≢◌, MatchOption, codes, map};
 ghost use Rattle.clap.specs.Words.{app_of, found_of, rows_of, subcommand_rows_of};
 ghost use Rattle.grammar.specs.Apps.{program_app};
-ghost use Rattle.usage.specs.Line.{HasBlocks, HasFolder, HasGet, HasPath, LacksAll, LacksBlocks};
-ghost use Rattle.usage.specs.Line.{LacksGet, LacksPath, LacksRows, HasRows, LineGives, rows_under};
+ghost use Rattle.usage.specs.Line.{HasBlocks, HasFolder, HasGet, HasPath, HasRows, HasVerify};
+ghost use Rattle.usage.specs.Line.{LacksAll, LacksBlocks, LacksGet, LacksPath, LacksRows};
+ghost use Rattle.usage.specs.Line.{LacksVerify, LineGives, rows_under};
 ghost use Rattle.usage.specs.LineParts.{BlocksLine, GetLine, GivesCommand, IsKeyAnswer, TextsGiven};
 ghost use Rattle.usage.specs.declared.requests.Usage.TheVariants.{Key, Snapshots};
 
 use crate::arguments::{first_number, first_text, is_flagged};
 use crate::compact_line::compact_line;
 use crate::compact_texts::{CompactTexts, compact_texts};
-use crate::requests::{Line, Usage};
+use crate::requests::{Line, Testing, Usage};
+use crate::test_options::{memory_of, testing_of};
 use clap::error::ErrorKind;
 use clap::{ArgMatches, Command};
 use grammar::program_command;
@@ -60,6 +62,7 @@ pub fn line<'a, S: AsStr>(
         }),
         Given::Verify(texts) => Ok(Line::Verify {
             folder: texts.folder,
+            memory: texts.memory,
             verbose: texts.verbose,
         }),
         Given::Get(texts) => get_line(alloc, texts),
@@ -73,7 +76,7 @@ enum Given<'a> {
     Blocks(BlocksTexts<'a>),
     Dump(&'a str),
     Manifest(FolderTexts<'a>),
-    Verify(FolderTexts<'a>),
+    Verify(VerifyTexts<'a>),
     Get(GetTexts<'a>),
     Compact(CompactTexts<'a>),
 }
@@ -132,22 +135,54 @@ impl<'a> FolderTexts<'a> {
     }
 }
 
+/// What is given to `verify`.
+#[derive(Clone, Copy)]
+struct VerifyTexts<'a> {
+    folder: &'a str,
+    memory: u64,
+    verbose: bool,
+}
+
+impl<'a> VerifyTexts<'a> {
+    /// The text of DIR, the number of `--memory`, and whether `--verbose` is given.
+    fn of(values: &ArgMatches<'a>) -> Option<VerifyTexts<'a>>
+        ensures { let rows = rows_of (found_of values.now) in
+            MatchOption result (LacksVerify rows)
+            (λ texts. HasVerify texts.folder.now texts.memory texts.verbose rows) }
+    {
+        let Some(folder) = first_text(values, "DIR") else {
+            return None;
+        };
+        let Ok(memory) = memory_of(values) else {
+            return None;
+        };
+        let verbose = is_flagged(values, "verbose");
+        Some(VerifyTexts {
+            folder,
+            memory,
+            verbose,
+        })
+    }
+}
+
 /// What is given to `get`.
 #[derive(Clone, Copy)]
 struct GetTexts<'a> {
     folder: &'a str,
     key: &'a str,
     at: Option<u64>,
+    testing: Testing,
     verbose: bool,
 }
 
 impl<'a> GetTexts<'a> {
-    /// The texts of both arguments, the number of `--at` if it is given, and whether `--verbose` is
-    /// given.
+    /// The texts of both arguments, the number of `--at` if it is given, the options on the test,
+    /// and whether `--verbose` is given.
     fn of(values: &ArgMatches<'a>) -> Option<GetTexts<'a>>
         ensures { let rows = rows_of (found_of values.now) in
             MatchOption result (LacksGet rows)
-            (λ texts. HasGet texts.folder.now texts.key.now texts.at texts.verbose rows) }
+            (λ texts. HasGet texts.folder.now texts.key.now texts.at texts.testing texts.verbose
+            rows) }
     {
         let Some(folder) = first_text(values, "DIR") else {
             return None;
@@ -158,11 +193,15 @@ impl<'a> GetTexts<'a> {
         let Ok(at) = first_number(values, "at") else {
             return None;
         };
+        let Ok(testing) = testing_of(values) else {
+            return None;
+        };
         let verbose = is_flagged(values, "verbose");
         Some(GetTexts {
             folder,
             key,
             at,
+            testing,
             verbose,
         })
     }
@@ -233,7 +272,7 @@ fn texts_in<'a>(matches: &ArgMatches<'a>) -> Option<Given<'a>>
     if let Some(texts) = folder_texts(matches, "manifest") {
         return Some(Given::Manifest(texts));
     }
-    if let Some(texts) = folder_texts(matches, "verify") {
+    if let Some(texts) = verify_texts(matches) {
         return Some(Given::Verify(texts));
     }
     if let Some(texts) = get_texts(matches) {
@@ -255,11 +294,24 @@ fn blocks_texts<'a>(matches: &ArgMatches<'a>) -> Option<BlocksTexts<'a>>
     BlocksTexts::of(values)
 }
 
+/// What is given to `verify`, if that is the command and its text is there.
+fn verify_texts<'a>(matches: &ArgMatches<'a>) -> Option<VerifyTexts<'a>>
+    ensures { let given = rows_under (codes "verify") (subcommand_rows_of matches.now) in
+        MatchOption result (LacksRows LacksVerify given)
+        (λ texts. HasRows (HasVerify texts.folder.now texts.memory texts.verbose) given) }
+{
+    let Some(values) = matches.subcommand_matches("verify") else {
+        return None;
+    };
+    VerifyTexts::of(values)
+}
+
 /// What is given to `get`, if that is the command and its texts are there.
 fn get_texts<'a>(matches: &ArgMatches<'a>) -> Option<GetTexts<'a>>
     ensures { let given = rows_under (codes "get") (subcommand_rows_of matches.now) in
         MatchOption result (LacksRows LacksGet given)
-        (λ texts. HasRows (HasGet texts.folder.now texts.key.now texts.at texts.verbose) given) }
+        (λ texts. HasRows
+        (HasGet texts.folder.now texts.key.now texts.at texts.testing texts.verbose) given) }
 {
     let Some(values) = matches.subcommand_matches("get") else {
         return None;
@@ -309,14 +361,15 @@ fn blocks_line<'a>(alloc: Global, texts: BlocksTexts<'a>) -> Result<Line<'a>, Us
 
 /// The line of `get`. Key if the text of its key is invalid.
 fn get_line<'a>(alloc: Global, texts: GetTexts<'a>) -> Result<Line<'a>, Usage>
-    ensures { GetLine texts.entry.folder.now texts.entry.key.now texts.entry.at texts.entry.verbose
-        result }
+    ensures { GetLine texts.entry.folder.now texts.entry.key.now texts.entry.at texts.entry.testing
+        texts.entry.verbose result }
 {
     let key = user_key(alloc, texts.key)?;
     Ok(Line::Get {
         folder: texts.folder,
         key,
         at: texts.at,
+        testing: texts.testing,
         verbose: texts.verbose,
     })
 }

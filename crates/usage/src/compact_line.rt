@@ -24,7 +24,8 @@ pub(crate) fn compact_line<'a>(
 ) -> Result<Line<'a>, Usage>
     ensures { CompactLine texts.entry.folder.now texts.entry.levels texts.entry.numbers
         texts.entry.readable.since
-        (option_map (λ text. text.now) texts.entry.readable.listed) texts.entry.verbosity result }
+        (option_map (λ text. text.now) texts.entry.readable.listed) texts.entry.testing
+        texts.entry.verbosity result }
 {
     let snapshots = snapshots(alloc, texts.readable, listed)?;
     let numbers = texts.numbers;
@@ -42,6 +43,7 @@ pub(crate) fn compact_line<'a>(
                 file_size: numbers.file_size.unwrap_or(defaults.options.file_size),
             },
         },
+        testing: texts.testing,
         verbosity: texts.verbosity,
     })
 }

@@ -9,7 +9,8 @@ ghost use Rattle.usage.specs.CompactLine.{LacksReadable};
 ghost use Rattle.usage.specs.Line.{HasRows, LacksRows, rows_under};
 
 use crate::arguments::{first_number, first_text, is_flagged};
-use crate::requests::{Levels, Verbosity};
+use crate::requests::{Levels, Testing, Verbosity};
+use crate::test_options::testing_of;
 use clap::ArgMatches;
 
 /// The numbers given to four options, each if it is given.
@@ -80,6 +81,7 @@ pub(crate) struct CompactTexts<'a> {
     pub levels: Levels,
     pub numbers: CompactNumbers,
     pub readable: ReadableTexts<'a>,
+    pub testing: Testing,
     pub verbosity: Verbosity,
 }
 
@@ -90,7 +92,8 @@ impl<'a> CompactTexts<'a> {
         ensures { let rows = rows_of (found_of values.now) in
             MatchOption result (LacksCompact rows)
             (λ texts. HasCompact texts.folder.now texts.levels texts.numbers texts.readable.since
-            (option_map (λ text. text.now) texts.readable.listed) texts.verbosity rows) }
+            (option_map (λ text. text.now) texts.readable.listed) texts.testing texts.verbosity
+            rows) }
     {
         let Some(folder) = first_text(values, "DIR") else {
             return None;
@@ -104,11 +107,15 @@ impl<'a> CompactTexts<'a> {
         let Some(readable) = ReadableTexts::of(values) else {
             return None;
         };
+        let Ok(testing) = testing_of(values) else {
+            return None;
+        };
         Some(CompactTexts {
             folder,
             levels,
             numbers,
             readable,
+            testing,
             verbosity: verbosity_of(values),
         })
     }
@@ -146,7 +153,8 @@ pub(crate) fn compact_texts<'a>(matches: &ArgMatches<'a>) -> Option<CompactTexts
         MatchOption result (LacksRows LacksCompact given)
         (λ texts. HasRows
         (HasCompact texts.folder.now texts.levels texts.numbers texts.readable.since
-        (option_map (λ text. text.now) texts.readable.listed) texts.verbosity) given) }
+        (option_map (λ text. text.now) texts.readable.listed) texts.testing texts.verbosity)
+        given) }
 {
     let Some(values) = matches.subcommand_matches("compact") else {
         return None;

@@ -10,6 +10,7 @@ mod command_line;
 mod compact_line;
 mod compact_texts;
 mod requests;
+mod test_options;
 
 pub use command_line::line;
-pub use requests::{Levels, Line, Usage, Verbosity};
+pub use requests::{Levels, Line, Testing, Usage, Verbosity};

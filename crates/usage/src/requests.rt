@@ -38,6 +38,8 @@ pub enum Line<'a> {
     Verify {
         /// The path of the folder.
         folder: &'a str,
+        /// How many MiB of tables the test may hold, 1 to 2^24.
+        memory: u64,
         /// Whether more is told on the standard error.
         verbose: bool,
     },
@@ -49,6 +51,8 @@ pub enum Line<'a> {
         key: Vec<u8>,
         /// The sequence, any number. Without it, the version's last sequence.
         at: Option<u64>,
+        /// How the version is tested before.
+        testing: Testing,
         /// Whether more is told on the standard error.
         verbose: bool,
     },
@@ -60,9 +64,20 @@ pub enum Line<'a> {
         levels: Levels,
         /// The settings of each compaction.
         settings: Settings<'a>,
+        /// How the version is tested before.
+        testing: Testing,
         /// What is told of it on the standard error.
         verbosity: Verbosity,
     },
+}
+
+/// How a version is tested before the work on it.
+#[derive(Clone, Copy, Debug)]
+pub struct Testing {
+    /// Whether it isn't tested: it was verified before, and no other program changed it since.
+    pub is_skipped: bool,
+    /// How many MiB of tables the test may hold, 1 to 2^24.
+    pub memory: u64,
 }
 
 /// What is told of a compaction on the standard error.

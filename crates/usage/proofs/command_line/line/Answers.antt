@@ -16,11 +16,11 @@ pub returns-in-Get : goal.returns-in-Get
 returns-in-Get g c =
     let texts = c.in-Get.texts in
     let command = subst (GivesCommand (subcommand_of program_app (map g.S.AsStr.text c.args.words.now))) c.in-Get.is c.in_ok-texts.ensures.1 in
-    LineGives-get (map g.S.AsStr.text c.args.words.now) texts.folder.now texts.key.now texts.at texts.verbose c.get_line.result (c.in_ok-texts.ensures.0, command) c.get_line.ensures
+    LineGives-get (map g.S.AsStr.text c.args.words.now) texts.folder.now texts.key.now texts.at texts.testing texts.verbose c.get_line.result (c.in_ok-texts.ensures.0, command) c.get_line.ensures
 
 pub returns-in-Compact : goal.returns-in-Compact
 returns-in-Compact g c =
     let texts = c.in-Compact.texts in
     let command = subst (GivesCommand (subcommand_of program_app (map g.S.AsStr.text c.args.words.now))) c.in-Compact.is c.in_ok-texts.ensures.1 in
-    LineGives-compact (map g.S.AsStr.text c.args.words.now) texts.folder.now texts.levels texts.numbers texts.readable.since (option_map (λ text. text.now) texts.readable.listed) texts.verbosity c.compact_line.result
+    LineGives-compact (map g.S.AsStr.text c.args.words.now) texts.folder.now texts.levels texts.numbers texts.readable.since (option_map (λ text. text.now) texts.readable.listed) texts.testing texts.verbosity c.compact_line.result
     (c.in_ok-texts.ensures.0, command) c.compact_line.ensures

@@ -6,4 +6,4 @@ use Rattle.usage.proofs.command_line.texts_in.Goals as goal
 pub returns-in_err-texts : goal.returns-in_err-texts
 returns-in_err-texts c =
     MatchOption-lacking (subcommand_rows_of c.args.matches.now) c.from_residual.result (search rules)
-    (c.in_default.ensures, (c.in_default-path_text.ensures, (c.in_default-folder_texts.ensures, (c.in_default-folder_texts-2.ensures, (c.in_default-get_texts.ensures, c.in_err-texts.ensures)))))
+    (c.in_default.ensures, (c.in_default-path_text.ensures, (c.in_default-folder_texts.ensures, (c.in_default-verify_texts.ensures, (c.in_default-get_texts.ensures, c.in_err-texts.ensures)))))

@@ -1,0 +1,9 @@
+use Rattle.std.proofs.Common.{◌≡◌, ◌≤◌, List, ℕ, Option, Result, Ok, Err, length, sym, subst}
+use Rattle.std.specs.Global.{Vec}
+use Rattle.std.specs.Prelude.{IfOk, IfSome}
+use Rattle.folder.specs.declared.folder.FolderFault.{FolderFault}
+use Rattle.folder.proofs.PartLemmas.{counted_part}
+use Rattle.folder.proofs.disk.DiskFolder.read_part.Goals as goal
+
+pub returns-clause-held : goal.returns-clause-held
+returns-clause-held g c = counted_part c.args.name.now c.args.offset c.args.len c.part_in-answer.result c.counted.result c.part_in-answer.ensures c.counted.ensures.value

@@ -20,7 +20,7 @@ pub record IsChecked (cmp : KeyOrder) (bytes : List ℕ) (named : List Entry)
   pub last : largest ≡ last_key [] (entries_of blocks)
 
 -- the same for some entries of the index block
-pub record IsCheckedTable (cmp : List ℕ → List ℕ → Ordering) (bytes : List ℕ)
+pub record IsCheckedTable (cmp : KeyOrder) (bytes : List ℕ)
     (smallest largest : List ℕ) : Type 0 where
   pub named : List Entry
   pub checked : IsChecked cmp bytes named smallest largest

@@ -11,4 +11,6 @@ mod folders;
 #[cfg(test)]
 mod pairing_tests;
 #[cfg(test)]
+mod texts_tests;
+#[cfg(test)]
 mod usage_tests;

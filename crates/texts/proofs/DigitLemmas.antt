@@ -7,7 +7,7 @@ use Rattle.hex.specs.Hex.{IsBytes, decode_pairs, digit_or_error, encode_lower, e
 use Rattle.hex.specs.declared.error.FromHexError.{FromHexError}
 
 -- the code of a digit's lower-case character
-abbrev code_at : ℕ → ℕ
+abbrev pub code_at : ℕ → ℕ
 code_at v = if nat_lt v 10 then 48 + v else 87 + v
 
 -- the test of the first n digits
@@ -28,7 +28,7 @@ all_coded-at (suc n) v h lt =
     ]
 
 -- the character of each digit
-lower_digit : (v : ℕ) → v < 16 → slice_index lower_digits v ≡ code_at v
+pub lower_digit : (v : ℕ) → v < 16 → slice_index lower_digits v ≡ code_at v
 lower_digit v lt = all_coded-at 16 v refl lt
 
 -- where a character that is a digit lies

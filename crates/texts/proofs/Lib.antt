@@ -1,2 +1,4 @@
 mod DigitLemmas
+mod EscapedLemmas
+mod PrintableLemmas
 mod TextLemmas

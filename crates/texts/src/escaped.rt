@@ -1,0 +1,230 @@
+//! Keys and values as text for people: printable ASCII, and `\xHH` for every other byte.
+//!
+//! 1. A character from `!` to `~`, but for the backslash, stands for itself. So does a space in a
+//!    value. In a key it is `\x20`, so that a key ends at the first space of its line.
+//! 2. Every other byte is `\x` and two lower-case hexadecimal digits.
+//! 3. No bytes are `""`. The two bytes `""` are `\x22\x22`.
+//!
+//! A text is read by the same rules, with digits of either case. In a key too a space is read, and
+//! any byte may be given as `\xHH`. No other text is read: not the empty one, nor one with a lone
+//! backslash, a control character or a letter outside ASCII.
+
+ghost use Rattle.std.specs.Prelude.{◌≡◌, ◌++◌, ◌<◌, [], ◌∷◌, length, slice_index, string_bytes};
+ghost use Rattle.std.specs.Prelude.{None, Ok, Some, IfErr, IfSome, MatchOption, OnOk, option_map};
+ghost use Rattle.std.specs.List.{flat_map};
+ghost use Rattle.coding.specs.Answers.{EqualOrMemory, fault};
+ghost use Rattle.coding.specs.declared.fault.FaultName.TheVariants.{Memory};
+ghost use Rattle.hex.specs.Hex.{hex_digit_value};
+ghost use Rattle.texts.specs.Escaped.{backslash, bytes_of_escaped, escaped, escaped_byte};
+ghost use Rattle.texts.specs.Escaped.{escaped_key, escaped_value, is_plain, joined, unescaped};
+
+use coding::Fault;
+use std::alloc::Global;
+
+/// The text of no bytes.
+const NOTHING: &str = "\"\"";
+
+/// The text of the bytes that look like the text of no bytes.
+const QUOTATION_MARKS: &str = "\\x22\\x22";
+
+/// The first character that stands for itself in a key.
+const FIRST_IN_KEY: u8 = b'!';
+
+/// The first character that stands for itself in a value.
+const FIRST_IN_VALUE: u8 = b' ';
+
+/// What an escape begins with.
+const ESCAPE: &str = "\\x";
+
+/// The length of an escape.
+const ESCAPE_LEN: usize = 4;
+
+const DIGITS: &[u8; 16] = b"0123456789abcdef";
+
+/// The text of a key: characters from `!` to `~` but for the backslash, and `\xHH` for every other
+/// byte; `""` for no bytes, and `\x22\x22` for the two bytes `""`.
+///
+/// It reads back ([`texts_law`](crate::texts_law)). The only fault is Memory.
+pub fn escaped_key(alloc: Global, key: &[u8]) -> Result<String, Fault>
+    ensures { EqualOrMemory string_bytes result (Ok (escaped_key key.now)) }
+{
+    escaped(alloc, key, FIRST_IN_KEY)
+}
+
+/// The text of a value: as that of a key, but that a space stands for itself.
+///
+/// It reads back ([`texts_law`](crate::texts_law)). The only fault is Memory.
+pub fn escaped_value(alloc: Global, value: &[u8]) -> Result<String, Fault>
+    ensures { EqualOrMemory string_bytes result (Ok (escaped_value value.now)) }
+{
+    escaped(alloc, value, FIRST_IN_VALUE)
+}
+
+/// The bytes of a text of printable ASCII, in which a backslash begins `\xHH`, with digits of
+/// either case; no bytes for `""`.
+///
+/// None for every other text, as the empty one. The only fault is Memory.
+pub fn bytes_of_escaped(alloc: Global, text: &str) -> Result<Option<Vec<u8>>, Fault>
+    ensures { EqualOrMemory (option_map (λ bytes. bytes.items)) result
+        (Ok (bytes_of_escaped text.now)) }
+{
+    if text == NOTHING {
+        return Ok(Some(Vec::new(alloc)));
+    }
+    if text.is_empty() {
+        return Ok(None);
+    }
+    unescaped(alloc, text.as_bytes())
+}
+
+/// The text of `bytes`, in which characters from `first` on stand for themselves.
+fn escaped(alloc: Global, bytes: &[u8], first: u8) -> Result<String, Fault>
+    ensures { EqualOrMemory string_bytes result (Ok (escaped first bytes.now)) }
+{
+    if bytes.is_empty() {
+        return Ok(String::from_str(alloc, NOTHING)?);
+    }
+    if bytes == NOTHING.as_bytes() {
+        return Ok(String::from_str(alloc, QUOTATION_MARKS)?);
+    }
+    let mut text = String::with_capacity(alloc, escaped_len(bytes, first))?;
+    push_bytes(&mut text, bytes, first)?;
+    Ok(text)
+}
+
+/// How much room the text of `bytes` takes.
+fn escaped_len(bytes: &[u8], first: u8) -> usize {
+    let mut len: usize = 0;
+    for byte in bytes {
+        let more = if is_plain(*byte, first) {
+            1
+        } else {
+            ESCAPE_LEN
+        };
+        len = len.saturating_add(more);
+    }
+    len
+}
+
+/// Appends bytes, each itself or its escape. The only fault is Memory.
+fn push_bytes(text: &mut String, bytes: &[u8], first: u8) -> Result<(), Fault>
+    ensures ok { OnOk result (string_bytes text.new ≡ string_bytes text.old
+        ++ flat_map (escaped_byte first) bytes.now) }
+    ensures memory { IfErr result (λ e. e ≡ fault Memory) }
+{
+    for byte in bytes {
+        push_byte(text, *byte, first)?;
+    }
+    Ok(())
+}
+
+/// Appends a byte itself, or its escape. The only fault is Memory.
+#[inline]
+fn push_byte(text: &mut String, byte: u8, first: u8) -> Result<(), Fault>
+    ensures ok { OnOk result (string_bytes text.new ≡ string_bytes text.old
+        ++ escaped_byte first byte) }
+    ensures memory { IfErr result (λ e. e ≡ fault Memory) }
+{
+    if is_plain(byte, first) {
+        return push_character(text, byte);
+    }
+    text.push_str(ESCAPE)?;
+    push_character(text, DIGITS[usize::from(byte / 16)])?;
+    push_character(text, DIGITS[usize::from(byte % 16)])
+}
+
+/// Appends a character of ASCII. The only fault is Memory.
+#[inline]
+fn push_character(text: &mut String, character: u8) -> Result<(), Fault>
+    requires { character < 128 }
+    ensures ok { OnOk result (string_bytes text.new ≡ string_bytes text.old ++ character ∷ []) }
+    ensures memory { IfErr result (λ e. e ≡ fault Memory) }
+{
+    text.push(char::from(character))?;
+    Ok(())
+}
+
+/// Whether a byte stands for itself, if characters from `first` on do.
+#[inline]
+fn is_plain(byte: u8, first: u8) -> bool
+    ensures { result ≡ is_plain first byte }
+{
+    first <= byte && byte <= b'~' && byte != b'\\'
+}
+
+/// The bytes that characters stand for; None if one stands for none. The only fault is Memory.
+fn unescaped(alloc: Global, text: &[u8]) -> Result<Option<Vec<u8>>, Fault>
+    ensures { EqualOrMemory (option_map (λ bytes. bytes.items)) result (Ok (unescaped text.now)) }
+{
+    let mut bytes = Vec::with_capacity(alloc, text.len())?;
+    let mut rest = text;
+    while !rest.is_empty() {
+        let Some(first) = first_byte(rest) else {
+            return Ok(None);
+        };
+        bytes.push(first.byte)?;
+        rest = first.rest;
+    }
+    Ok(Some(bytes))
+}
+
+/// The first byte of a text, and the characters after those that stand for it.
+#[derive(Clone, Copy)]
+struct FirstByte<'a> {
+    byte: u8,
+    rest: &'a [u8],
+}
+
+/// The first byte of a text, None if its first character stands for none.
+#[inline]
+fn first_byte(text: &[u8]) -> Option<FirstByte<'_>>
+    requires { 0 < length text.now }
+    ensures first { MatchOption result (unescaped text.now ≡ None) (λ first.
+        unescaped text.now ≡ joined (Some first.byte) (unescaped first.rest.now)) }
+    ensures shorter { IfSome result (λ first. length first.rest.now < length text.now) }
+{
+    let (&character, rest) = text.split_first()?;
+    if character == b'\\' {
+        return escape_at_front(text);
+    }
+    if !is_plain(character, FIRST_IN_VALUE) {
+        return None;
+    }
+    Some(FirstByte {
+        byte: character,
+        rest,
+    })
+}
+
+/// The byte of the escape at the front of a text that begins with a backslash.
+fn escape_at_front(text: &[u8]) -> Option<FirstByte<'_>>
+    requires some { 0 < length text.now }
+    requires begins { slice_index text.now 0 ≡ backslash }
+    ensures first { MatchOption result (unescaped text.now ≡ None) (λ first.
+        unescaped text.now ≡ joined (Some first.byte) (unescaped first.rest.now)) }
+    ensures shorter { IfSome result (λ first. length first.rest.now < length text.now) }
+{
+    let [_, b'x', high, low, rest @ ..] = text else {
+        return None;
+    };
+    let high = digit(*high)?;
+    let low = digit(*low)?;
+    Some(FirstByte {
+        byte: 16 * high + low,
+        rest,
+    })
+}
+
+/// The value of a hexadecimal digit of either case.
+#[inline]
+fn digit(character: u8) -> Option<u8>
+    ensures value { result ≡ hex_digit_value character }
+    ensures small { IfSome result (λ value. value < 16) }
+{
+    match character {
+        b'A'..=b'F' => Some(character - b'A' + 10),
+        b'a'..=b'f' => Some(character - b'a' + 10),
+        b'0'..=b'9' => Some(character - b'0'),
+        _ => None,
+    }
+}

@@ -6,7 +6,8 @@ ghost use Rattle.grammar.specs.Commands.{Extends, IsCommand, with_argument};
 ghost use Rattle.grammar.specs.Apps.{at_rule, bare_app, blocks_app, compact_app, dump_app};
 ghost use Rattle.grammar.specs.Apps.{flag_rule, folder_app, get_app, memory_rule, number_rule};
 ghost use Rattle.grammar.specs.Apps.{program_app, required_argument, snapshots_rule, verbose_rule};
-ghost use Rattle.grammar.specs.Apps.{verify_app, with_levels, with_outputs, with_testing, with_work};
+ghost use Rattle.grammar.specs.Apps.{verify_app, with_levels, with_outputs, with_testing};
+ghost use Rattle.grammar.specs.Apps.{with_work};
 
 use clap::builder::ValueParser;
 use clap::{Arg, ArgAction, Command, value_parser};
@@ -61,8 +62,8 @@ const EXPLAIN_HELP: &str =
         what was kept and dropped, and outputs, with bars";
 
 const NO_VERIFY_HELP: &str =
-    "Takes the version for lawful and tests only what it reads: the version was verified before, and \
-        no other program changed it since";
+    "Takes the version for lawful and tests only what it reads: the version was verified before, \
+        and no other program changed it since";
 
 const MEMORY_HELP: &str =
     "How many MiB of tables the test of the version may hold: 1 to 16777216; 1024 where it is left \

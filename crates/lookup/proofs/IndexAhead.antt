@@ -1,5 +1,5 @@
 -- What is ahead in a table, by its index.
-use Rattle.std.proofs.Common.{◌≡◌, ℕ, ◌<◌, Bool, true, false, cond, List, [], ◌∷◌, ◌++◌, length, drop, Option, Some, None, Result, Ok, refl, sym, ap, subst, ◌∙◌, arith}
+use Rattle.std.proofs.Common.{◌≡◌, ℕ, Bool, true, false, cond, List, [], ◌∷◌, ◌++◌, drop, Option, Some, None, Ok, refl, sym, ap, subst, ◌∙◌}
 use Rattle.std.specs.Prelude.{slice_get}
 use Rattle.std.specs.List.{AllByRecursion}
 use Rattle.std.specs.Cmp.{IsTotalOrder}
@@ -8,7 +8,6 @@ use Rattle.std.specs.Ordering.{is_lt}
 use Rattle.std.specs.declared.cmp.Ordering.{Ordering}
 use Rattle.std.proofs.lemmas.Option.{none-some, same_Some}
 use Rattle.coding.proofs.Binds.{bind_ok, ok_is}
-use Rattle.coding.specs.Answers.{◌>>=◌}
 use Rattle.block.specs.EncodedEntry.{Entry}
 use Rattle.block.specs.BuilderView.{last_key}
 use Rattle.ikey.specs.Order.{internal_cmp}
@@ -132,11 +131,6 @@ is_found cmp bytes target value start index found e a h is some =
     ∙ sym (ap (λ (es : List Entry). slice_get (entries_from cmp target es) 0) h.parts)
     ∙ ap (λ (es : List Entry). slice_get es 0) a.left
 
--- nothing is left
-pub none_left : (cmp : List ℕ → List ℕ → Ordering) (bytes target : List ℕ) (start index : List Entry) → Ahead cmp bytes target start index → length index ≡ 0 → None ≡ slice_get (entries_from cmp target (all_named bytes start)) 0
-none_left cmp bytes target start [] a none = ap (λ (es : List Entry). slice_get es 0) a.left
-none_left cmp bytes target start (i ∷ is) a none = absurd (omega arith)
-
 none_of : (o : Option Entry) → false ≡ is_some o → o ≡ None
 none_of None h = refl
 none_of (Some e) h = absurd (cc h)
@@ -150,7 +144,3 @@ pub reached : (cmp : List ℕ → List ℕ → Ordering) (bytes target value : L
     → found ≡ slice_get (entries_from cmp target h.entries) 0 → true ≡ is_some found → found ≡ slice_get (entries_from cmp target (all_named bytes start)) 0
 reached cmp bytes target value start index None a h is some = absurd (cc some)
 reached cmp bytes target value start index (Some e) a h is some = is_found cmp bytes target value start index (Some e) e a h is refl
-
--- all of the index is left at first
-pub all_ahead : (cmp : List ℕ → List ℕ → Ordering) (bytes target : List ℕ) (index : List Entry) → AllByRecursion (NamesBlock cmp bytes) index → Ahead cmp bytes target index index
-all_ahead cmp bytes target index named = record { named = named; left = refl }

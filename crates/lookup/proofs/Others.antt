@@ -1,20 +1,18 @@
 -- What refuses the bytes of a table isn't Device.
-use Rattle.std.proofs.Common.{◌≡◌, ◌≢◌, ℕ, ◌+◌, ◌^◌, ◌%◌, nat_le, nat_lt, length, Bool, true, false, List, [], ◌∷◌, Option, Some, None, Result, Ok, Err, IfErr, IsErrAnd, if◌then◌else◌, sym, ap, subst, ◌∙◌}
+use Rattle.std.proofs.Common.{◌≡◌, ◌≢◌, ℕ, ◌+◌, ◌%◌, nat_le, nat_lt, length, Bool, true, false, List, Option, Some, None, Result, Ok, Err, IfErr, IsErrAnd, if◌then◌else◌, sym, ap, subst}
 use Rattle.std.specs.Option.{ok_or}
-use Rattle.std.specs.Result.{result_map_both}
 use Rattle.coding.proofs.Refusals.{unless_device}
-use Rattle.coding.specs.Answers.{◌>>=◌, EqualOrMemory, UnlessMemory, fault}
+use Rattle.coding.specs.Answers.{◌>>=◌, UnlessMemory, fault}
 use Rattle.coding.specs.declared.fault.Fault.{Fault}
 use Rattle.coding.specs.declared.fault.FaultName.{FaultName}
 use Rattle.coding.specs.declared.fault.FaultName.TheVariants.{Block, BlockType, Compressed, Device, Handle, Key, Magic, Memory, Range, TooLarge, Trailer}
 use Rattle.block.specs.ReadingBlocks.{block_reading}
 use Rattle.folder.specs.OpenAnswer.{HasDeviceFailed}
 use Rattle.frame.specs.Footer.{footer_reading}
-use Rattle.frame.specs.Handle.{HandleBehind, handle_reading}
 use Rattle.frame.specs.Trailer.{stored_reading}
 use Rattle.frame.specs.declared.handle.BlockHandle.{BlockHandle}
 use Rattle.ikey.specs.Key.{internal_key_reading, tag_of}
-use Rattle.table.specs.ReadingIndex.{block_in, handle_alone, one_handle}
+use Rattle.table.specs.ReadingIndex.{block_in}
 use Rattle.lookup.specs.Gives.{index_handle, stored_len}
 
 abbrev refusal : {Y : Type 0} → Fault → Result Y Fault
@@ -55,14 +53,6 @@ in_other stored = bound (stored_reading stored) _ (stored_other stored) block_ot
 pub key_other : (key : List ℕ) (e : Fault) → internal_key_reading key ≡ Err e → e.name ≢ Device
 key_other key =
     tested (nat_lt (length key) 8) _ _ (named _ Key (λ e. cc e)) (tested (nat_lt 1 (tag_of key % 256)) _ _ (named _ Key (λ e. cc e)) (tested (nat_lt (65535 + 8) (length key)) _ _ (named _ TooLarge (λ e. cc e)) (value key)))
-
-alone_other : (handle : BlockHandle) (rest : List ℕ) → AllOther (handle_alone handle rest)
-alone_other handle [] = value handle
-alone_other handle (b ∷ rest) = named _ Handle (λ e. cc e)
-
-pub handle_other : (found : Option HandleBehind) (e : Fault) → one_handle found ≡ Err e → e.name ≢ Device
-handle_other None = named _ Handle (λ e. cc e)
-handle_other (Some found) = alone_other found.handle found.rest
 
 footer_other : (bytes : List ℕ) → AllOther (footer_reading bytes)
 unfolding footer_reading

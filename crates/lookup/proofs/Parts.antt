@@ -1,16 +1,13 @@
 -- Parts of a table's file, as a folder tells them.
-use Rattle.std.proofs.Common.{◌≡◌, ◌⊎◌, ℕ, ◌+◌, ◌-◌, ◌<◌, ◌≤◌, ◌^◌, nat_le, Bool, true, false, List, length, min, take, drop, Option, Some, None, Result, Ok, Err, if◌then◌else◌, refl, sym, ap, subst, ◌∙◌, inl, inr, arith}
-use Rattle.std.specs.Option.{option_map}
-use Rattle.std.proofs.lemmas.Bool.{le-leb}
+use Rattle.std.proofs.Common.{◌≡◌, ℕ, ◌+◌, ◌-◌, ◌≤◌, ◌^◌, nat_le, Bool, true, false, List, length, take, drop, Option, Some, None, Result, Ok, if◌then◌else◌, refl, sym, ap, ◌∙◌, inl, inr, arith}
 use Rattle.std.proofs.lemmas.Bool.Decides.{nat_tests}
-use Rattle.std.proofs.lemmas.List.{length-drop, length-take, take_all}
-use Rattle.std.proofs.lemmas.Option.{none-some, same_Some}
+use Rattle.std.proofs.lemmas.List.{length-drop, take_all}
 use Rattle.coding.proofs.Binds.{bind_ok, done, failed, ok_is}
 use Rattle.coding.specs.Answers.{◌>>=◌, fault}
 use Rattle.coding.specs.declared.fault.Fault.{Fault}
 use Rattle.coding.specs.declared.fault.FaultName.TheVariants.{Range, Short, Size}
 use Rattle.block.specs.EncodedEntry.{Entry}
-use Rattle.folder.specs.Folder.{TellsPart, TellsSame, part_of}
+use Rattle.folder.specs.Folder.{TellsSame}
 use Rattle.folder.specs.Names.{old_table_name, table_name}
 use Rattle.frame.specs.Footer.{footer_reading}
 use Rattle.frame.specs.Handle.{handle_reading}
@@ -28,29 +25,6 @@ use Rattle.lookup.specs.declared.file_parts.TableFile.{TableFile}
 
 -- ---- what is told
 
--- a part of what alone is told
-pub part_is : (tells : List ℕ → Option (List ℕ) → Type 0) (name : List ℕ) (offset len : ℕ) (held part : Option (List ℕ)) → TellsJust tells name held → TellsPart tells name offset len part → part ≡ option_map (part_of offset len) held
-part_is tells name offset len held part just h = sym h.1.1 ∙ ap (option_map (part_of offset len)) (just h.0 h.1.0)
-
--- a file that is there has a part
-pub some_part : (tells : List ℕ → Option (List ℕ) → Type 0) (name bytes : List ℕ) (offset len : ℕ) (part : List ℕ) → TellsJust tells name (Some bytes) → TellsPart tells name offset len (Some part) → part ≡ take len (drop offset bytes)
-some_part tells name bytes offset len part just h = same_Some _ _ (part_is tells name offset len (Some bytes) (Some part) just h)
-
-pub no_part : (tells : List ℕ → Option (List ℕ) → Type 0) (name bytes : List ℕ) (offset len : ℕ) → TellsJust tells name (Some bytes) → TellsPart tells name offset len None → ⊥
-no_part tells name bytes offset len just h = none-some _ (part_is tells name offset len (Some bytes) None just h)
-
-pub not_there : (tells : List ℕ → Option (List ℕ) → Type 0) (name part : List ℕ) (offset len : ℕ) → TellsJust tells name None → TellsPart tells name offset len (Some part) → ⊥
-not_there tells name part offset len just h = none-some _ (sym (part_is tells name offset len None (Some part) just h))
-
--- which name it is
-pub first_name : (tells : List ℕ → Option (List ℕ) → Type 0) (number : ℕ) (bytes part : List ℕ) (offset len : ℕ) → HoldsTable tells number bytes → TellsPart tells (table_name number) offset len (Some part) → TellsJust tells (table_name number) (Some bytes)
-first_name tells number bytes part offset len (inl h) told = h
-first_name tells number bytes part offset len (inr h) told = absurd (not_there tells (table_name number) part offset len h.0 told)
-
-pub older_name : (tells : List ℕ → Option (List ℕ) → Type 0) (number : ℕ) (bytes : List ℕ) (offset len : ℕ) → HoldsTable tells number bytes → TellsPart tells (table_name number) offset len None → TellsJust tells (old_table_name number) (Some bytes)
-older_name tells number bytes offset len (inl h) told = absurd (no_part tells (table_name number) bytes offset len h told)
-older_name tells number bytes offset len (inr h) told = h.1
-
 -- what is told later
 pub just_later : (old new : List ℕ → Option (List ℕ) → Type 0) (name : List ℕ) (held : Option (List ℕ)) → TellsSame old new → TellsJust old name held → TellsJust new name held
 just_later old new name held same h other told = h other ((same name other).1 told)
@@ -65,40 +39,19 @@ tables_later old new tables same h number table is = table_later old new number 
 pub file_later : (old new : List ℕ → Option (List ℕ) → Type 0) (file : TableFile) (bytes : List ℕ) → TellsSame old new → IsFileOfBytes old file bytes → IsFileOfBytes new file bytes
 file_later old new file bytes same h = (just_later old new _ (Some bytes) same h.0, h.1)
 
--- ---- what is there of a part
-
-pub part_len : (bytes : List ℕ) (offset len : ℕ) → offset + len ≤ length bytes → length (take len (drop offset bytes)) ≡ len
-part_len bytes offset len fits =
-    let one : length (take len (drop offset bytes)) ≡ min len (length (drop offset bytes)) = length-take len (drop offset bytes) in
-    let two = length-drop offset bytes in
-    omega (arith, one, two)
-
--- a part of another length
-pub part_short : (bytes part : List ℕ) (offset len : ℕ) → offset + len ≤ length bytes → part ≡ take len (drop offset bytes) → (length part ≡ len → ⊥) → ⊥
-part_short bytes part offset len fits is other = other (ap length is ∙ part_len bytes offset len fits)
-
 -- ---- a stored block
 
-pub record StoredThere (bytes : List ℕ) (handle : BlockHandle) (stored : List ℕ) : Type 0 where
-  pub len : stored_len (length bytes) handle ≡ Ok (handle.size + 5)
-  pub fits : handle.offset + (handle.size + 5) ≤ length bytes
-  pub is : take (handle.size + 5) (drop handle.offset bytes) ≡ stored
-
-pub stored_there : (bytes : List ℕ) (handle : BlockHandle) (stored : List ℕ) → stored_at bytes handle ≡ Ok stored → StoredThere bytes handle stored
-stored_there bytes handle stored h = by_test (nat_le (handle.offset + handle.size + 5 + 48) (length bytes)) refl h
+-- the length of one that is there
+pub stored_there : (bytes : List ℕ) (handle : BlockHandle) (stored : List ℕ) → stored_at bytes handle ≡ Ok stored → stored_len (length bytes) handle ≡ Ok (handle.size + 5)
+stored_there bytes handle stored h = by_test (nat_le (handle.offset + handle.size + 5 + 48) (length bytes)) h
   where
-    by_test : (b : Bool) → nat_le (handle.offset + handle.size + 5 + 48) (length bytes) ≡ b → (if b then done (take (handle.size + 5) (drop handle.offset bytes)) else failed (fault Range)) ≡ Ok stored → StoredThere bytes handle stored
-    by_test true test is = record {
-      len = ap (λ (b : Bool). if b then done (handle.size + 5) else failed (fault Range)) test;
-      fits = let le : handle.offset + handle.size + 5 + 48 ≤ length bytes = grind (arith, nat_tests) in omega arith;
-      is = ok_is _ _ is;
-    }
-    by_test false test is = absurd (cc is)
+    by_test : (b : Bool) → (if b then done (take (handle.size + 5) (drop handle.offset bytes)) else failed (fault Range)) ≡ Ok stored → (if b then done (handle.size + 5) else failed (fault Range)) ≡ Ok (handle.size + 5)
+    by_test true is = refl
+    by_test false is = absurd (cc is)
 
 -- ---- the index
 
 pub record IndexThere (bytes : List ℕ) (names : List Entry) : Type 0 where
-  pub small : length bytes ≤ 2 ^ 30
   pub long : 48 ≤ length bytes
   pub handle : BlockHandle
   pub read : index_handle (length bytes) (drop (length bytes - 48) bytes) ≡ Ok handle
@@ -124,13 +77,12 @@ index_there bytes names h =
     let one = stored_there bytes footer.0.metaindex metaindex.0 metaindex.1 in
     let two = stored_there bytes footer.0.index index.0 index.1 in
     record {
-      small = le_of (length bytes) (2 ^ 30) (passed _ Size small.0 small.1);
       long = le_of 48 (length bytes) (passed _ Short long.0 long.1);
       handle = footer.0.index;
       read =
           ap (λ (r : Result Footer Fault). r >>= λ f. stored_len (length bytes) f.metaindex >>= λ a. stored_len (length bytes) f.index >>= λ b. done f.index) footer.1
-          ∙ ap (λ (r : Result ℕ Fault). r >>= λ a. stored_len (length bytes) footer.0.index >>= λ b. done footer.0.index) one.len
-          ∙ ap (λ (r : Result ℕ Fault). r >>= λ b. done footer.0.index) two.len;
+          ∙ ap (λ (r : Result ℕ Fault). r >>= λ a. stored_len (length bytes) footer.0.index >>= λ b. done footer.0.index) one
+          ∙ ap (λ (r : Result ℕ Fault). r >>= λ b. done footer.0.index) two;
       stored = index.0;
       place = index.1;
       block = ignored.2;

@@ -48,7 +48,8 @@ pub(crate) fn part<F: Folder>(
     len: usize,
 ) -> Result<Vec<u8>, Fault>
     ensures given { (bytes : List ℕ) → TellsJust (F.tells folder.old) name.now (Some bytes) →
-        offset + len ≤ length bytes → Gives result (λ part. part.items ≡ take len (drop offset bytes)) }
+        offset + len ≤ length bytes →
+        Gives result (λ part. part.items ≡ take len (drop offset bytes)) }
     ensures long { IfOk result (λ part. length part.items ≡ len) }
     ensures device { ReportsDevice F.Folder folder.old folder.new result }
     ensures reads { OnlyReads F.Folder folder.old folder.new }

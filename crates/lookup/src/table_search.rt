@@ -25,8 +25,8 @@ use folder::Folder;
 use ikey::{Comparator, InternalKey};
 use std::alloc::Global;
 
-/// The newest entry of a user key that a sequence sees, in the table of a file. `target` is both, as
-/// a put.
+/// The newest entry of a user key that a sequence sees, in the table of a file. `target` is both,
+/// as a put.
 pub(crate) fn newest_in_file<C: Comparator, F: Folder>(
     alloc: Global,
     folder: &mut F,

@@ -37,7 +37,8 @@ CompactLine folder levels numbers since listed testing verbosity
     × (AreSettings numbers since listed settings
     × ((testing' ≡ testing) × (verbosity' ≡ verbosity))))
 CompactLine folder levels numbers since listed testing verbosity (Ok _) = ⊥
-CompactLine folder levels numbers since listed testing verbosity (Err Snapshots) = IsNoList since listed
+CompactLine folder levels numbers since listed testing verbosity (Err Snapshots) =
+    IsNoList since listed
 CompactLine folder levels numbers since listed testing verbosity (Err Memory) = Unit {0}
 CompactLine folder levels numbers since listed testing verbosity (Err Key) = ⊥
 CompactLine folder levels numbers since listed testing verbosity (Err (Clap e)) = ⊥

@@ -68,8 +68,8 @@ HasVerify folder memory verbose rows = (first_of (codes "DIR") rows ≡ Some fol
 abbrev pub LacksVerify : List Row → Type 0
 LacksVerify rows = (first_of (codes "DIR") rows ≡ None) ⊎ LacksMemory rows
 
--- the rows give these texts of DIR and HEXKEY, this number of `--at`, these options on the test, and
--- this flag of `--verbose`
+-- the rows give these texts of DIR and HEXKEY, this number of `--at`, these options on the test,
+-- and this flag of `--verbose`
 abbrev pub HasGet : Text → Text → Option ℕ → Testing → Bool → List Row → Type 0
 HasGet folder key at testing verbose rows = (first_of (codes "DIR") rows ≡ Some folder)
     × (first_of (codes "HEXKEY") rows ≡ Some key)

@@ -1,6 +1,5 @@
-use Rattle.std.proofs.Common.{◌≡◌, List, ℕ, Ok, ap, sym, subst, ◌∙◌}
+use Rattle.std.proofs.Common.{◌≡◌, Ok, ap, ◌∙◌}
 use Rattle.frame.specs.Handle.{handle_reading}
-use Rattle.frame.specs.declared.handle.BlockHandle.{BlockHandle}
 use Rattle.table.specs.ReadingIndex.{block_in, one_handle, stored_at}
 use Rattle.lookup.proofs.Giving.{gives_from}
 use Rattle.lookup.proofs.Parts.{named_there, not_refused, value_is}

@@ -1,6 +1,5 @@
 use Rattle.std.proofs.Common.{◌≡◌, ◌-◌, List, ℕ, Ok, Some, length, take, drop, ap, sym, subst, ◌∙◌, arith}
 use Rattle.folder.proofs.ReportLemmas.{reports_after}
-use Rattle.frame.specs.declared.handle.BlockHandle.{BlockHandle}
 use Rattle.table.specs.ReadingIndex.{block_in, stored_at}
 use Rattle.lookup.specs.Gives.{index_handle}
 use Rattle.lookup.specs.Held.{TellsJust}

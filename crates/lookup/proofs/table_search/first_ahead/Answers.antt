@@ -1,11 +1,9 @@
-use Rattle.std.proofs.Common.{◌≡◌, List, ℕ, Ok, ap, refl, sym, subst, ◌∙◌}
+use Rattle.std.proofs.Common.{ap, ◌∙◌}
 use Rattle.folder.proofs.CountLemmas.{steady}
-use Rattle.folder.proofs.ReportLemmas.{reads_then, reports_after, reports_handed, reports_on, reports_steady}
+use Rattle.folder.proofs.ReportLemmas.{reads_then}
 use Rattle.table.specs.ReadingIndex.{block_in}
-use Rattle.table.proofs.Walks.{none_valid}
-use Rattle.lookup.proofs.Giving.{handed, memory_handed}
-use Rattle.lookup.proofs.IndexAhead.{all_ahead, head_of, none_left, passed, reached}
-use Rattle.lookup.proofs.Others.{memory_other, never_device, other_handed}
+use Rattle.lookup.proofs.Giving.{handed}
+use Rattle.lookup.proofs.IndexAhead.{head_of, passed, reached}
 use Rattle.lookup.proofs.Parts.{file_later}
 use Rattle.lookup.proofs.table_search.first_ahead.Goals as goal
 

@@ -1,5 +1,4 @@
-use Rattle.std.proofs.Common.{◌≡◌, List, ℕ, Ok, Some, ap, sym, subst, ◌∙◌}
-use Rattle.folder.proofs.ReportLemmas.{reports_after, reports_handed, reports_then}
+use Rattle.std.proofs.Common.{Some}
 use Rattle.lookup.proofs.Giving.{handed}
 use Rattle.lookup.proofs.IndexAhead.{has_index}
 use Rattle.lookup.proofs.Parts.{just_later}

@@ -1,4 +1,4 @@
-use Rattle.std.proofs.Common.{◌≡◌, ◌<◌, ◌^◌, ℕ, List, Option, Ok, Some, None, ap, refl, sym, ◌∙◌, arith}
+use Rattle.std.proofs.Common.{◌≡◌, ◌<◌, ◌^◌, Option, Some, None, ap, refl, sym, ◌∙◌, arith}
 use Rattle.std.specs.Option.{option_map, option_and_then}
 use Rattle.block.specs.EncodedEntry.{Entry}
 use Rattle.coding.proofs.Binds.{done, ok_is}
@@ -9,7 +9,7 @@ use Rattle.reads.specs.Gets.{get_of, value_in}
 use Rattle.reads.specs.Visible.{visible_of}
 use Rattle.reads.proofs.Got.{get_by, get_of_long, visible_value}
 use Rattle.folder.proofs.ReportLemmas.{reports_handed}
-use Rattle.lookup.proofs.Giving.{answers, gives_from, handed}
+use Rattle.lookup.proofs.Giving.{answers, handed}
 use Rattle.lookup.proofs.version_get.get_unverified.Goals as goal
 
 seen_value : (o : Option Entry) → option_and_then visible_value (option_map visible_of o) ≡ option_and_then value_in o

@@ -5,7 +5,7 @@ use Rattle.std.specs.Option.{option_map}
 use Rattle.block.specs.EncodedEntry.{Entry}
 use Rattle.edit.specs.declared.meta.FileMeta.{FileMeta}
 use Rattle.folder.proofs.CountLemmas.{steady}
-use Rattle.folder.proofs.ReportLemmas.{reads_then, reports_handed, reports_on, reports_steady}
+use Rattle.folder.proofs.ReportLemmas.{reads_then}
 use Rattle.ikey.specs.Key.{user_of, sequence_of}
 use Rattle.reads.specs.Lawful.{IsFileOf}
 use Rattle.reads.specs.Tables.{table_entries}

@@ -6,10 +6,10 @@ use Rattle.coding.proofs.Binds.{ok_is}
 use Rattle.edit.specs.VersionOrder.{in_version_order, files_at}
 use Rattle.edit.specs.declared.meta.FileMeta.{FileMeta}
 use Rattle.folder.proofs.CountLemmas.{steady}
-use Rattle.folder.proofs.ReportLemmas.{reads_then, reports_after, reports_handed, reports_on, reports_steady}
+use Rattle.folder.proofs.ReportLemmas.{reads_then}
 use Rattle.ikey.specs.Key.{user_of, sequence_of}
 use Rattle.reads.specs.Visible.{VisibleEntry, visible_of, IsAnswer}
-use Rattle.reads.proofs.Versions.{lent_entries, none_begin, none_more, none_end, found, level_files_of}
+use Rattle.reads.proofs.Versions.{lent_entries, none_more, none_end, found, level_files_of}
 use Rattle.lookup.proofs.Giving.{handed}
 use Rattle.lookup.proofs.Parts.{tables_later}
 use Rattle.lookup.proofs.version_get.newest_in_version.Goals as goal

@@ -9,18 +9,20 @@ _sedvokt() {
         return
     fi
     case $before in
-    --at | --level | --workers | --ranges | --snapshot | --snapshots | --block-size | --file-size)
+    --at | --level | --memory | --workers | --ranges | --snapshot | --snapshots | --block-size | \
+        --file-size)
         return
         ;;
     esac
     case ${COMP_WORDS[1]} in
     blocks) words='--at -h --help' ;;
     dump) words='-h --help' ;;
-    manifest | verify) words='-v --verbose -h --help' ;;
-    get) words='--at -v --verbose -h --help' ;;
+    manifest) words='-v --verbose -h --help' ;;
+    verify) words='--memory -v --verbose -h --help' ;;
+    get) words='--at --no-verify --memory -v --verbose -h --help' ;;
     compact)
-        words='--level --all --workers --ranges -v --verbose --explain --snapshot --snapshots'
-        words="$words --block-size --file-size -h --help"
+        words='--level --all --no-verify --memory --workers --ranges -v --verbose --explain'
+        words="$words --snapshot --snapshots --block-size --file-size -h --help"
         ;;
     help) words='blocks dump manifest verify get compact' ;;
     *) return ;;

@@ -21,6 +21,10 @@ complete -c sedvokt -n "__fish_seen_subcommand_from $folders" -a '(__fish_comple
 complete -c sedvokt -n "__fish_seen_subcommand_from $folders" -s v -l verbose \
     -d 'Tell how long it took'
 complete -c sedvokt -n '__fish_seen_subcommand_from get' -l at -x -d 'Read at this sequence'
+complete -c sedvokt -n '__fish_seen_subcommand_from verify get compact' -l memory -x \
+    -d 'MiB of tables that the test may hold'
+complete -c sedvokt -n '__fish_seen_subcommand_from get compact' -l no-verify \
+    -d 'Take the version for lawful'
 complete -c sedvokt -n '__fish_seen_subcommand_from blocks' -l at -x \
     -d 'The key where the second range begins'
 

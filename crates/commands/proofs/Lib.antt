@@ -1,3 +1,5 @@
 mod ShowingLemmas
 mod TableSizes
+mod HeldTables
+mod UnverifiedLemmas
 mod FolderLineLemmas

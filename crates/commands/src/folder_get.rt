@@ -36,7 +36,7 @@ pub(crate) fn got<C: SharedComparator + 'static, W: Watch + Sync, R: Threads + S
 }
 
 /// The sequence `at`, or the version's last one if it isn't given.
-fn sequence_at(version: &Version, at: Option<u64>) -> u64
+pub(crate) fn sequence_at(version: &Version, at: Option<u64>) -> u64
     ensures { result ≡ sequence_at version.now at }
 {
     let last = version.last_sequence().unwrap_or(0);
@@ -44,7 +44,7 @@ fn sequence_at(version: &Version, at: Option<u64>) -> u64
 }
 
 /// The line of a value, or of none.
-fn value_line(alloc: Global, value: Option<&[u8]>) -> Result<Vec<u8>, Fault>
+pub(crate) fn value_line(alloc: Global, value: Option<&[u8]>) -> Result<Vec<u8>, Fault>
     ensures { EqualOrMemory (λ v. v.items) result
         (Ok (value_line (option_map (λ bytes. bytes.now) value.entry))) }
 {

@@ -2,9 +2,10 @@
 //!
 //! 1. [`manifest`], [`verify`] and [`get_dir`] open a folder and answer; [`manifest_lines`] and
 //!    [`answer_opened`] do the same for a folder that is opened already.
-//! 2. [`dump`] answers the lines of one table.
-//! 3. [`bottom`] and [`next_level`] say which levels `--all` takes.
-//! 4. [`progress_text`] is a line of progress, [`status`] the status of a refusal.
+//! 2. [`unverified_value`] answers a value without testing the version.
+//! 3. [`dump`] answers the lines of one table.
+//! 4. [`bottom`] and [`next_level`] say which levels `--all` takes.
+//! 5. [`progress_text`] is a line of progress, [`status`] the status of a refusal.
 //!
 //! No contract says which of these the program calls for a command. That `--all` makes its calls
 //! one after the other is read off the program.
@@ -18,6 +19,7 @@ mod folder_get;
 mod progress;
 mod question;
 mod table_dump;
+mod unverified_get;
 mod version_text;
 mod version_verdict;
 
@@ -28,3 +30,4 @@ pub use folder_commands::{answer_opened, get_dir, manifest, manifest_lines, veri
 pub use progress::progress_text;
 pub use question::Question;
 pub use table_dump::dump;
+pub use unverified_get::unverified_value;

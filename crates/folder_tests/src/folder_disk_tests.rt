@@ -1,5 +1,6 @@
 //! A folder of the system that is written to and read.
 
+use crate::folder_shelf_tests::gives_parts;
 use folder::*;
 use std::process::Abort;
 use std::test::Fail;
@@ -57,11 +58,11 @@ fn refuses_names(disk: &mut impl Folder) -> bool {
         && disk.read(".").is_err()
 }
 
-/// Whether the system refuses calls on a missing folder, and four calls were refused by then.
+/// Whether the system refuses calls on a missing folder, and five calls were refused by then.
 fn refuses_all(disk: &mut impl Folder) -> bool {
     disk.sync_folder() == Err(FolderFault::Device)
         && disk.create("1", b"text") == Err(FolderFault::Device)
-        && disk.failures() == 4
+        && disk.failures() == 5
 }
 
 /// Whether all of that holds in a folder of the system that is made for it, and is removed in
@@ -71,6 +72,10 @@ fn is_right(rt: &HostRuntime, path: &str) -> bool {
     fs::create_dir(rt, path).is_ok()
         && gets_its_name(&mut disk)
         && refuses_names(&mut disk)
+        && makes(&mut disk, &[("parts", b"one")])
+        && gives_parts(&mut disk, "parts")
+        && disk.read_part(".", 0, 1).is_err()
+        && disk.failures() == 3
         && fs::remove_dir_all(rt, path).is_ok()
         && refuses_all(&mut disk)
 }

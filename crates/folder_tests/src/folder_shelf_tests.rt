@@ -118,3 +118,29 @@ fn a_shelf_holds_what_was_written(rt: HostRuntime) {
     reading_laws(&folder);
     crash_laws();
 }
+
+/// Parts of the file "one", by offset and length, and their bytes.
+const PARTS: &[(u64, usize, &[u8])] = &[
+    (0, 0, b""),
+    (0, 2, b"on"),
+    (1, 2, b"ne"),
+    (1, 9, b"ne"),
+    (3, 1, b""),
+    (u64::MAX, 1, b""),
+];
+
+/// Whether a folder gives these parts of a file of this `name`, and none of a missing file.
+pub(crate) fn gives_parts(folder: &mut impl Folder, name: &str) -> bool {
+    for (offset, len, wanted) in PARTS {
+        match folder.read_part(name, *offset, *len) {
+            Ok(Some(bytes)) if bytes.as_slice() == *wanted => {}
+            _ => return false,
+        }
+    }
+    matches!(folder.read_part("missing", 0, 1), Ok(None))
+}
+
+#[test]
+fn parts_of_a_file(rt: HostRuntime) {
+    assert!(rt; gives_parts(&mut Shelf::new(rt.alloc(), FILES), "1"));
+}

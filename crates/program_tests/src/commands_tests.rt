@@ -2,7 +2,10 @@ use crate::folders::*;
 use account::{Account, text};
 use checks::Work;
 use coding::{Fault, FaultName};
-use commands::{Open, bottom, dump, get_dir, manifest, next_level, progress_text, status, verify};
+use commands::{
+    Open, bottom, dump, get_dir, manifest, next_level, progress_text, status, unverified_value,
+    verify,
+};
 use diagnostics::{RefusedFile, account_of, refused_file, replayed_log};
 use folder::{Failing, FolderFault, Shelf, open};
 use std::alloc::Global;
@@ -16,6 +19,8 @@ enum Call {
     Verify,
     /// A key, and a sequence.
     Get(&'static [u8], Option<u64>),
+    /// The same, of a version that isn't tested.
+    UnverifiedGet(&'static [u8], Option<u64>),
     RefusedFile,
     /// Which of [`LOGS`] are replayed.
     Logs,
@@ -71,6 +76,27 @@ const ROWS: &[Row] = &[
         Place::One,
         NEVER,
         Ok("78\n"),
+    ),
+    (
+        "a key before it was deleted, of a version that isn't tested",
+        Call::UnverifiedGet(b"u", Some(3)),
+        Place::One,
+        NEVER,
+        Ok("78\n"),
+    ),
+    (
+        "a key that was deleted",
+        Call::UnverifiedGet(b"u", None),
+        Place::One,
+        NEVER,
+        Ok("none\n"),
+    ),
+    (
+        "a key that no table may hold",
+        Call::UnverifiedGet(b"v", None),
+        Place::Damaged,
+        NEVER,
+        Ok("none\n"),
     ),
     (
         "no refused file",
@@ -198,6 +224,48 @@ const ROWS: &[Row] = &[
         3,
         Err((FaultName::Device, 3)),
     ),
+    (
+        "get without a test: a damaged table",
+        Call::UnverifiedGet(b"u", None),
+        Place::Damaged,
+        NEVER,
+        Err((FaultName::Short, 1)),
+    ),
+    (
+        "get without a test: no table is looked for",
+        Call::UnverifiedGet(b"u", None),
+        Place::One,
+        3,
+        Err((FaultName::Device, 3)),
+    ),
+    (
+        "get without a test: no footer is read",
+        Call::UnverifiedGet(b"u", None),
+        Place::One,
+        4,
+        Err((FaultName::Device, 3)),
+    ),
+    (
+        "get without a test: no index is read",
+        Call::UnverifiedGet(b"u", None),
+        Place::One,
+        5,
+        Err((FaultName::Device, 3)),
+    ),
+    (
+        "get without a test: no data block is read",
+        Call::UnverifiedGet(b"u", None),
+        Place::One,
+        6,
+        Err((FaultName::Device, 3)),
+    ),
+    (
+        "get without a test: nothing else has to be read",
+        Call::UnverifiedGet(b"u", None),
+        Place::One,
+        7,
+        Ok("none\n"),
+    ),
 ];
 
 /// The bytes of a text.
@@ -231,6 +299,17 @@ fn explained(
             8,
         ),
     )
+}
+
+/// The value of a key in the version of a folder, which isn't tested.
+fn unverified(
+    alloc: Global,
+    folder: &mut Shelf<'_>,
+    key: &[u8],
+    at: Option<u64>,
+) -> Result<Vec<u8>, Fault> {
+    let opened = open(alloc, folder)?;
+    unverified_value(alloc, folder, opened.order, &opened.version, key, at)
 }
 
 /// The name of a refused file, and why.
@@ -288,6 +367,7 @@ fn answer<R: AllocGlobal + Threads + Sync>(
         Call::Manifest => manifest(alloc, folder),
         Call::Verify => verify(rt, alloc, folder, &Open),
         Call::Get(key, at) => get_dir(rt, alloc, folder, key, *at, &Open),
+        Call::UnverifiedGet(key, at) => unverified(alloc, folder, key, *at),
         Call::RefusedFile => first_refusal(alloc, folder),
         Call::Logs => replayed_logs(alloc, folder),
         Call::Account(before, level) => explained(alloc, files_of(*before), folder, *level),

@@ -48,6 +48,20 @@ pub(crate) fn compaction_explained<R: SystemFiles + AllocGlobal>(
     }
 }
 
+/// The refusal of work for which some tables of the folder at a path are read. Which one it is
+/// about isn't looked for, since that takes all of them.
+pub(crate) fn table_explained(alloc: Global, folder: &str, refusal: Refusal) -> Refusal {
+    if refusal.told.is_some() || is_of_no_file(refusal.fault.name) {
+        return refusal;
+    }
+    let wrong = of_file(refusal.fault.name).wrong;
+    let told = format!(in alloc; "{folder}: of a table, {wrong}; verify tells of which");
+    Refusal {
+        fault: refusal.fault,
+        told: told.ok(),
+    }
+}
+
 /// Whether a refusal of this name is about no file that can be found.
 fn is_of_no_file(name: FaultName) -> bool {
     matches!(

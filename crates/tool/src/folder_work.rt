@@ -2,14 +2,14 @@
 
 use crate::explanations::in_words;
 use crate::folder_locks::{locked_to_change, locked_to_read};
-use crate::folder_refusal::{compaction_explained, explained};
+use crate::folder_refusal::{compaction_explained, explained, table_explained};
 use crate::progress_line::ProgressLine;
 use crate::refusal::Refusal;
 use crate::reporter::{Telling, tell_time};
 use crate::table_sizes::sizes_tested;
 use account::text;
 use coding::{Fault, FaultName};
-use commands::{Question, answer_opened, bottom, manifest_lines, next_level};
+use commands::{Question, answer_opened, bottom, manifest_lines, next_level, unverified_value};
 use diagnostics::account_of;
 use folder::{Disk, Opened, SystemFiles, WholeFiles, open};
 use settings::Settings;
@@ -19,7 +19,7 @@ use std::io::Write;
 use std::thread::Threads;
 use std::time::Clock;
 use store::{compact_opened, sync_version};
-use usage::Levels;
+use usage::{Levels, Testing};
 
 /// Prints the version of a folder.
 pub(crate) fn print_version<R: SystemFiles + Print + Eprint + Clock + AllocGlobal>(
@@ -41,34 +41,72 @@ fn version_printed<R: SystemFiles + Print + Eprint + Clock + AllocGlobal>(
     print_lines(rt, lines.as_slice())
 }
 
-/// Checks the version of a folder, and prints the line of a lawful one.
+/// Checks the version of a folder, and prints the line of a lawful one. The test may hold this many
+/// bytes of tables.
 pub(crate) fn print_verdict<
     R: SystemFiles + WholeFiles + Print + Eprint + Clock + AllocGlobal + Threads + Sync,
->(rt: &R, telling: Telling<'_>) -> Result<(), Refusal> {
+>(rt: &R, telling: Telling<'_>, memory: u64) -> Result<(), Refusal> {
     let _lock = locked_to_read(rt, telling.folder)?;
-    answer_printed(rt, telling, "verify", Question::Lawful).map_err(|refusal| explained(
+    answer_printed(rt, telling, "verify", Question::Lawful, memory).map_err(|refusal| explained(
         rt,
         telling.folder,
         refusal,
     ))
 }
 
-/// Prints the value of a key in a folder.
+/// Prints the value of a key in a folder, whose version is tested before. The test may hold this
+/// many bytes of tables.
 pub(crate) fn print_value<
     R: SystemFiles + WholeFiles + Print + Eprint + Clock + AllocGlobal + Threads + Sync,
->(rt: &R, telling: Telling<'_>, key: &[u8], at: Option<u64>) -> Result<(), Refusal> {
+>(rt: &R, telling: Telling<'_>, key: &[u8], at: Option<u64>, memory: u64) -> Result<(), Refusal> {
     let _lock = locked_to_read(rt, telling.folder)?;
-    answer_printed(rt, telling, "get", Question::Value { key, at }).map_err(|refusal| explained(
+    let question = Question::Value { key, at };
+    answer_printed(rt, telling, "get", question, memory).map_err(|refusal| explained(
         rt,
         telling.folder,
         refusal,
     ))
+}
+
+/// Prints the value of a key in a folder, whose version was verified before. If a table is refused,
+/// the folder isn't read again to tell of which one.
+pub(crate) fn print_unverified_value<R: SystemFiles + Print + Eprint + Clock + AllocGlobal>(
+    rt: &R,
+    telling: Telling<'_>,
+    key: &[u8],
+    at: Option<u64>,
+) -> Result<(), Refusal> {
+    let _lock = locked_to_read(rt, telling.folder)?;
+    let begun = telling.begin(rt);
+    let opened = begin_work(rt, telling).map_err(|refusal| explained(rt, telling.folder, refusal))?;
+    let mut folder = Disk::new(rt, telling.folder);
+    let answer = unverified_value(
+        rt.alloc(),
+        &mut folder,
+        opened.order,
+        &opened.version,
+        key,
+        at,
+    );
+    let lines = answer.map_err(|fault| table_explained(
+        rt.alloc(),
+        telling.folder,
+        refused_at(rt, telling.folder, &folder, fault),
+    ))?;
+    tell_time(rt, "get --no-verify", begun);
+    print_lines(rt, lines.as_slice())
 }
 
 /// Prints what the version of a folder answers to a question. The command is told as this `step`.
 fn answer_printed<
     R: SystemFiles + WholeFiles + Print + Eprint + Clock + AllocGlobal + Threads + Sync,
->(rt: &R, telling: Telling<'_>, step: &str, question: Question<'_>) -> Result<(), Refusal> {
+>(
+    rt: &R,
+    telling: Telling<'_>,
+    step: &str,
+    question: Question<'_>,
+    _memory: u64,
+) -> Result<(), Refusal> {
     let begun = telling.begin(rt);
     let opened = begin_work(rt, telling)?;
     sizes_tested(rt, telling.folder, &opened)?;
@@ -113,16 +151,28 @@ fn answered<R: SystemFiles + WholeFiles + Eprint + Clock + AllocGlobal + Threads
 /// anything is read of it. What it was opened as is synced once, so that it outlives a crash.
 pub(crate) fn compact_folder<
     R: SystemFiles + WholeFiles + Print + Eprint + Clock + AllocGlobal + Threads + Sync,
->(rt: &R, telling: Telling<'_>, levels: Levels, settings: &Settings<'_>) -> Result<(), Refusal> {
+>(
+    rt: &R,
+    telling: Telling<'_>,
+    levels: Levels,
+    settings: &Settings<'_>,
+    testing: &Testing,
+) -> Result<(), Refusal> {
     let _lock = locked_to_change(rt, telling.folder)?;
-    compact_levels(rt, telling, levels, settings).map_err(|refusal| {
+    compact_levels(rt, telling, levels, settings, testing).map_err(|refusal| {
         compaction_explained(rt, telling.folder, levels, settings, refusal)
     })
 }
 
 fn compact_levels<
     R: SystemFiles + WholeFiles + Print + Eprint + Clock + AllocGlobal + Threads + Sync,
->(rt: &R, telling: Telling<'_>, levels: Levels, settings: &Settings<'_>) -> Result<(), Refusal> {
+>(
+    rt: &R,
+    telling: Telling<'_>,
+    levels: Levels,
+    settings: &Settings<'_>,
+    _testing: &Testing,
+) -> Result<(), Refusal> {
     let opened = begin_work(rt, telling)?;
     sizes_tested(rt, telling.folder, &opened)?;
     sync(rt, telling.folder, &opened)?;

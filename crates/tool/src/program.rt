@@ -4,7 +4,8 @@ use crate::block_files::merge;
 use crate::explanations::in_words;
 use crate::files;
 use crate::folder_work::{
-    compact_folder, print_lines, print_value, print_verdict, print_version, unwritten,
+    compact_folder, print_lines, print_unverified_value, print_value, print_verdict, print_version,
+    unwritten,
 };
 use crate::refusal::Refusal;
 use crate::reporter::Telling;
@@ -24,6 +25,9 @@ const DONE: u8 = 0;
 
 /// The status of a fault of usage.
 const USAGE: u8 = 2;
+
+/// The bytes of a MiB.
+const MEBIBYTE: u64 = 1 << 20;
 
 /// What is told to be refused if no command is known.
 const COMMAND_LINE: &str = "the command line";
@@ -78,32 +82,43 @@ fn carry_out<R: SystemFiles + WholeFiles + Print + Eprint + Clock + AllocGlobal 
         Line::Manifest { folder, verbose } => {
             print_version(rt, telling(folder, *verbose, is_watched))
         }
-        Line::Verify { folder, verbose } => {
-            print_verdict(rt, telling(folder, *verbose, is_watched))
-        }
+        Line::Verify {
+            folder,
+            memory,
+            verbose,
+        } => print_verdict(rt, telling(folder, *verbose, is_watched), bytes_of(*memory)),
         Line::Compact {
             folder,
             levels,
             settings,
+            testing,
             verbosity,
         } => {
             let telling = telling(folder, verbosity.verbose, is_watched).explaining(
                 verbosity.explain,
             );
-            compact_folder(rt, telling, *levels, settings)
+            compact_folder(rt, telling, *levels, settings, testing)
         }
         Line::Get {
             folder,
             key,
             at,
+            testing,
             verbose,
-        } => print_value(
-            rt,
-            telling(folder, *verbose, is_watched),
-            key.as_slice(),
-            *at,
-        ),
+        } => {
+            let telling = telling(folder, *verbose, is_watched);
+            if testing.is_skipped {
+                print_unverified_value(rt, telling, key.as_slice(), *at)
+            } else {
+                print_value(rt, telling, key.as_slice(), *at, bytes_of(testing.memory))
+            }
+        }
     }
+}
+
+/// How many bytes these MiB are.
+fn bytes_of(mebibytes: u64) -> u64 {
+    mebibytes.saturating_mul(MEBIBYTE)
 }
 
 /// The path that a command line is about: the folder, the table or the first block.

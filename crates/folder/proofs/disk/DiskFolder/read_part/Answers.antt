@@ -1,7 +1,3 @@
-use Rattle.std.proofs.Common.{◌≡◌, ◌≤◌, List, ℕ, Option, Result, Ok, Err, length, sym, subst}
-use Rattle.std.specs.Global.{Vec}
-use Rattle.std.specs.Prelude.{IfOk, IfSome}
-use Rattle.folder.specs.declared.folder.FolderFault.{FolderFault}
 use Rattle.folder.proofs.PartLemmas.{counted_part}
 use Rattle.folder.proofs.disk.DiskFolder.read_part.Goals as goal
 

@@ -1,0 +1,86 @@
+//! The value of a user key in a folder whose version was verified before.
+
+ghost use Rattle.std.specs.Prelude.{◌≡◌, ℕ, List, Ok};
+ghost use Rattle.std.specs.Option.{option_map};
+ghost use Rattle.coding.specs.Answers.{EqualOrMemory};
+ghost use Rattle.checks.specs.LawfulTables.{IsLawfulTables};
+ghost use Rattle.commands.specs.FolderLines.{got_line, value_line};
+ghost use Rattle.folder.specs.Calls.{Files, Tells};
+ghost use Rattle.folder.specs.Levels.{file_numbers};
+ghost use Rattle.folder.specs.LoadedTables.{IsLoaded};
+ghost use Rattle.folder.specs.OpenAnswer.{FolderAnswers};
+ghost use Rattle.folder.specs.Orders.{order_cmp};
+ghost use Rattle.folder.specs.Reports.{OnlyReads, ReportsDevice};
+ghost use Rattle.reads.specs.Tables.{NumberedContents};
+
+use crate::folder_get::{sequence_at, value_line};
+use coding::Fault;
+use edit::Version;
+use folder::{Folder, Order};
+use ikey::{Bytewise, Comparator, Shortlex};
+use lookup::get_unverified;
+use std::alloc::Global;
+
+/// What [`answer_opened`](crate::answer_opened) answers to the question of a value, if the version
+/// is lawful with the tables in the folder. That isn't tested: it was verified before, and no other
+/// program changed the folder since. It only reads.
+///
+/// It reads the tables whose range of user keys holds the key, level by level until one of them has
+/// it, and of each the footer, the index block and one or two data blocks. What it reads it tests.
+/// Missing if such a table is missing; no other table is looked at.
+pub fn unverified_value<F: Folder>(
+    alloc: Global,
+    folder: &mut F,
+    order: Order,
+    version: &Version,
+    key: &[u8],
+    at: Option<u64>,
+) -> Result<Vec<u8>, Fault>
+    // If the folder tells files whose tables are lawful with the version, their line is the answer.
+    ensures lawful { (files : Files) (loaded : List (ℕ × List ℕ)) (tables : List NumberedContents) →
+        Tells (F.tells folder.old) files →
+        IsLoaded (F.tells folder.old) (file_numbers (order_cmp order) version.now) (Ok loaded) →
+        IsLawfulTables (order_cmp order) version.now loaded (Ok tables) →
+        FolderAnswers (λ v. v.items) (F.failed folder.old) (F.failed folder.new) result
+        (λ answer. answer ≡ Ok (got_line key.now at version.now tables)) }
+    ensures device { ReportsDevice F.Folder folder.old folder.new result }
+    ensures reads { OnlyReads F.Folder folder.old folder.new }
+{
+    match order {
+        Order::Bytewise => value_by::<Bytewise, F>(alloc, folder, version, key, at),
+        Order::Shortlex => value_by::<Shortlex, F>(alloc, folder, version, key, at),
+    }
+}
+
+/// The same by this comparator.
+fn value_by<C: Comparator, F: Folder>(
+    alloc: Global,
+    folder: &mut F,
+    version: &Version,
+    key: &[u8],
+    at: Option<u64>,
+) -> Result<Vec<u8>, Fault>
+    ensures lawful { (files : Files) (loaded : List (ℕ × List ℕ)) (tables : List NumberedContents) →
+        Tells (F.tells folder.old) files →
+        IsLoaded (F.tells folder.old) (file_numbers C.cmp version.now) (Ok loaded) →
+        IsLawfulTables C.cmp version.now loaded (Ok tables) →
+        FolderAnswers (λ v. v.items) (F.failed folder.old) (F.failed folder.new) result
+        (λ answer. answer ≡ Ok (got_line key.now at version.now tables)) }
+    ensures device { ReportsDevice F.Folder folder.old folder.new result }
+    ensures reads { OnlyReads F.Folder folder.old folder.new }
+{
+    let sequence = sequence_at(version, at);
+    let value = get_unverified::<C, F>(alloc, folder, version, key, sequence)?;
+    line_of(alloc, value)
+}
+
+/// The line of a value, or of none.
+fn line_of(alloc: Global, value: Option<Vec<u8>>) -> Result<Vec<u8>, Fault>
+    ensures { EqualOrMemory (λ v. v.items) result
+        (Ok (value_line (option_map (λ bytes. bytes.items) value))) }
+{
+    match &value {
+        Some(bytes) => value_line(alloc, Some(bytes)),
+        None => value_line(alloc, None),
+    }
+}

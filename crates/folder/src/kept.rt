@@ -27,6 +27,7 @@ pub(crate) struct Due {
 pub(crate) struct Kept {
     alloc: Global,
     made: Vec<Made>,
+    /// By name, since each of thousands of tables is looked for.
     ahead: Vec<Due>,
 }
 
@@ -55,7 +56,8 @@ impl Kept {
     }
 
     /// Keeps which files were synced ahead.
-    pub fn keep_ahead(&mut self, files: Vec<Due>) {
+    pub fn keep_ahead(&mut self, mut files: Vec<Due>) {
+        files.sort_unstable_by(|file, other| file.name.as_str().cmp(other.name.as_str()));
         self.ahead = files;
     }
 
@@ -66,12 +68,13 @@ impl Kept {
 
     /// Whether the file of this `name` was synced ahead.
     pub fn is_synced(&self, name: &str) -> bool {
-        for due in &self.ahead {
-            if due.is_synced && due.name.as_str() == name {
-                return true;
-            }
+        let found = self
+            .ahead
+            .binary_search_by(|due| due.name.as_str().cmp(name));
+        match found {
+            Ok(place) => self.ahead[place].is_synced,
+            Err(_) => false,
         }
-        false
     }
 }
 

@@ -12,7 +12,7 @@
 //! - read: what is no regular file, or has more than 2^30 bytes, is Device, and isn't read.
 //! - create: the name is removed, and a new file is made of the bytes. So no file that is there is
 //!   written to, be it through a link. The new one gets the permissions of CURRENT, and its owner
-//!   and group if the program may set them.
+//!   and group if the program may set them. If it can't be written whole, it is removed again.
 //! - sync: `sync_all`, through the handle that made the file, or else under its name.
 //! - rename is `fs::rename`, sync_folder is `sync_all` of the folder.
 //! - [`lock_to_change`] and [`lock_to_read`] keep out others that lock the folder as LevelDB does.

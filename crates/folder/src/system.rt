@@ -62,6 +62,9 @@ pub(crate) fn done_in<R: SystemFiles>(
 
 /// Makes a file anew, and keeps it open. What had its name before keeps its bytes, if it has
 /// another name or is open elsewhere.
+///
+/// If that fails, the part of the file that was written is removed, if it can be. Else a disk that
+/// is full would stay full.
 fn create_in<R: SystemFiles>(
     rt: &R,
     alloc: Global,
@@ -73,6 +76,25 @@ fn create_in<R: SystemFiles>(
     kept.forget_ahead();
     drop(kept.taken(name));
     remove_in(rt, alloc, folder, name)?;
+    let written = write_in(rt, alloc, folder, kept, name, bytes);
+    if let Err(error) = &written
+        // Then another program has made the file.
+        && error.kind() != ErrorKind::AlreadyExists
+    {
+        let _ = remove_in(rt, alloc, folder, name);
+    }
+    written
+}
+
+/// Makes a file that isn't there, and keeps it open.
+fn write_in<R: SystemFiles>(
+    rt: &R,
+    alloc: Global,
+    folder: &str,
+    kept: &mut Kept,
+    name: &str,
+    bytes: &[u8],
+) -> io::Result<()> {
     let mut file = new_file(rt, alloc, folder, name)?;
     file.write_all(bytes)?;
     kept.keep(name, file)?;

@@ -6,7 +6,7 @@ use commands::{
     Open, bottom, dump, get_dir, manifest, next_level, progress_text, status, unverified_value,
     verify,
 };
-use diagnostics::{RefusedFile, account_of, refused_file, replayed_log};
+use diagnostics::{RefusedFile, account_of, refused_file, replaceable_file, replayed_log};
 use folder::{Failing, FolderFault, Shelf, open};
 use std::alloc::Global;
 use std::test::*;
@@ -22,8 +22,10 @@ enum Call {
     /// The same, of a version that isn't tested.
     UnverifiedGet(&'static [u8], Option<u64>),
     RefusedFile,
-    /// Which of [`LOGS`] are replayed.
-    Logs,
+    /// Which of [`LOGS`] are replayed, if the version is known or isn't.
+    Logs(bool),
+    /// Which of [`TAKEN`] may be replaced.
+    Replaceable,
     /// The folder before a compaction, and its level.
     Account(Place, u64),
     /// The first level with files above the deepest one, and the bottom.
@@ -48,7 +50,7 @@ const DEEPEST: u64 = 6;
 /// No call has this number.
 const NEVER: u64 = u64::MAX;
 
-/// Names of logs, and others.
+/// Names of logs, and of other files.
 const LOGS: &[&str] = &[
     "000002.log",
     "000003.log",
@@ -59,6 +61,23 @@ const LOGS: &[&str] = &[
     "00x006.log",
     "18446744073709551616.log",
     "000003.ldb",
+];
+
+/// Names of files about the next file number of one version, 9.
+const TAKEN: &[&str] = &[
+    "000007.ldb",
+    "000009.ldb",
+    "000010.ldb",
+    "1000000.ldb",
+    "00011.ldb",
+    "000012.sst",
+    "000013.log",
+    "MANIFEST-000008",
+    "MANIFEST-000009",
+    "MANIFEST-14",
+    "000008.dbtmp",
+    "000015.dbtmp",
+    "CURRENT",
 ];
 
 const ROWS: &[Row] = &[
@@ -114,10 +133,24 @@ const ROWS: &[Row] = &[
     ),
     (
         "logs from number 3 on",
-        Call::Logs,
+        Call::Logs(true),
         Place::One,
         NEVER,
         Ok("3 12 1000000 "),
+    ),
+    (
+        "all logs",
+        Call::Logs(false),
+        Place::One,
+        NEVER,
+        Ok("2 3 12 1000000 "),
+    ),
+    (
+        "manifests and temporary files from number 9 on, and tables from number 10 on",
+        Call::Replaceable,
+        Place::One,
+        NEVER,
+        Ok("10 1000000 9 15 "),
     ),
     (
         "entries that were dropped",
@@ -327,11 +360,25 @@ fn first_refusal(alloc: Global, folder: &mut Shelf<'_>) -> Result<Vec<u8>, Fault
 }
 
 /// The numbers of the logs that are replayed over a folder's version, a space after each.
-fn replayed_logs(alloc: Global, folder: &mut Shelf<'_>) -> Result<Vec<u8>, Fault> {
+fn replayed_logs(alloc: Global, folder: &mut Shelf<'_>, is_known: bool) -> Result<Vec<u8>, Fault> {
     let version = open(alloc, folder)?.version;
+    let known = if is_known { Some(&version) } else { None };
     let mut numbers = String::new(alloc);
     for name in LOGS {
-        if let Some(number) = replayed_log(&version, name) {
+        if let Some(number) = replayed_log(known, name) {
+            write!(numbers, "{number} ")?;
+        }
+    }
+    Ok(numbers.into_bytes())
+}
+
+/// The numbers of the files that a compaction of a folder's version may replace, a space after
+/// each.
+fn replaceable_files(alloc: Global, folder: &mut Shelf<'_>) -> Result<Vec<u8>, Fault> {
+    let version = open(alloc, folder)?.version;
+    let mut numbers = String::new(alloc);
+    for name in TAKEN {
+        if let Some(number) = replaceable_file(&version, name) {
             write!(numbers, "{number} ")?;
         }
     }
@@ -369,7 +416,8 @@ fn answer<R: AllocGlobal + Threads + Sync>(
         Call::Get(key, at) => get_dir(rt, alloc, folder, key, *at, &Open),
         Call::UnverifiedGet(key, at) => unverified(alloc, folder, key, *at),
         Call::RefusedFile => first_refusal(alloc, folder),
-        Call::Logs => replayed_logs(alloc, folder),
+        Call::Logs(is_known) => replayed_logs(alloc, folder, *is_known),
+        Call::Replaceable => replaceable_files(alloc, folder),
         Call::Account(before, level) => explained(alloc, files_of(*before), folder, *level),
         Call::NextLevel => levels_of(alloc, folder),
         Call::Progress(done) => bytes_of(progress_text(alloc, Work::Compact, 8, *done)),

@@ -13,6 +13,9 @@ use std::thread::Threads;
 /// The block of no entries.
 const NO_ENTRIES: &[u8] = b"\0\0\0\0\x01\0\0\0";
 
+/// What to do about a file that is no such block.
+const REMEDY: &str = "give a block of a table, without its trailer";
+
 /// Merges the blocks in two files into one, and prints how large it is.
 pub(crate) fn merge<R: Files + Print + AllocGlobal + Threads + Sync>(
     rt: &R,
@@ -35,8 +38,8 @@ fn merged<R: Files + AllocGlobal + Threads + Sync>(
     at: &[u8],
     out: &str,
 ) -> Result<(u64, Vec<u8>), Refusal> {
-    let first = files::read(rt, a)?;
-    let second = files::read(rt, b)?;
+    let first = read_block(rt, a)?;
+    let second = read_block(rt, b)?;
     let answer = blocks(rt, rt.alloc(), first.as_slice(), second.as_slice(), at);
     answer.map_err(|fault| {
         if is_refused(rt, first.as_slice(), fault) {
@@ -49,8 +52,31 @@ fn merged<R: Files + AllocGlobal + Threads + Sync>(
     })
 }
 
-/// Whether a block is refused so by itself. If memory is short, so that it isn't read again, it is
-/// not.
+/// The bytes of a block's file. TooLarge if there are more than 2^30.
+fn read_block<R: Files + AllocGlobal>(rt: &R, path: &str) -> Result<Vec<u8>, Refusal> {
+    files::read(rt, path).map_err(|refusal| {
+        if refusal.fault.name == FaultName::Size {
+            too_large(rt.alloc(), path)
+        } else {
+            refusal
+        }
+    })
+}
+
+/// The refusal of a block's file of more than 2^30 bytes.
+fn too_large(alloc: Global, path: &str) -> Refusal {
+    let words = Words {
+        wrong: "it has more than 1073741824 bytes",
+        remedy: REMEDY,
+    };
+    Refusal {
+        fault: Fault::of(FaultName::TooLarge),
+        told: told(alloc, path, words),
+    }
+}
+
+/// Whether a block is refused so by itself. A block that can't be read again, since memory is
+/// short, is not.
 fn is_refused<R: AllocGlobal + Threads + Sync>(rt: &R, bytes: &[u8], fault: Fault) -> bool {
     match blocks(rt, rt.alloc(), bytes, NO_ENTRIES, &[]) {
         Ok(_) => false,
@@ -69,10 +95,13 @@ fn refused_alone(alloc: Global, path: &str, fault: Fault) -> Refusal {
         FaultName::Block => "its bytes cannot be read as entries",
         name => of_file(name).wrong,
     };
-    let remedy = "give a block of a table, without its trailer";
+    let words = Words {
+        wrong,
+        remedy: REMEDY,
+    };
     Refusal {
         fault,
-        told: told(alloc, path, Words { wrong, remedy }),
+        told: told(alloc, path, words),
     }
 }
 

@@ -22,8 +22,8 @@ pub(crate) fn in_words(name: FaultName) -> Words {
 fn of_work(name: FaultName) -> Option<Words> {
     let (wrong, remedy) = match name {
         FaultName::Locked => (
-            "another program has the database open",
-            "close it and try again",
+            "another program, or another sedvokt, uses the database",
+            "close it, or wait until it ends, and try again",
         ),
         FaultName::Changed => (
             "another program changed the database meanwhile",

@@ -4,29 +4,38 @@ use crate::refusal::Refusal;
 use crate::table_sizes::MOST_BYTES;
 use coding::{Fault, FaultName};
 use std::fs::{File, OpenFile, OpenOptions, Permissions};
-use std::io::{ErrorKind, Write};
+use std::io::{ErrorKind, Read, Write};
 use std::rt::Files;
 use std::{fs, io};
 
-/// The bytes of a file. Missing if there is no such file, Device if it can't be read.
+/// The bytes of a file; of a pipe, those that come until it is closed. Missing if there is no such
+/// file, Size if there are more than 2^30 bytes, Device if it can't be read.
 pub(crate) fn read<R: Files + AllocGlobal>(rt: &R, path: &str) -> Result<Vec<u8>, Refusal> {
-    fs::read(rt, path).map_err(|error| match error.kind() {
-        ErrorKind::NotFound => Refusal::of_missing(rt.alloc(), path),
-        _ => Refusal::of_call(rt.alloc(), path, "read", &error),
+    let alloc = rt.alloc();
+    bytes_at(rt, path).map_err(|error| match error.kind() {
+        ErrorKind::NotFound => Refusal::of_missing(alloc, path),
+        ErrorKind::FileTooLarge => Refusal::of_file(alloc, path, Fault::of(FaultName::Size)),
+        _ => Refusal::of_call(alloc, path, "read", &error),
     })
 }
 
-/// The bytes of a table's file. Size if it has more than 2^30 bytes: then it isn't read. Else as
-/// [`read`].
-pub(crate) fn read_table<R: Files + AllocGlobal>(rt: &R, path: &str) -> Result<Vec<u8>, Refusal> {
-    match fs::metadata(rt, path) {
-        Ok(found) if found.is_file() && found.len() > MOST_BYTES => Err(Refusal::of_file(
-            rt.alloc(),
-            path,
-            Fault::of(FaultName::Size),
-        )),
-        _ => read(rt, path),
+/// The same with the system's errors. FileTooLarge if there are more than 2^30 bytes. Of a file
+/// whose length says so none is read, and of anything else no more than one byte beyond them.
+fn bytes_at<R: Files + AllocGlobal>(rt: &R, path: &str) -> io::Result<Vec<u8>> {
+    let file = File::open(rt, path)?;
+    let found = file.metadata()?;
+    let mut bytes = Vec::new(rt.alloc());
+    if found.is_file() {
+        if found.len() > MOST_BYTES {
+            return Err(ErrorKind::FileTooLarge.into());
+        }
+        bytes = Vec::with_capacity(rt.alloc(), (found.len() as usize).saturating_add(1))?;
     }
+    file.take(MOST_BYTES + 1).read_to_end(&mut bytes)?;
+    if bytes.len() as u64 > MOST_BYTES {
+        return Err(ErrorKind::FileTooLarge.into());
+    }
+    Ok(bytes)
 }
 
 /// Replaces what a file holds by these bytes. If that is refused, the file holds what it held,

@@ -6,12 +6,14 @@ use crate::folder_refusal::{compaction_explained, explained, table_explained};
 use crate::progress_line::ProgressLine;
 use crate::refusal::Refusal;
 use crate::reporter::{Telling, tell_time};
-use crate::table_sizes::sizes_tested;
+use crate::table_sizes::{is_too_large, sizes_tested, too_large};
 use account::text;
 use coding::{Fault, FaultName};
 use commands::{Question, answer_opened, bottom, manifest_lines, next_level, unverified_value};
 use diagnostics::account_of;
+use edit::Version;
 use folder::{Disk, Opened, SystemFiles, WholeFiles, open};
+use ikey::Bytewise;
 use settings::Settings;
 use std::alloc::Global;
 use std::io;
@@ -120,9 +122,16 @@ fn begin_work<R: SystemFiles + Eprint + Clock + AllocGlobal>(
     rt: &R,
     telling: Telling<'_>,
 ) -> Result<Opened, Refusal> {
-    let opened = open_folder(rt, telling.folder)?;
-    telling.tell_logs(rt, &opened.version)?;
-    Ok(opened)
+    match open_folder(rt, telling.folder) {
+        Ok(opened) => {
+            telling.tell_logs(rt, &opened.version)?;
+            Ok(opened)
+        }
+        Err(refusal) => {
+            telling.tell_unopened_logs(rt);
+            Err(refusal)
+        }
+    }
 }
 
 /// What the version of a folder answers to a question.
@@ -175,10 +184,30 @@ fn compact_levels<
 ) -> Result<(), Refusal> {
     let opened = begin_work(rt, telling)?;
     sizes_tested(rt, telling.folder, &opened)?;
-    sync(rt, telling.folder, &opened)?;
+    if is_due(rt.alloc(), &opened.version, levels)? {
+        telling.tell_replaceable(rt, &opened.version);
+        sync(rt, telling.folder, &opened)?;
+    }
     match levels {
         Levels::One(level) => compact_one(rt, telling, &opened, level, settings),
         Levels::All => compact_all(rt, telling, opened, settings),
+    }
+}
+
+/// Whether there is a level to compact. If there is none, nothing will be written, so nothing has
+/// to outlive a crash.
+fn is_due(alloc: Global, version: &Version, levels: Levels) -> Result<bool, Fault> {
+    match levels {
+        Levels::One(level) => {
+            if level > 5 {
+                return Ok(false);
+            }
+            Ok(!version.files::<Bytewise>(alloc, level)?.is_empty())
+        }
+        Levels::All => {
+            let bottom = bottom(alloc, version)?;
+            Ok(next_level(alloc, version, bottom)?.is_some())
+        }
     }
 }
 
@@ -190,7 +219,7 @@ fn compact_one<R: SystemFiles + WholeFiles + Print + Eprint + Clock + AllocGloba
     level: u64,
     settings: &Settings<'_>,
 ) -> Result<(), Refusal> {
-    compact_level(rt, telling, opened, level, settings)?;
+    compact_level(rt, telling, opened, Levels::One(level), level, settings)?;
     if telling.is_explaining {
         let after = open_folder(rt, telling.folder);
         explain(rt, telling.folder, opened, &after, level, settings.ranges);
@@ -227,7 +256,7 @@ fn compact_step<
     level: u64,
     settings: &Settings<'_>,
 ) -> Result<Opened, Refusal> {
-    compact_level(rt, telling, opened, level, settings)?;
+    compact_level(rt, telling, opened, Levels::All, level, settings)?;
     let after = open_folder(rt, telling.folder);
     if telling.is_explaining {
         explain(rt, telling.folder, opened, &after, level, settings.ranges);
@@ -254,13 +283,14 @@ fn open_folder<R: SystemFiles + AllocGlobal>(rt: &R, path: &str) -> Result<Opene
     opened.map_err(|fault| refused_at(rt, path, &folder, fault))
 }
 
-/// Compacts a level of a folder, and prints what was made.
+/// Compacts a level of a folder, one of those that are asked for, and prints what was made.
 fn compact_level<
     R: SystemFiles + WholeFiles + Print + Eprint + Clock + AllocGlobal + Threads + Sync,
 >(
     rt: &R,
     telling: Telling<'_>,
     opened: &Opened,
+    levels: Levels,
     level: u64,
     settings: &Settings<'_>,
 ) -> Result<(), Refusal> {
@@ -268,15 +298,27 @@ fn compact_level<
     let begun = telling.begin(rt);
     let lines = compacted(rt, telling, opened, level, settings)?;
     tell_time(rt, step.as_str(), begun);
-    print_lines(rt, lines.as_slice()).map_err(|refusal| unprinted(rt.alloc(), refusal))
+    print_lines(rt, lines.as_slice()).map_err(|refusal| unprinted(
+        rt.alloc(),
+        telling.folder,
+        levels,
+        refusal,
+    ))
 }
 
-/// The refusal that a compaction's lines can't be written. It is installed by then.
-fn unprinted(alloc: Global, refusal: Refusal) -> Refusal {
-    let told = String::from_str(
-        alloc,
-        "the version is installed, but its lines could not be written",
-    );
+/// The refusal that a compaction's lines can't be written. It is installed by then. Of several
+/// steps it is the last one.
+fn unprinted(alloc: Global, folder: &str, levels: Levels, refusal: Refusal) -> Refusal {
+    let told = match levels {
+        Levels::One(_) => format!(in alloc;
+            "{folder}: the new version is installed, but its lines could not be written; manifest \
+                shows it"
+        ),
+        Levels::All => format!(in alloc;
+            "{folder}: the step is installed, but its lines could not be written, so the work \
+                stopped; run it again"
+        ),
+    };
     Refusal {
         fault: refusal.fault,
         told: told.ok(),
@@ -307,19 +349,26 @@ fn compacted<R: SystemFiles + WholeFiles + Eprint + Clock + AllocGlobal + Thread
 }
 
 /// The refusal of work on the folder at a path. If the device failed, the call that failed is told.
+/// TooLarge if that was to read a file that has more than 2^30 bytes.
 fn refused_at<R: SystemFiles + AllocGlobal>(
     rt: &R,
     path: &str,
     folder: &Disk<'_, R>,
     fault: Fault,
 ) -> Refusal {
-    let told = match folder.last_failure() {
-        Some(failure) if fault.name == FaultName::Device => {
-            format!(in rt.alloc(); "{path}: {failure}").ok()
-        }
-        _ => None,
+    let Some(failure) = folder.last_failure() else {
+        return Refusal::from(fault);
     };
-    Refusal { fault, told }
+    if fault.name != FaultName::Device {
+        return Refusal::from(fault);
+    }
+    if is_too_large(failure) {
+        return too_large(rt.alloc(), path, failure.name.as_str());
+    }
+    Refusal {
+        fault,
+        told: format!(in rt.alloc(); "{path}: {failure}").ok(),
+    }
 }
 
 /// The folder at a path, with its version's tables read ahead by several threads. A table that

@@ -135,7 +135,7 @@ fn subject<'a>(line: &Line<'a>) -> &'a str {
 
 /// Prints the entries of the table in a file.
 fn print_table<R: Files + Print + AllocGlobal>(rt: &R, table: &str) -> Result<(), Refusal> {
-    let bytes = files::read_table(rt, table)?;
+    let bytes = files::read(rt, table)?;
     let lines = dump(rt.alloc(), bytes.as_slice()).map_err(|fault| Refusal::of_file(
         rt.alloc(),
         table,

@@ -2,7 +2,8 @@
 
 ghost use Rattle.std.specs.Prelude.{◌≡◌, true, IfSome};
 
-use crate::logs::logs_with_writes;
+use crate::folder_refusal::path_in;
+use crate::logs::{logs_with_writes, replaceable_files};
 use coding::{Fault, FaultName};
 use edit::Version;
 use std::io::ErrorKind;
@@ -51,7 +52,7 @@ impl<'a> Telling<'a> {
         rt: &R,
         version: &Version,
     ) -> Result<(), Fault> {
-        match logs_with_writes(rt, self.folder, version) {
+        match logs_with_writes(rt, self.folder, Some(version)) {
             Ok(numbers) => tell_logs(rt, &numbers),
             Err(error) if error.kind() == ErrorKind::OutOfMemory => {
                 return Err(Fault::of(FaultName::Memory));
@@ -64,6 +65,35 @@ impl<'a> Telling<'a> {
             }
         }
         Ok(())
+    }
+
+    /// Tells of each log that has a byte, of a folder that can't be opened: which of them LevelDB
+    /// would replay isn't known. Nothing is told if the folder can't be listed.
+    pub fn tell_unopened_logs<R: Files + Eprint + AllocGlobal>(self, rt: &R) {
+        let Ok(numbers) = logs_with_writes(rt, self.folder, None) else {
+            return;
+        };
+        for number in &numbers {
+            let _ = eprintln!(rt;
+                "sedvokt: {number:06}.log: there may be writes in it that are in no table"
+            );
+        }
+    }
+
+    /// Tells of the files that compactions from this version on may replace, a line each. Nothing
+    /// is told if the folder can't be listed: that is told with its logs.
+    pub fn tell_replaceable<R: Files + Eprint + AllocGlobal>(self, rt: &R, version: &Version) {
+        let Ok(names) = replaceable_files(rt, self.folder, version) else {
+            return;
+        };
+        for name in &names {
+            if let Some(path) = path_in(rt.alloc(), self.folder, name.as_str()) {
+                let _ = eprintln!(rt;
+                    "sedvokt: {path}: the manifest says that its number is free; a new file may \
+                        replace it"
+                );
+            }
+        }
     }
 }
 

@@ -1,15 +1,18 @@
-//! The sizes of a version's tables, before any is read.
+//! The sizes of a folder's files: those of a version's tables before any is read, and what is told
+//! of a file that is too large to be read.
 
-use crate::explanations::of_file;
+use crate::explanations::{Words, of_file};
 use crate::folder_refusal::path_in;
 use crate::refusal::{Refusal, told};
-use coding::FaultName;
+use coding::{Fault, FaultName};
 use edit::FileMeta;
-use folder::{Disk, Opened, SystemFiles, old_table_name, table_name};
+use folder::{CURRENT, Disk, Failure, FolderCall, Opened, SystemFiles, old_table_name, table_name};
 use ikey::Bytewise;
+use std::alloc::Global;
 use std::fs;
+use std::io::ErrorKind;
 
-/// The most bytes of a table: 2^30.
+/// The most bytes of a file that is read: 2^30.
 pub(crate) const MOST_BYTES: u64 = 1 << 30;
 
 /// Tests whether each table of a version is there and has at most 2^30 bytes. Missing if one is
@@ -77,4 +80,38 @@ fn told_if_large<R: SystemFiles + AllocGlobal>(rt: &R, folder: &str, name: &str)
         }
         _ => None,
     }
+}
+
+/// Whether a file was not read since it has more than 2^30 bytes.
+pub(crate) fn is_too_large(failure: &Failure) -> bool {
+    failure.call == FolderCall::Read && failure.error.kind() == ErrorKind::FileTooLarge
+}
+
+/// The refusal of the file of this name, which was not read since it has more than 2^30 bytes.
+pub(crate) fn too_large(alloc: Global, folder: &str, name: &str) -> Refusal {
+    let told = match path_in(alloc, folder, name) {
+        Some(path) => told(alloc, path.as_str(), of_large(name)),
+        None => None,
+    };
+    Refusal {
+        fault: Fault::of(FaultName::TooLarge),
+        told,
+    }
+}
+
+/// The words of a folder's file of this name that has more than 2^30 bytes.
+fn of_large(name: &str) -> Words {
+    if name == CURRENT {
+        return Words {
+            wrong: "it has more than 1073741824 bytes: the database is damaged",
+            remedy: "restore the folder from a copy",
+        };
+    }
+    if name.starts_with("MANIFEST-") {
+        return Words {
+            wrong: "it has more than 1073741824 bytes, the most that is read of a manifest",
+            remedy: "open the database once with LevelDB, which writes the manifest anew",
+        };
+    }
+    of_file(FaultName::Size)
 }

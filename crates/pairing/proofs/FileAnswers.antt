@@ -1,5 +1,5 @@
 -- What two files answer, step by step.
-use Rattle.std.proofs.Common.{◌≡◌, ℕ, ◌++◌, List, [], ◌∷◌, length, Result, Ok, Err, None, refl, sym, ap, subst, ◌∙◌, inl}
+use Rattle.std.proofs.Common.{◌≡◌, ℕ, ◌++◌, List, [], ◌∷◌, length, Result, Ok, Err, None, refl, sym, ap, subst, ◌∙◌}
 use Rattle.std.specs.Global.{Vec}
 use Rattle.coding.specs.Answers.{UnlessMemory, EqualOrMemory, FailsOrMemory, ◌>>=◌, HoldsOrMemory}
 use Rattle.coding.specs.declared.fault.Fault.{Fault}
@@ -7,6 +7,8 @@ use Rattle.coding.proofs.Binds.{bind_ok, ok_is}
 use Rattle.coding.proofs.Refusals.{unless_from}
 use Rattle.std.specs.Prelude.{IfOk}
 use Rattle.block.specs.EncodedEntry.{Entry, IsBlock}
+use Rattle.block.specs.ReadingBlocks.{block_reading}
+use Rattle.block.proofs.BlockReadings.{reads_blocks}
 use Rattle.ikey.specs.Bytewise.{bytewise_cmp}
 use Rattle.pairing.specs.TestedUnion.{tested_entries, union_of, unions_of}
 use Rattle.pairing.specs.EntryTests.{tested_after}
@@ -21,10 +23,14 @@ use Rattle.pairing.proofs.Repeats.{no_union, repeat_in_parts, repeat_in_rests}
 use Rattle.pairing.proofs.Unions.{Cut, block_of, union_of_runs}
 use Rattle.pairing.proofs.RangeUnions.{union_found, union_refused_for}
 
+-- the tests of a block are those of its entries
+tested_block : (bytes : List ℕ) (q : List Entry) → IsBlock bytes q → (block_reading bytes >>= tested_after None) ≡ tested_after None q
+tested_block bytes q block = ap (λ (r : Result (List Entry) Fault). r >>= tested_after None) (reads_blocks.only bytes q block)
+
 -- the tests of a block's entries answer for the file
 pub file_answer : (bytes : List ℕ) (q : List Entry) (r : Result (Vec TestedEntry) Fault) → IsBlock bytes q → EqualOrMemory (λ v. tested_entries v.items) r (tested_after None q) → HoldsOrMemory (λ v. tested_entries v.items) r (IsFileAnswer bytes)
-file_answer bytes q (Ok v) block given = inl (q, (block, sym given))
-file_answer bytes q (Err e) block given = unless_from e (tested_after None q ≡ Err e) (IsFileAnswer bytes (Err e)) (λ same. inl (q, (block, sym same))) given
+file_answer bytes q (Ok v) block given = sym (tested_block bytes q block ∙ given)
+file_answer bytes q (Err e) block given = unless_from e (tested_after None q ≡ Err e) (IsFileAnswer bytes (Err e)) (λ same. sym (tested_block bytes q block ∙ same)) given
 
 cut_twice : (a1 a2 b1 b2 qa qb : List Entry) → qa ≡ a1 ++ a2 → qb ≡ b1 ++ b2 → HasRepeat ((a1 ++ a2) ++ (b1 ++ b2)) → HasRepeat (qa ++ qb)
 cut_twice a1 a2 b1 b2 qa qb a b h = subst HasRepeat (ap (λ (t : List Entry). t ++ (b1 ++ b2)) (sym a) ∙ ap (λ (t : List Entry). qa ++ t) (sym b)) h
@@ -86,7 +92,7 @@ blocks_counted a b qa qb union r first second is given =
     holds_from (λ v. (v.0, v.1.items)) r (counted_block union) (IsBlocksAnswer a b) given (Ok qa, (first, (Ok qb, (second, (Ok union, (is, refl))))))
 
 -- the number of its entries and their block
-pub blocks_merged : (a b : List ℕ) (qa qb union : List Entry) (r : Result (ℕ × Vec ℕ) Fault) → IsBlock a qa → IsBlock b qb → IsUnion bytewise_cmp (qa ∷ qb ∷ []) union
+pub blocks_merged : (a b : List ℕ) (qa qb union : List Entry) (r : Result (ℕ × Vec ℕ) Fault) → block_reading a ≡ Ok qa → block_reading b ≡ Ok qb → IsUnion bytewise_cmp (qa ∷ qb ∷ []) union
     → EqualOrMemory (λ v. (v.0, v.1.items)) r (counted_block union) → IfOk r (λ v. IsMerged a b v.0 v.1.items)
 blocks_merged a b qa qb union (Err e) first second is given = tt
 blocks_merged a b qa qb union (Ok v) first second is given =
@@ -95,8 +101,8 @@ blocks_merged a b qa qb union (Ok v) first second is given =
     record {
       entries_a = qa;
       entries_b = qb;
-      block_a = first;
-      block_b = second;
+      read_a = first;
+      read_b = second;
       union = union;
       is_union = is;
       counted = sym (ap (λ (p : ℕ × List ℕ). p.0) same);

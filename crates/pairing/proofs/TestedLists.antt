@@ -1,5 +1,5 @@
 -- Testing entries one after the other, as a loop does.
-use Rattle.std.proofs.Common.{◌≡◌, ℕ, suc, ◌+◌, ◌%◌, Bool, true, false, cond, nat_lt, List, [], ◌∷◌, ◌++◌, ◌<◌, ◌-◌, length, get_or, drop, Option, Some, None, Result, Ok, Err, refl, sym, ap, subst, ◌∙◌, append_assoc, drop-cons, arith}
+use Rattle.std.proofs.Common.{◌≡◌, ℕ, suc, ◌+◌, ◌%◌, Bool, true, false, cond, nat_lt, List, [], ◌∷◌, ◌++◌, ◌<◌, ◌-◌, length, get_or, drop, Option, Some, None, Result, Ok, Err, refl, sym, ap, ◌∙◌, append_assoc, drop-cons, arith}
 use Rattle.std.proofs.lemmas.List.{append-nil}
 use Rattle.std.specs.List.{slice_get}
 use Rattle.std.specs.Option.{option_map}
@@ -14,6 +14,8 @@ use Rattle.table.specs.ReadingEntries.{is_above}
 use Rattle.std.specs.Prelude.{IfOk}
 use Rattle.std.specs.Global.{Vec}
 use Rattle.block.specs.EncodedEntry.{Entry, IsBlock}
+use Rattle.block.specs.ReadingBlocks.{block_reading}
+use Rattle.block.proofs.BlockReadings.{reads_blocks}
 use Rattle.pairing.specs.TestedUnion.{last_key_or, tested_entries}
 use Rattle.pairing.specs.declared.tested.TestedEntry.{TestedEntry}
 use Rattle.pairing.specs.EntryTests.{file_entry_test, tested_after}
@@ -104,8 +106,8 @@ entry_test_same before key value internal h =
     ∙ two (nat_lt 16777215 (length value)) (is_above bytewise_cmp before key) (fault TooLarge) (fault Order) a.0 internal a.2
 
 -- the entries that were tested are those of the block
-pub found_tested : (bytes : List ℕ) (q : List Entry) (r : Result (Vec TestedEntry) Fault) → IsBlock bytes q → EqualOrMemory (λ v. tested_entries v.items) r (tested_after None q) → IfOk r (λ v. IsBlock bytes (tested_entries v.items))
-found_tested bytes q (Ok v) block given = subst (IsBlock bytes) (tested_same None q (tested_entries v.items) given) block
+pub found_tested : (bytes : List ℕ) (q : List Entry) (r : Result (Vec TestedEntry) Fault) → IsBlock bytes q → EqualOrMemory (λ v. tested_entries v.items) r (tested_after None q) → IfOk r (λ v. block_reading bytes ≡ Ok (tested_entries v.items))
+found_tested bytes q (Ok v) block given = reads_blocks.only bytes q block ∙ ap done (tested_same None q (tested_entries v.items) given)
 found_tested bytes q (Err e) block given = tt
 
 drop_at : (ts : List TestedEntry) (i : ℕ) (t : TestedEntry) → i < length ts → drop i ts ≡ get_or ts i t ∷ drop (i + 1) ts

@@ -1,11 +1,12 @@
 -- What the merge of two blocks answers.
-use Rattle.std.specs.Prelude.{◌≡◌, ◌⊎◌, ℕ, nat_le, if◌then◌else◌, List, [], ◌∷◌, length, None}
+use Rattle.std.specs.Prelude.{◌≡◌, ℕ, nat_le, if◌then◌else◌, List, [], ◌∷◌, length, None}
 use Rattle.std.specs.Prelude.{Result, Ok, Err}
 use Rattle.coding.specs.Answers.{IsThen, fault, ◌>>=◌}
 use Rattle.coding.specs.declared.fault.Fault.{Fault}
-use Rattle.coding.specs.declared.fault.FaultName.TheVariants.{Block, Duplicate, TooLarge}
-use Rattle.block.specs.EncodedEntry.{Entry, IsBlock}
+use Rattle.coding.specs.declared.fault.FaultName.TheVariants.{Duplicate, TooLarge}
+use Rattle.block.specs.EncodedEntry.{Entry}
 use Rattle.block.specs.BlockFormat.{block}
+use Rattle.block.specs.ReadingBlocks.{block_reading}
 use Rattle.ikey.specs.Bytewise.{bytewise_cmp}
 use Rattle.merge.specs.Union.{IsUnion}
 use Rattle.pairing.specs.EntryTests.{tested_after}
@@ -18,12 +19,10 @@ block_within entries =
     if nat_le (length (block INTERVAL entries)) MAX_TABLE_LEN then Ok (block INTERVAL entries)
     else Err (fault TooLarge)
 
--- What the tests of a file answer. If the bytes are a block: its entries if each passes its tests,
--- else the first test that fails. If they aren't: Block.
+-- What the tests of a file answer: Block if the bytes aren't a block; else its entries, if each
+-- passes its tests; else the first test that fails.
 abbrev pub IsFileAnswer : List ℕ → Result (List Entry) Fault → Type 0
-IsFileAnswer bytes answer =
-    ((entries : List Entry) × (IsBlock bytes entries × (answer ≡ tested_after None entries)))
-    ⊎ (((entries : List Entry) → IsBlock bytes entries → ⊥) × (answer ≡ Err (fault Block)))
+IsFileAnswer bytes answer = answer ≡ (block_reading bytes >>= tested_after None)
 
 -- the union of two files; Duplicate if there is none
 abbrev pub IsUnionAnswer : List Entry → List Entry → Result (List Entry) Fault → Type 0
@@ -45,8 +44,8 @@ IsBlocksAnswer a b = IsThen (IsFileAnswer a) (λ entries_a. IsThen (IsFileAnswer
 pub record IsMerged (a b : List ℕ) (count : ℕ) (merged : List ℕ) : Type 0 where
   pub entries_a : List Entry
   pub entries_b : List Entry
-  pub block_a : IsBlock a entries_a
-  pub block_b : IsBlock b entries_b
+  pub read_a : block_reading a ≡ Ok entries_a
+  pub read_b : block_reading b ≡ Ok entries_b
   pub union : List Entry
   pub is_union : IsUnion bytewise_cmp (entries_a ∷ entries_b ∷ []) union
   pub counted : count ≡ length union

@@ -1,9 +1,10 @@
 //! The tests of a file that holds a block's contents.
 
-ghost use Rattle.std.specs.Prelude.{◌≡◌, ◌≤◌, ◌++◌, [], ◌∷◌, IfErr, IfOk, None, OnOk, length};
+ghost use Rattle.std.specs.Prelude.{◌≡◌, ◌≤◌, ◌++◌, [], ◌∷◌, IfErr, IfOk, None, Ok, OnOk, length};
 ghost use Rattle.std.specs.Option.{option_map};
 ghost use Rattle.std.specs.Result.{result_map_both};
-ghost use Rattle.block.specs.EncodedEntry.{Entry, IsBlock};
+ghost use Rattle.block.specs.EncodedEntry.{Entry};
+ghost use Rattle.block.specs.ReadingBlocks.{block_reading};
 ghost use Rattle.coding.specs.Answers.{EqualOrMemory, HoldsOrMemory, fault};
 ghost use Rattle.coding.specs.declared.fault.FaultName.TheVariants.{Memory};
 ghost use Rattle.pairing.specs.Blocks.{IsFileAnswer};
@@ -25,7 +26,7 @@ use table::MAX_VALUE_LEN;
 /// Block if `bytes` aren't a block; else the first test that fails; otherwise the only fault is
 /// Memory.
 pub(crate) fn tested(alloc: Global, bytes: &[u8]) -> Result<Vec<TestedEntry<'_>>, Fault>
-    ensures found { IfOk result (λ v. IsBlock bytes.now (tested_entries v.items)) }
+    ensures found { IfOk result (λ v. block_reading bytes.now ≡ Ok (tested_entries v.items)) }
     ensures rising { IfOk result (λ v. EntriesRise bytewise_cmp (tested_entries v.items)) }
     ensures answer { HoldsOrMemory (λ v. tested_entries v.items) result (IsFileAnswer bytes.now) }
 {

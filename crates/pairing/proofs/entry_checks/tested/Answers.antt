@@ -1,7 +1,9 @@
-use Rattle.std.proofs.Common.{List, None, refl, inr, subst}
+use Rattle.std.proofs.Common.{List, None, Result, ap, subst, sym}
 use Rattle.std.proofs.lemmas.Result.{err_from_is_err_and}
-use Rattle.coding.specs.Answers.{EqualOrMemory}
+use Rattle.coding.specs.Answers.{EqualOrMemory, ◌>>=◌}
+use Rattle.coding.specs.declared.fault.Fault.{Fault}
 use Rattle.block.specs.EncodedEntry.{Entry}
+use Rattle.block.proofs.CheckingSteps.{no_block}
 use Rattle.pairing.specs.TestedUnion.{tested_entries}
 use Rattle.pairing.specs.EntryTests.{tested_after}
 use Rattle.pairing.proofs.TestedLists.{found_tested}
@@ -12,7 +14,7 @@ use Rattle.pairing.proofs.entry_checks.tested.Goals as goal
 pub returns-in_err-block-clause-answer : goal.returns-in_err-block-clause-answer
 returns-in_err-block-clause-answer c =
     let p = err_from_is_err_and c.from_residual.result c.from_residual.ensures.1 in
-    rw (p.1, p.2, c.in_err-block.ensures.refused) (inr (c.in_err-block.ensures.only, refl))
+    rw (p.1, p.2, c.in_err-block.ensures.refused) (sym (ap (λ (r : Result (List Entry) Fault). r >>= tested_after None) (no_block c.args.bytes.now c.in_err-block.ensures.only)))
 
 pub returns-clause-found : goal.returns-clause-found
 returns-clause-found c =

@@ -7,7 +7,7 @@ use crate::worked::{
     BOTH_ENTRIES, CURRENT_FIVE, FIRST_BLOCK, MANIFEST, NEXT_TEN, SECOND_BLOCK, TABLE_U_TWICE,
 };
 use coding::{Fault, FaultName};
-use commands::{dump, get_dir, manifest, verify};
+use commands::{dump, get_dir, manifest, unverified_value, verify};
 use edit::{Outcome, Version};
 use folder::{Shelf, load, open};
 use ikey::Bytewise;
@@ -40,6 +40,8 @@ enum Question {
     Verify,
     /// The value of `u` at a sequence, the last one if none is given.
     Get(Option<u64>),
+    /// The same, of a version that isn't tested.
+    UnverifiedGet(Option<u64>),
 }
 
 /// The questions to the folder, and their lines. The last sequence is 4, at which `u` is deleted.
@@ -48,6 +50,8 @@ const QUESTIONS: &[(Question, &[u8])] = &[
     (Question::Verify, b"lawful: 1 files, 2 entries\n"),
     (Question::Get(Some(3)), b"78\n"),
     (Question::Get(None), b"none\n"),
+    (Question::UnverifiedGet(Some(3)), b"78\n"),
+    (Question::UnverifiedGet(None), b"none\n"),
 ];
 
 /// Whether a version has one table, that of the folder.
@@ -143,7 +147,14 @@ fn told<R: AllocGlobal + Threads + Sync>(
         Question::Manifest => manifest(rt.alloc(), shelf),
         Question::Verify => verify(rt, rt.alloc(), shelf, &Open),
         Question::Get(at) => get_dir(rt, rt.alloc(), shelf, b"u", *at, &Open),
+        Question::UnverifiedGet(at) => unverified(rt.alloc(), shelf, *at),
     }
+}
+
+/// The line of the value of `u`, in a version that isn't tested.
+fn unverified(alloc: Global, shelf: &mut Shelf<'_>, at: Option<u64>) -> Result<Vec<u8>, Fault> {
+    let opened = open(alloc, shelf)?;
+    unverified_value(alloc, shelf, opened.order, &opened.version, b"u", at)
 }
 
 /// Whether a folder answers these lines. If memory was refused, it is asked again.

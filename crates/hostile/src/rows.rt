@@ -22,7 +22,7 @@
 //! | two blocks | `blocks` | number of entries, block |
 //! | a folder is compacted (3) | `compact_dir` | lines |
 //! | a block is walked (2) | `BlockCursor`: `new`, `advance` | entries |
-//! | a folder is asked (3) | `manifest`, `verify`, `get_dir` | lines |
+//! | a folder is asked (3) | `manifest`, `verify`, `get_dir`, `unverified_value` | lines |
 //! | a table is dumped | `dump` | lines |
 //!
 //! If a call was refused, the next try makes all anew, except:

@@ -1,5 +1,5 @@
 -- What a compaction answers is installed, and reads survive.
-use Rattle.std.proofs.Common.{ℕ, List, ◌∙◌}
+use Rattle.std.proofs.Common.{ℕ, List, refl, arith, ◌∙◌}
 use Rattle.std.specs.Cmp.{IsTotalOrder}
 use Rattle.std.specs.declared.cmp.Ordering.{Ordering}
 use Rattle.ikey.specs.Comparator.{ShortKeys, IsExact}
@@ -36,6 +36,9 @@ joint cmp total exact short_keys applies passes outputs stands gets order v load
     record {
       next = next;
       edited = edited_by cmp total exact short_keys applies passes order v loaded tables level p s answer checked lawful low picked over held;
+      last = refl;
+      rises = omega arith;
+      small = held.few;
       tables_next = read;
       lawful = sound cmp next (install.next_version_tables cmp next answer.tables loaded) read (reads_after cmp loaded tables p answer next checked low_after after)
           (same_lawful next read (tables_after cmp p answer tables) same cmp after);

@@ -2,8 +2,6 @@ mod Loaded
 mod Found
 mod SameTables
 mod Over
-mod Taken
-mod InputTables
 mod TablesAfter
 mod EditedBy
 mod Joint
@@ -12,7 +10,14 @@ mod Synced
 mod SyncsTold
 mod TableSyncs
 mod Flow
+mod InputNumbers
+mod InputsApart
+mod LentRises
+mod CheckedInputs
+mod OrderlyFiles
 mod LineLemmas
 mod Compactions
+mod LawfulInputs
 mod InstallPart
+mod StepPart
 mod Runs

@@ -4,11 +4,13 @@ use crate::store_tests::rows::{
     CURRENT, DEFAULTS, Files, LINES, ONE_FILE, PLAIN, ROWS, Row, TWO_ENTRIES,
 };
 use coding::{Fault, FaultName};
-use folder::{Failing, FolderFault, Shelf};
+use folder::{Failing, FolderFault, Opened, Shelf, file_numbers, open};
+use ikey::Bytewise;
 use keep::Snapshots;
+use std::alloc::Global;
 use std::test::*;
 use std::thread::Threads;
-use store::{Open, Settings, compact_dir};
+use store::{Open, Settings, compact_dir, compact_inputs, opened_after};
 
 /// These bytes, or `others` if they are empty.
 fn or(bytes: &'static [u8], others: &'static [u8]) -> &'static [u8] {
@@ -70,6 +72,39 @@ fn is_compacted<R: AllocGlobal + Threads + Sync>(rt: &R, row: &Row) -> bool {
     answers(rt, &mut folder, row, row.answer) && holds(&folder, row.left)
 }
 
+/// Whether two openings are of one manifest, with the same counters and as many files.
+fn are_same(alloc: Global, one: &Opened, other: &Opened) -> Result<bool, Fault> {
+    let manifests = one.manifest == other.manifest && one.order == other.order;
+    let counters = one.version.next_file() == other.version.next_file()
+        && one.version.last_sequence() == other.version.last_sequence();
+    let numbers = file_numbers::<Bytewise>(alloc, &one.version)?;
+    let others = file_numbers::<Bytewise>(alloc, &other.version)?;
+    Ok(manifests && counters && numbers.as_slice() == others.as_slice())
+}
+
+/// Whether the compaction of the inputs of a row alone has its answer and leaves its files, and
+/// what the folder is opened as after it is known without reading it.
+fn is_known_after<R: AllocGlobal + Threads + Sync>(rt: &R, row: &Row) -> Result<bool, Fault> {
+    let files = files_of(row);
+    let alloc = rt.alloc();
+    let mut folder = Shelf::new(alloc, &files);
+    let opened = open(alloc, &mut folder)?;
+    let settings = &row.settings;
+    let step = compact_inputs(rt, alloc, &mut folder, &opened, row.level, settings, &Open)?;
+    let after = opened_after(alloc, &opened, &step)?;
+    let is_after = are_same(alloc, &after, &open(alloc, &mut folder)?)?;
+    Ok(is_answer(&Ok(step.lines), row.answer) && holds(&folder, row.left) && is_after)
+}
+
+#[test]
+fn inputs_that_are_compacted_alone(rt: HostRuntime) {
+    for row in ROWS {
+        if row.answer.is_ok() {
+            assert!(rt; is_known_after(&rt, row) == Ok(true), "{}", row.name);
+        }
+    }
+}
+
 /// Whether settings are the default ones.
 fn are_defaults(settings: &Settings<'_>) -> bool {
     (settings.workers, settings.ranges) == (DEFAULTS.workers, DEFAULTS.ranges)
@@ -93,9 +128,10 @@ const FAILURES: &[(FolderFault, bool, FaultName)] = &[
     (FolderFault::Memory, true, FaultName::Memory),
 ];
 
-/// The calls of the compaction of the deletion: two reads, five syncs, the read of the table, and
-/// eight of the installation, the last but one of which renames the new CURRENT.
-const CALLS: u64 = 16;
+/// The calls of the compaction of the deletion: two reads, five syncs, the read of the table for the
+/// test and as an input, and eight of the installation, the last but one of which renames the new
+/// CURRENT.
+const CALLS: u64 = 17;
 
 /// What a second compaction answers: that no input is left if CURRENT was renamed, else the lines
 /// of the first.

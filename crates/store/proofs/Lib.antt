@@ -21,3 +21,8 @@ mod LawfulInputs
 mod InstallPart
 mod StepPart
 mod Runs
+mod AfterEdit
+mod StepsTaken
+mod Chains
+mod Descending
+mod DescendingSince

@@ -40,6 +40,7 @@ pub record EditedVersion (order : Order) (cmp : List ℕ → List ℕ →
   pub edited : IsEditedBy (order_name order) cmp order v (manifest_of v) answer.tables answer.edit
       next
   pub last : last_of next ≡ last_of v
+  pub some : 0 < manifest_of v
   pub rises : manifest_of v < manifest_of next
   pub small : manifest_of next < 2 ^ 64
   pub tables_next : List NumberedContents

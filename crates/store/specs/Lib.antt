@@ -8,8 +8,11 @@ pub mod Compaction
 pub mod StepLeft
 pub mod OpenedAfter
 pub mod Joint
--- serves proofs alone
+pub mod Descent
+pub mod StepTaken
 pub mod VersionTest
+pub mod AllLevels
+-- serves proofs alone
 pub mod CallRun
 pub mod LentFiles
 pub mod InputLaws

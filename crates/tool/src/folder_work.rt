@@ -9,7 +9,7 @@ use crate::reporter::{Telling, tell_time};
 use crate::table_sizes::sizes_tested;
 use account::text;
 use coding::{Fault, FaultName};
-use commands::{Question, answer_opened, bottom, manifest_lines, next_level};
+use commands::{Question, answer_opened, manifest_lines};
 use diagnostics::account_of;
 use folder::{Disk, Opened, SystemFiles, WholeFiles, open};
 use settings::Settings;
@@ -18,7 +18,7 @@ use std::io;
 use std::io::Write;
 use std::thread::Threads;
 use std::time::Clock;
-use store::{compact_opened, sync_version};
+use store::{bottom, compact_opened, next_level, sync_version};
 use usage::Levels;
 
 /// Prints the version of a folder.

@@ -1,16 +1,21 @@
 //! Compactions of folders in memory.
 
 use crate::store_tests::rows::{
-    CURRENT, DEFAULTS, Files, LINES, ONE_FILE, PLAIN, ROWS, Row, TWO_ENTRIES,
+    CURRENT, DEFAULTS, DESCENTS, Descent, Files, KEPT, LINES, ONE_FILE, PLAIN, ROWS, Row,
+    TWO_ENTRIES,
 };
 use coding::{Fault, FaultName};
+use edit::Version;
 use folder::{Failing, FolderFault, Opened, Shelf, file_numbers, open};
 use ikey::Bytewise;
 use keep::Snapshots;
 use std::alloc::Global;
 use std::test::*;
 use std::thread::Threads;
-use store::{Open, Settings, compact_dir, compact_inputs, opened_after};
+use store::{
+    DescentEnd, InstallWatch, Open, Settings, compact_all, compact_dir, compact_inputs,
+    opened_after,
+};
 
 /// These bytes, or `others` if they are empty.
 fn or(bytes: &'static [u8], others: &'static [u8]) -> &'static [u8] {
@@ -102,6 +107,54 @@ fn inputs_that_are_compacted_alone(rt: HostRuntime) {
         if row.answer.is_ok() {
             assert!(rt; is_known_after(&rt, row) == Ok(true), "{}", row.name);
         }
+    }
+}
+
+/// Who collects the lines of compactions, and stops after some.
+struct Collected {
+    lines: Vec<u8>,
+    left: u64,
+}
+
+impl InstallWatch for Collected {
+    fn installed(
+        &mut self,
+        _level: u64,
+        lines: &[u8],
+        _before: &Version,
+        _after: Option<&Version>,
+    ) -> bool {
+        let _ = self.lines.extend_from_slice(lines);
+        self.left = self.left.saturating_sub(1);
+        self.left > 0
+    }
+}
+
+/// Whether all levels of the folder of a row are compacted so.
+fn is_descent<R: AllocGlobal + Threads + Sync>(rt: &R, row: &Descent) -> Result<bool, Fault> {
+    let (is_whole, most, end, lines, left) = row;
+    let files = files_of(&KEPT);
+    let files = if *is_whole { &files[..] } else { &files[..3] };
+    let alloc = rt.alloc();
+    let mut folder = Shelf::new(alloc, files);
+    let opened = open(alloc, &mut folder)?;
+    let mut told = Collected {
+        lines: Vec::new(alloc),
+        left: *most,
+    };
+    let answer = compact_all(rt, alloc, &mut folder, opened, &DEFAULTS, &Open, &mut told);
+    let is_end = match (answer, end) {
+        (Ok(is), Ok(wanted)) => is == *wanted,
+        (Err(fault), Err(name)) => fault == Fault::of(*name),
+        _ => false,
+    };
+    Ok(is_end && told.lines.as_slice() == lines.as_bytes() && holds(&folder, left))
+}
+
+#[test]
+fn all_levels_that_are_compacted(rt: HostRuntime) {
+    for row in DESCENTS {
+        assert!(rt; is_descent(&rt, row) == Ok(true), "{}", row.1);
     }
 }
 

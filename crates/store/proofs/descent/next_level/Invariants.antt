@@ -1,6 +1,6 @@
 use Rattle.std.proofs.Common.{◌<◌, ℕ}
-use Rattle.commands.specs.Descent.{IsEmptyLevel}
-use Rattle.commands.proofs.descent.next_level.Given as goal
+use Rattle.store.specs.Descent.{IsEmptyLevel}
+use Rattle.store.proofs.descent.next_level.Given as goal
 
 -- the levels so far have no file
 abbrev pub invariant-loop-level : goal.invariant-loop-level

@@ -1,6 +1,6 @@
 use Rattle.std.proofs.Common.{◌≡◌, ◌⊎◌, ◌≤◌, ◌<◌, ℕ}
-use Rattle.commands.specs.Descent.{IsEmptyLevel}
-use Rattle.commands.proofs.descent.bottom.Given as goal
+use Rattle.store.specs.Descent.{IsEmptyLevel}
+use Rattle.store.proofs.descent.bottom.Given as goal
 
 -- the bottom so far is that of the levels so far
 abbrev pub invariant-loop-level : goal.invariant-loop-level

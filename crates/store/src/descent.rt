@@ -3,7 +3,7 @@
 ghost use Rattle.std.specs.Prelude.{◌≡◌, ◌≤◌, IfOk, IfErr, Ok};
 ghost use Rattle.coding.specs.Answers.{EqualOrMemory, fault};
 ghost use Rattle.coding.specs.declared.fault.FaultName.TheVariants.{Memory};
-ghost use Rattle.commands.specs.Descent.{IsBottom, IsNextLevel, file_count};
+ghost use Rattle.store.specs.Descent.{IsBottom, IsNextLevel, file_count};
 
 use coding::Fault;
 use edit::Version;

@@ -3,6 +3,5 @@ pub mod Status
 pub mod Dump
 pub mod Lines
 pub mod FolderLines
-pub mod Descent
 pub mod Questions
 pub mod Progress

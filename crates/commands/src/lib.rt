@@ -4,14 +4,11 @@
 //!    [`answer_opened`] do the same for a folder that is opened already.
 //! 2. [`unverified_value`] answers a value without testing the version.
 //! 3. [`dump`] answers the lines of one table.
-//! 4. [`bottom`] and [`next_level`] say which levels `--all` takes.
-//! 5. [`progress_text`] is a line of progress, [`status`] the status of a refusal.
+//! 4. [`progress_text`] is a line of progress, [`status`] the status of a refusal.
 //!
-//! No contract says which of these the program calls for a command. That `--all` makes its calls
-//! one after the other is read off the program.
+//! No contract says which of these the program calls for a command.
 #![tactic(auto)]
 
-mod descent;
 mod entry_counts;
 mod exit_status;
 mod folder_commands;
@@ -24,7 +21,6 @@ mod version_text;
 mod version_verdict;
 
 pub use board::Open;
-pub use descent::{bottom, next_level};
 pub use exit_status::status;
 pub use folder_commands::{answer_opened, get_dir, manifest, manifest_lines, verify};
 pub use progress::progress_text;

@@ -3,14 +3,14 @@ use account::{Account, text};
 use checks::Work;
 use coding::{Fault, FaultName};
 use commands::{
-    Open, bottom, dump, get_dir, manifest, next_level, progress_text, status, unverified_value,
-    verify,
+    Open, dump, get_dir, manifest, progress_text, status, unverified_value, verify,
 };
 use diagnostics::{RefusedFile, account_of, refused_file, replaceable_file, replayed_log};
 use folder::{Failing, FolderFault, Shelf, open};
 use std::alloc::Global;
 use std::test::*;
 use std::thread::Threads;
+use store::{bottom, next_level};
 use texts::{key_of, text_of};
 
 /// A call, and its arguments beside the folder.

@@ -29,6 +29,7 @@ use Rattle.install.proofs.Numbers.{in_files}
 use Rattle.survival.specs.EditAfter.{AreNumberedFrom, EditApplies, version_after}
 use Rattle.survival.specs.GetsAfter.{staying_files}
 use Rattle.survival.specs.Over.{HoldOutputs, IsOver}
+use Rattle.survival.proofs.Inputs.{input_file}
 use Rattle.survival.proofs.SurvivingReads.{is_edit}
 use Rattle.checks.specs.Checked.{tables_reading}
 use Rattle.store.specs.FolderRequest.{manifest_of, request_of}
@@ -71,6 +72,15 @@ module _ (cmp : List ℕ → List ℕ → Ordering) (total : IsTotalOrder cmp) (
   next_there =
       let i = some_input p.files passed.some in
       has_next cmp total v loaded tables level p checked lawful picked i.0 i.1
+
+  -- a file has a number below it, so it is at least 1
+  pub next_positive : 0 < manifest_of v
+  next_positive =
+      let i = some_input p.files passed.some in
+      let f = input_file cmp total v tables lawful level p picked i.0 i.1 in
+      let below = All-contains (λ (x : NewFile). IsBelowNextFile v.next_file x.meta.number) v.files f.file lawful.below_next f.there in
+      let lt = below_next v.next_file (manifest_of v) f.file.meta.number next_there below in
+      omega (arith, lt)
 
   added_numbers : map (λ (f : NewFile). f.meta.number) (new_files r held.outputs) ≡ numbers_of answer.tables
   added_numbers = new_numbers (p.level + 1) held.outputs ∙ sym (ap numbers_of held.answer_tables)

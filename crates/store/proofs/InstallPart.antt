@@ -10,18 +10,14 @@ use Rattle.edit.specs.Version.{State}
 use Rattle.folder.specs.Calls.{Call, Done, Files, Step, Tells}
 use Rattle.folder.specs.CallSequence.{AreMadeBy, MakesCalls}
 use Rattle.folder.specs.Folder.{TellsSame}
-use Rattle.folder.specs.Levels.{file_numbers}
-use Rattle.folder.specs.LoadedTables.{IsLoaded}
-use Rattle.folder.specs.Manifest.{order_name}
 use Rattle.folder.specs.Names.{current_text}
 use Rattle.folder.specs.OpenAnswer.{IsOpened, IsStopped}
-use Rattle.folder.specs.ReadsAs.{IsHeldIn, ReadsAs}
+use Rattle.folder.specs.ReadsAs.{IsHeldIn}
 use Rattle.folder.specs.declared.order.Order.{Order}
 use Rattle.install.specs.Install.{IsEditedBy, SurvivesCrash, next_version_tables}
 use Rattle.install.proofs.Moments.{made_by}
 use Rattle.request.specs.OneThread.{Answer}
-use Rattle.store.specs.FolderRequest.{manifest_of}
-use Rattle.store.specs.Compaction.{VersionCompaction, IsInstalled, IsFolderLeft, IsVersionLeft, next_of}
+use Rattle.store.specs.Compaction.{IsInstalled, IsFolderLeft, IsVersionLeft, next_of}
 use Rattle.folder.specs.Orders.{order_cmp, order_short_keys}
 use Rattle.settings.specs.declared.settings.Settings.{Settings}
 use Rattle.ikey.specs.Comparator.{ShortKeys}
@@ -30,7 +26,7 @@ use Rattle.store.proofs.Synced.{version_stands}
 use Rattle.store.proofs.SyncsTold.{syncs_tell}
 
 -- what survives of one answer does of another one that is a value where the first is
-survives_on : {T E U G : Type 0} (cmp : List ℕ → List ℕ → Ordering) (order : Order) (v next : State) (tables tables' : List (ℕ × List ℕ)) (before after : List Step) (old middle new : List ℕ → Option (List ℕ) → Type 0) (r : Result T E) (q : Result U G)
+pub survives_on : {T E U G : Type 0} (cmp : List ℕ → List ℕ → Ordering) (order : Order) (v next : State) (tables tables' : List (ℕ × List ℕ)) (before after : List Step) (old middle new : List ℕ → Option (List ℕ) → Type 0) (r : Result T E) (q : Result U G)
     → ((P : Type 0) → OnOk r P → OnOk q P) → ((files : Files) → Tells old files → Tells middle files)
     → SurvivesCrash cmp order v tables next tables' before after middle new r → SurvivesCrash cmp order v tables next tables' before after old new q
 survives_on cmp order v next tables tables' before after old middle new r q f told h = record {
@@ -39,31 +35,11 @@ survives_on cmp order v next tables tables' before after old middle new r q f to
   read = λ files tells reads. let x = h.read files (told files tells) reads in (x.0, x.1, x.2, f _ x.3);
 }
 
--- what the version and its tables read as
-pub reads_as : (cmp : List ℕ → List ℕ → Ordering) (order : Order) (v : State) (loaded : List (ℕ × List ℕ)) (files : Files) → IsOpened (IsHeldIn files) (Ok (order, v)) → IsLoaded (IsHeldIn files) (file_numbers cmp v) (Ok loaded) → ReadsAs cmp order v loaded files
-reads_as cmp order v loaded files opened loads = record { opened = opened; loaded = loads }
-
 -- what an installation promises of each edited version
 abbrev pub Promises : {T : Type 0} → List ℕ → (List ℕ → List ℕ → Ordering) → State → ℕ → Answer → List Step → List Step → (List ℕ → Option (List ℕ) → Type 0) → (List ℕ → Option (List ℕ) → Type 0) → Result T Fault → Type 0
 Promises name cmp v number answer before after old new r =
     (order : Order) (next : State) (tables : List (ℕ × List ℕ)) → IsEditedBy name cmp order v number answer.tables answer.edit next
     → SurvivesCrash cmp order v tables next (next_version_tables cmp next answer.tables tables) before after old new r
-
-pub installed_by : {T : Type 0} (name : List ℕ) (order : Order) (cmp : List ℕ → List ℕ → Ordering) (short_keys : ShortKeys) (files : Files) (v : State) (loaded : List (ℕ × List ℕ)) (level : ℕ) (s : Settings) (answer : Answer) (lines : List ℕ)
-    (before after : List Step) (old middle new : List ℕ → Option (List ℕ) → Type 0) (r : Result T Fault) (q : Result (Vec ℕ) Fault)
-    → order_name order ≡ name → ReadsAs cmp order v loaded files → VersionCompaction order cmp short_keys v loaded level s answer lines → ((P : Type 0) → OnOk r P → OnOk q P) → TellsSame old middle
-    → IfOk q (λ text. text.items ≡ lines) → IfErr q (λ e. UnlessMemory e (e ≡ fault Device)) → Promises name cmp v (manifest_of v) answer before after middle new r
-    → IsInstalled order cmp short_keys v files level s before after old new q
-installed_by name order cmp short_keys files v loaded level s answer lines before after old middle new r q named reads done f same printed refused promises =
-    let edited = subst (λ (n : List ℕ). IsEditedBy n cmp order v (manifest_of v) answer.tables answer.edit done.edited.next) named done.edited.edited in
-    record {
-      compaction = record { loaded = loaded; reads = reads; answer = answer; lines = lines; compacted = done };
-      survives = survives_on cmp order v done.edited.next loaded (next_version_tables cmp done.edited.next answer.tables loaded) before after old middle new r q f
-          (λ files tells name held. (λ h. (tells name held).0 ((same name held).1 h), λ h. (same name held).0 ((tells name held).1 h)))
-          (promises order done.edited.next loaded edited);
-      printed = printed;
-      refused = refused;
-    }
 
 -- a refusal of the installation is Device or Memory
 pub stopped_named : {T : Type 0} (before now : ℕ) (r : Result T Fault) (e : Fault) → IsErrAnd r (λ f. f ≡ e) → UnlessMemory e (IsStopped before now e) → IfErr r (λ f. UnlessMemory f (f ≡ fault Device))
@@ -87,7 +63,7 @@ valued_on r x (Err e) P is given = tt
 
 -- ---- opened and synced folders
 
-still : (old new : List ℕ → Option (List ℕ) → Type 0) → TellsSame old new → (files : Files) → Tells old files → Tells new files
+pub still : (old new : List ℕ → Option (List ℕ) → Type 0) → TellsSame old new → (files : Files) → Tells old files → Tells new files
 still old new same files tells name held = (λ h. (tells name held).0 ((same name held).1 h), λ h. (same name held).0 ((tells name held).1 h))
 
 -- an installation, told from earlier calls on
@@ -125,7 +101,7 @@ sync_refused order v manifest files level s first before after zero old new r q 
     })
 
 -- the calls of a sync that was not refused
-all_made : {T : Type 0} (calls : List Call) (steps : List Step) (r : Result T Fault) (x : T) → r ≡ Ok x → AreMadeBy calls steps r → steps ≡ map Done calls
+pub all_made : {T : Type 0} (calls : List Call) (steps : List Step) (r : Result T Fault) (x : T) → r ≡ Ok x → AreMadeBy calls steps r → steps ≡ map Done calls
 all_made {T = T} calls steps r x was made = subst (λ (q : Result T Fault). AreMadeBy calls steps q) was made
 
 -- the version was opened and synced, and then compacted
@@ -155,13 +131,3 @@ synced_left order v manifest files level s first before synced after zero old mi
       ];
       stands = λ tables start. version_stands (order_cmp order) order v manifest tables start first;
     })
-
--- what is left of a folder whose version was compacted
-pub version_left : {T : Type 0} (name : List ℕ) (order : Order) (cmp : List ℕ → List ℕ → Ordering) (short_keys : ShortKeys) (files : Files) (v : State) (loaded : List (ℕ × List ℕ)) (level : ℕ) (s : Settings) (answer : Answer) (lines : List ℕ)
-    (first before after : List Step) (zero old new : List ℕ → Option (List ℕ) → Type 0) (r : Result T Fault) (q : Result (Vec ℕ) Fault)
-    → order_name order ≡ name → ReadsAs cmp order v loaded files → VersionCompaction order cmp short_keys v loaded level s answer lines → ((P : Type 0) → OnOk r P → OnOk q P) → before ≡ first → TellsSame zero old
-    → IfOk q (λ text. text.items ≡ lines) → IfErr q (λ e. UnlessMemory e (e ≡ fault Device)) → Promises name cmp v (manifest_of v) answer before after old new r
-    → IsVersionLeft order cmp short_keys v files level s first after zero new q
-version_left name order cmp short_keys files v loaded level s answer lines first before after zero old new r q named reads done f is same printed refused promises =
-    inr (installed_since order cmp short_keys v files level s first before after zero old new q is (still zero old same)
-    (installed_by name order cmp short_keys files v loaded level s answer lines before after old old new r q named reads done f (λ n held. (λ h. h, λ h. h)) printed refused promises))

@@ -1,5 +1,5 @@
 -- What a compaction answers is installed, and reads survive.
-use Rattle.std.proofs.Common.{ℕ, List, ◌∙◌}
+use Rattle.std.proofs.Common.{ℕ, List, refl, arith, ◌∙◌}
 use Rattle.std.specs.Cmp.{IsTotalOrder}
 use Rattle.std.specs.declared.cmp.Ordering.{Ordering}
 use Rattle.ikey.specs.Comparator.{ShortKeys, IsExact}
@@ -17,7 +17,7 @@ use Rattle.survival.specs.Over.{HoldOutputs, IsOver, OutputsHold}
 use Rattle.survival.specs.Survive.{VersionAfterLaw, tables_after}
 use Rattle.store.specs.FolderRequest.{last_of, request_of}
 use Rattle.store.specs.Joint.{JointLaw}
-use Rattle.store.proofs.EditedBy.{edited_by, low_next}
+use Rattle.store.proofs.EditedBy.{edited_by, low_next, next_positive}
 use Rattle.store.proofs.Over.{is_over}
 use Rattle.store.proofs.SameTables.{same_get, same_lawful}
 use Rattle.store.proofs.TablesAfter.{read_after, reads_after, same_after}
@@ -36,6 +36,10 @@ joint cmp total exact short_keys applies passes outputs stands gets order v load
     record {
       next = next;
       edited = edited_by cmp total exact short_keys applies passes order v loaded tables level p s answer checked lawful low picked over held;
+      last = refl;
+      some = next_positive cmp total exact short_keys applies passes order v loaded tables level p s answer checked lawful low picked over held;
+      rises = omega arith;
+      small = held.few;
       tables_next = read;
       lawful = sound cmp next (install.next_version_tables cmp next answer.tables loaded) read (reads_after cmp loaded tables p answer next checked low_after after)
           (same_lawful next read (tables_after cmp p answer tables) same cmp after);

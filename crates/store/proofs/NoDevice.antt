@@ -1,11 +1,12 @@
 -- No refusal of a compaction is Device.
-use Rattle.std.proofs.Common.{◌≡◌, ◌≢◌, ℕ, ◌+◌, ◌-◌, ◌^◌, Bool, true, false, List, [], ◌∷◌, length, Result, Ok, Err, if◌then◌else◌, refl, sym, ap, subst, ◌∙◌}
+use Rattle.std.proofs.Common.{◌≡◌, ◌≢◌, ℕ, ◌+◌, ◌-◌, ◌^◌, Bool, true, false, List, [], ◌∷◌, length, Result, Ok, Err, IfErr, IsErrAnd, if◌then◌else◌, refl, sym, ap, subst, ◌∙◌}
 use Rattle.std.specs.Prelude.{◌&&◌, MatchBool, Some, nat_le, nat_lt}
 use Rattle.std.specs.declared.cmp.Ordering.{Ordering}
-use Rattle.coding.specs.Answers.{◌>>=◌, fault}
+use Rattle.coding.proofs.Refusals.{unless_device}
+use Rattle.coding.specs.Answers.{HoldsOrMemory, UnlessMemory, ◌>>=◌, fault}
 use Rattle.coding.specs.declared.fault.Fault.{Fault}
 use Rattle.coding.specs.declared.fault.FaultName.{FaultName}
-use Rattle.coding.specs.declared.fault.FaultName.TheVariants.{Bounds, Device, Duplicate, Level, NoInput, Numbers, Options, Snapshot, SnapshotList, SplitCount, TooLarge, Workers}
+use Rattle.coding.specs.declared.fault.FaultName.TheVariants.{Bounds, Device, Duplicate, Level, Memory, NoInput, Numbers, Options, Snapshot, SnapshotList, SplitCount, TooLarge, Workers}
 use Rattle.block.specs.EncodedEntry.{Entry}
 use Rattle.table.specs.TableContents.{Contents, contents_reading}
 use Rattle.table.specs.ReadingEntries.{is_some_list}
@@ -19,13 +20,17 @@ use Rattle.pick.specs.declared.picked.InputFile.{InputFile}
 use Rattle.keep.specs.Runs.{are_distinct}
 use Rattle.cut.specs.Outputs.{outputs}
 use Rattle.reads.specs.Tables.{NumberedContents}
+use Rattle.checks.specs.Checked.{tables_reading}
 use Rattle.checks.proofs.LawfulLemmas.{sound_other}
 use Rattle.checks.proofs.TableRefusals.{no_device}
+use Rattle.folder.specs.OpenAnswer.{HasDeviceFailed}
 use Rattle.request.specs.Inputs.{result_at_input, input_reading, inputs_reading, table_matches_metadata, union_reading}
 use Rattle.request.specs.OneThread.{one_thread, outputs_answer, table_for}
 use Rattle.request.specs.OutputTables.{Output, outputs_from, outputs_test}
 use Rattle.request.specs.Request.{RequestView, below_request, has_levels, has_options, has_snapshots, is_snapshot_list, request_test}
-use Rattle.store.specs.Answers.{IsLoadedCompacted, lines_of}
+use Rattle.store.specs.Answers.{lines_of}
+use Rattle.store.specs.InputsCompaction.{IsOrderlyAnswer, IsReadCompacted, are_stated, input_tables}
+use Rattle.store.specs.VersionTest.{IsLawfulTest}
 use Rattle.store.specs.FolderRequest.{numbered_request, compaction_of, manifest_of, request_of}
 use Rattle.settings.specs.declared.settings.Settings.{Settings}
 use Rattle.ikey.specs.Comparator.{ShortKeys}
@@ -35,6 +40,9 @@ refusal e = Err e
 
 same_refusal : {Y : Type 0} (e d : Fault) → refusal {Y = Y} e ≡ refusal d → e ≡ d
 same_refusal e d h = cc
+
+no_value_refused : {Y : Type 0} {y : Y} (e : Fault) → refusal {Y = Y} e ≡ Ok y → ⊥
+no_value_refused e h = cc
 
 -- each refusal of an answer has another name
 abbrev AllOther : {A : Type 0} → Result A Fault → Type 0
@@ -119,7 +127,7 @@ module _ (cmp : List ℕ → List ℕ → Ordering) (short_keys : ShortKeys) whe
   lines_other : (v : State) (loaded : List (ℕ × List ℕ)) (p : PickedInputs) (s : Settings) → AllOther (lines_of v p (compaction_of cmp short_keys v loaded p s))
   lines_other v loaded p s = bound (compaction_of cmp short_keys v loaded p s) _ (compaction_other v loaded p s) (λ a. value _)
 
-inputs_answer_other : (cmp : List ℕ → List ℕ → Ordering) (v : State) (level : ℕ) (e : Fault) → IsInputsAnswer cmp v level (Err e) → e.name ≢ Device
+pub inputs_answer_other : (cmp : List ℕ → List ℕ → Ordering) (v : State) (level : ℕ) (e : Fault) → IsInputsAnswer cmp v level (Err e) → e.name ≢ Device
 inputs_answer_other cmp v level e h = by (nat_lt 5 level) (nat_lt 0 (length (level_files cmp v level))) refl refl h
   where
     by : (a b : Bool) → nat_lt 5 level ≡ a → nat_lt 0 (length (level_files cmp v level)) ≡ b
@@ -128,8 +136,42 @@ inputs_answer_other cmp v level e h = by (nat_lt 5 level) (nat_lt 0 (length (lev
     by false true i j is = absurd is
     by false false i j is = λ same. let both = sym (ap (λ (f : Fault). f.name) (same_refusal {Y = PickedInputs} e (fault NoInput) is)) ∙ same in cc both
 
-pub loaded_other : (cmp : List ℕ → List ℕ → Ordering) (short_keys : ShortKeys) (v : State) (loaded : List (ℕ × List ℕ)) (level : ℕ) (s : Settings) (e : Fault)
-    → IsLoadedCompacted cmp short_keys v loaded level s (Err e) → e.name ≢ Device
-loaded_other cmp short_keys v loaded level s e (Err d, h) = subst (λ (f : Fault). f.name ≢ Device) (sym (same_refusal {Y = List ℕ} e d h.1)) (sound_other cmp v loaded d h.0)
-loaded_other cmp short_keys v loaded level s e (Ok tables, (h, (Err d, k))) = subst (λ (f : Fault). f.name ≢ Device) (sym (same_refusal {Y = List ℕ} e d k.1)) (inputs_answer_other cmp v level d k.0)
-loaded_other cmp short_keys v loaded level s e (Ok tables, (h, (Ok p, k))) = lines_other cmp short_keys v loaded p s e (sym k.1)
+tables_other : (cmp : List ℕ → List ℕ → Ordering) (files : List InputFile) (loaded : List (ℕ × List ℕ)) → AllOther (input_tables cmp files loaded)
+tables_other cmp files loaded =
+    bound (tables_reading cmp loaded) _ (no_device cmp loaded) (λ ts. bound (test_result (are_stated files ts) Bounds) _ (passes (are_stated files ts) Bounds (λ same. cc same)) (λ _. value _))
+
+-- nor is one of a compaction of inputs that were read
+pub read_other : (cmp : List ℕ → List ℕ → Ordering) (short_keys : ShortKeys) (v : State) (p : PickedInputs) (s : Settings) (loaded : List (ℕ × List ℕ)) (e : Fault)
+    → IsReadCompacted cmp short_keys v p s loaded (Err e) → e.name ≢ Device
+read_other cmp short_keys v p s loaded e (Err d, h) = subst (λ (f : Fault). f.name ≢ Device) (sym (same_refusal {Y = List ℕ} e d h.1)) (tables_other cmp p.files loaded d h.0)
+read_other cmp short_keys v p s loaded e (Ok tables, h) = lines_other cmp short_keys v loaded p s e (sym h.1)
+
+pub orderly_other : (cmp : List ℕ → List ℕ → Ordering) (v : State) (e : Fault) → IsOrderlyAnswer cmp v (Err e) → e.name ≢ Device
+orderly_other cmp v e h = λ same. let both = sym (ap (λ (f : Fault). f.name) h.0) ∙ same in cc both
+
+-- nor is one of the test of tables
+pub lawful_test_other : (cmp : List ℕ → List ℕ → Ordering) (v : State) (loaded : List (ℕ × List ℕ)) (e : Fault)
+    → IsLawfulTest cmp v loaded (Err e) → e.name ≢ Device
+lawful_test_other cmp v loaded e (Err d, h) = subst (λ (f : Fault). f.name ≢ Device) (sym (same_refusal {Y = Unit {0}} e d h.1)) (sound_other cmp v loaded d h.0)
+lawful_test_other cmp v loaded e (Ok tables, h) = absurd (no_value_refused e h.1)
+
+-- an answer none of whose refusals is Device says nothing of the device
+pub never_failed : {X Y : Type 0} (view : X → Y) (before now : ℕ) (r : Result X Fault) (IsAnswer : Result Y Fault → Type 0) → ((e : Fault) → IsAnswer (Err e) → e.name ≢ Device) → HoldsOrMemory view r IsAnswer → IfErr r (HasDeviceFailed before now)
+never_failed view before now (Ok x) IsAnswer other given = tt
+never_failed view before now (Err e) IsAnswer other given = λ same. absurd (other e (unless_device e (IsAnswer (Err e)) same given) same)
+
+-- a refusal that `?` hands on has this name
+pub handed_other : {X : Type 0} (r : Result X Fault) (e : Fault) (P : Type 0) → IsErrAnd r (λ f. f ≡ e) → (P → e.name ≢ Device) → UnlessMemory e P → IfErr r (λ f. f.name ≢ Device)
+handed_other (Ok x) e P h other given = absurd h
+handed_other (Err f) e P h other given =
+    subst (λ (x : Fault). x.name ≢ Device) (sym h) (λ same. other (unless_device e P same given) same)
+
+-- nor one of a call that answers with a reason
+pub never_device_at : {X : Type 0} (before now : ℕ) (r : Result X Fault) (P : Fault → Type 0) → ((e : Fault) → P e → e.name ≢ Device) → IfErr r (λ e. UnlessMemory e (P e)) → IfErr r (HasDeviceFailed before now)
+never_device_at before now (Ok x) P other given = tt
+never_device_at before now (Err e) P other given = λ same. absurd (other e (unless_device e (P e) same given) same)
+
+-- Memory is another name
+pub handed_memory : {X : Type 0} (r : Result X Fault) (e : Fault) → IsErrAnd r (λ f. f ≡ e) → e ≡ fault Memory → IfErr r (λ f. f.name ≢ Device)
+handed_memory (Ok x) e h is = absurd h
+handed_memory (Err f) e h is = λ same. let both = sym (ap (λ (x : Fault). x.name) (h ∙ is)) ∙ same in cc both

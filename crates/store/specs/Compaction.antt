@@ -1,6 +1,6 @@
 -- What a compaction makes of a folder.
-use Rattle.std.specs.Prelude.{◌≡◌, ◌⊎◌, ℕ, true, List, [], ◌∷◌, ◌++◌, map, codes, Option, Some}
-use Rattle.std.specs.Prelude.{Result, Ok, IfErr, IfOk, OnOk}
+use Rattle.std.specs.Prelude.{◌≡◌, ◌⊎◌, ℕ, ◌<◌, ◌^◌, true, List, [], ◌∷◌, ◌++◌, map, codes, Option}
+use Rattle.std.specs.Prelude.{Some, Result, Ok, IfErr, IfOk, OnOk}
 use Rattle.std.specs.Global.{Vec}
 use Rattle.std.specs.declared.cmp.Ordering.{Ordering}
 use Rattle.coding.specs.Answers.{UnlessMemory, fault}
@@ -31,14 +31,18 @@ use Rattle.settings.specs.declared.settings.Settings.{Settings}
 use Rattle.ikey.specs.Comparator.{ShortKeys}
 
 -- The edited version of a compaction's answer: the answer's edit makes it of the version, by a
--- manifest whose number is next file. With the tables that an installation leaves it is lawful, and
--- each get at a readable sequence answers as before.
+-- manifest whose number is next file. Last sequence stays, and next file rises. With the tables
+-- that an installation leaves it is lawful, and each get at a readable sequence answers as before.
 pub record EditedVersion (order : Order) (cmp : List ℕ → List ℕ →
     Ordering) (v : State) (loaded : List (ℕ × List ℕ))
     (tables : List NumberedContents) (s : Settings) (answer : Answer) : Type 0 where
   pub next : State
   pub edited : IsEditedBy (order_name order) cmp order v (manifest_of v) answer.tables answer.edit
       next
+  pub last : last_of next ≡ last_of v
+  pub some : 0 < manifest_of v
+  pub rises : manifest_of v < manifest_of next
+  pub small : manifest_of next < 2 ^ 64
   pub tables_next : List NumberedContents
   pub lawful : IsLawfulTables cmp next (next_version_tables cmp next answer.tables loaded)
       (Ok tables_next)

@@ -9,12 +9,10 @@ use Rattle.pick.specs.Picked.{IsPicked, PickedInputs}
 use Rattle.reads.specs.Lawful.{IsLawful}
 use Rattle.reads.specs.Tables.{NumberedContents}
 use Rattle.checks.specs.Checked.{tables_reading}
-use Rattle.checks.specs.LawfulTables.{IsLawfulTables}
 use Rattle.request.specs.OneThread.{Answer, one_thread}
 use Rattle.survival.specs.Over.{IsOver}
 use Rattle.store.specs.FolderRequest.{request_of}
 use Rattle.store.specs.Compaction.{EditedVersion}
-use Rattle.store.specs.InputTables.{AreLoaded, HaveTables}
 use Rattle.settings.specs.declared.settings.Settings.{Settings}
 use Rattle.ikey.specs.Comparator.{ShortKeys}
 
@@ -29,15 +27,6 @@ OverLaw cmp =
     (request_of v loaded p s).log_number < 2 ^ 64 →
     (request_of v loaded p s).previous_log < 2 ^ 64 →
     IsOver v tables (request_of v loaded p s)
-
--- If inputs are picked from a lawful version, each has its table under a number of its own, with
--- the bytes that were loaded.
-abbrev pub InputsReadLaw : (List ℕ → List ℕ → Ordering) → Type 0
-InputsReadLaw cmp =
-    (v : State) (loaded : List (ℕ × List ℕ)) (tables : List NumberedContents) (level : ℕ)
-    (p : PickedInputs) →
-    IsLawfulTables cmp v loaded (Ok tables) → IsPicked cmp v level p →
-    HaveTables cmp tables p.files × AreLoaded loaded tables p.files
 
 -- If moreover all files are at levels up to 6, what one thread answers to that request makes an
 -- edited version, by a manifest whose number is the version's next file. The tables that its

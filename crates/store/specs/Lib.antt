@@ -1,10 +1,18 @@
 -- what contracts rest on
 pub mod FolderRequest
 pub mod Lines
-pub mod InputTables
 pub mod Answers
+pub mod InputsCompaction
 pub mod VersionSync
 pub mod Compaction
+pub mod StepLeft
+pub mod OpenedAfter
 pub mod Joint
+pub mod Descent
+pub mod StepTaken
+pub mod VersionTest
+pub mod AllLevels
 -- serves proofs alone
 pub mod CallRun
+pub mod LentFiles
+pub mod InputLaws

@@ -12,14 +12,14 @@ ghost use Rattle.folder.specs.declared.order.Order.{Order};
 ghost use Rattle.store.specs.Answers.{IsFolderCompacted, IsVersionCompacted};
 ghost use Rattle.store.specs.Compaction.{IsFolderLeft, IsVersionLeft};
 
-use crate::folder_request::manifest_of;
-use crate::loaded_compaction::compact_loaded;
+use crate::input_compaction::compact_step;
+use crate::install_laws::inputs_suffice;
 use crate::version_sync::sync_version;
+use crate::version_test::test_version;
 use checks::Watch;
 use coding::Fault;
-use folder::{Folder, Opened, Order, load, open};
+use folder::{Folder, Opened, Order, open};
 use ikey::{Bytewise, SharedComparator, Shortlex};
-use install::install;
 use settings::Settings;
 use std::alloc::Global;
 use std::thread::Threads;
@@ -84,6 +84,9 @@ pub fn compact_dir<F: Folder, W: Watch + Sync, R: Threads + Sync>(
 /// Compacts a `level` of what a folder was `opened` as, and installs the outcome: what
 /// [`compact_dir`] does after the folder was opened and the version synced. The number of the
 /// manifest is the version's next file; the outputs have the numbers after it.
+///
+/// All tables are tested first. Then it does what [`compact_inputs`](crate::compact_inputs) does,
+/// which reads those of the inputs again.
 pub fn compact_opened<F: Folder, W: Watch + Sync, R: Threads + Sync>(
     rt: &R,
     alloc: Global,
@@ -121,8 +124,8 @@ pub fn compact_opened<F: Folder, W: Watch + Sync, R: Threads + Sync>(
     }
 }
 
-/// Compacts a `level` of the version that a folder was `opened` as, and installs the outcome. The
-/// comparator's name has fewer than 2^32 bytes.
+/// Tests the version that a folder was `opened` as, compacts a `level` of it, and installs the
+/// outcome. The comparator's name has fewer than 2^32 bytes.
 fn compact_version<C: SharedComparator + 'static, F: Folder, W: Watch + Sync, R: Threads + Sync>(
     rt: &R,
     alloc: Global,
@@ -148,11 +151,8 @@ fn compact_version<C: SharedComparator + 'static, F: Folder, W: Watch + Sync, R:
         files (codes "CURRENT") ≢ Some (current_text opened.now.manifest) → OnOk result ⊥ }
     ensures device { ReportsDevice F.Folder folder.old folder.new result }
 {
-    let version = &opened.version;
-    let loaded = load::<C, F>(alloc, folder, version)?;
-    let compacted = compact_loaded::<C, W, R>(rt, alloc, version, &loaded, level, settings, watch)?;
-    let outcome = &compacted.outcome;
-    let number = manifest_of(version);
-    install::<C, F>(alloc, folder, opened.manifest, version, number, outcome)?;
-    Ok(compacted.lines)
+    inputs_suffice::<C>();
+    test_version::<C, F, W, R>(rt, alloc, folder, &opened.version, watch)?;
+    let step = compact_step::<C, F, W, R>(rt, alloc, folder, opened, level, settings, watch)?;
+    Ok(step.lines)
 }

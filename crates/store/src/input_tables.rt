@@ -1,40 +1,105 @@
-//! The tables of inputs, taken out of the tables of a version.
+//! The tables of inputs: read from a folder, checked, and compared with what the version states.
 
-ghost use Rattle.std.specs.Prelude.{◌≡◌, Some, map, IfOk, IfErr, Ok};
-ghost use Rattle.coding.specs.Answers.{EqualOrMemory, fault};
-ghost use Rattle.coding.specs.declared.fault.FaultName.TheVariants.{Memory};
-ghost use Rattle.reads.specs.Tables.{table_of_number};
-ghost use Rattle.store.specs.InputTables.{HaveTables, IsTableMap};
+ghost use Rattle.std.specs.Prelude.{◌≡◌, length, map, Ok};
+ghost use Rattle.coding.specs.Answers.{EqualOrMemory};
+ghost use Rattle.folder.specs.LoadedTables.{IsLoaded};
+ghost use Rattle.folder.specs.OpenAnswer.{FolderAnswers};
+ghost use Rattle.folder.specs.Reports.{OnlyReads, ReportsDevice};
+ghost use Rattle.install.specs.Install.{tables_in};
+ghost use Rattle.request.specs.Inputs.{table_matches_metadata};
+ghost use Rattle.store.specs.InputsCompaction.{are_stated, input_numbers, input_tables};
 
-use coding::Fault;
-use ikey::Comparator;
+use checks::{CHECKERS, Watch, check_tables};
+use coding::{Fault, FaultName};
+use edit::FileMeta;
+use folder::{Folder, load_numbers};
+use ikey::{Comparator, SharedComparator};
 use pick::InputFile;
-use reads::NumberedTable;
+use reads::{NumberedTable, has_bounds};
 use std::alloc::Global;
-use std::collections::BTreeMap;
+use std::thread::Threads;
 use table::SoundTable;
 
-/// Takes the tables of `inputs` out of `tables`, in the order of the inputs. Each input has one,
-/// and no two inputs have the same number. The only fault is Memory.
-pub(crate) fn take_tables<'t, C: Comparator>(
+/// The tables of `inputs` in their order, with their numbers. It only reads. Missing at the first
+/// that is missing.
+pub(crate) fn load_inputs<F: Folder>(
+    alloc: Global,
+    folder: &mut F,
+    inputs: &[InputFile],
+) -> Result<Vec<(u64, Vec<u8>)>, Fault>
+    ensures answer { FolderAnswers (λ v. map (λ t. (t.0, t.1.items)) v.items) (F.failed folder.old)
+        (F.failed folder.new) result (IsLoaded (F.tells folder.old) (input_numbers inputs.now)) }
+    ensures device { ReportsDevice F.Folder folder.old folder.new result }
+    ensures reads { OnlyReads F.Folder folder.old folder.new }
+{
+    let numbers = numbers_of(alloc, inputs)?;
+    load_numbers(alloc, folder, &numbers)
+}
+
+/// The numbers of inputs in their order. The only fault is Memory.
+fn numbers_of(alloc: Global, inputs: &[InputFile]) -> Result<Vec<u64>, Fault>
+    ensures { EqualOrMemory (λ v. v.items) result (Ok (input_numbers inputs.now)) }
+{
+    let mut numbers = Vec::with_capacity(alloc, inputs.len())?;
+    for input in inputs {
+        numbers.push(input.meta.number)?;
+    }
+    Ok(numbers)
+}
+
+/// Checks the tables of `inputs`, which were read in that order. Refused as the first that is
+/// invalid; then Bounds, if one isn't as its file states. The only other fault is Memory.
+pub(crate) fn checked_inputs<'t, C: SharedComparator, W: Watch + Sync, R: Threads + Sync>(
+    rt: &R,
+    alloc: Global,
+    inputs: &[InputFile],
+    loaded: &'t [(u64, Vec<u8>)],
+    watch: &W,
+) -> Result<Vec<SoundTable<'t, C>>, Fault>
+    requires lengths { length loaded.now ≡ length inputs.now }
+    ensures { EqualOrMemory (λ v. v.items) result
+        (input_tables C.cmp inputs.now (tables_in loaded.now)) }
+{
+    let tables = check_tables::<C, W, R>(rt, alloc, loaded, CHECKERS, watch)?;
+    if !are_stated(inputs, &tables) {
+        return Err(Fault::of(FaultName::Bounds));
+    }
+    without_numbers(alloc, tables)
+}
+
+/// Whether the table of each input is as its file states.
+fn are_stated<C: Comparator>(inputs: &[InputFile], tables: &[NumberedTable<'_, C>]) -> bool
+    requires { length tables.now ≡ length inputs.now }
+    ensures { result ≡ are_stated inputs.now tables.now }
+{
+    for place in 0..inputs.len() {
+        if !is_stated(&inputs[place].meta, tables[place].table()) {
+            return false;
+        }
+    }
+    true
+}
+
+/// Whether a table's length, smallest and largest key are as the version states.
+fn is_stated<C: Comparator>(file: &FileMeta, table: &SoundTable<'_, C>) -> bool
+    ensures { result ≡ table_matches_metadata file.now table.now }
+{
+    has_bounds(file, table.bytes(), table.smallest(), table.largest())
+}
+
+/// The tables without their numbers. The only fault is Memory.
+fn without_numbers<'t, C: Comparator>(
     alloc: Global,
     tables: Vec<NumberedTable<'t, C>>,
-    inputs: &[InputFile],
 ) -> Result<Vec<SoundTable<'t, C>>, Fault>
-    requires { HaveTables C.cmp tables.items inputs.now }
-    ensures these { IfOk result (λ v. map (λ t. Some t) v.items
-        ≡ map (λ i. table_of_number tables.entry.items i.meta.number) inputs.now) }
-    ensures memory { IfErr result (λ e. e ≡ fault Memory) }
+    ensures { EqualOrMemory (λ v. v.items) result
+        (Ok (map (λ t. t.contents) tables.entry.items)) }
 {
-    let mut numbered = by_numbers(alloc, tables)?;
-    let mut taken = Vec::with_capacity(alloc, inputs.len())?;
-    for input in inputs {
-        let Some(table) = numbered.remove(&input.meta.number) else {
-            unreachable!()
-        };
-        taken.push(table)?;
+    let mut unnumbered = Vec::with_capacity(alloc, tables.len())?;
+    for table in tables {
+        unnumbered.push(table.into_table())?;
     }
-    Ok(taken)
+    Ok(unnumbered)
 }
 
 /// The bytes of tables in their order. The only fault is Memory.
@@ -50,20 +115,4 @@ pub(crate) fn bytes_of<'t, C: Comparator>(
         all.push(table.bytes())?;
     }
     Ok(all)
-}
-
-/// Tables by the numbers of their files. Of several of one number the first counts. The only fault
-/// is Memory.
-fn by_numbers<'t, C: Comparator>(
-    alloc: Global,
-    mut tables: Vec<NumberedTable<'t, C>>,
-) -> Result<BTreeMap<u64, SoundTable<'t, C>>, Fault>
-    ensures numbers { IfOk result (λ numbered. IsTableMap tables.entry.items numbered.entries) }
-    ensures memory { IfErr result (λ e. e ≡ fault Memory) }
-{
-    let mut numbered = BTreeMap::new(alloc);
-    while let Some(table) = tables.pop() {
-        numbered.insert(table.number(), table.into_table())?;
-    }
-    Ok(numbered)
 }

@@ -1,7 +1,8 @@
 //! Laws that tie a compaction to its installation.
 
 ghost use Rattle.store.specs.Compaction.{SyncLaw};
-ghost use Rattle.store.specs.Joint.{InputsReadLaw, JointLaw, OverLaw};
+ghost use Rattle.store.specs.InputsCompaction.{InputsSufficeLaw};
+ghost use Rattle.store.specs.Joint.{JointLaw, OverLaw};
 
 use ikey::Comparator;
 use request::passed_law;
@@ -13,10 +14,10 @@ pub fn request_is_over<C: Comparator>()
     ensures { OverLaw C.cmp }
 {}
 
-/// Each of those inputs has its table under a number of its own, with the bytes that were loaded. A
-/// call does nothing.
-pub fn inputs_are_tables<C: Comparator>()
-    ensures { InputsReadLaw C.cmp }
+/// If a version is lawful with the tables that a folder holds, a compaction that reads its inputs
+/// alone answers what the one answers that tests all tables. A call does nothing.
+pub fn inputs_suffice<C: Comparator>()
+    ensures { InputsSufficeLaw C.cmp C.short_keys }
 {}
 
 /// What one thread answers to that request is what an installation asks for. The edited version is

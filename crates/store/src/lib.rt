@@ -4,24 +4,46 @@
 //! 1. [`Settings`] says which workers, ranges, snapshots and options.
 //! 2. [`compact_dir`] does all of it. Its steps are `folder::open`, [`sync_version`] and
 //!    [`compact_opened`], for callers that need what was opened in between.
-//! 3. Both tell a [`Watch`] of the work; [`Open`] is the one that does nothing.
+//! 3. [`compact_inputs`] reads the inputs alone: its caller knows that the version is lawful. So
+//!    does [`opened_after`] make what a folder is opened as after it, which is the next one's.
+//! 4. [`compact_all`] compacts all levels, one after the other. It tests the version once, and
+//!    tells an [`InstallWatch`] of each compaction that was installed. [`compact_levels`] does the
+//!    same without the test. [`bottom`] and [`next_level`] say which levels they take.
+//! 5. All tell a [`Watch`] of the work; [`Open`] is the one that does nothing.
 //!
 //! The laws tie a compaction to its installation. After [`sync_version`] a folder stands for the
 //! version that was opened, whatever was synced before. The law [`sync_stands`] says when a sync of
 //! the folder alone is enough.
 #![tactic(auto)]
 
+mod all_levels;
+mod compaction_step;
+mod descent;
+mod descent_end;
 mod folder_compaction;
 mod folder_request;
+mod input_compaction;
+mod input_laws;
 mod input_tables;
 mod install_laws;
+mod install_watch;
 mod lines;
 mod loaded_compaction;
+mod next_opened;
+mod version_files;
 mod version_sync;
+mod version_test;
 
+pub use all_levels::{compact_all, compact_levels};
 pub use board::Open;
 pub use checks::{Watch, Work};
+pub use compaction_step::CompactionStep;
+pub use descent::{bottom, next_level};
+pub use descent_end::DescentEnd;
 pub use folder_compaction::{compact_dir, compact_opened};
-pub use install_laws::{answer_is_installed, inputs_are_tables, request_is_over, sync_stands};
+pub use input_compaction::compact_inputs;
+pub use install_laws::{answer_is_installed, inputs_suffice, request_is_over, sync_stands};
+pub use install_watch::InstallWatch;
+pub use next_opened::opened_after;
 pub use settings::Settings;
 pub use version_sync::sync_version;

@@ -1,29 +1,27 @@
-//! The compaction of a version whose tables were loaded.
+//! The compaction of inputs whose tables were read.
 
-ghost use Rattle.std.specs.Prelude.{◌&&◌, ◌<◌, ◌^◌, nat_le, ℕ, List, IfOk, unwrap_or};
+ghost use Rattle.std.specs.Prelude.{◌≡◌, ◌&&◌, ◌<◌, ◌^◌, nat_le, ℕ, List, map, IfOk, Ok};
+ghost use Rattle.std.specs.Prelude.{unwrap_or};
 ghost use Rattle.coding.specs.Answers.{EqualOrMemory, HoldsOrMemory};
 ghost use Rattle.coding.specs.declared.fault.FaultName.TheVariants.{SplitCount};
 ghost use Rattle.table.specs.ReadingSteps.{test_result};
-ghost use Rattle.folder.specs.declared.order.Order.{Order};
-ghost use Rattle.install.specs.Install.{tables_in};
-ghost use Rattle.pick.specs.Picked.{picked_in};
 ghost use Rattle.compact.specs.Answered.{answer_in};
-ghost use Rattle.store.specs.Answers.{IsLoadedCompacted};
-ghost use Rattle.store.specs.FolderRequest.{compaction_of};
-ghost use Rattle.store.specs.Compaction.{VersionCompaction};
-ghost use Rattle.store.specs.InputTables.{AreLoaded, HaveTables};
+ghost use Rattle.install.specs.Install.{table_bytes_of, tables_in};
+ghost use Rattle.pick.specs.Picked.{picked_in};
+ghost use Rattle.request.specs.Inputs.{inputs_reading};
+ghost use Rattle.store.specs.FolderRequest.{compaction_of, manifest_of};
+ghost use Rattle.store.specs.InputsCompaction.{IsReadCompacted};
+ghost use Rattle.store.specs.Lines.{compaction_lines};
 
 use crate::folder_request::{manifest_of, request_of};
-use crate::input_tables::{bytes_of, take_tables};
-use crate::install_laws::{answer_is_installed, inputs_are_tables};
+use crate::input_tables::{bytes_of, checked_inputs};
 use crate::lines::compaction_lines;
-use checks::{CHECKERS, Watch, Work, lawful_tables};
+use checks::{Watch, Work};
 use coding::Fault;
 use compact::compact_tables;
 use edit::{Outcome, Version};
 use ikey::{Comparator, SharedComparator};
-use pick::{Inputs, inputs};
-use reads::NumberedTable;
+use pick::Inputs;
 use settings::Settings;
 use split::Split;
 use std::alloc::Global;
@@ -37,64 +35,64 @@ pub(crate) struct Ready {
     pub outcome: Outcome,
 }
 
-/// Checks a version with the bytes of its tables, and compacts a `level` of it.
+/// Checks the tables of `picked` inputs, which were read in their order, and compacts them.
 ///
-/// The first that applies: the refusal of the first invalid table; then Lawless; then Level if the
-/// level is above 5, or NoInput if it has no file; then what the compaction of its inputs is
-/// refused as.
+/// The first that applies: the refusal of the first invalid table; Bounds, if one isn't as its file
+/// states; what the compaction is refused as.
 pub(crate) fn compact_loaded<C: SharedComparator + 'static, W: Watch + Sync, R: Threads + Sync>(
     rt: &R,
     alloc: Global,
     version: &Version,
+    picked: &Inputs,
     loaded: &[(u64, Vec<u8>)],
-    level: u64,
     settings: &Settings<'_>,
     watch: &W,
 ) -> Result<Ready, Fault>
+    requires bytes { map (λ t. t.1) (tables_in loaded.now)
+        ≡ map (λ i. table_bytes_of (tables_in loaded.now) i.meta.number) picked.now.files.items }
     ensures answer { HoldsOrMemory (λ c. c.lines.items) result
-        (IsLoadedCompacted C.cmp C.short_keys version.now (tables_in loaded.now)
-        level settings.now) }
-    ensures compacted { (order : Order) → IfOk result (λ c.
-        VersionCompaction order C.cmp C.short_keys version.now
-        (tables_in loaded.now) level settings.now (answer_in c.outcome)
-        c.lines.items) }
+        (IsReadCompacted C.cmp C.short_keys version.now (picked_in picked.now) settings.now
+        (tables_in loaded.now)) }
+    ensures outcome { IfOk result (λ c. (compaction_of C.cmp C.short_keys version.now (tables_in loaded.now)
+        (picked_in picked.now) settings.now ≡ Ok (answer_in c.outcome))
+        × (c.lines.items ≡ compaction_lines (answer_in c.outcome).tables picked.now.files.items
+        (manifest_of version.now))) }
+    ensures logs { IfOk result (λ c. (unwrap_or version.now.log_number 0 < 2 ^ 64)
+        × (unwrap_or version.now.previous_log 0 < 2 ^ 64)) }
 {
-    answer_is_installed::<C>();
-    inputs_are_tables::<C>();
     watch.begin(Work::Check, loaded.len() as u64);
-    let tables = lawful_tables::<C, W, R>(rt, alloc, version, loaded, CHECKERS, watch)?;
-    let picked = inputs::<C>(alloc, version, level)?;
-    let outcome = compact_picked::<C, W, R>(rt, alloc, version, tables, &picked, settings, watch)?;
+    let tables = checked_inputs::<C, W, R>(rt, alloc, &picked.files, loaded, watch)?;
+    let outcome = compact_checked::<C, W, R>(rt, alloc, version, picked, &tables, settings, watch)?;
     let lines = compaction_lines(alloc, &outcome, &picked.files, manifest_of(version))?;
     Ok(Ready { lines, outcome })
 }
 
-/// The outcome of the compaction of `picked` inputs. Their tables are taken out of those of the
-/// version, and none is checked again.
-fn compact_picked<'t, C: SharedComparator + 'static, W: Watch + Sync, R: Threads + Sync>(
+/// The outcome of the compaction of `picked` inputs, whose `tables` are checked.
+fn compact_checked<C: SharedComparator + 'static, W: Watch + Sync, R: Threads + Sync>(
     rt: &R,
     alloc: Global,
     version: &Version,
-    tables: Vec<NumberedTable<'t, C>>,
     picked: &Inputs,
+    tables: &[SoundTable<'_, C>],
     settings: &Settings<'_>,
     watch: &W,
 ) -> Result<Outcome, Fault>
-    requires tables { HaveTables C.cmp tables.items picked.now.files.items }
+    requires read { inputs_reading C.cmp 0 picked.now.files.items (map (λ t. t.bytes) tables.now)
+        ≡ Ok (map (λ t. t.entries) tables.now) }
     ensures answer { (loaded : List (ℕ × List ℕ)) →
-        AreLoaded loaded tables.entry.items picked.now.files.items →
+        map (λ t. t.bytes) tables.now
+        ≡ map (λ i. table_bytes_of loaded i.meta.number) picked.now.files.items →
         EqualOrMemory answer_in result
         (compaction_of C.cmp C.short_keys version.now loaded
         (picked_in picked.now) settings.now) }
     ensures logs { IfOk result (λ _. (unwrap_or version.now.log_number 0 < 2 ^ 64)
         × (unwrap_or version.now.previous_log 0 < 2 ^ 64)) }
 {
-    let taken = take_tables(alloc, tables, &picked.files)?;
-    let split = split_of(alloc, &taken, settings.ranges)?;
-    let bytes = bytes_of(alloc, &taken)?;
+    let split = split_of(alloc, tables, settings.ranges)?;
+    let bytes = bytes_of(alloc, tables)?;
     let request = request_of(version, picked, &bytes, settings)?;
     watch.begin(Work::Compact, split.len());
-    compact_tables::<C, W, R>(rt, alloc, &request, &taken, &split, settings.workers, watch)
+    compact_tables::<C, W, R>(rt, alloc, &request, tables, &split, settings.workers, watch)
 }
 
 /// The split of the keys of these tables into at most `ranges` ranges. `SplitCount` if `ranges` is

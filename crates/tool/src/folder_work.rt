@@ -9,7 +9,7 @@ use crate::reporter::{Telling, tell_time};
 use crate::table_sizes::{is_too_large, sizes_tested, too_large};
 use account::text;
 use coding::{Fault, FaultName};
-use commands::{Question, answer_opened, bottom, manifest_lines, next_level, unverified_value};
+use commands::{Question, answer_opened, manifest_lines, unverified_value};
 use diagnostics::account_of;
 use edit::Version;
 use folder::{Disk, Opened, SystemFiles, WholeFiles, open};
@@ -20,7 +20,7 @@ use std::io;
 use std::io::Write;
 use std::thread::Threads;
 use std::time::Clock;
-use store::{compact_opened, sync_version};
+use store::{bottom, compact_opened, next_level, sync_version};
 use usage::{Levels, Testing};
 
 /// Prints the version of a folder.

@@ -20,10 +20,11 @@ mod reporter;
 mod settings_refusal;
 mod table_sizes;
 
-pub use commands::{bottom, dump, get_dir, manifest, next_level, progress_text, status, verify};
+pub use commands::{dump, get_dir, manifest, progress_text, status, verify};
 pub use folder::{Disk, Folder, FolderFault, Order, load, open};
 pub use pairing::blocks;
 pub use program::run;
 pub use settings::Settings;
+pub use store::{bottom, next_level};
 pub use texts::{key_of, text_of};
 pub use usage::{Levels, Line, Usage, Verbosity, line};

@@ -2,7 +2,7 @@
 
 use coding::FaultName;
 use keep::Snapshots;
-use store::Settings;
+use store::{DescentEnd, Settings};
 use table::Options;
 
 /// Files by their names.
@@ -149,6 +149,59 @@ const AA: &[u8] = b"\
     \x17\0\0\0\0\0\0\0\0\0\0\0\0\0\0\0\0\0\0\0\0\0\0\0\0\0\0\0\0\0\0\0\0\0\0\0\0W\xfb\x80\x8b\x24u\
     G\xdb";
 
+/// The compaction of a deletion that a deeper file keeps.
+pub(crate) const KEPT: Row = Row {
+    name: "a deletion that a deeper file keeps",
+    manifest: FILE_ABOVE,
+    eight: T_AND_V,
+    answer: Ok("output 10 113\ndeleted 1 7\ninstalled MANIFEST-000009\n"),
+    left: &[
+        NINE,
+        ("MANIFEST-000009", DELETION_LEFT),
+        ("000010.ldb", U4_DELETED),
+    ],
+    ..PLAIN
+};
+
+/// All levels of the folder of that compaction: whether file 8 is there, after how many compactions
+/// it is stopped, how it ends, its lines, and files that the folder has after it.
+pub(crate) type Descent = (
+    bool,
+    u64,
+    Result<DescentEnd, FaultName>,
+    &'static str,
+    Files,
+);
+
+pub(crate) const DESCENTS: &[Descent] = &[
+    (
+        true,
+        9,
+        Ok(DescentEnd::AtBottom),
+        "output 10 113\ndeleted 1 7\ninstalled MANIFEST-000009\n\
+        output 12 127\ndeleted 2 10\ndeleted 3 8\ninstalled MANIFEST-000011\n",
+        &[
+            ("CURRENT", b"MANIFEST-000011\n"),
+            ("000010.ldb", U4_DELETED),
+            ("000012.ldb", T_AND_V),
+        ],
+    ),
+    (
+        true,
+        1,
+        Ok(DescentEnd::Stopped),
+        "output 10 113\ndeleted 1 7\ninstalled MANIFEST-000009\n",
+        &[NINE, ("MANIFEST-000009", DELETION_LEFT)],
+    ),
+    (
+        false,
+        9,
+        Err(FaultName::Missing),
+        "",
+        &[("CURRENT", CURRENT), ("000007.ldb", TWO_ENTRIES)],
+    ),
+];
+
 /// The tables and manifests that are left. `tests/cases` has the settings at their limits and past
 /// them, the refusals and more.
 pub(crate) const ROWS: &[Row] = &[
@@ -157,18 +210,7 @@ pub(crate) const ROWS: &[Row] = &[
         left: &[NINE, ("MANIFEST-000009", NOTHING_LEFT)],
         ..PLAIN
     },
-    Row {
-        name: "a deletion that a deeper file keeps",
-        manifest: FILE_ABOVE,
-        eight: T_AND_V,
-        answer: Ok("output 10 113\ndeleted 1 7\ninstalled MANIFEST-000009\n"),
-        left: &[
-            NINE,
-            ("MANIFEST-000009", DELETION_LEFT),
-            ("000010.ldb", U4_DELETED),
-        ],
-        ..PLAIN
-    },
+    KEPT,
     // `b` comes before `aa`.
     Row {
         name: "user keys by length first",

@@ -1,14 +1,21 @@
 //! Compactions of folders in memory.
 
 use crate::store_tests::rows::{
-    CURRENT, DEFAULTS, Files, LINES, ONE_FILE, PLAIN, ROWS, Row, TWO_ENTRIES,
+    CURRENT, DEFAULTS, DESCENTS, Descent, Files, KEPT, LINES, ONE_FILE, PLAIN, ROWS, Row,
+    TWO_ENTRIES,
 };
 use coding::{Fault, FaultName};
-use folder::{Failing, FolderFault, Shelf};
+use edit::Version;
+use folder::{Failing, FolderFault, Opened, Shelf, file_numbers, open};
+use ikey::Bytewise;
 use keep::Snapshots;
+use std::alloc::Global;
 use std::test::*;
 use std::thread::Threads;
-use store::{Open, Settings, compact_dir};
+use store::{
+    DescentEnd, InstallWatch, Open, Settings, compact_all, compact_dir, compact_inputs,
+    opened_after,
+};
 
 /// These bytes, or `others` if they are empty.
 fn or(bytes: &'static [u8], others: &'static [u8]) -> &'static [u8] {
@@ -70,6 +77,87 @@ fn is_compacted<R: AllocGlobal + Threads + Sync>(rt: &R, row: &Row) -> bool {
     answers(rt, &mut folder, row, row.answer) && holds(&folder, row.left)
 }
 
+/// Whether two openings are of one manifest, with the same counters and as many files.
+fn are_same(alloc: Global, one: &Opened, other: &Opened) -> Result<bool, Fault> {
+    let manifests = one.manifest == other.manifest && one.order == other.order;
+    let counters = one.version.next_file() == other.version.next_file()
+        && one.version.last_sequence() == other.version.last_sequence();
+    let numbers = file_numbers::<Bytewise>(alloc, &one.version)?;
+    let others = file_numbers::<Bytewise>(alloc, &other.version)?;
+    Ok(manifests && counters && numbers.as_slice() == others.as_slice())
+}
+
+/// Whether the compaction of the inputs of a row alone has its answer and leaves its files, and
+/// what the folder is opened as after it is known without reading it.
+fn is_known_after<R: AllocGlobal + Threads + Sync>(rt: &R, row: &Row) -> Result<bool, Fault> {
+    let files = files_of(row);
+    let alloc = rt.alloc();
+    let mut folder = Shelf::new(alloc, &files);
+    let opened = open(alloc, &mut folder)?;
+    let settings = &row.settings;
+    let step = compact_inputs(rt, alloc, &mut folder, &opened, row.level, settings, &Open)?;
+    let after = opened_after(alloc, &opened, &step)?;
+    let is_after = are_same(alloc, &after, &open(alloc, &mut folder)?)?;
+    Ok(is_answer(&Ok(step.lines), row.answer) && holds(&folder, row.left) && is_after)
+}
+
+#[test]
+fn inputs_that_are_compacted_alone(rt: HostRuntime) {
+    for row in ROWS {
+        if row.answer.is_ok() {
+            assert!(rt; is_known_after(&rt, row) == Ok(true), "{}", row.name);
+        }
+    }
+}
+
+/// Who collects the lines of compactions, and stops after some.
+struct Collected {
+    lines: Vec<u8>,
+    left: u64,
+}
+
+impl InstallWatch for Collected {
+    fn installed(
+        &mut self,
+        _level: u64,
+        lines: &[u8],
+        _before: &Version,
+        _after: Option<&Version>,
+    ) -> bool {
+        let _ = self.lines.extend_from_slice(lines);
+        self.left = self.left.saturating_sub(1);
+        self.left > 0
+    }
+}
+
+/// Whether all levels of the folder of a row are compacted so.
+fn is_descent<R: AllocGlobal + Threads + Sync>(rt: &R, row: &Descent) -> Result<bool, Fault> {
+    let (is_whole, most, end, lines, left) = row;
+    let files = files_of(&KEPT);
+    let files = if *is_whole { &files[..] } else { &files[..3] };
+    let alloc = rt.alloc();
+    let mut folder = Shelf::new(alloc, files);
+    let opened = open(alloc, &mut folder)?;
+    let mut told = Collected {
+        lines: Vec::new(alloc),
+        left: *most,
+    };
+    let answer = compact_all(rt, alloc, &mut folder, opened, &DEFAULTS, &Open, &mut told);
+    let is_end = match (answer, end) {
+        (Ok(is), Ok(wanted)) => is == *wanted,
+        (Err(fault), Err(name)) => fault == Fault::of(*name),
+        _ => false,
+    };
+    Ok(is_end && told.lines.as_slice() == lines.as_bytes() && holds(&folder, left))
+}
+
+#[test]
+fn all_levels_that_are_compacted(rt: HostRuntime) {
+    for row in DESCENTS {
+        assert!(rt; is_descent(&rt, row) == Ok(true), "{}", row.1);
+    }
+}
+
 /// Whether settings are the default ones.
 fn are_defaults(settings: &Settings<'_>) -> bool {
     (settings.workers, settings.ranges) == (DEFAULTS.workers, DEFAULTS.ranges)
@@ -93,9 +181,10 @@ const FAILURES: &[(FolderFault, bool, FaultName)] = &[
     (FolderFault::Memory, true, FaultName::Memory),
 ];
 
-/// The calls of the compaction of the deletion: two reads, five syncs, the read of the table, and
-/// eight of the installation, the last but one of which renames the new CURRENT.
-const CALLS: u64 = 16;
+/// The calls of the compaction of the deletion: two reads, five syncs, the read of the table for the
+/// test and as an input, and eight of the installation, the last but one of which renames the new
+/// CURRENT.
+const CALLS: u64 = 17;
 
 /// What a second compaction answers: that no input is left if CURRENT was renamed, else the lines
 /// of the first.

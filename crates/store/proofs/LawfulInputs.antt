@@ -1,0 +1,196 @@
+-- The inputs of a lawful version: what a compaction that reads them alone answers.
+use Rattle.std.proofs.Common.{◌≡◌, ℕ, ◌+◌, ◌-◌, ◌^◌, ◌≤◌, Bool, true, false, ◌&&◌, List, [], ◌∷◌, map, length, Result, Ok, Err, refl, sym, ap, subst, ◌∙◌, inl, inr, arith}
+use Rattle.std.specs.Prelude.{Contains, MatchBool, nat_le, nat_lt, unwrap_or}
+use Rattle.std.specs.List.{AllZip}
+use Rattle.std.specs.Cmp.{IsTotalOrder}
+use Rattle.std.specs.declared.cmp.Ordering.{Ordering}
+use Rattle.std.proofs.lemmas.Bool.Decides.{nat_tests}
+use Rattle.std.proofs.lemmas.List.Elements.{Contains-append_cases}
+use Rattle.coding.specs.Answers.{fault, ◌>>=◌}
+use Rattle.coding.specs.declared.fault.Fault.{Fault}
+use Rattle.coding.specs.declared.fault.FaultName.TheVariants.{Bounds, Level, NoInput, Numbers, SplitCount}
+use Rattle.ikey.specs.Comparator.{ShortKeys}
+use Rattle.table.specs.ReadingSteps.{test_result}
+use Rattle.table.specs.TableContents.{Contents, contents_reading}
+use Rattle.edit.specs.Version.{State}
+use Rattle.edit.specs.VersionOrder.{level_files}
+use Rattle.edit.specs.declared.meta.FileMeta.{FileMeta}
+use Rattle.folder.specs.Calls.{Files}
+use Rattle.folder.specs.Levels.{file_numbers, numbers_at}
+use Rattle.folder.specs.LoadedTables.{IsLoaded, IsTableOf}
+use Rattle.folder.specs.ReadsAs.{IsHeldIn, IsOneOf}
+use Rattle.install.specs.Install.{table_bytes_of}
+use Rattle.pick.specs.Picked.{IsInputsAnswer, IsPicked, PickedInputs, input_at}
+use Rattle.pick.specs.declared.picked.InputFile.{InputFile}
+use Rattle.reads.proofs.Members.{first_in, first_or_later, from_map, later_in, none_in}
+use Rattle.reads.specs.Lawful.{IsLawful}
+use Rattle.reads.specs.Tables.{NumberedContents}
+use Rattle.checks.proofs.LawfulLemmas.{sound_checked, sound_lawful}
+use Rattle.checks.specs.Checked.{numbered_reading, tables_reading}
+use Rattle.checks.specs.LawfulTables.{IsLawfulTables}
+use Rattle.compact.proofs.ReadInputs.{stated_lawful}
+use Rattle.request.specs.Inputs.{table_matches_metadata}
+use Rattle.request.specs.OneThread.{Answer, compaction_result}
+use Rattle.request.specs.Request.{RequestView}
+use Rattle.survival.proofs.ClosedLevels.{in_level}
+use Rattle.survival.proofs.Inputs.{input_file}
+use Rattle.settings.specs.declared.settings.Settings.{Settings}
+use Rattle.store.specs.Answers.{IsLoadedCompacted, lines_of}
+use Rattle.store.specs.FolderRequest.{compaction_of, last_of, manifest_of}
+use Rattle.store.specs.InputsCompaction.{IsInputsCompacted, IsOrderlyAnswer, are_stated, input_numbers, input_tables}
+use Rattle.store.proofs.Compactions.{picked_of}
+use Rattle.store.proofs.InputNumbers.{loaded_at, none_missing, number_among, of_levels, one_table, same_bytes}
+use Rattle.store.proofs.Loaded.{bytes_found, found_loaded}
+use Rattle.store.proofs.OrderlyFiles.{orderly}
+use Rattle.store.proofs.Over.{file_of_input}
+
+-- inputs are answered of levels up to 5
+pub low_level : (cmp : List ℕ → List ℕ → Ordering) (v : State) (level : ℕ) (p : PickedInputs) → IsInputsAnswer cmp v level (Ok p) → level ≤ 5
+low_level cmp v level p h = by (nat_lt 5 level) (nat_lt 0 (length (level_files cmp v level))) refl h
+  where
+    not_above : nat_lt 5 level ≡ false → level ≤ 5
+    not_above e = grind (arith, nat_tests)
+
+    by : (a b : Bool) → nat_lt 5 level ≡ a → MatchBool a (Ok p ≡ Err (fault Level)) (MatchBool b (IsPicked cmp v level p) (Ok p ≡ Err (fault NoInput))) → level ≤ 5
+    by true b e is = absurd (cc is)
+    by false b e is = not_above e
+
+-- what is asked with these bytes of the inputs
+abbrev request_with : State → PickedInputs → Settings → List (List ℕ) → RequestView
+request_with v p s given = record {
+  picked = p;
+  tables = given;
+  snapshots = s.snapshots;
+  first_number = manifest_of v + 1;
+  log_number = unwrap_or v.log_number 0;
+  previous_log = unwrap_or v.previous_log 0;
+  last_sequence = last_of v;
+  options = s.options;
+}
+
+-- and what is answered
+abbrev answer_with : (List ℕ → List ℕ → Ordering) → ShortKeys → State → PickedInputs → Settings → List (List ℕ) → Result Answer Fault
+answer_with cmp short_keys v p s given =
+    test_result (nat_le 1 s.ranges && nat_le s.ranges 4096) SplitCount >>= λ _.
+    (test_result (nat_lt (manifest_of v) (2 ^ 64 - 1)) Numbers >>= λ _. Ok (request_with v p s given)) >>= λ r.
+    compaction_result cmp short_keys s.workers r
+
+abbrev refusal : {Y : Type 0} → Fault → Result Y Fault
+refusal e = Err e
+
+no_refusal : {Y : Type 0} (y : Y) (e : Fault) → Ok y ≡ refusal e → ⊥
+no_refusal y e h = cc
+
+module _ (cmp : List ℕ → List ℕ → Ordering) (total : IsTotalOrder cmp) (files : Files) (v : State) (loaded : List (ℕ × List ℕ)) (tables : List NumberedContents)
+    (held : IsLoaded (IsHeldIn files) (file_numbers cmp v) (Ok loaded)) (sound : IsLawfulTables cmp v loaded (Ok tables)) where
+  checked : tables_reading cmp loaded ≡ Ok tables
+  checked = sound_checked cmp v loaded tables sound
+
+  lawful : IsLawful cmp v tables
+  lawful = sound_lawful cmp v loaded tables sound
+
+  -- the test of the files alone passes
+  pub passes : (e : Fault) → IsOrderlyAnswer cmp v (Err e) → ⊥
+  passes e h = h.1 (orderly cmp total v tables lawful)
+
+  module _ (level : ℕ) (p : PickedInputs) (answered : IsInputsAnswer cmp v level (Ok p)) where
+    picked : IsPicked cmp v level p
+    picked = picked_of cmp v level p answered
+
+    input_level : (i : InputFile) → Contains p.files i → i.level ≤ 6
+    input_level i at =
+        let five : level ≤ 5 = low_level cmp v level p answered in
+        elim (Contains-append_cases (map (input_at level) picked.upper) (map (input_at (level + 1)) picked.lower) i (subst (λ (l : List InputFile). Contains l i) picked.files_are at)) [
+          | inl j ↦ (let is : level ≡ i.level = ap (λ (x : InputFile). x.level) (from_map (input_at level) picked.upper i j).is in omega (arith, five, is))
+          | inr j ↦ (let is : level + 1 ≡ i.level = ap (λ (x : InputFile). x.level) (from_map (input_at (level + 1)) picked.lower i j).is in omega (arith, five, is))
+        ]
+
+    -- an input is one of the version's files
+    input_number : (i : InputFile) → Contains p.files i → IsOneOf (file_numbers cmp v) i.meta.number
+    input_number i at =
+        let f = input_file cmp total v tables lawful level p picked i at in
+        let own = number_among (level_files cmp v i.level) f.file.meta (in_level cmp total v tables lawful f.file f.there i.level f.stands) in
+        let six = input_level i at in
+        of_levels (numbers_at cmp v) 0 7 i.level i.meta.number (omega arith) (omega (arith, six))
+        (subst (λ (m : FileMeta). IsOneOf (numbers_at cmp v i.level) m.number) f.is own)
+
+    among : (is : List InputFile) → ((i : InputFile) → Contains is i → Contains p.files i) → (n : ℕ) → IsOneOf (input_numbers is) n → IsOneOf (file_numbers cmp v) n
+    among [] inside n m = absurd m
+    among (i ∷ is) inside n (inl same) = subst (IsOneOf (file_numbers cmp v)) (sym same) (input_number i (inside i (first_in i is)))
+    among (i ∷ is) inside n (inr m) = among is (λ j at. inside j (later_in i is j at)) n m
+
+    -- so its table isn't missing
+    pub not_missing : (e : Fault) → IsLoaded (IsHeldIn files) (input_numbers p.files) (Err e) → ⊥
+    not_missing e missing = none_missing files (file_numbers cmp v) (input_numbers p.files) loaded e held (among p.files (λ i at. at)) missing
+
+    one_input : (is : List InputFile) (i : InputFile) → Contains is i → IsOneOf (input_numbers is) i.meta.number
+    one_input is i at = by is at
+      where
+        by : (js : List InputFile) → Contains js i → IsOneOf (input_numbers js) i.meta.number
+        by [] j = absurd (none_in i j)
+        by (k ∷ js) j = elim (first_or_later k js i j) [ inl same ↦ inl (ap (λ (x : InputFile). x.meta.number) same) | inr later ↦ inr (by js later) ]
+
+    module _ (own : List (ℕ × List ℕ)) (read : IsLoaded (IsHeldIn files) (input_numbers p.files) (Ok own)) where
+      bytes_same : (i : InputFile) → Contains p.files i → table_bytes_of own i.meta.number ≡ table_bytes_of loaded i.meta.number
+      bytes_same i at = same_bytes files (file_numbers cmp v) (input_numbers p.files) loaded own i.meta.number held read (input_number i at) (one_input p.files i at)
+
+      all_same : (is : List InputFile) → ((i : InputFile) → Contains is i → Contains p.files i)
+          → map (λ (i : InputFile). table_bytes_of own i.meta.number) is ≡ map (λ (i : InputFile). table_bytes_of loaded i.meta.number) is
+      all_same [] inside = refl
+      all_same (i ∷ is) inside =
+          ap (λ (b : List ℕ). b ∷ map (λ (j : InputFile). table_bytes_of own j.meta.number) is) (bytes_same i (inside i (first_in i is)))
+          ∙ ap (λ (bs : List (List ℕ)). table_bytes_of loaded i.meta.number ∷ bs) (all_same is (λ j at. inside j (later_in i is j at)))
+
+      -- the request is the same as with the tables of all files
+      pub same_compaction : (short_keys : ShortKeys) (s : Settings) → compaction_of cmp short_keys v own p s ≡ compaction_of cmp short_keys v loaded p s
+      same_compaction short_keys s =
+          ap (λ (given : List (List ℕ)). answer_with cmp short_keys v p s given) (all_same p.files (λ i at. at))
+
+      -- and the tables are those of the version
+      record AreRead (is : List InputFile) (given : List (ℕ × List ℕ)) : Type 0 where
+        found : List NumberedContents
+        reading : tables_reading cmp given ≡ Ok found
+        stated : are_stated is found ≡ true
+
+      read_one : (i : InputFile) (t : ℕ × List ℕ) → Contains p.files i → IsTableOf (IsHeldIn files) i.meta.number t → (c : Contents) × (numbered_reading cmp t ≡ Ok (record { number = t.0; contents = c })) × (table_matches_metadata i.meta c ≡ true)
+      read_one i t at is =
+          let f = file_of_input cmp total v loaded tables level p checked lawful picked i at in
+          let bytes : t.1 ≡ f.table.bytes =
+          one_table files i.meta.number (table_bytes_of loaded i.meta.number) t.1 (loaded_at (IsHeldIn files) (file_numbers cmp v) loaded i.meta.number held (input_number i at)) is.1
+          ∙ bytes_found loaded i.meta.number f.table.bytes (found_loaded cmp loaded tables i.meta.number f.table checked f.there) in (
+            f.table,
+            ap (λ (r : Result Contents Fault). r >>= λ c. Ok (record { number = t.0; contents = c })) (ap (contents_reading cmp) bytes ∙ f.accepted),
+            stated_lawful cmp tables i.meta f,
+          )
+
+      are_read : (is : List InputFile) (ts : List (ℕ × List ℕ)) → ((i : InputFile) → Contains is i → Contains p.files i) → AllZip (IsTableOf (IsHeldIn files)) (input_numbers is) ts → AreRead is ts
+      are_read [] [] inside h = record { found = []; reading = refl; stated = refl }
+      are_read [] (t ∷ ts) inside h = absurd h
+      are_read (i ∷ is) [] inside h = absurd h
+      are_read (i ∷ is) (t ∷ ts) inside h =
+          let one = read_one i t (inside i (first_in i is)) h.0 in
+          let rest = are_read is ts (λ j at. inside j (later_in i is j at)) h.1 in
+          record {
+            found = record { number = t.0; contents = one.0 } ∷ rest.found;
+            reading =
+                ap (λ (r : Result NumberedContents Fault). r >>= λ first. tables_reading cmp ts >>= λ others. Ok (first ∷ others)) one.1
+                ∙ ap (λ (r : Result (List NumberedContents) Fault). r >>= λ others. Ok (record { number = t.0; contents = one.0 } ∷ others)) rest.reading;
+            stated = ap (λ (b : Bool). b && are_stated is rest.found) one.2 ∙ rest.stated;
+          }
+
+      pub tables_pass : (e : Fault) → input_tables cmp p.files own ≡ Err e → ⊥
+      tables_pass e h =
+          let all = are_read p.files own (λ i at. at) read in
+          let value : input_tables cmp p.files own ≡ Ok (map (λ (t : NumberedContents). t.contents) all.found) =
+          ap (λ (r : Result (List NumberedContents) Fault). r >>= λ ts. test_result (are_stated p.files ts) Bounds >>= λ _. Ok (map (λ (t : NumberedContents). t.contents) ts)) all.reading
+          ∙ ap (λ (b : Bool). test_result b Bounds >>= λ _. Ok (map (λ (t : NumberedContents). t.contents) all.found)) all.stated in
+          no_refusal (map (λ (t : NumberedContents). t.contents) all.found) e (sym value ∙ h)
+
+  -- the answer by the inputs alone is the one by all tables
+  pub suffices : (short_keys : ShortKeys) (level : ℕ) (s : Settings) (answer : Result (List ℕ) Fault) → IsInputsCompacted cmp short_keys files v level s answer → IsLoadedCompacted cmp short_keys v loaded level s answer
+  suffices short_keys level s answer (Err e, (h, rest)) = absurd (passes e h)
+  suffices short_keys level s answer (Ok passed, (h, (Err e, (k, is)))) = (Ok tables, (sound, (Err e, (k, is))))
+  suffices short_keys level s answer (Ok passed, (h, (Ok p, (k, (Err e, (l, is)))))) = absurd (not_missing level p k e l)
+  suffices short_keys level s answer (Ok passed, (h, (Ok p, (k, (Ok own, (l, (Err e, (m, is)))))))) = absurd (tables_pass level p k own l e m)
+  suffices short_keys level s answer (Ok passed, (h, (Ok p, (k, (Ok own, (l, (Ok found, (m, is)))))))) =
+      (Ok tables, (sound, (Ok p, (k, is ∙ ap (lines_of v p) (same_compaction level p k own l short_keys s)))))

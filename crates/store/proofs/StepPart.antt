@@ -1,0 +1,167 @@
+-- A compaction that reads its inputs alone, as a part of a call.
+use Rattle.std.proofs.Common.{◌≡◌, ℕ, ◌<◌, ◌^◌, true, ◌∷◌, [], List, ◌++◌, append_assoc, map, codes, Option, Some, None, Result, Ok, Err, IfErr, IfOk, IsErrAnd, OnOk, refl, sym, ap, subst, ◌∙◌, inl, inr}
+use Rattle.std.specs.Prelude.{unwrap_or}
+use Rattle.std.proofs.lemmas.List.{map-append}
+use Rattle.std.specs.Global.{Vec}
+use Rattle.std.specs.declared.cmp.Ordering.{Ordering}
+use Rattle.coding.specs.Answers.{UnlessMemory, fault}
+use Rattle.coding.specs.declared.fault.Fault.{Fault}
+use Rattle.coding.specs.declared.fault.FaultName.TheVariants.{Device}
+use Rattle.ikey.specs.Comparator.{ShortKeys}
+use Rattle.edit.specs.Version.{State}
+use Rattle.folder.proofs.LoadingLemmas.{told_since}
+use Rattle.folder.proofs.PutLemmas.{moved_to, put_same}
+use Rattle.folder.specs.CallSequence.{MakesCalls, ShowsAll}
+use Rattle.folder.specs.Calls.{Call, Done, Files, FolderView, Step, Tells}
+use Rattle.folder.specs.Folder.{TellsSame}
+use Rattle.folder.specs.Levels.{file_numbers}
+use Rattle.folder.specs.LoadedTables.{IsLoaded}
+use Rattle.folder.specs.Manifest.{order_name}
+use Rattle.folder.specs.Names.{current_text, manifest_name, temporary_name}
+use Rattle.folder.specs.ReadsAs.{IsHeldIn, ReadsAs}
+use Rattle.folder.specs.declared.order.Order.{Order}
+use Rattle.install.specs.Install.{IsEditedBy, SurvivesCrash, current_calls, install_calls, next_version_tables, table_calls, temporary_calls, write_calls}
+use Rattle.checks.specs.LawfulTables.{IsLawfulTables}
+use Rattle.reads.specs.Tables.{NumberedContents}
+use Rattle.pick.specs.Picked.{PickedInputs}
+use Rattle.request.specs.OneThread.{Answer}
+use Rattle.compact.specs.Answered.{answer_in}
+use Rattle.settings.specs.declared.settings.Settings.{Settings}
+use Rattle.store.specs.Answers.{IsVersionCompacted}
+use Rattle.store.specs.Compaction.{IsVersionLeft, VersionCompaction}
+use Rattle.store.specs.FolderRequest.{compaction_of, manifest_of}
+use Rattle.store.specs.Lines.{compaction_lines}
+use Rattle.store.specs.declared.loaded_compaction.Ready.{Ready}
+use Rattle.store.specs.StepLeft.{IsStepLeft}
+use Rattle.store.specs.VersionTest.{IsTested}
+use Rattle.store.specs.declared.compaction_step.CompactionStep.{CompactionStep}
+use Rattle.store.proofs.Flow.{loaded_in, no_refusal}
+use Rattle.store.proofs.InstallPart.{Promises, all_made, still, survives_on}
+
+-- ---- CURRENT after an installation
+
+shows_split : (one two : List Step) (s last : FolderView) → ShowsAll (one ++ two) s last → (middle : FolderView) × ShowsAll one s middle × ShowsAll two middle last
+shows_split [] two s last h = (s, refl, h)
+shows_split (step ∷ one) two s last h = let rest = shows_split one two h.0 last h.2 in (rest.0, (h.0, h.1, rest.1), rest.2)
+
+named_after : (number : ℕ) (m last : FolderView) → ShowsAll (map Done (temporary_calls number ++ current_calls number)) m last → last.files (codes "CURRENT") ≡ Some (current_text number)
+named_after number m last (one, made, (two, synced, (three, kept, (four, renamed, (five, settled, same))))) =
+    let t = temporary_name number in
+    ap (λ (s : FolderView). s.files (codes "CURRENT")) (same ∙ settled ∙ renamed)
+    ∙ moved_to None three.files t (codes "CURRENT")
+    ∙ ap (λ (s : FolderView). s.files t) (kept ∙ synced)
+    ∙ ap (λ (s : FolderView). s.files t) made
+    ∙ put_same m.files t (Some (current_text number))
+
+-- the calls of an installation end with those that name the manifest
+last_calls : (number : ℕ) (outputs : List (ℕ × List ℕ)) (manifest : List ℕ)
+    → map Done (install_calls number outputs manifest) ≡ map Done (table_calls outputs ++ write_calls (manifest_name number) manifest) ++ map Done (temporary_calls number ++ current_calls number)
+last_calls number outputs manifest =
+    let tables = table_calls outputs in
+    let write = write_calls (manifest_name number) manifest in
+    ap (map Done)
+    (ap (λ (calls : List Call). calls ++ current_calls number) (sym (append_assoc tables write (temporary_calls number)))
+    ∙ append_assoc (tables ++ write) (temporary_calls number) (current_calls number))
+    ∙ map-append Done (tables ++ write) (temporary_calls number ++ current_calls number)
+
+pub current_named : {T : Type 0} (number : ℕ) (outputs : List (ℕ × List ℕ)) (manifest : List ℕ) (before after : List Step) (old new : List ℕ → Option (List ℕ) → Type 0) (r : Result T Fault) (x : T) (files : Files)
+    → r ≡ Ok x → MakesCalls (install_calls number outputs manifest) before after old new r → Tells old files → new (codes "CURRENT") (Some (current_text number))
+current_named number outputs manifest before after old new r x files was runs tells =
+    let s : FolderView = record { files = files; synced = λ name. true } in
+    let last = runs.change s tells in
+    let steps = all_made (install_calls number outputs manifest) runs.steps r x was runs.made ∙ last_calls number outputs manifest in
+    let shown = subst (λ (t : List Step). ShowsAll t s last.0) steps last.1 in
+    let parts = shows_split (map Done (table_calls outputs ++ write_calls (manifest_name number) manifest)) (map Done (temporary_calls number ++ current_calls number)) s last.0 shown in
+    (last.2 (codes "CURRENT") (Some (current_text number))).1 (named_after number parts.0 last.0 parts.2)
+
+-- ---- what is left
+
+pub step_installed : {T : Type 0} (name : List ℕ) (order : Order) (cmp : List ℕ → List ℕ → Ordering) (short_keys : ShortKeys) (v : State) (loaded : List (ℕ × List ℕ)) (level : ℕ) (s : Settings) (answer : Answer) (lines : List ℕ)
+    (first before after : List Step) (zero old new : List ℕ → Option (List ℕ) → Type 0) (r : Result T Fault) (q : Result CompactionStep Fault)
+    → order_name order ≡ name → VersionCompaction order cmp short_keys v loaded level s answer lines → ((P : Type 0) → OnOk r P → OnOk q P) → before ≡ first → TellsSame zero old
+    → OnOk q (new (codes "CURRENT") (Some (current_text (manifest_of v)))) → IfOk q (λ step. (step.lines.items ≡ lines) × (step.edit.items ≡ answer.edit)) → IfErr q (λ e. UnlessMemory e (e ≡ fault Device))
+    → Promises name cmp v (manifest_of v) answer before after old new r → IsStepLeft order cmp short_keys v loaded level s first after zero new q
+step_installed name order cmp short_keys v loaded level s answer lines first before after zero old new r q is done f same told named step refused promises =
+    let next = done.edited.next in
+    let tables' = next_version_tables cmp next answer.tables loaded in
+    let edited = subst (λ (n : List ℕ). IsEditedBy n cmp order v (manifest_of v) answer.tables answer.edit next) is done.edited.edited in
+    inr (record {
+      answer = answer;
+      lines = lines;
+      compacted = done;
+      survives = subst (λ (b : List Step). SurvivesCrash cmp order v loaded next tables' b after zero new q) same
+          (survives_on cmp order v next loaded tables' before after zero old new r q f (still zero old told) (promises order next loaded edited));
+      named = named;
+      step = step;
+      refused = refused;
+    })
+
+-- a step, told from earlier calls on, as another answer
+pub version_left : (order : Order) (cmp : List ℕ → List ℕ → Ordering) (short_keys : ShortKeys) (files : Files) (v : State) (loaded : List (ℕ × List ℕ)) (level : ℕ) (s : Settings)
+    (first before after : List Step) (zero old new : List ℕ → Option (List ℕ) → Type 0) (r : Result CompactionStep Fault) (q : Result (Vec ℕ) Fault)
+    → ReadsAs cmp order v loaded files → before ≡ first → TellsSame zero old → ((P : Type 0) → OnOk r P → OnOk q P)
+    → ((lines edit : List ℕ) → IfOk r (λ step. (step.lines.items ≡ lines) × (step.edit.items ≡ edit)) → IfOk q (λ text. text.items ≡ lines)) → ((P : Fault → Type 0) → IfErr r P → IfErr q P)
+    → IsStepLeft order cmp short_keys v loaded level s before after old new r → IsVersionLeft order cmp short_keys v files level s first after zero new q
+version_left order cmp short_keys files v loaded level s first before after zero old new r q reads same told f g h (inl u) =
+    inl (record { calls = u.calls ∙ same; same = told_since zero old new told u.same; refused = f ⊥ u.refused })
+version_left order cmp short_keys files v loaded level s first before after zero old new r q reads same told f g h (inr i) =
+    let next = i.compacted.edited.next in
+    let tables' = next_version_tables cmp next i.answer.tables loaded in
+    inr (record {
+      compaction = record { loaded = loaded; reads = reads; answer = i.answer; lines = i.lines; compacted = i.compacted };
+      survives = subst (λ (b : List Step). SurvivesCrash cmp order v loaded next tables' b after zero new q) same
+          (survives_on cmp order v next loaded tables' before after zero old new r q f (still zero old told) i.survives);
+      printed = g i.lines i.answer.edit i.step;
+      refused = h (λ e. UnlessMemory e (e ≡ fault Device)) i.refused;
+    })
+
+-- a call that was refused answers no value
+pub no_ok : {T : Type 0} (P : Type 0) (q : Result T Fault) (e : Fault) → IsErrAnd q (λ f. f ≡ e) → OnOk q P
+no_ok P (Ok x) e h = absurd h
+no_ok P (Err f) e h = tt
+
+-- it answers this refusal
+pub refused_err : {T : Type 0} (q : Result T Fault) (e : Fault) (P : Fault → Type 0) → IsErrAnd q (λ f. f ≡ e) → P e → IfErr q P
+refused_err (Ok x) e P h p = tt
+refused_err (Err f) e P h p = subst P (sym h) p
+
+-- ---- the test of a version
+
+-- what a version has that passed its test
+pub record HasPassed (cmp : List ℕ → List ℕ → Ordering) (files : Files) (v : State) : Type 0 where
+  pub loaded : List (ℕ × List ℕ)
+  pub held : IsLoaded (IsHeldIn files) (file_numbers cmp v) (Ok loaded)
+  pub tables : List NumberedContents
+  pub sound : IsLawfulTables cmp v loaded (Ok tables)
+
+abbrev refusal : {Y : Type 0} → Fault → Result Y Fault
+refusal e = Err e
+
+same_refusal : {Y : Type 0} (e d : Fault) → refusal {Y = Y} e ≡ refusal d → e ≡ d
+same_refusal e d h = cc
+
+pub has_passed : (cmp : List ℕ → List ℕ → Ordering) (tells : List ℕ → Option (List ℕ) → Type 0) (files : Files) (v : State) → Tells tells files → IsTested cmp tells v (Ok tt) → HasPassed cmp files v
+has_passed cmp tells files v told (Err e, (l, is)) = absurd (no_refusal tt e is)
+has_passed cmp tells files v told (Ok loaded, (l, (Err e, (k, is)))) = absurd (no_refusal tt e is)
+has_passed cmp tells files v told (Ok loaded, (l, (Ok tables, (k, is)))) = record { loaded = loaded; held = loaded_in tells files (file_numbers cmp v) (Ok loaded) told l; tables = tables; sound = k }
+
+-- its refusal is that of the compaction
+pub test_refused : (cmp : List ℕ → List ℕ → Ordering) (short_keys : ShortKeys) (tells : List ℕ → Option (List ℕ) → Type 0) (files : Files) (v : State) (level : ℕ) (s : Settings) (e : Fault)
+    → Tells tells files → IsTested cmp tells v (Err e) → IsVersionCompacted cmp short_keys files v level s (Err e)
+test_refused cmp short_keys tells files v level s e told (Err d, (l, is)) =
+    (Err d, (loaded_in tells files (file_numbers cmp v) (Err d) told l, ap (λ (x : Fault). Err x) (same_refusal {Y = Unit {0}} e d is)))
+test_refused cmp short_keys tells files v level s e told (Ok loaded, (l, (Err d, (k, is)))) =
+    (Ok loaded, (loaded_in tells files (file_numbers cmp v) (Ok loaded) told l, (Err d, (k, ap (λ (x : Fault). Err x) (same_refusal {Y = Unit {0}} e d is)))))
+test_refused cmp short_keys tells files v level s e told (Ok loaded, (l, (Ok tables, (k, is)))) = absurd (no_refusal tt e (sym is))
+
+-- ---- what is ready to be installed
+
+pub all_compacted : (cmp : List ℕ → List ℕ → Ordering) (short_keys : ShortKeys) (order : Order) (v : State) (own loaded : List (ℕ × List ℕ)) (level : ℕ) (p : PickedInputs) (s : Settings) (r : Result Ready Fault)
+    → compaction_of cmp short_keys v own p s ≡ compaction_of cmp short_keys v loaded p s
+    → IfOk r (λ c. (compaction_of cmp short_keys v own p s ≡ Ok (answer_in c.outcome)) × (c.lines.items ≡ compaction_lines (answer_in c.outcome).tables p.files (manifest_of v)))
+    → IfOk r (λ c. (unwrap_or v.log_number 0 < 2 ^ 64) × (unwrap_or v.previous_log 0 < 2 ^ 64))
+    → ((answer : Answer) (lines : List ℕ) → unwrap_or v.log_number 0 < 2 ^ 64 → unwrap_or v.previous_log 0 < 2 ^ 64 → compaction_of cmp short_keys v loaded p s ≡ Ok answer
+    → lines ≡ compaction_lines answer.tables p.files (manifest_of v) → VersionCompaction order cmp short_keys v loaded level s answer lines)
+    → IfOk r (λ c. VersionCompaction order cmp short_keys v loaded level s (answer_in c.outcome) c.lines.items)
+all_compacted cmp short_keys order v own loaded level p s (Ok ready) same outcome logs f = f (answer_in ready.outcome) ready.lines.items logs.0 logs.1 (sym same ∙ outcome.0) outcome.1
+all_compacted cmp short_keys order v own loaded level p s (Err e) same outcome logs f = tt

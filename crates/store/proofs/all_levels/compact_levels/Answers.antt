@@ -1,0 +1,156 @@
+use Rattle.std.proofs.Common.{◌⊎◌, ℕ, Option, None, Result, Ok, Err, refl, sym, ap, subst, ◌∙◌, inl, inr, arith}
+use Rattle.coding.specs.Answers.{UnlessMemory}
+use Rattle.coding.specs.declared.fault.Fault.{Fault}
+use Rattle.folder.proofs.CountLemmas.{steady}
+use Rattle.folder.proofs.ReportLemmas.{reports_after, reports_handed, reports_on, reports_steady}
+use Rattle.folder.specs.OpenAnswer.{IsStopped}
+use Rattle.folder.specs.Orders.{order_cmp, order_short_keys}
+use Rattle.std.proofs.lemmas.Result.{err_from_is_err_and}
+use Rattle.edit.specs.Version.{State}
+use Rattle.folder.specs.declared.current_version.Opened.{Opened}
+use Rattle.store.specs.AllLevels.{IsDescended, IsEndOf, IsNextRefused, last_tables, last_version}
+use Rattle.store.specs.Descent.{IsNextLevel}
+use Rattle.store.specs.declared.descent_end.DescentEnd.{DescentEnd}
+use Rattle.store.specs.declared.descent_end.DescentEnd.TheVariants.{AtBottom, Stopped}
+use Rattle.store.proofs.Descending.{StepClause, by_memory, ended, more_taken, none_yet, refused_taken, same_tells, stopped_taken, too_many}
+use Rattle.store.proofs.Flow.{no_value}
+use Rattle.store.proofs.NoDevice.{handed_memory}
+use Rattle.store.proofs.StepPart.{refused_err}
+use Rattle.store.proofs.InstallPart.{refused_ok}
+use Rattle.store.proofs.all_levels.compact_levels.Goals as goal
+
+pub returns-in_err-bottom-clause-left : goal.returns-in_err-bottom-clause-left
+returns-in_err-bottom-clause-left g c files loaded tables told current reads sound =
+    inl (record { unchanged = record { calls = refl; same = same_tells (g.F.Folder.tells c.args.folder.now); refused = no_value c.from_residual.result _ c.from_residual.ensures.1 }; same = refl; reason = refused_err c.from_residual.result c.in_err-bottom.field-0.0 (λ e. UnlessMemory e ⊥) c.from_residual.ensures.1 (by_memory c.in_err-bottom.field-0.0 (λ e. ⊥) c.in_err-bottom.ensures.memory) })
+
+pub returns-in_err-bottom-clause-device : goal.returns-in_err-bottom-clause-device
+returns-in_err-bottom-clause-device g c =
+    reports_steady c.from_residual.result refl (handed_memory c.from_residual.result c.in_err-bottom.field-0.0 c.from_residual.ensures.1 c.in_err-bottom.ensures.memory)
+
+pub loop-step-init : goal.loop-step-init
+loop-step-init g c = record {
+  is_bottom = c.in_ok-bottom.ensures.bottom;
+  failures = refl;
+  so_far = λ files loaded tables told current reads sound.
+      let o = c.args.opened in (
+        none_yet o.order (order_cmp o.order) (order_short_keys o.order) c.args.settings.now o.version loaded tables sound (g.F.Folder.calls c.args.folder.now) g.T.InstallWatch.tells c.args.told.now
+            (g.F.Folder.tells c.args.folder.now) o.manifest c.in_ok-bottom.bottom files told reads current,
+        refl,
+      );
+}
+
+pub next_level-requires : goal.next_level-requires
+next_level-requires g c = c.loop-step.invariant.is_bottom.1
+
+pub returns-in_err-level-clause-left : goal.returns-in_err-level-clause-left
+returns-in_err-level-clause-left g c files loaded tables told current reads sound =
+    let o = c.args.opened in
+    let calls = g.F.Folder.calls in
+    let tells = g.F.Folder.tells in
+    let failed = g.F.Folder.failed in
+    let s = c.args.settings.now in
+    let l = c.loop-step in
+    let all = l.invariant.so_far files loaded tables told current reads sound in
+    let sf = all.0 in
+    let q = c.from_residual-in_err-level.result in
+    let e = c.in_err-level.field-0.0 in
+    let h = c.from_residual-in_err-level.ensures.1 in
+    let cmp = order_cmp o.order in
+    let keys = order_short_keys o.order in
+    let why : Fault → Type 0 = λ x. IsStopped (failed c.args.folder.now) (failed l.folder) x ⊎ IsNextRefused cmp keys s c.in_ok-bottom.bottom (last_version o.version sf.links) (last_tables loaded sf.links) x in
+    inr (ended o.order cmp keys s o.version loaded tables sound (calls c.args.folder.now) g.T.InstallWatch.tells c.args.told.now (calls l.folder) (tells l.folder) l.told l.opened.manifest l.opened.version c.in_ok-bottom.bottom l._step sf
+    l.invariant.is_bottom (calls l.folder) (tells l.folder) (failed c.args.folder.now) (failed l.folder) l.told q refl (same_tells (tells l.folder)) refl
+    (refused_ok q e (IsEndOf (last_version o.version sf.links) c.in_ok-bottom.bottom) h) (refused_err q e (λ x. UnlessMemory x (why x)) h (by_memory e why c.in_err-level.ensures.memory)))
+
+pub returns-in_err-level-clause-device : goal.returns-in_err-level-clause-device
+returns-in_err-level-clause-device g c =
+    reports_steady c.from_residual-in_err-level.result c.loop-step.invariant.failures
+    (handed_memory c.from_residual-in_err-level.result c.in_err-level.field-0.0 c.from_residual-in_err-level.ensures.1 c.in_err-level.ensures.memory)
+
+pub returns-in_default-clause-left : goal.returns-in_default-clause-left
+returns-in_default-clause-left g c files loaded tables told current reads sound =
+    let o = c.args.opened in
+    let calls = g.F.Folder.calls in
+    let tells = g.F.Folder.tells in
+    let failed = g.F.Folder.failed in
+    let s = c.args.settings.now in
+    let l = c.loop-step in
+    let all = l.invariant.so_far files loaded tables told current reads sound in
+    let sf = all.0 in
+    let cmp = order_cmp o.order in
+    let keys = order_short_keys o.order in
+    let none = subst (λ (n : Option ℕ). IsNextLevel l.opened.version c.in_ok-bottom.bottom n) c.in_default.is c.in_ok-level.ensures.next in
+    let end : IsNextLevel (last_version o.version sf.links) c.in_ok-bottom.bottom None = subst (λ (w : State). IsNextLevel w c.in_ok-bottom.bottom None) sf.version_is none in
+    inr (ended o.order cmp keys s o.version loaded tables sound (calls c.args.folder.now) g.T.InstallWatch.tells c.args.told.now (calls l.folder) (tells l.folder) l.told l.opened.manifest l.opened.version c.in_ok-bottom.bottom l._step sf
+    l.invariant.is_bottom (calls l.folder) (tells l.folder) (failed c.args.folder.now) (failed l.folder) l.told (Ok AtBottom) refl (same_tells (tells l.folder)) refl end tt)
+
+pub returns-in_err-next-clause-left : goal.returns-in_err-next-clause-left
+returns-in_err-next-clause-left g c files loaded tables told current reads sound =
+    let o = c.args.opened in
+    let calls = g.F.Folder.calls in
+    let tells = g.F.Folder.tells in
+    let failed = g.F.Folder.failed in
+    let s = c.args.settings.now in
+    let l = c.loop-step in
+    let all = l.invariant.so_far files loaded tables told current reads sound in
+    let sf = all.0 in
+    let e = c.in_err-next.field-0.0 in
+    let p = err_from_is_err_and c.from_residual-in_err-next.result c.from_residual-in_err-next.ensures.1 in
+    let left = refused_taken o.order s o.version loaded tables sound (calls c.args.folder.now) g.T.InstallWatch.tells c.args.told.now (calls l.folder) (tells l.folder) l.told l.opened.manifest l.opened.version c.in_ok-bottom.bottom l._step sf
+    c.in-Some.level (subst (λ (n : Option ℕ). IsNextLevel l.opened.version c.in_ok-bottom.bottom n) c.in-Some.is c.in_ok-level.ensures.next) (calls c.take_step.new.folder) (tells c.take_step.new.folder) (failed l.folder) (failed c.take_step.new.folder) c.take_step.new.told
+    l.invariant.is_bottom (failed c.args.folder.now) l.opened.order e l.invariant.failures all.1 c.in_err-next.ensures.left in
+    inr (subst (λ (r : Result DescentEnd Fault). IsDescended g.T.InstallWatch.tells o.order (order_cmp o.order) (order_short_keys o.order) s o.version loaded tables (calls c.args.folder.now) (calls c.take_step.new.folder) (tells c.take_step.new.folder) (failed c.args.folder.now) (failed c.take_step.new.folder) c.args.told.now c.take_step.new.told r)
+    (sym (p.1 ∙ ap (λ (f : Fault). Err f) p.2)) left)
+
+pub returns-in_default-clause-device : goal.returns-in_default-clause-device
+returns-in_default-clause-device g c = let q : Result DescentEnd Fault = Ok AtBottom in reports_steady q c.loop-step.invariant.failures tt
+
+pub returns-in_default-2-clause-device : goal.returns-in_default-2-clause-device
+returns-in_default-2-clause-device g c = let q : Result DescentEnd Fault = Ok Stopped in reports_on c.loop-step.invariant.failures (reports_after q c.in_ok-next.was c.take_step.ensures.device tt)
+
+pub returns-clause-device : goal.returns-clause-device
+returns-clause-device g c =
+    let q : Result DescentEnd Fault = Err c.of.result in
+    reports_steady q c.loop-step.invariant.failures (λ same. let both = sym (ap (λ (f : Fault). f.name) c.of.ensures) ∙ same in cc both)
+
+pub returns-in_err-next-clause-device : goal.returns-in_err-next-clause-device
+returns-in_err-next-clause-device g c =
+    reports_on c.loop-step.invariant.failures (reports_handed c.from_residual-in_err-next.result c.in_err-next.was c.take_step.ensures.device c.from_residual-in_err-next.ensures.1)
+
+pub returns-in_default-2-clause-left : goal.returns-in_default-2-clause-left
+returns-in_default-2-clause-left g c files loaded tables told current reads sound =
+    let o = c.args.opened in
+    let calls = g.F.Folder.calls in
+    let tells = g.F.Folder.tells in
+    let failed = g.F.Folder.failed in
+    let s = c.args.settings.now in
+    let l = c.loop-step in
+    let all = l.invariant.so_far files loaded tables told current reads sound in
+    let sf = all.0 in
+    inr (stopped_taken o.order s o.version loaded tables sound (calls c.args.folder.now) g.T.InstallWatch.tells c.args.told.now (calls l.folder) (tells l.folder) l.told l.opened.manifest l.opened.version c.in_ok-bottom.bottom l._step sf
+    c.in-Some.level (subst (λ (n : Option ℕ). IsNextLevel l.opened.version c.in_ok-bottom.bottom n) c.in-Some.is c.in_ok-level.ensures.next) (calls c.take_step.new.folder) (tells c.take_step.new.folder) (failed l.folder) (failed c.take_step.new.folder) c.take_step.new.told
+    l.invariant.is_bottom (failed c.args.folder.now) l.opened.order all.1 (subst (λ (x : Option Opened). StepClause g.T.InstallWatch.tells l.opened.order l.opened.version l.opened.manifest c.in-Some.level s (calls l.folder) (calls c.take_step.new.folder) (tells l.folder) (tells c.take_step.new.folder) (failed l.folder) (failed c.take_step.new.folder) l.told c.take_step.new.told (Ok x)) c.in_default-2.is c.in_ok-next.ensures.left))
+
+pub loop-step-preserved : goal.loop-step-preserved
+loop-step-preserved g c =
+    let o = c.args.opened in
+    let calls = g.F.Folder.calls in
+    let tells = g.F.Folder.tells in
+    let failed = g.F.Folder.failed in
+    let s = c.args.settings.now in
+    let l = c.loop-step in
+    record {
+      is_bottom = l.invariant.is_bottom;
+      failures = steady (failed c.args.folder.now) (failed l.folder) (failed c.take_step.new.folder) c.in_ok-next.field-0 c.take_step.result c.in_ok-next.was l.invariant.failures c.take_step.ensures.device.later c.take_step.ensures.device.at_once;
+      so_far = λ files loaded tables told current reads sound.
+          let all = l.invariant.so_far files loaded tables told current reads sound in
+          more_taken o.order s o.version loaded tables sound (calls c.args.folder.now) g.T.InstallWatch.tells c.args.told.now (calls l.folder) (tells l.folder) l.told l.opened.manifest l.opened.version c.in_ok-bottom.bottom l._step all.0
+          c.in-Some.level (subst (λ (n : Option ℕ). IsNextLevel l.opened.version c.in_ok-bottom.bottom n) c.in-Some.is c.in_ok-level.ensures.next) (calls c.take_step.new.folder) (tells c.take_step.new.folder) (failed l.folder) (failed c.take_step.new.folder) c.take_step.new.told
+          l.opened.order c.in-Some-2.next all.1 (subst (λ (x : Option Opened). StepClause g.T.InstallWatch.tells l.opened.order l.opened.version l.opened.manifest c.in-Some.level s (calls l.folder) (calls c.take_step.new.folder) (tells l.folder) (tells c.take_step.new.folder) (failed l.folder) (failed c.take_step.new.folder) l.told c.take_step.new.told (Ok x)) c.in-Some-2.is c.in_ok-next.ensures.left);
+    }
+
+pub returns-clause-left : goal.returns-clause-left
+returns-clause-left g c files loaded tables told current reads sound =
+    let o = c.args.opened in
+    let sf = (c.loop-step.invariant.so_far files loaded tables told current reads sound).0 in
+    absurd (too_many o.order (order_cmp o.order) (order_short_keys o.order) c.args.settings.now o.version loaded tables sound (g.F.Folder.calls c.args.folder.now) g.T.InstallWatch.tells c.args.told.now (g.F.Folder.calls c.loop-step.folder) (g.F.Folder.tells c.loop-step.folder) c.loop-step.told c.loop-step.opened.manifest c.loop-step.opened.version c.in_ok-bottom.bottom c.loop-step._step sf (omega arith))

@@ -1,0 +1,36 @@
+-- The tables of inputs that are read alone.
+use Rattle.std.specs.Prelude.{◌≡◌, ℕ, true, List, map, Ok}
+use Rattle.std.specs.declared.cmp.Ordering.{Ordering}
+use Rattle.ikey.specs.Comparator.{ShortKeys}
+use Rattle.edit.specs.Version.{State, are_apart}
+use Rattle.folder.specs.Calls.{Files}
+use Rattle.folder.specs.Levels.{file_numbers}
+use Rattle.folder.specs.LoadedTables.{IsLoaded}
+use Rattle.folder.specs.ReadsAs.{IsHeldIn}
+use Rattle.install.specs.Install.{table_bytes_of}
+use Rattle.pick.specs.Picked.{IsInputsAnswer, IsPicked, PickedInputs}
+use Rattle.pick.specs.declared.picked.InputFile.{InputFile}
+use Rattle.reads.specs.Tables.{NumberedContents}
+use Rattle.checks.specs.LawfulTables.{IsLawfulTables}
+use Rattle.settings.specs.declared.settings.Settings.{Settings}
+use Rattle.store.specs.FolderRequest.{compaction_of}
+use Rattle.store.specs.InputsCompaction.{input_numbers}
+
+-- the bytes that were read of picked inputs in their order are those under their numbers
+abbrev pub InputsInOrderLaw : (List ℕ → List ℕ → Ordering) → Type 0
+InputsInOrderLaw cmp =
+    (v : State) (level : ℕ) (p : PickedInputs) (own : List (ℕ × List ℕ)) →
+    are_apart v.files ≡ true → IsPicked cmp v level p →
+    map (λ (t : ℕ × List ℕ). t.0) own ≡ input_numbers p.files →
+    map (λ (t : ℕ × List ℕ). t.1) own
+    ≡ map (λ (i : InputFile). table_bytes_of own i.meta.number) p.files
+
+-- with the inputs of a lawful version the same is answered as with all its tables
+abbrev pub SameInputsLaw : (List ℕ → List ℕ → Ordering) → ShortKeys → Type 0
+SameInputsLaw cmp short_keys =
+    (files : Files) (v : State) (loaded own : List (ℕ × List ℕ)) (tables : List NumberedContents)
+    (level : ℕ) (p : PickedInputs) (s : Settings) →
+    IsLoaded (IsHeldIn files) (file_numbers cmp v) (Ok loaded) →
+    IsLawfulTables cmp v loaded (Ok tables) → IsInputsAnswer cmp v level (Ok p) →
+    IsLoaded (IsHeldIn files) (input_numbers p.files) (Ok own) →
+    compaction_of cmp short_keys v own p s ≡ compaction_of cmp short_keys v loaded p s

@@ -1,0 +1,104 @@
+-- What the compaction of a version answers that reads its inputs and no other table.
+use Rattle.std.specs.Prelude.{◌≡◌, ℕ, ◌+◌, ◌<◌, ◌≤◌, Bool, true, ◌&&◌, List, ◌∷◌, length, map}
+use Rattle.std.specs.Prelude.{slice_index_or, Result, Ok, Err}
+use Rattle.std.specs.List.{All}
+use Rattle.std.specs.declared.cmp.Ordering.{Ordering}
+use Rattle.std.specs.declared.cmp.Ordering.TheVariants.{Less}
+use Rattle.coding.specs.Answers.{IsThen, fault, ◌>>=◌}
+use Rattle.coding.specs.declared.fault.Fault.{Fault}
+use Rattle.coding.specs.declared.fault.FaultName.TheVariants.{Bounds, Lawless}
+use Rattle.ikey.specs.Comparator.{ShortKeys}
+use Rattle.ikey.specs.Order.{internal_cmp}
+use Rattle.table.specs.ReadingSteps.{test_result}
+use Rattle.table.specs.TableContents.{Contents}
+use Rattle.edit.specs.Version.{State}
+use Rattle.edit.specs.VersionOrder.{level_files}
+use Rattle.edit.specs.declared.meta.FileMeta.{FileMeta}
+use Rattle.folder.specs.Calls.{Files}
+use Rattle.folder.specs.Levels.{file_numbers}
+use Rattle.folder.specs.LoadedTables.{IsLoaded}
+use Rattle.folder.specs.ReadsAs.{IsHeldIn}
+use Rattle.pick.specs.Picked.{IsInputsAnswer, PickedInputs}
+use Rattle.pick.specs.declared.picked.InputFile.{InputFile}
+use Rattle.reads.specs.Lawful.{IsBelowNextFile}
+use Rattle.reads.specs.Tables.{NumberedContents}
+use Rattle.checks.specs.Checked.{tables_reading}
+use Rattle.checks.specs.LawfulTables.{IsLawfulTables}
+use Rattle.request.specs.Inputs.{table_matches_metadata}
+use Rattle.settings.specs.declared.settings.Settings.{Settings}
+use Rattle.store.specs.Answers.{IsLoadedCompacted, lines_of}
+use Rattle.store.specs.FolderRequest.{compaction_of}
+
+-- the largest key of each file is below the smallest of the next one
+abbrev pub RangesRise : (List ℕ → List ℕ → Ordering) → List FileMeta → Type 0
+RangesRise cmp files = (k : ℕ) (d : FileMeta) → k + 1 < length files →
+    internal_cmp cmp (slice_index_or files k d).largest (slice_index_or files (k + 1) d).smallest
+    ≡ Less
+
+-- what the files of a level tell of a lawful version by themselves: their numbers are below next
+-- file, and from level 1 on their ranges rise
+pub record IsOrderlyLevel (cmp : List ℕ → List ℕ → Ordering) (v : State) (level : ℕ) : Type 0 where
+  pub below_next : All (λ (f : FileMeta). IsBelowNextFile v.next_file f.number)
+      (level_files cmp v level)
+  pub rising : 1 ≤ level → RangesRise cmp (level_files cmp v level)
+
+-- each level is so; each version has each number once
+abbrev pub IsOrderly : (List ℕ → List ℕ → Ordering) → State → Type 0
+IsOrderly cmp v = (level : ℕ) → level ≤ 6 → IsOrderlyLevel cmp v level
+
+-- what the test of a version's files answers that reads no table
+abbrev pub IsOrderlyAnswer : (List ℕ → List ℕ → Ordering) → State → Result (Unit {0}) Fault → Type 0
+IsOrderlyAnswer cmp v (Ok passed) = IsOrderly cmp v
+IsOrderlyAnswer cmp v (Err e) = (e ≡ fault Lawless) × (IsOrderly cmp v → ⊥)
+
+-- the numbers of inputs in their order
+abbrev pub input_numbers : List InputFile → List ℕ
+input_numbers files = map (λ (i : InputFile). i.meta.number) files
+
+-- whether the table of each input is as its file states
+abbrev pub are_stated : List InputFile → List NumberedContents → Bool
+are_stated (i ∷ files) (t ∷ tables) = table_matches_metadata i.meta t.contents
+    && are_stated files tables
+are_stated _ _ = true
+
+-- The tables of inputs by their bytes: the refusal of the first that is invalid; else Bounds if one
+-- isn't as its file states.
+abbrev pub input_tables : (List ℕ → List ℕ → Ordering) → List InputFile → List (ℕ × List ℕ) →
+    Result (List Contents) Fault
+input_tables cmp files loaded = do
+  tables ← tables_reading cmp loaded
+  _ ← test_result (are_stated files tables) Bounds
+  Ok (map (λ (t : NumberedContents). t.contents) tables)
+
+-- the answer for inputs whose tables were read: first that of their tables
+abbrev pub IsReadCompacted : (List ℕ → List ℕ → Ordering) → ShortKeys →
+    State → PickedInputs → Settings → List (ℕ × List ℕ) → Result (List ℕ) Fault → Type 0
+IsReadCompacted cmp short_keys v p s loaded =
+    IsThen (λ read. input_tables cmp p.files loaded ≡ read) (λ tables answer.
+    answer ≡ lines_of v p (compaction_of cmp short_keys v loaded p s))
+
+-- the answer for inputs whose tables are in a folder: first Missing of the first that is missing
+abbrev pub IsPickedCompacted : (List ℕ → List ℕ → Ordering) → ShortKeys →
+    Files → State → Settings → PickedInputs → Result (List ℕ) Fault → Type 0
+IsPickedCompacted cmp short_keys files v s p =
+    IsThen (IsLoaded (IsHeldIn files) (input_numbers p.files)) (IsReadCompacted cmp short_keys v p s)
+
+-- The answer for a level of a version. The first refusal counts: of the version's files, of which
+-- no table is read; of a level without inputs; of their tables; of their compaction. Else the
+-- lines.
+abbrev pub IsInputsCompacted : (List ℕ → List ℕ → Ordering) → ShortKeys →
+    Files → State → ℕ → Settings → Result (List ℕ) Fault → Type 0
+IsInputsCompacted cmp short_keys files v level s =
+    IsThen (IsOrderlyAnswer cmp v) (λ passed.
+    IsThen (IsInputsAnswer cmp v level) (IsPickedCompacted cmp short_keys files v s))
+
+-- If a version is lawful with the tables that a folder holds, this is the answer of the compaction
+-- that tests all of them.
+abbrev pub InputsSufficeLaw : (List ℕ → List ℕ → Ordering) → ShortKeys → Type 0
+InputsSufficeLaw cmp short_keys =
+    (files : Files) (v : State) (loaded : List (ℕ × List ℕ)) (tables : List NumberedContents)
+    (level : ℕ) (s : Settings) (answer : Result (List ℕ) Fault) →
+    IsLoaded (IsHeldIn files) (file_numbers cmp v) (Ok loaded) →
+    IsLawfulTables cmp v loaded (Ok tables) →
+    IsInputsCompacted cmp short_keys files v level s answer →
+    IsLoadedCompacted cmp short_keys v loaded level s answer

@@ -1,0 +1,63 @@
+-- What one of several compactions of a folder leaves.
+use Rattle.std.specs.Prelude.{◌≡◌, ◌⊎◌, ℕ, List, Option, Result, Ok, Err, IfErr, IfOk}
+use Rattle.std.specs.Option.{IfSome}
+use Rattle.std.specs.declared.cmp.Ordering.{Ordering}
+use Rattle.coding.specs.Answers.{UnlessMemory, fault}
+use Rattle.coding.specs.declared.fault.Fault.{Fault}
+use Rattle.coding.specs.declared.fault.FaultName.TheVariants.{Memory}
+use Rattle.ikey.specs.Comparator.{ShortKeys}
+use Rattle.edit.specs.Version.{State}
+use Rattle.folder.specs.Calls.{Step}
+use Rattle.folder.specs.OpenAnswer.{IsStopped}
+use Rattle.folder.specs.declared.current_version.Opened.{Opened}
+use Rattle.folder.specs.declared.order.Order.{Order}
+use Rattle.settings.specs.declared.settings.Settings.{Settings}
+use Rattle.store.specs.Answers.{IsLoadedCompacted}
+use Rattle.store.specs.Compaction.{IsUnchanged}
+use Rattle.store.specs.FolderRequest.{manifest_of}
+use Rattle.store.specs.StepLeft.{IsStepInstalled, IsStepLeft}
+use Rattle.store.specs.declared.compaction_step.CompactionStep.{CompactionStep}
+
+-- nothing was changed and nothing told, for a reason unless memory ran out
+pub record IsUntold {T W : Type 0} (before after : List Step) (old new : List ℕ → Option (List ℕ) →
+    Type 0) (told told_now : W) (IsReason : Fault → Type 0) (result : Result T Fault)
+    : Type 0 where
+  pub unchanged : IsUnchanged before after old new result
+  pub same : told_now ≡ told
+  pub reason : IfErr result (λ e. UnlessMemory e (IsReason e))
+
+-- it was refused, so nothing was told; by its refusal, or since the device failed
+pub record IsStepRefused {W : Type 0} (order : Order) (cmp : List ℕ → List ℕ → Ordering)
+    (short_keys : ShortKeys) (v : State) (loaded : List (ℕ × List ℕ)) (level : ℕ) (s : Settings) (before after : List Step)
+    (old new : List ℕ → Option (List ℕ) → Type 0) (failed now : ℕ) (told told_now : W)
+    (result : Result (Option Opened) Fault) : Type 0 where
+  pub e : Fault
+  pub is : result ≡ Err e
+  pub left : IsStepLeft order cmp short_keys v loaded level s before after old new (Err e)
+  pub why : UnlessMemory e (IsStopped failed now e
+      ⊎ IsLoadedCompacted cmp short_keys v loaded level s (Err e))
+  pub same : told_now ≡ told
+
+-- it was installed and told; what it is opened as after it is what was installed
+pub record IsStepTold {W : Type 0} (tells : W → List ℕ → W → Type 0) (order : Order)
+    (cmp : List ℕ → List ℕ → Ordering) (short_keys : ShortKeys) (v : State) (loaded : List (ℕ × List ℕ)) (level : ℕ) (s : Settings) (before after : List Step)
+    (old new : List ℕ → Option (List ℕ) → Type 0) (told told_now : W)
+    (result : Result (Option Opened) Fault) : Type 0 where
+  pub step : CompactionStep
+  pub installed : IsStepInstalled order cmp short_keys v loaded level s before after old new
+      (Ok step)
+  pub lines : tells told step.lines.items told_now
+  pub opened : IfOk result (λ o. IfSome o (λ next. (next.order ≡ order)
+      × (next.version ≡ installed.compacted.edited.next) × (next.manifest ≡ manifest_of v)))
+  pub memory : IfErr result (λ e. e ≡ fault Memory)
+
+abbrev pub IsStepTaken : {W : Type 0} → (W → List ℕ → W → Type 0) → Order →
+    (List ℕ → List ℕ → Ordering) → ShortKeys → State → List (ℕ × List ℕ) → ℕ → Settings →
+    List Step → List Step → (List ℕ → Option (List ℕ) → Type 0) →
+    (List ℕ → Option (List ℕ) → Type 0) → ℕ → ℕ → W → W → Result (Option Opened) Fault → Type 0
+IsStepTaken tells order cmp short_keys v loaded level s before after old new failed now told
+    told_now result =
+    IsStepRefused order cmp short_keys v loaded level s before after old new failed now told
+    told_now result
+    ⊎ IsStepTold tells order cmp short_keys v loaded level s before after old new told told_now
+    result

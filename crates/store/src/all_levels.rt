@@ -1,0 +1,203 @@
+//! The compaction of all levels of a folder, one after the other.
+
+ghost use Rattle.std.specs.Prelude.{◌≡◌, ◌⊎◌, ℕ, List, codes, Some, Ok, Err, IfErr};
+ghost use Rattle.std.specs.Prelude.{IfOk, IsTrue, None};
+ghost use Rattle.std.specs.Option.{IfSome};
+ghost use Rattle.coding.specs.Answers.{UnlessMemory, fault};
+ghost use Rattle.coding.specs.declared.fault.FaultName.TheVariants.{Memory};
+ghost use Rattle.checks.specs.LawfulTables.{IsLawfulTables};
+ghost use Rattle.folder.specs.Calls.{Files, Tells};
+ghost use Rattle.folder.specs.Names.{current_text};
+ghost use Rattle.folder.specs.OpenAnswer.{FolderAnswers, IsOpened};
+ghost use Rattle.folder.specs.Orders.{order_cmp, order_short_keys};
+ghost use Rattle.folder.specs.ReadsAs.{IsHeldIn, ReadsAs};
+ghost use Rattle.folder.specs.Reports.{OnlyReads, ReportsDevice};
+ghost use Rattle.reads.specs.Tables.{NumberedContents};
+ghost use Rattle.store.specs.AllLevels.{IsAllLeft, IsDescended};
+ghost use Rattle.store.specs.Descent.{IsBottom, IsNextLevel};
+ghost use Rattle.store.specs.OpenedAfter.{IsOpenedAfter};
+ghost use Rattle.store.specs.StepTaken.{IsStepTaken, IsUntold};
+ghost use Rattle.store.specs.VersionTest.{IsTested};
+
+use crate::compaction_step::CompactionStep;
+use crate::descent::{bottom, next_level};
+use crate::descent_end::DescentEnd;
+use crate::input_compaction::compact_inputs;
+use crate::install_laws::inputs_suffice;
+use crate::install_watch::InstallWatch;
+use crate::next_opened::opened_after;
+use crate::version_test::test_version;
+use checks::Watch;
+use coding::{Fault, FaultName};
+use edit::Version;
+use folder::{Folder, Opened, Order};
+use ikey::{Bytewise, Shortlex};
+use settings::Settings;
+use std::alloc::Global;
+use std::thread::Threads;
+
+/// Tests what a folder was `opened` as, once, and then compacts all its levels, as
+/// [`compact_levels`] does. Nothing is told before the test has passed. If no file is above the
+/// bottom, nothing is tested.
+pub fn compact_all<F: Folder, T: InstallWatch, W: Watch + Sync, R: Threads + Sync>(
+    rt: &R,
+    alloc: Global,
+    folder: &mut F,
+    opened: Opened,
+    settings: &Settings<'_>,
+    watch: &W,
+    told: &mut T,
+) -> Result<DescentEnd, Fault>
+    // If the folder tells files that open as this version in this order, and CURRENT is the one
+    // that was opened: the test is refused; or no file is above the bottom; or the version is
+    // lawful, and compactions are made.
+    ensures left { (files : Files) → Tells (F.tells folder.old) files →
+        files (codes "CURRENT") ≡ Some (current_text opened.manifest) →
+        IsOpened (IsHeldIn files) (Ok (opened.order, opened.version)) →
+        IsAllLeft T.tells opened.order (order_cmp opened.order) (order_short_keys opened.order)
+        settings.now opened.version files (F.calls folder.old) (F.calls folder.new)
+        (F.tells folder.old) (F.tells folder.new) (F.failed folder.old) (F.failed folder.new)
+        (told.old) (told.new) result }
+    ensures device { ReportsDevice F.Folder folder.old folder.new result }
+{
+    if is_at_bottom(alloc, &opened.version)? {
+        return Ok(DescentEnd::AtBottom);
+    }
+    test_opened(rt, alloc, folder, &opened, watch)?;
+    compact_levels(rt, alloc, folder, opened, settings, watch, told)
+}
+
+/// Compacts the first level of what a folder was `opened` as that has a file, and so on with what
+/// that leaves, until all files are at the bottom: the deepest level that had one, or level 1.
+///
+/// Each compaction is told to `told` when it is installed. It tests nothing of the version but what
+/// `compact_inputs` tests: its caller knows that the version is lawful.
+pub fn compact_levels<F: Folder, T: InstallWatch, W: Watch + Sync, R: Threads + Sync>(
+    rt: &R,
+    alloc: Global,
+    folder: &mut F,
+    opened: Opened,
+    settings: &Settings<'_>,
+    watch: &W,
+    told: &mut T,
+) -> Result<DescentEnd, Fault>
+    // If the folder tells files that read as this version, lawful with its tables, and CURRENT is
+    // the one that was opened.
+    ensures left { (files : Files) (loaded : List (ℕ × List ℕ)) (tables : List NumberedContents) →
+        Tells (F.tells folder.old) files →
+        files (codes "CURRENT") ≡ Some (current_text opened.manifest) →
+        ReadsAs (order_cmp opened.order) opened.order opened.version loaded files →
+        IsLawfulTables (order_cmp opened.order) opened.version loaded (Ok tables) →
+        IsUntold (F.calls folder.old) (F.calls folder.new) (F.tells folder.old) (F.tells folder.new)
+        (told.old) (told.new) (λ e. ⊥) result
+        ⊎ IsDescended T.tells opened.order (order_cmp opened.order) (order_short_keys opened.order)
+        settings.now opened.version loaded tables (F.calls folder.old) (F.calls folder.new)
+        (F.tells folder.new) (F.failed folder.old) (F.failed folder.new)
+        (told.old) (told.new) result }
+    ensures device { ReportsDevice F.Folder folder.old folder.new result }
+{
+    let bottom = bottom(alloc, &opened.version)?;
+    let mut opened = opened;
+    for _step in 0..u64::MAX {
+        let Some(level) = next_level(alloc, &opened.version, bottom)? else {
+            return Ok(DescentEnd::AtBottom);
+        };
+        let Some(next) = take_step(rt, alloc, folder, &opened, level, settings, watch, told)? else {
+            return Ok(DescentEnd::Stopped);
+        };
+        opened = next;
+    }
+    Err(Fault::of(FaultName::Numbers))
+}
+
+/// Compacts a `level` of what a folder was `opened` as, and tells of it. What the folder is opened as
+/// after it, if it is to go on.
+fn take_step<F: Folder, T: InstallWatch, W: Watch + Sync, R: Threads + Sync>(
+    rt: &R,
+    alloc: Global,
+    folder: &mut F,
+    opened: &Opened,
+    level: u64,
+    settings: &Settings<'_>,
+    watch: &W,
+    told: &mut T,
+) -> Result<Option<Opened>, Fault>
+    ensures left { (files : Files) (loaded : List (ℕ × List ℕ)) (tables : List NumberedContents) →
+        Tells (F.tells folder.old) files →
+        files (codes "CURRENT") ≡ Some (current_text opened.now.manifest) →
+        ReadsAs (order_cmp opened.now.order) opened.now.order opened.now.version loaded files →
+        IsLawfulTables (order_cmp opened.now.order) opened.now.version loaded (Ok tables) →
+        IsStepTaken T.tells opened.now.order (order_cmp opened.now.order)
+        (order_short_keys opened.now.order) opened.now.version loaded level settings.now
+        (F.calls folder.old) (F.calls folder.new) (F.tells folder.old) (F.tells folder.new)
+        (F.failed folder.old) (F.failed folder.new) (told.old) (told.new) result }
+    ensures device { ReportsDevice F.Folder folder.old folder.new result }
+{
+    inputs_suffice::<Bytewise>();
+    inputs_suffice::<Shortlex>();
+    let step = compact_inputs(rt, alloc, folder, opened, level, settings, watch)?;
+    tell_step(alloc, opened, level, &step, told)
+}
+
+/// Tells of the compaction of a `level`. What the folder is opened as after it, if it is to go on.
+fn tell_step<T: InstallWatch>(
+    alloc: Global,
+    opened: &Opened,
+    level: u64,
+    step: &CompactionStep,
+    told: &mut T,
+) -> Result<Option<Opened>, Fault>
+    ensures told { T.tells told.old step.now.lines.items told.new }
+    ensures after { IfOk result (λ o. IfSome o (λ after. IsOpenedAfter opened.now.order
+        opened.now.version step.now.edit.items
+        (Ok (after.order, after.version, after.manifest)))) }
+    ensures refused { IfErr result (λ e. UnlessMemory e (IsOpenedAfter opened.now.order
+        opened.now.version step.now.edit.items (Err e))) }
+{
+    match opened_after(alloc, opened, step) {
+        Ok(after) => {
+            if told.installed(level, &step.lines, &opened.version, Some(&after.version)) {
+                Ok(Some(after))
+            } else {
+                Ok(None)
+            }
+        }
+        Err(fault) => {
+            let _ = told.installed(level, &step.lines, &opened.version, None);
+            Err(fault)
+        }
+    }
+}
+
+/// Whether no file of a version is above its bottom. The only fault is Memory.
+fn is_at_bottom(alloc: Global, version: &Version) -> Result<bool, Fault>
+    ensures none { IfOk result (λ b. IsTrue b → (bottom : ℕ) × IsBottom version.now bottom
+        × IsNextLevel version.now bottom None) }
+    ensures memory { IfErr result (λ e. e ≡ fault Memory) }
+{
+    let bottom = bottom(alloc, version)?;
+    match next_level(alloc, version, bottom)? {
+        Some(_) => Ok(false),
+        None => Ok(true),
+    }
+}
+
+/// Tests the version that a folder was `opened` as. It only reads.
+fn test_opened<F: Folder, W: Watch + Sync, R: Threads + Sync>(
+    rt: &R,
+    alloc: Global,
+    folder: &mut F,
+    opened: &Opened,
+    watch: &W,
+) -> Result<(), Fault>
+    ensures answer { FolderAnswers (λ u. u) (F.failed folder.old) (F.failed folder.new) result
+        (IsTested (order_cmp opened.now.order) (F.tells folder.old) opened.now.version) }
+    ensures device { ReportsDevice F.Folder folder.old folder.new result }
+    ensures reads { OnlyReads F.Folder folder.old folder.new }
+{
+    let version = &opened.version;
+    match opened.order {
+        Order::Bytewise => test_version::<Bytewise, F, W, R>(rt, alloc, folder, version, watch),
+        Order::Shortlex => test_version::<Shortlex, F, W, R>(rt, alloc, folder, version, watch),
+    }
+}

@@ -1,0 +1,168 @@
+//! The compaction of a folder that reads its inputs and no other table.
+
+ghost use Rattle.std.specs.Prelude.{◌≡◌, ◌≢◌, ◌<◌, ◌^◌, ℕ, List, length, codes, Some, Ok, IfOk, OnOk};
+ghost use Rattle.checks.specs.LawfulTables.{IsLawfulTables};
+ghost use Rattle.compact.specs.Answered.{answer_in};
+ghost use Rattle.folder.specs.Calls.{Files, Tells};
+ghost use Rattle.folder.specs.Levels.{file_numbers};
+ghost use Rattle.folder.specs.LoadedTables.{IsLoaded};
+ghost use Rattle.folder.specs.Manifest.{order_name};
+ghost use Rattle.folder.specs.Names.{current_text};
+ghost use Rattle.folder.specs.OpenAnswer.{FolderAnswers};
+ghost use Rattle.folder.specs.Orders.{order_cmp, order_short_keys};
+ghost use Rattle.folder.specs.ReadsAs.{IsHeldIn, ReadsAs};
+ghost use Rattle.folder.specs.Reports.{OnlyReads, ReportsDevice};
+ghost use Rattle.folder.specs.declared.order.Order.{Order};
+ghost use Rattle.reads.specs.Tables.{NumberedContents};
+ghost use Rattle.store.specs.Compaction.{VersionCompaction};
+ghost use Rattle.store.specs.InputsCompaction.{IsInputsCompacted};
+ghost use Rattle.store.specs.StepLeft.{IsStepLeft};
+
+use crate::compaction_step::CompactionStep;
+use crate::folder_request::manifest_of;
+use crate::input_laws::{inputs_in_order, same_inputs};
+use crate::input_tables::load_inputs;
+use crate::install_laws::answer_is_installed;
+use crate::loaded_compaction::{Ready, compact_loaded};
+use crate::version_files::test_files;
+use checks::Watch;
+use coding::Fault;
+use edit::Version;
+use folder::{Folder, Opened, Order};
+use ikey::{Bytewise, SharedComparator, Shortlex};
+use install::install;
+use pick::inputs;
+use settings::Settings;
+use std::alloc::Global;
+use std::thread::Threads;
+
+/// Compacts a `level` of what a folder was `opened` as, and installs the outcome. It reads the
+/// tables of the inputs and no other: so the caller says that the version is lawful, as after a test
+/// of it, or as a compaction of a lawful version leaves it.
+///
+/// What holds without that word: the answer, and that it writes over no file of the version.
+///
+/// The first that applies:
+///
+/// - Lawless: a file's number isn't below next file, or the files of a level from 1 on don't rise;
+/// - Level: the level is above 5; NoInput: it has no file;
+/// - Missing: at the first missing table of an input;
+/// - the first invalid one, as `table::check` refuses it;
+/// - Bounds: one isn't as its file states;
+/// - what [`compact_opened`](crate::compact_opened) is refused as after these.
+pub fn compact_inputs<F: Folder, W: Watch + Sync, R: Threads + Sync>(
+    rt: &R,
+    alloc: Global,
+    folder: &mut F,
+    opened: &Opened,
+    level: u64,
+    settings: &Settings<'_>,
+    watch: &W,
+) -> Result<CompactionStep, Fault>
+    // If the folder tells files, and CURRENT is the one that was opened. Whether the version is
+    // lawful makes no difference.
+    ensures answer { (files : Files) → Tells (F.tells folder.old) files →
+        files (codes "CURRENT") ≡ Some (current_text opened.now.manifest) →
+        FolderAnswers (λ step. step.lines.items) (F.failed folder.old) (F.failed folder.new) result
+        (IsInputsCompacted (order_cmp opened.now.order) (order_short_keys opened.now.order)
+        files opened.now.version level settings.now) }
+    // If moreover the files read as this version with tables with which it is lawful. Then the
+    // edited version is lawful too, so what is left here is what is supposed of the next call.
+    ensures left { (files : Files) (loaded : List (ℕ × List ℕ)) (tables : List NumberedContents) →
+        Tells (F.tells folder.old) files →
+        files (codes "CURRENT") ≡ Some (current_text opened.now.manifest) →
+        ReadsAs (order_cmp opened.now.order) opened.now.order opened.now.version loaded files →
+        IsLawfulTables (order_cmp opened.now.order) opened.now.version loaded (Ok tables) →
+        IsStepLeft opened.now.order (order_cmp opened.now.order)
+        (order_short_keys opened.now.order) opened.now.version loaded level settings.now
+        (F.calls folder.old) (F.calls folder.new) (F.tells folder.old) (F.tells folder.new) result }
+    // If CURRENT is another one, the answer is never Ok.
+    ensures other { (files : Files) → Tells (F.tells folder.old) files →
+        files (codes "CURRENT") ≢ Some (current_text opened.now.manifest) → OnOk result ⊥ }
+    ensures device { ReportsDevice F.Folder folder.old folder.new result }
+{
+    match opened.order {
+        Order::Bytewise => {
+            compact_step::<Bytewise, F, W, R>(rt, alloc, folder, opened, level, settings, watch)
+        }
+        Order::Shortlex => {
+            compact_step::<Shortlex, F, W, R>(rt, alloc, folder, opened, level, settings, watch)
+        }
+    }
+}
+
+/// Compacts a `level` of the version that a folder was `opened` as, by its inputs alone, and
+/// installs the outcome. The comparator's name has fewer than 2^32 bytes.
+pub(crate) fn compact_step<
+    C: SharedComparator + 'static,
+    F: Folder,
+    W: Watch + Sync,
+    R: Threads + Sync,
+>(
+    rt: &R,
+    alloc: Global,
+    folder: &mut F,
+    opened: &Opened,
+    level: u64,
+    settings: &Settings<'_>,
+    watch: &W,
+) -> Result<CompactionStep, Fault>
+    requires { length C.name_bytes < 2 ^ 32 }
+    ensures answer { (files : Files) → Tells (F.tells folder.old) files →
+        files (codes "CURRENT") ≡ Some (current_text opened.now.manifest) →
+        FolderAnswers (λ step. step.lines.items) (F.failed folder.old) (F.failed folder.new) result
+        (IsInputsCompacted C.cmp C.short_keys files opened.now.version level settings.now) }
+    ensures left { (files : Files) (order : Order) (loaded : List (ℕ × List ℕ))
+        (tables : List NumberedContents) →
+        Tells (F.tells folder.old) files →
+        files (codes "CURRENT") ≡ Some (current_text opened.now.manifest) →
+        order_name order ≡ C.name_bytes →
+        ReadsAs C.cmp order opened.now.version loaded files →
+        IsLawfulTables C.cmp opened.now.version loaded (Ok tables) →
+        IsStepLeft order C.cmp C.short_keys opened.now.version loaded level settings.now
+        (F.calls folder.old) (F.calls folder.new) (F.tells folder.old) (F.tells folder.new) result }
+    ensures other { (files : Files) → Tells (F.tells folder.old) files →
+        files (codes "CURRENT") ≢ Some (current_text opened.now.manifest) → OnOk result ⊥ }
+    ensures device { ReportsDevice F.Folder folder.old folder.new result }
+{
+    let version = &opened.version;
+    let ready = ready_step::<C, F, W, R>(rt, alloc, folder, version, level, settings, watch)?;
+    let outcome = &ready.outcome;
+    let number = manifest_of(version);
+    install::<C, F>(alloc, folder, opened.manifest, version, number, outcome)?;
+    Ok(CompactionStep {
+        lines: ready.lines,
+        edit: ready.outcome.edit,
+    })
+}
+
+/// What the compaction of a `level` of a version is to install. It only reads.
+fn ready_step<C: SharedComparator + 'static, F: Folder, W: Watch + Sync, R: Threads + Sync>(
+    rt: &R,
+    alloc: Global,
+    folder: &mut F,
+    version: &Version,
+    level: u64,
+    settings: &Settings<'_>,
+    watch: &W,
+) -> Result<Ready, Fault>
+    ensures answer { (files : Files) → Tells (F.tells folder.old) files →
+        FolderAnswers (λ ready. ready.lines.items) (F.failed folder.old) (F.failed folder.new) result
+        (IsInputsCompacted C.cmp C.short_keys files version.now level settings.now) }
+    ensures compacted { (files : Files) (order : Order) (loaded : List (ℕ × List ℕ))
+        (tables : List NumberedContents) → Tells (F.tells folder.old) files →
+        IsLoaded (IsHeldIn files) (file_numbers C.cmp version.now) (Ok loaded) →
+        IsLawfulTables C.cmp version.now loaded (Ok tables) →
+        IfOk result (λ ready. VersionCompaction order C.cmp C.short_keys version.now loaded level
+        settings.now (answer_in ready.outcome) ready.lines.items) }
+    ensures device { ReportsDevice F.Folder folder.old folder.new result }
+    ensures reads { OnlyReads F.Folder folder.old folder.new }
+{
+    answer_is_installed::<C>();
+    inputs_in_order::<C>();
+    same_inputs::<C>();
+    test_files::<C>(alloc, version)?;
+    let picked = inputs::<C>(alloc, version, level)?;
+    let loaded = load_inputs(alloc, folder, &picked.files)?;
+    compact_loaded::<C, W, R>(rt, alloc, version, &picked, &loaded, settings, watch)
+}

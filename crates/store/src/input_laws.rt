@@ -1,0 +1,17 @@
+//! Laws of the inputs of a compaction.
+
+ghost use Rattle.store.specs.InputLaws.{InputsInOrderLaw, SameInputsLaw};
+
+use ikey::Comparator;
+
+/// Inputs have numbers of their own, so each has the bytes that were read for it. A call does
+/// nothing.
+pub(crate) fn inputs_in_order<C: Comparator>()
+    ensures { InputsInOrderLaw C.cmp }
+{}
+
+/// The tables of inputs that are read alone are those that were read with all others. A call does
+/// nothing.
+pub(crate) fn same_inputs<C: Comparator>()
+    ensures { SameInputsLaw C.cmp C.short_keys }
+{}

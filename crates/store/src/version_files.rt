@@ -1,0 +1,93 @@
+//! What a version's files tell by themselves, without their tables.
+
+ghost use Rattle.std.specs.Prelude.{◌≡◌, ◌↔◌, ◌≤◌, IfErr, IfOk, IsTrue};
+ghost use Rattle.std.specs.List.{All};
+ghost use Rattle.coding.specs.Answers.{HoldsOrMemory, fault};
+ghost use Rattle.coding.specs.declared.fault.FaultName.TheVariants.{Memory};
+ghost use Rattle.std.specs.Ordering.{is_lt};
+ghost use Rattle.ikey.specs.Order.{internal_cmp};
+ghost use Rattle.reads.specs.Lawful.{IsBelowNextFile};
+ghost use Rattle.store.specs.InputsCompaction.{IsOrderlyAnswer, IsOrderlyLevel};
+ghost use Rattle.store.specs.LentFiles.{LentRangesRise};
+
+use coding::{Fault, FaultName};
+use edit::{FileMeta, Version};
+use ikey::Comparator;
+use std::alloc::Global;
+
+/// Tests what the files of a version tell of it by themselves: their numbers are below next file,
+/// and the ranges of the files of each level from 1 on rise. `Lawless` if they don't. The only other
+/// fault is Memory.
+pub(crate) fn test_files<C: Comparator>(alloc: Global, version: &Version) -> Result<(), Fault>
+    ensures { HoldsOrMemory (λ u. u) result (IsOrderlyAnswer C.cmp version.now) }
+{
+    for level in 0..7 {
+        if !is_orderly_level::<C>(alloc, version, level)? {
+            return Err(Fault::of(FaultName::Lawless));
+        }
+    }
+    Ok(())
+}
+
+/// Whether the files of a level are so. The only fault is Memory.
+fn is_orderly_level<C: Comparator>(
+    alloc: Global,
+    version: &Version,
+    level: u64,
+) -> Result<bool, Fault>
+    requires { level ≤ 6 }
+    ensures orderly { IfOk result (λ b. IsTrue b ↔ IsOrderlyLevel C.cmp version.now level) }
+    ensures memory { IfErr result (λ e. e ≡ fault Memory) }
+{
+    let files = version.files::<C>(alloc, level)?;
+    if !are_below(version.next_file(), &files) {
+        return Ok(false);
+    }
+    if level == 0 {
+        return Ok(true);
+    }
+    Ok(ranges_rise::<C>(&files))
+}
+
+/// Whether the numbers of files are below `next`; false if there are files and no `next`.
+fn are_below(next: Option<u64>, files: &[&FileMeta]) -> bool
+    ensures { IsTrue result ↔ All (λ f. IsBelowNextFile next f.now.number) files.now }
+{
+    for file in files {
+        if !is_below(next, file.number) {
+            return false;
+        }
+    }
+    true
+}
+
+/// Whether a number is below `next`.
+fn is_below(next: Option<u64>, number: u64) -> bool
+    ensures { IsTrue result ↔ IsBelowNextFile next number }
+{
+    match next {
+        Some(next) => number < next,
+        None => false,
+    }
+}
+
+/// Whether the largest key of each file is below the smallest of the next one.
+fn ranges_rise<C: Comparator>(files: &[&FileMeta]) -> bool
+    ensures { IsTrue result ↔ LentRangesRise C.cmp files.now }
+{
+    for place in 1..files.len() {
+        if !ends_before::<C>(files[place - 1], files[place]) {
+            return false;
+        }
+    }
+    true
+}
+
+/// Whether a file's largest key is below the smallest of the `other`.
+fn ends_before<C: Comparator>(file: &FileMeta, other: &FileMeta) -> bool
+    ensures { result ≡ is_lt (internal_cmp C.cmp file.now.largest other.now.smallest) }
+{
+    let largest = file.largest.as_key();
+    let smallest = other.smallest.as_key();
+    largest.compare::<C>(&smallest).is_lt()
+}

@@ -7,6 +7,7 @@
 #![tactic(auto)]
 
 mod block_files;
+mod compaction_work;
 mod explanations;
 mod files;
 mod folder_locks;

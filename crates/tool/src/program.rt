@@ -1,11 +1,11 @@
 //! The program, from its words to its status.
 
 use crate::block_files::merge;
+use crate::compaction_work::compact_folder;
 use crate::explanations::in_words;
 use crate::files;
 use crate::folder_work::{
-    compact_folder, print_lines, print_unverified_value, print_value, print_verdict, print_version,
-    unwritten,
+    print_lines, print_unverified_value, print_value, print_verdict, print_version, unwritten,
 };
 use crate::refusal::Refusal;
 use crate::reporter::Telling;

@@ -1,5 +1,5 @@
 -- Entries that fall in each range of user keys fall.
-use Rattle.std.proofs.Common.{◌≡◌, ℕ, ◌+◌, ◌<◌, ◌≤◌, Bool, true, false, cond, List, [], ◌∷◌, length, get_or, None, Some, Result, Err, inl, inr, refl, sym, ap, subst, ◌∙◌, arith}
+use Rattle.std.proofs.Common.{◌≡◌, ℕ, ◌+◌, ◌<◌, ◌≤◌, Bool, true, false, cond, List, [], ◌∷◌, length, get_or, None, Some, Result, Ok, Err, IfOk, inl, inr, refl, sym, ap, subst, ◌∙◌, arith}
 use Rattle.std.specs.Prelude.{◌↔◌, ◌⊎◌, zero, suc, Contains, filter}
 use Rattle.std.specs.List.{list_all}
 use Rattle.std.specs.declared.cmp.Ordering.{Ordering}
@@ -18,8 +18,8 @@ use Rattle.keep.specs.InRange.{is_in_range, entries_in, HoldsLaw}
 use Rattle.reads.specs.TableOrder.{IsNewer, IsNewerIn, AreFalling, AreFallingIn}
 use Rattle.reads.proofs.Members.{in_filter, from_filter}
 use Rattle.reads.proofs.Pairs.{Pairs, pairs_from, pairs_to}
-use Rattle.reads.proofs.Ranged.{fall_in}
-use Rattle.checks.specs.RangeOrder.{TellsRange}
+use Rattle.reads.proofs.Ranged.{all_fall, fall_in}
+use Rattle.checks.specs.RangeOrder.{IsInBoth, TellsRange}
 
 no_both : (b : Bool) → b ≡ true → b ≡ false → ⊥
 no_both b t f = let both : true ≡ false = sym t ∙ f in absurd cc
@@ -66,10 +66,25 @@ same_in_range cmp holds range xs ys same h = same_fall (is_in_range cmp range) (
 
 -- ---- all ranges
 
+-- what falls in a kind of user keys falls in each kind that it holds
+pub other_kind : (P Q : List ℕ → Type 0) → ((user : List ℕ) → Q user → P user) → (es : List Entry) → AreFallingIn P es → AreFallingIn Q es
+other_kind P Q to es h = record {
+  keys = λ k d lt at. h.keys k d lt (to (user_of (get_or es k d).key) at);
+  newer = λ i j d lt below at. h.newer i j d lt below (to (user_of (get_or es i d).key) at);
+}
+
+-- entries that fall in what a range has of each range of a cover fall in that range
+fall_in_all : (cmp : List ℕ → List ℕ → Ordering) (within : KeyRange) (boundaries : List (List ℕ)) → IsCover cmp boundaries → (es : List Entry)
+    → ((i : ℕ) → i ≤ length boundaries → AreFallingIn (IsInBoth cmp within (range_at boundaries i)) es) → AreFallingIn (IsIn cmp within) es
+fall_in_all cmp within boundaries cover es h = record {
+  keys = λ k d lt at. let one = cover.each_once (user_of (get_or es k d).key) in (h one.number one.below).keys k d lt (at, one.within);
+  newer = λ i j d lt below at. let one = cover.each_once (user_of (get_or es i d).key) in (h one.number one.below).newer i j d lt below (at, one.within);
+}
+
 -- entries that fall in each range of a cover fall
-fall_in_all : (cmp : List ℕ → List ℕ → Ordering) (boundaries : List (List ℕ)) → IsCover cmp boundaries → (es : List Entry)
+pub fall_in_each : (cmp : List ℕ → List ℕ → Ordering) (boundaries : List (List ℕ)) → IsCover cmp boundaries → (es : List Entry)
     → ((i : ℕ) → i ≤ length boundaries → AreFallingIn (IsIn cmp (range_at boundaries i)) es) → AreFalling es
-fall_in_all cmp boundaries cover es h = record {
+fall_in_each cmp boundaries cover es h = record {
   keys = λ k d lt. let one = cover.each_once (user_of (get_or es k d).key) in (h one.number one.below).keys k d lt one.within;
   newer = λ i j d lt below. let one = cover.each_once (user_of (get_or es i d).key) in (h one.number one.below).newer i j d lt below one.within;
 }
@@ -86,15 +101,15 @@ some_false (true ∷ outs) all = let found = some_false outs all in (suc found.0
 some_false (false ∷ outs) all = (zero, omega arith, refl)
 
 -- what the walks of all ranges tell
-module _ (cmp : List ℕ → List ℕ → Ordering) (boundaries : List (List ℕ)) (cover : IsCover cmp boundaries) (lists : List (List Entry)) (outs : List Bool) (len : length outs ≡ length boundaries + 1)
-    (each : (i : ℕ) (d : Bool) → i < length boundaries + 1 → TellsRange cmp boundaries lists i (get_or outs i d)) where
-  pub all_told : (b : Bool) → list_all (λ b. b) outs ≡ b → (b ≡ true) ↔ AreFalling (entries_of_lists lists)
-  all_told true all = (λ e. fall_in_all cmp boundaries cover (entries_of_lists lists) (λ i le. (each i true (omega arith)).0 (each_true outs all i true (omega (arith, len)))), λ h. refl)
+module _ (cmp : List ℕ → List ℕ → Ordering) (within : KeyRange) (boundaries : List (List ℕ)) (cover : IsCover cmp boundaries) (lists : List (List Entry)) (outs : List Bool) (len : length outs ≡ length boundaries + 1)
+    (each : (i : ℕ) (d : Bool) → i < length boundaries + 1 → TellsRange cmp within boundaries lists i (get_or outs i d)) where
+  pub all_told : (b : Bool) → list_all (λ b. b) outs ≡ b → (b ≡ true) ↔ AreFallingIn (IsIn cmp within) (entries_of_lists lists)
+  all_told true all = (λ e. fall_in_all cmp within boundaries cover (entries_of_lists lists) (λ i le. (each i true (omega arith)).0 (each_true outs all i true (omega (arith, len)))), λ h. refl)
   all_told false all = (
     λ e. absurd cc,
     λ h.
         let found = some_false outs all in
-        let told : get_or outs found.0 true ≡ true = (each found.0 true (omega (arith, len, found.1))).1 (fall_in (IsIn cmp (range_at boundaries found.0)) (entries_of_lists lists) h) in
+        let told : get_or outs found.0 true ≡ true = (each found.0 true (omega (arith, len, found.1))).1 (other_kind (IsIn cmp within) (IsInBoth cmp within (range_at boundaries found.0)) (λ user both. both.0) (entries_of_lists lists) h) in
         absurd (no_both (get_or outs found.0 true) told found.2),
   )
 
@@ -105,3 +120,8 @@ pub only_memory_left : {O V : Type 0} (gives : ℕ → O → Type 0) (jobs worke
 only_memory_left gives jobs workers result (RunFault.Job job f) is refused outside some few = only_memory f (None ≡ Some f) (λ no. absurd cc) (refused job f is).refused
 only_memory_left gives jobs workers result RunFault.Workers is refused outside some few = absurd (elim (outside is) [ inl none ↦ omega arith | inr many ↦ omega arith ])
 only_memory_left gives jobs workers result RunFault.Memory is refused outside some few = refl
+
+-- what falls in the range of all user keys falls
+pub fall_everywhere : (cmp : List ℕ → List ℕ → Ordering) (range : KeyRange) → range.lower ≡ None → range.upper ≡ None → (es : List Entry) (r : Result Bool Fault) → IfOk r (λ (b : Bool). (b ≡ true) ↔ AreFallingIn (IsIn cmp range) es) → IfOk r (λ (b : Bool). (b ≡ true) ↔ AreFalling es)
+fall_everywhere cmp range lower upper es (Ok b) h = (λ e. all_fall cmp range lower upper es (h.0 e), λ falls. h.1 (fall_in (IsIn cmp range) es falls))
+fall_everywhere cmp range lower upper es (Err e) h = tt

@@ -52,7 +52,7 @@ value_same (Ok tables) = refl
 value_same (Err e) = refl
 
 -- tables, and others after them
-reading_append : (cmp : List ℕ → List ℕ → Ordering) (xs ys : List (ℕ × List ℕ)) → tables_reading cmp (xs ++ ys) ≡ (tables_reading cmp xs >>= λ front. tables_after front (tables_reading cmp ys))
+pub reading_append : (cmp : List ℕ → List ℕ → Ordering) (xs ys : List (ℕ × List ℕ)) → tables_reading cmp (xs ++ ys) ≡ (tables_reading cmp xs >>= λ front. tables_after front (tables_reading cmp ys))
 reading_append cmp [] ys = value_same (tables_reading cmp ys)
 reading_append cmp (t ∷ xs) ys =
     ap (λ (rest : Result (List NumberedContents) Fault). numbered_reading cmp t >>= λ first. rest >>= λ others. Ok (first ∷ others)) (reading_append cmp xs ys)

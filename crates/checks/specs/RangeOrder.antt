@@ -1,13 +1,43 @@
 -- What a walk over one range of user keys finds.
-use Rattle.std.specs.Prelude.{◌≡◌, ◌↔◌, ℕ, Bool, true, List}
+use Rattle.std.specs.Prelude.{◌≡◌, ◌↔◌, ℕ, Bool, true, List, Option, Some, None}
+use Rattle.std.specs.Prelude.{if◌then◌else◌}
+use Rattle.std.specs.Ordering.{is_lt}
 use Rattle.std.specs.declared.cmp.Ordering.{Ordering}
 use Rattle.block.specs.EncodedEntry.{Entry}
 use Rattle.merge.specs.Merged.{entries_of_lists}
-use Rattle.split.specs.Ranges.{range_at, IsIn}
+use Rattle.split.specs.Ranges.{KeyRange, range_at, IsIn}
 use Rattle.reads.specs.TableOrder.{AreFallingIn}
 
--- whether the entries of the lists, read one after the other, fall in the range of this number
-abbrev pub TellsRange : (List ℕ → List ℕ → Ordering) → List (List ℕ) → List (List Entry) → ℕ →
-    Bool → Type 0
-TellsRange cmp boundaries lists number falls = (falls ≡ true)
-    ↔ AreFallingIn (IsIn cmp (range_at boundaries number)) (entries_of_lists lists)
+-- the user key is in both ranges
+abbrev pub IsInBoth : (List ℕ → List ℕ → Ordering) → KeyRange → KeyRange → List ℕ → Type 0
+IsInBoth cmp one two key = IsIn cmp one key × IsIn cmp two key
+
+-- whether the entries of the lists, read one after the other, fall in what `within` has of the
+-- range of this number
+abbrev pub TellsRange : (List ℕ → List ℕ → Ordering) → KeyRange → List (List ℕ) →
+    List (List Entry) → ℕ → Bool → Type 0
+TellsRange cmp within boundaries lists number falls = (falls ≡ true)
+    ↔ AreFallingIn (IsInBoth cmp within (range_at boundaries number)) (entries_of_lists lists)
+
+-- the later of two lower bounds
+abbrev pub later_bound : (List ℕ → List ℕ → Ordering) → Option (List ℕ) → Option (List ℕ) →
+    Option (List ℕ)
+later_bound cmp None two = two
+later_bound cmp (Some first) None = Some first
+later_bound cmp (Some first) (Some second) = if is_lt (cmp first second) then Some second else Some
+    first
+
+-- the earlier of two upper bounds
+abbrev pub earlier_bound : (List ℕ → List ℕ → Ordering) → Option (List ℕ) → Option (List ℕ) →
+    Option (List ℕ)
+earlier_bound cmp None two = two
+earlier_bound cmp (Some first) None = Some first
+earlier_bound cmp (Some first) (Some second) = if is_lt (cmp first second) then Some first else Some
+    second
+
+-- what two ranges have in common
+abbrev pub common_of : (List ℕ → List ℕ → Ordering) → KeyRange → KeyRange → KeyRange
+common_of cmp one two = record {
+  lower = later_bound cmp one.lower two.lower;
+  upper = earlier_bound cmp one.upper two.upper;
+}

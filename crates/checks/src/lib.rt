@@ -1,21 +1,33 @@
-//! Tables that were read from a folder, checked by workers.
+//! Tables of a folder, checked by workers.
 //!
 //! 1. [`check_tables`] checks them, a table a job.
 //! 2. [`lawful_tables`] does that, and then tests whether a version is lawful with them, a range of
 //!    user keys a job.
+//! 3. [`test_version`] makes the same test with the tables that a folder holds, in bounded memory.
 //!
 //! The answer doesn't depend on the workers, nor on the order in which they do their jobs.
 //! [`CHECKERS`] is how many a command takes. A [`Watch`] is a gate that is told to which long work
 //! on a folder its jobs belong.
 #![tactic(auto)]
 
+mod common_range;
+mod entry_counts;
+mod file_groups;
+mod first_refusal;
+mod needed_files;
+mod range_test;
+mod range_walk;
 mod rounds;
 mod sampled_ranges;
 mod sequence_order;
 mod table_check;
+mod tested;
 mod version_check;
+mod version_test;
 mod watch;
 
 pub use rounds::check_tables;
+pub use tested::Tested;
 pub use version_check::{CHECKERS, lawful_tables};
+pub use version_test::test_version;
 pub use watch::{Watch, Work};

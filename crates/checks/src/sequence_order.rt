@@ -5,25 +5,27 @@ ghost use Rattle.std.specs.List.{list_all};
 ghost use Rattle.coding.specs.Answers.{fault};
 ghost use Rattle.coding.specs.declared.fault.FaultName.TheVariants.{Memory};
 ghost use Rattle.merge.specs.Merged.{entries_of_lists};
-ghost use Rattle.split.specs.Ranges.{IsCover};
-ghost use Rattle.reads.specs.TableOrder.{AreFalling};
+ghost use Rattle.split.specs.Ranges.{IsCover, IsIn, key_range};
+ghost use Rattle.reads.specs.TableOrder.{AreFalling, AreFallingIn};
 ghost use Rattle.checks.specs.RangeOrder.{TellsRange};
 
+use crate::common_range::common_range;
 use board::{Gate, Labour, run};
 use coding::Fault;
 use ikey::{Comparator, SharedComparator};
 use keep::cursors_from;
 use reads::falls_in;
-use split::Split;
+use split::{Range, Split};
 use std::alloc::Global;
 use std::thread::Threads;
 use table::SoundTable;
 
-/// The tables, walked in the ranges of a split, each range a job.
+/// The tables, walked in what a range has of the ranges of a split, each of these a job.
 #[derive(Drop)]
 struct Falls<'r, 't, C: Comparator + 'static> {
     alloc: Global,
     tables: &'r [&'r SoundTable<'t, C>],
+    within: Range<'r>,
     split: &'r Split<C>,
 }
 
@@ -31,25 +33,59 @@ impl<'r, 't, C: Comparator + 't + 'static> Labour for Falls<'r, 't, C> {
     type Out = bool;
 
     ghost use Rattle.std.specs.Prelude.{◌+◌, None, length, map};
+    ghost use Rattle.split.specs.Ranges.{key_range};
     ghost use Rattle.checks.specs.RangeOrder.{TellsRange};
 
     ghost jobs = { λ s. length s.split.now + 1 };
 
     ghost refusal = { λ s job. None };
 
-    ghost gives = { λ s job out. TellsRange C.cmp s.split.now (map (λ t. t.now.entries) s.tables.now) job
-        out };
+    ghost gives = { λ s job out. TellsRange C.cmp (key_range s.within) s.split.now
+        (map (λ t. t.now.entries) s.tables.now) job out };
 
     fn work(&self, job: u64) -> Result<bool, Fault> {
-        falls_at(self.alloc, self.tables, self.split, job)
+        falls_at(self.alloc, self.tables, self.within, self.split, job)
     }
 }
 
-/// Whether, for each user key, sequences strictly decrease if the tables are read one after the
-/// other.
+/// Whether, for each user key of the range `within`, sequences strictly decrease if the tables are
+/// read one after the other.
 ///
-/// The ranges of the split are walked by 1 to 64 workers, a range a job. The only fault is Memory.
+/// What it has of the ranges of the split is walked by 1 to 64 workers, each a job. The only fault
+/// is Memory.
 pub(crate) fn entries_fall<'t, C: SharedComparator + 'static, G: Gate + Sync, R: Threads + Sync>(
+    rt: &R,
+    alloc: Global,
+    tables: &[&SoundTable<'t, C>],
+    within: Range<'_>,
+    split: &Split<C>,
+    workers: u64,
+    gate: &G,
+) -> Result<bool, Fault>
+    requires some { 0 < workers }
+    requires few { workers ≤ 64 }
+    ensures falls { IfOk result (λ falls. (falls ≡ true)
+        ↔ AreFallingIn (IsIn C.cmp (key_range within.entry))
+        (entries_of_lists (map (λ t. t.now.entries) tables.now))) }
+    ensures memory { IfErr result (λ e. e ≡ fault Memory) }
+{
+    let labour = Falls {
+        alloc,
+        tables,
+        within,
+        split,
+    };
+    let found = run(rt, alloc, &labour, count_ranges(split), workers, gate)?;
+    Ok(are_all_true(&found))
+}
+
+/// The same of all user keys.
+pub(crate) fn all_entries_fall<
+    't,
+    C: SharedComparator + 'static,
+    G: Gate + Sync,
+    R: Threads + Sync,
+>(
     rt: &R,
     alloc: Global,
     tables: &[&SoundTable<'t, C>],
@@ -63,13 +99,11 @@ pub(crate) fn entries_fall<'t, C: SharedComparator + 'static, G: Gate + Sync, R:
         ↔ AreFalling (entries_of_lists (map (λ t. t.now.entries) tables.now))) }
     ensures memory { IfErr result (λ e. e ≡ fault Memory) }
 {
-    let labour = Falls {
-        alloc,
-        tables,
-        split,
+    let all = Range {
+        lower: None,
+        upper: None,
     };
-    let found = run(rt, alloc, &labour, count_ranges(split), workers, gate)?;
-    Ok(are_all_true(&found))
+    entries_fall(rt, alloc, tables, all, split, workers, gate)
 }
 
 /// How many ranges a split has.
@@ -88,19 +122,22 @@ fn are_all_true(found: &[bool]) -> bool
     found.iter().all(|it| *it)
 }
 
-/// Whether the entries of the tables fall in the range of this number. The only fault is Memory.
+/// Whether the entries of the tables fall in what `within` has of the range of this number. The
+/// only fault is Memory.
 fn falls_at<'t, C: Comparator + 't>(
     alloc: Global,
     tables: &[&SoundTable<'t, C>],
+    within: Range<'_>,
     split: &Split<C>,
     number: u64,
 ) -> Result<bool, Fault>
     requires { number < length split.now + 1 }
     ensures falls { IfOk result
-        (TellsRange C.cmp split.now (map (λ t. t.now.entries) tables.now) number) }
+        (TellsRange C.cmp (key_range within.entry) split.now (map (λ t. t.now.entries) tables.now)
+        number) }
     ensures memory { IfErr result (λ e. e ≡ fault Memory) }
 {
-    let range = split.range(number);
+    let range = common_range::<C>(within, split.range(number));
     let cursors = cursors_from(alloc, tables, range)?;
     Ok(falls_in(alloc, cursors, range)?)
 }

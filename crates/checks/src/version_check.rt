@@ -8,7 +8,7 @@ ghost use Rattle.checks.specs.LawfulTables.{IsLawfulTables};
 
 use crate::rounds::check_tables;
 use crate::sampled_ranges::sampled_split;
-use crate::sequence_order::entries_fall;
+use crate::sequence_order::all_entries_fall;
 use board::Gate;
 use coding::{Fault, FaultName};
 use edit::Version;
@@ -60,7 +60,7 @@ fn lawful<'t, C: SharedComparator + 'static, G: Gate + Sync, R: Threads + Sync>(
 {
     let standing = standing_tables(alloc, version, tables)?;
     let split = sampled_split::<C>(alloc, &standing)?;
-    if !entries_fall(rt, alloc, &standing, &split, workers, gate)? {
+    if !all_entries_fall(rt, alloc, &standing, &split, workers, gate)? {
         return Err(Fault::of(FaultName::Lawless));
     }
     Ok(())

@@ -9,6 +9,7 @@ use crate::failure::{Failure, FolderCall};
 use crate::folder::{Folder, FolderFault};
 use crate::kept::Kept;
 use crate::order::Order;
+use crate::reads_ahead::ReadsAhead;
 use crate::system::{done_in, part_in, read_in};
 use crate::system_files::SystemFiles;
 use crate::table_loader::{files_due, numbers_in, tables_ahead};
@@ -166,6 +167,16 @@ impl<'r, R: SystemFiles + AllocGlobal> Folder for Disk<'r, R> {
 
     fn failures(&self) -> u64 {
         self.failures
+    }
+}
+
+impl<'r, R: SystemFiles + AllocGlobal> ReadsAhead for Disk<'r, R> {
+    fn path(&self) -> Option<&str> {
+        Some(self.path)
+    }
+
+    fn keep_ahead(&mut self, tables: Vec<Ahead>) {
+        self.ahead = tables;
     }
 }
 

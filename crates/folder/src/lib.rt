@@ -5,6 +5,7 @@
 //!    [`Folder`].
 //! 2. [`open`] gives the order and the version: CURRENT, then the manifest that it names.
 //! 3. [`load`] gives the tables of a version, [`load_numbers`] those of some files.
+//!    [`read_numbers_ahead`] reads these before, if the folder [`ReadsAhead`].
 //! 4. [`table_name`] and its neighbours give the names of files.
 //!
 //! What a `Disk` does. It tells contracts nothing of what it holds.
@@ -40,6 +41,7 @@ mod kept;
 mod names;
 mod order;
 mod owned;
+mod reads_ahead;
 mod shelf;
 mod shelf_step;
 mod system;
@@ -60,8 +62,9 @@ pub use names::{
     temporary_name,
 };
 pub use order::Order;
+pub use reads_ahead::{ReadsAhead, read_numbers_ahead};
 pub use shelf::{Failing, Shelf};
 pub use shelf_step::{ShelfCall, ShelfStep};
 pub use system_files::SystemFiles;
 pub use table_loader::{file_numbers, load, load_numbers};
-pub use whole_files::WholeFiles;
+pub use whole_files::{Ahead, WholeFiles};

@@ -9,8 +9,10 @@ ghost use Rattle.folder.specs.Shelf.{files_after_steps, files_in, held_by, made_
 ghost use Rattle.folder.specs.declared.folder.FolderFault.TheVariants.{Memory};
 
 use crate::folder::{Folder, FolderFault};
+use crate::reads_ahead::ReadsAhead;
 use crate::shelf_step::{ShelfCall, ShelfStep, Source};
 use crate::trail::{Attempt, Trail, WriteCall};
+use crate::whole_files::Ahead;
 use std::alloc::{AllocError, Global};
 use std::marker::Model;
 
@@ -177,6 +179,14 @@ impl<'a> Folder for Shelf<'a> {
     fn failures(&self) -> u64 {
         self.failures
     }
+}
+
+impl<'a> ReadsAhead for Shelf<'a> {
+    fn path(&self) -> Option<&str> {
+        None
+    }
+
+    fn keep_ahead(&mut self, _tables: Vec<Ahead>) {}
 }
 
 impl<'a> Shelf<'a> {

@@ -49,7 +49,12 @@ pub(crate) fn tables_ahead(
     order: Order,
     version: &Version,
 ) -> Result<Vec<Ahead>, Fault> {
-    let numbers = numbers_in(alloc, order, version)?;
+    numbers_ahead(alloc, &numbers_in(alloc, order, version)?)
+}
+
+/// The tables of these `numbers` by their first names, in the reverse of their order. None is read
+/// yet.
+pub(crate) fn numbers_ahead(alloc: Global, numbers: &[u64]) -> Result<Vec<Ahead>, Fault> {
     let mut files = Vec::with_capacity(alloc, numbers.len())?;
     for number in numbers.iter().rev() {
         let name = table_name(alloc, *number)?;

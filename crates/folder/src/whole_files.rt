@@ -27,10 +27,10 @@ pub trait WholeFiles: Send + Sync {
 
 /// A file that is read ahead.
 #[derive(Drop)]
-pub(crate) struct Ahead {
-    pub name: String,
+pub struct Ahead {
+    pub(crate) name: String,
     /// Its bytes, after it was read.
-    pub bytes: Option<Vec<u8>>,
+    pub(crate) bytes: Option<Vec<u8>>,
 }
 
 impl WholeFiles for HostRuntime {

@@ -1,13 +1,14 @@
 //! Tables that are written, read, walked and sought. The bytes are made from the texts above them,
 //! except those of one table that LevelDB wrote.
 
-use coding::Fault;
+use coding::{Fault, FaultName};
 use ikey::{Bytewise, InternalKey};
 use std::alloc::Global;
 use std::process::Abort;
 use std::test::*;
 use table::{
-    Cursor, KeyList, MAX_VALUE_LEN, Options, SoundTable, TableBuilder, TableCursor, check,
+    Cursor, KeyList, MAX_VALUE_LEN, Options, OwnedTable, SoundTable, TableBuilder, TableCursor,
+    check,
 };
 
 /// `table: a@1 put x`
@@ -242,9 +243,32 @@ fn is_read(alloc: Global) -> Result<bool, Fault> {
     )
 }
 
+/// Whether that table keeps its bytes and bounds, and is lent twice as what it is.
+fn is_lent(alloc: Global) -> Result<bool, Fault> {
+    let owned = OwnedTable::<Bytewise>::check(alloc, Vec::from_slice(alloc, FIVE)?)?;
+    Ok(
+        owned.bytes() == FIVE
+            && owned.smallest().user() == b"a".as_slice()
+            && owned.largest().user() == b"e".as_slice()
+            && is_five(&owned.lend(alloc)?)
+            && are_users(&owned.lend(alloc)?.index_users(alloc)?),
+    )
+}
+
+/// Why bytes are not owned as a table.
+fn not_owned(alloc: Global, bytes: &[u8]) -> Option<FaultName> {
+    let own = Vec::from_slice(alloc, bytes).ok()?;
+    match OwnedTable::<Bytewise>::check(alloc, own) {
+        Ok(_) => None,
+        Err(fault) => Some(fault.name),
+    }
+}
+
 #[test]
 fn tables_are_read_and_sought(rt: HostRuntime) {
     assert!(rt; is_read(rt.alloc()) == Ok(true));
+    assert!(rt; is_lent(rt.alloc()) == Ok(true));
+    assert!(rt; not_owned(rt.alloc(), &FIVE[1..]) == Some(FaultName::Trailer));
     for wanted in SOUGHT {
         assert!(rt; are_left(rt.alloc(), wanted) == Ok(true), "{:?}", wanted.1);
     }

@@ -2,9 +2,12 @@
 //! fall.
 
 use coding::{Fault, FaultName};
-use edit::{Version, VersionEdit};
+use edit::{FileMeta, Version, VersionEdit};
 use ikey::Bytewise;
-use reads::{NumberedTable, answers_newest_first, falls_in, get, lawful, standing_tables};
+use reads::{
+    NumberedTable, answers_newest_first, falls_in, get, is_stated, lawful, standing_files,
+    standing_tables,
+};
 use split::Range;
 use std::alloc::Global;
 use std::process::Abort;
@@ -278,6 +281,66 @@ fn versions_and_what_they_answer(rt: HostRuntime) -> Result<(), Fault> {
     for (place, row) in ROWS.iter().enumerate() {
         assert!(rt; is_answered(rt.alloc(), row)?, "{place}");
     }
+    Ok(())
+}
+
+/// `edit: next 9, file 1 7 114 u@5 put .. u@5 put, file 1 8 114 u@5 put .. u@5 put`
+const SAME_RANGE: &[u8] =
+    b"\x03\x09\x07\x01\x07r\x09u\x01\x05\0\0\0\0\0\0\x09u\x01\x05\0\0\0\0\0\0\x07\x01\x08r\x09u\x01\x05\0\0\0\0\0\0\x09u\x01\x05\0\0\0\0\0\0";
+
+/// An edit, and the numbers of its version's files as they stand, if each comes before the next.
+type Standing = (&'static [u8], Option<&'static [u64]>);
+
+const STANDING: &[Standing] = &[
+    (TWO, Some(&[8, 7])),
+    (AT_LEVEL_0, Some(&[8, 7])),
+    (NEWER_FIRST, Some(&[8, 7])),
+    (NEWER_BELOW, Some(&[7, 8])),
+    (SAME_RANGE, None),
+];
+
+/// Whether files have these numbers.
+fn are_numbers(files: &[&FileMeta], wanted: &[u64]) -> bool {
+    for (file, number) in files.iter().zip(wanted) {
+        if file.number != *number {
+            return false;
+        }
+    }
+    files.len() == wanted.len()
+}
+
+/// Whether the files of a version stand as expected.
+fn files_stand(alloc: Global, row: &Standing) -> Result<bool, Fault> {
+    let version = version_of(alloc, row.0)?;
+    match (standing_files::<Bytewise>(alloc, &version)?, row.1) {
+        (Some(files), Some(wanted)) => Ok(are_numbers(&files, wanted)),
+        (None, None) => Ok(true),
+        _ => Ok(false),
+    }
+}
+
+/// Whether the first file of a version is stated to have this table.
+fn first_is(alloc: Global, edit: &[u8], bytes: &[u8]) -> Result<bool, Fault> {
+    let version = version_of(alloc, edit)?;
+    let table = check::<Bytewise>(alloc, bytes)?;
+    let Some(files) = standing_files::<Bytewise>(alloc, &version)? else {
+        return Ok(false);
+    };
+    let next = version.next_file();
+    let Some(first) = files.first() else {
+        return Ok(false);
+    };
+    Ok(is_stated(next, first, bytes, table.smallest(), table.largest()))
+}
+
+#[test]
+fn files_as_they_stand(rt: HostRuntime) -> Result<(), Fault> {
+    for (place, row) in STANDING.iter().enumerate() {
+        assert!(rt; files_stand(rt.alloc(), row)?, "{place}");
+    }
+    assert!(rt; first_is(rt.alloc(), TWO, U_AT_TEN)?);
+    assert!(rt; !first_is(rt.alloc(), TWO, U_AT_FIVE)?);
+    assert!(rt; !first_is(rt.alloc(), NO_NEXT, U_AT_TEN)?);
     Ok(())
 }
 

@@ -1,0 +1,194 @@
+-- The test of a version with the tables of a folder, step by step.
+use Rattle.std.proofs.Common.{◌≡◌, ◌≢◌, ◌⊎◌, ℕ, suc, ◌≤◌, List, [], ◌∷◌, Option, Some, None, Result, Ok, Err, IfOk, IfErr, IsErrAnd, length, map, refl, sym, ap, ap₂, subst, ◌∙◌, inl, inr, if◌then◌else◌}
+use Rattle.std.specs.Prelude.{filter}
+use Rattle.std.specs.List.{AllZip}
+use Rattle.std.specs.Cmp.{IsTotalOrder}
+use Rattle.std.specs.declared.cmp.Ordering.{Ordering}
+use Rattle.coding.proofs.Binds.{done, failed, ok_is}
+use Rattle.coding.proofs.Refusals.{unless_from}
+use Rattle.coding.specs.Answers.{IsThen, UnlessMemory, UnlessNamed, fault}
+use Rattle.coding.specs.declared.fault.Fault.{Fault}
+use Rattle.coding.specs.declared.fault.FaultName.{FaultName}
+use Rattle.coding.specs.declared.fault.FaultName.TheVariants.{Device, Lawless, Memory, Missing}
+use Rattle.edit.specs.Version.{State}
+use Rattle.edit.specs.declared.meta.FileMeta.{FileMeta}
+use Rattle.folder.proofs.LoadingLemmas.{loaded_before}
+use Rattle.folder.proofs.OpeningLemmas.{failed_since, hands_on}
+use Rattle.folder.specs.Calls.{Files, Tells}
+use Rattle.folder.specs.Folder.{TellsSame}
+use Rattle.folder.specs.Levels.{file_numbers}
+use Rattle.folder.specs.LoadedTables.{IsFirstMissing, IsLoaded, IsTableOf}
+use Rattle.folder.specs.OpenAnswer.{FolderAnswers, HasDeviceFailed, IsStopped}
+use Rattle.folder.specs.Reports.{ReportsDevice}
+use Rattle.folder.specs.declared.folder.Folder.{Ghosts}
+use Rattle.folder.specs.ReadsAs.{IsHeldIn}
+use Rattle.split.specs.Ranges.{IsCover, KeyRange}
+use Rattle.reads.specs.Tables.{NumberedContents}
+use Rattle.reads.specs.TableOrder.{AreAllAdded, AreStandingFiles, IsNeverLawful}
+use Rattle.checks.specs.Checked.{tables_reading}
+use Rattle.checks.specs.GroupTest.{IsLawfulIn, IsLawlessIn, IsLoadedIfThere, IsRangeAnswer, IsRangesAnswer, IsSweepAnswer, IsWalkAnswer}
+use Rattle.checks.specs.InOrder.{AreChecked}
+use Rattle.checks.specs.LawfulTables.{IsLawfulTables}
+use Rattle.checks.specs.NeededFiles.{is_needed}
+use Rattle.checks.specs.TestedTables.{IsTested, entry_count, tested_of}
+use Rattle.checks.specs.declared.tested.Tested.{Tested}
+use Rattle.checks.proofs.FileTables.{numbers_in}
+use Rattle.checks.proofs.FoundTables.{checked_parts}
+use Rattle.checks.proofs.LawfulLemmas.{not_checked, sound}
+use Rattle.checks.proofs.RangeLemmas.{missing_wrong, walked_sound, walked_wrong}
+use Rattle.checks.proofs.SweepLemmas.{all_sound, all_there, lawless}
+
+-- a folder that tells files tells them still where what may be read stays the same
+pub told_still : (old new : List ℕ → Option (List ℕ) → Type 0) (files : Files) → TellsSame old new → Tells old files → Tells new files
+told_still old new files same tells name held = (λ h. (tells name held).0 ((same name held).1 h), λ h. (same name held).0 ((tells name held).1 h))
+
+turned : (tells : List ℕ → Option (List ℕ) → Type 0) (files : Files) → Tells tells files → TellsSame (IsHeldIn files) tells
+turned tells files h name held = ((h name held).1, (h name held).0)
+
+-- the tables that a folder loads are those of the files that it tells
+pub loaded_in : (tells : List ℕ → Option (List ℕ) → Type 0) (files : Files) (numbers : List ℕ) (r : Result (List (ℕ × List ℕ)) Fault) → Tells tells files → IsLoaded tells numbers r → IsLoaded (IsHeldIn files) numbers r
+loaded_in tells files numbers r h loaded = loaded_before (IsHeldIn files) tells numbers r (turned tells files h) loaded
+
+-- an answer that came later
+pub answers_since : {X Y : Type 0} (view : X → Y) (before middle now : ℕ) (r : Result X Fault) (IsFirst IsAnswer : Result Y Fault → Type 0) → ((a : Result Y Fault) → IsFirst a → IsAnswer a) → before ≤ middle → middle ≤ now → FolderAnswers view middle now r IsFirst → FolderAnswers view before now r IsAnswer
+answers_since view before middle now (Ok x) IsFirst IsAnswer f one two given = f (Ok (view x)) given
+answers_since view before middle now (Err e) IsFirst IsAnswer f one two given =
+    unless_from e (IsStopped middle now e ⊎ IsFirst (Err e)) (IsStopped before now e ⊎ IsAnswer (Err e)) (λ g. elim g [
+      | inl stopped ↦ inl (stopped.0, failed_since before middle now one two stopped.1)
+      | inr found ↦ inr (f (Err e) found)
+    ]) given
+
+-- what is refused for want of memory alone
+pub memory_answers : {X Y : Type 0} (view : X → Y) (before now : ℕ) (r : Result X Fault) (IsAnswer : Result Y Fault → Type 0) → IfErr r (λ e. e ≡ fault Memory) → IfOk r (λ x. IsAnswer (Ok (view x))) → FolderAnswers view before now r IsAnswer
+memory_answers view before now (Ok x) IsAnswer m h = h
+memory_answers view before now (Err e) IsAnswer m h = subst (λ (f : Fault). UnlessMemory f (IsStopped before now f ⊎ IsAnswer (Err f))) (sym m) tt
+
+pub handed_memory : {X Y : Type 0} (view : X → Y) (before now : ℕ) (r : Result X Fault) (e : Fault) (IsAnswer : Result Y Fault → Type 0) → IsErrAnd r (λ f. f ≡ e) → e ≡ fault Memory → FolderAnswers view before now r IsAnswer
+handed_memory view before now (Ok x) e IsAnswer h m = absurd h
+handed_memory view before now (Err f) e IsAnswer h m = subst (λ (f : Fault). UnlessMemory f (IsStopped before now f ⊎ IsAnswer (Err f))) (sym (h ∙ m)) tt
+
+-- ---- a table that is missing
+
+named_missing : (e : Fault) (P : Type 0) → e.name ≡ Missing → UnlessMemory e P → P
+named_missing e P is h = subst (λ (n : FaultName). UnlessNamed n e.input P) is h
+
+pub missing_found : (before now : ℕ) (tells : List ℕ → Option (List ℕ) → Type 0) (numbers : List ℕ) (e : Fault) → e.name ≡ Missing → UnlessMemory e (IsStopped before now e ⊎ IsLoaded tells numbers (Err e)) → IsLoaded tells numbers (Err (fault Missing))
+missing_found before now tells numbers e is given =
+    elim (named_missing e (IsStopped before now e ⊎ IsLoaded tells numbers (Err e)) is given) [
+      | inl stopped ↦ let both : Device ≡ Missing = sym (ap (λ (f : Fault). f.name) stopped.0) ∙ is in absurd cc
+      | inr m ↦ subst (λ (f : Fault). IsLoaded tells numbers (Err f)) m.missing.2 m
+    ]
+
+pub not_missing_stops : (before now : ℕ) (tells : List ℕ → Option (List ℕ) → Type 0) (numbers : List ℕ) (e : Fault) (P : Type 0) → (e.name ≡ Missing → ⊥) → UnlessMemory e (IsStopped before now e ⊎ IsLoaded tells numbers (Err e)) → UnlessMemory e (IsStopped before now e ⊎ P)
+not_missing_stops before now tells numbers e P isnt given =
+    unless_from e (IsStopped before now e ⊎ IsLoaded tells numbers (Err e)) (IsStopped before now e ⊎ P) (λ g. elim g [
+      | inl stopped ↦ inl stopped
+      | inr m ↦ absurd (isnt (ap (λ (f : Fault). f.name) m.missing.2))
+    ]) given
+
+-- ---- what is told of the device
+
+-- want of memory isn't Device
+pub memory_device : {X : Type 0} (before now : ℕ) (r : Result X Fault) → IfErr r (λ e. e ≡ fault Memory) → IfErr r (HasDeviceFailed before now)
+memory_device before now (Ok x) h = tt
+memory_device before now (Err e) h = λ same. let both : Memory ≡ Device = sym (ap (λ (f : Fault). f.name) h) ∙ same in absurd cc
+
+-- the same, where `?` hands it on
+pub memory_device_handed : {X : Type 0} (before now : ℕ) (r : Result X Fault) (e : Fault) → IsErrAnd r (λ f. f ≡ e) → e ≡ fault Memory → IfErr r (HasDeviceFailed before now)
+memory_device_handed before now (Ok x) e h m = tt
+memory_device_handed before now (Err f) e h m = λ same. let both : Memory ≡ Device = sym (ap (λ (f : Fault). f.name) (h ∙ m)) ∙ same in absurd cc
+
+-- and isn't Device's name
+pub memory_other : {X : Type 0} (r : Result X Fault) (e : Fault) → IsErrAnd r (λ f. f ≡ e) → e ≡ fault Memory → IfErr r (λ f. f.name ≢ Device)
+memory_other (Ok x) e h m = tt
+memory_other (Err f) e h m = λ same. let both : Memory ≡ Device = sym (ap (λ (f : Fault). f.name) (h ∙ m)) ∙ same in absurd cc
+
+-- a table that is missing, and no failure of the device
+pub reports_missing : {D X Y : Type 0} {g : Ghosts D} {a b : D} {first : Result X Fault} {e : Fault} (y : Y) → first ≡ Err e → e.name ≡ Missing → ReportsDevice g a b first → ReportsDevice g a b (Ok y)
+reports_missing {X = X} {e = e} y was is h = record {
+  device = tt;
+  at_once = λ rose.
+      let one : failed {A = X} e ≡ failed (fault Device) = sym was ∙ h.at_once rose in
+      let name : e ≡ fault Device = cc in
+      let both : Device ≡ Missing = sym (ap (λ (f : Fault). f.name) name) ∙ is in absurd cc;
+  later = h.later;
+}
+
+-- ---- a range
+
+module _ (cmp : List ℕ → List ℕ → Ordering) (total : IsTotalOrder cmp) (files : Files) (next : Option ℕ) (standing : List FileMeta) (range : KeyRange) where
+  abbrev needed : List FileMeta
+  needed = filter (is_needed cmp range) standing
+
+  pub range_answer : (loaded : List (ℕ × List ℕ)) → AllZip (IsTableOf (IsHeldIn files)) (numbers_in needed) loaded → (found : Option ℕ) → IsWalkAnswer cmp next range needed loaded found → IsRangeAnswer cmp files next standing range (Ok found)
+  range_answer loaded there (Some count) w = walked_sound cmp total files next standing range loaded there count w
+  range_answer loaded there None w = walked_wrong cmp total files next standing range loaded there w
+
+  pub range_missing : (e : Fault) → IsLoaded (IsHeldIn files) (numbers_in needed) (Err e) → IsRangeAnswer cmp files next standing range (Ok None)
+  range_missing e m = missing_wrong cmp total files next standing range e m
+
+  pub range_answers : (before now : ℕ) (r : Result (Option ℕ) Fault) (metas : List FileMeta) (loaded : List (ℕ × List ℕ)) → metas ≡ needed → AllZip (IsTableOf (IsHeldIn files)) (numbers_in needed) loaded
+      → IfErr r (λ e. e ≡ fault Memory) → IfOk r (IsWalkAnswer cmp next range metas loaded) → FolderAnswers (λ (found : Option ℕ). found) before now r (IsRangeAnswer cmp files next standing range)
+  range_answers before now (Ok found) metas loaded same there m w = range_answer loaded there found (subst (λ (fs : List FileMeta). IsWalkAnswer cmp next range fs loaded found) same w)
+  range_answers before now (Err e) metas loaded same there m w = subst (λ (f : Fault). UnlessMemory f (IsStopped before now f ⊎ IsRangeAnswer cmp files next standing range (Err f))) (sym m) tt
+
+-- ---- all ranges
+
+module _ (cmp : List ℕ → List ℕ → Ordering) (total : IsTotalOrder cmp) (files : Files) (v : State) (standing : List FileMeta) (stand : AreStandingFiles cmp v standing) (added : AreAllAdded cmp v) where
+  pub sweep_answer : (boundaries : List (List ℕ)) → IsCover cmp boundaries → (a : Result (Option ℕ) Fault) → IsRangesAnswer cmp files v.next_file standing boundaries a → IsSweepAnswer cmp files v a
+  sweep_answer boundaries cover (Ok (Some count)) h = all_sound cmp total files v standing stand boundaries count cover h
+  sweep_answer boundaries cover (Ok None) h = (lawless cmp total files v standing stand h, added)
+  sweep_answer boundaries cover (Err e) h = absurd h
+
+pub never_answer : (cmp : List ℕ → List ℕ → Ordering) (files : Files) (v : State) → IsNeverLawful cmp v → AreAllAdded cmp v → IsSweepAnswer cmp files v (Ok None)
+never_answer cmp files v never added = (λ loaded tables there read lawful. never tables lawful, added)
+
+-- ---- a version
+
+pub zip_length : {A B : Type 0} (R : A → B → Type 0) (xs : List A) (ys : List B) → AllZip R xs ys → length xs ≡ length ys
+zip_length R [] [] h = refl
+zip_length R [] (y ∷ ys) h = absurd h
+zip_length R (x ∷ xs) [] h = absurd h
+zip_length R (x ∷ xs) (y ∷ ys) h = ap suc (zip_length R xs ys h.1)
+
+pub read_length : (cmp : List ℕ → List ℕ → Ordering) (loaded : List (ℕ × List ℕ)) (tables : List NumberedContents) → tables_reading cmp loaded ≡ Ok tables → length tables ≡ length loaded
+read_length cmp [] tables h = ap (λ (ts : List NumberedContents). length ts) (sym (ok_is [] tables h))
+read_length cmp (t ∷ loaded) tables h =
+    let parts = checked_parts cmp t loaded tables h in
+    sym (ap (λ (ts : List NumberedContents). length ts) parts.whole) ∙ ap suc (read_length cmp loaded parts.behind parts.rest)
+
+module _ (cmp : List ℕ → List ℕ → Ordering) (files : Files) (v : State) where
+  -- the version is lawful
+  pub tested_ok : (n count : ℕ) → n ≡ length (file_numbers cmp v) → IsLawfulIn cmp files v count → IsTested (IsHeldIn files) cmp v (Ok (record { files = n; entries = count }))
+  tested_ok n count is h =
+      let files_too : n ≡ length h.tables = is ∙ zip_length (IsTableOf (IsHeldIn files)) (file_numbers cmp v) h.loaded h.there ∙ sym (read_length cmp h.loaded h.tables h.read) in
+      let whole : record { files = n; entries = count } ≡ tested_of h.tables = ap₂ (λ (a b : ℕ). let t : Tested = record { files = a; entries = b } in t) files_too h.is in
+      (Ok h.loaded, (h.there, (Ok h.tables, (sound cmp v h.loaded h.tables h.read h.lawful, ap (λ (t : Tested). let r : Result Tested Fault = Ok t in r) whole))))
+
+  -- its tables aren't all there, or one is invalid
+  pub not_tested : (e : Fault) → AreChecked cmp files (file_numbers cmp v) (Err e) → IsTested (IsHeldIn files) cmp v (Err e)
+  not_tested e (Err d, h) = (Err d, (h.0, same_error d e h.1))
+    where
+      same_error : (d e : Fault) → failed {A = Unit {0}} e ≡ failed d → failed {A = Tested} e ≡ failed d
+      same_error d e h = let one : e ≡ d = cc h in ap (λ (f : Fault). failed {A = Tested} f) one
+  not_tested e (Ok loaded, (there, (Err d, h))) = (Ok loaded, (there, (Err d, (not_checked cmp v loaded d h.0, same_error d e h.1))))
+    where
+      same_error : (d e : Fault) → failed {A = Unit {0}} e ≡ failed d → failed {A = Tested} e ≡ failed d
+      same_error d e h = let one : e ≡ d = cc h in ap (λ (f : Fault). failed {A = Tested} f) one
+  not_tested e (Ok loaded, (there, (Ok tables, h))) = absurd (no_value e h.1)
+    where
+      no_value : (e : Fault) → failed {A = Unit {0}} e ≡ done tt → ⊥
+      no_value e h = cc
+
+  -- it isn't lawful
+  pub not_lawful_tested : IsLawlessIn cmp files v → AreAllAdded cmp v → AreChecked cmp files (file_numbers cmp v) (Ok tt) → IsTested (IsHeldIn files) cmp v (Err (fault Lawless))
+  not_lawful_tested never added (Ok loaded, (there, (Ok tables, h))) =
+      (Ok loaded, (there, (Err (fault Lawless), ((Ok tables, (h.0, inr (all_there cmp files v loaded tables added there h.0, refl, never loaded tables there h.0))), refl))))
+  not_lawful_tested never added (Ok loaded, (there, (Err d, h))) = absurd (no_error d h.1)
+    where
+      no_error : (e : Fault) → done {A = Unit {0}} tt ≡ failed e → ⊥
+      no_error e h = cc
+  not_lawful_tested never added (Err d, h) = absurd (no_error d h.1)
+    where
+      no_error : (e : Fault) → done {A = Unit {0}} tt ≡ failed e → ⊥
+      no_error e h = cc

@@ -1,0 +1,112 @@
+-- Tables that are read from the files of a folder, and what a version states of them.
+use Rattle.std.proofs.Common.{◌≡◌, ℕ, ◌+◌, Bool, true, false, eqb, List, [], ◌∷◌, ◌++◌, length, map, Option, Some, None, Result, Ok, Err, refl, sym, ap, ap₂, subst, ◌∙◌, if◌then◌else◌, inl, inr}
+use Rattle.std.specs.Prelude.{Contains}
+use Rattle.std.specs.List.{All, AllZip, find, sum_by}
+use Rattle.std.specs.Option.{option_map}
+use Rattle.std.specs.declared.cmp.Ordering.{Ordering}
+use Rattle.std.proofs.lemmas.Bool.{eq-eqb, eqb-true}
+use Rattle.std.proofs.lemmas.List.Elements.{All-head, All-tail}
+use Rattle.std.proofs.lemmas.Option.{none-some, same_Some}
+use Rattle.coding.proofs.Binds.{bind_ok, ok_is}
+use Rattle.coding.specs.Answers.{◌>>=◌}
+use Rattle.coding.specs.declared.fault.Fault.{Fault}
+use Rattle.block.specs.EncodedEntry.{Entry}
+use Rattle.table.specs.TableContents.{Contents, blocks_of, contents_of, contents_reading}
+use Rattle.split.specs.Ranges.{KeyRange}
+use Rattle.edit.specs.declared.meta.FileMeta.{FileMeta}
+use Rattle.folder.specs.Calls.{Files}
+use Rattle.folder.specs.LoadedTables.{IsTableAnswer, IsTableOf}
+use Rattle.folder.specs.Names.{old_table_name, table_name}
+use Rattle.folder.specs.ReadsAs.{IsHeldIn}
+use Rattle.reads.specs.StatedFiles.{IsStatedFile}
+use Rattle.reads.specs.TableOrder.{lists_of_files}
+use Rattle.reads.specs.Tables.{NumberedContents, table_entries, table_of_number}
+use Rattle.reads.proofs.Answers.{entries_are}
+use Rattle.reads.proofs.Members.{first_or_later, none_in}
+use Rattle.checks.specs.Checked.{numbered_reading, tables_reading}
+use Rattle.checks.specs.NeededFiles.{starts_in}
+use Rattle.checks.specs.GroupTest.{AreStatedBy, IsStatedBy, IsStatedIn, IsTableIn, alone, contents_of_all, count_in, count_of, counts_of}
+
+-- ---- tables that were checked, one after the other
+
+pub record CheckedParts (cmp : List ℕ → List ℕ → Ordering) (t : ℕ × List ℕ) (loaded : List (ℕ × List ℕ)) (tables : List NumberedContents) : Type 0 where
+  pub contents : Contents
+  pub behind : List NumberedContents
+  pub read : contents_reading cmp t.1 ≡ Ok contents
+  pub rest : tables_reading cmp loaded ≡ Ok behind
+  pub whole : record { number = t.0; contents = contents } ∷ behind ≡ tables
+
+pub checked_parts : (cmp : List ℕ → List ℕ → Ordering) (t : ℕ × List ℕ) (loaded : List (ℕ × List ℕ)) (tables : List NumberedContents) → tables_reading cmp (t ∷ loaded) ≡ Ok tables → CheckedParts cmp t loaded tables
+checked_parts cmp t loaded tables h =
+    let one = bind_ok (numbered_reading cmp t) (λ (first : NumberedContents). tables_reading cmp loaded >>= λ others. Ok (first ∷ others)) tables h in
+    let two = bind_ok (tables_reading cmp loaded) (λ (others : List NumberedContents). Ok (one.0 ∷ others)) tables one.2 in
+    let three = bind_ok (contents_reading cmp t.1) (λ (c : Contents). Ok (record { number = t.0; contents = c })) one.0 one.1 in
+    let first : record { number = t.0; contents = three.0 } ≡ one.0 = ok_is (record { number = t.0; contents = three.0 }) one.0 three.2 in
+    record {
+      contents = three.0;
+      behind = two.0;
+      read = three.1;
+      rest = two.1;
+      whole = ap (λ (x : NumberedContents). x ∷ two.0) first ∙ ok_is (one.0 ∷ two.0) tables two.2;
+    }
+
+-- what bytes hold has these bytes
+own_bytes : (cmp : List ℕ → List ℕ → Ordering) (bytes : List ℕ) (x : Contents) → contents_reading cmp bytes ≡ Ok x → bytes ≡ x.bytes
+own_bytes cmp bytes x h =
+    let parts = bind_ok (blocks_of cmp bytes) (λ blocks. Ok (contents_of bytes blocks)) x h in
+    ap (λ (c : Contents). c.bytes) (ok_is (contents_of bytes parts.0) x parts.2)
+
+-- what was read can be read again
+again : (cmp : List ℕ → List ℕ → Ordering) (bytes : List ℕ) (x : Contents) → contents_reading cmp bytes ≡ Ok x → contents_reading cmp x.bytes ≡ Ok x
+again cmp bytes x h = subst (λ (b : List ℕ). contents_reading cmp b ≡ Ok x) (own_bytes cmp bytes x h) h
+
+-- ---- one table for each number
+
+pub same_held : (files : Files) (n : ℕ) (a b : List ℕ) → IsTableAnswer (IsHeldIn files) n (Ok a) → IsTableAnswer (IsHeldIn files) n (Ok b) → a ≡ b
+same_held files n a b (inl h) (inl k) = same_Some a b (sym h ∙ k)
+same_held files n a b (inl h) (inr k) = absurd (none-some a (sym k.0 ∙ h))
+same_held files n a b (inr h) (inl k) = absurd (none-some b (sym h.0 ∙ k))
+same_held files n a b (inr h) (inr k) = same_Some a b (sym h.1 ∙ k.1)
+
+pub not_missing : (files : Files) (n : ℕ) (bytes : List ℕ) (e : Fault) → IsTableAnswer (IsHeldIn files) n (Ok bytes) → IsTableAnswer (IsHeldIn files) n (Err e) → ⊥
+not_missing files n bytes e (inl h) k = none-some bytes (sym k.0 ∙ h)
+not_missing files n bytes e (inr h) k = none-some bytes (sym k.1 ∙ h.1)
+
+module _ (cmp : List ℕ → List ℕ → Ordering) (files : Files) where
+  pub one_table : (n : ℕ) (x y : Contents) → IsTableIn cmp files n x → IsTableIn cmp files n y → x ≡ y
+  one_table n x y h k =
+      let same : x.bytes ≡ y.bytes = same_held files n x.bytes y.bytes h.there k.there in
+      ok_is x y (sym h.read ∙ ap (contents_reading cmp) same ∙ k.read)
+
+  -- a table that was loaded and checked
+  table_in : (n : ℕ) (t : ℕ × List ℕ) (x : Contents) → IsTableOf (IsHeldIn files) n t → contents_reading cmp t.1 ≡ Ok x → IsTableIn cmp files n x
+  table_in n t x loaded read = record {
+    there = subst (λ (b : List ℕ). IsTableAnswer (IsHeldIn files) n (Ok b)) (own_bytes cmp t.1 x read) loaded.1;
+    read = again cmp t.1 x read;
+  }
+
+  -- the tables of numbers, each under its number
+  abbrev pub AreFound : List ℕ → List NumberedContents → Type 0
+  AreFound numbers tables = AllZip (λ (n : ℕ) (t : NumberedContents). (t.number ≡ n) × IsTableIn cmp files n t.contents) numbers tables
+
+  pub found_tables : (numbers : List ℕ) (loaded : List (ℕ × List ℕ)) (tables : List NumberedContents) → AllZip (IsTableOf (IsHeldIn files)) numbers loaded → tables_reading cmp loaded ≡ Ok tables → AreFound numbers tables
+  found_tables [] [] tables h read = subst (λ (ts : List NumberedContents). AreFound [] ts) (ok_is [] tables read) tt
+  found_tables [] (t ∷ loaded) tables h read = absurd h
+  found_tables (n ∷ numbers) [] tables h read = absurd h
+  found_tables (n ∷ numbers) (t ∷ loaded) tables h read =
+      let parts = checked_parts cmp t loaded tables read in
+      subst (AreFound (n ∷ numbers)) parts.whole ((h.0.0, table_in n t parts.contents h.0 parts.read), found_tables numbers loaded parts.behind h.1 parts.rest)
+
+  -- so each table that is found by its number is that of the number
+  pub found_at : (numbers : List ℕ) (tables : List NumberedContents) → AreFound numbers tables → (n : ℕ) (x : Contents) → table_of_number tables n ≡ Some x → IsTableIn cmp files n x
+  found_at [] [] h n x is = absurd (none-some x is)
+  found_at [] (t ∷ tables) h n x is = absurd h
+  found_at (m ∷ numbers) [] h n x is = absurd h
+  found_at (m ∷ numbers) (t ∷ tables) h n x is = by (eqb t.number n) refl (found_at numbers tables h.1 n x) is
+    where
+      by : (b : Bool) → eqb t.number n ≡ b → (table_of_number tables n ≡ Some x → IsTableIn cmp files n x)
+          → option_map (λ (t : NumberedContents). t.contents) (if b then Some t else find (λ (t : NumberedContents). eqb t.number n) tables) ≡ Some x → IsTableIn cmp files n x
+      by true same later found =
+          let number : m ≡ n = sym h.0.0 ∙ eqb-true t.number n same in
+          subst (λ (c : Contents). IsTableIn cmp files n c) (same_Some t.contents x found) (subst (λ (k : ℕ). IsTableIn cmp files k t.contents) number h.0.1)
+      by false other later found = later found

@@ -1,0 +1,17 @@
+use Rattle.std.proofs.Common.{◌≡◌, ◌*◌, ◌≤◌, ◌^◌, map}
+use Rattle.folder.specs.Calls.{Files, Tells}
+use Rattle.folder.specs.Reports.{OnlyReads}
+use Rattle.checks.specs.GroupTest.{AreRangesSound}
+use Rattle.checks.proofs.range_test.test_ranges.Given as goal
+
+-- the ranges so far are sound
+abbrev pub invariant-loop-number : goal.invariant-loop-number
+invariant-loop-number g l =
+    let tells = g.F.Folder.tells in
+    let failed = g.F.Folder.failed in
+    record {
+      sound : (files : Files) → Tells (tells l.fn.folder) files → AreRangesSound g.C.Comparator.cmp files l.next (map (λ f. f.now) l.standing) l.split l.number l.entries;
+      small : l.entries ≤ l.number * 2 ^ 100;
+      reads : OnlyReads g.F.Folder l.fn.folder l.folder;
+      failures : failed l.folder ≡ failed l.fn.folder;
+    }

@@ -1,0 +1,80 @@
+//! Boundaries between ranges of user keys whose tables fit into memory together. Which boundaries
+//! these are changes no answer, so no contract says which.
+
+ghost use Rattle.std.specs.Prelude.{◌≡◌, IfErr};
+ghost use Rattle.coding.specs.Answers.{fault};
+ghost use Rattle.coding.specs.declared.fault.FaultName.TheVariants.{Memory};
+
+use coding::Fault;
+use edit::FileMeta;
+use ikey::Comparator;
+use split::{MAX_BOUNDARIES, Split};
+use std::alloc::Global;
+
+/// A split into ranges so that the tables that reach into a range have at most `memory` bytes
+/// together, as the version states their sizes: more only if they hold the range's first user key,
+/// or if the split has as many boundaries as it may have. The only fault is Memory.
+pub(crate) fn group_split<C: Comparator>(
+    alloc: Global,
+    standing: &[&FileMeta],
+    memory: u64,
+) -> Result<Split<C>, Fault>
+    ensures memory { IfErr result (λ e. e ≡ fault Memory) }
+{
+    let files = by_smallest::<C>(alloc, standing)?;
+    match Split::from_keys(group_ends::<C>(alloc, &files, memory)?) {
+        Ok(split) => Ok(split),
+        Err(_) => Split::from_keys(Vec::new(alloc)),
+    }
+}
+
+/// The files by their smallest user key. The only fault is Memory.
+fn by_smallest<'v, C: Comparator>(
+    alloc: Global,
+    standing: &[&'v FileMeta],
+) -> Result<Vec<&'v FileMeta>, Fault>
+    ensures memory { IfErr result (λ e. e ≡ fault Memory) }
+{
+    let mut files = Vec::from_slice(alloc, standing)?;
+    files.sort_unstable_by(|file, other| C::compare(smallest(file), smallest(other)));
+    Ok(files)
+}
+
+/// The smallest user key of a file.
+fn smallest<'v>(file: &'v FileMeta) -> &'v [u8] {
+    file.smallest.as_key().user()
+}
+
+/// Where each group but the last one ends: at the smallest user key of the first file that doesn't
+/// fit. The files are in the order of those keys. The only fault is Memory.
+fn group_ends<C: Comparator>(
+    alloc: Global,
+    files: &[&FileMeta],
+    memory: u64,
+) -> Result<Vec<Vec<u8>>, Fault>
+    ensures memory { IfErr result (λ e. e ≡ fault Memory) }
+{
+    let mut ends = Vec::<Vec<u8>>::new(alloc);
+    let mut bytes = 0u64;
+    for place in 0..files.len() {
+        let file = files[place];
+        let is_new = place > 0 && C::compare(smallest(files[place - 1]), smallest(file)).is_lt();
+        bytes = bytes.saturating_add(file.size);
+        if is_new && bytes > memory && ends.len() < MAX_BOUNDARIES {
+            ends.push(Vec::from_slice(alloc, smallest(file))?)?;
+            bytes = reaching::<C>(&files[..place], smallest(file)).saturating_add(file.size);
+        }
+    }
+    Ok(ends)
+}
+
+/// How many bytes those of the files have together that don't end before a user key.
+fn reaching<C: Comparator>(files: &[&FileMeta], user: &[u8]) -> u64 {
+    let mut bytes = 0u64;
+    for file in files {
+        if !C::compare(file.largest.as_key().user(), user).is_lt() {
+            bytes = bytes.saturating_add(file.size);
+        }
+    }
+    bytes
+}

@@ -1,0 +1,81 @@
+//! Why the tables of a version are refused.
+
+ghost use Rattle.std.specs.Prelude.{◌≡◌, ◌<◌, ◌≤◌, ◌++◌, ℕ, List, map, IfOk, IfErr};
+ghost use Rattle.coding.specs.Answers.{fault};
+ghost use Rattle.coding.specs.declared.fault.FaultName.TheVariants.{Memory};
+ghost use Rattle.folder.specs.Calls.{Files, Tells};
+ghost use Rattle.folder.specs.OpenAnswer.{FolderAnswers};
+ghost use Rattle.folder.specs.Reports.{OnlyReads, ReportsDevice};
+ghost use Rattle.checks.specs.InOrder.{AreChecked, IsFirstRefusal};
+
+use crate::rounds::check_tables;
+use board::Open;
+use coding::{Fault, FaultName};
+use folder::{Folder, load_numbers};
+use ikey::SharedComparator;
+use std::alloc::Global;
+use std::thread::Threads;
+
+/// How many tables are in memory at once.
+const ROUND: usize = 4;
+
+/// Reads and checks the tables of these numbers in order, four at a time. It only reads.
+///
+/// - Missing: at the first missing table.
+/// - The refusal of the first invalid table, as of `table::check`, if none is missing.
+pub(crate) fn check_in_order<C: SharedComparator, F: Folder, R: Threads + Sync>(
+    rt: &R,
+    alloc: Global,
+    folder: &mut F,
+    numbers: &[u64],
+    workers: u64,
+) -> Result<(), Fault>
+    requires some { 0 < workers }
+    requires few { workers ≤ 64 }
+    ensures answer { (files : Files) → Tells (F.tells folder.old) files →
+        FolderAnswers (λ none. none) (F.failed folder.old) (F.failed folder.new) result
+        (AreChecked C.cmp files numbers.now) }
+    ensures device { ReportsDevice F.Folder folder.old folder.new result }
+    ensures reads { OnlyReads F.Folder folder.old folder.new }
+{
+    let mut first = None;
+    let mut rest = numbers;
+    while !rest.is_empty() {
+        let (round, behind) = rest.split_at(rest.len().min(ROUND));
+        let loaded = load_numbers(alloc, folder, round)?;
+        first = first_refusal::<C, R>(rt, alloc, first, &loaded, workers)?;
+        rest = behind;
+    }
+    match first {
+        Some(refused) => Err(refused),
+        None => Ok(()),
+    }
+}
+
+/// The refusal of the first invalid table, if one is, among those of which `first` is it and these
+/// after them. The only fault is Memory.
+fn first_refusal<C: SharedComparator, R: Threads + Sync>(
+    rt: &R,
+    alloc: Global,
+    first: Option<Fault>,
+    loaded: &[(u64, Vec<u8>)],
+    workers: u64,
+) -> Result<Option<Fault>, Fault>
+    requires some { 0 < workers }
+    requires few { workers ≤ 64 }
+    ensures refusal { IfOk result (λ found. (before : List (ℕ × List ℕ)) →
+        IsFirstRefusal C.cmp before first →
+        IsFirstRefusal C.cmp (before ++ map (λ t. (t.0, t.1.items)) loaded.now) found) }
+    ensures memory { IfErr result (λ e. e ≡ fault Memory) }
+{
+    if first.is_some() {
+        return Ok(first);
+    }
+    match check_tables::<C, Open, R>(rt, alloc, loaded, workers, &Open) {
+        Ok(_) => Ok(None),
+        Err(refused) => match refused.name {
+            FaultName::Memory => Err(Fault::of(FaultName::Memory)),
+            _ => Ok(Some(refused)),
+        },
+    }
+}

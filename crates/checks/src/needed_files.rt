@@ -1,0 +1,76 @@
+//! Which files the test of a range of user keys needs.
+
+ghost use Rattle.std.specs.Prelude.{◌≡◌, filter, map, Ok, IfOk, IfErr};
+ghost use Rattle.std.specs.Option.{option_map};
+ghost use Rattle.coding.specs.Answers.{EqualOrMemory, fault};
+ghost use Rattle.coding.specs.declared.fault.FaultName.TheVariants.{Memory};
+ghost use Rattle.ikey.specs.Key.{user_of};
+ghost use Rattle.split.specs.Ranges.{key_range};
+ghost use Rattle.checks.specs.NeededFiles.{is_needed, is_user_before, starts_in};
+
+use coding::Fault;
+use edit::FileMeta;
+use ikey::{Comparator, InternalKey};
+use split::Range;
+use std::alloc::Global;
+
+/// Those of the files that begin in `range`, or begin before it and don't end before it. The only
+/// fault is Memory.
+pub(crate) fn needed_files<'v, C: Comparator>(
+    alloc: Global,
+    files: &[&'v FileMeta],
+    range: Range<'_>,
+) -> Result<Vec<&'v FileMeta>, Fault>
+    ensures needed { IfOk result (λ v. map (λ f. f.now) v.items
+        ≡ filter (is_needed C.cmp (key_range range.entry)) (map (λ f. f.now) files.now)) }
+    ensures memory { IfErr result (λ e. e ≡ fault Memory) }
+{
+    let mut needed = Vec::new(alloc);
+    for file in files {
+        if is_needed::<C>(file, range) {
+            needed.push(*file)?;
+        }
+    }
+    Ok(needed)
+}
+
+/// The numbers of files. The only fault is Memory.
+pub(crate) fn numbers_of(alloc: Global, files: &[&FileMeta]) -> Result<Vec<u64>, Fault>
+    ensures { EqualOrMemory (λ v. v.items) result (Ok (map (λ f. f.now.number) files.now)) }
+{
+    let mut numbers = Vec::with_capacity(alloc, files.len())?;
+    for file in files {
+        numbers.push(file.number)?;
+    }
+    Ok(numbers)
+}
+
+/// Whether the file begins in `range`. Takes no memory.
+pub(crate) fn starts_in<C: Comparator>(file: &FileMeta, range: Range<'_>) -> bool
+    ensures { result ≡ starts_in C.cmp (key_range range.entry) file.now }
+{
+    let smallest = file.smallest.as_key();
+    let begins = is_before::<C>(smallest, range.upper, true);
+    begins && !is_before::<C>(smallest, range.lower, false)
+}
+
+/// Whether the file begins in `range`, or begins before it and doesn't end before it.
+fn is_needed<C: Comparator>(file: &FileMeta, range: Range<'_>) -> bool
+    ensures { result ≡ is_needed C.cmp (key_range range.entry) file.now }
+{
+    let begins = is_before::<C>(file.smallest.as_key(), range.upper, true);
+    let is_earlier = is_before::<C>(file.smallest.as_key(), range.lower, false);
+    let ends = is_before::<C>(file.largest.as_key(), range.lower, false);
+    begins && (!is_earlier || !ends)
+}
+
+/// Whether the user key of `key` is before `bound`; `otherwise` if there is no bound.
+fn is_before<C: Comparator>(key: InternalKey<'_>, bound: Option<&[u8]>, otherwise: bool) -> bool
+    ensures { result ≡ is_user_before C.cmp (option_map (λ limit. limit.now) bound.entry) otherwise
+        (user_of key.entry.bytes.now) }
+{
+    match bound {
+        Some(limit) => C::compare(key.user(), limit).is_lt(),
+        None => otherwise,
+    }
+}

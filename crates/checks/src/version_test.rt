@@ -1,0 +1,102 @@
+//! The test whether a version is lawful with the tables that a folder holds, in bounded memory.
+
+ghost use Rattle.std.specs.Prelude.{◌<◌, ◌≤◌};
+ghost use Rattle.folder.specs.Calls.{Files, Tells};
+ghost use Rattle.folder.specs.OpenAnswer.{FolderAnswers};
+ghost use Rattle.folder.specs.ReadsAs.{IsHeldIn};
+ghost use Rattle.folder.specs.Reports.{OnlyReads, ReportsDevice};
+ghost use Rattle.checks.specs.GroupTest.{IsSweepAnswer};
+ghost use Rattle.checks.specs.TestedTables.{IsTested};
+
+use crate::file_groups::group_split;
+use crate::first_refusal::check_in_order;
+use crate::range_test::test_ranges;
+use crate::tested::Tested;
+use crate::watch::{Watch, Work};
+use board::Gate;
+use coding::{Fault, FaultName};
+use edit::Version;
+use folder::{Folder, file_numbers};
+use ikey::SharedComparator;
+use reads::standing_files;
+use std::alloc::Global;
+use std::thread::Threads;
+
+/// The most files of a version that is tested.
+const MOST_FILES: usize = 1_099_511_627_776;
+
+/// Tests whether a version is lawful with the tables that a folder holds. It only reads.
+///
+/// The first that applies:
+///
+/// - Missing: at the first missing table, by level and in version order;
+/// - the refusal of the first invalid table, as of `table::check`;
+/// - Lawless: the version isn't lawful, as `reads::lawful` has it.
+///
+/// If the device fails a call, the answer is Device and no further call is made. If memory runs
+/// out, it is Memory; so it is if the version has more than 2^40 files.
+///
+/// The tables in memory have at most `memory` bytes together, if no single user key needs more: a
+/// range of user keys is tested after the other, with the tables that reach into it. No contract
+/// says so. A table that reaches into several ranges is read for each. 1 to 64 workers check the
+/// tables and walk over their entries. If something is wrong, all tables are read again, in order,
+/// for the first refusal.
+///
+/// The work is told to `watch`, which is `&Open` if nobody watches.
+pub fn test_version<C: SharedComparator + 'static, F: Folder, W: Watch + Sync, R: Threads + Sync>(
+    rt: &R,
+    alloc: Global,
+    folder: &mut F,
+    version: &Version,
+    memory: u64,
+    workers: u64,
+    watch: &W,
+) -> Result<Tested, Fault>
+    requires some { 0 < workers }
+    requires few { workers ≤ 64 }
+    ensures answer { (files : Files) → Tells (F.tells folder.old) files →
+        FolderAnswers (λ tested. tested) (F.failed folder.old) (F.failed folder.new) result
+        (IsTested (IsHeldIn files) C.cmp version.now) }
+    ensures device { ReportsDevice F.Folder folder.old folder.new result }
+    ensures reads { OnlyReads F.Folder folder.old folder.new }
+{
+    let numbers = file_numbers::<C>(alloc, version)?;
+    watch.begin(Work::Check, numbers.len() as u64);
+    let found = tested_entries::<C, F, W, R>(rt, alloc, folder, version, memory, workers, watch)?;
+    if let Some(entries) = found {
+        let files = numbers.len();
+        return Ok(Tested { files, entries });
+    }
+    check_in_order::<C, F, R>(rt, alloc, folder, &numbers, workers)?;
+    Err(Fault::of(FaultName::Lawless))
+}
+
+/// How many entries the tables of a version have, if it is lawful with them. Else None. It only
+/// reads.
+fn tested_entries<C: SharedComparator + 'static, F: Folder, G: Gate + Sync, R: Threads + Sync>(
+    rt: &R,
+    alloc: Global,
+    folder: &mut F,
+    version: &Version,
+    memory: u64,
+    workers: u64,
+    gate: &G,
+) -> Result<Option<u128>, Fault>
+    requires some { 0 < workers }
+    requires few { workers ≤ 64 }
+    ensures answer { (files : Files) → Tells (F.tells folder.old) files →
+        FolderAnswers (λ found. found) (F.failed folder.old) (F.failed folder.new) result
+        (IsSweepAnswer C.cmp files version.now) }
+    ensures device { ReportsDevice F.Folder folder.old folder.new result }
+    ensures reads { OnlyReads F.Folder folder.old folder.new }
+{
+    let Some(standing) = standing_files::<C>(alloc, version)? else {
+        return Ok(None);
+    };
+    if standing.len() > MOST_FILES {
+        return Err(Fault::of(FaultName::Memory));
+    }
+    let split = group_split::<C>(alloc, &standing, memory)?;
+    let next = version.next_file();
+    test_ranges::<C, F, G, R>(rt, alloc, folder, &standing, next, &split, workers, gate)
+}

@@ -23,6 +23,9 @@ const TABLE: &[u8] = b"\
     \0\0\x0a\xb0\x5c\x0c\x25\x082\x16\0\0\0\0\0\0\0\0\0\0\0\0\0\0\0\0\0\0\0\0\0\0\0\0\0\0\0\0\0\0\
     \0\0\0\0\0\0W\xfb\x80\x8b\x24uG\xdb";
 
+/// How many bytes of tables are held while a version is tested.
+const MEMORY: u64 = 1_073_741_824;
+
 /// The files of the folder, none of which is synced. File 7 has its older name.
 const FILES: &[(&str, &[u8])] = &[
     ("CURRENT", b"MANIFEST-000005\n"),
@@ -93,7 +96,15 @@ fn is_compacted<R: AllocGlobal + Threads + Sync>(
     shelf: &mut Shelf<'_>,
 ) -> Result<bool, Fault> {
     make_files(shelf)?;
-    compact_dir(rt, rt.alloc(), shelf, 1, &Settings::default(), &Open)?;
+    compact_dir(
+        rt,
+        rt.alloc(),
+        shelf,
+        1,
+        &Settings::default(),
+        MEMORY,
+        &Open,
+    )?;
     Ok(are_calls(shelf.steps()))
 }
 

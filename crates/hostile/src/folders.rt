@@ -24,6 +24,9 @@ const FILES: &[(&str, &[u8])] = &[
     ("000007.ldb", TABLE_U_TWICE),
 ];
 
+/// How many bytes of tables are held while a version is tested.
+const MEMORY: u64 = 1_073_741_824;
+
 /// The lines of the compaction of level 1, which leaves no table.
 const COMPACTED: &[u8] = b"deleted 1 7\ninstalled MANIFEST-000009\n";
 
@@ -116,7 +119,15 @@ fn is_compacted<R: AllocGlobal + Threads + Sync>(
     rt: &R,
     shelf: &mut Shelf<'_>,
 ) -> Result<bool, Fault> {
-    let lines = compact_dir(rt, rt.alloc(), shelf, 1, &Settings::default(), &Open)?;
+    let lines = compact_dir(
+        rt,
+        rt.alloc(),
+        shelf,
+        1,
+        &Settings::default(),
+        MEMORY,
+        &Open,
+    )?;
     Ok(lines.as_slice() == COMPACTED)
 }
 

@@ -16,14 +16,7 @@ use Rattle.reads.specs.Tables.{NumberedContents}
 use Rattle.settings.specs.declared.settings.Settings.{Settings}
 use Rattle.store.specs.AllLevels.{IsDescended}
 use Rattle.store.specs.StepTaken.{IsUntold}
-use Rattle.store.specs.VersionTest.{IsTested}
 use Rattle.store.specs.declared.descent_end.DescentEnd.{DescentEnd}
-use Rattle.store.proofs.Flow.{loaded_in}
-
--- the test over a folder that tells files is one over them
-pub tested_in : (cmp : List ℕ → List ℕ → Ordering) (tells : List ℕ → Option (List ℕ) → Type 0) (files : Files) (v : State) (r : Result (Unit {0}) Fault) → Tells tells files → IsTested cmp tells v r → IsTested cmp (IsHeldIn files) v r
-tested_in cmp tells files v r told (Err d, (l, is)) = (Err d, (loaded_in tells files (file_numbers cmp v) (Err d) told l, is))
-tested_in cmp tells files v r told (Ok loaded, (l, is)) = (Ok loaded, (loaded_in tells files (file_numbers cmp v) (Ok loaded) told l, is))
 
 pub untold_since : {T W : Type 0} (first before after : List Step) (zero old new : List ℕ → Option (List ℕ) → Type 0) (told told_now : W) (P : Fault → Type 0) (r : Result T Fault) → before ≡ first → TellsSame zero old
     → IsUntold before after old new told told_now (λ e. ⊥) r → IsUntold first after zero new told told_now P r

@@ -27,6 +27,10 @@ told_still old new files same tells name held = (λ h. (tells name held).0 ((sam
 turned : (tells : List ℕ → Option (List ℕ) → Type 0) (files : Files) → Tells tells files → TellsSame (IsHeldIn files) tells
 turned tells files h name held = ((h name held).1, (h name held).0)
 
+-- files tell themselves
+pub told_themselves : (files : Files) → Tells (IsHeldIn files) files
+told_themselves files name held = ((λ h. h), (λ h. h))
+
 opened_before : (old new : List ℕ → Option (List ℕ) → Type 0) (r : Result (Order × State) Fault) → TellsSame old new → IsOpened new r → IsOpened old r
 opened_before old new r same (Err e, h) = (Err e, (held_before old new (codes "CURRENT") (codes "CURRENT") (Err e) same refl h.0, h.1))
 opened_before old new r same (Ok current, (h, (Err e, k))) = (Ok current, (held_before old new (codes "CURRENT") (codes "CURRENT") (Ok current) same refl h, (Err e, k)))

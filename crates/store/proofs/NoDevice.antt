@@ -30,7 +30,6 @@ use Rattle.request.specs.OutputTables.{Output, outputs_from, outputs_test}
 use Rattle.request.specs.Request.{RequestView, below_request, has_levels, has_options, has_snapshots, is_snapshot_list, request_test}
 use Rattle.store.specs.Answers.{lines_of}
 use Rattle.store.specs.InputsCompaction.{IsOrderlyAnswer, IsReadCompacted, are_stated, input_tables}
-use Rattle.store.specs.VersionTest.{IsLawfulTest}
 use Rattle.store.specs.FolderRequest.{numbered_request, compaction_of, manifest_of, request_of}
 use Rattle.settings.specs.declared.settings.Settings.{Settings}
 use Rattle.ikey.specs.Comparator.{ShortKeys}
@@ -148,12 +147,6 @@ read_other cmp short_keys v p s loaded e (Ok tables, h) = lines_other cmp short_
 
 pub orderly_other : (cmp : List ℕ → List ℕ → Ordering) (v : State) (e : Fault) → IsOrderlyAnswer cmp v (Err e) → e.name ≢ Device
 orderly_other cmp v e h = λ same. let both = sym (ap (λ (f : Fault). f.name) h.0) ∙ same in cc both
-
--- nor is one of the test of tables
-pub lawful_test_other : (cmp : List ℕ → List ℕ → Ordering) (v : State) (loaded : List (ℕ × List ℕ)) (e : Fault)
-    → IsLawfulTest cmp v loaded (Err e) → e.name ≢ Device
-lawful_test_other cmp v loaded e (Err d, h) = subst (λ (f : Fault). f.name ≢ Device) (sym (same_refusal {Y = Unit {0}} e d h.1)) (sound_other cmp v loaded d h.0)
-lawful_test_other cmp v loaded e (Ok tables, h) = absurd (no_value_refused e h.1)
 
 -- an answer none of whose refusals is Device says nothing of the device
 pub never_failed : {X Y : Type 0} (view : X → Y) (before now : ℕ) (r : Result X Fault) (IsAnswer : Result Y Fault → Type 0) → ((e : Fault) → IsAnswer (Err e) → e.name ≢ Device) → HoldsOrMemory view r IsAnswer → IfErr r (HasDeviceFailed before now)

@@ -33,7 +33,8 @@ use Rattle.store.specs.FolderRequest.{compaction_of, manifest_of}
 use Rattle.store.specs.Lines.{compaction_lines}
 use Rattle.store.specs.declared.loaded_compaction.Ready.{Ready}
 use Rattle.store.specs.StepLeft.{IsStepLeft}
-use Rattle.store.specs.VersionTest.{IsTested}
+use Rattle.checks.specs.TestedTables.{IsTested, tested_of}
+use Rattle.checks.specs.declared.tested.Tested.{Tested}
 use Rattle.store.specs.declared.compaction_step.CompactionStep.{CompactionStep}
 use Rattle.store.proofs.Flow.{loaded_in, no_refusal}
 use Rattle.store.proofs.InstallPart.{Promises, all_made, still, survives_on}
@@ -140,19 +141,19 @@ refusal e = Err e
 same_refusal : {Y : Type 0} (e d : Fault) → refusal {Y = Y} e ≡ refusal d → e ≡ d
 same_refusal e d h = cc
 
-pub has_passed : (cmp : List ℕ → List ℕ → Ordering) (tells : List ℕ → Option (List ℕ) → Type 0) (files : Files) (v : State) → Tells tells files → IsTested cmp tells v (Ok tt) → HasPassed cmp files v
-has_passed cmp tells files v told (Err e, (l, is)) = absurd (no_refusal tt e is)
-has_passed cmp tells files v told (Ok loaded, (l, (Err e, (k, is)))) = absurd (no_refusal tt e is)
-has_passed cmp tells files v told (Ok loaded, (l, (Ok tables, (k, is)))) = record { loaded = loaded; held = loaded_in tells files (file_numbers cmp v) (Ok loaded) told l; tables = tables; sound = k }
+pub has_passed : (cmp : List ℕ → List ℕ → Ordering) (tells : List ℕ → Option (List ℕ) → Type 0) (files : Files) (v : State) (tested : Tested) → Tells tells files → IsTested tells cmp v (Ok tested) → HasPassed cmp files v
+has_passed cmp tells files v tested told (Err e, (l, is)) = absurd (no_refusal tested e is)
+has_passed cmp tells files v tested told (Ok loaded, (l, (Err e, (k, is)))) = absurd (no_refusal tested e is)
+has_passed cmp tells files v tested told (Ok loaded, (l, (Ok tables, (k, is)))) = record { loaded = loaded; held = loaded_in tells files (file_numbers cmp v) (Ok loaded) told l; tables = tables; sound = k }
 
 -- its refusal is that of the compaction
 pub test_refused : (cmp : List ℕ → List ℕ → Ordering) (short_keys : ShortKeys) (tells : List ℕ → Option (List ℕ) → Type 0) (files : Files) (v : State) (level : ℕ) (s : Settings) (e : Fault)
-    → Tells tells files → IsTested cmp tells v (Err e) → IsVersionCompacted cmp short_keys files v level s (Err e)
+    → Tells tells files → IsTested tells cmp v (Err e) → IsVersionCompacted cmp short_keys files v level s (Err e)
 test_refused cmp short_keys tells files v level s e told (Err d, (l, is)) =
-    (Err d, (loaded_in tells files (file_numbers cmp v) (Err d) told l, ap (λ (x : Fault). Err x) (same_refusal {Y = Unit {0}} e d is)))
+    (Err d, (loaded_in tells files (file_numbers cmp v) (Err d) told l, ap (λ (x : Fault). Err x) (same_refusal {Y = Tested} e d is)))
 test_refused cmp short_keys tells files v level s e told (Ok loaded, (l, (Err d, (k, is)))) =
-    (Ok loaded, (loaded_in tells files (file_numbers cmp v) (Ok loaded) told l, (Err d, (k, ap (λ (x : Fault). Err x) (same_refusal {Y = Unit {0}} e d is)))))
-test_refused cmp short_keys tells files v level s e told (Ok loaded, (l, (Ok tables, (k, is)))) = absurd (no_refusal tt e (sym is))
+    (Ok loaded, (loaded_in tells files (file_numbers cmp v) (Ok loaded) told l, (Err d, (k, ap (λ (x : Fault). Err x) (same_refusal {Y = Tested} e d is)))))
+test_refused cmp short_keys tells files v level s e told (Ok loaded, (l, (Ok tables, (k, is)))) = absurd (no_refusal (tested_of tables) e (sym is))
 
 -- ---- what is ready to be installed
 

@@ -24,7 +24,7 @@ use Rattle.store.specs.Compaction.{VersionCompaction}
 use Rattle.store.specs.Descent.{IsBottom, IsNextLevel}
 use Rattle.store.specs.FolderRequest.{last_of}
 use Rattle.store.specs.StepTaken.{IsUntold}
-use Rattle.store.specs.VersionTest.{IsTested}
+use Rattle.checks.specs.TestedTables.{IsTested}
 use Rattle.store.specs.declared.descent_end.DescentEnd.{DescentEnd}
 use Rattle.store.specs.declared.descent_end.DescentEnd.TheVariants.{AtBottom, Stopped}
 
@@ -152,7 +152,7 @@ abbrev pub IsAllLeft : {W : Type 0} → (W → List ℕ → W → Type 0) → Or
 IsAllLeft tells order cmp short_keys s v files before after old new failed now told told_now
     result =
     IsUntold before after old new told told_now
-    (λ e. IsStopped failed now e ⊎ IsTested cmp (IsHeldIn files) v (Err e)) result
+    (λ e. IsStopped failed now e ⊎ IsTested (IsHeldIn files) cmp v (Err e)) result
     ⊎ (IsAtBottom v before after old new told told_now result
     ⊎ ((loaded : List (ℕ × List ℕ)) × (tables : List NumberedContents)
     × ReadsAs cmp order v loaded files × IsLawfulTables cmp v loaded (Ok tables)

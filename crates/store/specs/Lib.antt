@@ -10,7 +10,6 @@ pub mod OpenedAfter
 pub mod Joint
 pub mod Descent
 pub mod StepTaken
-pub mod VersionTest
 pub mod AllLevels
 -- serves proofs alone
 pub mod CallRun

@@ -13,11 +13,11 @@ ghost use Rattle.folder.specs.Orders.{order_cmp, order_short_keys};
 ghost use Rattle.folder.specs.ReadsAs.{IsHeldIn, ReadsAs};
 ghost use Rattle.folder.specs.Reports.{OnlyReads, ReportsDevice};
 ghost use Rattle.reads.specs.Tables.{NumberedContents};
+ghost use Rattle.checks.specs.TestedTables.{IsTested};
 ghost use Rattle.store.specs.AllLevels.{IsAllLeft, IsDescended};
 ghost use Rattle.store.specs.Descent.{IsBottom, IsNextLevel};
 ghost use Rattle.store.specs.OpenedAfter.{IsOpenedAfter};
 ghost use Rattle.store.specs.StepTaken.{IsStepTaken, IsUntold};
-ghost use Rattle.store.specs.VersionTest.{IsTested};
 
 use crate::compaction_step::CompactionStep;
 use crate::descent::{bottom, next_level};
@@ -26,8 +26,7 @@ use crate::input_compaction::compact_inputs;
 use crate::install_laws::inputs_suffice;
 use crate::install_watch::InstallWatch;
 use crate::next_opened::opened_after;
-use crate::version_test::test_version;
-use checks::Watch;
+use checks::{CHECKERS, Tested, Watch, test_version};
 use coding::{Fault, FaultName};
 use edit::Version;
 use folder::{Folder, Opened, Order};
@@ -45,6 +44,7 @@ pub fn compact_all<F: Folder, T: InstallWatch, W: Watch + Sync, R: Threads + Syn
     folder: &mut F,
     opened: Opened,
     settings: &Settings<'_>,
+    memory: u64,
     watch: &W,
     told: &mut T,
 ) -> Result<DescentEnd, Fault>
@@ -63,7 +63,7 @@ pub fn compact_all<F: Folder, T: InstallWatch, W: Watch + Sync, R: Threads + Syn
     if is_at_bottom(alloc, &opened.version)? {
         return Ok(DescentEnd::AtBottom);
     }
-    test_opened(rt, alloc, folder, &opened, watch)?;
+    test_opened(rt, alloc, folder, &opened, memory, watch)?;
     compact_levels(rt, alloc, folder, opened, settings, watch, told)
 }
 
@@ -188,16 +188,22 @@ fn test_opened<F: Folder, W: Watch + Sync, R: Threads + Sync>(
     alloc: Global,
     folder: &mut F,
     opened: &Opened,
+    memory: u64,
     watch: &W,
-) -> Result<(), Fault>
-    ensures answer { FolderAnswers (λ u. u) (F.failed folder.old) (F.failed folder.new) result
-        (IsTested (order_cmp opened.now.order) (F.tells folder.old) opened.now.version) }
+) -> Result<Tested, Fault>
+    ensures answer { (files : Files) → Tells (F.tells folder.old) files →
+        FolderAnswers (λ tested. tested) (F.failed folder.old) (F.failed folder.new) result
+        (IsTested (IsHeldIn files) (order_cmp opened.now.order) opened.now.version) }
     ensures device { ReportsDevice F.Folder folder.old folder.new result }
     ensures reads { OnlyReads F.Folder folder.old folder.new }
 {
     let version = &opened.version;
     match opened.order {
-        Order::Bytewise => test_version::<Bytewise, F, W, R>(rt, alloc, folder, version, watch),
-        Order::Shortlex => test_version::<Shortlex, F, W, R>(rt, alloc, folder, version, watch),
+        Order::Bytewise => test_version::<Bytewise, F, W, R>(
+            rt, alloc, folder, version, memory, CHECKERS, watch,
+        ),
+        Order::Shortlex => test_version::<Shortlex, F, W, R>(
+            rt, alloc, folder, version, memory, CHECKERS, watch,
+        ),
     }
 }

@@ -15,8 +15,7 @@ ghost use Rattle.store.specs.Compaction.{IsFolderLeft, IsVersionLeft};
 use crate::input_compaction::compact_step;
 use crate::install_laws::inputs_suffice;
 use crate::version_sync::sync_version;
-use crate::version_test::test_version;
-use checks::Watch;
+use checks::{CHECKERS, Watch, test_version};
 use coding::Fault;
 use folder::{Folder, Opened, Order, open};
 use ikey::{Bytewise, SharedComparator, Shortlex};
@@ -63,6 +62,7 @@ pub fn compact_dir<F: Folder, W: Watch + Sync, R: Threads + Sync>(
     folder: &mut F,
     level: u64,
     settings: &Settings<'_>,
+    memory: u64,
     watch: &W,
 ) -> Result<Vec<u8>, Fault>
     // If the folder tells these files: the lines, or the first refusal in this order.
@@ -78,7 +78,7 @@ pub fn compact_dir<F: Folder, W: Watch + Sync, R: Threads + Sync>(
 {
     let opened = open(alloc, folder)?;
     sync_version(alloc, folder, &opened)?;
-    compact_opened(rt, alloc, folder, &opened, level, settings, watch)
+    compact_opened(rt, alloc, folder, &opened, level, settings, memory, watch)
 }
 
 /// Compacts a `level` of what a folder was `opened` as, and installs the outcome: what
@@ -94,6 +94,7 @@ pub fn compact_opened<F: Folder, W: Watch + Sync, R: Threads + Sync>(
     opened: &Opened,
     level: u64,
     settings: &Settings<'_>,
+    memory: u64,
     watch: &W,
 ) -> Result<Vec<u8>, Fault>
     // If the folder tells files, and CURRENT is the one that was opened.
@@ -116,10 +117,14 @@ pub fn compact_opened<F: Folder, W: Watch + Sync, R: Threads + Sync>(
 {
     match opened.order {
         Order::Bytewise => {
-            compact_version::<Bytewise, F, W, R>(rt, alloc, folder, opened, level, settings, watch)
+            compact_version::<Bytewise, F, W, R>(
+                rt, alloc, folder, opened, level, settings, memory, watch,
+            )
         }
         Order::Shortlex => {
-            compact_version::<Shortlex, F, W, R>(rt, alloc, folder, opened, level, settings, watch)
+            compact_version::<Shortlex, F, W, R>(
+                rt, alloc, folder, opened, level, settings, memory, watch,
+            )
         }
     }
 }
@@ -133,6 +138,7 @@ fn compact_version<C: SharedComparator + 'static, F: Folder, W: Watch + Sync, R:
     opened: &Opened,
     level: u64,
     settings: &Settings<'_>,
+    memory: u64,
     watch: &W,
 ) -> Result<Vec<u8>, Fault>
     requires { length C.name_bytes < 2 ^ 32 }
@@ -152,7 +158,8 @@ fn compact_version<C: SharedComparator + 'static, F: Folder, W: Watch + Sync, R:
     ensures device { ReportsDevice F.Folder folder.old folder.new result }
 {
     inputs_suffice::<C>();
-    test_version::<C, F, W, R>(rt, alloc, folder, &opened.version, watch)?;
+    let version = &opened.version;
+    test_version::<C, F, W, R>(rt, alloc, folder, version, memory, CHECKERS, watch)?;
     let step = compact_step::<C, F, W, R>(rt, alloc, folder, opened, level, settings, watch)?;
     Ok(step.lines)
 }

@@ -32,7 +32,6 @@ mod loaded_compaction;
 mod next_opened;
 mod version_files;
 mod version_sync;
-mod version_test;
 
 pub use all_levels::{compact_all, compact_levels};
 pub use board::Open;

@@ -3,7 +3,7 @@
 use crate::explanations::in_words;
 use crate::folder_locks::locked_to_change;
 use crate::folder_refusal::compaction_explained;
-use crate::folder_work::{begin_work, open_folder, print_lines, read_ahead, refused_at};
+use crate::folder_work::{begin_work, bytes_of, open_folder, print_lines, refused_at};
 use crate::progress_line::ProgressLine;
 use crate::refusal::Refusal;
 use crate::reporter::{Telling, tell_time};
@@ -91,7 +91,8 @@ fn compact_one<R: SystemFiles + WholeFiles + Print + Eprint + Clock + AllocGloba
     let lines = if testing.is_skipped {
         inputs_compacted(rt, telling, opened, level, settings)?
     } else {
-        tested_compacted(rt, telling, opened, level, settings)?
+        let memory = bytes_of(testing.memory);
+        tested_compacted(rt, telling, opened, level, settings, memory)?
     };
     tell_step(rt, level, begun);
     let levels = Levels::One(level);
@@ -138,9 +139,10 @@ fn tested_compacted<R: SystemFiles + WholeFiles + Eprint + Clock + AllocGlobal +
     opened: &Opened,
     level: u64,
     settings: &Settings<'_>,
+    memory: u64,
 ) -> Result<Vec<u8>, Refusal> {
     let progress = ProgressLine::new(rt, telling.is_watched);
-    let mut folder = read_ahead(rt, telling.folder, opened);
+    let mut folder = Disk::new(rt, telling.folder);
     let answer = compact_opened(
         rt,
         rt.alloc(),
@@ -148,6 +150,7 @@ fn tested_compacted<R: SystemFiles + WholeFiles + Eprint + Clock + AllocGlobal +
         opened,
         level,
         settings,
+        memory,
         &progress,
     );
     progress.erase();
@@ -212,13 +215,14 @@ fn compact_all<R: SystemFiles + WholeFiles + Print + Eprint + Clock + AllocGloba
             &mut steps,
         )
     } else {
-        folder.read_ahead(opened.order, &opened.version);
+        let memory = bytes_of(testing.memory);
         store::compact_all(
             rt,
             alloc,
             &mut folder,
             opened,
             settings,
+            memory,
             &progress,
             &mut steps,
         )

@@ -15,6 +15,9 @@ use std::io::Write;
 use std::thread::Threads;
 use std::time::Clock;
 
+/// The bytes of a MiB.
+const MEBIBYTE: u64 = 1 << 20;
+
 /// Prints the version of a folder.
 pub(crate) fn print_version<R: SystemFiles + Print + Eprint + Clock + AllocGlobal>(
     rt: &R,
@@ -203,4 +206,9 @@ pub(crate) fn print_lines<R: Print + AllocGlobal>(rt: &R, lines: &[u8]) -> Resul
 /// The refusal that the standard output can't be written.
 pub(crate) fn unwritten(alloc: Global, error: &io::Error) -> Refusal {
     Refusal::of_call(alloc, "standard output", "write", error)
+}
+
+/// How many bytes these MiB are.
+pub(crate) fn bytes_of(mebibytes: u64) -> u64 {
+    mebibytes.saturating_mul(MEBIBYTE)
 }

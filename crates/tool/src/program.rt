@@ -5,7 +5,8 @@ use crate::compaction_work::compact_folder;
 use crate::explanations::in_words;
 use crate::files;
 use crate::folder_work::{
-    print_lines, print_unverified_value, print_value, print_verdict, print_version, unwritten,
+    bytes_of, print_lines, print_unverified_value, print_value, print_verdict, print_version,
+    unwritten,
 };
 use crate::refusal::Refusal;
 use crate::reporter::Telling;
@@ -25,9 +26,6 @@ const DONE: u8 = 0;
 
 /// The status of a fault of usage.
 const USAGE: u8 = 2;
-
-/// The bytes of a MiB.
-const MEBIBYTE: u64 = 1 << 20;
 
 /// What is told to be refused if no command is known.
 const COMMAND_LINE: &str = "the command line";
@@ -114,11 +112,6 @@ fn carry_out<R: SystemFiles + WholeFiles + Print + Eprint + Clock + AllocGlobal 
             }
         }
     }
-}
-
-/// How many bytes these MiB are.
-fn bytes_of(mebibytes: u64) -> u64 {
-    mebibytes.saturating_mul(MEBIBYTE)
 }
 
 /// The path that a command line is about: the folder, the table or the first block.

@@ -17,6 +17,9 @@ use store::{
     opened_after,
 };
 
+/// How many bytes of tables are held while a version is tested.
+const MEMORY: u64 = 1_073_741_824;
+
 /// These bytes, or `others` if they are empty.
 fn or(bytes: &'static [u8], others: &'static [u8]) -> &'static [u8] {
     if bytes.is_empty() { others } else { bytes }
@@ -38,7 +41,15 @@ fn answer_of<R: AllocGlobal + Threads + Sync>(
     folder: &mut Shelf<'_>,
     row: &Row,
 ) -> Result<Vec<u8>, Fault> {
-    compact_dir(rt, rt.alloc(), folder, row.level, &row.settings, &Open)
+    compact_dir(
+        rt,
+        rt.alloc(),
+        folder,
+        row.level,
+        &row.settings,
+        MEMORY,
+        &Open,
+    )
 }
 
 /// Whether an answer is this text, or this refusal.
@@ -142,7 +153,16 @@ fn is_descent<R: AllocGlobal + Threads + Sync>(rt: &R, row: &Descent) -> Result<
         lines: Vec::new(alloc),
         left: *most,
     };
-    let answer = compact_all(rt, alloc, &mut folder, opened, &DEFAULTS, &Open, &mut told);
+    let answer = compact_all(
+        rt,
+        alloc,
+        &mut folder,
+        opened,
+        &DEFAULTS,
+        MEMORY,
+        &Open,
+        &mut told,
+    );
     let is_end = match (answer, end) {
         (Ok(is), Ok(wanted)) => is == *wanted,
         (Err(fault), Err(name)) => fault == Fault::of(*name),

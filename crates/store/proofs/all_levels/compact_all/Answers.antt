@@ -1,18 +1,17 @@
 use Rattle.std.proofs.Common.{◌⊎◌, Err, Ok, Result, refl, inl, inr}
-use Rattle.coding.proofs.Refusals.{unless_from}
 use Rattle.folder.proofs.CountLemmas.{steady}
 use Rattle.folder.proofs.ReportLemmas.{reports_handed, reports_steady, reports_then}
 use Rattle.folder.specs.OpenAnswer.{IsStopped}
 use Rattle.folder.specs.Orders.{order_cmp, order_short_keys}
 use Rattle.folder.specs.ReadsAs.{IsHeldIn, ReadsAs}
-use Rattle.store.specs.VersionTest.{IsTested}
+use Rattle.checks.specs.TestedTables.{IsTested}
 use Rattle.coding.specs.Answers.{UnlessMemory}
 use Rattle.coding.specs.declared.fault.Fault.{Fault}
 use Rattle.store.specs.declared.descent_end.DescentEnd.{DescentEnd}
 use Rattle.store.specs.declared.descent_end.DescentEnd.TheVariants.{AtBottom}
 use Rattle.store.proofs.Descending.{by_memory, same_tells}
-use Rattle.store.proofs.DescendingSince.{descended_since, tested_in, untold_since}
-use Rattle.store.proofs.Flow.{no_value, told_still}
+use Rattle.store.proofs.DescendingSince.{descended_since, untold_since}
+use Rattle.store.proofs.Flow.{no_value, told_still, told_themselves}
 use Rattle.store.proofs.NoDevice.{handed_memory}
 use Rattle.store.proofs.StepPart.{has_passed, refused_err}
 use Rattle.store.proofs.all_levels.compact_all.Goals as goal
@@ -28,8 +27,7 @@ returns-in_err-test_opened-clause-left g c files told current opened =
       unchanged = record { calls = c.test_opened.ensures.reads.calls; same = c.test_opened.ensures.reads.same; refused = no_value c.from_residual-in_err-test_opened.result _ h };
       same = refl;
       reason = refused_err c.from_residual-in_err-test_opened.result e _ h
-          (unless_from e (IsStopped (failed c.args.folder.now) (failed c.test_opened.new.folder) e ⊎ IsTested (order_cmp o.order) tells o.version (Err e)) (IsStopped (failed c.args.folder.now) (failed c.test_opened.new.folder) e ⊎ IsTested (order_cmp o.order) (IsHeldIn files) o.version (Err e))
-          (λ r. elim r [ inl stopped ↦ inl stopped | inr refused ↦ inr (tested_in (order_cmp o.order) tells files o.version (Err e) told refused) ]) c.in_err-test_opened.ensures.answer);
+          (c.in_err-test_opened.ensures.answer files told);
     })
 
 pub returns-in_err-test_opened-clause-device : goal.returns-in_err-test_opened-clause-device
@@ -42,9 +40,9 @@ returns-clause-left g c files told current opened =
     let tells = g.F.Folder.tells in
     let failed = g.F.Folder.failed in
     let cmp = order_cmp o.order in
-    let passed = has_passed cmp (tells c.args.folder.now) files o.version told c.in_ok-test_opened.ensures.answer in
+    let passed = has_passed cmp (IsHeldIn files) files o.version _ (told_themselves files) (c.in_ok-test_opened.ensures.answer files told) in
     let reads : ReadsAs cmp o.order o.version passed.loaded files = record { opened = opened; loaded = passed.held } in
-    let count = steady (failed c.args.folder.now) (failed c.args.folder.now) (failed c.test_opened.new.folder) tt c.test_opened.result c.in_ok-test_opened.was refl c.test_opened.ensures.device.later c.test_opened.ensures.device.at_once in
+    let count = steady (failed c.args.folder.now) (failed c.args.folder.now) (failed c.test_opened.new.folder) _ c.test_opened.result c.in_ok-test_opened.was refl c.test_opened.ensures.device.later c.test_opened.ensures.device.at_once in
     elim (c.compact_levels.ensures.left files passed.loaded passed.tables (told_still (tells c.args.folder.now) (tells c.test_opened.new.folder) files c.test_opened.ensures.reads.same told) current reads passed.sound) [
       | inl u ↦ inl (untold_since (calls c.args.folder.now) (calls c.test_opened.new.folder) (calls c.compact_levels.new.folder) (tells c.args.folder.now) (tells c.test_opened.new.folder) (tells c.compact_levels.new.folder) _ _ _ c.compact_levels.result c.test_opened.ensures.reads.calls c.test_opened.ensures.reads.same u)
       | inr d ↦ inr (inr (
@@ -66,7 +64,7 @@ returns-in_err-is_at_bottom-clause-left g c files told current opened =
     let failed = g.F.Folder.failed in
     let e = c.in_err-is_at_bottom.field-0.0 in
     let h = c.from_residual.ensures.1 in
-    let why : Fault → Type 0 = λ x. IsStopped (failed c.args.folder.now) (failed c.args.folder.now) x ⊎ IsTested (order_cmp o.order) (IsHeldIn files) o.version (Err x) in
+    let why : Fault → Type 0 = λ x. IsStopped (failed c.args.folder.now) (failed c.args.folder.now) x ⊎ IsTested (IsHeldIn files) (order_cmp o.order) o.version (Err x) in
     inl (record {
       unchanged = record { calls = refl; same = same_tells (g.F.Folder.tells c.args.folder.now); refused = no_value c.from_residual.result _ h };
       same = refl;

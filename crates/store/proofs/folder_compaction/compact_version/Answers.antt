@@ -3,12 +3,12 @@ use Rattle.std.specs.Global.{Vec}
 use Rattle.coding.specs.declared.fault.Fault.{Fault}
 use Rattle.folder.proofs.OpeningLemmas.{hands_on}
 use Rattle.folder.proofs.ReportLemmas.{reports_after, reports_handed, reports_then}
-use Rattle.folder.specs.ReadsAs.{ReadsAs}
+use Rattle.folder.specs.ReadsAs.{IsHeldIn, ReadsAs}
 use Rattle.store.specs.Answers.{IsVersionCompacted}
 use Rattle.store.specs.InputsCompaction.{IsInputsCompacted}
-use Rattle.store.specs.VersionTest.{IsTested}
+use Rattle.checks.specs.TestedTables.{IsTested}
 use Rattle.store.specs.declared.compaction_step.CompactionStep.{CompactionStep}
-use Rattle.store.proofs.Flow.{no_value, told_still}
+use Rattle.store.proofs.Flow.{no_value, told_still, told_themselves}
 use Rattle.store.proofs.InstallPart.{refused_ok, refused_on}
 use Rattle.store.proofs.StepPart.{has_passed, refused_err, test_refused, version_left}
 use Rattle.store.proofs.folder_compaction.compact_version.Goals as goal
@@ -20,10 +20,10 @@ returns-in_err-test_version-clause-answer g c files told current =
     let tells = g.F.Folder.tells c.args.folder.now in
     let failed = g.F.Folder.failed in
     let e = c.in_err-test_version.field-0.0 in
-    hands_on (λ v. v.items) (failed c.args.folder.now) (failed c.args.folder.now) (failed c.test_version.new.folder) c.from_residual.result e (IsTested cmp tells v)
+    hands_on (λ v. v.items) (failed c.args.folder.now) (failed c.args.folder.now) (failed c.test_version.new.folder) c.from_residual.result e (IsTested (IsHeldIn files) cmp v)
     (IsVersionCompacted cmp g.C.Comparator.short_keys files v c.args.level c.args.settings.now)
-    c.from_residual.ensures.1 (omega arith) c.test_version.ensures.device.later c.in_err-test_version.ensures.answer
-    (λ h. test_refused cmp g.C.Comparator.short_keys tells files v c.args.level c.args.settings.now e told h)
+    c.from_residual.ensures.1 (omega arith) c.test_version.ensures.device.later (c.in_err-test_version.ensures.answer files told)
+    (λ h. test_refused cmp g.C.Comparator.short_keys (IsHeldIn files) files v c.args.level c.args.settings.now e (told_themselves files) h)
 
 pub returns-in_err-test_version-clause-left : goal.returns-in_err-test_version-clause-left
 returns-in_err-test_version-clause-left g c files order told current named opened =
@@ -43,7 +43,7 @@ returns-in_err-step-clause-answer g c files told current =
     let tells = g.F.Folder.tells in
     let failed = g.F.Folder.failed in
     let e = c.in_err-step.field-0.0 in
-    let passed = has_passed cmp (tells c.args.folder.now) files v told c.in_ok-test_version.ensures.answer in
+    let passed = has_passed cmp (IsHeldIn files) files v _ (told_themselves files) (c.in_ok-test_version.ensures.answer files told) in
     let still = told_still (tells c.args.folder.now) (tells c.test_version.new.folder) files c.test_version.ensures.reads.same told in
     hands_on (λ v. v.items) (failed c.args.folder.now) (failed c.test_version.new.folder) (failed c.compact_step.new.folder) c.from_residual-in_err-step.result e
     (IsInputsCompacted cmp g.C.Comparator.short_keys files v c.args.level s) (IsVersionCompacted cmp g.C.Comparator.short_keys files v c.args.level s)
@@ -59,7 +59,7 @@ returns-in_err-step-clause-left g c files order told current named opened =
     let q = c.from_residual-in_err-step.result in
     let e = c.in_err-step.field-0.0 in
     let h = c.from_residual-in_err-step.ensures.1 in
-    let passed = has_passed cmp (tells c.args.folder.now) files v told c.in_ok-test_version.ensures.answer in
+    let passed = has_passed cmp (IsHeldIn files) files v _ (told_themselves files) (c.in_ok-test_version.ensures.answer files told) in
     let still = told_still (tells c.args.folder.now) (tells c.test_version.new.folder) files c.test_version.ensures.reads.same told in
     let reads : ReadsAs cmp order v passed.loaded files = record { opened = opened; loaded = passed.held } in
     version_left order cmp g.C.Comparator.short_keys files v passed.loaded c.args.level c.args.settings.now
@@ -82,7 +82,7 @@ returns-clause-answer g c files told current =
     let v = c.args.opened.now.version in
     let s = c.args.settings.now in
     let tells = g.F.Folder.tells in
-    let passed = has_passed cmp (tells c.args.folder.now) files v told c.in_ok-test_version.ensures.answer in
+    let passed = has_passed cmp (IsHeldIn files) files v _ (told_themselves files) (c.in_ok-test_version.ensures.answer files told) in
     let still = told_still (tells c.args.folder.now) (tells c.test_version.new.folder) files c.test_version.ensures.reads.same told in (
       Ok passed.loaded,
       (
@@ -98,7 +98,7 @@ returns-clause-left g c files order told current named opened =
     let calls = g.F.Folder.calls in
     let tells = g.F.Folder.tells in
     let q : Result (Vec ℕ) Fault = Ok c.in_ok-step.step.lines in
-    let passed = has_passed cmp (tells c.args.folder.now) files v told c.in_ok-test_version.ensures.answer in
+    let passed = has_passed cmp (IsHeldIn files) files v _ (told_themselves files) (c.in_ok-test_version.ensures.answer files told) in
     let still = told_still (tells c.args.folder.now) (tells c.test_version.new.folder) files c.test_version.ensures.reads.same told in
     let reads : ReadsAs cmp order v passed.loaded files = record { opened = opened; loaded = passed.held } in
     version_left order cmp g.C.Comparator.short_keys files v passed.loaded c.args.level c.args.settings.now

@@ -3,6 +3,7 @@
 use crate::explanations::in_words;
 use crate::folder_locks::{locked_to_change, locked_to_read};
 use crate::folder_refusal::{compaction_explained, explained};
+use crate::installed_steps::InstalledSteps;
 use crate::progress_line::ProgressLine;
 use crate::refusal::Refusal;
 use crate::reporter::{Telling, tell_time};
@@ -11,14 +12,15 @@ use account::text;
 use coding::{Fault, FaultName};
 use commands::{Question, answer_opened, manifest_lines};
 use diagnostics::account_of;
-use folder::{Disk, Opened, SystemFiles, WholeFiles, open};
+use edit::Version;
+use folder::{Disk, Opened, Order, SystemFiles, WholeFiles, open};
 use settings::Settings;
 use std::alloc::Global;
 use std::io;
 use std::io::Write;
 use std::thread::Threads;
 use std::time::Clock;
-use store::{bottom, compact_opened, next_level, sync_version};
+use store::{compact_all, compact_opened, sync_version};
 use usage::Levels;
 
 /// Prints the version of a folder.
@@ -128,7 +130,7 @@ fn compact_levels<
     sync(rt, telling.folder, &opened)?;
     match levels {
         Levels::One(level) => compact_one(rt, telling, &opened, level, settings),
-        Levels::All => compact_all(rt, telling, opened, settings),
+        Levels::All => compact_descent(rt, telling, opened, settings),
     }
 }
 
@@ -143,46 +145,45 @@ fn compact_one<R: SystemFiles + WholeFiles + Print + Eprint + Clock + AllocGloba
     compact_level(rt, telling, opened, level, settings)?;
     if telling.is_explaining {
         let after = open_folder(rt, telling.folder);
-        explain(rt, telling.folder, opened, &after, level, settings.ranges);
-    }
-    Ok(())
-}
-
-/// Compacts the first level that has a file, again and again, until all files are at the bottom.
-/// What the folder is opened as after a compaction is where the next one starts.
-fn compact_all<R: SystemFiles + WholeFiles + Print + Eprint + Clock + AllocGlobal + Threads + Sync>(
-    rt: &R,
-    telling: Telling<'_>,
-    first: Opened,
-    settings: &Settings<'_>,
-) -> Result<(), Refusal> {
-    let bottom = bottom(rt.alloc(), &first.version)?;
-    let mut opened = first;
-    for _ in 0..u64::MAX {
-        let Some(level) = next_level(rt.alloc(), &opened.version, bottom)? else {
-            break;
+        let after = match &after {
+            Ok(opened) => Ok(&opened.version),
+            Err(refusal) => Err(refusal.fault),
         };
-        opened = compact_step(rt, telling, &opened, level, settings)?;
+        let (folder, ranges) = (telling.folder, settings.ranges);
+        explain(
+            rt,
+            folder,
+            opened.order,
+            &opened.version,
+            after,
+            level,
+            ranges,
+        );
     }
     Ok(())
 }
 
-/// Compacts a level of a folder, and answers what the folder is opened as after it.
-fn compact_step<
+/// Compacts all levels of a folder, one after the other. Its tables are tested once.
+fn compact_descent<
     R: SystemFiles + WholeFiles + Print + Eprint + Clock + AllocGlobal + Threads + Sync,
->(
-    rt: &R,
-    telling: Telling<'_>,
-    opened: &Opened,
-    level: u64,
-    settings: &Settings<'_>,
-) -> Result<Opened, Refusal> {
-    compact_level(rt, telling, opened, level, settings)?;
-    let after = open_folder(rt, telling.folder);
-    if telling.is_explaining {
-        explain(rt, telling.folder, opened, &after, level, settings.ranges);
-    }
-    after
+>(rt: &R, telling: Telling<'_>, opened: Opened, settings: &Settings<'_>) -> Result<(), Refusal> {
+    let progress = ProgressLine::new(rt, telling.is_watched);
+    let mut folder = read_ahead(rt, telling.folder, &opened);
+    let ranges = settings.ranges;
+    let mut steps = InstalledSteps::new(rt, telling, &progress, opened.order, ranges);
+    let alloc = rt.alloc();
+    let ended = compact_all(
+        rt,
+        alloc,
+        &mut folder,
+        opened,
+        settings,
+        &progress,
+        &mut steps,
+    );
+    progress.erase();
+    ended.map_err(|fault| refused_at(rt, telling.folder, &folder, fault))?;
+    steps.ended()
 }
 
 /// Syncs what a folder was opened as, so that it outlives a crash.
@@ -222,7 +223,7 @@ fn compact_level<
 }
 
 /// The refusal that a compaction's lines can't be written. It is installed by then.
-fn unprinted(alloc: Global, refusal: Refusal) -> Refusal {
+pub(crate) fn unprinted(alloc: Global, refusal: Refusal) -> Refusal {
     let told = String::from_str(
         alloc,
         "the version is installed, but its lines could not be written",
@@ -284,17 +285,18 @@ fn read_ahead<'r, R: SystemFiles + WholeFiles + AllocGlobal + Threads>(
     folder
 }
 
-/// Tells the account of the compaction of a level, from what the folder was opened as before it and
-/// after it. If it can't be told, nothing else changes.
-fn explain<R: SystemFiles + Eprint + AllocGlobal>(
+/// Tells the account of the compaction of a level, from the version before it and the one after it,
+/// or why that isn't known. If it can't be told, nothing else changes.
+pub(crate) fn explain<R: SystemFiles + Eprint + AllocGlobal>(
     rt: &R,
     folder: &str,
-    before: &Opened,
-    after: &Result<Opened, Refusal>,
+    order: Order,
+    before: &Version,
+    after: Result<&Version, Fault>,
     level: u64,
     ranges: u64,
 ) {
-    match explanation(rt, folder, before, after, level, ranges) {
+    match explanation(rt, folder, order, before, after, level, ranges) {
         Ok(lines) => {
             let _ = rt.eprint(lines.as_str());
         }
@@ -309,24 +311,16 @@ fn explain<R: SystemFiles + Eprint + AllocGlobal>(
 fn explanation<R: SystemFiles + AllocGlobal>(
     rt: &R,
     folder: &str,
-    before: &Opened,
-    after: &Result<Opened, Refusal>,
+    order: Order,
+    before: &Version,
+    after: Result<&Version, Fault>,
     level: u64,
     ranges: u64,
 ) -> Result<String, Fault> {
-    let account = match after {
-        Ok(after) => account_of(
-            rt.alloc(),
-            &mut Disk::new(rt, folder),
-            before.order,
-            &before.version,
-            &after.version,
-            level,
-            ranges,
-        )?,
-        Err(refusal) => return Err(refusal.fault),
-    };
-    text(rt.alloc(), &account)
+    let alloc = rt.alloc();
+    let mut disk = Disk::new(rt, folder);
+    let account = account_of(alloc, &mut disk, order, before, after?, level, ranges)?;
+    text(alloc, &account)
 }
 
 /// Writes lines to the standard output.

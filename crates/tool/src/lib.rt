@@ -12,6 +12,7 @@ mod files;
 mod folder_locks;
 mod folder_refusal;
 mod folder_work;
+mod installed_steps;
 mod logs;
 mod program;
 mod progress_line;

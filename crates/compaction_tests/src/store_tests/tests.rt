@@ -122,6 +122,7 @@ fn inputs_that_are_compacted_alone(rt: HostRuntime) {
 }
 
 /// Who collects the lines of compactions, and stops after some.
+#[derive(Drop)]
 struct Collected {
     lines: Vec<u8>,
     left: u64,

@@ -1,3 +1,2 @@
 mod ShowingLemmas
-mod TableSizes
 mod FolderLineLemmas

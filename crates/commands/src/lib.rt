@@ -11,7 +11,6 @@
 #![tactic(auto)]
 
 mod descent;
-mod entry_counts;
 mod exit_status;
 mod folder_commands;
 mod folder_get;

@@ -286,8 +286,8 @@ fn answer<R: AllocGlobal + Threads + Sync>(
     let alloc = rt.alloc();
     match call {
         Call::Manifest => manifest(alloc, folder),
-        Call::Verify => verify(rt, alloc, folder, &Open),
-        Call::Get(key, at) => get_dir(rt, alloc, folder, key, *at, &Open),
+        Call::Verify => verify(rt, alloc, folder, 1 << 30, &Open),
+        Call::Get(key, at) => get_dir(rt, alloc, folder, key, *at, 1 << 30, &Open),
         Call::RefusedFile => first_refusal(alloc, folder),
         Call::Logs => replayed_logs(alloc, folder),
         Call::Account(before, level) => explained(alloc, files_of(*before), folder, *level),

@@ -6,7 +6,7 @@ use crate::folder_refusal::{compaction_explained, explained};
 use crate::progress_line::ProgressLine;
 use crate::refusal::Refusal;
 use crate::reporter::{Telling, tell_time};
-use crate::table_sizes::sizes_tested;
+use crate::table_sizes::{are_within, sizes_tested};
 use account::text;
 use coding::{Fault, FaultName};
 use commands::{Question, answer_opened, bottom, manifest_lines, next_level};
@@ -20,6 +20,9 @@ use std::thread::Threads;
 use std::time::Clock;
 use store::{compact_opened, sync_version};
 use usage::Levels;
+
+/// How many bytes of tables `verify` has in memory at once, if no single user key needs more.
+const MEMORY: u64 = 1 << 30;
 
 /// Prints the version of a folder.
 pub(crate) fn print_version<R: SystemFiles + Print + Eprint + Clock + AllocGlobal>(
@@ -95,7 +98,12 @@ fn answered<R: SystemFiles + WholeFiles + Eprint + Clock + AllocGlobal + Threads
     question: Question<'_>,
 ) -> Result<Vec<u8>, Refusal> {
     let progress = ProgressLine::new(rt, telling.is_watched);
-    let mut folder = read_ahead(rt, telling.folder, opened);
+    let is_in_ranges = matches!(question, Question::Lawful) && !are_within(rt, opened, MEMORY);
+    let mut folder = if is_in_ranges {
+        Disk::new(rt, telling.folder)
+    } else {
+        read_ahead(rt, telling.folder, opened)
+    };
     let answer = answer_opened(
         rt,
         rt.alloc(),
@@ -103,6 +111,7 @@ fn answered<R: SystemFiles + WholeFiles + Eprint + Clock + AllocGlobal + Threads
         opened.order,
         &opened.version,
         question,
+        MEMORY,
         &progress,
     );
     progress.erase();

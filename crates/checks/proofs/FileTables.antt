@@ -1,5 +1,5 @@
 -- The tables of a version's files, read from a folder and by themselves.
-use Rattle.std.proofs.Common.{◌≡◌, ℕ, ◌+◌, Bool, true, eqb, List, [], ◌∷◌, ◌++◌, length, map, Option, Some, Result, Ok, Err, refl, sym, ap, ap₂, subst, ◌∙◌, if◌then◌else◌, inl, inr}
+use Rattle.std.proofs.Common.{◌≡◌, ℕ, ◌+◌, Bool, eqb, List, [], ◌∷◌, ◌++◌, length, map, Option, Some, Result, Ok, refl, sym, ap, ap₂, subst, ◌∙◌, if◌then◌else◌, inl, inr}
 use Rattle.std.specs.Prelude.{Contains}
 use Rattle.std.specs.List.{All, AllZip, find}
 use Rattle.std.specs.Option.{option_map}
@@ -21,9 +21,9 @@ use Rattle.reads.specs.TableOrder.{lists_of_files}
 use Rattle.reads.specs.Tables.{NumberedContents, table_entries, table_of_number}
 use Rattle.reads.proofs.Answers.{entries_are}
 use Rattle.reads.proofs.Members.{first_in, first_or_later, later_in, none_in}
-use Rattle.checks.specs.Checked.{numbered_reading, tables_reading}
+use Rattle.checks.specs.Checked.{tables_reading}
 use Rattle.checks.specs.NeededFiles.{starts_in}
-use Rattle.checks.specs.GroupTest.{AreStatedBy, AreTablesIn, IsStatedBy, IsStatedIn, IsTableIn, alone, contents_of_all, count_in, count_of, counts_of}
+use Rattle.checks.specs.GroupTest.{AreStatedBy, IsStatedBy, IsStatedIn, IsTableIn, alone, contents_of_all, count_in, counts_of}
 use Rattle.checks.proofs.FoundTables.{AreFound, not_missing, one_table, same_held}
 
 -- an element between two lists

@@ -1,23 +1,23 @@
 -- The test of a version with the tables of a folder, step by step.
-use Rattle.std.proofs.Common.{◌≡◌, ◌≢◌, ◌⊎◌, ℕ, suc, ◌≤◌, List, [], ◌∷◌, Option, Some, None, Result, Ok, Err, IfOk, IfErr, IsErrAnd, length, map, refl, sym, ap, ap₂, subst, ◌∙◌, inl, inr, if◌then◌else◌}
+use Rattle.std.proofs.Common.{◌≡◌, ◌≢◌, ◌⊎◌, ℕ, suc, ◌≤◌, List, [], ◌∷◌, Option, Some, None, Result, Ok, Err, IfOk, IfErr, IsErrAnd, length, refl, sym, ap, ap₂, subst, ◌∙◌, inl, inr}
 use Rattle.std.specs.Prelude.{filter}
 use Rattle.std.specs.List.{AllZip}
 use Rattle.std.specs.Cmp.{IsTotalOrder}
 use Rattle.std.specs.declared.cmp.Ordering.{Ordering}
 use Rattle.coding.proofs.Binds.{done, failed, ok_is}
 use Rattle.coding.proofs.Refusals.{unless_from}
-use Rattle.coding.specs.Answers.{IsThen, UnlessMemory, UnlessNamed, fault}
+use Rattle.coding.specs.Answers.{UnlessMemory, UnlessNamed, fault}
 use Rattle.coding.specs.declared.fault.Fault.{Fault}
 use Rattle.coding.specs.declared.fault.FaultName.{FaultName}
 use Rattle.coding.specs.declared.fault.FaultName.TheVariants.{Device, Lawless, Memory, Missing}
 use Rattle.edit.specs.Version.{State}
 use Rattle.edit.specs.declared.meta.FileMeta.{FileMeta}
 use Rattle.folder.proofs.LoadingLemmas.{loaded_before}
-use Rattle.folder.proofs.OpeningLemmas.{failed_since, hands_on}
+use Rattle.folder.proofs.OpeningLemmas.{failed_since}
 use Rattle.folder.specs.Calls.{Files, Tells}
 use Rattle.folder.specs.Folder.{TellsSame}
 use Rattle.folder.specs.Levels.{file_numbers}
-use Rattle.folder.specs.LoadedTables.{IsFirstMissing, IsLoaded, IsTableOf}
+use Rattle.folder.specs.LoadedTables.{IsLoaded, IsTableOf}
 use Rattle.folder.specs.OpenAnswer.{FolderAnswers, HasDeviceFailed, IsStopped}
 use Rattle.folder.specs.Reports.{ReportsDevice}
 use Rattle.folder.specs.declared.folder.Folder.{Ghosts}
@@ -26,11 +26,10 @@ use Rattle.split.specs.Ranges.{IsCover, KeyRange}
 use Rattle.reads.specs.Tables.{NumberedContents}
 use Rattle.reads.specs.TableOrder.{AreAllAdded, AreStandingFiles, IsNeverLawful}
 use Rattle.checks.specs.Checked.{tables_reading}
-use Rattle.checks.specs.GroupTest.{IsLawfulIn, IsLawlessIn, IsLoadedIfThere, IsRangeAnswer, IsRangesAnswer, IsSweepAnswer, IsWalkAnswer}
+use Rattle.checks.specs.GroupTest.{IsLawfulIn, IsLawlessIn, IsRangeAnswer, IsRangesAnswer, IsSweepAnswer, IsWalkAnswer}
 use Rattle.checks.specs.InOrder.{AreChecked}
-use Rattle.checks.specs.LawfulTables.{IsLawfulTables}
 use Rattle.checks.specs.NeededFiles.{is_needed}
-use Rattle.checks.specs.TestedTables.{IsTested, entry_count, tested_of}
+use Rattle.checks.specs.TestedTables.{IsTested, tested_of}
 use Rattle.checks.specs.declared.tested.Tested.{Tested}
 use Rattle.checks.proofs.FileTables.{numbers_in}
 use Rattle.checks.proofs.FoundTables.{checked_parts}

@@ -1,31 +1,20 @@
 -- Tables that are read from the files of a folder, and what a version states of them.
-use Rattle.std.proofs.Common.{◌≡◌, ℕ, ◌+◌, Bool, true, false, eqb, List, [], ◌∷◌, ◌++◌, length, map, Option, Some, None, Result, Ok, Err, refl, sym, ap, ap₂, subst, ◌∙◌, if◌then◌else◌, inl, inr}
-use Rattle.std.specs.Prelude.{Contains}
-use Rattle.std.specs.List.{All, AllZip, find, sum_by}
+use Rattle.std.proofs.Common.{◌≡◌, ℕ, Bool, true, false, eqb, List, [], ◌∷◌, Some, Ok, Err, refl, sym, ap, subst, ◌∙◌, if◌then◌else◌, inl, inr}
+use Rattle.std.specs.List.{AllZip, find}
 use Rattle.std.specs.Option.{option_map}
 use Rattle.std.specs.declared.cmp.Ordering.{Ordering}
-use Rattle.std.proofs.lemmas.Bool.{eq-eqb, eqb-true}
-use Rattle.std.proofs.lemmas.List.Elements.{All-head, All-tail}
+use Rattle.std.proofs.lemmas.Bool.{eqb-true}
 use Rattle.std.proofs.lemmas.Option.{none-some, same_Some}
 use Rattle.coding.proofs.Binds.{bind_ok, ok_is}
 use Rattle.coding.specs.Answers.{◌>>=◌}
 use Rattle.coding.specs.declared.fault.Fault.{Fault}
-use Rattle.block.specs.EncodedEntry.{Entry}
 use Rattle.table.specs.TableContents.{Contents, blocks_of, contents_of, contents_reading}
-use Rattle.split.specs.Ranges.{KeyRange}
-use Rattle.edit.specs.declared.meta.FileMeta.{FileMeta}
 use Rattle.folder.specs.Calls.{Files}
 use Rattle.folder.specs.LoadedTables.{IsTableAnswer, IsTableOf}
-use Rattle.folder.specs.Names.{old_table_name, table_name}
 use Rattle.folder.specs.ReadsAs.{IsHeldIn}
-use Rattle.reads.specs.StatedFiles.{IsStatedFile}
-use Rattle.reads.specs.TableOrder.{lists_of_files}
-use Rattle.reads.specs.Tables.{NumberedContents, table_entries, table_of_number}
-use Rattle.reads.proofs.Answers.{entries_are}
-use Rattle.reads.proofs.Members.{first_or_later, none_in}
+use Rattle.reads.specs.Tables.{NumberedContents, table_of_number}
 use Rattle.checks.specs.Checked.{numbered_reading, tables_reading}
-use Rattle.checks.specs.NeededFiles.{starts_in}
-use Rattle.checks.specs.GroupTest.{AreStatedBy, IsStatedBy, IsStatedIn, IsTableIn, alone, contents_of_all, count_in, count_of, counts_of}
+use Rattle.checks.specs.GroupTest.{IsTableIn}
 
 -- ---- tables that were checked, one after the other
 

@@ -1,5 +1,5 @@
 -- Tables that are read and checked in order, round by round.
-use Rattle.std.proofs.Common.{◌≡◌, ℕ, Bool, true, false, nat_eq, List, [], ◌∷◌, ◌++◌, length, map, take, drop, Option, Some, None, Result, Ok, Err, refl, sym, ap, ap₂, subst, ◌∙◌, append_assoc}
+use Rattle.std.proofs.Common.{◌≡◌, ℕ, Bool, true, false, nat_eq, List, [], ◌∷◌, ◌++◌, length, Option, Some, None, Result, Ok, Err, refl, sym, ap, subst, ◌∙◌, append_assoc}
 use Rattle.std.specs.List.{AllZip}
 use Rattle.std.specs.declared.cmp.Ordering.{Ordering}
 use Rattle.std.specs.Option.{is_some}
@@ -10,7 +10,7 @@ use Rattle.coding.specs.declared.fault.FaultName.{FaultName}
 use Rattle.coding.specs.declared.fault.FaultName.TheVariants.{Memory}
 use Rattle.coding.specs.declared.fault.Fault.{Fault}
 use Rattle.folder.specs.Calls.{Files}
-use Rattle.folder.specs.LoadedTables.{IsFirstMissing, IsLoaded, IsTableOf}
+use Rattle.folder.specs.LoadedTables.{IsLoaded, IsTableOf}
 use Rattle.folder.specs.ReadsAs.{IsHeldIn}
 use Rattle.reads.specs.Tables.{NumberedContents}
 use Rattle.checks.specs.Checked.{tables_reading}

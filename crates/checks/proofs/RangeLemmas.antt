@@ -1,23 +1,21 @@
 -- What the walk over a range tells of a version.
-use Rattle.std.proofs.Common.{◌≡◌, ◌⊎◌, ℕ, ◌+◌, ◌<◌, ◌≤◌, suc, true, eq-or-lt_of_le, List, [], ◌∷◌, length, map, get_or, Option, Some, None, Result, Ok, Err, refl, sym, ap, ap₂, subst, ◌∙◌, inl, inr, arith}
+use Rattle.std.proofs.Common.{◌≡◌, ◌⊎◌, ℕ, ◌+◌, ◌<◌, ◌≤◌, suc, true, eq-or-lt_of_le, List, get_or, Option, None, Ok, refl, sym, ap, ap₂, subst, ◌∙◌, inl, inr, arith}
 use Rattle.std.specs.Prelude.{Contains, filter}
 use Rattle.std.specs.List.{All, AllZip}
 use Rattle.std.specs.Cmp.{IsTotalOrder}
 use Rattle.std.specs.declared.cmp.Ordering.{Ordering}
 use Rattle.std.proofs.lemmas.List.Elements.{Contains-get_or, All-contains}
-use Rattle.coding.proofs.Binds.{ok_is}
-use Rattle.coding.specs.Answers.{fault}
 use Rattle.coding.specs.declared.fault.Fault.{Fault}
 use Rattle.block.specs.EncodedEntry.{Entry}
 use Rattle.merge.specs.Merged.{entries_of_lists}
 use Rattle.split.specs.Ranges.{KeyRange, IsIn, range_at}
 use Rattle.edit.specs.declared.meta.FileMeta.{FileMeta}
 use Rattle.folder.specs.Calls.{Files}
-use Rattle.folder.specs.LoadedTables.{IsFirstMissing, IsLoaded, IsTableOf}
+use Rattle.folder.specs.LoadedTables.{IsFirstMissing, IsTableOf}
 use Rattle.folder.specs.ReadsAs.{IsHeldIn}
 use Rattle.keep.proofs.Distinct.{holds_tells}
 use Rattle.reads.specs.StatedFiles.{IsStatedFile}
-use Rattle.reads.specs.TableOrder.{AreFalling, AreFallingIn, lists_of_files}
+use Rattle.reads.specs.TableOrder.{AreFallingIn, lists_of_files}
 use Rattle.reads.specs.Tables.{NumberedContents}
 use Rattle.reads.proofs.Members.{from_filter, in_filter}
 use Rattle.reads.proofs.Ranged.{fall_in}

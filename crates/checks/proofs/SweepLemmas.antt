@@ -1,7 +1,7 @@
 -- A version whose ranges are sound is lawful with the tables that the files hold.
-use Rattle.std.proofs.Common.{◌≡◌, ◌⊎◌, ℕ, zero, suc, ◌+◌, ◌-◌, ◌<◌, ◌≤◌, Bool, true, false, eqb, List, [], ◌∷◌, ◌++◌, length, map, get_or, Option, Some, None, Result, Ok, Err, refl, sym, ap, ap₂, subst, ◌∙◌, inl, inr, if◌then◌else◌, arith, eq-or-lt_of_le}
+use Rattle.std.proofs.Common.{◌≡◌, ℕ, zero, suc, ◌+◌, ◌<◌, ◌≤◌, Bool, true, false, eqb, List, [], ◌∷◌, ◌++◌, length, map, get_or, Option, Some, Result, Ok, Err, refl, sym, ap, ap₂, subst, ◌∙◌, inl, inr, if◌then◌else◌, arith, eq-or-lt_of_le}
 use Rattle.std.specs.Prelude.{Contains}
-use Rattle.std.specs.List.{All, AllZip, find, flat_map, list_all, sum_by}
+use Rattle.std.specs.List.{All, AllZip, find, flat_map, sum_by}
 use Rattle.std.specs.List.Sorted.{IsPermutation}
 use Rattle.std.specs.Cmp.{IsTotalOrder}
 use Rattle.std.specs.Option.{is_some, option_map}
@@ -13,12 +13,12 @@ use Rattle.std.proofs.lemmas.List.Sums.{sum_by-cons}
 use Rattle.std.proofs.lemmas.List.Sorted.{Contains-permutation, IsPermutation-sym, sum_by-IsPermutation}
 use Rattle.coding.specs.Answers.{◌>>=◌, fault}
 use Rattle.coding.specs.declared.fault.Fault.{Fault}
-use Rattle.coding.specs.declared.fault.FaultName.TheVariants.{Lawless, Missing}
+use Rattle.coding.specs.declared.fault.FaultName.TheVariants.{Missing}
 use Rattle.ikey.specs.Key.{user_of}
 use Rattle.block.specs.EncodedEntry.{Entry}
-use Rattle.table.specs.TableContents.{Contents, contents_reading}
+use Rattle.table.specs.TableContents.{Contents}
 use Rattle.merge.specs.Merged.{entries_of_lists}
-use Rattle.split.specs.Ranges.{IsCover, IsIn, range_at}
+use Rattle.split.specs.Ranges.{IsCover, range_at}
 use Rattle.edit.specs.Version.{State}
 use Rattle.edit.specs.VersionOrder.{added_from, at_level, files_at, in_version_order}
 use Rattle.edit.specs.declared.meta.FileMeta.{FileMeta}
@@ -28,15 +28,14 @@ use Rattle.folder.specs.Calls.{Files}
 use Rattle.folder.specs.Levels.{by_level, file_numbers, numbers_at}
 use Rattle.folder.specs.LoadedTables.{IsLoaded, IsTableOf}
 use Rattle.folder.specs.ReadsAs.{IsHeldIn}
-use Rattle.reads.specs.Lawful.{IsLawful, IsUnlawful}
 use Rattle.reads.specs.StatedFiles.{IsStatedFile}
-use Rattle.reads.specs.TableOrder.{AreAllAdded, AreFalling, AreStandingFiles, lists_of_files}
+use Rattle.reads.specs.TableOrder.{AreAllAdded, AreStandingFiles, lists_of_files}
 use Rattle.reads.specs.Tables.{NumberedContents, table_entries, table_of_number, tables_test}
 use Rattle.reads.proofs.Answers.{entries_are}
 use Rattle.reads.proofs.Levels.{all_of}
 use Rattle.reads.proofs.Members.{first_in, first_or_later, in_map, later_in, none_in}
-use Rattle.checks.specs.Checked.{numbered_reading, tables_reading}
-use Rattle.checks.specs.NeededFiles.{is_needed, starts_in}
+use Rattle.checks.specs.Checked.{tables_reading}
+use Rattle.checks.specs.NeededFiles.{starts_in}
 use Rattle.checks.specs.TestedTables.{entry_count}
 use Rattle.checks.specs.GroupTest.{AreRangesSound, AreTablesIn, IsLawfulIn, IsLawlessIn, IsStatedIn, IsTableIn, NeverFalls, count_below, count_in}
 use Rattle.checks.proofs.FallingRanges.{fall_in_each}

@@ -1,5 +1,5 @@
 -- What a walk over a range answers, step by step.
-use Rattle.std.proofs.Common.{◌≡◌, ℕ, ◌≤◌, suc, zero, Bool, true, false, cond, List, [], ◌∷◌, length, map, Option, Some, None, Result, Ok, Err, refl, sym, ap, subst, ◌∙◌, arith}
+use Rattle.std.proofs.Common.{◌≡◌, ℕ, ◌≤◌, Bool, true, false, cond, List, [], ◌∷◌, length, Option, Some, None, sym, subst, ◌∙◌, arith}
 use Rattle.std.specs.Prelude.{◌↔◌, filter}
 use Rattle.std.specs.declared.cmp.Ordering.{Ordering}
 use Rattle.coding.proofs.Binds.{ok_is}
@@ -7,8 +7,8 @@ use Rattle.split.specs.Ranges.{KeyRange, IsIn}
 use Rattle.edit.specs.declared.meta.FileMeta.{FileMeta}
 use Rattle.reads.specs.TableOrder.{AreFallingIn}
 use Rattle.reads.specs.Tables.{NumberedContents}
-use Rattle.checks.specs.Checked.{IsInvalid, IsRead, tables_reading}
-use Rattle.checks.specs.GroupTest.{AreStatedBy, IsFileCounts, IsWalkAnswer, contents_of_all, counts_of, entries_of_all}
+use Rattle.checks.specs.Checked.{IsInvalid, IsRead}
+use Rattle.checks.specs.GroupTest.{AreStatedBy, IsFileCounts, IsWalkAnswer, contents_of_all, entries_of_all}
 
 module _ (cmp : List ℕ → List ℕ → Ordering) (next : Option ℕ) (range : KeyRange) (metas : List FileMeta) (loaded : List (ℕ × List ℕ)) where
   -- a table is invalid

@@ -1,6 +1,5 @@
 -- The lines of a folder's tables, step by step.
-use Rattle.std.proofs.Common.{◌≡◌, ◌≢◌, ◌⊎◌, ℕ, ◌≤◌, List, Option, Result, Ok, Err, IfErr, IsErrAnd, refl, sym, subst, inl, inr}
-use Rattle.std.specs.List.{All}
+use Rattle.std.proofs.Common.{◌≡◌, ◌≢◌, ◌⊎◌, ℕ, ◌≤◌, List, Option, Result, Ok, Err, IfErr, IsErrAnd, codes, refl, sym, ap, subst, inl, inr}
 use Rattle.std.specs.declared.cmp.Ordering.{Ordering}
 use Rattle.coding.proofs.Refusals.{unless_from, unless_device}
 use Rattle.coding.specs.Answers.{HoldsOrMemory, EqualOrMemory, UnlessMemory}
@@ -8,18 +7,21 @@ use Rattle.coding.specs.declared.fault.Fault.{Fault}
 use Rattle.coding.specs.declared.fault.FaultName.TheVariants.{Device}
 use Rattle.edit.specs.Version.{State}
 use Rattle.folder.proofs.LoadingLemmas.{loaded_before}
-use Rattle.folder.proofs.OpeningLemmas.{failed_since}
+use Rattle.folder.proofs.OpeningLemmas.{failed_since, held_before}
+use Rattle.folder.specs.Calls.{Files, Tells}
 use Rattle.folder.specs.Folder.{TellsSame}
 use Rattle.folder.specs.Levels.{file_numbers}
 use Rattle.folder.specs.LoadedTables.{IsLoaded}
 use Rattle.folder.specs.OpenAnswer.{FolderAnswers, HasDeviceFailed, IsOpened, IsStopped}
+use Rattle.folder.specs.ReadsAs.{IsHeldIn}
 use Rattle.folder.specs.declared.order.Order.{Order}
 use Rattle.reads.specs.Tables.{NumberedContents}
 use Rattle.checks.proofs.LawfulLemmas.{handed_on, sound_other}
-use Rattle.commands.proofs.TableSizes.{IsFew, few_in_each}
 use Rattle.checks.specs.LawfulTables.{IsLawfulTables}
+use Rattle.checks.specs.TestedTables.{IsTested, tested_of}
+use Rattle.checks.specs.declared.tested.Tested.{Tested}
 use Rattle.folder.specs.Orders.{order_cmp}
-use Rattle.commands.specs.FolderLines.{IsLineOfFolder, IsLineOfLoaded, IsLineOfVersion}
+use Rattle.commands.specs.FolderLines.{IsLineOfFolder, IsLineOfLoaded, IsLineOfVersion, lawful_line, verified_line}
 
 abbrev refusal : {Y : Type 0} → Fault → Result Y Fault
 refusal e = Err e
@@ -42,10 +44,6 @@ pub handed_memory : {X Y Z : Type 0} (view : X → Y) (r : Result X Fault) (e : 
 handed_memory view r e z IsAnswer h given = handed_on view r e (λ a. answer z ≡ a) IsAnswer h given (λ same. absurd (no_refusal z e same))
 
 module _ (cmp : List ℕ → List ℕ → Ordering) (v : State) (loaded : List (ℕ × List ℕ)) where
-  pub sound_few : (tables : List NumberedContents) → IsLawfulTables cmp v loaded (Ok tables) → All IsFew tables
-  sound_few tables (Ok first, h) = subst (All IsFew) (sym h.1.0) (few_in_each cmp loaded first h.0)
-  sound_few tables (Err e, h) = absurd (no_refusal tables e h.1)
-
   -- the tables aren't sound
   pub not_sound : (line_of : List NumberedContents → List ℕ) (e : Fault) → IsLawfulTables cmp v loaded (Err e) → IsLineOfLoaded cmp v loaded line_of (Err e)
   not_sound line_of e h = (Err e, (h, refl))
@@ -79,16 +77,81 @@ told_in tells cmp v line_of loaded h a t = (Ok loaded, (h, t))
 pub not_opened : (tells : List ℕ → Option (List ℕ) → Type 0) (line_of : State → List NumberedContents → List ℕ) (e : Fault) → IsOpened tells (Err e) → IsLineOfFolder tells line_of (Err e)
 not_opened tells line_of e h = (Err e, (h, refl))
 
-module _ (old new : List ℕ → Option (List ℕ) → Type 0) (same : TellsSame old new) (order : Order) (v : State) (line_of : State → List NumberedContents → List ℕ) (opened : IsOpened old (Ok (order, v))) where
-  line_before : (a : Result (List ℕ) Fault) → IsLineOfVersion new (order_cmp order) v (line_of v) a → IsLineOfFolder old line_of a
-  line_before a h = (Ok (order, v), (opened, (h.0, (loaded_before old new (file_numbers (order_cmp order) v) h.0 same h.1.0, h.1.1))))
+-- ---- of files that the folder tells
 
-  -- it is, and then the version answers
-  pub opened_answer : {X : Type 0} (view : X → List ℕ) (before middle now : ℕ) (r : Result X Fault) → before ≤ middle → middle ≤ now
-      → FolderAnswers view middle now r (IsLineOfVersion new (order_cmp order) v (line_of v)) → FolderAnswers view before now r (IsLineOfFolder old line_of)
-  opened_answer view before middle now (Ok x) one two given = line_before (Ok (view x)) given
-  opened_answer view before middle now (Err e) one two given =
-      unless_from e (IsStopped middle now e ⊎ IsLineOfVersion new (order_cmp order) v (line_of v) (Err e)) (IsStopped before now e ⊎ IsLineOfFolder old line_of (Err e)) (λ h. elim h [
-        | inl stopped ↦ inl (stopped.0, failed_since before middle now one two stopped.1)
-        | inr found ↦ inr (line_before (Err e) found)
-      ]) given
+-- a folder that tells files tells them still where what may be read stays the same
+pub told_still : (old new : List ℕ → Option (List ℕ) → Type 0) (files : Files) → TellsSame old new → Tells old files → Tells new files
+told_still old new files same tells name held = (λ h. (tells name held).0 ((same name held).1 h), λ h. (same name held).0 ((tells name held).1 h))
+
+turned : (tells : List ℕ → Option (List ℕ) → Type 0) (files : Files) → Tells tells files → TellsSame (IsHeldIn files) tells
+turned tells files h name held = ((h name held).1, (h name held).0)
+
+opened_before : (old new : List ℕ → Option (List ℕ) → Type 0) (r : Result (Order × State) Fault) → TellsSame old new → IsOpened new r → IsOpened old r
+opened_before old new r same (Err e, h) = (Err e, (held_before old new (codes "CURRENT") (codes "CURRENT") (Err e) same refl h.0, h.1))
+opened_before old new r same (Ok current, (h, (Err e, k))) = (Ok current, (held_before old new (codes "CURRENT") (codes "CURRENT") (Ok current) same refl h, (Err e, k)))
+opened_before old new r same (Ok current, (h, (Ok number, (n, (m, (k, f)))))) =
+    (Ok current, (held_before old new (codes "CURRENT") (codes "CURRENT") (Ok current) same refl h, (Ok number, (n, (m, (held_before old new _ _ m same refl k, f))))))
+
+-- what a folder that tells files opens as is what they open as
+pub opened_in : (tells : List ℕ → Option (List ℕ) → Type 0) (files : Files) (r : Result (Order × State) Fault) → Tells tells files → IsOpened tells r → IsOpened (IsHeldIn files) r
+opened_in tells files r h opened = opened_before (IsHeldIn files) tells r (turned tells files h) opened
+
+module _ {X : Type 0} (view : X → List ℕ) (before middle now : ℕ) (r : Result X Fault) (files : Files) (one : before ≤ middle) (two : middle ≤ now) where
+  -- an answer that comes later
+  answers_by : (IsFirst IsAnswer : Result (List ℕ) Fault → Type 0) → ((a : Result (List ℕ) Fault) → IsFirst a → IsAnswer a) → FolderAnswers view middle now r IsFirst → FolderAnswers view before now r IsAnswer
+  answers_by IsFirst IsAnswer f given = by r given
+    where
+      by : (r : Result X Fault) → FolderAnswers view middle now r IsFirst → FolderAnswers view before now r IsAnswer
+      by (Ok x) h = f (Ok (view x)) h
+      by (Err e) h =
+          unless_from e (IsStopped middle now e ⊎ IsFirst (Err e)) (IsStopped before now e ⊎ IsAnswer (Err e)) (λ g. elim g [
+            | inl stopped ↦ inl (stopped.0, failed_since before middle now one two stopped.1)
+            | inr found ↦ inr (f (Err e) found)
+          ]) h
+
+  -- the folder is opened, and then the version answers
+  pub opened_answer : (order : Order) (v : State) (line_of : State → List NumberedContents → List ℕ) → IsOpened (IsHeldIn files) (Ok (order, v))
+      → FolderAnswers view middle now r (IsLineOfVersion (IsHeldIn files) (order_cmp order) v (line_of v)) → FolderAnswers view before now r (IsLineOfFolder (IsHeldIn files) line_of)
+  opened_answer order v line_of opened given =
+      answers_by (IsLineOfVersion (IsHeldIn files) (order_cmp order) v (line_of v)) (IsLineOfFolder (IsHeldIn files) line_of) (λ a h. (Ok (order, v), (opened, h))) given
+
+  -- the line of tables that the folder tells is that of the files
+  pub held_answer : (tells : List ℕ → Option (List ℕ) → Type 0) (cmp : List ℕ → List ℕ → Ordering) (v : State) (line_of : List NumberedContents → List ℕ) → Tells tells files
+      → FolderAnswers view middle now r (IsLineOfVersion tells cmp v line_of) → FolderAnswers view before now r (IsLineOfVersion (IsHeldIn files) cmp v line_of)
+  held_answer tells cmp v line_of told given =
+      answers_by (IsLineOfVersion tells cmp v line_of) (IsLineOfVersion (IsHeldIn files) cmp v line_of) (λ a h. (h.0, (loaded_before (IsHeldIn files) tells (file_numbers cmp v) h.0 (turned tells files told) h.1.0, h.1.1))) given
+
+-- ---- a version that was tested
+
+module _ (tells : List ℕ → Option (List ℕ) → Type 0) (cmp : List ℕ → List ℕ → Ordering) (v : State) where
+  -- its line
+  pub line_of_tested : (t : Tested) → IsTested tells cmp v (Ok t) → IsLineOfVersion tells cmp v verified_line (Ok (lawful_line t.files t.entries))
+  line_of_tested t (Ok loaded, (there, (Ok tables, (sound, is)))) =
+      let same : t ≡ tested_of tables = same_tested t (tested_of tables) is in
+      (Ok loaded, (there, (Ok tables, (sound, ap (λ (x : Tested). answer (lawful_line x.files x.entries)) same))))
+    where
+      same_tested : (a b : Tested) → answer {Y = Tested} a ≡ answer b → a ≡ b
+      same_tested a b h = cc
+  line_of_tested t (Ok loaded, (there, (Err d, (sound, is)))) = absurd (no_tested t d is)
+    where
+      no_tested : (a : Tested) (e : Fault) → Ok a ≡ Err e → ⊥
+      no_tested a e h = cc
+  line_of_tested t (Err d, (there, is)) = absurd (no_tested t d is)
+    where
+      no_tested : (a : Tested) (e : Fault) → Ok a ≡ Err e → ⊥
+      no_tested a e h = cc
+
+  -- its refusal
+  pub refused_line : (line_of : List NumberedContents → List ℕ) (e : Fault) → IsTested tells cmp v (Err e) → IsLineOfVersion tells cmp v line_of (Err e)
+  refused_line line_of e (Ok loaded, (there, (Ok tables, (sound, is)))) = absurd (no_tested (tested_of tables) e is)
+    where
+      no_tested : (a : Tested) (e : Fault) → Err e ≡ Ok a → ⊥
+      no_tested a e h = cc
+  refused_line line_of e (Ok loaded, (there, (Err d, (sound, is)))) = (Ok loaded, (there, (Err d, (sound, same_error e d is))))
+    where
+      same_error : (a b : Fault) → refusal {Y = Tested} a ≡ refusal b → refusal {Y = List ℕ} a ≡ refusal b
+      same_error a b h = let one : a ≡ b = cc in ap (λ (f : Fault). refusal {Y = List ℕ} f) one
+  refused_line line_of e (Err d, (there, is)) = (Err d, (there, same_error e d is))
+    where
+      same_error : (a b : Fault) → refusal {Y = Tested} a ≡ refusal b → refusal {Y = List ℕ} a ≡ refusal b
+      same_error a b h = let one : a ≡ b = cc in ap (λ (f : Fault). refusal {Y = List ℕ} f) one

@@ -1,5 +1,4 @@
 mod ShowingLemmas
-mod TableSizes
 mod HeldTables
 mod UnverifiedLemmas
 mod FolderLineLemmas

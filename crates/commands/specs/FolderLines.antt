@@ -1,7 +1,6 @@
 -- The lines of the commands that read the tables of a folder.
 use Rattle.std.specs.Prelude.{◌≡◌, ℕ, List, ◌++◌, codes, decimal, length, Option, Some, None}
 use Rattle.std.specs.Prelude.{unwrap_or, Result, Ok}
-use Rattle.std.specs.List.{flat_map}
 use Rattle.coding.specs.Answers.{IsThen}
 use Rattle.coding.specs.declared.fault.Fault.{Fault}
 use Rattle.ikey.specs.Comparator.{KeyOrder}
@@ -12,6 +11,7 @@ use Rattle.folder.specs.OpenAnswer.{IsOpened}
 use Rattle.reads.specs.Gets.{get_of}
 use Rattle.reads.specs.Tables.{NumberedContents}
 use Rattle.checks.specs.LawfulTables.{IsLawfulTables}
+use Rattle.checks.specs.TestedTables.{entry_count}
 use Rattle.folder.specs.Orders.{order_cmp}
 use Rattle.folder.specs.Calls.{ToldFiles}
 use Rattle.texts.specs.Text.{text_of_bytes}
@@ -33,10 +33,6 @@ abbrev pub IsLineOfFolder : ToldFiles → (State → List NumberedContents → L
     Result (List ℕ) Fault → Type 0
 IsLineOfFolder tells line_of = IsThen (IsOpened tells)
     (λ opened. IsLineOfVersion tells (order_cmp opened.0) opened.1 (line_of opened.1))
-
--- the number of entries in all these tables
-abbrev pub entry_count : List NumberedContents → ℕ
-entry_count tables = length (flat_map (λ t. t.contents.entries) tables)
 
 -- `lawful: F files, E entries`
 abbrev pub lawful_line : ℕ → ℕ → List ℕ

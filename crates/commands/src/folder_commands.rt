@@ -1,11 +1,13 @@
 //! The commands on a database folder, and what each answers of the version in it.
 
-ghost use Rattle.std.specs.Prelude.{Ok, map};
-ghost use Rattle.coding.specs.Answers.{EqualOrMemory, HoldsOrMemory};
+ghost use Rattle.std.specs.Prelude.{Ok};
+ghost use Rattle.coding.specs.Answers.{EqualOrMemory};
+ghost use Rattle.folder.specs.Calls.{Files, Tells};
 ghost use Rattle.folder.specs.OpenAnswer.{FolderAnswers};
 ghost use Rattle.folder.specs.Orders.{order_cmp};
+ghost use Rattle.folder.specs.ReadsAs.{IsHeldIn};
 ghost use Rattle.folder.specs.Reports.{OnlyReads, ReportsDevice};
-ghost use Rattle.commands.specs.FolderLines.{IsLineOfFolder, IsLineOfLoaded, IsLineOfVersion};
+ghost use Rattle.commands.specs.FolderLines.{IsLineOfFolder, IsLineOfVersion};
 ghost use Rattle.commands.specs.FolderLines.{got_line, verified_line};
 ghost use Rattle.commands.specs.Lines.{IsShown, version_lines};
 ghost use Rattle.commands.specs.Questions.{line_of};
@@ -63,20 +65,23 @@ pub fn manifest_lines(alloc: Global, order: Order, version: &Version) -> Result<
 ///
 /// If the device fails a call, the answer is Device and no further call is made. If memory runs
 /// out, it is Memory. Four workers check the tables; the answer doesn't depend on which is first.
+/// At most `memory` bytes of tables are in memory at once, if no single user key needs more.
 ///
 /// The work is told to `watch`, which is `&Open` if nobody watches.
 pub fn verify<F: Folder, W: Watch + Sync, R: Threads + Sync>(
     rt: &R,
     alloc: Global,
     folder: &mut F,
+    memory: u64,
     watch: &W,
 ) -> Result<Vec<u8>, Fault>
-    ensures answer { FolderAnswers (λ v. v.items) (F.failed folder.old) (F.failed folder.new) result
-        (IsLineOfFolder (F.tells folder.old) (λ _. verified_line)) }
+    ensures answer { (files : Files) → Tells (F.tells folder.old) files →
+        FolderAnswers (λ v. v.items) (F.failed folder.old) (F.failed folder.new) result
+        (IsLineOfFolder (IsHeldIn files) (λ _. verified_line)) }
     ensures device { ReportsDevice F.Folder folder.old folder.new result }
     ensures reads { OnlyReads F.Folder folder.old folder.new }
 {
-    answered(rt, alloc, folder, Question::Lawful, watch)
+    answered(rt, alloc, folder, Question::Lawful, memory, watch)
 }
 
 /// The line of the value of a user `key` at a sequence, in the version that a folder holds. The
@@ -91,14 +96,23 @@ pub fn get_dir<F: Folder, W: Watch + Sync, R: Threads + Sync>(
     folder: &mut F,
     key: &[u8],
     at: Option<u64>,
+    memory: u64,
     watch: &W,
 ) -> Result<Vec<u8>, Fault>
-    ensures answer { FolderAnswers (λ v. v.items) (F.failed folder.old) (F.failed folder.new) result
-        (IsLineOfFolder (F.tells folder.old) (got_line key.now at)) }
+    ensures answer { (files : Files) → Tells (F.tells folder.old) files →
+        FolderAnswers (λ v. v.items) (F.failed folder.old) (F.failed folder.new) result
+        (IsLineOfFolder (IsHeldIn files) (got_line key.now at)) }
     ensures device { ReportsDevice F.Folder folder.old folder.new result }
     ensures reads { OnlyReads F.Folder folder.old folder.new }
 {
-    answered(rt, alloc, folder, Question::Value { key, at }, watch)
+    answered(
+        rt,
+        alloc,
+        folder,
+        Question::Value { key, at },
+        memory,
+        watch,
+    )
 }
 
 /// What the version that a folder holds answers to a question.
@@ -107,10 +121,12 @@ fn answered<F: Folder, W: Watch + Sync, R: Threads + Sync>(
     alloc: Global,
     folder: &mut F,
     question: Question<'_>,
+    memory: u64,
     watch: &W,
 ) -> Result<Vec<u8>, Fault>
-    ensures answer { FolderAnswers (λ v. v.items) (F.failed folder.old) (F.failed folder.new) result
-        (IsLineOfFolder (F.tells folder.old) (line_of question.entry)) }
+    ensures answer { (files : Files) → Tells (F.tells folder.old) files →
+        FolderAnswers (λ v. v.items) (F.failed folder.old) (F.failed folder.new) result
+        (IsLineOfFolder (IsHeldIn files) (line_of question.entry)) }
     ensures device { ReportsDevice F.Folder folder.old folder.new result }
     ensures reads { OnlyReads F.Folder folder.old folder.new }
 {
@@ -122,6 +138,7 @@ fn answered<F: Folder, W: Watch + Sync, R: Threads + Sync>(
         opened.order,
         &opened.version,
         question,
+        memory,
         watch,
     )
 }
@@ -135,20 +152,22 @@ pub fn answer_opened<F: Folder, W: Watch + Sync, R: Threads + Sync>(
     order: Order,
     version: &Version,
     question: Question<'_>,
+    memory: u64,
     watch: &W,
 ) -> Result<Vec<u8>, Fault>
-    ensures answer { FolderAnswers (λ v. v.items) (F.failed folder.old) (F.failed folder.new) result
-        (IsLineOfVersion (F.tells folder.old) (order_cmp order) version.now
+    ensures answer { (files : Files) → Tells (F.tells folder.old) files →
+        FolderAnswers (λ v. v.items) (F.failed folder.old) (F.failed folder.new) result
+        (IsLineOfVersion (IsHeldIn files) (order_cmp order) version.now
         (line_of question.entry version.now)) }
     ensures device { ReportsDevice F.Folder folder.old folder.new result }
     ensures reads { OnlyReads F.Folder folder.old folder.new }
 {
     match order {
         Order::Bytewise => answered_by::<Bytewise, F, W, R>(
-            rt, alloc, folder, version, question, watch,
+            rt, alloc, folder, version, question, memory, watch,
         ),
         Order::Shortlex => answered_by::<Shortlex, F, W, R>(
-            rt, alloc, folder, version, question, watch,
+            rt, alloc, folder, version, question, memory, watch,
         ),
     }
 }
@@ -160,33 +179,39 @@ fn answered_by<C: SharedComparator + 'static, F: Folder, W: Watch + Sync, R: Thr
     folder: &mut F,
     version: &Version,
     question: Question<'_>,
+    memory: u64,
+    watch: &W,
+) -> Result<Vec<u8>, Fault>
+    ensures answer { (files : Files) → Tells (F.tells folder.old) files →
+        FolderAnswers (λ v. v.items) (F.failed folder.old) (F.failed folder.new) result
+        (IsLineOfVersion (IsHeldIn files) C.cmp version.now (line_of question.entry version.now)) }
+    ensures device { ReportsDevice F.Folder folder.old folder.new result }
+    ensures reads { OnlyReads F.Folder folder.old folder.new }
+{
+    match question {
+        Question::Lawful => { verified::<C, F, W, R>(rt, alloc, folder, version, memory, watch) }
+        Question::Value { key, at } => {
+            loaded_value::<C, F, W, R>(rt, alloc, folder, version, key, at, watch)
+        }
+    }
+}
+
+/// The line of the value of a user key, with all tables of the version in memory. It only reads.
+fn loaded_value<C: SharedComparator + 'static, F: Folder, W: Watch + Sync, R: Threads + Sync>(
+    rt: &R,
+    alloc: Global,
+    folder: &mut F,
+    version: &Version,
+    key: &[u8],
+    at: Option<u64>,
     watch: &W,
 ) -> Result<Vec<u8>, Fault>
     ensures answer { FolderAnswers (λ v. v.items) (F.failed folder.old) (F.failed folder.new) result
         (IsLineOfVersion (F.tells folder.old) C.cmp version.now
-        (line_of question.entry version.now)) }
+        (got_line key.now at version.now)) }
     ensures device { ReportsDevice F.Folder folder.old folder.new result }
     ensures reads { OnlyReads F.Folder folder.old folder.new }
 {
     let loaded = load::<C, F>(alloc, folder, version)?;
-    answer_loaded::<C, W, R>(rt, alloc, version, &loaded, question, watch)
-}
-
-/// What a version answers with tables of these numbers and bytes.
-fn answer_loaded<C: SharedComparator + 'static, W: Watch + Sync, R: Threads + Sync>(
-    rt: &R,
-    alloc: Global,
-    version: &Version,
-    loaded: &[(u64, Vec<u8>)],
-    question: Question<'_>,
-    watch: &W,
-) -> Result<Vec<u8>, Fault>
-    ensures { HoldsOrMemory (λ v. v.items) result
-        (IsLineOfLoaded C.cmp version.now (map (λ t. (t.0, t.1.items)) loaded.now)
-        (line_of question.entry version.now)) }
-{
-    match question {
-        Question::Lawful => verified::<C, W, R>(rt, alloc, version, loaded, watch),
-        Question::Value { key, at } => got::<C, W, R>(rt, alloc, version, loaded, key, at, watch),
-    }
+    got::<C, W, R>(rt, alloc, version, &loaded, key, at, watch)
 }

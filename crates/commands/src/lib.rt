@@ -9,7 +9,6 @@
 //! No contract says which of these the program calls for a command.
 #![tactic(auto)]
 
-mod entry_counts;
 mod exit_status;
 mod folder_commands;
 mod folder_get;

@@ -1,33 +1,45 @@
 //! Testing whether the version of a folder is lawful.
 
-ghost use Rattle.std.specs.Prelude.{◌≡◌, ◌++◌, map, Ok, IfErr, OnOk, string_bytes};
-ghost use Rattle.coding.specs.Answers.{HoldsOrMemory, EqualOrMemory, fault};
+ghost use Rattle.std.specs.Prelude.{◌≡◌, ◌++◌, Ok, IfErr, OnOk, string_bytes};
+ghost use Rattle.coding.specs.Answers.{EqualOrMemory, fault};
 ghost use Rattle.coding.specs.declared.fault.FaultName.TheVariants.{Memory};
-ghost use Rattle.commands.specs.FolderLines.{IsLineOfLoaded, lawful_line, verified_line};
+ghost use Rattle.folder.specs.Calls.{Files, Tells};
+ghost use Rattle.folder.specs.OpenAnswer.{FolderAnswers};
+ghost use Rattle.folder.specs.ReadsAs.{IsHeldIn};
+ghost use Rattle.folder.specs.Reports.{OnlyReads, ReportsDevice};
+ghost use Rattle.commands.specs.FolderLines.{IsLineOfVersion, lawful_line, verified_line};
 
-use crate::entry_counts::entry_count;
-use checks::{CHECKERS, Watch, Work, lawful_tables};
+use checks::{CHECKERS, Watch, test_version};
 use coding::Fault;
 use edit::Version;
+use folder::Folder;
 use ikey::SharedComparator;
 use std::alloc::Global;
 use std::thread::Threads;
 
-/// Checks a version with tables of these numbers and bytes.
-pub(crate) fn verified<C: SharedComparator + 'static, W: Watch + Sync, R: Threads + Sync>(
+/// Checks a version with the tables in a folder, of which at most `memory` bytes are in memory at
+/// once, as `test_version` has it. It only reads.
+pub(crate) fn verified<
+    C: SharedComparator + 'static,
+    F: Folder,
+    W: Watch + Sync,
+    R: Threads + Sync,
+>(
     rt: &R,
     alloc: Global,
+    folder: &mut F,
     version: &Version,
-    loaded: &[(u64, Vec<u8>)],
+    memory: u64,
     watch: &W,
 ) -> Result<Vec<u8>, Fault>
-    ensures { HoldsOrMemory (λ v. v.items) result
-        (IsLineOfLoaded C.cmp version.now (map (λ t. (t.0, t.1.items)) loaded.now) verified_line) }
+    ensures answer { (files : Files) → Tells (F.tells folder.old) files →
+        FolderAnswers (λ v. v.items) (F.failed folder.old) (F.failed folder.new) result
+        (IsLineOfVersion (IsHeldIn files) C.cmp version.now verified_line) }
+    ensures device { ReportsDevice F.Folder folder.old folder.new result }
+    ensures reads { OnlyReads F.Folder folder.old folder.new }
 {
-    watch.begin(Work::Check, loaded.len() as u64);
-    let tables = lawful_tables::<C, W, R>(rt, alloc, version, loaded, CHECKERS, watch)?;
-    let entries = entry_count(alloc, &tables)?;
-    lawful_line(alloc, tables.len(), entries)
+    let tested = test_version::<C, F, W, R>(rt, alloc, folder, version, memory, CHECKERS, watch)?;
+    lawful_line(alloc, tested.files, tested.entries)
 }
 
 /// The line of a lawful version with this many `files` and `entries`.

@@ -18,6 +18,8 @@ mod keep_tests;
 #[cfg(test)]
 mod merge_tests;
 #[cfg(test)]
+mod range_checks_tests;
+#[cfg(test)]
 mod request_tests;
 #[cfg(test)]
 mod split_tests;

@@ -156,8 +156,8 @@ fn told<R: AllocGlobal + Threads + Sync>(
 ) -> Result<Vec<u8>, Fault> {
     match question {
         Question::Manifest => manifest(rt.alloc(), shelf),
-        Question::Verify => verify(rt, rt.alloc(), shelf, &Open),
-        Question::Get(at) => get_dir(rt, rt.alloc(), shelf, b"u", *at, &Open),
+        Question::Verify => verify(rt, rt.alloc(), shelf, MEMORY, &Open),
+        Question::Get(at) => get_dir(rt, rt.alloc(), shelf, b"u", *at, MEMORY, &Open),
         Question::UnverifiedGet(at) => unverified(rt.alloc(), shelf, *at),
     }
 }

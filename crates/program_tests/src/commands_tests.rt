@@ -2,9 +2,7 @@ use crate::folders::*;
 use account::{Account, text};
 use checks::Work;
 use coding::{Fault, FaultName};
-use commands::{
-    Open, dump, get_dir, manifest, progress_text, status, unverified_value, verify,
-};
+use commands::{Open, dump, get_dir, manifest, progress_text, status, unverified_value, verify};
 use diagnostics::{RefusedFile, account_of, refused_file, replaceable_file, replayed_log};
 use folder::{Failing, FolderFault, Shelf, open};
 use std::alloc::Global;
@@ -412,8 +410,8 @@ fn answer<R: AllocGlobal + Threads + Sync>(
     let alloc = rt.alloc();
     match call {
         Call::Manifest => manifest(alloc, folder),
-        Call::Verify => verify(rt, alloc, folder, &Open),
-        Call::Get(key, at) => get_dir(rt, alloc, folder, key, *at, &Open),
+        Call::Verify => verify(rt, alloc, folder, 1 << 30, &Open),
+        Call::Get(key, at) => get_dir(rt, alloc, folder, key, *at, 1 << 30, &Open),
         Call::UnverifiedGet(key, at) => unverified(alloc, folder, key, *at),
         Call::RefusedFile => first_refusal(alloc, folder),
         Call::Logs(is_known) => replayed_logs(alloc, folder, *is_known),

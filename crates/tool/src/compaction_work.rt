@@ -3,7 +3,9 @@
 use crate::explanations::in_words;
 use crate::folder_locks::locked_to_change;
 use crate::folder_refusal::compaction_explained;
-use crate::folder_work::{begin_work, bytes_of, open_folder, print_lines, refused_at};
+use crate::folder_work::{
+    begin_work, bytes_of, folder_to_test, open_folder, print_lines, refused_at,
+};
 use crate::progress_line::ProgressLine;
 use crate::refusal::Refusal;
 use crate::reporter::{Telling, tell_time};
@@ -142,7 +144,7 @@ fn tested_compacted<R: SystemFiles + WholeFiles + Eprint + Clock + AllocGlobal +
     memory: u64,
 ) -> Result<Vec<u8>, Refusal> {
     let progress = ProgressLine::new(rt, telling.is_watched);
-    let mut folder = Disk::new(rt, telling.folder);
+    let mut folder = folder_to_test(rt, telling.folder, opened, memory);
     let answer = compact_opened(
         rt,
         rt.alloc(),
@@ -203,7 +205,12 @@ fn compact_all<R: SystemFiles + WholeFiles + Print + Eprint + Clock + AllocGloba
         refusal: None,
     };
     let alloc = rt.alloc();
-    let mut folder = Disk::new(rt, telling.folder);
+    let memory = bytes_of(testing.memory);
+    let mut folder = if testing.is_skipped {
+        Disk::new(rt, telling.folder)
+    } else {
+        folder_to_test(rt, telling.folder, &opened, memory)
+    };
     let end = if testing.is_skipped {
         store::compact_levels(
             rt,
@@ -215,7 +222,6 @@ fn compact_all<R: SystemFiles + WholeFiles + Print + Eprint + Clock + AllocGloba
             &mut steps,
         )
     } else {
-        let memory = bytes_of(testing.memory);
         store::compact_all(
             rt,
             alloc,

@@ -5,7 +5,7 @@ use crate::folder_refusal::{explained, table_explained};
 use crate::progress_line::ProgressLine;
 use crate::refusal::Refusal;
 use crate::reporter::{Telling, tell_time};
-use crate::table_sizes::{is_too_large, sizes_tested, too_large};
+use crate::table_sizes::{are_within, is_too_large, sizes_tested, too_large};
 use coding::{Fault, FaultName};
 use commands::{Question, answer_opened, manifest_lines, unverified_value};
 use folder::{Disk, Opened, SystemFiles, WholeFiles, open};
@@ -102,12 +102,12 @@ fn answer_printed<
     telling: Telling<'_>,
     step: &str,
     question: Question<'_>,
-    _memory: u64,
+    memory: u64,
 ) -> Result<(), Refusal> {
     let begun = telling.begin(rt);
     let opened = begin_work(rt, telling)?;
     sizes_tested(rt, telling.folder, &opened)?;
-    let lines = answered(rt, telling, &opened, question)?;
+    let lines = answered(rt, telling, &opened, question, memory)?;
     tell_time(rt, step, begun);
     print_lines(rt, lines.as_slice())
 }
@@ -135,9 +135,10 @@ fn answered<R: SystemFiles + WholeFiles + Eprint + Clock + AllocGlobal + Threads
     telling: Telling<'_>,
     opened: &Opened,
     question: Question<'_>,
+    memory: u64,
 ) -> Result<Vec<u8>, Refusal> {
     let progress = ProgressLine::new(rt, telling.is_watched);
-    let mut folder = read_ahead(rt, telling.folder, opened);
+    let mut folder = folder_to_test(rt, telling.folder, opened, memory);
     let answer = answer_opened(
         rt,
         rt.alloc(),
@@ -145,6 +146,7 @@ fn answered<R: SystemFiles + WholeFiles + Eprint + Clock + AllocGlobal + Threads
         opened.order,
         &opened.version,
         question,
+        memory,
         &progress,
     );
     progress.erase();
@@ -184,15 +186,19 @@ pub(crate) fn refused_at<R: SystemFiles + AllocGlobal>(
     }
 }
 
-/// The folder at a path, with its version's tables read ahead by several threads. A table that
-/// can't be read ahead is read when it is asked for.
-pub(crate) fn read_ahead<'r, R: SystemFiles + WholeFiles + AllocGlobal + Threads>(
+/// The folder at a path, for a test of what it was opened as. If the tables have at most `memory`
+/// bytes together, several threads read them ahead. One that can't be read ahead is read when it is
+/// asked for.
+pub(crate) fn folder_to_test<'r, R: SystemFiles + WholeFiles + AllocGlobal + Threads>(
     rt: &'r R,
     path: &'r str,
     opened: &Opened,
+    memory: u64,
 ) -> Disk<'r, R> {
     let mut folder = Disk::new(rt, path);
-    folder.read_ahead(opened.order, &opened.version);
+    if are_within(rt, opened, memory) {
+        folder.read_ahead(opened.order, &opened.version);
+    }
     folder
 }
 

@@ -1,4 +1,4 @@
-use Rattle.std.proofs.Common.{◌≡◌, List, ℕ, length, ap, sym, ◌∙◌, refl}
+use Rattle.std.proofs.Common.{◌≡◌, List, ℕ, length, ap, sym, ◌∙◌}
 use Rattle.coding.proofs.Binds.{ok_is}
 use Rattle.reads.specs.StatedFiles.{matches_metadata}
 use Rattle.reads.proofs.SoundFiles.{stated_tests}

@@ -1,10 +1,10 @@
-use Rattle.std.proofs.Common.{Bor, ◌≡◌, ℕ, ◌+◌, ◌*◌, ◌≤◌, ◌^◌, suc, List, Option, Some, None, Ok, length, map, refl, subst, arith, IfSome}
+use Rattle.std.proofs.Common.{◌≡◌, ℕ, ◌+◌, ◌≤◌, ◌^◌, suc, List, Option, Ok, length, map, refl, subst, arith, IfSome}
 use Rattle.edit.specs.declared.meta.FileMeta.{FileMeta}
 use Rattle.folder.proofs.CountLemmas.{steady}
 use Rattle.folder.proofs.OpeningLemmas.{hands_on}
-use Rattle.folder.proofs.ReportLemmas.{reads_then, reports_after, reports_handed, reports_on, reports_steady}
+use Rattle.folder.proofs.ReportLemmas.{reads_then}
 use Rattle.split.proofs.Covers.{covers}
-use Rattle.split.specs.Ranges.{KeyRange, key_range, range_at}
+use Rattle.split.specs.Ranges.{KeyRange, key_range}
 use Rattle.checks.specs.GroupTest.{AreRangesSound, IsRangeAnswer, IsRangeSound, IsRangesAnswer}
 use Rattle.checks.proofs.FolderTests.{told_still}
 use Rattle.checks.proofs.RangeLemmas.{ranges_more, ranges_none}

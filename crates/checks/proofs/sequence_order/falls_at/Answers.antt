@@ -1,4 +1,4 @@
-use Rattle.std.proofs.Common.{◌≡◌, ℕ, List, map, sym, subst}
+use Rattle.std.proofs.Common.{◌≡◌, List, map, sym, subst}
 use Rattle.block.specs.EncodedEntry.{Entry}
 use Rattle.merge.specs.Merged.{entries_of_lists}
 use Rattle.split.specs.Ranges.{KeyRange, key_range, range_at, IsIn}

@@ -1,6 +1,6 @@
 use Rattle.std.proofs.Common.{◌≡◌, ℕ, List, Option, Ok, Err, length, sym, ap, subst, ◌∙◌, inr, arith, ◌⊎◌}
 use Rattle.coding.proofs.Binds.{ok_is}
-use Rattle.coding.specs.Answers.{UnlessMemory, fault}
+use Rattle.coding.specs.Answers.{UnlessMemory}
 use Rattle.coding.specs.declared.fault.Fault.{Fault}
 use Rattle.folder.proofs.OpeningLemmas.{hands_on}
 use Rattle.folder.specs.Levels.{file_numbers}

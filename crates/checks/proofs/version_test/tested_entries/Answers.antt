@@ -1,4 +1,4 @@
-use Rattle.std.proofs.Common.{Bor, Vec, Global, ℕ, List, Option, Result, map, sym, subst, ◌∙◌, arith}
+use Rattle.std.proofs.Common.{Bor, Vec, Global, ℕ, List, Option, Result, map, subst, arith}
 use Rattle.std.specs.Option.{MatchOption}
 use Rattle.coding.specs.declared.fault.Fault.{Fault}
 use Rattle.edit.specs.declared.meta.FileMeta.{FileMeta}

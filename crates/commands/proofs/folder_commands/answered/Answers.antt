@@ -1,26 +1,29 @@
-use Rattle.std.proofs.Common.{arith}
+use Rattle.std.proofs.Common.{Ok, Err, arith}
 use Rattle.folder.proofs.OpeningLemmas.{hands_on}
 use Rattle.folder.proofs.ReportLemmas.{reads_then, reports_handed, reports_then}
 use Rattle.folder.specs.OpenAnswer.{IsOpened}
-use Rattle.commands.proofs.FolderLineLemmas.{not_opened, opened_answer}
+use Rattle.folder.specs.ReadsAs.{IsHeldIn}
+use Rattle.commands.proofs.FolderLineLemmas.{not_opened, opened_answer, opened_in, told_still}
 use Rattle.commands.specs.FolderLines.{IsLineOfFolder}
 use Rattle.commands.specs.Questions.{line_of}
 use Rattle.commands.proofs.folder_commands.answered.Goals as goal
 
 pub returns-in_err-opened-clause-answer : goal.returns-in_err-opened-clause-answer
-returns-in_err-opened-clause-answer g c =
+returns-in_err-opened-clause-answer g c files told =
     let tells = g.F.Folder.tells c.args.folder.now in
     let failed = g.F.Folder.failed in
     let e = c.in_err-opened.field-0.0 in
-    hands_on (λ v. v.items) (failed c.args.folder.now) (failed c.args.folder.now) (failed c.open.new.folder) c.from_residual.result e (IsOpened tells) (IsLineOfFolder tells (line_of c.args.question))
-    c.from_residual.ensures.1 (omega arith) c.open.ensures.device.later c.in_err-opened.ensures.answer (not_opened tells (line_of c.args.question) e)
+    hands_on (λ v. v.items) (failed c.args.folder.now) (failed c.args.folder.now) (failed c.open.new.folder) c.from_residual.result e (IsOpened tells) (IsLineOfFolder (IsHeldIn files) (line_of c.args.question))
+    c.from_residual.ensures.1 (omega arith) c.open.ensures.device.later c.in_err-opened.ensures.answer (λ h. not_opened (IsHeldIn files) (line_of c.args.question) e (opened_in tells files (Err e) told h))
 
 pub returns-clause-answer : goal.returns-clause-answer
-returns-clause-answer g c =
+returns-clause-answer g c files told =
     let tells = g.F.Folder.tells in
     let failed = g.F.Folder.failed in
-    opened_answer (tells c.args.folder.now) (tells c.open.new.folder) c.open.ensures.reads.same c.in_ok-opened.opened.order c.in_ok-opened.opened.version (line_of c.args.question) c.in_ok-opened.ensures.answer
-    (λ v. v.items) (failed c.args.folder.now) (failed c.open.new.folder) (failed c.answer_opened.new.folder) c.answer_opened.result c.open.ensures.device.later c.answer_opened.ensures.device.later c.answer_opened.ensures.answer
+    let opened = c.in_ok-opened.opened in
+    opened_answer (λ v. v.items) (failed c.args.folder.now) (failed c.open.new.folder) (failed c.answer_opened.new.folder) c.answer_opened.result files c.open.ensures.device.later c.answer_opened.ensures.device.later
+    opened.order opened.version (line_of c.args.question) (opened_in (tells c.args.folder.now) files (Ok (opened.order, opened.version)) told c.in_ok-opened.ensures.answer)
+    (c.answer_opened.ensures.answer files (told_still (tells c.args.folder.now) (tells c.open.new.folder) files c.open.ensures.reads.same told))
 
 pub returns-in_err-opened-clause-device : goal.returns-in_err-opened-clause-device
 returns-in_err-opened-clause-device g c = reports_handed c.from_residual.result c.in_err-opened.was c.open.ensures.device c.from_residual.ensures.1

@@ -1,44 +1,39 @@
-use Rattle.std.proofs.Common.{◌≡◌, List, ℕ, Ok, length, map, ap, ap₂, subst, sym, ◌∙◌}
-use Rattle.coding.proofs.Binds.{ok_is}
-use Rattle.coding.specs.Answers.{EqualOrMemory}
-use Rattle.std.specs.List.{All}
-use Rattle.checks.proofs.LawfulLemmas.{handed_on}
-use Rattle.checks.proofs.Lent.{lent_table}
-use Rattle.checks.specs.LawfulTables.{IsLawfulTables}
-use Rattle.commands.proofs.TableSizes.{IsFew}
-use Rattle.commands.proofs.FolderLineLemmas.{handed_memory, not_sound, sound_few, told_line}
-use Rattle.commands.specs.FolderLines.{IsLineOfLoaded, entry_count, lawful_line, verified_line}
+use Rattle.std.proofs.Common.{◌≡◌, List, ℕ, Result, Ok, sym, subst, arith}
+use Rattle.coding.specs.declared.fault.Fault.{Fault}
+use Rattle.folder.proofs.OpeningLemmas.{answers_alone, hands_on}
+use Rattle.folder.proofs.ReportLemmas.{reports_after, reports_handed}
+use Rattle.folder.specs.ReadsAs.{IsHeldIn}
+use Rattle.checks.specs.TestedTables.{IsTested}
+use Rattle.commands.proofs.FolderLineLemmas.{line_of_tested, refused_line}
+use Rattle.commands.proofs.ShowingLemmas.{lines_device, lines_hold}
+use Rattle.commands.specs.FolderLines.{IsLineOfVersion, lawful_line, verified_line}
 use Rattle.commands.proofs.version_verdict.verified.Goals as goal
 
-pub returns-in_err-tables : goal.returns-in_err-tables
-returns-in_err-tables g c =
+pub returns-in_err-tested-clause-answer : goal.returns-in_err-tested-clause-answer
+returns-in_err-tested-clause-answer g c files told =
     let cmp = g.C.Comparator.cmp in
     let v = c.args.version.now in
-    let loaded = map lent_table c.args.loaded.now in
-    let e = c.in_err-tables.field-0.0 in
-    handed_on (λ v. v.items) c.from_residual.result e (IsLawfulTables cmp v loaded) (IsLineOfLoaded cmp v loaded verified_line) c.from_residual.ensures.1
-    c.in_err-tables.ensures (not_sound cmp v loaded verified_line e)
+    let failed = g.F.Folder.failed in
+    let e = c.in_err-tested.field-0.0 in
+    hands_on (λ v. v.items) (failed c.args.folder.now) (failed c.args.folder.now) (failed c.test_version.new.folder) c.from_residual.result e (IsTested (IsHeldIn files) cmp v) (IsLineOfVersion (IsHeldIn files) cmp v verified_line)
+    c.from_residual.ensures.1 (omega arith) c.test_version.ensures.device.later (c.in_err-tested.ensures.answer files told) (refused_line (IsHeldIn files) cmp v verified_line e)
 
-pub entry_count-requires : goal.entry_count-requires
-entry_count-requires g c =
-    subst (All IsFew) (sym c.deref.ensures.value) (sound_few g.C.Comparator.cmp c.args.version.now (map lent_table c.args.loaded.now) c.in_ok-tables.tables.items c.in_ok-tables.ensures)
+pub returns-in_err-tested-clause-device : goal.returns-in_err-tested-clause-device
+returns-in_err-tested-clause-device g c = reports_handed c.from_residual.result c.in_err-tested.was c.test_version.ensures.device c.from_residual.ensures.1
 
-pub returns-in_err-entries : goal.returns-in_err-entries
-returns-in_err-entries g c =
+pub returns-clause-answer : goal.returns-clause-answer
+returns-clause-answer g c files told =
     let cmp = g.C.Comparator.cmp in
     let v = c.args.version.now in
-    let loaded = map lent_table c.args.loaded.now in
-    handed_memory (λ v. v.items) c.from_residual-in_err-entries.result c.in_err-entries.field-0.0 (entry_count c.deref.result.now) (IsLineOfLoaded cmp v loaded verified_line)
-    c.from_residual-in_err-entries.ensures.1 c.in_err-entries.ensures
+    let failed = g.F.Folder.failed in
+    let t = c.in_ok-tested.tested in
+    let line : List ℕ = lawful_line t.files t.entries in
+    answers_alone (λ v. v.items) (failed c.args.folder.now) (failed c.test_version.new.folder) c.lawful_line.result (λ a. a ≡ Ok line) (IsLineOfVersion (IsHeldIn files) cmp v verified_line)
+    (λ a h. subst (IsLineOfVersion (IsHeldIn files) cmp v verified_line) (sym h) (line_of_tested (IsHeldIn files) cmp v t (c.in_ok-tested.ensures.answer files told))) (lines_hold (λ v. v.items) c.lawful_line.result line c.lawful_line.ensures)
 
-pub returns : goal.returns
-returns g c =
-    let cmp = g.C.Comparator.cmp in
-    let v = c.args.version.now in
-    let loaded = map lent_table c.args.loaded.now in
-    let tables = c.in_ok-tables.tables.items in
-    let count : c.in_ok-entries.entries ≡ entry_count tables = sym (ok_is _ _ c.in_ok-entries.ensures) ∙ ap entry_count c.deref.ensures.value in
-    let files : c.len.result ≡ length tables = c.len.ensures ∙ c.in_ok-tables.tables.ok.0 in
-    let line : lawful_line c.len.result c.in_ok-entries.entries ≡ verified_line tables = ap₂ lawful_line files count in
-    told_line cmp v loaded (λ v. v.items) verified_line tables c.lawful_line.result c.in_ok-tables.ensures
-    (subst (λ (t : List ℕ). EqualOrMemory (λ v. v.items) c.lawful_line.result (Ok t)) line c.lawful_line.ensures)
+pub returns-clause-device : goal.returns-clause-device
+returns-clause-device g c =
+    let failed = g.F.Folder.failed in
+    let t = c.in_ok-tested.tested in
+    reports_after c.lawful_line.result c.in_ok-tested.was c.test_version.ensures.device
+    (lines_device (λ v. v.items) (failed c.args.folder.now) (failed c.test_version.new.folder) c.lawful_line.result (lawful_line t.files t.entries) c.lawful_line.ensures)

@@ -115,6 +115,15 @@ module _ {X : Type 0} (view : X → List ℕ) (before middle now : ℕ) (r : Res
   opened_answer order v line_of opened given =
       answers_by (IsLineOfVersion (IsHeldIn files) (order_cmp order) v (line_of v)) (IsLineOfFolder (IsHeldIn files) line_of) (λ a h. (Ok (order, v), (opened, h))) given
 
+  -- the version is tested, and then the line of its tables is answered
+  pub tested_answer : (cmp : List ℕ → List ℕ → Ordering) (v : State) (line_of : List NumberedContents → List ℕ) (tested : Tested) → IsTested (IsHeldIn files) cmp v (Ok tested)
+      → ((loaded : List (ℕ × List ℕ)) (tables : List NumberedContents) → IsLoaded (IsHeldIn files) (file_numbers cmp v) (Ok loaded) → IsLawfulTables cmp v loaded (Ok tables)
+      → FolderAnswers view middle now r (λ a. a ≡ Ok (line_of tables))) → FolderAnswers view before now r (IsLineOfVersion (IsHeldIn files) cmp v line_of)
+  tested_answer cmp v line_of tested (Err e, (l, is)) f = absurd (no_refusal tested e is)
+  tested_answer cmp v line_of tested (Ok loaded, (l, (Err e, (k, is)))) f = absurd (no_refusal tested e is)
+  tested_answer cmp v line_of tested (Ok loaded, (l, (Ok tables, (k, is)))) f =
+      answers_by (λ a. a ≡ Ok (line_of tables)) (IsLineOfVersion (IsHeldIn files) cmp v line_of) (λ a same. (Ok loaded, (l, (Ok tables, (k, same))))) (f loaded tables l k)
+
   -- the line of tables that the folder tells is that of the files
   pub held_answer : (tells : List ℕ → Option (List ℕ) → Type 0) (cmp : List ℕ → List ℕ → Ordering) (v : State) (line_of : List NumberedContents → List ℕ) → Tells tells files
       → FolderAnswers view middle now r (IsLineOfVersion tells cmp v line_of) → FolderAnswers view before now r (IsLineOfVersion (IsHeldIn files) cmp v line_of)

@@ -12,14 +12,14 @@ ghost use Rattle.commands.specs.FolderLines.{got_line, verified_line};
 ghost use Rattle.commands.specs.Lines.{IsShown, version_lines};
 ghost use Rattle.commands.specs.Questions.{line_of};
 
-use crate::folder_get::got;
 use crate::question::Question;
+use crate::unverified_get::value_by;
 use crate::version_text::version_lines;
 use crate::version_verdict::verified;
-use checks::Watch;
+use checks::{CHECKERS, Watch, test_version};
 use coding::Fault;
 use edit::Version;
-use folder::{Folder, Order, load, open};
+use folder::{Folder, Order, open};
 use ikey::{Bytewise, SharedComparator, Shortlex};
 use std::alloc::Global;
 use std::thread::Threads;
@@ -191,27 +191,28 @@ fn answered_by<C: SharedComparator + 'static, F: Folder, W: Watch + Sync, R: Thr
     match question {
         Question::Lawful => { verified::<C, F, W, R>(rt, alloc, folder, version, memory, watch) }
         Question::Value { key, at } => {
-            loaded_value::<C, F, W, R>(rt, alloc, folder, version, key, at, watch)
+            tested_value::<C, F, W, R>(rt, alloc, folder, version, key, at, memory, watch)
         }
     }
 }
 
-/// The line of the value of a user key, with all tables of the version in memory. It only reads.
-fn loaded_value<C: SharedComparator + 'static, F: Folder, W: Watch + Sync, R: Threads + Sync>(
+/// The line of the value of a user key, after the version is tested. It only reads.
+fn tested_value<C: SharedComparator + 'static, F: Folder, W: Watch + Sync, R: Threads + Sync>(
     rt: &R,
     alloc: Global,
     folder: &mut F,
     version: &Version,
     key: &[u8],
     at: Option<u64>,
+    memory: u64,
     watch: &W,
 ) -> Result<Vec<u8>, Fault>
-    ensures answer { FolderAnswers (λ v. v.items) (F.failed folder.old) (F.failed folder.new) result
-        (IsLineOfVersion (F.tells folder.old) C.cmp version.now
-        (got_line key.now at version.now)) }
+    ensures answer { (files : Files) → Tells (F.tells folder.old) files →
+        FolderAnswers (λ v. v.items) (F.failed folder.old) (F.failed folder.new) result
+        (IsLineOfVersion (IsHeldIn files) C.cmp version.now (got_line key.now at version.now)) }
     ensures device { ReportsDevice F.Folder folder.old folder.new result }
     ensures reads { OnlyReads F.Folder folder.old folder.new }
 {
-    let loaded = load::<C, F>(alloc, folder, version)?;
-    got::<C, W, R>(rt, alloc, version, &loaded, key, at, watch)
+    test_version::<C, F, W, R>(rt, alloc, folder, version, memory, CHECKERS, watch)?;
+    value_by::<C, F>(alloc, folder, version, key, at)
 }

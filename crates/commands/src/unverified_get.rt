@@ -53,7 +53,7 @@ pub fn unverified_value<F: Folder>(
 }
 
 /// The same by this comparator.
-fn value_by<C: Comparator, F: Folder>(
+pub(crate) fn value_by<C: Comparator, F: Folder>(
     alloc: Global,
     folder: &mut F,
     version: &Version,

@@ -116,14 +116,11 @@ fn sync_due<R: WholeFiles>(rt: &R, alloc: Global, folder: &str, due: &mut Due) {
     }
 }
 
-/// Takes the bytes of the file of this `name`. Files are asked for from the last one on. Those that
-/// were due before it are dropped, since nobody will ask for them. If no file has the name, all
-/// are.
+/// The bytes of the file of this name, if it was read ahead. It is searched from the last one on.
 pub(crate) fn take(files: &mut Vec<Ahead>, name: &str) -> Option<Vec<u8>> {
-    for _ in 0..files.len() {
-        let next = files.pop()?;
-        if next.name.as_str() == name {
-            return next.bytes;
+    for place in (0..files.len()).rev() {
+        if files[place].name.as_str() == name {
+            return files.remove(place).bytes;
         }
     }
     None

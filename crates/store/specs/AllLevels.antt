@@ -1,6 +1,6 @@
 -- Compactions of one level after the other.
-use Rattle.std.specs.Prelude.{◌≡◌, ◌⊎◌, ℕ, true, List, [], ◌∷◌, ◌++◌, map, Option, Some, None, Result, Ok}
-use Rattle.std.specs.Prelude.{Err, IfErr, IfOk, OnOk, Contains}
+use Rattle.std.specs.Prelude.{◌≡◌, ◌⊎◌, ℕ, true, List, [], ◌∷◌, ◌++◌, map, Option, Some, None}
+use Rattle.std.specs.Prelude.{Result, Ok, Err, IfErr, IfOk, OnOk, Contains}
 use Rattle.std.specs.declared.cmp.Ordering.{Ordering}
 use Rattle.coding.specs.Answers.{UnlessMemory}
 use Rattle.coding.specs.declared.fault.Fault.{Fault}
@@ -107,11 +107,11 @@ pub record IsNextRefused (cmp : List ℕ → List ℕ → Ordering) (short_keys 
 -- - At Ok none is begun, and the folder stands for that version. It is at the bottom unless it was
 --   told to stop.
 -- - Else the next compaction is refused, or the device failed.
-pub record IsDescended {W : Type 0} (tells : W → List ℕ → W → Type 0) (order : Order) (cmp : List ℕ → List ℕ → Ordering) (short_keys : ShortKeys)
-    (s : Settings) (v : State) (loaded : List (ℕ × List ℕ)) (tables : List NumberedContents)
-    (before after : List Step) (new : List ℕ → Option (List ℕ) → Type 0)
-    (failed now : ℕ) (told told_now : W) (result : Result DescentEnd Fault)
-    : Type 0 where
+pub record IsDescended {W : Type 0} (tells : W → List ℕ → W → Type 0) (order : Order)
+    (cmp : List ℕ → List ℕ → Ordering) (short_keys : ShortKeys) (s : Settings)
+    (v : State) (loaded : List (ℕ × List ℕ)) (tables : List NumberedContents)
+    (before after : List Step) (new : List ℕ → Option (List ℕ) → Type 0) (failed now : ℕ)
+    (told told_now : W) (result : Result DescentEnd Fault) : Type 0 where
   pub bottom : ℕ
   pub is_bottom : IsBottom v bottom
   pub links : List CompactionLink

@@ -81,7 +81,8 @@ IsReadCompacted cmp short_keys v p s loaded =
 abbrev pub IsPickedCompacted : (List ℕ → List ℕ → Ordering) → ShortKeys →
     Files → State → Settings → PickedInputs → Result (List ℕ) Fault → Type 0
 IsPickedCompacted cmp short_keys files v s p =
-    IsThen (IsLoaded (IsHeldIn files) (input_numbers p.files)) (IsReadCompacted cmp short_keys v p s)
+    IsThen (IsLoaded (IsHeldIn files) (input_numbers p.files))
+    (IsReadCompacted cmp short_keys v p s)
 
 -- The answer for a level of a version. The first refusal counts: of the version's files, of which
 -- no table is read; of a level without inputs; of their tables; of their compaction. Else the

@@ -28,7 +28,8 @@ pub record IsUntold {T W : Type 0} (before after : List Step) (old new : List �
 
 -- it was refused, so nothing was told; by its refusal, or since the device failed
 pub record IsStepRefused {W : Type 0} (order : Order) (cmp : List ℕ → List ℕ → Ordering)
-    (short_keys : ShortKeys) (v : State) (loaded : List (ℕ × List ℕ)) (level : ℕ) (s : Settings) (before after : List Step)
+    (short_keys : ShortKeys) (v : State) (loaded : List (ℕ × List ℕ)) (level : ℕ) (s : Settings)
+    (before after : List Step)
     (old new : List ℕ → Option (List ℕ) → Type 0) (failed now : ℕ) (told told_now : W)
     (result : Result (Option Opened) Fault) : Type 0 where
   pub e : Fault
@@ -40,7 +41,8 @@ pub record IsStepRefused {W : Type 0} (order : Order) (cmp : List ℕ → List �
 
 -- it was installed and told; what it is opened as after it is what was installed
 pub record IsStepTold {W : Type 0} (tells : W → List ℕ → W → Type 0) (order : Order)
-    (cmp : List ℕ → List ℕ → Ordering) (short_keys : ShortKeys) (v : State) (loaded : List (ℕ × List ℕ)) (level : ℕ) (s : Settings) (before after : List Step)
+    (cmp : List ℕ → List ℕ → Ordering) (short_keys : ShortKeys) (v : State)
+    (loaded : List (ℕ × List ℕ)) (level : ℕ) (s : Settings) (before after : List Step)
     (old new : List ℕ → Option (List ℕ) → Type 0) (told told_now : W)
     (result : Result (Option Opened) Fault) : Type 0 where
   pub step : CompactionStep

@@ -110,8 +110,8 @@ pub fn compact_levels<F: Folder, T: InstallWatch, W: Watch + Sync, R: Threads + 
     Err(Fault::of(FaultName::Numbers))
 }
 
-/// Compacts a `level` of what a folder was `opened` as, and tells of it. What the folder is opened as
-/// after it, if it is to go on.
+/// Compacts a `level` of what a folder was `opened` as, and tells of it. What the folder is opened
+/// as after it, if it is to go on.
 fn take_step<F: Folder, T: InstallWatch, W: Watch + Sync, R: Threads + Sync>(
     rt: &R,
     alloc: Global,

@@ -47,13 +47,14 @@ use std::thread::Threads;
 /// - SplitCount: `settings.ranges` is outside 1 to 4,096;
 /// - Numbers: next file is 2^64 - 1;
 /// - what `compact::compact` is refused as, Workers first;
-/// - Changed: just before CURRENT is replaced it isn't what it was when the folder was opened, since
-///   another program wrote it meanwhile. A folder that tells what it holds is never refused so.
+/// - Changed: just before CURRENT is replaced it isn't what it was when the folder was opened,
+///   since another program wrote it meanwhile. A folder that tells what it holds is never refused
+///   so.
 ///
 /// If the device fails a call, the answer is Device and no further call is made. If memory runs
 /// out, it is Memory. After these two the folder reads as the version before or as the edited one,
-/// and has to be opened again. After Changed CURRENT stays as it is, and the tables and the manifest
-/// that were written stay too. After any other refusal the folder holds what it held.
+/// and has to be opened again. After Changed CURRENT stays as it is, and the tables and the
+/// manifest that were written stay too. After any other refusal the folder holds what it held.
 ///
 /// The work is told to `watch`, which is `&Open` if nobody watches. It doesn't change the answer.
 pub fn compact_dir<F: Folder, W: Watch + Sync, R: Threads + Sync>(

@@ -1,6 +1,7 @@
 //! The compaction of a folder that reads its inputs and no other table.
 
-ghost use Rattle.std.specs.Prelude.{◌≡◌, ◌≢◌, ◌<◌, ◌^◌, ℕ, List, length, codes, Some, Ok, IfOk, OnOk};
+ghost use Rattle.std.specs.Prelude.{◌≡◌, ◌≢◌, ◌<◌, ◌^◌, ℕ, List, length, codes, Some, Ok, IfOk};
+ghost use Rattle.std.specs.Prelude.{OnOk};
 ghost use Rattle.checks.specs.LawfulTables.{IsLawfulTables};
 ghost use Rattle.compact.specs.Answered.{answer_in};
 ghost use Rattle.folder.specs.Calls.{Files, Tells};
@@ -37,8 +38,8 @@ use std::alloc::Global;
 use std::thread::Threads;
 
 /// Compacts a `level` of what a folder was `opened` as, and installs the outcome. It reads the
-/// tables of the inputs and no other: so the caller says that the version is lawful, as after a test
-/// of it, or as a compaction of a lawful version leaves it.
+/// tables of the inputs and no other: so the caller says that the version is lawful, as after a
+/// test of it, or as a compaction of a lawful version leaves it.
 ///
 /// What holds without that word: the answer, and that it writes over no file of the version.
 ///
@@ -147,8 +148,8 @@ fn ready_step<C: SharedComparator + 'static, F: Folder, W: Watch + Sync, R: Thre
     watch: &W,
 ) -> Result<Ready, Fault>
     ensures answer { (files : Files) → Tells (F.tells folder.old) files →
-        FolderAnswers (λ ready. ready.lines.items) (F.failed folder.old) (F.failed folder.new) result
-        (IsInputsCompacted C.cmp C.short_keys files version.now level settings.now) }
+        FolderAnswers (λ ready. ready.lines.items) (F.failed folder.old) (F.failed folder.new)
+        result (IsInputsCompacted C.cmp C.short_keys files version.now level settings.now) }
     ensures compacted { (files : Files) (order : Order) (loaded : List (ℕ × List ℕ))
         (tables : List NumberedContents) → Tells (F.tells folder.old) files →
         IsLoaded (IsHeldIn files) (file_numbers C.cmp version.now) (Ok loaded) →

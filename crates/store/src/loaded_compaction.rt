@@ -53,8 +53,8 @@ pub(crate) fn compact_loaded<C: SharedComparator + 'static, W: Watch + Sync, R: 
     ensures answer { HoldsOrMemory (λ c. c.lines.items) result
         (IsReadCompacted C.cmp C.short_keys version.now (picked_in picked.now) settings.now
         (tables_in loaded.now)) }
-    ensures outcome { IfOk result (λ c. (compaction_of C.cmp C.short_keys version.now (tables_in loaded.now)
-        (picked_in picked.now) settings.now ≡ Ok (answer_in c.outcome))
+    ensures outcome { IfOk result (λ c. (compaction_of C.cmp C.short_keys version.now
+        (tables_in loaded.now) (picked_in picked.now) settings.now ≡ Ok (answer_in c.outcome))
         × (c.lines.items ≡ compaction_lines (answer_in c.outcome).tables picked.now.files.items
         (manifest_of version.now))) }
     ensures logs { IfOk result (λ c. (unwrap_or version.now.log_number 0 < 2 ^ 64)

@@ -268,7 +268,7 @@ fn not_owned(alloc: Global, bytes: &[u8]) -> Option<FaultName> {
 fn tables_are_read_and_sought(rt: HostRuntime) {
     assert!(rt; is_read(rt.alloc()) == Ok(true));
     assert!(rt; is_lent(rt.alloc()) == Ok(true));
-    assert!(rt; not_owned(rt.alloc(), &FIVE[1..]) == Some(FaultName::Trailer));
+    assert!(rt; not_owned(rt.alloc(), &FIVE[1..]) == Some(FaultName::Range));
     for wanted in SOUGHT {
         assert!(rt; are_left(rt.alloc(), wanted) == Ok(true), "{:?}", wanted.1);
     }

@@ -146,9 +146,9 @@ impl InstallWatch for Collected {
 fn is_descent<R: AllocGlobal + Threads + Sync>(rt: &R, row: &Descent) -> Result<bool, Fault> {
     let (is_whole, most, end, lines, left) = row;
     let files = files_of(&KEPT);
-    let files = if *is_whole { &files[..] } else { &files[..3] };
+    let count = if *is_whole { files.len() } else { 3 };
     let alloc = rt.alloc();
-    let mut folder = Shelf::new(alloc, files);
+    let mut folder = Shelf::new(alloc, &files[..count]);
     let opened = open(alloc, &mut folder)?;
     let mut told = Collected {
         lines: Vec::new(alloc),

@@ -163,43 +163,43 @@ pub(crate) const KEPT: Row = Row {
     ..PLAIN
 };
 
-/// All levels of the folder of that compaction: whether file 8 is there, after how many compactions
-/// it is stopped, how it ends, its lines, and files that the folder has after it.
-pub(crate) type Descent = (
-    bool,
-    u64,
-    Result<DescentEnd, FaultName>,
-    &'static str,
-    Files,
-);
+/// A compaction of all levels: over the first `files` files of the folder of [`KEPT`], told to stop
+/// after `most` steps; how it ends, the lines that it tells, and files that it leaves.
+pub(crate) struct Descent {
+    pub files: usize,
+    pub most: u64,
+    pub end: Result<DescentEnd, FaultName>,
+    pub lines: &'static str,
+    pub left: Files,
+}
 
 pub(crate) const DESCENTS: &[Descent] = &[
-    (
-        true,
-        9,
-        Ok(DescentEnd::AtBottom),
-        "output 10 113\ndeleted 1 7\ninstalled MANIFEST-000009\n\
+    Descent {
+        files: 4,
+        most: 9,
+        end: Ok(DescentEnd::AtBottom),
+        lines: "output 10 113\ndeleted 1 7\ninstalled MANIFEST-000009\n\
         output 12 127\ndeleted 2 10\ndeleted 3 8\ninstalled MANIFEST-000011\n",
-        &[
+        left: &[
             ("CURRENT", b"MANIFEST-000011\n"),
             ("000010.ldb", U4_DELETED),
             ("000012.ldb", T_AND_V),
         ],
-    ),
-    (
-        true,
-        1,
-        Ok(DescentEnd::Stopped),
-        "output 10 113\ndeleted 1 7\ninstalled MANIFEST-000009\n",
-        &[NINE, ("MANIFEST-000009", DELETION_LEFT)],
-    ),
-    (
-        false,
-        9,
-        Err(FaultName::Missing),
-        "",
-        &[("CURRENT", CURRENT), ("000007.ldb", TWO_ENTRIES)],
-    ),
+    },
+    Descent {
+        files: 4,
+        most: 1,
+        end: Ok(DescentEnd::Stopped),
+        lines: "output 10 113\ndeleted 1 7\ninstalled MANIFEST-000009\n",
+        left: &[NINE, ("MANIFEST-000009", DELETION_LEFT)],
+    },
+    Descent {
+        files: 3,
+        most: 9,
+        end: Err(FaultName::Missing),
+        lines: "",
+        left: &[("CURRENT", CURRENT), ("000007.ldb", TWO_ENTRIES)],
+    },
 ];
 
 /// The tables and manifests that are left. `tests/cases` has the settings at their limits and past

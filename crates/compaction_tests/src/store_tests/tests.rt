@@ -144,15 +144,14 @@ impl InstallWatch for Collected {
 
 /// Whether all levels of the folder of a row are compacted so.
 fn is_descent<R: AllocGlobal + Threads + Sync>(rt: &R, row: &Descent) -> Result<bool, Fault> {
-    let (is_whole, most, end, lines, left) = row;
     let files = files_of(&KEPT);
-    let count = if *is_whole { files.len() } else { 3 };
+    let count = row.files.min(files.len());
     let alloc = rt.alloc();
     let mut folder = Shelf::new(alloc, &files[..count]);
     let opened = open(alloc, &mut folder)?;
     let mut told = Collected {
         lines: Vec::new(alloc),
-        left: *most,
+        left: row.most,
     };
     let answer = compact_all(
         rt,
@@ -164,18 +163,22 @@ fn is_descent<R: AllocGlobal + Threads + Sync>(rt: &R, row: &Descent) -> Result<
         &Open,
         &mut told,
     );
-    let is_end = match (answer, end) {
-        (Ok(is), Ok(wanted)) => is == *wanted,
-        (Err(fault), Err(name)) => fault == Fault::of(*name),
-        _ => false,
-    };
-    Ok(is_end && told.lines.as_slice() == lines.as_bytes() && holds(&folder, left))
+    let is_told = told.lines.as_slice() == row.lines.as_bytes();
+    Ok(is_end(answer, row) && is_told && holds(&folder, row.left))
+}
+
+/// Whether a compaction of all levels ends as its row says.
+fn is_end(answer: Result<DescentEnd, Fault>, row: &Descent) -> bool {
+    match answer {
+        Ok(end) => row.end == Ok(end),
+        Err(fault) => row.end == Err(fault.name) && fault == Fault::of(fault.name),
+    }
 }
 
 #[test]
 fn all_levels_that_are_compacted(rt: HostRuntime) {
     for row in DESCENTS {
-        assert!(rt; is_descent(&rt, row) == Ok(true), "{}", row.1);
+        assert!(rt; is_descent(&rt, row) == Ok(true), "{}", row.lines);
     }
 }
 

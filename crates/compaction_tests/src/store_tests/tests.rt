@@ -128,6 +128,13 @@ struct Collected {
     left: u64,
 }
 
+impl Collected {
+    /// Whether these are the lines.
+    fn has(&self, lines: &str) -> bool {
+        self.lines.as_slice() == lines.as_bytes()
+    }
+}
+
 impl InstallWatch for Collected {
     fn installed(
         &mut self,
@@ -142,29 +149,29 @@ impl InstallWatch for Collected {
     }
 }
 
+/// How the compaction of all levels of a folder ends.
+fn descent<R: AllocGlobal + Threads + Sync>(
+    rt: &R,
+    folder: &mut Shelf<'_>,
+    settings: &Settings<'_>,
+    told: &mut Collected,
+) -> Result<DescentEnd, Fault> {
+    let alloc = rt.alloc();
+    let opened = open(alloc, folder)?;
+    compact_all(rt, alloc, folder, opened, settings, MEMORY, &Open, told)
+}
+
 /// Whether all levels of the folder of a row are compacted so.
-fn is_descent<R: AllocGlobal + Threads + Sync>(rt: &R, row: &Descent) -> Result<bool, Fault> {
+fn is_descent<R: AllocGlobal + Threads + Sync>(rt: &R, row: &Descent) -> bool {
     let files = files_of(&KEPT);
     let count = row.files.min(files.len());
-    let alloc = rt.alloc();
-    let mut folder = Shelf::new(alloc, &files[..count]);
-    let opened = open(alloc, &mut folder)?;
+    let mut folder = Shelf::new(rt.alloc(), &files[..count]);
     let mut told = Collected {
-        lines: Vec::new(alloc),
+        lines: Vec::new(rt.alloc()),
         left: row.most,
     };
-    let answer = compact_all(
-        rt,
-        alloc,
-        &mut folder,
-        opened,
-        &DEFAULTS,
-        MEMORY,
-        &Open,
-        &mut told,
-    );
-    let is_told = told.lines.as_slice() == row.lines.as_bytes();
-    Ok(is_end(answer, row) && is_told && holds(&folder, row.left))
+    let answer = descent(rt, &mut folder, &DEFAULTS, &mut told);
+    is_end(answer, row) && told.has(row.lines) && holds(&folder, row.left)
 }
 
 /// Whether a compaction of all levels ends as its row says.
@@ -178,7 +185,7 @@ fn is_end(answer: Result<DescentEnd, Fault>, row: &Descent) -> bool {
 #[test]
 fn all_levels_that_are_compacted(rt: HostRuntime) {
     for row in DESCENTS {
-        assert!(rt; is_descent(&rt, row) == Ok(true), "{}", row.lines);
+        assert!(rt; is_descent(&rt, row), "{}", row.lines);
     }
 }
 

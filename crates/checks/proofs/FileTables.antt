@@ -1,35 +1,26 @@
--- The tables of a version's files, read from a folder and by themselves.
-use Rattle.std.proofs.Common.{◌≡◌, ℕ, ◌+◌, Bool, eqb, List, [], ◌∷◌, ◌++◌, length, map, Option, Some, Result, Ok, refl, sym, ap, ap₂, subst, ◌∙◌, if◌then◌else◌, inl, inr}
+-- The tables of a version's files, found in a folder and by themselves.
+use Rattle.std.proofs.Common.{◌≡◌, ℕ, ◌+◌, Bool, eqb, List, [], ◌∷◌, length, map, Option, Some, refl, sym, ap, ap₂, subst, ◌∙◌, if◌then◌else◌, inl, inr}
 use Rattle.std.specs.Prelude.{Contains}
-use Rattle.std.specs.List.{All, AllZip, find}
+use Rattle.std.specs.List.{All, find}
 use Rattle.std.specs.Option.{option_map}
 use Rattle.std.specs.declared.cmp.Ordering.{Ordering}
 use Rattle.std.proofs.lemmas.Bool.{eq-eqb}
 use Rattle.std.proofs.lemmas.List.Elements.{All-head, All-tail}
 use Rattle.std.proofs.lemmas.Option.{same_Some}
-use Rattle.coding.specs.Answers.{◌>>=◌}
-use Rattle.coding.specs.declared.fault.Fault.{Fault}
 use Rattle.block.specs.EncodedEntry.{Entry}
-use Rattle.table.specs.TableContents.{Contents, contents_reading}
+use Rattle.table.specs.TableContents.{Contents}
 use Rattle.split.specs.Ranges.{KeyRange}
 use Rattle.edit.specs.declared.meta.FileMeta.{FileMeta}
 use Rattle.folder.specs.Calls.{Files}
-use Rattle.folder.specs.LoadedTables.{IsFirstMissing, IsTableOf}
-use Rattle.folder.specs.ReadsAs.{IsHeldIn}
 use Rattle.reads.specs.StatedFiles.{IsStatedFile}
 use Rattle.reads.specs.TableOrder.{lists_of_files}
 use Rattle.reads.specs.Tables.{NumberedContents, table_entries, table_of_number}
 use Rattle.reads.proofs.Answers.{entries_are}
-use Rattle.reads.proofs.Members.{first_in, first_or_later, later_in, none_in}
-use Rattle.checks.specs.Checked.{tables_reading}
+use Rattle.reads.proofs.Members.{first_or_later, none_in}
 use Rattle.checks.specs.NeededFiles.{starts_in}
-use Rattle.checks.specs.GroupTest.{AreStatedBy, IsStatedBy, IsStatedIn, IsTableIn, alone, contents_of_all, count_in, counts_of}
-use Rattle.checks.proofs.FoundTables.{AreFound, not_missing, one_table, same_held}
-
--- an element between two lists
-in_middle : (before : List ℕ) (n : ℕ) (behind : List ℕ) → Contains (before ++ n ∷ behind) n
-in_middle [] n behind = first_in n behind
-in_middle (m ∷ before) n behind = later_in m (before ++ n ∷ behind) n (in_middle before n behind)
+use Rattle.checks.specs.GroupTest.{AreStatedBy, IsStatedBy, IsStatedIn, alone, contents_of_all, count_in, counts_of}
+use Rattle.checks.specs.HeldTables.{AreFound, IsTableIn}
+use Rattle.checks.proofs.FoundTables.{one_table}
 
 -- a table alone is found under its number
 pub alone_there : (f : FileMeta) (x : Contents) → table_of_number (alone f x) f.number ≡ Some x
@@ -112,35 +103,10 @@ module _ (cmp : List ℕ → List ℕ → Ordering) (files : Files) (next : Opti
         (ap (λ (es : List Entry). if starts_in cmp range f then length es else 0) (sym (entries_found f t.contents (All-head Stated f metas stated) h.0.1)))
         (found_counts range metas found h.1 (All-tail Stated f metas stated))
 
-    -- the tables of stated files that were loaded can be read
-    pub all_read : (metas : List FileMeta) (loaded : List (ℕ × List ℕ)) → AllZip (IsTableOf (IsHeldIn files)) (numbers_in metas) loaded → All Stated metas → (found : List NumberedContents) × (tables_reading cmp loaded ≡ Ok found)
-    all_read [] [] h stated = ([], refl)
-    all_read [] (t ∷ loaded) h stated = absurd h
-    all_read (f ∷ metas) [] h stated = absurd h
-    all_read (f ∷ metas) (t ∷ loaded) h stated =
+    -- the tables of stated files are found
+    pub all_found : (metas : List FileMeta) → All Stated metas → (found : List NumberedContents) × AreFound cmp files (numbers_in metas) found
+    all_found [] stated = ([], tt)
+    all_found (f ∷ metas) stated =
         let s = All-head Stated f metas stated in
-        let there = read f.number s.table s.there in
-        let same : t.1 ≡ s.table.bytes = same_held files f.number t.1 s.table.bytes h.0.1 there.there in
-        let one : contents_reading cmp t.1 ≡ Ok s.table = ap (contents_reading cmp) same ∙ there.read in
-        let rest = all_read metas loaded h.1 (All-tail Stated f metas stated) in
-        let first : NumberedContents = record { number = t.0; contents = s.table } in (
-          first ∷ rest.0,
-          ap (λ (r : Result Contents Fault). (r >>= λ contents. Ok (record { number = t.0; contents = contents })) >>= λ first. tables_reading cmp loaded >>= λ others. Ok (first ∷ others)) one
-              ∙ ap (λ (r : Result (List NumberedContents) Fault). r >>= λ others. Ok (first ∷ others)) rest.1,
-        )
-
-    -- none of them is missing
-    number_of : (metas : List FileMeta) (n : ℕ) → Contains (numbers_in metas) n → All Stated metas → (x : Contents) × IsTableIn cmp files n x
-    number_of [] n at stated = absurd (none_in n at)
-    number_of (f ∷ metas) n at stated = elim (first_or_later f.number (numbers_in metas) n at) [
-      | inl same ↦
-          let s = All-head Stated f metas stated in
-          (s.table, subst (λ (k : ℕ). IsTableIn cmp files k s.table) (sym same) (read f.number s.table s.there))
-      | inr later ↦ number_of metas n later (All-tail Stated f metas stated)
-    ]
-
-    pub none_missing : (metas : List FileMeta) (e : Fault) → IsFirstMissing (IsHeldIn files) (numbers_in metas) e → All Stated metas → ⊥
-    none_missing metas e m stated =
-        let at : Contains (numbers_in metas) m.number = subst (λ (ns : List ℕ). Contains ns m.number) (sym m.parts) (in_middle m.before m.number m.behind) in
-        let there = number_of metas m.number at stated in
-        not_missing files m.number there.0.bytes e there.1.there m.missing
+        let rest = all_found metas (All-tail Stated f metas stated) in
+        (record { number = f.number; contents = s.table } ∷ rest.0, ((refl, read f.number s.table s.there), rest.1))

@@ -1,15 +1,14 @@
 -- The test of a version with the tables of a folder, step by step.
-use Rattle.std.proofs.Common.{◌≡◌, ◌≢◌, ◌⊎◌, ℕ, suc, ◌≤◌, List, [], ◌∷◌, Option, Some, None, Result, Ok, Err, IfOk, IfErr, IsErrAnd, length, refl, sym, ap, ap₂, subst, ◌∙◌, inl, inr}
+use Rattle.std.proofs.Common.{◌≡◌, ◌⊎◌, ℕ, suc, ◌≤◌, List, [], ◌∷◌, Option, Some, None, Result, Ok, Err, IfOk, IfErr, length, refl, sym, ap, ap₂, subst, ◌∙◌, inl, inr}
 use Rattle.std.specs.Prelude.{filter}
 use Rattle.std.specs.List.{AllZip}
 use Rattle.std.specs.Cmp.{IsTotalOrder}
 use Rattle.std.specs.declared.cmp.Ordering.{Ordering}
 use Rattle.coding.proofs.Binds.{done, failed, ok_is}
 use Rattle.coding.proofs.Refusals.{unless_from}
-use Rattle.coding.specs.Answers.{UnlessMemory, UnlessNamed, fault}
+use Rattle.coding.specs.Answers.{UnlessMemory, fault}
 use Rattle.coding.specs.declared.fault.Fault.{Fault}
-use Rattle.coding.specs.declared.fault.FaultName.{FaultName}
-use Rattle.coding.specs.declared.fault.FaultName.TheVariants.{Device, Lawless, Memory, Missing}
+use Rattle.coding.specs.declared.fault.FaultName.TheVariants.{Lawless, Memory}
 use Rattle.edit.specs.Version.{State}
 use Rattle.edit.specs.declared.meta.FileMeta.{FileMeta}
 use Rattle.folder.proofs.LoadingLemmas.{loaded_before}
@@ -18,15 +17,14 @@ use Rattle.folder.specs.Calls.{Files, Tells}
 use Rattle.folder.specs.Folder.{TellsSame}
 use Rattle.folder.specs.Levels.{file_numbers}
 use Rattle.folder.specs.LoadedTables.{IsLoaded, IsTableOf}
-use Rattle.folder.specs.OpenAnswer.{FolderAnswers, HasDeviceFailed, IsStopped}
-use Rattle.folder.specs.Reports.{ReportsDevice}
-use Rattle.folder.specs.declared.folder.Folder.{Ghosts}
+use Rattle.folder.specs.OpenAnswer.{FolderAnswers, IsStopped}
 use Rattle.folder.specs.ReadsAs.{IsHeldIn}
 use Rattle.split.specs.Ranges.{IsCover, KeyRange}
 use Rattle.reads.specs.Tables.{NumberedContents}
 use Rattle.reads.specs.TableOrder.{AreAllAdded, AreStandingFiles, IsNeverLawful}
 use Rattle.checks.specs.Checked.{tables_reading}
 use Rattle.checks.specs.GroupTest.{IsLawfulIn, IsLawlessIn, IsRangeAnswer, IsRangesAnswer, IsSweepAnswer, IsWalkAnswer}
+use Rattle.checks.specs.HeldTables.{AreFound, IsFoundAnswer}
 use Rattle.checks.specs.InOrder.{AreChecked}
 use Rattle.checks.specs.NeededFiles.{is_needed}
 use Rattle.checks.specs.TestedTables.{IsTested, tested_of}
@@ -34,7 +32,7 @@ use Rattle.checks.specs.declared.tested.Tested.{Tested}
 use Rattle.checks.proofs.FileTables.{numbers_in}
 use Rattle.checks.proofs.FoundTables.{checked_parts}
 use Rattle.checks.proofs.LawfulLemmas.{not_checked, sound}
-use Rattle.checks.proofs.RangeLemmas.{missing_wrong, walked_sound, walked_wrong}
+use Rattle.checks.proofs.RangeLemmas.{unfound_wrong, walked_sound, walked_wrong}
 use Rattle.checks.proofs.SweepLemmas.{all_sound, all_there, lawless}
 
 -- a folder that tells files tells them still where what may be read stays the same
@@ -57,79 +55,23 @@ answers_since view before middle now (Err e) IsFirst IsAnswer f one two given =
       | inr found ↦ inr (f (Err e) found)
     ]) given
 
--- what is refused for want of memory alone
-pub memory_answers : {X Y : Type 0} (view : X → Y) (before now : ℕ) (r : Result X Fault) (IsAnswer : Result Y Fault → Type 0) → IfErr r (λ e. e ≡ fault Memory) → IfOk r (λ x. IsAnswer (Ok (view x))) → FolderAnswers view before now r IsAnswer
-memory_answers view before now (Ok x) IsAnswer m h = h
-memory_answers view before now (Err e) IsAnswer m h = subst (λ (f : Fault). UnlessMemory f (IsStopped before now f ⊎ IsAnswer (Err f))) (sym m) tt
-
-pub handed_memory : {X Y : Type 0} (view : X → Y) (before now : ℕ) (r : Result X Fault) (e : Fault) (IsAnswer : Result Y Fault → Type 0) → IsErrAnd r (λ f. f ≡ e) → e ≡ fault Memory → FolderAnswers view before now r IsAnswer
-handed_memory view before now (Ok x) e IsAnswer h m = absurd h
-handed_memory view before now (Err f) e IsAnswer h m = subst (λ (f : Fault). UnlessMemory f (IsStopped before now f ⊎ IsAnswer (Err f))) (sym (h ∙ m)) tt
-
--- ---- a table that is missing
-
-named_missing : (e : Fault) (P : Type 0) → e.name ≡ Missing → UnlessMemory e P → P
-named_missing e P is h = subst (λ (n : FaultName). UnlessNamed n e.input P) is h
-
-pub missing_found : (before now : ℕ) (tells : List ℕ → Option (List ℕ) → Type 0) (numbers : List ℕ) (e : Fault) → e.name ≡ Missing → UnlessMemory e (IsStopped before now e ⊎ IsLoaded tells numbers (Err e)) → IsLoaded tells numbers (Err (fault Missing))
-missing_found before now tells numbers e is given =
-    elim (named_missing e (IsStopped before now e ⊎ IsLoaded tells numbers (Err e)) is given) [
-      | inl stopped ↦ let both : Device ≡ Missing = sym (ap (λ (f : Fault). f.name) stopped.0) ∙ is in absurd cc
-      | inr m ↦ subst (λ (f : Fault). IsLoaded tells numbers (Err f)) m.missing.2 m
-    ]
-
-pub not_missing_stops : (before now : ℕ) (tells : List ℕ → Option (List ℕ) → Type 0) (numbers : List ℕ) (e : Fault) (P : Type 0) → (e.name ≡ Missing → ⊥) → UnlessMemory e (IsStopped before now e ⊎ IsLoaded tells numbers (Err e)) → UnlessMemory e (IsStopped before now e ⊎ P)
-not_missing_stops before now tells numbers e P isnt given =
-    unless_from e (IsStopped before now e ⊎ IsLoaded tells numbers (Err e)) (IsStopped before now e ⊎ P) (λ g. elim g [
-      | inl stopped ↦ inl stopped
-      | inr m ↦ absurd (isnt (ap (λ (f : Fault). f.name) m.missing.2))
-    ]) given
-
--- ---- what is told of the device
-
--- want of memory isn't Device
-pub memory_device : {X : Type 0} (before now : ℕ) (r : Result X Fault) → IfErr r (λ e. e ≡ fault Memory) → IfErr r (HasDeviceFailed before now)
-memory_device before now (Ok x) h = tt
-memory_device before now (Err e) h = λ same. let both : Memory ≡ Device = sym (ap (λ (f : Fault). f.name) h) ∙ same in absurd cc
-
--- the same, where `?` hands it on
-pub memory_device_handed : {X : Type 0} (before now : ℕ) (r : Result X Fault) (e : Fault) → IsErrAnd r (λ f. f ≡ e) → e ≡ fault Memory → IfErr r (HasDeviceFailed before now)
-memory_device_handed before now (Ok x) e h m = tt
-memory_device_handed before now (Err f) e h m = λ same. let both : Memory ≡ Device = sym (ap (λ (f : Fault). f.name) (h ∙ m)) ∙ same in absurd cc
-
--- and isn't Device's name
-pub memory_other : {X : Type 0} (r : Result X Fault) (e : Fault) → IsErrAnd r (λ f. f ≡ e) → e ≡ fault Memory → IfErr r (λ f. f.name ≢ Device)
-memory_other (Ok x) e h m = tt
-memory_other (Err f) e h m = λ same. let both : Memory ≡ Device = sym (ap (λ (f : Fault). f.name) (h ∙ m)) ∙ same in absurd cc
-
--- a table that is missing, and no failure of the device
-pub reports_missing : {D X Y : Type 0} {g : Ghosts D} {a b : D} {first : Result X Fault} {e : Fault} (y : Y) → first ≡ Err e → e.name ≡ Missing → ReportsDevice g a b first → ReportsDevice g a b (Ok y)
-reports_missing {X = X} {e = e} y was is h = record {
-  device = tt;
-  at_once = λ rose.
-      let one : failed {A = X} e ≡ failed (fault Device) = sym was ∙ h.at_once rose in
-      let name : e ≡ fault Device = cc in
-      let both : Device ≡ Missing = sym (ap (λ (f : Fault). f.name) name) ∙ is in absurd cc;
-  later = h.later;
-}
-
 -- ---- a range
 
 module _ (cmp : List ℕ → List ℕ → Ordering) (total : IsTotalOrder cmp) (files : Files) (next : Option ℕ) (standing : List FileMeta) (range : KeyRange) where
   abbrev needed : List FileMeta
   needed = filter (is_needed cmp range) standing
 
-  pub range_answer : (loaded : List (ℕ × List ℕ)) → AllZip (IsTableOf (IsHeldIn files)) (numbers_in needed) loaded → (found : Option ℕ) → IsWalkAnswer cmp next range needed loaded found → IsRangeAnswer cmp files next standing range (Ok found)
-  range_answer loaded there (Some count) w = walked_sound cmp total files next standing range loaded there count w
-  range_answer loaded there None w = walked_wrong cmp total files next standing range loaded there w
+  pub range_answer : (tables : List NumberedContents) → AreFound cmp files (numbers_in needed) tables → (found : Option ℕ) → IsWalkAnswer cmp next range needed tables found → IsRangeAnswer cmp files next standing range (Ok found)
+  range_answer tables there (Some count) w = walked_sound cmp total files next standing range tables there count w
+  range_answer tables there None w = walked_wrong cmp total files next standing range tables there w
 
-  pub range_missing : (e : Fault) → IsLoaded (IsHeldIn files) (numbers_in needed) (Err e) → IsRangeAnswer cmp files next standing range (Ok None)
-  range_missing e m = missing_wrong cmp total files next standing range e m
+  pub range_unfound : IsFoundAnswer cmp files (numbers_in needed) (Ok None) → IsRangeAnswer cmp files next standing range (Ok None)
+  range_unfound h = unfound_wrong cmp total files next standing range h
 
-  pub range_answers : (before now : ℕ) (r : Result (Option ℕ) Fault) (metas : List FileMeta) (loaded : List (ℕ × List ℕ)) → metas ≡ needed → AllZip (IsTableOf (IsHeldIn files)) (numbers_in needed) loaded
-      → IfErr r (λ e. e ≡ fault Memory) → IfOk r (IsWalkAnswer cmp next range metas loaded) → FolderAnswers (λ (found : Option ℕ). found) before now r (IsRangeAnswer cmp files next standing range)
-  range_answers before now (Ok found) metas loaded same there m w = range_answer loaded there found (subst (λ (fs : List FileMeta). IsWalkAnswer cmp next range fs loaded found) same w)
-  range_answers before now (Err e) metas loaded same there m w = subst (λ (f : Fault). UnlessMemory f (IsStopped before now f ⊎ IsRangeAnswer cmp files next standing range (Err f))) (sym m) tt
+  pub range_answers : (before now : ℕ) (r : Result (Option ℕ) Fault) (metas : List FileMeta) (tables : List NumberedContents) → metas ≡ needed → AreFound cmp files (numbers_in needed) tables
+      → IfErr r (λ e. e ≡ fault Memory) → IfOk r (IsWalkAnswer cmp next range metas tables) → FolderAnswers (λ (found : Option ℕ). found) before now r (IsRangeAnswer cmp files next standing range)
+  range_answers before now (Ok found) metas tables same there m w = range_answer tables there found (subst (λ (fs : List FileMeta). IsWalkAnswer cmp next range fs tables found) same w)
+  range_answers before now (Err e) metas tables same there m w = subst (λ (f : Fault). UnlessMemory f (IsStopped before now f ⊎ IsRangeAnswer cmp files next standing range (Err f))) (sym m) tt
 
 -- ---- all ranges
 

@@ -1,20 +1,23 @@
 -- Tables that are read from the files of a folder, and what a version states of them.
-use Rattle.std.proofs.Common.{◌≡◌, ℕ, Bool, true, false, eqb, List, [], ◌∷◌, Some, Ok, Err, refl, sym, ap, subst, ◌∙◌, if◌then◌else◌, inl, inr}
+use Rattle.std.proofs.Common.{◌≡◌, ℕ, Bool, true, false, eqb, List, [], ◌∷◌, ◌++◌, map, Some, Result, Ok, Err, refl, sym, ap, ap₂, subst, ◌∙◌, if◌then◌else◌, inl, inr}
+use Rattle.std.specs.Prelude.{Contains}
 use Rattle.std.specs.List.{AllZip, find}
 use Rattle.std.specs.Option.{option_map}
 use Rattle.std.specs.declared.cmp.Ordering.{Ordering}
 use Rattle.std.proofs.lemmas.Bool.{eqb-true}
+use Rattle.std.proofs.lemmas.List.Elements.{All-cons, All-nil}
 use Rattle.std.proofs.lemmas.Option.{none-some, same_Some}
-use Rattle.coding.proofs.Binds.{bind_ok, ok_is}
+use Rattle.coding.proofs.Binds.{bind_ok, done, ok_is}
 use Rattle.coding.specs.Answers.{◌>>=◌}
 use Rattle.coding.specs.declared.fault.Fault.{Fault}
 use Rattle.table.specs.TableContents.{Contents, blocks_of, contents_of, contents_reading}
-use Rattle.folder.specs.Calls.{Files}
-use Rattle.folder.specs.LoadedTables.{IsTableAnswer, IsTableOf}
+use Rattle.folder.specs.Calls.{Files, ToldFiles}
+use Rattle.folder.specs.LoadedTables.{IsFirstMissing, IsTableAnswer, IsTableOf}
 use Rattle.folder.specs.ReadsAs.{IsHeldIn}
 use Rattle.reads.specs.Tables.{NumberedContents, table_of_number}
+use Rattle.reads.proofs.Members.{first_in, first_or_later, later_in, none_in}
 use Rattle.checks.specs.Checked.{numbered_reading, tables_reading}
-use Rattle.checks.specs.GroupTest.{IsTableIn}
+use Rattle.checks.specs.HeldTables.{AreFound, AreHeldIn, IsTableIn, held_numbers}
 
 -- ---- tables that were checked, one after the other
 
@@ -40,7 +43,7 @@ checked_parts cmp t loaded tables h =
     }
 
 -- what bytes hold has these bytes
-own_bytes : (cmp : List ℕ → List ℕ → Ordering) (bytes : List ℕ) (x : Contents) → contents_reading cmp bytes ≡ Ok x → bytes ≡ x.bytes
+pub own_bytes : (cmp : List ℕ → List ℕ → Ordering) (bytes : List ℕ) (x : Contents) → contents_reading cmp bytes ≡ Ok x → bytes ≡ x.bytes
 own_bytes cmp bytes x h =
     let parts = bind_ok (blocks_of cmp bytes) (λ blocks. Ok (contents_of bytes blocks)) x h in
     ap (λ (c : Contents). c.bytes) (ok_is (contents_of bytes parts.0) x parts.2)
@@ -50,6 +53,11 @@ again : (cmp : List ℕ → List ℕ → Ordering) (bytes : List ℕ) (x : Conte
 again cmp bytes x h = subst (λ (b : List ℕ). contents_reading cmp b ≡ Ok x) (own_bytes cmp bytes x h) h
 
 -- ---- one table for each number
+
+-- an element between two lists
+in_middle : (before : List ℕ) (n : ℕ) (behind : List ℕ) → Contains (before ++ n ∷ behind) n
+in_middle [] n behind = first_in n behind
+in_middle (m ∷ before) n behind = later_in m (before ++ n ∷ behind) n (in_middle before n behind)
 
 pub same_held : (files : Files) (n : ℕ) (a b : List ℕ) → IsTableAnswer (IsHeldIn files) n (Ok a) → IsTableAnswer (IsHeldIn files) n (Ok b) → a ≡ b
 same_held files n a b (inl h) (inl k) = same_Some a b (sym h ∙ k)
@@ -74,20 +82,16 @@ module _ (cmp : List ℕ → List ℕ → Ordering) (files : Files) where
     read = again cmp t.1 x read;
   }
 
-  -- the tables of numbers, each under its number
-  abbrev pub AreFound : List ℕ → List NumberedContents → Type 0
-  AreFound numbers tables = AllZip (λ (n : ℕ) (t : NumberedContents). (t.number ≡ n) × IsTableIn cmp files n t.contents) numbers tables
-
-  pub found_tables : (numbers : List ℕ) (loaded : List (ℕ × List ℕ)) (tables : List NumberedContents) → AllZip (IsTableOf (IsHeldIn files)) numbers loaded → tables_reading cmp loaded ≡ Ok tables → AreFound numbers tables
-  found_tables [] [] tables h read = subst (λ (ts : List NumberedContents). AreFound [] ts) (ok_is [] tables read) tt
+  pub found_tables : (numbers : List ℕ) (loaded : List (ℕ × List ℕ)) (tables : List NumberedContents) → AllZip (IsTableOf (IsHeldIn files)) numbers loaded → tables_reading cmp loaded ≡ Ok tables → AreFound cmp files numbers tables
+  found_tables [] [] tables h read = subst (λ (ts : List NumberedContents). AreFound cmp files [] ts) (ok_is [] tables read) tt
   found_tables [] (t ∷ loaded) tables h read = absurd h
   found_tables (n ∷ numbers) [] tables h read = absurd h
   found_tables (n ∷ numbers) (t ∷ loaded) tables h read =
       let parts = checked_parts cmp t loaded tables read in
-      subst (AreFound (n ∷ numbers)) parts.whole ((h.0.0, table_in n t parts.contents h.0 parts.read), found_tables numbers loaded parts.behind h.1 parts.rest)
+      subst (AreFound cmp files (n ∷ numbers)) parts.whole ((h.0.0, table_in n t parts.contents h.0 parts.read), found_tables numbers loaded parts.behind h.1 parts.rest)
 
   -- so each table that is found by its number is that of the number
-  pub found_at : (numbers : List ℕ) (tables : List NumberedContents) → AreFound numbers tables → (n : ℕ) (x : Contents) → table_of_number tables n ≡ Some x → IsTableIn cmp files n x
+  pub found_at : (numbers : List ℕ) (tables : List NumberedContents) → AreFound cmp files numbers tables → (n : ℕ) (x : Contents) → table_of_number tables n ≡ Some x → IsTableIn cmp files n x
   found_at [] [] h n x is = absurd (none-some x is)
   found_at [] (t ∷ tables) h n x is = absurd h
   found_at (m ∷ numbers) [] h n x is = absurd h
@@ -99,3 +103,56 @@ module _ (cmp : List ℕ → List ℕ → Ordering) (files : Files) where
           let number : m ≡ n = sym h.0.0 ∙ eqb-true t.number n same in
           subst (λ (c : Contents). IsTableIn cmp files n c) (same_Some t.contents x found) (subst (λ (k : ℕ). IsTableIn cmp files k t.contents) number h.0.1)
       by false other later found = later found
+
+  -- each table that is found is that of its own number
+  pub found_held : (numbers : List ℕ) (tables : List NumberedContents) → AreFound cmp files numbers tables → AreHeldIn cmp files tables
+  found_held [] [] h = All-nil (λ (t : NumberedContents). IsTableIn cmp files t.number t.contents)
+  found_held [] (t ∷ tables) h = absurd h
+  found_held (n ∷ numbers) [] h = absurd h
+  found_held (n ∷ numbers) (t ∷ tables) h =
+      All-cons (λ (t : NumberedContents). IsTableIn cmp files t.number t.contents) t tables (subst (λ (k : ℕ). IsTableIn cmp files k t.contents) (sym h.0.0) h.0.1) (found_held numbers tables h.1)
+
+  -- tables that were loaded read as those that are found
+  pub found_read : (numbers : List ℕ) (loaded : List (ℕ × List ℕ)) (tables : List NumberedContents) → AllZip (IsTableOf (IsHeldIn files)) numbers loaded → AreFound cmp files numbers tables → tables_reading cmp loaded ≡ Ok tables
+  found_read [] [] [] there h = refl
+  found_read [] [] (t ∷ tables) there h = absurd h
+  found_read [] (b ∷ loaded) tables there h = absurd there
+  found_read (n ∷ numbers) [] tables there h = absurd there
+  found_read (n ∷ numbers) (b ∷ loaded) [] there h = absurd h
+  found_read (n ∷ numbers) (b ∷ loaded) (t ∷ tables) there h =
+      let same : b.1 ≡ t.contents.bytes = same_held files n b.1 t.contents.bytes there.0.1 h.0.1.there in
+      let one : contents_reading cmp b.1 ≡ Ok t.contents = ap (contents_reading cmp) same ∙ h.0.1.read in
+      let number : b.0 ≡ t.number = there.0.0 ∙ sym h.0.0 in
+      let first : NumberedContents = record { number = b.0; contents = t.contents } in
+      ap (λ (r : Result Contents Fault). (r >>= λ contents. Ok (record { number = b.0; contents = contents })) >>= λ first. tables_reading cmp loaded >>= λ others. Ok (first ∷ others)) one
+      ∙ ap (λ (r : Result (List NumberedContents) Fault). r >>= λ others. Ok (first ∷ others)) (found_read numbers loaded tables there.1 h.1)
+      ∙ ap (λ (k : ℕ). done (record { number = k; contents = t.contents } ∷ tables)) number
+
+  -- none of them is missing
+  number_found : (numbers : List ℕ) (tables : List NumberedContents) → AreFound cmp files numbers tables → (n : ℕ) → Contains numbers n → (x : Contents) × IsTableIn cmp files n x
+  number_found [] tables h n at = absurd (none_in n at)
+  number_found (m ∷ numbers) [] h n at = absurd h
+  number_found (m ∷ numbers) (t ∷ tables) h n at = elim (first_or_later m numbers n at) [
+    | inl same ↦ (t.contents, subst (λ (k : ℕ). IsTableIn cmp files k t.contents) (sym same) h.0.1)
+    | inr later ↦ number_found numbers tables h.1 n later
+  ]
+
+  pub none_missing : (numbers : List ℕ) (e : Fault) → IsFirstMissing (IsHeldIn files) numbers e → (tables : List NumberedContents) → AreFound cmp files numbers tables → ⊥
+  none_missing numbers e m tables h =
+      let at : Contains numbers m.number = subst (λ (ns : List ℕ). Contains ns m.number) (sym m.parts) (in_middle m.before m.number m.behind) in
+      let there = number_found numbers tables h m.number at in
+      not_missing files m.number there.0.bytes e there.1.there m.missing
+
+-- ---- their numbers, whatever the files are
+
+pub loaded_numbers : (tells : ToldFiles) (numbers : List ℕ) (loaded : List (ℕ × List ℕ)) → AllZip (IsTableOf tells) numbers loaded → map (λ (t : ℕ × List ℕ). t.0) loaded ≡ numbers
+loaded_numbers tells [] [] h = refl
+loaded_numbers tells [] (t ∷ loaded) h = absurd h
+loaded_numbers tells (n ∷ numbers) [] h = absurd h
+loaded_numbers tells (n ∷ numbers) (t ∷ loaded) h = ap₂ (λ (k : ℕ) (ks : List ℕ). k ∷ ks) h.0.0 (loaded_numbers tells numbers loaded h.1)
+
+pub read_numbers : (cmp : List ℕ → List ℕ → Ordering) (loaded : List (ℕ × List ℕ)) (tables : List NumberedContents) → tables_reading cmp loaded ≡ Ok tables → held_numbers tables ≡ map (λ (t : ℕ × List ℕ). t.0) loaded
+read_numbers cmp [] tables h = ap held_numbers (sym (ok_is [] tables h))
+read_numbers cmp (t ∷ loaded) tables h =
+    let parts = checked_parts cmp t loaded tables h in
+    ap held_numbers (sym parts.whole) ∙ ap (λ (ks : List ℕ). t.0 ∷ ks) (read_numbers cmp loaded parts.behind parts.rest)

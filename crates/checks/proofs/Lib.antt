@@ -1,16 +1,18 @@
 pub mod Lent
 mod TableRounds
 pub mod FallingRanges
-mod CommonRanges
-mod NeededLemmas
-mod FoundTables
-mod FileTables
+pub mod CommonRanges
+pub mod NeededLemmas
+pub mod FoundTables
+pub mod FileTables
+mod KeptTables
+mod ReadTables
 mod RangeLemmas
 mod SweepLemmas
 mod CountLemmas
 mod NeededSteps
 mod OrderLemmas
-mod FolderTests
+pub mod FolderTests
 mod WalkLemmas
 mod TableSizes
 pub mod TableRefusals

@@ -1,30 +1,26 @@
 -- What the walk over a range tells of a version.
 use Rattle.std.proofs.Common.{◌≡◌, ◌⊎◌, ℕ, ◌+◌, ◌<◌, ◌≤◌, suc, true, eq-or-lt_of_le, List, get_or, Option, None, Ok, refl, sym, ap, ap₂, subst, ◌∙◌, inl, inr, arith}
 use Rattle.std.specs.Prelude.{Contains, filter}
-use Rattle.std.specs.List.{All, AllZip}
+use Rattle.std.specs.List.{All}
 use Rattle.std.specs.Cmp.{IsTotalOrder}
 use Rattle.std.specs.declared.cmp.Ordering.{Ordering}
 use Rattle.std.proofs.lemmas.List.Elements.{Contains-get_or, All-contains}
-use Rattle.coding.specs.declared.fault.Fault.{Fault}
 use Rattle.block.specs.EncodedEntry.{Entry}
 use Rattle.merge.specs.Merged.{entries_of_lists}
 use Rattle.split.specs.Ranges.{KeyRange, IsIn, range_at}
 use Rattle.edit.specs.declared.meta.FileMeta.{FileMeta}
 use Rattle.folder.specs.Calls.{Files}
-use Rattle.folder.specs.LoadedTables.{IsFirstMissing, IsTableOf}
-use Rattle.folder.specs.ReadsAs.{IsHeldIn}
 use Rattle.keep.proofs.Distinct.{holds_tells}
 use Rattle.reads.specs.StatedFiles.{IsStatedFile}
 use Rattle.reads.specs.TableOrder.{AreFallingIn, lists_of_files}
 use Rattle.reads.specs.Tables.{NumberedContents}
 use Rattle.reads.proofs.Members.{from_filter, in_filter}
 use Rattle.reads.proofs.Ranged.{fall_in}
-use Rattle.checks.specs.Checked.{tables_reading}
 use Rattle.checks.specs.NeededFiles.{is_needed}
 use Rattle.checks.specs.GroupTest.{AreRangesSound, AreStatedBy, AreTablesIn, IsRangeSound, IsStatedIn, IsWalkAnswer, IsWalked, NeverFalls, contents_of_all, count_in, counts_of, entries_of_all}
+use Rattle.checks.specs.HeldTables.{AreFound, IsFoundAnswer}
 use Rattle.checks.proofs.FallingRanges.{same_in_range}
-use Rattle.checks.proofs.FileTables.{all_read, found_counts, found_lists, found_stated, none_missing, numbers_in, stated_found}
-use Rattle.checks.proofs.FoundTables.{AreFound, found_tables}
+use Rattle.checks.proofs.FileTables.{all_found, found_counts, found_lists, found_stated, numbers_in, stated_found}
 use Rattle.checks.proofs.NeededLemmas.{needed_count, needed_entries}
 
 -- what each of a list has, each of a part of it has
@@ -40,17 +36,14 @@ module _ (cmp : List ℕ → List ℕ → Ordering) (total : IsTotalOrder cmp) (
   abbrev joined : List NumberedContents → List FileMeta → List Entry
   joined tables metas = entries_of_lists (lists_of_files tables metas)
 
-  module _ (loaded : List (ℕ × List ℕ)) (there : AllZip (IsTableOf (IsHeldIn files)) (numbers_in needed) loaded) where
-    -- what falls in the tables that were read falls in all tables of the version
-    module _ (found : List NumberedContents) (read : tables_reading cmp loaded ≡ Ok found) (tables : List NumberedContents) (are : AreTablesIn cmp files next standing tables) where
-      found_in : AreFound cmp files (numbers_in needed) found
-      found_in = found_tables cmp files (numbers_in needed) loaded found there read
-
+  module _ (found : List NumberedContents) (there : AreFound cmp files (numbers_in needed) found) where
+    -- what falls in the tables that are held falls in all tables of the version
+    module _ (tables : List NumberedContents) (are : AreTablesIn cmp files next standing tables) where
       stated_needed : All (IsStatedFile cmp tables next) needed
       stated_needed = some_of (IsStatedFile cmp tables next) cmp range standing are.stated
 
       same_joined : joined tables needed ≡ entries_of_all found
-      same_joined = ap entries_of_lists (found_lists cmp files next tables are.read needed found found_in stated_needed)
+      same_joined = ap entries_of_lists (found_lists cmp files next tables are.read needed found there stated_needed)
 
       pub falls_here : AreFallingIn (IsIn cmp range) (entries_of_all found) → AreFallingIn (IsIn cmp range) (joined tables standing)
       falls_here h = same_in_range cmp (holds_tells cmp) range (joined tables needed) (joined tables standing) (needed_entries cmp total range next tables standing are.stated) (subst (AreFallingIn (IsIn cmp range)) (sym same_joined) h)
@@ -59,28 +52,28 @@ module _ (cmp : List ℕ → List ℕ → Ordering) (total : IsTotalOrder cmp) (
       falls_there h = subst (AreFallingIn (IsIn cmp range)) same_joined (same_in_range cmp (holds_tells cmp) range (joined tables standing) (joined tables needed) (sym (needed_entries cmp total range next tables standing are.stated)) h)
 
       pub stated_here : AreStatedBy cmp next needed (contents_of_all found)
-      stated_here = found_stated cmp files next tables are.read needed found found_in stated_needed
+      stated_here = found_stated cmp files next tables are.read needed found there stated_needed
 
       pub same_count : (count : ℕ) → count ≡ counts_of cmp range needed (contents_of_all found) → count ≡ count_in cmp range tables standing
-      same_count count h = h ∙ found_counts cmp files next tables are.read range needed found found_in stated_needed ∙ needed_count cmp total range tables standing
+      same_count count h = h ∙ found_counts cmp files next tables are.read range needed found there stated_needed ∙ needed_count cmp total range tables standing
 
     -- a walk that finds nothing wrong
-    pub walked_sound : (count : ℕ) → IsWalked cmp next range needed loaded count → IsRangeSound cmp files next standing range count
+    pub walked_sound : (count : ℕ) → IsWalked cmp next range needed found count → IsRangeSound cmp files next standing range count
     walked_sound count w = record {
-      stated = λ f at is. stated_found cmp files next needed w.tables (found_tables cmp files (numbers_in needed) loaded w.tables there w.read) w.stated f (in_filter (is_needed cmp range) standing f is at);
-      falls = λ tables are. falls_here w.tables w.read tables are w.falls;
-      is = λ tables are. same_count w.tables w.read tables are count w.is;
+      stated = λ f at is. stated_found cmp files next needed found there w.stated f (in_filter (is_needed cmp range) standing f is at);
+      falls = λ tables are. falls_here tables are w.falls;
+      is = λ tables are. same_count tables are count w.is;
     }
 
     -- a walk that finds something wrong
-    pub walked_wrong : IsWalkAnswer cmp next range needed loaded None → NeverFalls cmp files next standing
-    walked_wrong w tables are falling =
-        let some = all_read cmp files next tables are.read needed loaded there (some_of (IsStatedFile cmp tables next) cmp range standing are.stated) in
-        w some.0 some.1 (stated_here some.0 some.1 tables are) (falls_there some.0 some.1 tables are (fall_in (IsIn cmp range) (joined tables standing) falling))
+    pub walked_wrong : IsWalkAnswer cmp next range needed found None → NeverFalls cmp files next standing
+    walked_wrong w tables are falling = w (stated_here tables are) (falls_there tables are (fall_in (IsIn cmp range) (joined tables standing) falling))
 
-  -- a table that is missing
-  pub missing_wrong : (e : Fault) → IsFirstMissing (IsHeldIn files) (numbers_in needed) e → NeverFalls cmp files next standing
-  missing_wrong e m tables are falling = none_missing cmp files next tables are.read needed e m (some_of (IsStatedFile cmp tables next) cmp range standing are.stated)
+  -- a table that is missing or invalid
+  pub unfound_wrong : IsFoundAnswer cmp files (numbers_in needed) (Ok None) → NeverFalls cmp files next standing
+  unfound_wrong h tables are falling =
+      let some = all_found cmp files next tables are.read needed (some_of (IsStatedFile cmp tables next) cmp range standing are.stated) in
+      h some.0 some.1
 
 -- one range more
 pub ranges_none : (cmp : List ℕ → List ℕ → Ordering) (files : Files) (next : Option ℕ) (standing : List FileMeta) (boundaries : List (List ℕ)) → AreRangesSound cmp files next standing boundaries 0 0

@@ -37,10 +37,11 @@ use Rattle.reads.proofs.Members.{first_in, first_or_later, in_map, later_in, non
 use Rattle.checks.specs.Checked.{tables_reading}
 use Rattle.checks.specs.NeededFiles.{starts_in}
 use Rattle.checks.specs.TestedTables.{entry_count}
-use Rattle.checks.specs.GroupTest.{AreRangesSound, AreTablesIn, IsLawfulIn, IsLawlessIn, IsStatedIn, IsTableIn, NeverFalls, count_below, count_in}
+use Rattle.checks.specs.GroupTest.{AreRangesSound, AreTablesIn, IsLawfulIn, IsLawlessIn, IsStatedIn, NeverFalls, count_below, count_in}
+use Rattle.checks.specs.HeldTables.{AreFound, IsTableIn}
 use Rattle.checks.proofs.FallingRanges.{fall_in_each}
 use Rattle.checks.proofs.FileTables.{numbers_in, stated_among}
-use Rattle.checks.proofs.FoundTables.{AreFound, found_at, found_tables, one_table}
+use Rattle.checks.proofs.FoundTables.{found_at, found_tables, one_table}
 use Rattle.checks.proofs.NeededLemmas.{starts_needed, starts_where, where_starts}
 
 -- ---- how many entries all tables have, range by range

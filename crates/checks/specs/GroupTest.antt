@@ -3,34 +3,27 @@ use Rattle.std.specs.Prelude.{◌≡◌, ℕ, zero, suc, ◌+◌, ◌<◌, true,
 use Rattle.std.specs.Prelude.{Option, Some, None, Result, Ok, Err, Contains, if◌then◌else◌}
 use Rattle.std.specs.List.{All, AllZip}
 use Rattle.std.specs.declared.cmp.Ordering.{Ordering}
-use Rattle.coding.specs.Answers.{fault}
 use Rattle.coding.specs.declared.fault.Fault.{Fault}
-use Rattle.coding.specs.declared.fault.FaultName.TheVariants.{Missing}
 use Rattle.block.specs.EncodedEntry.{Entry}
-use Rattle.table.specs.TableContents.{Contents, contents_reading}
+use Rattle.table.specs.TableContents.{Contents}
 use Rattle.merge.specs.Merged.{entries_of_lists}
 use Rattle.split.specs.Ranges.{KeyRange, IsIn, range_at}
 use Rattle.edit.specs.Version.{State}
 use Rattle.edit.specs.declared.meta.FileMeta.{FileMeta}
 use Rattle.folder.specs.Calls.{Files}
 use Rattle.folder.specs.Levels.{file_numbers}
-use Rattle.folder.specs.LoadedTables.{IsLoaded, IsTableAnswer}
+use Rattle.folder.specs.LoadedTables.{IsLoaded}
 use Rattle.folder.specs.ReadsAs.{IsHeldIn}
 use Rattle.reads.specs.Lawful.{IsLawful}
 use Rattle.reads.specs.StatedFiles.{IsStatedFile}
 use Rattle.reads.specs.TableOrder.{AreAllAdded, AreFalling, AreFallingIn, lists_of_files}
 use Rattle.reads.specs.Tables.{NumberedContents, table_of_number, table_entries}
 use Rattle.checks.specs.Checked.{tables_reading}
+use Rattle.checks.specs.HeldTables.{IsTableIn}
 use Rattle.checks.specs.NeededFiles.{is_needed, starts_in}
 use Rattle.checks.specs.TestedTables.{entry_count}
 
 -- ---- tables by themselves
-
--- the table of a number among these files, and what it holds
-pub record IsTableIn (cmp : List ℕ → List ℕ → Ordering) (files : Files) (number : ℕ) (x : Contents)
-    : Type 0 where
-  pub there : IsTableAnswer (IsHeldIn files) number (Ok x.bytes)
-  pub read : contents_reading cmp x.bytes ≡ Ok x
 
 -- a table alone, under the number of a file
 abbrev pub alone : FileMeta → Contents → List NumberedContents
@@ -81,32 +74,21 @@ contents_of_all tables = map (λ (t : NumberedContents). t.contents) tables
 abbrev pub entries_of_all : List NumberedContents → List Entry
 entries_of_all tables = entries_of_lists (map (λ (t : NumberedContents). t.contents.entries) tables)
 
--- tables that were read are what the version states of these files, and their entries fall in a
--- range
+-- tables are what the version states of these files, and their entries fall in a range
 pub record IsWalked (cmp : List ℕ → List ℕ → Ordering) (next : Option ℕ) (range : KeyRange)
-    (metas : List FileMeta) (loaded : List (ℕ × List ℕ)) (count : ℕ) : Type 0 where
-  pub tables : List NumberedContents
-  pub read : tables_reading cmp loaded ≡ Ok tables
+    (metas : List FileMeta) (tables : List NumberedContents) (count : ℕ) : Type 0 where
   pub stated : AreStatedBy cmp next metas (contents_of_all tables)
   pub falls : AreFallingIn (IsIn cmp range) (entries_of_all tables)
   pub is : count ≡ counts_of cmp range metas (contents_of_all tables)
 
--- what a walk over the tables of files that were read finds: how many entries they count for a
--- range; None if the tables are invalid or not what the version states, or their entries don't fall
+-- what a walk over the tables of files finds: how many entries they count for a range; None if the
+-- tables are not what the version states, or their entries don't fall
 abbrev pub IsWalkAnswer : (List ℕ → List ℕ → Ordering) → Option ℕ → KeyRange → List FileMeta →
-    List (ℕ × List ℕ) → Option ℕ → Type 0
-IsWalkAnswer cmp next range metas loaded (Some count) = IsWalked cmp next range metas loaded count
-IsWalkAnswer cmp next range metas loaded None =
-    (tables : List NumberedContents) → tables_reading cmp loaded ≡ Ok tables →
+    List NumberedContents → Option ℕ → Type 0
+IsWalkAnswer cmp next range metas tables (Some count) = IsWalked cmp next range metas tables count
+IsWalkAnswer cmp next range metas tables None =
     AreStatedBy cmp next metas (contents_of_all tables) →
     AreFallingIn (IsIn cmp range) (entries_of_all tables) → ⊥
-
--- the tables of these numbers; None if one of them is missing
-abbrev pub IsLoadedIfThere : (List ℕ → Option (List ℕ) → Type 0) → List ℕ →
-    Result (Option (List (ℕ × List ℕ))) Fault → Type 0
-IsLoadedIfThere tells numbers (Ok (Some loaded)) = IsLoaded tells numbers (Ok loaded)
-IsLoadedIfThere tells numbers (Ok None) = IsLoaded tells numbers (Err (fault Missing))
-IsLoadedIfThere tells numbers (Err e) = ⊥
 
 -- ---- a version, by all its files as they stand
 

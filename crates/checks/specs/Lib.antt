@@ -2,8 +2,10 @@
 pub mod Checked
 pub mod LawfulTables
 pub mod TestedTables
--- serves proofs alone
-pub mod RangeOrder
 pub mod NeededFiles
+pub mod HeldTables
+pub mod RangeOrder
+-- serves proofs alone
+pub mod TablePlaces
 pub mod GroupTest
 pub mod InOrder

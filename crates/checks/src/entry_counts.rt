@@ -6,7 +6,7 @@ ghost use Rattle.coding.specs.declared.fault.FaultName.TheVariants.{Memory};
 ghost use Rattle.split.specs.Ranges.{key_range};
 ghost use Rattle.checks.specs.GroupTest.{IsFileCount, IsFileCounts, contents_of_all};
 
-use crate::needed_files::starts_in;
+use crate::range_files::starts_in;
 use coding::Fault;
 use edit::FileMeta;
 use ikey::Comparator;

@@ -12,9 +12,17 @@ use split::{MAX_BOUNDARIES, Split};
 use std::alloc::Global;
 
 /// A split into ranges so that the tables that reach into a range have at most `memory` bytes
-/// together, as the version states their sizes: more only if they hold the range's first user key,
-/// or if the split has as many boundaries as it may have. The only fault is Memory.
-pub(crate) fn group_split<C: Comparator>(
+/// together, as the files state their sizes. They have more only if:
+///
+/// - they hold the range's first user key; or
+/// - the split has as many boundaries as it may have, `split::MAX_BOUNDARIES`.
+///
+/// Each boundary is the smallest user key of a file. `standing` may have any order. Which tables
+/// reach into a range is what [`needed_files`](crate::needed_files()) answers for it.
+///
+/// It takes the memory of a reference for each file and of a user key for each boundary. The only
+/// fault is Memory.
+pub fn group_split<C: Comparator>(
     alloc: Global,
     standing: &[&FileMeta],
     memory: u64,

@@ -5,27 +5,40 @@
 //!    user keys a job.
 //! 3. [`test_version`] makes the same test with the tables that a folder holds, in bounded memory.
 //!
+//! For work on a version in bounded memory, [`group_split`] splits the user keys into ranges whose
+//! tables fit into memory together, and [`needed_files`] tells which files a range needs.
+//! [`HeldTables`] are their tables, held from range to range.
+//! [`common_range`] is what two ranges have in common.
+//!
 //! The answer doesn't depend on the workers, nor on the order in which they do their jobs.
 //! [`CHECKERS`] is how many a command takes. A [`Watch`] is a gate that is told to which long work
 //! on a folder its jobs belong.
 #![tactic(auto)]
 
-mod common_range;
 mod entry_counts;
 mod file_groups;
 mod first_refusal;
-mod needed_files;
+mod found_tables;
+mod held_table;
+mod held_tables;
+mod range_files;
+mod range_intersection;
 mod range_test;
 mod range_walk;
 mod rounds;
 mod sampled_ranges;
 mod sequence_order;
 mod table_check;
+mod table_places;
 mod tested;
 mod version_check;
 mod version_test;
 mod watch;
 
+pub use file_groups::group_split;
+pub use held_tables::{HeldTables, hold_tables};
+pub use range_files::{needed_files, numbers_of};
+pub use range_intersection::common_range;
 pub use rounds::check_tables;
 pub use tested::Tested;
 pub use version_check::{CHECKERS, lawful_tables};

@@ -1,21 +1,19 @@
-//! The test of tables that were read, in a range of user keys.
+//! The walk over held tables in a range of user keys.
 
 ghost use Rattle.std.specs.Prelude.{◌≡◌, ◌↔◌, ◌<◌, ◌≤◌, ◌^◌, true, length, map};
 ghost use Rattle.std.specs.Prelude.{IfOk, IfErr, IfSome};
-ghost use Rattle.std.specs.Option.{MatchOption};
 ghost use Rattle.coding.specs.Answers.{fault};
 ghost use Rattle.coding.specs.declared.fault.FaultName.TheVariants.{Memory};
 ghost use Rattle.split.specs.Ranges.{IsIn, key_range};
 ghost use Rattle.reads.specs.TableOrder.{AreFallingIn};
-ghost use Rattle.checks.specs.Checked.{IsInvalid, IsRead};
 ghost use Rattle.checks.specs.GroupTest.{IsWalkAnswer, entries_of_all};
 
 use crate::entry_counts::counted_files;
-use crate::rounds::check_tables;
+use crate::held_tables::HeldTables;
 use crate::sampled_ranges::sampled_split;
 use crate::sequence_order::entries_fall;
-use board::{Gate, Open};
-use coding::{Fault, FaultName};
+use board::Open;
+use coding::Fault;
 use edit::FileMeta;
 use ikey::{Comparator, SharedComparator};
 use reads::NumberedTable;
@@ -24,34 +22,30 @@ use std::alloc::Global;
 use std::thread::Threads;
 use table::SoundTable;
 
-/// How many entries the tables of these files have that begin in `range`, if each table is what the
-/// version states of its file, and of each user key of the range the sequences fall through them.
-/// Else None. `next` is the version's next file.
+/// How many entries the held tables of these files have that begin in `range`, if each table is
+/// what the version states of its file, and of each user key of the range the sequences fall
+/// through them. Else None. `next` is the version's next file.
 ///
-/// 1 to 64 workers check the tables, a table a job that `gate` sees, and walk the range. The only
-/// fault is Memory.
-pub(crate) fn walk_range<C: SharedComparator + 'static, G: Gate + Sync, R: Threads + Sync>(
+/// 1 to 64 workers walk the range. The only fault is Memory.
+pub(crate) fn walk_range<C: SharedComparator + 'static, R: Threads + Sync>(
     rt: &R,
     alloc: Global,
     files: &[&FileMeta],
     next: Option<u64>,
-    loaded: &[(u64, Vec<u8>)],
+    held: &HeldTables<C>,
     range: Range<'_>,
     workers: u64,
-    gate: &G,
 ) -> Result<Option<u128>, Fault>
     requires some { 0 < workers }
     requires few { workers ≤ 64 }
-    requires same { length loaded.now ≡ length files.now }
+    requires same { length held.now ≡ length files.now }
     requires few_files { length files.now ≤ 2 ^ 40 }
     ensures walked { IfOk result (IsWalkAnswer C.cmp next (key_range range.entry)
-        (map (λ f. f.now) files.now) (map (λ t. (t.0, t.1.items)) loaded.now)) }
+        (map (λ f. f.now) files.now) held.now) }
     ensures small { IfOk result (λ found. IfSome found (λ count. count ≤ 2 ^ 100)) }
     ensures memory { IfErr result (λ e. e ≡ fault Memory) }
 {
-    let Some(tables) = checked_tables::<C, G, R>(rt, alloc, loaded, workers, gate)? else {
-        return Ok(None);
-    };
+    let tables = held.lend(alloc)?;
     let Some(count) = counted_files(alloc, files, next, &tables, range)? else {
         return Ok(None);
     };
@@ -59,32 +53,6 @@ pub(crate) fn walk_range<C: SharedComparator + 'static, G: Gate + Sync, R: Threa
         return Ok(None);
     }
     Ok(Some(count))
-}
-
-/// The tables of these numbers and bytes, checked. None if one is invalid. The only fault is
-/// Memory.
-fn checked_tables<'t, C: SharedComparator, G: Gate + Sync, R: Threads + Sync>(
-    rt: &R,
-    alloc: Global,
-    loaded: &'t [(u64, Vec<u8>)],
-    workers: u64,
-    gate: &G,
-) -> Result<Option<Vec<NumberedTable<'t, C>>>, Fault>
-    requires some { 0 < workers }
-    requires few { workers ≤ 64 }
-    ensures checked { IfOk result (λ found. MatchOption found
-        (IsInvalid C.cmp (map (λ t. (t.0, t.1.items)) loaded.now))
-        (λ v. IsRead C.cmp (map (λ t. (t.0, t.1.items)) loaded.now) v.items)) }
-    ensures len { IfOk result (λ found. IfSome found (λ v. length v.items ≡ length loaded.now)) }
-    ensures memory { IfErr result (λ e. e ≡ fault Memory) }
-{
-    match check_tables::<C, G, R>(rt, alloc, loaded, workers, gate) {
-        Ok(tables) => Ok(Some(tables)),
-        Err(refused) => match refused.name {
-            FaultName::Memory => Err(Fault::of(FaultName::Memory)),
-            _ => Ok(None),
-        },
-    }
 }
 
 /// Whether of each user key of `range` the sequences fall through the tables. The only fault is

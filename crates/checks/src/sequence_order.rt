@@ -9,7 +9,7 @@ ghost use Rattle.split.specs.Ranges.{IsCover, IsIn, key_range};
 ghost use Rattle.reads.specs.TableOrder.{AreFalling, AreFallingIn};
 ghost use Rattle.checks.specs.RangeOrder.{TellsRange};
 
-use crate::common_range::common_range;
+use crate::range_intersection::common_range;
 use board::{Gate, Labour, run};
 use coding::Fault;
 use ikey::{Comparator, SharedComparator};

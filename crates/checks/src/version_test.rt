@@ -37,10 +37,10 @@ const MOST_FILES: usize = 1_099_511_627_776;
 /// out, it is Memory; so it is if the version has more than 2^40 files.
 ///
 /// The tables in memory have at most `memory` bytes together, if no single user key needs more: a
-/// range of user keys is tested after the other, with the tables that reach into it. No contract
-/// says so. A table that reaches into several ranges is read for each. 1 to 64 workers check the
-/// tables and walk over their entries. If something is wrong, all tables are read again, in order,
-/// for the first refusal.
+/// range of user keys is tested after the other, with the tables that reach into it. A table is
+/// read and checked for the first range that needs it, and held until the last one has been tested.
+/// No contract says so. 1 to 64 workers check the tables and walk over their entries. If something
+/// is wrong, all tables are read again, in order, for the first refusal.
 ///
 /// The work is told to `watch`, which is `&Open` if nobody watches.
 pub fn test_version<C: SharedComparator + 'static, F: Folder, W: Watch + Sync, R: Threads + Sync>(

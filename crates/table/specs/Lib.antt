@@ -11,12 +11,12 @@ pub mod ReadingTables
 pub mod ReadingBack
 pub mod ReadingCursors
 pub mod Checked
+pub mod SoundTables
 -- serves proofs alone
 pub mod KeyLists
 pub mod Flushed
 pub mod BuilderState
 pub mod Indexed
 pub mod Ends
-pub mod SoundTables
 pub mod IndexWalk
 pub mod RestartSearch

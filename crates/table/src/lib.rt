@@ -2,7 +2,7 @@
 //!
 //! 1. A [`TableBuilder`] with its [`Options`] writes a table, entry by entry.
 //! 2. [`check`] reads bytes as a table and answers a [`SoundTable`]. An [`OwnedTable`] keeps its
-//!    bytes with that test, and lends a `SoundTable` again and again.
+//!    bytes with the [`Bounds`] that this check found, and lends a `SoundTable` again and again.
 //! 3. A [`TableCursor`] walks a `SoundTable`, and seeks in it, without a further test. [`Cursor`]
 //!    is what each cursor over sorted entries promises.
 //!
@@ -35,7 +35,7 @@ pub use key_list::KeyList;
 pub use layout::{push_closing, push_index_entry, push_stored};
 pub use options::{MAX_BLOCK_SIZE, Options};
 pub use owned_table::OwnedTable;
-pub use sound_table::SoundTable;
+pub use sound_table::{Bounds, SoundTable};
 pub use table_check::{MAX_TABLE_LEN, MAX_VALUE_LEN, check, reads_tables};
 pub use table_cursor::TableCursor;
 pub use table_laws::{data_blocks_law, table_reads_back};

@@ -51,6 +51,19 @@ impl<C: Comparator> OwnedTable<C> {
         })
     }
 
+    /// The table of these bytes, whose check found these bounds. No test is made again. Takes no
+    /// memory.
+    pub fn of(bytes: Vec<u8>, bounds: Bounds) -> OwnedTable<C>
+        requires { IsCheckedTable C.cmp bytes.items bounds.smallest bounds.largest }
+        ensures { contents_reading C.cmp bytes.items ≡ Ok result }
+    {
+        OwnedTable {
+            bytes,
+            bounds,
+            order: PhantomData,
+        }
+    }
+
     /// The table, lent. No test is made again: it reads the footer and where the index block is.
     ///
     /// It takes the memory of two keys. The only fault is Memory.

@@ -110,8 +110,10 @@ impl<'a, C: Comparator> SoundTable<'a, C> {
         }
     }
 
-    /// The first and the last key. Takes no memory.
-    pub(crate) fn into_bounds(self) -> Bounds
+    /// The first and the last key, which are what a check finds beside the bytes. With them
+    /// [`OwnedTable::of`](crate::OwnedTable::of()) makes the table of its bytes, without another
+    /// check. Takes no memory.
+    pub fn into_bounds(self) -> Bounds
         ensures { IsCheckedTable C.cmp self.entry.bytes result.smallest result.largest }
     {
         self.bounds
@@ -127,14 +129,14 @@ impl<'a, C: Comparator> SoundTable<'a, C> {
 
 /// The first and the last key of entries.
 #[derive(Drop)]
-pub(crate) struct Bounds {
+pub struct Bounds {
     pub smallest: KeyBuf,
     pub largest: KeyBuf,
 }
 
 impl Bounds {
     /// A copy. The only fault is Memory.
-    pub fn copied(&self, alloc: Global) -> Result<Bounds, Fault>
+    pub(crate) fn copied(&self, alloc: Global) -> Result<Bounds, Fault>
         ensures { EqualOrMemory (λ bounds. bounds) result (Ok self.now) }
     {
         Ok(Bounds {

@@ -1,11 +1,14 @@
-use Rattle.std.proofs.Common.{◌≡◌, ℕ, ◌+◌, ◌≤◌, ◌^◌, suc, List, Option, Ok, length, map, refl, subst, arith, IfSome}
+use Rattle.std.proofs.Common.{◌≡◌, ℕ, ◌+◌, ◌≤◌, ◌^◌, suc, List, Option, Ok, length, map, refl, sym, subst, arith, IfSome}
+use Rattle.std.proofs.lemmas.List.Elements.{All-nil}
 use Rattle.edit.specs.declared.meta.FileMeta.{FileMeta}
 use Rattle.folder.proofs.CountLemmas.{steady}
 use Rattle.folder.proofs.OpeningLemmas.{hands_on}
 use Rattle.folder.proofs.ReportLemmas.{reads_then}
 use Rattle.split.proofs.Covers.{covers}
 use Rattle.split.specs.Ranges.{KeyRange, key_range}
+use Rattle.reads.specs.Tables.{NumberedContents}
 use Rattle.checks.specs.GroupTest.{AreRangesSound, IsRangeAnswer, IsRangeSound, IsRangesAnswer}
+use Rattle.checks.specs.HeldTables.{AreHeldIn, IsTableIn}
 use Rattle.checks.proofs.FolderTests.{told_still}
 use Rattle.checks.proofs.RangeLemmas.{ranges_more, ranges_none}
 use Rattle.checks.proofs.range_test.test_ranges.Goals as goal
@@ -13,6 +16,7 @@ use Rattle.checks.proofs.range_test.test_ranges.Goals as goal
 pub loop-number-init : goal.loop-number-init
 loop-number-init g c = record {
   sound = λ files told. ranges_none g.C.Comparator.cmp files c.args.next (map (λ f. f.now) c.args.standing.now) c.args.split.now;
+  held = λ files told. subst (AreHeldIn g.C.Comparator.cmp files) (sym c.none-held.ensures) (All-nil (λ (t : NumberedContents). IsTableIn g.C.Comparator.cmp files t.number t.contents));
   small = omega arith;
   reads = record { same = λ name held. (λ h. h, λ h. h); calls = refl };
   failures = refl;
@@ -26,7 +30,7 @@ returns-in_err-found-clause-answer g c files told =
     let metas : List FileMeta = map (λ f. f.now) c.args.standing.now in
     hands_on (λ found. found) (failed c.args.folder.now) (failed c.loop-number.folder) (failed c.test_range.new.folder) c.from_residual.result c.in_err-found.field-0.0 (IsRangeAnswer cmp files c.args.next metas (key_range c.range-range.result)) (IsRangesAnswer cmp files c.args.next metas c.args.split.now)
     c.from_residual.ensures.1 (omega (arith, c.loop-number.invariant.failures)) c.test_range.ensures.device.later
-    (c.in_err-found.ensures.answer files (told_still (tells c.args.folder.now) (tells c.loop-number.folder) files c.loop-number.invariant.reads.same told)) (λ h. absurd h)
+    (c.in_err-found.ensures.answer files (told_still (tells c.args.folder.now) (tells c.loop-number.folder) files c.loop-number.invariant.reads.same told) (c.loop-number.invariant.held files told)) (λ h. absurd h)
 
 pub returns-in_default-clause-answer : goal.returns-in_default-clause-answer
 returns-in_default-clause-answer g c files told =
@@ -34,7 +38,7 @@ returns-in_default-clause-answer g c files told =
     let cmp = g.C.Comparator.cmp in
     let metas : List FileMeta = map (λ f. f.now) c.args.standing.now in
     subst (λ o. IsRangeAnswer cmp files c.args.next metas (key_range c.range-range.result) (Ok o)) c.in_default.is
-    (c.in_ok-found.ensures.answer files (told_still (tells c.args.folder.now) (tells c.loop-number.folder) files c.loop-number.invariant.reads.same told))
+    (c.in_ok-found.ensures.answer files (told_still (tells c.args.folder.now) (tells c.loop-number.folder) files c.loop-number.invariant.reads.same told) (c.loop-number.invariant.held files told))
 
 pub loop-number-preserved : goal.loop-number-preserved
 loop-number-preserved g c =
@@ -49,10 +53,11 @@ loop-number-preserved g c =
       sound = λ files told.
           let one : IsRangeSound cmp files c.args.next metas (key_range c.range-range.result) c.in-Some.count =
           subst (λ o. IsRangeAnswer cmp files c.args.next metas (key_range c.range-range.result) (Ok o)) c.in-Some.is
-          (c.in_ok-found.ensures.answer files (told_still (tells c.args.folder.now) (tells c.loop-number.folder) files c.loop-number.invariant.reads.same told)) in
+          (c.in_ok-found.ensures.answer files (told_still (tells c.args.folder.now) (tells c.loop-number.folder) files c.loop-number.invariant.reads.same told) (c.loop-number.invariant.held files told)) in
           let next : suc n ≡ n + 1 = omega arith in
           subst (λ (m : ℕ). AreRangesSound cmp files c.args.next metas boundaries m (c.loop-number.entries + c.in-Some.count)) next
           (ranges_more cmp files c.args.next metas boundaries n c.loop-number.entries c.in-Some.count (c.loop-number.invariant.sound files told) (subst (λ (r : KeyRange). IsRangeSound cmp files c.args.next metas r c.in-Some.count) c.range-range.ensures.bounds one));
+      held = λ files told. c.in_ok-found.ensures.held files (told_still (tells c.args.folder.now) (tells c.loop-number.folder) files c.loop-number.invariant.reads.same told) (c.loop-number.invariant.held files told);
       small = omega (arith, few, c.loop-number.invariant.small);
       reads = reads_then c.loop-number.invariant.reads c.test_range.ensures.reads;
       failures = steady (failed c.args.folder.now) (failed c.loop-number.folder) (failed c.test_range.new.folder) c.in_ok-found.found c.test_range.result c.in_ok-found.was c.loop-number.invariant.failures c.test_range.ensures.device.later c.test_range.ensures.device.at_once;

@@ -2,7 +2,7 @@ use Rattle.std.proofs.Common.{◌≡◌, map, take}
 use Rattle.std.specs.Prelude.{filter}
 use Rattle.split.specs.Ranges.{key_range}
 use Rattle.checks.specs.NeededFiles.{is_needed}
-use Rattle.checks.proofs.needed_files.needed_files.Given as goal
+use Rattle.checks.proofs.range_files.needed_files.Given as goal
 
 -- those that are needed of the files so far
 abbrev pub invariant-loop-file : goal.invariant-loop-file

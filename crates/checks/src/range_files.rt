@@ -1,4 +1,4 @@
-//! Which files the test of a range of user keys needs.
+//! Which files a walk over a range of user keys needs.
 
 ghost use Rattle.std.specs.Prelude.{◌≡◌, filter, map, Ok, IfOk, IfErr};
 ghost use Rattle.std.specs.Option.{option_map};
@@ -14,9 +14,12 @@ use ikey::{Comparator, InternalKey};
 use split::Range;
 use std::alloc::Global;
 
-/// Those of the files that begin in `range`, or begin before it and don't end before it. The only
-/// fault is Memory.
-pub(crate) fn needed_files<'v, C: Comparator>(
+/// Those of the files that begin in `range`, or begin before it and don't end before it, in the
+/// order of `files`. The tables of the others have no entry in `range`, if each table has the
+/// bounds that its file states.
+///
+/// It takes the memory of a reference for each. The only fault is Memory.
+pub fn needed_files<'v, C: Comparator>(
     alloc: Global,
     files: &[&'v FileMeta],
     range: Range<'_>,
@@ -34,8 +37,8 @@ pub(crate) fn needed_files<'v, C: Comparator>(
     Ok(needed)
 }
 
-/// The numbers of files. The only fault is Memory.
-pub(crate) fn numbers_of(alloc: Global, files: &[&FileMeta]) -> Result<Vec<u64>, Fault>
+/// The numbers of files, in order. The only fault is Memory.
+pub fn numbers_of(alloc: Global, files: &[&FileMeta]) -> Result<Vec<u64>, Fault>
     ensures { EqualOrMemory (λ v. v.items) result (Ok (map (λ f. f.now.number) files.now)) }
 {
     let mut numbers = Vec::with_capacity(alloc, files.len())?;

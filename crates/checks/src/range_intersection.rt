@@ -10,7 +10,7 @@ use ikey::Comparator;
 use split::Range;
 
 /// The range of the user keys that both ranges hold. Takes no memory.
-pub(crate) fn common_range<'k, C: Comparator>(one: Range<'k>, two: Range<'k>) -> Range<'k>
+pub fn common_range<'k, C: Comparator>(one: Range<'k>, two: Range<'k>) -> Range<'k>
     ensures { key_range result ≡ common_of C.cmp (key_range one.entry) (key_range two.entry) }
 {
     Range {

@@ -1,0 +1,39 @@
+-- Tables of a folder that are held from one range of user keys to the next.
+use Rattle.std.specs.Prelude.{◌≡◌, ℕ, List, map, Option, Some, None, Result, Ok, Err}
+use Rattle.std.specs.List.{All, AllZip}
+use Rattle.std.specs.declared.cmp.Ordering.{Ordering}
+use Rattle.coding.specs.declared.fault.Fault.{Fault}
+use Rattle.table.specs.TableContents.{Contents, contents_reading}
+use Rattle.folder.specs.Calls.{Files}
+use Rattle.folder.specs.LoadedTables.{IsTableAnswer}
+use Rattle.folder.specs.ReadsAs.{IsHeldIn}
+use Rattle.reads.specs.Tables.{NumberedContents}
+
+-- the table of a number among these files, and what it holds
+pub record IsTableIn (cmp : List ℕ → List ℕ → Ordering) (files : Files) (number : ℕ) (x : Contents)
+    : Type 0 where
+  pub there : IsTableAnswer (IsHeldIn files) number (Ok x.bytes)
+  pub read : contents_reading cmp x.bytes ≡ Ok x
+
+-- the numbers of tables
+abbrev pub held_numbers : List NumberedContents → List ℕ
+held_numbers tables = map (λ (t : NumberedContents). t.number) tables
+
+-- each of the tables is the one of its number among the files
+abbrev pub AreHeldIn : (List ℕ → List ℕ → Ordering) → Files → List NumberedContents → Type 0
+AreHeldIn cmp files tables =
+    All (λ (t : NumberedContents). IsTableIn cmp files t.number t.contents) tables
+
+-- these are the tables of the numbers among the files, in order
+abbrev pub AreFound : (List ℕ → List ℕ → Ordering) → Files → List ℕ → List NumberedContents → Type 0
+AreFound cmp files numbers tables =
+    AllZip (λ (n : ℕ) (t : NumberedContents). (t.number ≡ n) × IsTableIn cmp files n t.contents)
+    numbers tables
+
+-- the tables of the numbers; None if one of them is missing or invalid
+abbrev pub IsFoundAnswer : (List ℕ → List ℕ → Ordering) → Files → List ℕ →
+    Result (Option (List NumberedContents)) Fault → Type 0
+IsFoundAnswer cmp files numbers (Ok (Some tables)) = AreFound cmp files numbers tables
+IsFoundAnswer cmp files numbers (Ok None) =
+    (tables : List NumberedContents) → AreFound cmp files numbers tables → ⊥
+IsFoundAnswer cmp files numbers (Err e) = ⊥

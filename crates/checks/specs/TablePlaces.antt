@@ -1,0 +1,55 @@
+-- Held tables that are kept, and those that are read.
+use Rattle.std.specs.Prelude.{◌≡◌, ℕ, List, [], ◌∷◌, map, Contains, Option, Some, None}
+use Rattle.std.specs.Prelude.{Result, Ok, Err}
+use Rattle.std.specs.List.{AllZip, filter_map}
+use Rattle.std.specs.declared.cmp.Ordering.{Ordering}
+use Rattle.coding.specs.Answers.{fault}
+use Rattle.coding.specs.declared.fault.Fault.{Fault}
+use Rattle.coding.specs.declared.fault.FaultName.TheVariants.{Missing}
+use Rattle.table.specs.SoundTables.{IsCheckedTable}
+use Rattle.table.specs.declared.sound_table.Bounds.{Bounds}
+use Rattle.folder.specs.Calls.{ToldFiles}
+use Rattle.folder.specs.LoadedTables.{IsLoaded}
+use Rattle.reads.specs.Tables.{NumberedContents}
+
+-- ---- which are kept
+
+-- the place of a number has no table, or one of those that are held, of this number
+abbrev pub HasKept : List NumberedContents → ℕ × Option NumberedContents → Type 0
+HasKept held (number, None) = Unit {0}
+HasKept held (number, Some t) = (t.number ≡ number) × Contains held t
+
+-- the numbers of the places
+abbrev pub place_numbers : List (ℕ × Option NumberedContents) → List ℕ
+place_numbers places = map (λ (p : ℕ × Option NumberedContents). p.0) places
+
+-- the number of a place that has no table
+abbrev pub wanted_number : ℕ × Option NumberedContents → Option ℕ
+wanted_number (number, None) = Some number
+wanted_number (number, Some t) = None
+
+-- the numbers of the places that have no table
+abbrev pub wanted_numbers : List (ℕ × Option NumberedContents) → List ℕ
+wanted_numbers places = filter_map wanted_number places
+
+-- the tables of all places, where each place without a table takes the next of those that were read
+abbrev pub placed_tables : List (ℕ × Option NumberedContents) → List NumberedContents →
+    List NumberedContents
+placed_tables [] fresh = []
+placed_tables ((number, Some t) ∷ places) fresh = t ∷ placed_tables places fresh
+placed_tables ((number, None) ∷ places) [] = placed_tables places []
+placed_tables ((number, None) ∷ places) (t ∷ fresh) = t ∷ placed_tables places fresh
+
+-- ---- which are read
+
+-- the tables of these numbers; None if one of them is missing
+abbrev pub IsLoadedIfThere : ToldFiles → List ℕ → Result (Option (List (ℕ × List ℕ))) Fault → Type 0
+IsLoadedIfThere tells numbers (Ok (Some loaded)) = IsLoaded tells numbers (Ok loaded)
+IsLoadedIfThere tells numbers (Ok None) = IsLoaded tells numbers (Err (fault Missing))
+IsLoadedIfThere tells numbers (Err e) = ⊥
+
+-- the bytes of each are a table with these bounds
+abbrev pub AreBounds : (List ℕ → List ℕ → Ordering) → List (ℕ × List ℕ) → List Bounds → Type 0
+AreBounds cmp loaded bounds =
+    AllZip (λ (t : ℕ × List ℕ) (b : Bounds). IsCheckedTable cmp t.1 b.smallest b.largest)
+    loaded bounds

@@ -1,0 +1,164 @@
+//! Tables of a folder, read and checked.
+
+ghost use Rattle.std.specs.Prelude.{◌≡◌, ◌<◌, ◌≤◌, length, map, IfOk, IfErr, IfSome};
+ghost use Rattle.std.specs.List.{AllZip};
+ghost use Rattle.std.specs.Option.{MatchOption, option_map};
+ghost use Rattle.coding.specs.Answers.{fault};
+ghost use Rattle.coding.specs.declared.fault.FaultName.TheVariants.{Memory};
+ghost use Rattle.table.specs.SoundTables.{IsCheckedTable};
+ghost use Rattle.folder.specs.Calls.{Files, Tells};
+ghost use Rattle.folder.specs.OpenAnswer.{FolderAnswers};
+ghost use Rattle.folder.specs.Reports.{OnlyReads, ReportsDevice};
+ghost use Rattle.checks.specs.Checked.{IsInvalid, IsRead};
+ghost use Rattle.checks.specs.HeldTables.{IsFoundAnswer, held_numbers};
+ghost use Rattle.checks.specs.TablePlaces.{AreBounds, IsLoadedIfThere};
+
+use crate::held_table::HeldTable;
+use crate::rounds::check_tables;
+use board::Gate;
+use coding::{Fault, FaultName};
+use folder::{Folder, load_numbers};
+use ikey::{Comparator, SharedComparator};
+use reads::NumberedTable;
+use std::alloc::Global;
+use std::thread::Threads;
+use table::{Bounds, OwnedTable};
+
+/// The tables of a folder with these numbers, in order. None if one of them is missing or invalid.
+/// It only reads.
+///
+/// 1 to 64 workers check them, a table a job that `gate` sees.
+pub(crate) fn read_tables<C: SharedComparator, F: Folder, G: Gate + Sync, R: Threads + Sync>(
+    rt: &R,
+    alloc: Global,
+    folder: &mut F,
+    numbers: &[u64],
+    workers: u64,
+    gate: &G,
+) -> Result<Option<Vec<HeldTable<C>>>, Fault>
+    requires some { 0 < workers }
+    requires few { workers ≤ 64 }
+    ensures answer { (files : Files) → Tells (F.tells folder.old) files →
+        FolderAnswers (λ found. option_map (λ v. v.items) found) (F.failed folder.old)
+        (F.failed folder.new) result (IsFoundAnswer C.cmp files numbers.now) }
+    ensures numbers { IfOk result
+        (λ found. IfSome found (λ v. held_numbers v.items ≡ numbers.now)) }
+    ensures device { ReportsDevice F.Folder folder.old folder.new result }
+    ensures reads { OnlyReads F.Folder folder.old folder.new }
+{
+    let Some(loaded) = load_if_there(alloc, folder, numbers)? else {
+        return Ok(None);
+    };
+    owned_tables::<C, G, R>(rt, alloc, loaded, workers, gate)
+}
+
+/// The bytes of the tables with these numbers. None if one of them is missing. It only reads.
+fn load_if_there<F: Folder>(
+    alloc: Global,
+    folder: &mut F,
+    numbers: &[u64],
+) -> Result<Option<Vec<(u64, Vec<u8>)>>, Fault>
+    ensures answer { FolderAnswers
+        (λ found. option_map (λ v. map (λ t. (t.0, t.1.items)) v.items) found)
+        (F.failed folder.old) (F.failed folder.new) result
+        (IsLoadedIfThere (F.tells folder.old) numbers.now) }
+    ensures device { ReportsDevice F.Folder folder.old folder.new result }
+    ensures reads { OnlyReads F.Folder folder.old folder.new }
+{
+    match load_numbers(alloc, folder, numbers) {
+        Ok(loaded) => Ok(Some(loaded)),
+        Err(refused) => match refused.name {
+            FaultName::Missing => Ok(None),
+            _ => Err(refused),
+        },
+    }
+}
+
+/// The tables of these numbers and bytes, which own the bytes. None if one is invalid. The only
+/// fault is Memory.
+fn owned_tables<C: SharedComparator, G: Gate + Sync, R: Threads + Sync>(
+    rt: &R,
+    alloc: Global,
+    loaded: Vec<(u64, Vec<u8>)>,
+    workers: u64,
+    gate: &G,
+) -> Result<Option<Vec<HeldTable<C>>>, Fault>
+    requires some { 0 < workers }
+    requires few { workers ≤ 64 }
+    ensures checked { IfOk result (λ found. MatchOption found
+        (IsInvalid C.cmp (map (λ t. (t.0, t.1.items)) loaded.items))
+        (λ v. IsRead C.cmp (map (λ t. (t.0, t.1.items)) loaded.items) v.items)) }
+    ensures memory { IfErr result (λ e. e ≡ fault Memory) }
+{
+    let found = found_bounds::<C, G, R>(rt, alloc, &loaded, workers, gate)?;
+    let Some(bounds) = found else {
+        return Ok(None);
+    };
+    Ok(Some(with_bounds(alloc, loaded, bounds)?))
+}
+
+/// The bounds of the tables of these numbers and bytes. None if one is invalid. The only fault is
+/// Memory.
+fn found_bounds<C: SharedComparator, G: Gate + Sync, R: Threads + Sync>(
+    rt: &R,
+    alloc: Global,
+    loaded: &[(u64, Vec<u8>)],
+    workers: u64,
+    gate: &G,
+) -> Result<Option<Vec<Bounds>>, Fault>
+    requires some { 0 < workers }
+    requires few { workers ≤ 64 }
+    ensures checked { IfOk result (λ found. MatchOption found
+        (IsInvalid C.cmp (map (λ t. (t.0, t.1.items)) loaded.now))
+        (λ v. AreBounds C.cmp (map (λ t. (t.0, t.1.items)) loaded.now) v.items)) }
+    ensures memory { IfErr result (λ e. e ≡ fault Memory) }
+{
+    match check_tables::<C, G, R>(rt, alloc, loaded, workers, gate) {
+        Ok(tables) => Ok(Some(bounds_of_tables(alloc, tables)?)),
+        Err(refused) => match refused.name {
+            FaultName::Memory => Err(Fault::of(FaultName::Memory)),
+            _ => Ok(None),
+        },
+    }
+}
+
+/// The bounds of tables, in order. The only fault is Memory.
+fn bounds_of_tables<'t, C: Comparator>(
+    alloc: Global,
+    tables: Vec<NumberedTable<'t, C>>,
+) -> Result<Vec<Bounds>, Fault>
+    ensures bounds { IfOk result
+        (λ v. AllZip (λ t b. IsCheckedTable C.cmp t.contents.bytes b.smallest b.largest)
+        tables.entry.items v.items) }
+    ensures memory { IfErr result (λ e. e ≡ fault Memory) }
+{
+    let mut bounds = Vec::with_capacity(alloc, tables.len())?;
+    for table in tables {
+        bounds.push(table.into_table().into_bounds())?;
+    }
+    Ok(bounds)
+}
+
+/// The tables of these numbers and bytes, whose checks found these bounds. The only fault is
+/// Memory.
+fn with_bounds<C: Comparator>(
+    alloc: Global,
+    loaded: Vec<(u64, Vec<u8>)>,
+    bounds: Vec<Bounds>,
+) -> Result<Vec<HeldTable<C>>, Fault>
+    requires { AreBounds C.cmp (map (λ t. (t.0, t.1.items)) loaded.items) bounds.items }
+    ensures read { IfOk result
+        (λ v. IsRead C.cmp (map (λ t. (t.0, t.1.items)) loaded.items) v.items) }
+    ensures memory { IfErr result (λ e. e ≡ fault Memory) }
+{
+    let mut tables = Vec::with_capacity(alloc, loaded.len())?;
+    let mut ahead = bounds.into_iter();
+    for table in loaded {
+        let (number, bytes) = table;
+        let Some(found) = ahead.next() else {
+            unreachable!();
+        };
+        tables.push(HeldTable::of(number, OwnedTable::of(bytes, found)))?;
+    }
+    Ok(tables)
+}

@@ -1,0 +1,51 @@
+//! A table of a folder that was checked, with its bytes.
+
+ghost use Rattle.std.specs.Prelude.{◌≡◌, Ok};
+ghost use Rattle.coding.specs.Answers.{EqualOrMemory};
+
+use coding::Fault;
+use ikey::Comparator;
+use reads::NumberedTable;
+use std::alloc::Global;
+use std::marker::Model;
+use table::OwnedTable;
+
+/// A table that was checked and owns its bytes, and the number of its file. Contracts see the
+/// number and what the table holds.
+#[derive(Drop)]
+pub(crate) struct HeldTable<C: Comparator> {
+    number: u64,
+    table: OwnedTable<C>,
+}
+
+impl<C: Comparator> Model for HeldTable<C> {
+    ghost use Rattle.reads.specs.Tables.{NumberedContents};
+
+    ghost Value = { NumberedContents };
+
+    ghost view = { λ t. record { number = t.number; contents = t.table } };
+}
+
+impl<C: Comparator> HeldTable<C> {
+    /// The table of the file `number`.
+    pub fn of(number: u64, table: OwnedTable<C>) -> HeldTable<C>
+        ensures { result ≡ record { number = number; contents = table } }
+    {
+        HeldTable { number, table }
+    }
+
+    /// The number of the file.
+    pub fn number(&self) -> u64
+        ensures { result ≡ self.now.number }
+    {
+        self.number
+    }
+
+    /// The table, lent. It takes the memory of two keys. The only fault is Memory.
+    pub fn lend(&self, alloc: Global) -> Result<NumberedTable<'_, C>, Fault>
+        ensures { EqualOrMemory (λ t. t) result (Ok self.now) }
+    {
+        let table = self.table.lend(alloc)?;
+        Ok(NumberedTable::of(self.number, table))
+    }
+}

@@ -1,0 +1,108 @@
+//! Tables of a folder that were checked, held from one range of user keys to the next.
+
+ghost use Rattle.std.specs.Prelude.{◌≡◌, ◌<◌, ◌≤◌, [], Ok, IfOk, IfSome};
+ghost use Rattle.coding.specs.Answers.{EqualOrMemory};
+ghost use Rattle.folder.specs.Calls.{Files, Tells};
+ghost use Rattle.folder.specs.OpenAnswer.{FolderAnswers};
+ghost use Rattle.folder.specs.Reports.{OnlyReads, ReportsDevice};
+ghost use Rattle.checks.specs.HeldTables.{AreHeldIn, IsFoundAnswer, held_numbers};
+
+use crate::found_tables::read_tables;
+use crate::held_table::HeldTable;
+use crate::table_places::{kept_places, placed_tables, wanted_numbers};
+use board::Gate;
+use coding::Fault;
+use folder::Folder;
+use ikey::{Comparator, SharedComparator};
+use reads::NumberedTable;
+use std::alloc::Global;
+use std::marker::Model;
+use std::thread::Threads;
+
+/// Tables of a folder that were checked, with their bytes and the numbers of their files. Contracts
+/// see the numbers and what the tables hold, in order.
+///
+/// Work that goes over a version by ranges of user keys holds the tables that a range needs, and
+/// has [`hold_tables`] make them those of the next range.
+#[derive(Drop)]
+pub struct HeldTables<C: Comparator> {
+    tables: Vec<HeldTable<C>>,
+}
+
+impl<C: Comparator> Model for HeldTables<C> {
+    ghost use Rattle.std.specs.Prelude.{List};
+    ghost use Rattle.reads.specs.Tables.{NumberedContents};
+
+    ghost Value = { List NumberedContents };
+
+    ghost view = { λ t. t.tables.items };
+}
+
+impl<C: Comparator> HeldTables<C> {
+    /// No table. Takes no memory.
+    pub fn none(alloc: Global) -> HeldTables<C>
+        ensures { result ≡ [] }
+    {
+        HeldTables {
+            tables: Vec::new(alloc),
+        }
+    }
+
+    /// The tables in order, lent. No test is made again.
+    ///
+    /// It takes the memory of two keys for each. The only fault is Memory.
+    pub fn lend(&self, alloc: Global) -> Result<Vec<NumberedTable<'_, C>>, Fault>
+        ensures { EqualOrMemory (λ v. v.items) result (Ok self.now) }
+    {
+        let tables = self.tables.as_slice();
+        let mut lent = Vec::with_capacity(alloc, tables.len())?;
+        for table in tables {
+            lent.push(table.lend(alloc)?)?;
+        }
+        Ok(lent)
+    }
+}
+
+/// The tables of a folder with these `numbers`, in order. None if one of them is missing or
+/// invalid. It only reads.
+///
+/// `held` are tables of this folder, whose files are as they were when they were read. Those with
+/// one of the numbers are kept: they are neither read nor checked again. The others are dropped
+/// before a table is read. 1 to 64 workers check the tables that are read, each a job that `gate`
+/// sees.
+///
+/// If the device fails a call, the answer is Device and no further call is made. If memory runs
+/// out, it is Memory.
+///
+/// No contract says which tables are read. A held table is kept if its place among `held` is as
+/// among `numbers`. So it is if both are in the order of [`needed_files`](crate::needed_files()),
+/// for ranges of one version.
+pub fn hold_tables<C: SharedComparator, F: Folder, G: Gate + Sync, R: Threads + Sync>(
+    rt: &R,
+    alloc: Global,
+    folder: &mut F,
+    held: HeldTables<C>,
+    numbers: &[u64],
+    workers: u64,
+    gate: &G,
+) -> Result<Option<HeldTables<C>>, Fault>
+    requires some { 0 < workers }
+    requires few { workers ≤ 64 }
+    ensures answer { (files : Files) → Tells (F.tells folder.old) files →
+        AreHeldIn C.cmp files held →
+        FolderAnswers (λ found. found) (F.failed folder.old) (F.failed folder.new) result
+        (IsFoundAnswer C.cmp files numbers.now) }
+    ensures numbers { IfOk result
+        (λ found. IfSome found (λ tables. held_numbers tables ≡ numbers.now)) }
+    ensures device { ReportsDevice F.Folder folder.old folder.new result }
+    ensures reads { OnlyReads F.Folder folder.old folder.new }
+{
+    let places = kept_places(alloc, held.tables, numbers)?;
+    let wanted = wanted_numbers(alloc, &places)?;
+    let found = read_tables::<C, F, G, R>(rt, alloc, folder, &wanted, workers, gate)?;
+    let Some(fresh) = found else {
+        return Ok(None);
+    };
+    let tables = placed_tables(alloc, places, fresh)?;
+    Ok(Some(HeldTables { tables }))
+}

@@ -1,5 +1,5 @@
 -- What a step leaves of a folder that stands for a version.
-use Rattle.std.proofs.Common.{◌≡◌, ◌≢◌, ℕ, Bool, true, false, List, [], ◌∷◌, Option, Some, Result, Ok, Err, refl, sym, ap, subst, ◌∙◌, inl, inr, if◌then◌else◌}
+use Rattle.std.proofs.Common.{◌≡◌, ◌≢◌, ◌⊎◌, ℕ, Bool, true, false, List, [], ◌∷◌, Option, Some, None, Result, Ok, Err, refl, sym, ap, subst, ◌∙◌, inl, inr, if◌then◌else◌}
 use Rattle.std.proofs.lemmas.Option.{same_Some}
 use Rattle.std.specs.declared.cmp.Ordering.{Ordering}
 use Rattle.coding.specs.declared.fault.Fault.{Fault}
@@ -8,7 +8,7 @@ use Rattle.edit.specs.Version.{State, empty_state}
 use Rattle.coding.specs.Answers.{IsThen, fault, ◌>>=◌}
 use Rattle.coding.specs.declared.fault.FaultName.TheVariants.{Apply}
 use Rattle.logrec.specs.LogReader.{records_of}
-use Rattle.folder.specs.Calls.{Created, Done, Files, FolderSynced, Renamed, FolderView, Shows, Step, Synced, Tried, with_value, with_contents, with_synced}
+use Rattle.folder.specs.Calls.{Created, Done, Files, FolderSynced, Removed, Renamed, FolderView, Shows, Step, Synced, Tried, with_value, with_contents, with_synced}
 use Rattle.folder.specs.CallSequence.{ShowsAll}
 use Rattle.folder.specs.Crash.{Happens, IsDurable, Leads, Leaves, World, open_world}
 use Rattle.folder.specs.Free.{IsFree}
@@ -107,6 +107,26 @@ stands_made cmp order v tables w next free held torn h f shown left =
     let synced = at next.shown.synced _ name (ap (λ (s : FolderView). s.synced) shown) ∙ put_other w.shown.synced free false name other in
     (files, still_settled w next name (h.settled name r) files synced (at next.left _ name left ∙ put_other w.left free torn name other)))
 
+-- A file is removed, or was to be removed, on whose name nothing rests. Its absence may be read, be left by a crash, or both.
+pub stands_removed : (cmp : List ℕ → List ℕ → Ordering) (order : Order) (v : State) (tables : List (ℕ × List ℕ)) (w next : World) (gone : List ℕ) → StandsAs cmp order v tables w → (RestsOn cmp v w.shown.files gone → ⊥)
+    → (next.shown ≡ w.shown) ⊎ (next.shown ≡ with_contents w.shown gone None) → (next.left ≡ w.left) ⊎ (next.left ≡ with_value w.left gone None) → StandsAs cmp order v tables next
+stands_removed cmp order v tables w next gone h unused shown left =
+    stands_on cmp order v tables w next h (λ name r.
+    let other : name ≢ gone = λ is. unused (subst (RestsOn cmp v w.shown.files) is r) in
+    let files : next.shown.files name ≡ w.shown.files name = elim shown [
+      | inl same ↦ at next.shown.files w.shown.files name (ap (λ (s : FolderView). s.files) same)
+      | inr is ↦ at next.shown.files _ name (ap (λ (s : FolderView). s.files) is) ∙ put_other w.shown.files gone None name other
+    ] in
+    let synced : next.shown.synced name ≡ w.shown.synced name = elim shown [
+      | inl same ↦ at next.shown.synced w.shown.synced name (ap (λ (s : FolderView). s.synced) same)
+      | inr is ↦ at next.shown.synced _ name (ap (λ (s : FolderView). s.synced) is) ∙ put_other w.shown.synced gone false name other
+    ] in
+    let leaves : next.left name ≡ w.left name = elim left [
+      | inl same ↦ at next.left w.left name same
+      | inr is ↦ at next.left _ name is ∙ put_other w.left gone None name other
+    ] in
+    (files, still_settled w next name (h.settled name r) files synced leaves))
+
 -- a file is synced
 pub stands_synced : (cmp : List ℕ → List ℕ → Ordering) (order : Order) (v : State) (tables : List (ℕ × List ℕ)) (w next : World) (synced : List ℕ) → StandsAs cmp order v tables w
     → next.shown ≡ with_synced w.shown synced → next.left ≡ w.left → StandsAs cmp order v tables next
@@ -163,6 +183,9 @@ left_shown (Tried (Created name bytes)) s next h = (h.0, ap (λ (t : FolderView)
 left_shown (Done (Renamed from to)) s next h = inr (ap (λ (t : FolderView). t.files) h)
 left_shown (Tried (Renamed from to)) s next (inl h) = inl (ap (λ (t : FolderView). t.files) h)
 left_shown (Tried (Renamed from to)) s next (inr h) = inr (ap (λ (t : FolderView). t.files) h)
+left_shown (Done (Removed name)) s next h = inr (ap (λ (t : FolderView). t.files) h)
+left_shown (Tried (Removed name)) s next (inl h) = inl (ap (λ (t : FolderView). t.files) h)
+left_shown (Tried (Removed name)) s next (inr h) = inr (ap (λ (t : FolderView). t.files) h)
 left_shown (Done (Synced name)) s next h = ap (λ (t : FolderView). t.files) h
 left_shown (Tried (Synced name)) s next h = ap (λ (t : FolderView). t.files) h
 left_shown (Done FolderSynced) s next h = λ name k. ap (λ (t : FolderView). t.files name) h

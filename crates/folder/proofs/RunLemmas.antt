@@ -26,7 +26,7 @@ pub shows_then : (one two : List Step) (s middle last : FolderView) → ShowsAll
 shows_then [] two s middle last a b = let same : middle ≡ s = a in rw (← same) b
 shows_then (step ∷ one) two s middle last a b = (a.0, a.1, shows_then one two a.0 middle last a.2 b)
 
-changes_then : (one two : List Step) (old middle new : List ℕ → Option (List ℕ) → Type 0) → TellsThrough one old middle → TellsThrough two middle new → TellsThrough (one ++ two) old new
+pub changes_then : (one two : List Step) (old middle new : List ℕ → Option (List ℕ) → Type 0) → TellsThrough one old middle → TellsThrough two middle new → TellsThrough (one ++ two) old new
 changes_then one two old middle new a b s h =
     let x = a s h in
     let y = b x.0 x.2 in

@@ -1,7 +1,7 @@
 -- What a call on a folder in memory changes of what may be read.
 use Rattle.std.proofs.Common.{◌≡◌, ℕ, ◌+◌, ◌<◌, Bor, true, false, List, [], ◌∷◌, length, map, drop, get_or, Option, Some, None, refl, sym, ap, subst, ◌∙◌, inl, inr, if◌then◌else◌, add-one, drop-cons}
 use Rattle.std.specs.Str.{bytes_eq}
-use Rattle.folder.specs.Calls.{Created, Done, Files, FolderSynced, Renamed, Step, Synced, Tells, TellsAfter, Tried, with_moved, with_value, with_renamed, with_contents, with_synced}
+use Rattle.folder.specs.Calls.{Created, Done, Files, FolderSynced, Removed, Renamed, Step, Synced, Tells, TellsAfter, Tried, with_moved, with_value, with_renamed, with_contents, with_synced}
 use Rattle.folder.specs.Attempts.{Alters}
 use Rattle.folder.specs.Shelf.{files_after_steps, files_in}
 use Rattle.folder.specs.declared.shelf_step.ShelfStep.{ShelfStep}
@@ -61,6 +61,14 @@ alters_tells (Tried (Renamed from to)) old new (inl is) s tells =
 alters_tells (Tried (Renamed from to)) old new (inr is) s tells =
     let next = with_renamed s from to in
     (next, inr refl, tells_alike new next.files (λ n. moved_alike s.files old from to (alike_told old s.files tells) n ∙ sym (is_at new _ is n)))
+alters_tells (Done (Removed name)) old new is s tells =
+    let next = with_contents s name None in
+    (next, refl, tells_alike new next.files (λ n. put_alike s.files old name None (alike_told old s.files tells) n ∙ sym (is_at new _ is n)))
+alters_tells (Tried (Removed name)) old new (inl is) s tells =
+    (s, inl refl, tells_alike new s.files (λ n. alike_told old s.files tells n ∙ sym (is_at new old is n)))
+alters_tells (Tried (Removed name)) old new (inr is) s tells =
+    let next = with_contents s name None in
+    (next, inr refl, tells_alike new next.files (λ n. put_alike s.files old name None (alike_told old s.files tells) n ∙ sym (is_at new _ is n)))
 alters_tells (Done (Synced name)) old new is s tells =
     (with_synced s name, refl, tells_alike new s.files (λ n. alike_told old s.files tells n ∙ sym (is_at new old is n)))
 alters_tells (Tried (Synced name)) old new is s tells = (s, refl, tells_alike new s.files (λ n. alike_told old s.files tells n ∙ sym (is_at new old is n)))

@@ -4,12 +4,13 @@ use Rattle.std.specs.Prelude.{Some, None, Result, Ok, Err}
 use Rattle.std.specs.Str.{bytes_eq}
 use Rattle.folder.specs.declared.folder.FolderFault.{FolderFault}
 
--- a call that writes: a file is made of these bytes, a file is synced, a file is renamed, the
--- folder is synced
+-- a call that writes: a file is made of these bytes, a file is synced, a file is renamed, a file is
+-- removed, the folder is synced
 pub data Call : Type 0 where
   Created : List ℕ → List ℕ → Call
   Synced : List ℕ → Call
   Renamed : List ℕ → List ℕ → Call
+  Removed : List ℕ → Call
   FolderSynced : Call
 
 -- a call that was done, or one that failed or was under way when a crash came
@@ -51,13 +52,15 @@ with_renamed s from to =
     record { files = with_moved None s.files from to; synced = with_moved false s.synced from to }
 
 -- What a step changes if no crash comes. A call that failed may have made a file of any bytes or
--- none, or renamed one or not.
+-- none, or renamed one or not, or removed one or not.
 abbrev pub Shows : Step → FolderView → FolderView → Type 0
 Shows (Done (Created name bytes)) s next = next ≡ with_contents s name (Some bytes)
 Shows (Tried (Created name bytes)) s next = (held : Option (List ℕ))
     × (next ≡ with_contents s name held)
 Shows (Done (Renamed from to)) s next = next ≡ with_renamed s from to
 Shows (Tried (Renamed from to)) s next = (next ≡ s) ⊎ (next ≡ with_renamed s from to)
+Shows (Done (Removed name)) s next = next ≡ with_contents s name None
+Shows (Tried (Removed name)) s next = (next ≡ s) ⊎ (next ≡ with_contents s name None)
 Shows (Done (Synced name)) s next = next ≡ with_synced s name
 Shows (Tried (Synced name)) s next = next ≡ s
 Shows (Done FolderSynced) s next = next ≡ s

@@ -22,6 +22,13 @@ pub record ReadsAs (cmp : KeyOrder) (order : Order) (v : State) (tables : List (
   pub opened : IsOpened (IsHeldIn files) (Ok (order, v))
   pub loaded : IsLoaded (IsHeldIn files) (file_numbers cmp v) (Ok tables)
 
+-- The files read as a version of this order and its tables, and CURRENT names the manifest of this
+-- number.
+pub record ReadsBy (cmp : KeyOrder) (order : Order) (v : State) (manifest : ℕ)
+    (tables : List (ℕ × List ℕ)) (files : Files) : Type 0 where
+  pub reads : ReadsAs cmp order v tables files
+  pub named : files (codes "CURRENT") ≡ Some (current_text manifest)
+
 -- n is one of the numbers
 abbrev pub IsOneOf : List ℕ → ℕ → Type 0
 IsOneOf [] n = ⊥
@@ -48,3 +55,9 @@ pub record StandsAs (cmp : KeyOrder) (order : Order) (v : State) (tables : List 
     (w : World) : Type 0 where
   pub reads : ReadsAs cmp order v tables w.shown.files
   pub settled : (name : List ℕ) → RestsOn cmp v w.shown.files name → IsSettled w name
+
+-- The folder stands for the version and its tables, and CURRENT names the manifest of this number.
+pub record StandsBy (cmp : KeyOrder) (order : Order) (v : State) (manifest : ℕ)
+    (tables : List (ℕ × List ℕ)) (w : World) : Type 0 where
+  pub stands : StandsAs cmp order v tables w
+  pub named : w.shown.files (codes "CURRENT") ≡ Some (current_text manifest)

@@ -4,7 +4,8 @@ use Rattle.std.specs.Map.{lookup}
 use Rattle.std.specs.Str.{bytes_eq}
 use Rattle.folder.specs.Calls.{Files, Step, with_moved, with_value}
 use Rattle.folder.specs.declared.shelf_step.ShelfCall.{ShelfCall}
-use Rattle.folder.specs.declared.shelf_step.ShelfCall.TheVariants.{Create, Rename, Sync, SyncFolder}
+use Rattle.folder.specs.declared.shelf_step.ShelfCall.TheVariants.{Create, Remove, Rename, Sync}
+use Rattle.folder.specs.declared.shelf_step.ShelfCall.TheVariants.{SyncFolder}
 use Rattle.folder.specs.declared.shelf_step.ShelfStep.{ShelfStep}
 
 -- the bytes under each name; of several files of one name the first counts
@@ -15,6 +16,7 @@ files_in files name = lookup (bytes_eq name) files
 abbrev pub made_by : ShelfCall → Files → Files
 made_by (Create name bytes) files = with_value files (string_bytes name) (Some bytes.items)
 made_by (Rename from to) files = with_moved None files (string_bytes from) (string_bytes to)
+made_by (Remove name) files = with_value files (string_bytes name) None
 made_by (Sync name) files = files
 made_by SyncFolder files = files
 

@@ -88,7 +88,7 @@ impl<'r, R: SystemFiles + WholeFiles + AllocGlobal + Threads> Disk<'r, R> {
     /// in `order`.
     ///
     /// A table that can't be read now, for whatever reason, is read when it is asked for. After a
-    /// file was made or renamed, all of them are.
+    /// file was made, renamed or removed, all of them are.
     pub fn read_ahead(&mut self, order: Order, version: &Version)
         ensures failed { ⟦<Disk<'r, R> as Folder>⟧.failed self.new
             ≡ ⟦<Disk<'r, R> as Folder>⟧.failed self.old }
@@ -106,8 +106,8 @@ impl<'r, R: SystemFiles + WholeFiles + AllocGlobal + Threads> Disk<'r, R> {
     /// for: CURRENT, the manifest of the number `manifest`, and each table, under its older name if
     /// it has only that.
     ///
-    /// A later sync of such a file makes no call, until a file is made or renamed. A file that
-    /// can't be synced now, for whatever reason, is synced when that is asked for.
+    /// A later sync of such a file makes no call, until a file is made, renamed or removed. A file
+    /// that can't be synced now, for whatever reason, is synced when that is asked for.
     pub fn sync_ahead(&mut self, order: Order, version: &Version, manifest: u64)
         ensures failed { ⟦<Disk<'r, R> as Folder>⟧.failed self.new
             ≡ ⟦<Disk<'r, R> as Folder>⟧.failed self.old }
@@ -159,6 +159,11 @@ impl<'r, R: SystemFiles + AllocGlobal> Folder for Disk<'r, R> {
     fn rename(&mut self, from: &str, to: &str) -> Result<(), FolderFault> {
         self.ahead.clear();
         self.write(WriteCall::Rename(from, to))
+    }
+
+    fn remove(&mut self, name: &str) -> Result<(), FolderFault> {
+        self.ahead.clear();
+        self.write(WriteCall::Remove(name))
     }
 
     fn sync_folder(&mut self) -> Result<(), FolderFault> {

@@ -12,6 +12,7 @@ pub enum FolderCall {
     Create,
     Sync,
     Rename,
+    Remove,
     SyncFolder,
 }
 
@@ -73,6 +74,7 @@ fn words_of(call: FolderCall) -> &'static str {
         FolderCall::Create => "cannot create ",
         FolderCall::Sync => "cannot sync ",
         FolderCall::Rename => "cannot rename ",
+        FolderCall::Remove => "cannot remove ",
         FolderCall::SyncFolder => "cannot sync the folder",
     }
 }

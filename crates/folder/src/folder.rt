@@ -53,8 +53,8 @@ impl<T: Drop> From<AllocFailed<T>> for FolderFault {
 pub trait Folder {
     ghost use Rattle.std.specs.Prelude.{◌≡◌, ◌∷◌, ◌++◌, [], ℕ, List, Option, IfOk};
     ghost use Rattle.std.specs.Option.{option_map};
-    ghost use Rattle.folder.specs.Calls.{Step, step_of, Created, Synced, Renamed, FolderSynced};
-    ghost use Rattle.folder.specs.Calls.{TellsAfter};
+    ghost use Rattle.folder.specs.Calls.{Step, step_of, Created, Synced, Renamed, Removed};
+    ghost use Rattle.folder.specs.Calls.{FolderSynced, TellsAfter};
     ghost use Rattle.folder.specs.Folder.{TellsPart, TellsSame, failures_after};
 
     /// What the folder tells: whether a read of a name may give these bytes, or None. A folder that
@@ -111,6 +111,13 @@ pub trait Folder {
         ensures calls { calls self.new ≡ calls self.old
             ++ step_of (Renamed from.now to.now) result ∷ [] }
         ensures change { TellsAfter (step_of (Renamed from.now to.now) result) (tells self.old)
+            (tells self.new) }
+        ensures failures { failed self.new ≡ failures_after (failed self.old) result };
+
+    /// Removes a file. If no file has this name, nothing is removed, and that is no failure.
+    fn remove(&mut self, name: &str) -> Result<(), FolderFault>
+        ensures calls { calls self.new ≡ calls self.old ++ step_of (Removed name.now) result ∷ [] }
+        ensures change { TellsAfter (step_of (Removed name.now) result) (tells self.old)
             (tells self.new) }
         ensures failures { failed self.new ≡ failures_after (failed self.old) result };
 

@@ -16,17 +16,17 @@
 //!   written to, be it through a link. The new one gets the permissions of CURRENT, and its owner
 //!   and group if the program may set them. If it can't be written whole, it is removed again.
 //! - sync: `sync_all`, through the handle that made the file, or else under its name.
-//! - rename is `fs::rename`, sync_folder is `sync_all` of the folder.
+//! - rename is `fs::rename`, remove is `fs::remove_file`, sync_folder is `sync_all` of the folder.
 //! - [`lock_to_change`] and [`lock_to_read`] keep out others that lock the folder as LevelDB does.
 //!
 //! The crash model (`specs/Calls.antt`, `specs/Crash.antt`). That a device keeps to it is a
 //! premise:
 //!
 //! - A synced file, in a folder that was synced after that, keeps its bytes until it is made anew
-//!   or a rename replaces it. A renamed file is as synced as it was.
+//!   or removed, or a rename replaces it. A renamed file is as synced as it was.
 //! - A name without a file at a sync of the folder has none until one is made or renamed to it.
 //! - Any other file may hold any bytes after a crash, or be missing.
-//! - A rename after which the folder was not synced is wholly there or wholly not.
+//! - A rename after which the folder was not synced is wholly there or wholly not. So is a removal.
 //! - A call that failed or was under way may be done as far as these say.
 #![tactic(auto)]
 

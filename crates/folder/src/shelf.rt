@@ -24,7 +24,7 @@ pub struct Failing {
     /// How it fails.
     pub fault: FolderFault,
     /// Whether the call acts all the same: it makes a file of the first half of its bytes, or
-    /// renames the file.
+    /// renames or removes the file.
     pub is_half_done: bool,
 }
 
@@ -172,6 +172,10 @@ impl<'a> Folder for Shelf<'a> {
         self.write(WriteCall::Rename(from, to))
     }
 
+    fn remove(&mut self, name: &str) -> Result<(), FolderFault> {
+        self.write(WriteCall::Remove(name))
+    }
+
     fn sync_folder(&mut self) -> Result<(), FolderFault> {
         self.write(WriteCall::SyncFolder)
     }
@@ -302,6 +306,7 @@ fn copied(alloc: Global, call: WriteCall<'_>, is_half: bool) -> Result<ShelfCall
             String::from_str(alloc, from)?,
             String::from_str(alloc, to)?,
         ),
+        WriteCall::Remove(name) => ShelfCall::Remove(String::from_str(alloc, name)?),
         WriteCall::SyncFolder => ShelfCall::SyncFolder,
     })
 }

@@ -13,6 +13,7 @@ pub enum ShelfCall {
     Create(String, Vec<u8>),
     Sync(String),
     Rename(String, String),
+    Remove(String),
     SyncFolder,
 }
 
@@ -49,6 +50,7 @@ impl ShelfStep {
             ShelfCall::Create(made, bytes) if made.as_str() == name => Source::Bytes(bytes),
             ShelfCall::Rename(from, to) if to.as_str() == name => Source::Name(from.as_str()),
             ShelfCall::Rename(from, _) if from.as_str() == name => Source::Nothing,
+            ShelfCall::Remove(removed) if removed.as_str() == name => Source::Nothing,
             _ => Source::Name(name),
         }
     }

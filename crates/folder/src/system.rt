@@ -98,6 +98,11 @@ pub(crate) fn done_in<R: SystemFiles>(
         WriteCall::Create(name, bytes) => create_in(rt, alloc, folder, kept, name, bytes),
         WriteCall::Sync(name) => sync_in(rt, alloc, folder, kept, name),
         WriteCall::Rename(from, to) => rename_in(rt, alloc, folder, kept, from, to),
+        WriteCall::Remove(name) => {
+            kept.forget_ahead();
+            drop(kept.taken(name));
+            remove_in(rt, alloc, folder, name)
+        }
         WriteCall::SyncFolder => sync_folder(rt, folder),
     }
 }

@@ -23,6 +23,7 @@ pub enum WriteCall<'a> {
     Create(&'a str, &'a [u8]),
     Sync(&'a str),
     Rename(&'a str, &'a str),
+    Remove(&'a str),
     SyncFolder,
 }
 
@@ -40,6 +41,7 @@ impl<'a> WriteCall<'a> {
             WriteCall::Create(name, _) => (FolderCall::Create, name),
             WriteCall::Sync(name) => (FolderCall::Sync, name),
             WriteCall::Rename(from, _) => (FolderCall::Rename, from),
+            WriteCall::Remove(name) => (FolderCall::Remove, name),
             WriteCall::SyncFolder => (FolderCall::SyncFolder, ""),
         }
     }

@@ -67,6 +67,7 @@ fn is_call(step: &ShelfStep, (act, name): (&str, &str)) -> bool {
         ShelfCall::Create(name, _) => ("create", name.as_str()),
         ShelfCall::Sync(name) => ("sync", name.as_str()),
         ShelfCall::Rename(_, to) => ("rename", to.as_str()),
+        ShelfCall::Remove(name) => ("remove", name.as_str()),
         ShelfCall::SyncFolder => ("sync", "."),
     };
     step.is_done && done == act && of == name

@@ -100,6 +100,8 @@ fn failures_are_told(rt: HostRuntime) -> Result<(), Fail> {
     assert!(rt; is_told(&rt, &disk, "cannot read .: not a regular file")?);
     assert!(rt; disk.sync(".").is_err() && disk.sync_folder().is_ok());
     assert!(rt; is_told(&rt, &disk, "cannot sync .: not a regular file")?);
+    assert!(rt; disk.remove(".") == Err(FolderFault::Device));
+    assert!(rt; is_told(&rt, &disk, "cannot remove .: Is a directory")?);
     fs::remove_dir_all(&rt, path.as_str())?;
     Ok(())
 }
@@ -177,6 +179,27 @@ fn files_are_synced_ahead(rt: HostRuntime) -> Result<(), Fail> {
     assert!(rt; are_synced(&mut disk, &["000003.ldb", "000005.ldb", "000005.sst"], true));
     assert!(rt; disk.create("1", b"one").is_ok());
     assert!(rt; are_synced(&mut disk, &names, false));
+    fs::remove_dir_all(&rt, path.as_str())?;
+    Ok(())
+}
+
+/// Whether a file is removed with what was kept and read ahead of it, and a missing one is no
+/// failure.
+#[test]
+fn files_are_removed(rt: HostRuntime) -> Result<(), Fail> {
+    let path = new_path(&rt, "removed")?;
+    let five = path_of(&rt, path.as_str(), "000005.ldb")?;
+    let version = version_of(rt.alloc(), THREE_FILES)?;
+    fs::create_dir(&rt, path.as_str())?;
+    let mut disk = Disk::new(&rt, path.as_str());
+    assert!(rt; makes(&mut disk, TABLES));
+    disk.read_ahead(Order::Bytewise, &version);
+    assert!(rt; disk.remove("000005.ldb").is_ok() && disk.remove("000005.ldb").is_ok());
+    assert!(rt; has(&mut disk, "000005.ldb", None));
+    assert!(rt; has(&mut disk, "000008.ldb", Some(b"eight")) && disk.failures() == 0);
+    // What has its name by then isn't synced by the handle of the file that was removed.
+    fs::create_dir(&rt, five.as_str())?;
+    assert!(rt; disk.sync("000005.ldb").is_err());
     fs::remove_dir_all(&rt, path.as_str())?;
     Ok(())
 }

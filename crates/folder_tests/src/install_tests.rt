@@ -1,4 +1,4 @@
 //! The tests of `install`.
 
 pub(crate) mod crashes;
-mod tests;
+pub(crate) mod tests;

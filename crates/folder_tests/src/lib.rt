@@ -1,7 +1,10 @@
-//! The tests of `folder` and `install`: folders that are opened and loaded, and installations that
-//! are cut short or fail. So is a whole compaction of a folder that was never synced.
+//! The tests of `folder`, `install` and `clean`: folders that are opened and loaded, and
+//! installations and removals that are cut short or fail. So is a whole compaction of a folder that
+//! was never synced.
 #![tactic(auto)]
 
+#[cfg(test)]
+mod clean_tests;
 #[cfg(test)]
 mod compaction_crash_tests;
 #[cfg(test)]
@@ -12,6 +15,8 @@ mod folder_disk_tests;
 mod folder_lock_tests;
 #[cfg(test)]
 mod folder_opening_tests;
+#[cfg(test)]
+mod folder_removal_tests;
 #[cfg(test)]
 mod folder_shelf_tests;
 #[cfg(test)]

@@ -5,15 +5,17 @@ use folder::{Folder, FolderFault, Shelf, ShelfCall, ShelfStep};
 /// The calls made by a moment, the newest first. At an even moment half as many calls are done. At
 /// an odd one the crash comes inside the next call, which is then among them.
 ///
-/// None if a crash leaves the same as at the moment before. A call that makes a file or renames one
-/// counts from inside it on; a sync of the folder after it is done; a sync of a file with the next
-/// call.
+/// None if a crash leaves the same as at the moment before. A call that makes, renames or removes a
+/// file counts from inside it on; a sync of the folder after it is done; a sync of a file with the
+/// next call.
 pub(crate) fn made_at(steps: &[ShelfStep], moment: usize) -> Option<&[ShelfStep]> {
     let taken = moment.saturating_add(1) / 2;
     let (_later, made) = steps.split_at(steps.len().saturating_sub(taken));
     let is_another = match made.first() {
         Some(newest) => match newest.call {
-            ShelfCall::Create(_, _) | ShelfCall::Rename(_, _) => moment % 2 == 1,
+            ShelfCall::Create(_, _) | ShelfCall::Rename(_, _) | ShelfCall::Remove(_) => {
+                moment % 2 == 1
+            }
             ShelfCall::SyncFolder => moment % 2 == 0,
             ShelfCall::Sync(_) => false,
         },
@@ -27,7 +29,7 @@ pub(crate) fn made_at(steps: &[ShelfStep], moment: usize) -> Option<&[ShelfStep]
 fn is_kept(step: &ShelfStep, later: &[ShelfStep]) -> bool {
     let made = match &step.call {
         ShelfCall::Create(name, _) => name.as_str(),
-        ShelfCall::Rename(_, _) => "",
+        ShelfCall::Rename(_, _) | ShelfCall::Remove(_) => "",
         _ => return true,
     };
     let mut is_synced = made.is_empty();
@@ -58,10 +60,10 @@ fn make(shelf: &mut Shelf<'_>, call: &ShelfCall, picked: u64) -> Result<(), Fold
     match call {
         ShelfCall::Create(name, bytes) => match garbage(bytes, picked) {
             Some(left) => shelf.create(name.as_str(), left),
-            // Renaming a missing file removes the file of the new name.
-            None => shelf.rename("", name.as_str()),
+            None => shelf.remove(name.as_str()),
         },
         ShelfCall::Rename(from, to) if picked == 4 => shelf.rename(from.as_str(), to.as_str()),
+        ShelfCall::Remove(name) if picked == 4 => shelf.remove(name.as_str()),
         _ => Ok(()),
     }
 }

@@ -9,7 +9,7 @@ use std::process::Abort;
 
 /// `log: comparator leveldb.BytewiseComparator, log 3, previous 0, next 8, last 4, file 1 6 3 t@1
 /// put .. t@1 put, file 1 7 5 u@2 put .. u@2 put`
-const MANIFEST: &[u8] = b"\
+pub(crate) const MANIFEST: &[u8] = b"\
     \xb7\xafe\x81T\0\x01\x01\x1aleveldb.BytewiseComparator\x02\x03\x09\0\x03\x08\x04\x04\x07\x01\
     \x06\x03\x09t\x01\x01\0\0\0\0\0\0\x09t\x01\x01\0\0\0\0\0\0\x07\x01\x07\x05\x09u\x01\x02\0\0\0\
     \0\0\0\x09u\x01\x02\0\0\0\0\0\0";
@@ -35,7 +35,7 @@ const READS_AGAIN: u64 = 1;
 type Tables = &'static [(u64, &'static [u8])];
 
 /// The next file of the version before.
-const BEFORE: u64 = 8;
+pub(crate) const BEFORE: u64 = 8;
 
 /// The known versions with their tables, by next file: the one before, the edited ones, and one
 /// that is edited a second time.
@@ -193,7 +193,7 @@ fn opened(alloc: Global, folder: &mut Shelf<'_>) -> Result<(Version, u64), Fault
 }
 
 /// The next file of the known version that a folder reads as; 0 if there is none.
-fn read_as(alloc: Global, folder: &mut Shelf<'_>) -> u64 {
+pub(crate) fn read_as(alloc: Global, folder: &mut Shelf<'_>) -> u64 {
     match opened(alloc, folder) {
         Ok((_version, number)) => number,
         Err(_) => 0,
@@ -430,8 +430,7 @@ const REPLACED: &[Option<&[u8]>] = &[Some(b"MANIFEST-000007\n"), Some(b"MANIFEST
 fn replace(shelf: &mut Shelf<'_>, current: Option<&[u8]>) -> Result<(), FolderFault> {
     match current {
         Some(bytes) => shelf.create("CURRENT", bytes),
-        // Renaming a missing file removes the file of the new name.
-        None => shelf.rename("", "CURRENT"),
+        None => shelf.remove("CURRENT"),
     }
 }
 

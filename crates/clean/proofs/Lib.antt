@@ -1,0 +1,6 @@
+mod Names
+mod Unused
+mod Stays
+mod Telling
+mod NumberSets
+mod ObsoleteNames

@@ -1,0 +1,5 @@
+-- what contracts rest on
+pub mod ObsoleteFile
+pub mod Removal
+-- serves proofs alone
+pub mod NumberIn

@@ -1,6 +1,6 @@
 //! The tests of a compaction, from who draws which job and what a worker keeps to the whole and to
-//! a folder: `board`, `split`, `merge`, `keep`, `encoding`, `cut`, `request`, `compact`, `checks`
-//! and `store`.
+//! a folder: `board`, `split`, `merge`, `keep`, `encoding`, `cut`, `request`, `compact`, `checks`,
+//! `scan` and `store`.
 #![tactic(auto)]
 
 #[cfg(test)]
@@ -21,6 +21,8 @@ mod merge_tests;
 mod range_checks_tests;
 #[cfg(test)]
 mod request_tests;
+#[cfg(test)]
+mod scan_tests;
 #[cfg(test)]
 mod split_tests;
 #[cfg(test)]

@@ -11,20 +11,20 @@ use std::test::*;
 use std::thread::Threads;
 
 /// `table: a@3 put -`
-const A_AT_THREE: &[u8] = b"\
+pub(crate) const A_AT_THREE: &[u8] = b"\
     \0\x09\0a\x01\x03\0\0\0\0\0\0\0\0\0\0\x01\0\0\0\0E\xed\x3a\x01\0\0\0\0\x01\0\0\0\0\xc0\xf2\xa1\
     \xb0\0\x09\x02a\x01\x03\0\0\0\0\0\0\0\x14\0\0\0\0\x01\0\0\0\0.\xe0\xc8\x85\x19\x08\x26\x16\0\0\
     \0\0\0\0\0\0\0\0\0\0\0\0\0\0\0\0\0\0\0\0\0\0\0\0\0\0\0\0\0\0\0\0\0\0W\xfb\x80\x8b\x24uG\xdb";
 
 /// `table: u@9 put x`
-const U_AT_NINE: &[u8] = b"\
+pub(crate) const U_AT_NINE: &[u8] = b"\
     \0\x09\x01u\x01\x09\0\0\0\0\0\0x\0\0\0\0\x01\0\0\0\0\xd4\x8b\x9dW\0\0\0\0\x01\0\0\0\0\xc0\xf2\
     \xa1\xb0\0\x09\x02u\x01\x09\0\0\0\0\0\0\0\x15\0\0\0\0\x01\0\0\0\0\x9e\xd1\0\xe5\x1a\x08\x27\
     \x16\0\0\0\0\0\0\0\0\0\0\0\0\0\0\0\0\0\0\0\0\0\0\0\0\0\0\0\0\0\0\0\0\0\0\0\0W\xfb\x80\x8b\x24u\
     G\xdb";
 
 /// `table: u@7 put y`
-const U_AT_SEVEN: &[u8] = b"\
+pub(crate) const U_AT_SEVEN: &[u8] = b"\
     \0\x09\x01u\x01\x07\0\0\0\0\0\0y\0\0\0\0\x01\0\0\0\0\x99\x3f\x86\xc4\0\0\0\0\x01\0\0\0\0\xc0\
     \xf2\xa1\xb0\0\x09\x02u\x01\x07\0\0\0\0\0\0\0\x15\0\0\0\0\x01\0\0\0\0\x92A\xbc\x1b\x1a\x08\x27\
     \x16\0\0\0\0\0\0\0\0\0\0\0\0\0\0\0\0\0\0\0\0\0\0\0\0\0\0\0\0\0\0\0\0\0\0\0\0W\xfb\x80\x8b\x24u\
@@ -37,14 +37,14 @@ const U_AT_ONE: &[u8] = b"\
     \0\0\0\0\0\0\0\0\0\0\0\0\0\0\0\0\0\0\0\0\0\0\0\0\0\0\0\0\0\0\0\0\0W\xfb\x80\x8b\x24uG\xdb";
 
 /// `table: a@1 put -, u@1 put -`
-const A_AND_U: &[u8] = b"\
+pub(crate) const A_AND_U: &[u8] = b"\
     \0\x09\0a\x01\x01\0\0\0\0\0\0\0\x09\0u\x01\x01\0\0\0\0\0\0\0\0\0\0\x01\0\0\0\0eBSN\0\0\0\0\x01\
     \0\0\0\0\xc0\xf2\xa1\xb0\0\x09\x02u\x01\x01\0\0\0\0\0\0\0\x20\0\0\0\0\x01\0\0\0\0\x1c\xd1\xa6\
     \x07\x25\x082\x16\0\0\0\0\0\0\0\0\0\0\0\0\0\0\0\0\0\0\0\0\0\0\0\0\0\0\0\0\0\0\0\0\0\0\0\0W\xfb\
     \x80\x8b\x24uG\xdb";
 
 /// `table: b@2 put -`
-const B_AT_TWO: &[u8] = b"\
+pub(crate) const B_AT_TWO: &[u8] = b"\
     \0\x09\0b\x01\x02\0\0\0\0\0\0\0\0\0\0\x01\0\0\0\0\xdb\xafB\xec\0\0\0\0\x01\0\0\0\0\xc0\xf2\xa1\
     \xb0\0\x09\x02b\x01\x02\0\0\0\0\0\0\0\x14\0\0\0\0\x01\0\0\0\0\xe4B\x20y\x19\x08\x26\x16\0\0\0\
     \0\0\0\0\0\0\0\0\0\0\0\0\0\0\0\0\0\0\0\0\0\0\0\0\0\0\0\0\0\0\0\0\0W\xfb\x80\x8b\x24uG\xdb";
@@ -69,7 +69,7 @@ const SHARED_KEY: &[u8] = b"\
 /// `edit: comparator leveldb.BytewiseComparator, log 3, previous 0, next 20, last 10, file 0 13 114
 /// u@9 put .. u@9 put, file 1 10 113 a@3 put .. a@3 put, file 1 11 113 b@2 put .. b@2 put, file 1
 /// 12 114 u@7 put .. u@7 put, file 2 9 125 a@1 put .. u@1 put`
-const SEVERAL_RANGES: &[u8] = b"\
+pub(crate) const SEVERAL_RANGES: &[u8] = b"\
     \x01\x1aleveldb.BytewiseComparator\x02\x03\x09\0\x03\x14\x04\x0a\x07\0\x0dr\x09u\x01\x09\0\0\0\
     \0\0\0\x09u\x01\x09\0\0\0\0\0\0\x07\x01\x0aq\x09a\x01\x03\0\0\0\0\0\0\x09a\x01\x03\0\0\0\0\0\0\
     \x07\x01\x0bq\x09b\x01\x02\0\0\0\0\0\0\x09b\x01\x02\0\0\0\0\0\0\x07\x01\x0cr\x09u\x01\x07\0\0\
@@ -97,6 +97,9 @@ struct Row {
     edit: &'static [u8],
     files: &'static [Held],
     told: Result<(usize, u128), FaultName>,
+    /// How many calls of the folder it makes if nothing is wrong, whatever the budget: one for each
+    /// table, and one more for each that has its older name.
+    calls: Option<u64>,
 }
 
 const ROWS: &[Row] = &[
@@ -109,21 +112,24 @@ const ROWS: &[Row] = &[
             ("000012.ldb", U_AT_NINE),
         ],
         told: Ok((3, 3)),
+        calls: Some(4),
     },
     Row {
         name: "two files of a level that share a user key",
         edit: SHARED_KEY,
         files: &[("000011.ldb", U_AT_SEVEN), ("000012.ldb", U_AT_NINE)],
         told: Ok((2, 2)),
+        calls: Some(2),
     },
     Row {
         name: "a table that is not what the version states",
         edit: SHARED_KEY,
         files: &[("000011.ldb", U_AT_SEVEN), ("000012.ldb", U_AT_ONE)],
         told: Err(FaultName::Lawless),
+        calls: None,
     },
     Row {
-        name: "several ranges",
+        name: "several ranges, and a table that reaches into three",
         edit: SEVERAL_RANGES,
         files: &[
             ("000009.ldb", A_AND_U),
@@ -133,6 +139,7 @@ const ROWS: &[Row] = &[
             ("000013.ldb", U_AT_NINE),
         ],
         told: Ok((5, 6)),
+        calls: Some(5),
     },
     Row {
         name: "the last of several tables is missing",
@@ -144,6 +151,7 @@ const ROWS: &[Row] = &[
             ("000013.ldb", U_AT_NINE),
         ],
         told: Err(FaultName::Missing),
+        calls: None,
     },
     Row {
         name: "an invalid table before another",
@@ -156,6 +164,7 @@ const ROWS: &[Row] = &[
             ("000013.ldb", U_AT_NINE),
         ],
         told: Err(FaultName::Magic),
+        calls: None,
     },
     Row {
         name: "an invalid table after entries that do not fall",
@@ -168,6 +177,7 @@ const ROWS: &[Row] = &[
             ("000013.ldb", U_AT_SEVEN),
         ],
         told: Err(FaultName::Short),
+        calls: None,
     },
     Row {
         name: "entries of the last range that do not fall",
@@ -180,6 +190,7 @@ const ROWS: &[Row] = &[
             ("000013.ldb", U_AT_SEVEN),
         ],
         told: Err(FaultName::Lawless),
+        calls: None,
     },
 ];
 
@@ -187,7 +198,7 @@ const ROWS: &[Row] = &[
 const BUDGETS: &[u64] = &[1, 300, 1 << 30];
 
 /// The version after an edit.
-fn version_after(alloc: Global, edit: &[u8]) -> Result<Version, Fault> {
+pub(crate) fn version_after(alloc: Global, edit: &[u8]) -> Result<Version, Fault> {
     let edit = VersionEdit::decode(alloc, edit)?;
     Version::empty(alloc).applied::<Bytewise>(edit)
 }
@@ -214,7 +225,11 @@ fn tell(rt: &(impl Threads + Sync + AllocGlobal), row: &Row, memory: u64) -> Res
         4,
         &Open,
     );
-    Ok(is_told(answer, row.told))
+    let is_counted = match row.calls {
+        Some(calls) => shelf.calls() == calls,
+        None => true,
+    };
+    Ok(is_told(answer, row.told) && is_counted)
 }
 
 #[test]

@@ -1,4 +1,4 @@
 //! The tests of `store`.
 
-mod rows;
+pub(crate) mod rows;
 mod tests;

@@ -1,0 +1,11 @@
+pub mod Told
+pub mod EntrySteps
+pub mod EntryAnswers
+pub mod SortedNewer
+pub mod VersionFiles
+pub mod FileRows
+pub mod MergedRows
+pub mod OneList
+pub mod EmptyRanges
+pub mod RangeSteps
+pub mod ScanAnswers

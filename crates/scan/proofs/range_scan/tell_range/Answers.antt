@@ -1,0 +1,138 @@
+use Rattle.std.proofs.Common.{Bor, ◌≡◌, ℕ, true, List, [], map, Option, None, Ok, refl, sym, ap, subst, ◌∙◌, inr, arith}
+use Rattle.std.specs.Prelude.{filter}
+use Rattle.coding.proofs.Binds.{ok_is}
+use Rattle.coding.proofs.Refusals.{only_memory}
+use Rattle.block.specs.EncodedEntry.{Entry}
+use Rattle.merge.specs.Merged.{entries_of_lists, sorted_entries}
+use Rattle.split.specs.Ranges.{key_range}
+use Rattle.edit.specs.declared.meta.FileMeta.{FileMeta}
+use Rattle.folder.proofs.LoadingLemmas.{map_fused}
+use Rattle.reads.specs.TableOrder.{lists_of_files}
+use Rattle.reads.specs.Tables.{NumberedContents}
+use Rattle.checks.specs.HeldTables.{AreFound, AreHeldIn, IsFoundAnswer}
+use Rattle.checks.specs.NeededFiles.{is_needed}
+use Rattle.checks.proofs.FileTables.{numbers_in}
+use Rattle.checks.proofs.FoundTables.{found_held}
+use Rattle.scan.specs.Row.{Row}
+use Rattle.scan.specs.EntryRows.{file_rows, rows_behind}
+use Rattle.scan.specs.RowParts.{AreTelling, IsRowPart}
+use Rattle.scan.proofs.ScanAnswers.{found_rows, memory_handed, memory_stopped, never_unfound, stopped_or}
+use Rattle.scan.proofs.Told.{handed_begun, none_told, refused_first}
+use Rattle.scan.proofs.range_scan.tell_range.Goals as goal
+
+abbrev now_of : Bor FileMeta → FileMeta
+now_of f = f.now
+
+pub returns-then-is_over-clause-told : goal.returns-then-is_over-clause-told
+returns-then-is_over-clause-told g c files next tables told are own =
+    let rows = file_rows g.C.Comparator.cmp tables (map now_of c.args.standing.now) c.args.at (key_range c.args.range) in
+    record {
+      untold = rows;
+      left = c.args.limit;
+      goes = true;
+      part = none_told g.T.RowTaker.tells rows c.args.taker.now c.args.taker.now c.args.limit refl;
+      ended = inr (c.is_done-is_over.ensures.done c.if-is_over.true);
+    }
+
+pub returns-then-is_none-clause-told : goal.returns-then-is_none-clause-told
+returns-then-is_none-clause-told g c files next tables told are own =
+    let cmp = g.C.Comparator.cmp in
+    let tells = g.T.RowTaker.tells in
+    let at : ℕ = c.args.at in
+    let taker = c.args.taker.now in
+    let none = c.is_empty-is_none.ensures c.if-is_none.true (entries_of_lists (lists_of_files tables (map now_of c.args.standing.now))) in (
+      c.is_done-is_over.ensures.wanted c.if-is_over.false,
+      subst (λ (rs : List Row). IsRowPart tells rs taker c.args.limit [] taker c.args.limit true) (sym (ap (λ (es : List Entry). rows_behind at None (sorted_entries cmp es)) none)) (none_told tells [] taker taker c.args.limit refl),
+    )
+
+pub returns-in_err-needed-clause-told : goal.returns-in_err-needed-clause-told
+returns-in_err-needed-clause-told g c files next tables told are own =
+    let tells = g.T.RowTaker.tells in
+    let rows = file_rows g.C.Comparator.cmp tables (map now_of c.args.standing.now) c.args.at (key_range c.args.range) in
+    handed_begun tells rows c.args.taker.now c.args.taker.now c.args.limit c.from_residual.result c.in_err-needed.field-0.0 c.from_residual.ensures.1 (refused_first tells rows c.args.taker.now c.args.taker.now c.args.limit refl)
+
+pub returns-in_err-needed-clause-errors : goal.returns-in_err-needed-clause-errors
+returns-in_err-needed-clause-errors g c files next tables told are own =
+    let failed = g.F.Folder.failed in
+    memory_handed (failed c.args.folder.now) (failed c.args.folder.now) c.from_residual.result c.in_err-needed.field-0.0 c.from_residual.ensures.1 c.in_err-needed.ensures.memory
+
+pub returns-in_err-numbers-clause-told : goal.returns-in_err-numbers-clause-told
+returns-in_err-numbers-clause-told g c files next tables told are own =
+    let tells = g.T.RowTaker.tells in
+    let rows = file_rows g.C.Comparator.cmp tables (map now_of c.args.standing.now) c.args.at (key_range c.args.range) in
+    handed_begun tells rows c.args.taker.now c.args.taker.now c.args.limit c.from_residual-in_err-numbers.result c.in_err-numbers.field-0.0 c.from_residual-in_err-numbers.ensures.1 (refused_first tells rows c.args.taker.now c.args.taker.now c.args.limit refl)
+
+pub returns-in_err-numbers-clause-errors : goal.returns-in_err-numbers-clause-errors
+returns-in_err-numbers-clause-errors g c files next tables told are own =
+    let failed = g.F.Folder.failed in
+    memory_handed (failed c.args.folder.now) (failed c.args.folder.now) c.from_residual-in_err-numbers.result c.in_err-numbers.field-0.0 c.from_residual-in_err-numbers.ensures.1 (only_memory c.in_err-numbers.field-0.0 _ (λ no. absurd (cc no)) c.in_err-numbers.ensures)
+
+pub returns-in_err-found-clause-told : goal.returns-in_err-found-clause-told
+returns-in_err-found-clause-told g c files next tables told are own =
+    let tells = g.T.RowTaker.tells in
+    let rows = file_rows g.C.Comparator.cmp tables (map now_of c.args.standing.now) c.args.at (key_range c.args.range) in
+    handed_begun tells rows c.args.taker.now c.args.taker.now c.args.limit c.from_residual-in_err-found.result c.in_err-found.field-0.0 c.from_residual-in_err-found.ensures.1 (refused_first tells rows c.args.taker.now c.args.taker.now c.args.limit refl)
+
+numbers_are : (lent needed : List (Bor FileMeta)) (metas : List FileMeta) (numbers : List ℕ) → lent ≡ needed → map now_of needed ≡ metas → map (λ f. f.now.number) lent ≡ numbers → numbers ≡ numbers_in metas
+numbers_are lent needed metas numbers is are told =
+    sym told ∙ ap (map (λ (f : Bor FileMeta). f.now.number)) is ∙ map_fused now_of (λ (f : FileMeta). f.number) needed ∙ ap numbers_in are
+
+pub returns-in_err-found-clause-errors : goal.returns-in_err-found-clause-errors
+returns-in_err-found-clause-errors g c files next tables told are own =
+    let cmp = g.C.Comparator.cmp in
+    let failed = g.F.Folder.failed in
+    let before : AreHeldIn cmp files c.replace-before.result = subst (AreHeldIn cmp files) (sym c.replace-before.ensures.value) own in
+    stopped_or (failed c.args.folder.now) (failed c.args.folder.now) (failed c.hold_tables.new.folder) c.from_residual-in_err-found.result c.in_err-found.field-0.0 c.from_residual-in_err-found.ensures.1 (omega arith) c.hold_tables.ensures.device.later (c.in_err-found.ensures.answer files told before)
+
+pub returns-in_default-clause-told : goal.returns-in_default-clause-told
+returns-in_default-clause-told g c files next tables told are own =
+    absurd
+    (let cmp = g.C.Comparator.cmp in
+    let range = key_range c.args.range in
+    let standing : List FileMeta = map now_of c.args.standing.now in
+    let needed : List FileMeta = filter (is_needed cmp range) standing in
+    let numbers : List ℕ = c.deref-2.result.now in
+    let same = numbers_are c.deref.result.now c.in_ok-needed.needed.items needed numbers c.deref.ensures.value c.in_ok-needed.ensures.needed (ok_is _ _ c.in_ok-numbers.ensures ∙ sym c.deref-2.ensures.value) in
+    let before : AreHeldIn cmp files c.replace-before.result = subst (AreHeldIn cmp files) (sym c.replace-before.ensures.value) own in
+    let none : IsFoundAnswer cmp files numbers (Ok None) = subst (λ (o : Option (List NumberedContents)). IsFoundAnswer cmp files numbers (Ok o)) c.in_default.is (c.in_ok-found.ensures.answer files told before) in
+    never_unfound cmp (g.met.C.Comparator g.world.𝓛 g.world.𝓜 g.world.𝓡 ((λ s x. x), (λ x. x), (λ x. x), λ x. x)).total files next standing tables are range (subst (λ (ns : List ℕ). IsFoundAnswer cmp files ns (Ok None)) same none))
+
+pub returns-in_default-clause-errors : goal.returns-in_default-clause-errors
+returns-in_default-clause-errors g c files next tables told are own =
+    absurd
+    (let cmp = g.C.Comparator.cmp in
+    let range = key_range c.args.range in
+    let standing : List FileMeta = map now_of c.args.standing.now in
+    let needed : List FileMeta = filter (is_needed cmp range) standing in
+    let numbers : List ℕ = c.deref-2.result.now in
+    let same = numbers_are c.deref.result.now c.in_ok-needed.needed.items needed numbers c.deref.ensures.value c.in_ok-needed.ensures.needed (ok_is _ _ c.in_ok-numbers.ensures ∙ sym c.deref-2.ensures.value) in
+    let before : AreHeldIn cmp files c.replace-before.result = subst (AreHeldIn cmp files) (sym c.replace-before.ensures.value) own in
+    let none : IsFoundAnswer cmp files numbers (Ok None) = subst (λ (o : Option (List NumberedContents)). IsFoundAnswer cmp files numbers (Ok o)) c.in_default.is (c.in_ok-found.ensures.answer files told before) in
+    never_unfound cmp (g.met.C.Comparator g.world.𝓛 g.world.𝓜 g.world.𝓡 ((λ s x. x), (λ x. x), (λ x. x), λ x. x)).total files next standing tables are range (subst (λ (ns : List ℕ). IsFoundAnswer cmp files ns (Ok None)) same none))
+
+pub returns-clause-told : goal.returns-clause-told
+returns-clause-told g c files next tables told are own =
+    let cmp = g.C.Comparator.cmp in
+    let range = key_range c.args.range in
+    let standing : List FileMeta = map now_of c.args.standing.now in
+    let needed : List FileMeta = filter (is_needed cmp range) standing in
+    let numbers : List ℕ = c.deref-2.result.now in
+    let held : List NumberedContents = c.in-Some.tables in
+    let same = numbers_are c.deref.result.now c.in_ok-needed.needed.items needed numbers c.deref.ensures.value c.in_ok-needed.ensures.needed (ok_is _ _ c.in_ok-numbers.ensures ∙ sym c.deref-2.ensures.value) in
+    let before : AreHeldIn cmp files c.replace-before.result = subst (AreHeldIn cmp files) (sym c.replace-before.ensures.value) own in
+    let found : AreFound cmp files numbers held = subst (λ (o : Option (List NumberedContents)). IsFoundAnswer cmp files numbers (Ok o)) c.in-Some.is (c.in_ok-found.ensures.answer files told before) in
+    subst (λ (rs : List Row). AreTelling g.T.RowTaker.tells rs c.args.taker.now c.args.limit c.tell_held.new.taker c.tell_held.result)
+    (found_rows cmp (g.met.C.Comparator g.world.𝓛 g.world.𝓜 g.world.𝓡 ((λ s x. x), (λ x. x), (λ x. x), λ x. x)).total files next standing tables are range held (subst (λ (ns : List ℕ). AreFound cmp files ns held) same found) c.args.at) c.tell_held.ensures.told
+
+pub returns-clause-errors : goal.returns-clause-errors
+returns-clause-errors g c files next tables told are own =
+    let failed = g.F.Folder.failed in
+    memory_stopped (failed c.args.folder.now) (failed c.hold_tables.new.folder) c.tell_held.result c.tell_held.ensures.memory
+
+pub returns-clause-held : goal.returns-clause-held
+returns-clause-held g c files told own =
+    let cmp = g.C.Comparator.cmp in
+    let numbers : List ℕ = c.deref-2.result.now in
+    let held : List NumberedContents = c.in-Some.tables in
+    let before : AreHeldIn cmp files c.replace-before.result = subst (AreHeldIn cmp files) (sym c.replace-before.ensures.value) own in
+    found_held cmp files numbers held (subst (λ (o : Option (List NumberedContents)). IsFoundAnswer cmp files numbers (Ok o)) c.in-Some.is (c.in_ok-found.ensures.answer files told before))

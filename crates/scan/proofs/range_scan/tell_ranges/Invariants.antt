@@ -1,0 +1,24 @@
+use Rattle.std.proofs.Common.{◌≡◌, ℕ, ◌+◌, ◌-◌, true, List, Option, length, map}
+use Rattle.folder.specs.Calls.{Files, Tells}
+use Rattle.folder.specs.Reports.{OnlyReads}
+use Rattle.split.specs.Ranges.{key_range}
+use Rattle.reads.specs.Tables.{NumberedContents}
+use Rattle.checks.specs.GroupTest.{AreTablesIn}
+use Rattle.checks.specs.HeldTables.{AreHeldIn}
+use Rattle.scan.specs.EntryRows.{rows_from}
+use Rattle.scan.specs.RowParts.{IsRowPart}
+use Rattle.scan.proofs.range_scan.tell_ranges.Given as goal
+
+-- the rows of the ranges so far were told
+abbrev pub invariant-loop-number : goal.invariant-loop-number
+invariant-loop-number g l =
+    let cmp = g.C.Comparator.cmp in
+    let standing = map (λ f. f.now) l.standing in
+    let all = length l.split + 1 in
+    record {
+      told : (files : Files) (next : Option ℕ) (tables : List NumberedContents) → Tells (g.F.Folder.tells l.fn.folder) files → AreTablesIn cmp files next standing tables
+          → IsRowPart g.T.RowTaker.tells (rows_from cmp tables standing l.at (key_range l.range) l.split 0 all) l.fn.taker l.fn.limit (rows_from cmp tables standing l.at (key_range l.range) l.split l.number (all - l.number)) l.taker l.left true;
+      held : (files : Files) → Tells (g.F.Folder.tells l.fn.folder) files → AreHeldIn cmp files l.held;
+      reads : OnlyReads g.F.Folder l.fn.folder l.folder;
+      failures : g.F.Folder.failed l.folder ≡ g.F.Folder.failed l.fn.folder;
+    }

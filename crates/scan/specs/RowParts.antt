@@ -1,0 +1,64 @@
+-- How far rows were told.
+use Rattle.std.specs.Prelude.{◌≡◌, ◌⊎◌, ℕ, ◌+◌, ◌<◌, Bool, true, false}
+use Rattle.std.specs.Prelude.{List, [], ◌++◌, length, Option, Some, None, Result, Ok, Err}
+use Rattle.std.specs.Option.{option_map}
+use Rattle.coding.specs.declared.fault.Fault.{Fault}
+use Rattle.scan.specs.Row.{Row}
+use Rattle.scan.specs.ToldRows.{AreRowsTold}
+use Rattle.scan.specs.declared.wanted.Wanted.{Wanted}
+use Rattle.scan.specs.declared.wanted.Wanted.TheVariants.{More, Enough}
+
+-- at least one more row is wanted
+abbrev pub AreWanted : Option ℕ → Type 0
+AreWanted None = Unit {0}
+AreWanted (Some left) = 0 < left
+
+-- what is wanted after one more row
+abbrev pub IsAfterOne : Option ℕ → Wanted → Type 0
+IsAfterOne None (More None) = Unit {0}
+IsAfterOne None (More (Some less)) = ⊥
+IsAfterOne None Enough = ⊥
+IsAfterOne (Some left) (More None) = ⊥
+IsAfterOne (Some left) (More (Some less)) = (left ≡ less + 1) × (0 < less)
+IsAfterOne (Some left) Enough = left ≡ 1
+
+-- Of these rows a first part was told, and `untold` are left. Of `limit` rows, `left` may be told
+-- still. `goes` is what the taker said last.
+pub record IsRowPart {T : Type 0} (tells : T → Row → Bool → T → Type 0) (rows : List Row) (old : T)
+    (limit : Option ℕ) (untold : List Row) (new : T) (left : Option ℕ) (goes : Bool) : Type 0 where
+  pub told : List Row
+  pub parts : rows ≡ told ++ untold
+  pub taker : AreRowsTold tells old told goes new
+  pub counted : limit ≡ option_map (λ n. n + length told) left
+
+-- so many were told that no more are wanted
+pub record AreEnough {T : Type 0} (tells : T → Row → Bool → T → Type 0) (rows : List Row) (old : T)
+    (limit : Option ℕ) (new : T) : Type 0 where
+  pub untold : List Row
+  pub left : Option ℕ
+  pub goes : Bool
+  pub part : IsRowPart tells rows old limit untold new left goes
+  pub ended : (goes ≡ false) ⊎ (left ≡ Some 0)
+
+-- some were told, and more are wanted
+pub record AreBegun {T : Type 0} (tells : T → Row → Bool → T → Type 0) (rows : List Row) (old : T)
+    (limit : Option ℕ) (new : T) : Type 0 where
+  pub untold : List Row
+  pub left : Option ℕ
+  pub part : IsRowPart tells rows old limit untold new left true
+
+-- what a call leaves that tells these rows: all were told, or enough, or it was refused before
+abbrev pub AreTelling : {T : Type 0} → (T → Row → Bool → T → Type 0) → List Row → T → Option ℕ →
+    T → Result Wanted Fault → Type 0
+AreTelling tells rows old limit new (Ok (More left)) =
+    AreWanted left × IsRowPart tells rows old limit [] new left true
+AreTelling tells rows old limit new (Ok Enough) = AreEnough tells rows old limit new
+AreTelling tells rows old limit new (Err e) = AreBegun tells rows old limit new
+
+-- the same of a call that tells all ranges
+abbrev pub AreScanned : {T : Type 0} → (T → Row → Bool → T → Type 0) → List Row → T → Option ℕ →
+    T → Result (Unit {0}) Fault → Type 0
+AreScanned tells rows old limit new (Ok none) =
+    AreEnough tells rows old limit new
+    ⊎ ((left : Option ℕ) × IsRowPart tells rows old limit [] new left true)
+AreScanned tells rows old limit new (Err e) = AreBegun tells rows old limit new

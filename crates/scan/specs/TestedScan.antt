@@ -1,0 +1,35 @@
+-- What a scan of a version tells that is tested first.
+use Rattle.std.specs.Prelude.{◌≡◌, ◌⊎◌, ℕ, Bool, List, Result, Ok, Err, IsErrAnd}
+use Rattle.coding.specs.Answers.{UnlessMemory}
+use Rattle.coding.specs.declared.fault.Fault.{Fault}
+use Rattle.ikey.specs.Comparator.{KeyOrder}
+use Rattle.edit.specs.Version.{State}
+use Rattle.folder.specs.Calls.{ToldFiles}
+use Rattle.folder.specs.Levels.{file_numbers}
+use Rattle.folder.specs.LoadedTables.{IsLoaded}
+use Rattle.folder.specs.OpenAnswer.{IsStopped}
+use Rattle.reads.specs.Tables.{NumberedContents}
+use Rattle.checks.specs.LawfulTables.{IsLawfulTables}
+use Rattle.checks.specs.TestedTables.{IsTested}
+use Rattle.scan.specs.Row.{Row}
+use Rattle.scan.specs.ToldRows.{IsScan}
+use Rattle.scan.specs.declared.row_choice.RowChoice.{RowChoice}
+
+-- the version is lawful with the tables that a folder tells, and its rows are told
+pub record IsLawfulScan {T : Type 0} (tells : T → Row → Bool → T → Type 0) (held : ToldFiles)
+    (cmp : KeyOrder) (v : State) (choice : RowChoice) (old new : T) (before now : ℕ)
+    (result : Result (Unit {0}) Fault) : Type 0 where
+  pub loaded : List (ℕ × List ℕ)
+  pub tables : List NumberedContents
+  pub there : IsLoaded held (file_numbers cmp v) (Ok loaded)
+  pub lawful : IsLawfulTables cmp v loaded (Ok tables)
+  pub scan : IsScan tells cmp v tables choice old new before now result
+
+-- Or nothing is told: the device failed, or the version is refused as its test refuses it. Memory
+-- aside.
+abbrev pub IsTestedScan : {T : Type 0} → (T → Row → Bool → T → Type 0) → ToldFiles → KeyOrder →
+    State → RowChoice → T → T → ℕ → ℕ → Result (Unit {0}) Fault → Type 0
+IsTestedScan tells held cmp v choice old new before now result =
+    IsLawfulScan tells held cmp v choice old new before now result
+    ⊎ ((new ≡ old) × IsErrAnd result
+    (λ e. UnlessMemory e (IsStopped before now e ⊎ IsTested held cmp v (Err e))))

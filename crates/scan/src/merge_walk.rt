@@ -1,0 +1,92 @@
+//! The rows of merged entries in a range.
+
+ghost use Rattle.std.specs.Prelude.{◌≡◌, false, OnOk, IsOkUnless, IfErr};
+ghost use Rattle.std.specs.Option.{option_map};
+ghost use Rattle.coding.specs.Answers.{fault};
+ghost use Rattle.coding.specs.declared.fault.FaultName.TheVariants.{Memory};
+ghost use Rattle.merge.specs.Merged.{merged};
+ghost use Rattle.split.specs.Ranges.{key_range};
+ghost use Rattle.keep.specs.FirstEntry.{first_is};
+ghost use Rattle.keep.specs.InRange.{entries_in};
+ghost use Rattle.keep.specs.Left.{is_before};
+ghost use Rattle.scan.specs.EntryRows.{sorted_rows};
+ghost use Rattle.scan.specs.RowParts.{AreTelling, AreWanted};
+
+use crate::decided_user::DecidedUser;
+use crate::entry_walk::walk_entry;
+use crate::row_taker::RowTaker;
+use crate::wanted::Wanted;
+use coding::Fault;
+use ikey::Comparator;
+use merge::Merging;
+use split::Range;
+use std::alloc::Global;
+use table::Cursor;
+
+/// Tells the rows of the entries that `merging` has in `range`, by the sequence `at`: at most
+/// `limit`. The only fault is Memory.
+pub(crate) fn tell_merged<'a, C: Comparator, S: Cursor<'a, C> + Drop, T: RowTaker>(
+    alloc: Global,
+    merging: &mut Merging<C, S>,
+    range: Range<'_>,
+    at: u64,
+    limit: Option<u64>,
+    taker: &mut T,
+) -> Result<Wanted, Fault>
+    requires { AreWanted limit }
+    ensures told { AreTelling T.tells (sorted_rows C.cmp (key_range range.entry) at merging.old)
+        taker.old limit taker.new result }
+    ensures memory { IfErr result (λ e. e ≡ fault Memory) }
+{
+    skip_before::<C, S>(merging, range)?;
+    let mut decided = DecidedUser::none(alloc);
+    let mut left = limit;
+    while starts_before::<C, S>(merging, range.upper, true) {
+        let (key, value) = (merging.key(), merging.value());
+        let wanted = walk_entry(&mut decided, key, value, at, left, taker)?;
+        let Wanted::More(less) = wanted else {
+            return Ok(Wanted::Enough);
+        };
+        left = less;
+        merging.advance()?;
+    }
+    Ok(Wanted::More(left))
+}
+
+/// Takes off the entries before `range`. The only fault is Memory.
+fn skip_before<'a, C: Comparator, S: Cursor<'a, C> + Drop>(
+    merging: &mut Merging<C, S>,
+    range: Range<'_>,
+) -> Result<(), Fault>
+    ensures same { OnOk result (entries_in C.cmp (key_range range.entry) (merged C.cmp merging.new)
+        ≡ entries_in C.cmp (key_range range.entry) (merged C.cmp merging.old)) }
+    ensures begun { OnOk result
+        (first_is (is_before C.cmp (key_range range.entry).lower false) (merged C.cmp merging.new)
+        ≡ false) }
+    ensures memory { IsOkUnless result (fault Memory) }
+{
+    while starts_before::<C, S>(merging, range.lower, false) {
+        merging.advance()?;
+    }
+    Ok(())
+}
+
+/// Whether there is an entry to come whose user key is before `bound`. If there is no bound,
+/// `otherwise` says whether the first entry counts as before it.
+fn starts_before<'a, C: Comparator, S: Cursor<'a, C> + Drop>(
+    merging: &Merging<C, S>,
+    bound: Option<&[u8]>,
+    otherwise: bool,
+) -> bool
+    ensures { result
+        ≡ first_is (is_before C.cmp (option_map (λ limit. limit.now) bound.entry) otherwise)
+        (merged C.cmp merging.now) }
+{
+    if !merging.valid() {
+        return false;
+    }
+    match bound {
+        Some(limit) => C::compare(merging.key().user(), limit).is_lt(),
+        None => otherwise,
+    }
+}

@@ -1,0 +1,158 @@
+//! The rows of a version's files, a range of user keys after the other.
+
+ghost use Rattle.std.specs.Prelude.{◌≡◌, ◌+◌, ℕ, true, List, [], length, map, Option, IfOk, IfErr};
+ghost use Rattle.coding.specs.Answers.{UnlessMemory};
+ghost use Rattle.folder.specs.Calls.{Files, Tells};
+ghost use Rattle.folder.specs.OpenAnswer.{IsStopped};
+ghost use Rattle.folder.specs.Reports.{OnlyReads, ReportsDevice};
+ghost use Rattle.keep.specs.InRange.{entries_in};
+ghost use Rattle.block.specs.EncodedEntry.{Entry};
+ghost use Rattle.split.specs.Ranges.{IsCover, key_range};
+ghost use Rattle.reads.specs.Tables.{NumberedContents};
+ghost use Rattle.checks.specs.GroupTest.{AreTablesIn};
+ghost use Rattle.checks.specs.HeldTables.{AreHeldIn};
+ghost use Rattle.scan.specs.EntryRows.{file_rows, rows_from};
+ghost use Rattle.scan.specs.RowParts.{AreScanned, AreTelling};
+
+use crate::row_taker::RowTaker;
+use crate::table_rows::tell_held;
+use crate::wanted::{Wanted, is_done};
+use board::Open;
+use checks::{
+    CHECKERS, HeldTables, check_tables, common_range, hold_tables, needed_files, numbers_of,
+};
+use coding::{Fault, FaultName};
+use edit::FileMeta;
+use folder::{Folder, load_numbers};
+use ikey::{Comparator, SharedComparator};
+use split::{Range, Split};
+use std::alloc::Global;
+use std::mem;
+use std::thread::Threads;
+
+/// Tells the rows that the tables of the `standing` files have in `range`, by the sequence `at`: at
+/// most `limit`.
+///
+/// It goes from range to range of the split, and reads the tables that one needs when it comes to
+/// it. They are held until no later range needs them. It only reads.
+pub(crate) fn tell_ranges<C: SharedComparator + 'static, F: Folder, T: RowTaker, R: Threads + Sync>(
+    rt: &R,
+    alloc: Global,
+    folder: &mut F,
+    standing: &[&FileMeta],
+    split: &Split<C>,
+    range: Range<'_>,
+    at: u64,
+    limit: Option<u64>,
+    taker: &mut T,
+) -> Result<(), Fault>
+    // If the folder tells files that hold these tables, and each is what the version states.
+    ensures told { (files : Files) (next : Option ℕ) (tables : List NumberedContents) →
+        Tells (F.tells folder.old) files →
+        AreTablesIn C.cmp files next (map (λ f. f.now) standing.now) tables →
+        AreScanned T.tells (rows_from C.cmp tables (map (λ f. f.now) standing.now) at
+        (key_range range.entry) split.now 0 (length split.now + 1))
+        taker.old limit taker.new result }
+    ensures errors { (files : Files) (next : Option ℕ) (tables : List NumberedContents) →
+        Tells (F.tells folder.old) files →
+        AreTablesIn C.cmp files next (map (λ f. f.now) standing.now) tables →
+        IfErr result
+        (λ e. UnlessMemory e (IsStopped (F.failed folder.old) (F.failed folder.new) e)) }
+    ensures cover { IsCover C.cmp split.now }
+    ensures device { ReportsDevice F.Folder folder.old folder.new result }
+    ensures reads { OnlyReads F.Folder folder.old folder.new }
+{
+    let mut held = HeldTables::none(alloc);
+    let mut left = limit;
+    for number in 0..split.len() {
+        let part = common_range::<C>(range, split.range(number));
+        let wanted = tell_range::<C, F, T, R>(
+            rt, alloc, folder, standing, &mut held, part, at, left, taker,
+        )?;
+        let Wanted::More(less) = wanted else {
+            return Ok(());
+        };
+        left = less;
+    }
+    Ok(())
+}
+
+/// The same in one range. `held` are tables of the folder; those that the range needs replace them.
+fn tell_range<C: SharedComparator + 'static, F: Folder, T: RowTaker, R: Threads + Sync>(
+    rt: &R,
+    alloc: Global,
+    folder: &mut F,
+    standing: &[&FileMeta],
+    held: &mut HeldTables<C>,
+    range: Range<'_>,
+    at: u64,
+    limit: Option<u64>,
+    taker: &mut T,
+) -> Result<Wanted, Fault>
+    ensures told { (files : Files) (next : Option ℕ) (tables : List NumberedContents) →
+        Tells (F.tells folder.old) files →
+        AreTablesIn C.cmp files next (map (λ f. f.now) standing.now) tables →
+        AreHeldIn C.cmp files held.old →
+        AreTelling T.tells
+        (file_rows C.cmp tables (map (λ f. f.now) standing.now) at (key_range range.entry))
+        taker.old limit taker.new result }
+    ensures errors { (files : Files) (next : Option ℕ) (tables : List NumberedContents) →
+        Tells (F.tells folder.old) files →
+        AreTablesIn C.cmp files next (map (λ f. f.now) standing.now) tables →
+        AreHeldIn C.cmp files held.old →
+        IfErr result
+        (λ e. UnlessMemory e (IsStopped (F.failed folder.old) (F.failed folder.new) e)) }
+    ensures held { (files : Files) → Tells (F.tells folder.old) files →
+        AreHeldIn C.cmp files held.old → AreHeldIn C.cmp files held.new }
+    ensures device { ReportsDevice F.Folder folder.old folder.new result }
+    ensures reads { OnlyReads F.Folder folder.old folder.new }
+{
+    let is_over = is_done(limit);
+    if is_over {
+        return Ok(Wanted::Enough);
+    }
+    let is_none = is_empty::<C>(range);
+    if is_none {
+        return Ok(Wanted::More(limit));
+    }
+    let needed = needed_files::<C>(alloc, standing, range)?;
+    let numbers = numbers_of(alloc, &needed)?;
+    let before = mem::replace(held, HeldTables::none(alloc));
+    let found = hold_tables::<C, F, Open, R>(rt, alloc, folder, before, &numbers, CHECKERS, &Open)?;
+    let Some(tables) = found else {
+        return refused_tables::<C, F, R>(rt, alloc, folder, &numbers);
+    };
+    *held = tables;
+    tell_held(alloc, held, range, at, limit, taker)
+}
+
+/// Why the tables of these numbers aren't all there and valid. It only reads.
+///
+/// - Missing: at the first missing table.
+/// - The refusal of the first invalid table, as of `table::check`, if none is missing.
+/// - Lawless: all are there and valid, since the folder was changed meanwhile.
+fn refused_tables<C: SharedComparator, F: Folder, R: Threads + Sync>(
+    rt: &R,
+    alloc: Global,
+    folder: &mut F,
+    numbers: &[u64],
+) -> Result<Wanted, Fault>
+    ensures refused { IfOk result (λ _. ⊥) }
+    ensures device { ReportsDevice F.Folder folder.old folder.new result }
+    ensures reads { OnlyReads F.Folder folder.old folder.new }
+{
+    let loaded = load_numbers(alloc, folder, numbers)?;
+    check_tables::<C, Open, R>(rt, alloc, &loaded, CHECKERS, &Open)?;
+    Err(Fault::of(FaultName::Lawless))
+}
+
+/// Whether the range's bounds leave no user key between them.
+fn is_empty<C: Comparator>(range: Range<'_>) -> bool
+    ensures { result ≡ true →
+        (entries : List Entry) → entries_in C.cmp (key_range range.entry) entries ≡ [] }
+{
+    match (range.lower, range.upper) {
+        (Some(lower), Some(upper)) => !C::compare(lower, upper).is_lt(),
+        _ => false,
+    }
+}

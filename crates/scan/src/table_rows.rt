@@ -1,0 +1,80 @@
+//! The rows of held tables, in a range.
+
+ghost use Rattle.std.specs.Prelude.{◌≡◌, map, IfOk, IfErr};
+ghost use Rattle.coding.specs.Answers.{fault};
+ghost use Rattle.coding.specs.declared.fault.FaultName.TheVariants.{Memory};
+ghost use Rattle.split.specs.Ranges.{key_range};
+ghost use Rattle.reads.specs.Tables.{NumberedContents};
+ghost use Rattle.scan.specs.EntryRows.{sorted_rows};
+ghost use Rattle.scan.specs.RowParts.{AreTelling, AreWanted};
+
+use crate::merge_walk::tell_merged;
+use crate::row_taker::RowTaker;
+use crate::wanted::Wanted;
+use checks::HeldTables;
+use coding::Fault;
+use ikey::Comparator;
+use keep::cursors_from;
+use merge::Merging;
+use reads::NumberedTable;
+use split::Range;
+use std::alloc::Global;
+use table::{SoundTable, TableCursor};
+
+/// Tells the rows of held tables in `range`, by the sequence `at`: at most `limit`. The only fault
+/// is Memory.
+pub(crate) fn tell_held<C: Comparator + 'static, T: RowTaker>(
+    alloc: Global,
+    held: &HeldTables<C>,
+    range: Range<'_>,
+    at: u64,
+    limit: Option<u64>,
+    taker: &mut T,
+) -> Result<Wanted, Fault>
+    requires { AreWanted limit }
+    ensures told { AreTelling T.tells (sorted_rows C.cmp (key_range range.entry) at
+        (map (λ (t : NumberedContents). t.contents.entries) held.now))
+        taker.old limit taker.new result }
+    ensures memory { IfErr result (λ e. e ≡ fault Memory) }
+{
+    let tables = held.lend(alloc)?;
+    tell_tables(alloc, &tables, range, at, limit, taker)
+}
+
+/// Tells the rows of tables in `range`, by the sequence `at`: at most `limit`. The only fault is
+/// Memory.
+fn tell_tables<'t, C: Comparator + 't, T: RowTaker>(
+    alloc: Global,
+    tables: &[NumberedTable<'t, C>],
+    range: Range<'_>,
+    at: u64,
+    limit: Option<u64>,
+    taker: &mut T,
+) -> Result<Wanted, Fault>
+    requires { AreWanted limit }
+    ensures told { AreTelling T.tells (sorted_rows C.cmp (key_range range.entry) at
+        (map (λ (t : NumberedContents). t.contents.entries) tables.now))
+        taker.old limit taker.new result }
+    ensures memory { IfErr result (λ e. e ≡ fault Memory) }
+{
+    let lent = lent_tables(alloc, tables)?;
+    let cursors = cursors_from(alloc, &lent, range)?;
+    let mut merging = Merging::<C, TableCursor<'t, C>>::new(alloc, cursors)?;
+    tell_merged::<C, TableCursor<'t, C>, T>(alloc, &mut merging, range, at, limit, taker)
+}
+
+/// The tables without their numbers. The only fault is Memory.
+fn lent_tables<'l, 't, C: Comparator>(
+    alloc: Global,
+    tables: &'l [NumberedTable<'t, C>],
+) -> Result<Vec<&'l SoundTable<'t, C>>, Fault>
+    ensures lent { IfOk result (λ v. map (λ t. t.now.entries) v.items
+        ≡ map (λ (t : NumberedContents). t.contents.entries) tables.now) }
+    ensures memory { IfErr result (λ e. e ≡ fault Memory) }
+{
+    let mut lent = Vec::with_capacity(alloc, tables.len())?;
+    for table in tables {
+        lent.push(table.table())?;
+    }
+    Ok(lent)
+}

@@ -1,0 +1,113 @@
+//! The rows of a version whose tables lie in a folder, without a test of the version.
+
+ghost use Rattle.std.specs.Prelude.{◌≡◌, ℕ, List, Ok};
+ghost use Rattle.checks.specs.LawfulTables.{IsLawfulTables};
+ghost use Rattle.folder.specs.Calls.{Files, Tells};
+ghost use Rattle.folder.specs.Levels.{file_numbers};
+ghost use Rattle.folder.specs.LoadedTables.{IsLoaded};
+ghost use Rattle.folder.specs.Orders.{order_cmp};
+ghost use Rattle.folder.specs.Reports.{OnlyReads, ReportsDevice};
+ghost use Rattle.reads.specs.Tables.{NumberedContents};
+ghost use Rattle.scan.specs.ChosenRows.{chosen_sequence};
+ghost use Rattle.scan.specs.ToldRows.{IsScan};
+
+use crate::range_scan::tell_ranges;
+use crate::row_choice::RowChoice;
+use crate::row_taker::RowTaker;
+use checks::group_split;
+use coding::{Fault, FaultName};
+use edit::Version;
+use folder::{Folder, Order};
+use ikey::{Bytewise, SharedComparator, Shortlex};
+use reads::standing_files;
+use std::alloc::Global;
+use std::thread::Threads;
+
+/// The most bytes of tables that a scan holds, if no single user key needs more. Less of them are
+/// read in vain if few rows are wanted.
+const SCANNED_BYTES: u64 = 33_554_432;
+
+/// Tells `taker` the chosen rows of a `version` of this `order`, if the version is lawful with the
+/// tables in the folder. That isn't tested: it was verified before, and no other program changed
+/// the folder since. It only reads.
+///
+/// Rows come in the order of their user keys. It stops after the last row that is wanted, or if the
+/// taker says so. What it was told before a refusal is a first part of the rows.
+///
+/// Tables are read a range of user keys after the other, and each is checked by four workers. At
+/// most `memory` bytes of them are in memory at once, and at most 32 MiB, if no single user key
+/// needs more. Those of ranges after the last wanted row aren't read. No contract says so.
+pub fn scan_unverified<F: Folder, T: RowTaker, R: Threads + Sync>(
+    rt: &R,
+    alloc: Global,
+    folder: &mut F,
+    order: Order,
+    version: &Version,
+    choice: RowChoice<'_>,
+    memory: u64,
+    taker: &mut T,
+) -> Result<(), Fault>
+    ensures rows { (files : Files) (loaded : List (ℕ × List ℕ)) (tables : List NumberedContents) →
+        Tells (F.tells folder.old) files →
+        IsLoaded (F.tells folder.old) (file_numbers (order_cmp order) version.now) (Ok loaded) →
+        IsLawfulTables (order_cmp order) version.now loaded (Ok tables) →
+        IsScan T.tells (order_cmp order) version.now tables choice.entry taker.old taker.new
+        (F.failed folder.old) (F.failed folder.new) result }
+    ensures device { ReportsDevice F.Folder folder.old folder.new result }
+    ensures reads { OnlyReads F.Folder folder.old folder.new }
+{
+    match order {
+        Order::Bytewise => scan_unverified_by::<Bytewise, F, T, R>(
+            rt, alloc, folder, version, choice, memory, taker,
+        ),
+        Order::Shortlex => scan_unverified_by::<Shortlex, F, T, R>(
+            rt, alloc, folder, version, choice, memory, taker,
+        ),
+    }
+}
+
+/// The same by this comparator.
+pub fn scan_unverified_by<C: SharedComparator + 'static, F: Folder, T: RowTaker, R: Threads + Sync>(
+    rt: &R,
+    alloc: Global,
+    folder: &mut F,
+    version: &Version,
+    choice: RowChoice<'_>,
+    memory: u64,
+    taker: &mut T,
+) -> Result<(), Fault>
+    ensures rows { (files : Files) (loaded : List (ℕ × List ℕ)) (tables : List NumberedContents) →
+        Tells (F.tells folder.old) files →
+        IsLoaded (F.tells folder.old) (file_numbers C.cmp version.now) (Ok loaded) →
+        IsLawfulTables C.cmp version.now loaded (Ok tables) →
+        IsScan T.tells C.cmp version.now tables choice.entry taker.old taker.new
+        (F.failed folder.old) (F.failed folder.new) result }
+    ensures device { ReportsDevice F.Folder folder.old folder.new result }
+    ensures reads { OnlyReads F.Folder folder.old folder.new }
+{
+    let Some(standing) = standing_files::<C>(alloc, version)? else {
+        return Err(Fault::of(FaultName::Lawless));
+    };
+    let split = group_split::<C>(alloc, &standing, memory.min(SCANNED_BYTES))?;
+    let at = sequence_of(version, choice.at);
+    let range = choice.range();
+    tell_ranges::<C, F, T, R>(
+        rt,
+        alloc,
+        folder,
+        &standing,
+        &split,
+        range,
+        at,
+        choice.limit,
+        taker,
+    )
+}
+
+/// The sequence `at`, or the version's last one if it isn't given.
+fn sequence_of(version: &Version, at: Option<u64>) -> u64
+    ensures { result ≡ chosen_sequence version.now at }
+{
+    let last = version.last_sequence().unwrap_or(0);
+    at.unwrap_or(last)
+}

@@ -2,3 +2,4 @@ mod ShowingLemmas
 mod HeldTables
 mod UnverifiedLemmas
 mod FolderLineLemmas
+mod ValueLineLemmas

@@ -1,10 +1,10 @@
--- The line of a value that is got without a test.
-use Rattle.std.proofs.Common.{◌≡◌, ◌⊎◌, ℕ, ◌≤◌, Result, Ok, Err, IfErr, IsErrAnd, sym, arith}
-use Rattle.coding.proofs.Refusals.{unless_device, unless_from}
-use Rattle.coding.specs.Answers.{EqualOrMemory, HoldsOrMemory, UnlessMemory}
+-- What is answered of a value that is got without a test.
+use Rattle.std.proofs.Common.{◌≡◌, ◌⊎◌, ℕ, ◌≤◌, Result, Ok, Err, IsErrAnd, sym, arith}
+use Rattle.coding.specs.Answers.{EqualOrMemory, UnlessMemory}
 use Rattle.coding.specs.declared.fault.Fault.{Fault}
 use Rattle.folder.proofs.OpeningLemmas.{answers_alone, hands_on}
-use Rattle.folder.specs.OpenAnswer.{FolderAnswers, HasDeviceFailed, IsStopped}
+use Rattle.folder.specs.OpenAnswer.{FolderAnswers, IsStopped}
+use Rattle.commands.proofs.ShowingLemmas.{answer_holds}
 
 abbrev refusal : {Y : Type 0} → Fault → Result Y Fault
 refusal e = Err e
@@ -21,15 +21,6 @@ pub value_refused : {X Y Z : Type 0} (view : X → Y) (before now : ℕ) (r : Re
 value_refused view before now r e z y is later given =
     hands_on view before before now r e (λ a. a ≡ answer z) (λ a. a ≡ answer y) is (omega arith) later given (λ same. absurd (no_refusal z e (sym same)))
 
-holds : {X Y : Type 0} (view : X → Y) (r : Result X Fault) (y : Y) → EqualOrMemory view r (Ok y) → HoldsOrMemory view r (λ a. a ≡ Ok y)
-holds view (Ok x) y h = sym h
-holds view (Err e) y h = unless_from e (answer y ≡ refusal e) (refusal e ≡ answer y) (λ same. sym same) h
-
--- a line that is made of a value
+-- what is made of a value alone
 pub value_told : {X Y : Type 0} (view : X → Y) (before now : ℕ) (r : Result X Fault) (y : Y) → EqualOrMemory view r (Ok y) → FolderAnswers view before now r (λ a. a ≡ Ok y)
-value_told view before now r y h = answers_alone view before now r (λ a. a ≡ answer y) (λ a. a ≡ answer y) (λ a same. same) (holds view r y h)
-
--- it isn't refused as Device
-pub told_no_device : {X Y : Type 0} (view : X → Y) (before now : ℕ) (r : Result X Fault) (y : Y) → EqualOrMemory view r (Ok y) → IfErr r (HasDeviceFailed before now)
-told_no_device view before now (Ok x) y h = tt
-told_no_device view before now (Err e) y h = λ same. absurd (no_refusal y e (unless_device e (answer y ≡ refusal e) same h))
+value_told view before now r y h = answers_alone view before now r (λ a. a ≡ answer y) (λ a. a ≡ answer y) (λ a same. same) (answer_holds view r y h)

@@ -2,6 +2,8 @@
 pub mod Status
 pub mod Dump
 pub mod Lines
+pub mod ValueForms
 pub mod FolderLines
 pub mod Questions
+pub mod ScanRow
 pub mod Progress

@@ -13,7 +13,8 @@ use Rattle.folder.specs.Levels.{all_levels}
 use Rattle.folder.specs.Manifest.{order_name}
 use Rattle.folder.specs.OpenAnswer.{IsOpened}
 use Rattle.folder.specs.Orders.{order_cmp}
-use Rattle.texts.specs.Text.{text_of_bytes}
+use Rattle.texts.specs.Spelling.{key_text}
+use Rattle.texts.specs.declared.spelling.Spelling.{Spelling}
 use Rattle.folder.specs.declared.order.Order.{Order}
 use Rattle.folder.specs.Calls.{ToldFiles}
 
@@ -32,14 +33,15 @@ head_lines order v = comparator_line order ++ number_line (codes "log") v.log_nu
     ++ number_line (codes "next") v.next_file ++ number_line (codes "last") v.last_sequence
 
 -- the line of a level's compact pointer: user key, sequence and type
-abbrev pub pointer_line : ℕ → List ℕ → List ℕ
-pointer_line level key = codes "pointer " ++ decimal level ++ codes " "
-    ++ text_of_bytes (user_of key) ++ codes " "
+abbrev pub pointer_line : Spelling → ℕ → List ℕ → List ℕ
+pointer_line spelling level key = codes "pointer " ++ decimal level ++ codes " "
+    ++ key_text spelling (user_of key) ++ codes " "
     ++ decimal (sequence_of key) ++ codes " " ++ decimal (kind_number (kind_of key)) ++ codes "\n"
 
 -- the line of a level's compact pointer, if it has one
-abbrev pub pointer_lines : State → ℕ → List ℕ
-pointer_lines v level = option_map_or (pointer_line level) (pointer_of v level) []
+abbrev pub pointer_lines : Spelling → State → ℕ → List ℕ
+pointer_lines spelling v level =
+    option_map_or (pointer_line spelling level) (pointer_of v level) []
 
 -- the line of a file
 abbrev pub file_line : ℕ → FileMeta → List ℕ
@@ -52,15 +54,15 @@ file_lines cmp v level = flat_map (file_line level) (level_files cmp v level)
 
 -- the comparator and the counters, then the pointers by level, then the files by level and in this
 -- version order
-abbrev pub lines_by : Order → KeyOrder → State → List ℕ
-lines_by order cmp v = head_lines order v ++ all_levels (pointer_lines v)
+abbrev pub lines_by : Spelling → Order → KeyOrder → State → List ℕ
+lines_by spelling order cmp v = head_lines order v ++ all_levels (pointer_lines spelling v)
     ++ all_levels (file_lines cmp v)
 
 -- the same with files in the order's own version order
-abbrev pub version_lines : Order → State → List ℕ
-version_lines order v = lines_by order (order_cmp order) v
+abbrev pub version_lines : Spelling → Order → State → List ℕ
+version_lines spelling order v = lines_by spelling order (order_cmp order) v
 
 -- a folder is opened, and these are the lines of what that gives
-abbrev pub IsShown : ToldFiles → Result (List ℕ) Fault → Type 0
-IsShown tells =
-    IsThen (IsOpened tells) (λ opened answer. answer ≡ Ok (version_lines opened.0 opened.1))
+abbrev pub IsShown : Spelling → ToldFiles → Result (List ℕ) Fault → Type 0
+IsShown spelling tells = IsThen (IsOpened tells)
+    (λ opened answer. answer ≡ Ok (version_lines spelling opened.0 opened.1))

@@ -1,28 +1,30 @@
 //! The commands on a database folder, and what each answers of the version in it.
 
 ghost use Rattle.std.specs.Prelude.{Ok};
+ghost use Rattle.std.specs.Option.{option_map};
 ghost use Rattle.coding.specs.Answers.{EqualOrMemory};
 ghost use Rattle.folder.specs.Calls.{Files, Tells};
 ghost use Rattle.folder.specs.OpenAnswer.{FolderAnswers};
 ghost use Rattle.folder.specs.Orders.{order_cmp};
 ghost use Rattle.folder.specs.ReadsAs.{IsHeldIn};
 ghost use Rattle.folder.specs.Reports.{OnlyReads, ReportsDevice};
-ghost use Rattle.commands.specs.FolderLines.{IsLineOfFolder, IsLineOfVersion};
-ghost use Rattle.commands.specs.FolderLines.{got_line, verified_line};
+ghost use Rattle.commands.specs.FolderLines.{IsAnswerOfFolder, IsAnswerOfVersion};
+ghost use Rattle.commands.specs.FolderLines.{got_answer, verified_line};
 ghost use Rattle.commands.specs.Lines.{IsShown, version_lines};
-ghost use Rattle.commands.specs.Questions.{line_of};
+ghost use Rattle.commands.specs.Questions.{answer_to};
 
-use crate::question::Question;
-use crate::unverified_get::value_by;
+use crate::question::{Question, ValueForm};
+use crate::unverified_get::unverified_value;
 use crate::version_text::version_lines;
-use crate::version_verdict::verified;
-use checks::{CHECKERS, Watch, test_version};
+use crate::version_verdict::{lawful_answer, lawful_line, test_opened};
+use checks::Watch;
 use coding::Fault;
 use edit::Version;
 use folder::{Folder, Order, open};
-use ikey::{Bytewise, SharedComparator, Shortlex};
+use ikey::{Bytewise, Shortlex};
 use std::alloc::Global;
 use std::thread::Threads;
+use texts::Spelling;
 
 /// The lines that show a folder's version, each with its newline:
 ///
@@ -30,26 +32,36 @@ use std::thread::Threads;
 /// 2. `pointer L KEY SEQ TYPE`, by level;
 /// 3. `file L NUMBER SIZE`, by level and in version order.
 ///
-/// A key is hexadecimal digits, or `-` if empty. A previous log number that was never set is 0.
-/// Refused as opening the folder is.
-pub fn manifest<F: Folder>(alloc: Global, folder: &mut F) -> Result<Vec<u8>, Fault>
+/// A key is in this spelling. A previous log number that was never set is 0. Refused as opening the
+/// folder is.
+pub fn manifest<F: Folder>(
+    alloc: Global,
+    spelling: Spelling,
+    folder: &mut F,
+) -> Result<Vec<u8>, Fault>
     ensures answer { FolderAnswers (λ v. v.items) (F.failed folder.old) (F.failed folder.new) result
-        (IsShown (F.tells folder.old)) }
+        (IsShown spelling (F.tells folder.old)) }
     ensures device { ReportsDevice F.Folder folder.old folder.new result }
     ensures reads { OnlyReads F.Folder folder.old folder.new }
 {
     let opened = open(alloc, folder)?;
-    manifest_lines(alloc, opened.order, &opened.version)
+    manifest_lines(alloc, spelling, opened.order, &opened.version)
 }
 
 /// The lines of a `version` of this `order`: what [`manifest`] answers of a folder that is opened
 /// already. The only fault is Memory.
-pub fn manifest_lines(alloc: Global, order: Order, version: &Version) -> Result<Vec<u8>, Fault>
-    ensures { EqualOrMemory (λ v. v.items) result (Ok (version_lines order version.now)) }
+pub fn manifest_lines(
+    alloc: Global,
+    spelling: Spelling,
+    order: Order,
+    version: &Version,
+) -> Result<Vec<u8>, Fault>
+    ensures { EqualOrMemory (λ v. v.items) result
+        (Ok (version_lines spelling order version.now)) }
 {
     match order {
-        Order::Bytewise => version_lines::<Bytewise>(alloc, order, version),
-        Order::Shortlex => version_lines::<Shortlex>(alloc, order, version),
+        Order::Bytewise => version_lines::<Bytewise>(alloc, spelling, order, version),
+        Order::Shortlex => version_lines::<Shortlex>(alloc, spelling, order, version),
     }
 }
 
@@ -77,16 +89,28 @@ pub fn verify<F: Folder, W: Watch + Sync, R: Threads + Sync>(
 ) -> Result<Vec<u8>, Fault>
     ensures answer { (files : Files) → Tells (F.tells folder.old) files →
         FolderAnswers (λ v. v.items) (F.failed folder.old) (F.failed folder.new) result
-        (IsLineOfFolder (IsHeldIn files) (λ _. verified_line)) }
+        (IsAnswerOfFolder (IsHeldIn files) (λ _. verified_line)) }
     ensures device { ReportsDevice F.Folder folder.old folder.new result }
     ensures reads { OnlyReads F.Folder folder.old folder.new }
 {
-    answered(rt, alloc, folder, Question::Lawful, memory, watch)
+    let opened = open(alloc, folder)?;
+    let tested = test_opened(
+        rt,
+        alloc,
+        folder,
+        opened.order,
+        &opened.version,
+        memory,
+        watch,
+    )?;
+    lawful_line(alloc, tested)
 }
 
-/// The line of the value of a user `key` at a sequence, in the version that a folder holds. The
-/// value is lower-case hexadecimal digits, or `-` if empty; the line is `none` if the key has no
-/// value there. It only reads.
+/// What is printed of the value of a user `key` at a sequence, in the version that a folder holds.
+/// It only reads.
+///
+/// In the form `Line` that is the value's text, or `none` if the key has no value there; in the
+/// form `Raw` the value's bytes, and None if the key has no value.
 ///
 /// The sequence `at` may be any number. If it isn't given, it is the version's last sequence.
 /// Refused as `verify` is, and told to `watch` in the same way.
@@ -96,37 +120,13 @@ pub fn get_dir<F: Folder, W: Watch + Sync, R: Threads + Sync>(
     folder: &mut F,
     key: &[u8],
     at: Option<u64>,
+    form: ValueForm,
     memory: u64,
     watch: &W,
-) -> Result<Vec<u8>, Fault>
+) -> Result<Option<Vec<u8>>, Fault>
     ensures answer { (files : Files) → Tells (F.tells folder.old) files →
-        FolderAnswers (λ v. v.items) (F.failed folder.old) (F.failed folder.new) result
-        (IsLineOfFolder (IsHeldIn files) (got_line key.now at)) }
-    ensures device { ReportsDevice F.Folder folder.old folder.new result }
-    ensures reads { OnlyReads F.Folder folder.old folder.new }
-{
-    answered(
-        rt,
-        alloc,
-        folder,
-        Question::Value { key, at },
-        memory,
-        watch,
-    )
-}
-
-/// What the version that a folder holds answers to a question.
-fn answered<F: Folder, W: Watch + Sync, R: Threads + Sync>(
-    rt: &R,
-    alloc: Global,
-    folder: &mut F,
-    question: Question<'_>,
-    memory: u64,
-    watch: &W,
-) -> Result<Vec<u8>, Fault>
-    ensures answer { (files : Files) → Tells (F.tells folder.old) files →
-        FolderAnswers (λ v. v.items) (F.failed folder.old) (F.failed folder.new) result
-        (IsLineOfFolder (IsHeldIn files) (line_of question.entry)) }
+        FolderAnswers (option_map (λ v. v.items)) (F.failed folder.old) (F.failed folder.new) result
+        (IsAnswerOfFolder (IsHeldIn files) (got_answer form key.now at)) }
     ensures device { ReportsDevice F.Folder folder.old folder.new result }
     ensures reads { OnlyReads F.Folder folder.old folder.new }
 {
@@ -137,14 +137,16 @@ fn answered<F: Folder, W: Watch + Sync, R: Threads + Sync>(
         folder,
         opened.order,
         &opened.version,
-        question,
+        Question::Value { key, at, form },
         memory,
         watch,
     )
 }
 
-/// What a `version` of this `order` answers with the tables in the folder: what [`verify`] and
-/// [`get_dir`] answer of a folder that is opened already. It only reads.
+/// What is printed as the answer of a `version` of this `order`, with the tables in the folder: as
+/// [`verify`] and [`get_dir`] answer of a folder that is opened already. It only reads.
+///
+/// None only if a key has no value, and the question is of the form `Raw`.
 pub fn answer_opened<F: Folder, W: Watch + Sync, R: Threads + Sync>(
     rt: &R,
     alloc: Global,
@@ -154,65 +156,19 @@ pub fn answer_opened<F: Folder, W: Watch + Sync, R: Threads + Sync>(
     question: Question<'_>,
     memory: u64,
     watch: &W,
-) -> Result<Vec<u8>, Fault>
+) -> Result<Option<Vec<u8>>, Fault>
     ensures answer { (files : Files) → Tells (F.tells folder.old) files →
-        FolderAnswers (λ v. v.items) (F.failed folder.old) (F.failed folder.new) result
-        (IsLineOfVersion (IsHeldIn files) (order_cmp order) version.now
-        (line_of question.entry version.now)) }
+        FolderAnswers (option_map (λ v. v.items)) (F.failed folder.old) (F.failed folder.new) result
+        (IsAnswerOfVersion (IsHeldIn files) (order_cmp order) version.now
+        (answer_to question.entry version.now)) }
     ensures device { ReportsDevice F.Folder folder.old folder.new result }
     ensures reads { OnlyReads F.Folder folder.old folder.new }
 {
-    match order {
-        Order::Bytewise => answered_by::<Bytewise, F, W, R>(
-            rt, alloc, folder, version, question, memory, watch,
-        ),
-        Order::Shortlex => answered_by::<Shortlex, F, W, R>(
-            rt, alloc, folder, version, question, memory, watch,
-        ),
-    }
-}
-
-/// What a version of this comparator answers with the tables in the folder.
-fn answered_by<C: SharedComparator + 'static, F: Folder, W: Watch + Sync, R: Threads + Sync>(
-    rt: &R,
-    alloc: Global,
-    folder: &mut F,
-    version: &Version,
-    question: Question<'_>,
-    memory: u64,
-    watch: &W,
-) -> Result<Vec<u8>, Fault>
-    ensures answer { (files : Files) → Tells (F.tells folder.old) files →
-        FolderAnswers (λ v. v.items) (F.failed folder.old) (F.failed folder.new) result
-        (IsLineOfVersion (IsHeldIn files) C.cmp version.now (line_of question.entry version.now)) }
-    ensures device { ReportsDevice F.Folder folder.old folder.new result }
-    ensures reads { OnlyReads F.Folder folder.old folder.new }
-{
+    let tested = test_opened(rt, alloc, folder, order, version, memory, watch)?;
     match question {
-        Question::Lawful => { verified::<C, F, W, R>(rt, alloc, folder, version, memory, watch) }
-        Question::Value { key, at } => {
-            tested_value::<C, F, W, R>(rt, alloc, folder, version, key, at, memory, watch)
+        Question::Lawful => lawful_answer(alloc, tested),
+        Question::Value { key, at, form } => {
+            unverified_value(alloc, folder, order, version, key, at, form)
         }
     }
-}
-
-/// The line of the value of a user key, after the version is tested. It only reads.
-fn tested_value<C: SharedComparator + 'static, F: Folder, W: Watch + Sync, R: Threads + Sync>(
-    rt: &R,
-    alloc: Global,
-    folder: &mut F,
-    version: &Version,
-    key: &[u8],
-    at: Option<u64>,
-    memory: u64,
-    watch: &W,
-) -> Result<Vec<u8>, Fault>
-    ensures answer { (files : Files) → Tells (F.tells folder.old) files →
-        FolderAnswers (λ v. v.items) (F.failed folder.old) (F.failed folder.new) result
-        (IsLineOfVersion (IsHeldIn files) C.cmp version.now (got_line key.now at version.now)) }
-    ensures device { ReportsDevice F.Folder folder.old folder.new result }
-    ensures reads { OnlyReads F.Folder folder.old folder.new }
-{
-    test_version::<C, F, W, R>(rt, alloc, folder, version, memory, CHECKERS, watch)?;
-    value_by::<C, F>(alloc, folder, version, key, at)
 }

@@ -1,28 +1,36 @@
 //! The calls behind the commands of the program, and the lines that they answer.
 //!
-//! 1. [`manifest`], [`verify`] and [`get_dir`] open a folder and answer; [`manifest_lines`] and
-//!    [`answer_opened`] do the same for a folder that is opened already.
+//! 1. [`manifest`], [`verify`] and [`get_dir`] open a folder and answer; [`manifest_lines`],
+//!    [`test_opened`] and [`answer_opened`] do the same for a folder that is opened already.
 //! 2. [`unverified_value`] answers a value without testing the version.
-//! 3. [`dump`] answers the lines of one table.
+//! 3. [`dump`] answers the lines of one table, [`row_line`] the line of one key, and
+//!    [`value_answer`] what is printed of one value.
 //! 4. [`progress_text`] is a line of progress, [`status`] the status of a refusal.
 //!
-//! No contract says which of these the program calls for a command.
+//! [`value_lines_law`] is a law of the lines of values. No contract says which of these the program
+//! calls for a command.
 #![tactic(auto)]
 
 mod exit_status;
 mod folder_commands;
-mod folder_get;
 mod progress;
 mod question;
+mod scan_row;
 mod table_dump;
 mod unverified_get;
+mod value_forms;
 mod version_text;
 mod version_verdict;
 
 pub use board::Open;
+pub use checks::Tested;
 pub use exit_status::status;
 pub use folder_commands::{answer_opened, get_dir, manifest, manifest_lines, verify};
 pub use progress::progress_text;
-pub use question::Question;
+pub use question::{Question, ValueForm};
+pub use scan_row::row_line;
 pub use table_dump::dump;
+pub use texts::Spelling;
 pub use unverified_get::unverified_value;
+pub use value_forms::{value_answer, value_lines_law};
+pub use version_verdict::test_opened;

@@ -11,26 +11,31 @@ use ikey::{Bytewise, InternalKey, Kind};
 use std::alloc::Global;
 use std::fmt::Write;
 use table::{Cursor, SoundTable, TableCursor, check};
-use texts::text_of;
+use texts::Spelling;
 
 /// The lines of a table in bytewise order, one for each entry: `KEY SEQ put VALUE` or `KEY SEQ
 /// del`.
 ///
-/// Keys and values are lower-case hexadecimal digits, or `-` if empty; a sequence is decimal. An
-/// invalid table is refused by the first test that fails, as `table::check` refuses it.
-pub fn dump(alloc: Global, bytes: &[u8]) -> Result<Vec<u8>, Fault>
-    ensures { EqualOrMemory (λ lines. lines.items) result (table_dump bytes.now) }
+/// Keys and values are in this spelling; a sequence is decimal. An invalid table is refused by the
+/// first test that fails, as `table::check` refuses it.
+pub fn dump(alloc: Global, spelling: Spelling, bytes: &[u8]) -> Result<Vec<u8>, Fault>
+    ensures { EqualOrMemory (λ lines. lines.items) result (table_dump spelling bytes.now) }
 {
     let table = check::<Bytewise>(alloc, bytes)?;
-    lines_of(alloc, &table)
+    lines_of(alloc, spelling, &table)
 }
 
 /// The lines of a table. The only fault is Memory.
-fn lines_of(alloc: Global, table: &SoundTable<'_, Bytewise>) -> Result<Vec<u8>, Fault>
-    ensures { EqualOrMemory (λ lines. lines.items) result (Ok (dump_lines table.now.entries)) }
+fn lines_of(
+    alloc: Global,
+    spelling: Spelling,
+    table: &SoundTable<'_, Bytewise>,
+) -> Result<Vec<u8>, Fault>
+    ensures { EqualOrMemory (λ lines. lines.items) result
+        (Ok (dump_lines spelling table.now.entries)) }
 {
     let mut out = String::new(alloc);
-    push_lines(alloc, &mut out, table)?;
+    push_lines(alloc, &mut out, spelling, table)?;
     Ok(out.into_bytes())
 }
 
@@ -38,15 +43,16 @@ fn lines_of(alloc: Global, table: &SoundTable<'_, Bytewise>) -> Result<Vec<u8>, 
 fn push_lines(
     alloc: Global,
     out: &mut String,
+    spelling: Spelling,
     table: &SoundTable<'_, Bytewise>,
 ) -> Result<(), Fault>
     ensures ok { OnOk result (string_bytes out.new ≡ string_bytes out.old
-        ++ dump_lines table.now.entries) }
+        ++ dump_lines spelling table.now.entries) }
     ensures memory { IfErr result (λ e. e ≡ fault Memory) }
 {
     let mut cursor = TableCursor::new(alloc, table)?;
     while cursor.valid() {
-        push_next(alloc, out, &mut cursor)?;
+        push_next(alloc, out, spelling, &mut cursor)?;
     }
     Ok(())
 }
@@ -55,15 +61,16 @@ fn push_lines(
 fn push_next(
     alloc: Global,
     out: &mut String,
+    spelling: Spelling,
     cursor: &mut TableCursor<'_, Bytewise>,
 ) -> Result<(), Fault>
     requires { 0 < length cursor.old }
-    ensures line { OnOk result (string_bytes out.new ++ dump_lines cursor.new ≡ string_bytes out.old
-        ++ dump_lines cursor.old) }
+    ensures line { OnOk result (string_bytes out.new ++ dump_lines spelling cursor.new
+        ≡ string_bytes out.old ++ dump_lines spelling cursor.old) }
     ensures rest { OnOk result (cursor.new ≡ drop 1 cursor.old) }
     ensures memory { IfErr result (λ e. e ≡ fault Memory) }
 {
-    push_line(alloc, out, cursor.key(), cursor.value())?;
+    push_line(alloc, out, spelling, cursor.key(), cursor.value())?;
     cursor.advance()
 }
 
@@ -71,18 +78,20 @@ fn push_next(
 fn push_line(
     alloc: Global,
     out: &mut String,
+    spelling: Spelling,
     key: InternalKey<'_>,
     value: &[u8],
 ) -> Result<(), Fault>
     ensures ok { let entry : Entry = record { key = key.entry.bytes.now; value = value.now } in
-        OnOk result (string_bytes out.new ≡ string_bytes out.old ++ dump_line entry) }
+        OnOk result (string_bytes out.new ≡ string_bytes out.old
+        ++ dump_line spelling entry) }
     ensures memory { IfErr result (λ e. e ≡ fault Memory) }
 {
-    let user = text_of(alloc, key.user())?;
+    let user = spelling.key_text(alloc, key.user())?;
     let sequence = key.sequence();
     match key.kind() {
         Kind::Put => {
-            let value = text_of(alloc, value)?;
+            let value = spelling.value_text(alloc, value)?;
             out.reserve(value.len())?;
             writeln!(out, "{user} {sequence} put {value}")?;
         }

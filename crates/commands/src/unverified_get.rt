@@ -2,9 +2,8 @@
 
 ghost use Rattle.std.specs.Prelude.{◌≡◌, ℕ, List, Ok};
 ghost use Rattle.std.specs.Option.{option_map};
-ghost use Rattle.coding.specs.Answers.{EqualOrMemory};
 ghost use Rattle.checks.specs.LawfulTables.{IsLawfulTables};
-ghost use Rattle.commands.specs.FolderLines.{got_line, value_line};
+ghost use Rattle.commands.specs.FolderLines.{got_answer, sequence_at};
 ghost use Rattle.folder.specs.Calls.{Files, Tells};
 ghost use Rattle.folder.specs.Levels.{file_numbers};
 ghost use Rattle.folder.specs.LoadedTables.{IsLoaded};
@@ -13,7 +12,8 @@ ghost use Rattle.folder.specs.Orders.{order_cmp};
 ghost use Rattle.folder.specs.Reports.{OnlyReads, ReportsDevice};
 ghost use Rattle.reads.specs.Tables.{NumberedContents};
 
-use crate::folder_get::{sequence_at, value_line};
+use crate::question::ValueForm;
+use crate::value_forms::value_answer;
 use coding::Fault;
 use edit::Version;
 use folder::{Folder, Order};
@@ -35,52 +35,51 @@ pub fn unverified_value<F: Folder>(
     version: &Version,
     key: &[u8],
     at: Option<u64>,
-) -> Result<Vec<u8>, Fault>
-    // If the folder tells files whose tables are lawful with the version, their line is the answer.
+    form: ValueForm,
+) -> Result<Option<Vec<u8>>, Fault>
+    // If the folder tells files whose tables are lawful with the version, their answer is given.
     ensures lawful { (files : Files) (loaded : List (ℕ × List ℕ)) (tables : List NumberedContents) →
         Tells (F.tells folder.old) files →
         IsLoaded (F.tells folder.old) (file_numbers (order_cmp order) version.now) (Ok loaded) →
         IsLawfulTables (order_cmp order) version.now loaded (Ok tables) →
-        FolderAnswers (λ v. v.items) (F.failed folder.old) (F.failed folder.new) result
-        (λ answer. answer ≡ Ok (got_line key.now at version.now tables)) }
+        FolderAnswers (option_map (λ v. v.items)) (F.failed folder.old) (F.failed folder.new) result
+        (λ answer. answer ≡ Ok (got_answer form key.now at version.now tables)) }
     ensures device { ReportsDevice F.Folder folder.old folder.new result }
     ensures reads { OnlyReads F.Folder folder.old folder.new }
 {
     match order {
-        Order::Bytewise => value_by::<Bytewise, F>(alloc, folder, version, key, at),
-        Order::Shortlex => value_by::<Shortlex, F>(alloc, folder, version, key, at),
+        Order::Bytewise => value_by::<Bytewise, F>(alloc, folder, version, key, at, form),
+        Order::Shortlex => value_by::<Shortlex, F>(alloc, folder, version, key, at, form),
     }
 }
 
 /// The same by this comparator.
-pub(crate) fn value_by<C: Comparator, F: Folder>(
+fn value_by<C: Comparator, F: Folder>(
     alloc: Global,
     folder: &mut F,
     version: &Version,
     key: &[u8],
     at: Option<u64>,
-) -> Result<Vec<u8>, Fault>
+    form: ValueForm,
+) -> Result<Option<Vec<u8>>, Fault>
     ensures lawful { (files : Files) (loaded : List (ℕ × List ℕ)) (tables : List NumberedContents) →
         Tells (F.tells folder.old) files →
         IsLoaded (F.tells folder.old) (file_numbers C.cmp version.now) (Ok loaded) →
         IsLawfulTables C.cmp version.now loaded (Ok tables) →
-        FolderAnswers (λ v. v.items) (F.failed folder.old) (F.failed folder.new) result
-        (λ answer. answer ≡ Ok (got_line key.now at version.now tables)) }
+        FolderAnswers (option_map (λ v. v.items)) (F.failed folder.old) (F.failed folder.new) result
+        (λ answer. answer ≡ Ok (got_answer form key.now at version.now tables)) }
     ensures device { ReportsDevice F.Folder folder.old folder.new result }
     ensures reads { OnlyReads F.Folder folder.old folder.new }
 {
     let sequence = sequence_at(version, at);
     let value = get_unverified::<C, F>(alloc, folder, version, key, sequence)?;
-    line_of(alloc, value)
+    value_answer(alloc, form, value)
 }
 
-/// The line of a value, or of none.
-fn line_of(alloc: Global, value: Option<Vec<u8>>) -> Result<Vec<u8>, Fault>
-    ensures { EqualOrMemory (λ v. v.items) result
-        (Ok (value_line (option_map (λ bytes. bytes.items) value))) }
+/// The sequence `at`, or the version's last one if it isn't given.
+fn sequence_at(version: &Version, at: Option<u64>) -> u64
+    ensures { result ≡ sequence_at version.now at }
 {
-    match &value {
-        Some(bytes) => value_line(alloc, Some(bytes)),
-        None => value_line(alloc, None),
-    }
+    let last = version.last_sequence().unwrap_or(0);
+    at.unwrap_or(last)
 }

@@ -13,7 +13,7 @@ use edit::{FileMeta, Version};
 use folder::Order;
 use ikey::{Comparator, KeyBuf};
 use std::alloc::Global;
-use texts::text_of;
+use texts::Spelling;
 
 /// The most bytes that the line of a file has: its level has one digit, its numbers at most 20
 /// each.
@@ -22,14 +22,15 @@ const MAX_FILE_LINE: usize = 49;
 /// The lines of a version, with files in the version order of this comparator.
 pub(crate) fn version_lines<C: Comparator>(
     alloc: Global,
+    spelling: Spelling,
     order: Order,
     version: &Version,
 ) -> Result<Vec<u8>, Fault>
-    ensures { EqualOrMemory (λ v. v.items) result (Ok (lines_by order C.cmp version.now)) }
+    ensures { EqualOrMemory (λ v. v.items) result (Ok (lines_by spelling order C.cmp version.now)) }
 {
     let mut text = String::new(alloc);
     push_head(&mut text, order, version)?;
-    push_pointers(alloc, &mut text, version)?;
+    push_pointers(alloc, &mut text, spelling, version)?;
     push_files::<C>(alloc, &mut text, version)?;
     Ok(text.into_bytes())
 }
@@ -71,13 +72,18 @@ fn push_number(text: &mut String, word: &str, number: Option<u64>) -> Result<(),
 }
 
 /// Appends the lines of the compact pointers, by level.
-fn push_pointers(alloc: Global, text: &mut String, version: &Version) -> Result<(), Fault>
+fn push_pointers(
+    alloc: Global,
+    text: &mut String,
+    spelling: Spelling,
+    version: &Version,
+) -> Result<(), Fault>
     ensures ok { OnOk result (string_bytes text.new ≡ string_bytes text.old
-        ++ all_levels (pointer_lines version.now)) }
+        ++ all_levels (pointer_lines spelling version.now)) }
     ensures memory { IfErr result (λ e. e ≡ fault Memory) }
 {
     for level in 0..7 {
-        push_pointer_of(alloc, text, version, level)?;
+        push_pointer_of(alloc, text, spelling, version, level)?;
     }
     Ok(())
 }
@@ -86,28 +92,35 @@ fn push_pointers(alloc: Global, text: &mut String, version: &Version) -> Result<
 fn push_pointer_of(
     alloc: Global,
     text: &mut String,
+    spelling: Spelling,
     version: &Version,
     level: u64,
 ) -> Result<(), Fault>
     requires { level ≤ 6 }
     ensures ok { OnOk result (string_bytes text.new ≡ string_bytes text.old
-        ++ pointer_lines version.now level) }
+        ++ pointer_lines spelling version.now level) }
     ensures memory { IfErr result (λ e. e ≡ fault Memory) }
 {
     match version.pointer(level) {
-        Some(key) => push_pointer(alloc, text, level, key),
+        Some(key) => push_pointer(alloc, text, spelling, level, key),
         None => Ok(()),
     }
 }
 
 /// Appends the line of a compact pointer.
-fn push_pointer(alloc: Global, text: &mut String, level: u64, key: &KeyBuf) -> Result<(), Fault>
+fn push_pointer(
+    alloc: Global,
+    text: &mut String,
+    spelling: Spelling,
+    level: u64,
+    key: &KeyBuf,
+) -> Result<(), Fault>
     ensures ok { OnOk result (string_bytes text.new ≡ string_bytes text.old
-        ++ pointer_line level key.now) }
+        ++ pointer_line spelling level key.now) }
     ensures memory { IfErr result (λ e. e ≡ fault Memory) }
 {
     let key = key.as_key();
-    let user = text_of(alloc, key.user())?;
+    let user = spelling.key_text(alloc, key.user())?;
     let sequence = key.sequence();
     let kind = key.kind().number();
     writeln!(text, "pointer {level} {user} {sequence} {kind}")?;

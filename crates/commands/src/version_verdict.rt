@@ -1,53 +1,67 @@
-//! Testing whether the version of a folder is lawful.
+//! Testing the version of a folder, and the line of a lawful one.
 
-ghost use Rattle.std.specs.Prelude.{◌≡◌, ◌++◌, Ok, IfErr, OnOk, string_bytes};
+ghost use Rattle.std.specs.Prelude.{◌≡◌, ◌++◌, Ok, IfErr, OnOk, Some, string_bytes};
+ghost use Rattle.std.specs.Option.{option_map};
 ghost use Rattle.coding.specs.Answers.{EqualOrMemory, fault};
 ghost use Rattle.coding.specs.declared.fault.FaultName.TheVariants.{Memory};
 ghost use Rattle.folder.specs.Calls.{Files, Tells};
 ghost use Rattle.folder.specs.OpenAnswer.{FolderAnswers};
+ghost use Rattle.folder.specs.Orders.{order_cmp};
 ghost use Rattle.folder.specs.ReadsAs.{IsHeldIn};
 ghost use Rattle.folder.specs.Reports.{OnlyReads, ReportsDevice};
-ghost use Rattle.commands.specs.FolderLines.{IsLineOfVersion, lawful_line, verified_line};
+ghost use Rattle.checks.specs.TestedTables.{IsTested};
+ghost use Rattle.commands.specs.FolderLines.{lawful_line};
 
-use checks::{CHECKERS, Watch, test_version};
+use checks::{CHECKERS, Tested, Watch, test_version};
 use coding::Fault;
 use edit::Version;
-use folder::Folder;
-use ikey::SharedComparator;
+use folder::{Folder, Order};
+use ikey::{Bytewise, Shortlex};
 use std::alloc::Global;
 use std::thread::Threads;
 
-/// Checks a version with the tables in a folder, of which at most `memory` bytes are in memory at
-/// once, as `test_version` has it. It only reads.
-pub(crate) fn verified<
-    C: SharedComparator + 'static,
-    F: Folder,
-    W: Watch + Sync,
-    R: Threads + Sync,
->(
+/// Tests a `version` of this `order` with the tables in a folder, as [`verify`](crate::verify) does
+/// after opening it: how many files it has, and how many entries all their tables. It only reads.
+pub fn test_opened<F: Folder, W: Watch + Sync, R: Threads + Sync>(
     rt: &R,
     alloc: Global,
     folder: &mut F,
+    order: Order,
     version: &Version,
     memory: u64,
     watch: &W,
-) -> Result<Vec<u8>, Fault>
+) -> Result<Tested, Fault>
     ensures answer { (files : Files) → Tells (F.tells folder.old) files →
-        FolderAnswers (λ v. v.items) (F.failed folder.old) (F.failed folder.new) result
-        (IsLineOfVersion (IsHeldIn files) C.cmp version.now verified_line) }
+        FolderAnswers (λ tested. tested) (F.failed folder.old) (F.failed folder.new) result
+        (IsTested (IsHeldIn files) (order_cmp order) version.now) }
     ensures device { ReportsDevice F.Folder folder.old folder.new result }
     ensures reads { OnlyReads F.Folder folder.old folder.new }
 {
-    let tested = test_version::<C, F, W, R>(rt, alloc, folder, version, memory, CHECKERS, watch)?;
-    lawful_line(alloc, tested.files, tested.entries)
+    match order {
+        Order::Bytewise => test_version::<Bytewise, F, W, R>(
+            rt, alloc, folder, version, memory, CHECKERS, watch,
+        ),
+        Order::Shortlex => test_version::<Shortlex, F, W, R>(
+            rt, alloc, folder, version, memory, CHECKERS, watch,
+        ),
+    }
 }
 
-/// The line of a lawful version with this many `files` and `entries`.
-fn lawful_line(alloc: Global, files: usize, entries: u128) -> Result<Vec<u8>, Fault>
-    ensures { EqualOrMemory (λ v. v.items) result (Ok (lawful_line files entries)) }
+/// The line of a lawful version as what is printed. The only fault is Memory.
+pub(crate) fn lawful_answer(alloc: Global, tested: Tested) -> Result<Option<Vec<u8>>, Fault>
+    ensures { EqualOrMemory (option_map (λ v. v.items)) result
+        (Ok (Some (lawful_line tested.files tested.entries))) }
+{
+    Ok(Some(lawful_line(alloc, tested)?))
+}
+
+/// The line of a lawful version with this many files and entries. The only fault is Memory.
+pub(crate) fn lawful_line(alloc: Global, tested: Tested) -> Result<Vec<u8>, Fault>
+    ensures { EqualOrMemory (λ v. v.items) result
+        (Ok (lawful_line tested.files tested.entries)) }
 {
     let mut text = String::new(alloc);
-    push_lawful(&mut text, files, entries)?;
+    push_lawful(&mut text, tested.files, tested.entries)?;
     Ok(text.into_bytes())
 }
 

@@ -2,21 +2,23 @@ use crate::folders::*;
 use account::{Account, text};
 use checks::Work;
 use coding::{Fault, FaultName};
-use commands::{Open, dump, get_dir, manifest, progress_text, status, unverified_value, verify};
+use commands::{
+    Open, ValueForm, dump, get_dir, manifest, progress_text, status, unverified_value, verify,
+};
 use diagnostics::{RefusedFile, account_of, refused_file, replaceable_file, replayed_log};
 use folder::{Failing, FolderFault, Shelf, open};
 use std::alloc::Global;
 use std::test::*;
 use std::thread::Threads;
 use store::{bottom, next_level};
-use texts::{key_of, text_of};
+use texts::{Spelling, key_of, text_of};
 
 /// A call, and its arguments beside the folder.
 enum Call {
-    Manifest,
+    Manifest(Spelling),
     Verify,
-    /// A key, and a sequence.
-    Get(&'static [u8], Option<u64>),
+    /// A key, a sequence, and the form of the value.
+    Get(&'static [u8], Option<u64>, ValueForm),
     /// The same, of a version that isn't tested.
     UnverifiedGet(&'static [u8], Option<u64>),
     RefusedFile,
@@ -30,7 +32,7 @@ enum Call {
     NextLevel,
     /// The progress of a compaction of eight ranges, with this many jobs done.
     Progress(u64),
-    Dump(&'static [u8]),
+    Dump(Spelling, &'static [u8]),
     TextOf(&'static [u8]),
     KeyOf(&'static str),
 }
@@ -44,6 +46,12 @@ type Row = (&'static str, Call, Place, u64, Wanted);
 
 /// The deepest level.
 const DEEPEST: u64 = 6;
+
+/// The form of the line of a value, if nothing else is asked for.
+const DIGITS: ValueForm = ValueForm::Line(Spelling::Hexadecimal);
+
+/// What a row has for an answer without anything printed.
+const NOTHING: &str = "nothing";
 
 /// No call has this number.
 const NEVER: u64 = u64::MAX;
@@ -79,7 +87,27 @@ const TAKEN: &[&str] = &[
 ];
 
 const ROWS: &[Row] = &[
-    ("a file", Call::Manifest, Place::One, NEVER, Ok(ONE_LINES)),
+    (
+        "a file",
+        Call::Manifest(Spelling::Hexadecimal),
+        Place::One,
+        NEVER,
+        Ok(ONE_LINES),
+    ),
+    (
+        "a compact pointer",
+        Call::Manifest(Spelling::Hexadecimal),
+        Place::NoneLeft,
+        NEVER,
+        Ok(POINTER_LINES),
+    ),
+    (
+        "a compact pointer as text",
+        Call::Manifest(Spelling::Text),
+        Place::NoneLeft,
+        NEVER,
+        Ok(POINTER_TEXT),
+    ),
     (
         "one file",
         Call::Verify,
@@ -89,10 +117,31 @@ const ROWS: &[Row] = &[
     ),
     (
         "a key before it was deleted",
-        Call::Get(b"u", Some(3)),
+        Call::Get(b"u", Some(3), DIGITS),
         Place::One,
         NEVER,
         Ok("78\n"),
+    ),
+    (
+        "the same as text",
+        Call::Get(b"u", Some(3), ValueForm::Line(Spelling::Text)),
+        Place::One,
+        NEVER,
+        Ok("x\n"),
+    ),
+    (
+        "its bytes alone",
+        Call::Get(b"u", Some(3), ValueForm::Raw),
+        Place::One,
+        NEVER,
+        Ok("x"),
+    ),
+    (
+        "the bytes of a key that was deleted",
+        Call::Get(b"u", None, ValueForm::Raw),
+        Place::One,
+        NEVER,
+        Ok(NOTHING),
     ),
     (
         "a key before it was deleted, of a version that isn't tested",
@@ -180,10 +229,17 @@ const ROWS: &[Row] = &[
     ),
     (
         "a table",
-        Call::Dump(TWO_ENTRIES),
+        Call::Dump(Spelling::Hexadecimal, TWO_ENTRIES),
         Place::Empty,
         NEVER,
         Ok("75 4 del\n75 2 put 78\n"),
+    ),
+    (
+        "a table as text",
+        Call::Dump(Spelling::Text, TWO_ENTRIES),
+        Place::Empty,
+        NEVER,
+        Ok("u 4 del\nu 2 put x\n"),
     ),
     (
         "three bytes",
@@ -201,21 +257,21 @@ const ROWS: &[Row] = &[
     ),
     (
         "manifest: no CURRENT is read",
-        Call::Manifest,
+        Call::Manifest(Spelling::Hexadecimal),
         Place::One,
         1,
         Err((FaultName::Device, 3)),
     ),
     (
         "manifest: no manifest is read",
-        Call::Manifest,
+        Call::Manifest(Spelling::Hexadecimal),
         Place::One,
         2,
         Err((FaultName::Device, 3)),
     ),
     (
         "manifest: no table has to be read",
-        Call::Manifest,
+        Call::Manifest(Spelling::Hexadecimal),
         Place::One,
         3,
         Ok(ONE_LINES),
@@ -243,14 +299,14 @@ const ROWS: &[Row] = &[
     ),
     (
         "get: no CURRENT is read",
-        Call::Get(b"u", None),
+        Call::Get(b"u", None, DIGITS),
         Place::One,
         1,
         Err((FaultName::Device, 3)),
     ),
     (
         "get: no table is read",
-        Call::Get(b"u", None),
+        Call::Get(b"u", None, DIGITS),
         Place::One,
         3,
         Err((FaultName::Device, 3)),
@@ -332,6 +388,14 @@ fn explained(
     )
 }
 
+/// What is printed of a value.
+fn printed(alloc: Global, answer: Option<Vec<u8>>) -> Result<Vec<u8>, Fault> {
+    match answer {
+        Some(bytes) => Ok(bytes),
+        None => Ok(Vec::from_slice(alloc, NOTHING.as_bytes())?),
+    }
+}
+
 /// The value of a key in the version of a folder, which isn't tested.
 fn unverified(
     alloc: Global,
@@ -340,7 +404,26 @@ fn unverified(
     at: Option<u64>,
 ) -> Result<Vec<u8>, Fault> {
     let opened = open(alloc, folder)?;
-    unverified_value(alloc, folder, opened.order, &opened.version, key, at)
+    let (order, version) = (opened.order, &opened.version);
+    printed(
+        alloc,
+        unverified_value(alloc, folder, order, version, key, at, DIGITS)?,
+    )
+}
+
+/// The value of a key in a folder, in a form.
+fn got<R: AllocGlobal + Threads + Sync>(
+    rt: &R,
+    folder: &mut Shelf<'_>,
+    key: &[u8],
+    at: Option<u64>,
+    form: ValueForm,
+) -> Result<Vec<u8>, Fault> {
+    let alloc = rt.alloc();
+    printed(
+        alloc,
+        get_dir(rt, alloc, folder, key, at, form, 1 << 30, &Open)?,
+    )
 }
 
 /// The name of a refused file, and why.
@@ -409,9 +492,9 @@ fn answer<R: AllocGlobal + Threads + Sync>(
 ) -> Result<Vec<u8>, Fault> {
     let alloc = rt.alloc();
     match call {
-        Call::Manifest => manifest(alloc, folder),
+        Call::Manifest(spelling) => manifest(alloc, *spelling, folder),
         Call::Verify => verify(rt, alloc, folder, 1 << 30, &Open),
-        Call::Get(key, at) => get_dir(rt, alloc, folder, key, *at, 1 << 30, &Open),
+        Call::Get(key, at, form) => got(rt, folder, key, *at, *form),
         Call::UnverifiedGet(key, at) => unverified(alloc, folder, key, *at),
         Call::RefusedFile => first_refusal(alloc, folder),
         Call::Logs(is_known) => replayed_logs(alloc, folder, *is_known),
@@ -419,7 +502,7 @@ fn answer<R: AllocGlobal + Threads + Sync>(
         Call::Account(before, level) => explained(alloc, files_of(*before), folder, *level),
         Call::NextLevel => levels_of(alloc, folder),
         Call::Progress(done) => bytes_of(progress_text(alloc, Work::Compact, 8, *done)),
-        Call::Dump(bytes) => dump(alloc, bytes),
+        Call::Dump(spelling, bytes) => dump(alloc, *spelling, bytes),
         Call::TextOf(bytes) => bytes_of(text_of(alloc, bytes)),
         Call::KeyOf(text) => key_in(alloc, text),
     }

@@ -62,6 +62,14 @@ pub(crate) fn files_of(place: Place) -> Files {
 pub(crate) const ONE_LINES: &str =
     "comparator leveldb.BytewiseComparator\nlog 3\nprevious 0\nnext 9\nlast 4\nfile 1 7 125\n";
 
+/// The lines of [`Place::NoneLeft`].
+pub(crate) const POINTER_LINES: &str = "comparator leveldb.BytewiseComparator\nlog 3\nprevious 0\n\
+    next 10\nlast 4\npointer 1 75 2 1\n";
+
+/// The same as text.
+pub(crate) const POINTER_TEXT: &str = "comparator leveldb.BytewiseComparator\nlog 3\nprevious 0\n\
+    next 10\nlast 4\npointer 1 u 2 1\n";
+
 /// The account of level 1 of [`Place::One`]: the deletion is dropped, since nothing lies below it,
 /// and so is what it hides.
 pub(crate) const LEVEL_1_EXPLAINED: &str = "\

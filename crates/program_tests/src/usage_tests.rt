@@ -12,39 +12,80 @@ const ROWS: &[Row] = &[
         "sedvokt|blocks|one|two|--at|62|three",
         r#"Blocks { a: "one", b: "two", at: [98], out: "three" }"#,
     ),
-    ("sedvokt|blocks|one|two|--at|6|three", "key"),
+    ("sedvokt|blocks|one|two|--at|6|three", "no key"),
     ("sedvokt|blocks|--help", "text"),
     ("sedvokt|--version", "text"),
-    ("sedvokt|dump|one", r#"Dump { table: "one" }"#),
+    (
+        "sedvokt|dump|one",
+        r#"Dump { table: "one", spelling: Hexadecimal }"#,
+    ),
+    (
+        "sedvokt|dump|--text|one",
+        r#"Dump { table: "one", spelling: Text }"#,
+    ),
     (
         "sedvokt|manifest|one",
-        r#"Manifest { folder: "one", verbose: false }"#,
+        r#"Manifest { folder: "one", spelling: Hexadecimal, is_json: false, verbose: false }"#,
+    ),
+    (
+        "sedvokt|manifest|one|--text|-v|--json",
+        r#"Manifest { folder: "one", spelling: Text, is_json: true, verbose: true }"#,
     ),
     (
         "sedvokt|verify|one|-v",
-        r#"Verify { folder: "one", memory: 1024, verbose: true }"#,
+        r#"Verify { folder: "one", is_json: false, memory: 1024, verbose: true }"#,
     ),
     (
-        "sedvokt|verify|one|--memory|16777216",
-        r#"Verify { folder: "one", memory: 16777216, verbose: false }"#,
+        "sedvokt|verify|--json|one|--memory|16777216",
+        r#"Verify { folder: "one", is_json: true, memory: 16777216, verbose: false }"#,
     ),
     ("sedvokt|verify|one|--memory|16777217", "mistake"),
     (
         "sedvokt|get|one|75",
-        "Get { folder: \"one\", key: [117], at: None, testing: Testing { is_skipped: false, memory: \
-            1024 }, verbose: false }",
+        "Get { folder: \"one\", key: [117], at: None, spelling: Hexadecimal, is_raw: false, \
+            is_json: false, testing: Testing { is_skipped: false, memory: 1024 }, verbose: false }",
     ),
     (
-        "sedvokt|get|one|-|--no-verify|--at|18446744073709551615|--memory|1",
-        "Get { folder: \"one\", key: [], at: Some(18446744073709551615), testing: Testing { \
-            is_skipped: true, memory: 1 }, verbose: false }",
+        "sedvokt|get|one|-|--no-verify|--at|18446744073709551615|--memory|1|--raw",
+        "Get { folder: \"one\", key: [], at: Some(18446744073709551615), spelling: Hexadecimal, \
+            is_raw: true, is_json: false, testing: Testing { is_skipped: true, memory: 1 }, \
+            verbose: false }",
     ),
+    (
+        "sedvokt|get|one|7\\x4A|--text|--json",
+        "Get { folder: \"one\", key: [55, 74], at: None, spelling: Text, is_raw: false, is_json: \
+            true, testing: Testing { is_skipped: false, memory: 1024 }, verbose: false }",
+    ),
+    ("sedvokt|get|one|7|--raw|--json", "mistake"),
+    ("sedvokt|get|one|7", "not hexadecimal"),
+    ("sedvokt|get|one|7\\x4|--text", "not text"),
+    (
+        "sedvokt|scan|one",
+        "Scan { folder: \"one\", rows: RowChoice { from: None, to: None, at: None, limit: None, \
+            with_values: true }, spelling: Hexadecimal, is_json: false, testing: Testing { \
+            is_skipped: false, memory: 1024 }, verbose: false }",
+    ),
+    (
+        "sedvokt|scan|--to|62|one|--limit|0|--keys|--from|-|--at|7|-v|--memory|3|--no-verify",
+        "Scan { folder: \"one\", rows: RowChoice { from: Some([]), to: Some([98]), at: Some(7), \
+            limit: Some(0), with_values: false }, spelling: Hexadecimal, is_json: false, testing: \
+            Testing { is_skipped: true, memory: 3 }, verbose: true }",
+    ),
+    (
+        "sedvokt|scan|one|--text|--from|62|--json",
+        "Scan { folder: \"one\", rows: RowChoice { from: Some([54, 50]), to: None, at: None, \
+            limit: None, with_values: true }, spelling: Text, is_json: true, testing: Testing { \
+            is_skipped: false, memory: 1024 }, verbose: false }",
+    ),
+    ("sedvokt|scan|one|--to|6", "not hexadecimal"),
+    ("sedvokt|scan|one|--to|a|--from||--text", "not text"),
+    ("sedvokt|scan|one|--to|6|--limit|+7", "mistake"),
     (
         "sedvokt|compact|one|--level|1",
         "Compact { folder: \"one\", levels: One(1), settings: Settings { workers: 4, ranges: 8, \
             snapshots: Listed([]), options: Options { block_size: 4096, restart_interval: 16, \
             file_size: 2097152 } }, testing: Testing { is_skipped: false, memory: 1024 }, \
-            verbosity: Verbosity { verbose: false, explain: false } }",
+            verbosity: Verbosity { verbose: false, explain: false }, cleans: false }",
     ),
     (
         "sedvokt|compact|--workers|0|--file-size=18446744073709551615|one|--ranges|4097|--block-siz\
@@ -52,26 +93,37 @@ const ROWS: &[Row] = &[
         "Compact { folder: \"one\", levels: One(6), settings: Settings { workers: 0, ranges: 4097, \
             snapshots: From(3), options: Options { block_size: 7, restart_interval: 16, \
             file_size: 18446744073709551615 } }, testing: Testing { is_skipped: false, memory: \
-            1024 }, verbosity: Verbosity { verbose: false, explain: false } }",
+            1024 }, verbosity: Verbosity { verbose: false, explain: false }, cleans: false }",
     ),
     (
-        "sedvokt|compact|--explain|one|-v|--all|--snapshots|9,0,18446744073709551615|--no-verify",
+        "sedvokt|compact|--explain|one|-v|--all|--snapshots|9,0,18446744073709551615|--no-verify|\
+            --clean",
         "Compact { folder: \"one\", levels: All, settings: Settings { workers: 4, ranges: 8, \
             snapshots: Listed([9, 0, 18446744073709551615]), options: Options { block_size: 4096, \
             restart_interval: 16, file_size: 2097152 } }, testing: Testing { is_skipped: true, \
-            memory: 1024 }, verbosity: Verbosity { verbose: true, explain: true } }",
+            memory: 1024 }, verbosity: Verbosity { verbose: true, explain: true }, cleans: true }",
     ),
     (
         "sedvokt|compact|one|--all|--snapshots|18446744073709551616",
         "snapshots",
     ),
     ("sedvokt|compact|one|--all|--level|1", "mistake"),
+    (
+        "sedvokt|clean|one",
+        r#"Clean { folder: "one", is_dry_run: false, verbose: false }"#,
+    ),
+    (
+        "sedvokt|clean|--dry-run|one|--verbose",
+        r#"Clean { folder: "one", is_dry_run: true, verbose: true }"#,
+    ),
 ];
 
 /// Why a line asks for nothing, in a word.
 fn reason(usage: &Usage) -> &'static str {
     match usage {
-        Usage::Key => "key",
+        Usage::Key => "no key",
+        Usage::Hexadecimal => "not hexadecimal",
+        Usage::Text => "not text",
         Usage::Snapshots => "snapshots",
         Usage::Memory => "memory",
         Usage::Clap(error) if error.use_stderr() => "mistake",

@@ -2,3 +2,4 @@ mod DigitLemmas
 mod EscapedLemmas
 mod PrintableLemmas
 mod TextLemmas
+pub mod SpellingLemmas

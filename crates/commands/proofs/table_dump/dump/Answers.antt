@@ -15,4 +15,4 @@ from_contents (Err e) bytes t h = absurd cc
 pub returns : goal.returns
 returns c =
     let read : table_reading bytewise_cmp c.args.bytes.now ≡ Ok c.in_ok-table.table.entries = from_contents (blocks_of bytewise_cmp c.args.bytes.now) c.args.bytes.now c.in_ok-table.table c.in_ok-table.ensures.exact in
-    subst (EqualOrMemory (λ lines. lines.items) c.lines_of.result) (sym (ap (λ (r : Result (List Entry) Fault). r >>= λ entries. Ok (dump_lines entries)) read)) c.lines_of.ensures
+    subst (EqualOrMemory (λ lines. lines.items) c.lines_of.result) (sym (ap (λ (r : Result (List Entry) Fault). r >>= λ entries. Ok (dump_lines c.args.spelling entries)) read)) c.lines_of.ensures

@@ -6,8 +6,10 @@ use Rattle.folder.proofs.ReportLemmas.{reports_after, reports_handed}
 use Rattle.folder.specs.Levels.{file_numbers}
 use Rattle.reads.specs.Gets.{get_of}
 use Rattle.commands.proofs.HeldTables.{hold_tables}
-use Rattle.commands.proofs.UnverifiedLemmas.{told_no_device, value_refused, value_told}
-use Rattle.commands.specs.FolderLines.{got_line, value_line}
+use Rattle.commands.proofs.ShowingLemmas.{answer_device}
+use Rattle.commands.proofs.UnverifiedLemmas.{value_refused, value_told}
+use Rattle.commands.specs.FolderLines.{got_answer}
+use Rattle.commands.specs.ValueForms.{value_answer}
 use Rattle.commands.proofs.unverified_get.value_by.Goals as goal
 
 pub returns-in_err-value-clause-lawful : goal.returns-in_err-value-clause-lawful
@@ -18,7 +20,7 @@ returns-in_err-value-clause-lawful g c files loaded tables all there sound =
     let failed = g.F.Folder.failed in
     let key = c.args.key.now in
     let held = hold_tables tells files all cmp (file_numbers cmp v) loaded tables there (sound_checked cmp v loaded tables sound) in
-    value_refused (λ v. v.items) (failed c.args.folder.now) (failed c.get_unverified.new.folder) c.from_residual.result c.in_err-value.field-0.0 (get_of v tables key c.sequence_at-sequence.result) (got_line key c.args.at v tables)
+    value_refused (option_map (λ v. v.items)) (failed c.args.folder.now) (failed c.get_unverified.new.folder) c.from_residual.result c.in_err-value.field-0.0 (get_of v tables key c.sequence_at-sequence.result) (got_answer c.args.form key c.args.at v tables)
     c.from_residual.ensures.1 c.get_unverified.ensures.device.later (c.in_err-value.ensures.lawful tables held (sound_lawful cmp v loaded tables sound))
 
 pub returns-clause-lawful : goal.returns-clause-lawful
@@ -32,8 +34,8 @@ returns-clause-lawful g c files loaded tables all there sound =
     let got = c.in_ok-value.ensures.lawful tables held (sound_lawful cmp v loaded tables sound) in
     let value : option_map (λ b. b.items) c.in_ok-value.value ≡ get_of v tables key c.sequence_at-sequence.result = cc in
     let told = value ∙ ap (get_of v tables key) c.sequence_at-sequence.ensures in
-    value_told (λ v. v.items) (failed c.args.folder.now) (failed c.get_unverified.new.folder) c.line_of.result (got_line key c.args.at v tables)
-    (subst (λ (x : Option (List ℕ)). EqualOrMemory (λ v. v.items) c.line_of.result (Ok (value_line x))) told c.line_of.ensures)
+    value_told (option_map (λ v. v.items)) (failed c.args.folder.now) (failed c.get_unverified.new.folder) c.value_answer.result (got_answer c.args.form key c.args.at v tables)
+    (subst (λ (x : Option (List ℕ)). EqualOrMemory (option_map (λ v. v.items)) c.value_answer.result (Ok (value_answer c.args.form x))) told c.value_answer.ensures)
 
 pub returns-in_err-value-clause-device : goal.returns-in_err-value-clause-device
 returns-in_err-value-clause-device g c = reports_handed c.from_residual.result c.in_err-value.was c.get_unverified.ensures.device c.from_residual.ensures.1
@@ -41,4 +43,4 @@ returns-in_err-value-clause-device g c = reports_handed c.from_residual.result c
 pub returns-clause-device : goal.returns-clause-device
 returns-clause-device g c =
     let failed = g.F.Folder.failed in
-    reports_after c.line_of.result c.in_ok-value.was c.get_unverified.ensures.device (told_no_device (λ v. v.items) (failed c.args.folder.now) (failed c.get_unverified.new.folder) c.line_of.result _ c.line_of.ensures)
+    reports_after c.value_answer.result c.in_ok-value.was c.get_unverified.ensures.device (answer_device (option_map (λ v. v.items)) (failed c.args.folder.now) (failed c.get_unverified.new.folder) c.value_answer.result _ c.value_answer.ensures)

@@ -1,0 +1,47 @@
+-- The JSON objects of answers and refusals, and the line of an object.
+use Rattle.std.specs.Prelude.{ℕ, List, ◌++◌, true, codes, Option, Some, None}
+use Rattle.serde_json.specs.Data.{Data, Members, boolean, member, no_members, null, number, object}
+use Rattle.serde_json.specs.Data.{string, unsigned}
+use Rattle.serde_json.specs.Written.{compact_text}
+use Rattle.texts.specs.Spelling.{key_text, value_text}
+use Rattle.texts.specs.declared.spelling.Spelling.{Spelling}
+
+-- the line of an object: its text without blanks, and a newline
+abbrev pub json_line : Data → List ℕ
+json_line d = compact_text d ++ codes "\n"
+
+-- a key as a JSON string
+abbrev pub key_data : Spelling → List ℕ → Data
+key_data spelling key = string (key_text spelling key)
+
+-- a value as a JSON string; null for none
+abbrev pub value_data : Spelling → Option (List ℕ) → Data
+value_data spelling None = null
+value_data spelling (Some value) = string (value_text spelling value)
+
+-- `{"lawful":true,"files":F,"entries":E}`
+abbrev pub lawful_object : ℕ → ℕ → Data
+lawful_object files entries = object (member (codes "lawful") (boolean true)
+    (member (codes "files") (number (unsigned files))
+    (member (codes "entries") (number (unsigned entries)) no_members)))
+
+-- `{"key":K,"value":V}`, and null in place of V for a key without a value
+abbrev pub value_object : Spelling → List ℕ → Option (List ℕ) → Data
+value_object spelling key value = object (member (codes "key") (key_data spelling key)
+    (member (codes "value") (value_data spelling value) no_members))
+
+-- `{"key":K,"value":V}`, or `{"key":K}` if values are left out
+abbrev pub row_object : Spelling → List ℕ → Option (List ℕ) → Data
+row_object spelling key None = object (member (codes "key") (key_data spelling key) no_members)
+row_object spelling key (Some value) = value_object spelling key (Some value)
+
+-- a text under a name, before other members; left out if there is none
+abbrev pub with_text : List ℕ → Option (List ℕ) → Members → Members
+with_text name None others = others
+with_text name (Some text) others = member name (string text) others
+
+-- `{"refused":NAME,"path":P,"wrong":W,"remedy":R}`, of which the last three may be left out
+abbrev pub refusal_object : List ℕ → Option (List ℕ) → Option (List ℕ) → Option (List ℕ) → Data
+refusal_object name path wrong remedy = object (member (codes "refused") (string name)
+    (with_text (codes "path") path (with_text (codes "wrong") wrong
+    (with_text (codes "remedy") remedy no_members))))

@@ -1,0 +1,48 @@
+-- The pieces that lines are made of.
+use Rattle.std.specs.Prelude.{ℕ, List, [], ◌++◌, codes, decimal, Option, Some, None, unwrap_or}
+use Rattle.std.specs.List.{flat_map}
+use Rattle.json.specs.Print.{quoted}
+use Rattle.serde_json.specs.Data.{Data}
+use Rattle.serde_json.specs.Written.{compact_text}
+use Rattle.ikey.specs.Comparator.{KeyOrder}
+use Rattle.edit.specs.Version.{State}
+use Rattle.folder.specs.Manifest.{order_name}
+use Rattle.folder.specs.declared.order.Order.{Order}
+use Rattle.texts.specs.declared.spelling.Spelling.{Spelling}
+use Rattle.json_lines.specs.VersionObject.{file_objects, pointer_objects}
+
+-- a comma and the text of an item
+abbrev pub listed_item : Data → List ℕ
+listed_item d = codes "," ++ compact_text d
+
+-- the same of each item, one after the other
+abbrev pub listed_items : List Data → List ℕ
+listed_items ds = flat_map listed_item ds
+
+-- the items of a level's compact pointer and files
+abbrev pub pointer_items : Spelling → State → ℕ → List ℕ
+pointer_items spelling v level = listed_items (pointer_objects spelling v level)
+
+abbrev pub file_items : Spelling → KeyOrder → State → ℕ → List ℕ
+file_items spelling cmp v level = listed_items (file_objects spelling cmp v level)
+
+-- a text as a JSON string, after what names it; nothing if there is no text
+abbrev pub named_text : List ℕ → Option (List ℕ) → List ℕ
+named_text name None = []
+named_text name (Some text) = name ++ quoted text
+
+-- the line of a refusal up to its name
+abbrev pub refused_text : List ℕ → List ℕ
+refused_text name = codes "{\"refused\":" ++ quoted name
+
+-- a counter after what names it, 0 if it was never set
+abbrev pub named_number : List ℕ → Option ℕ → List ℕ
+named_number name count = name ++ decimal (unwrap_or count 0)
+
+-- the line of a version up to its pointers
+abbrev pub head_text : Order → State → List ℕ
+head_text order v = codes "{\"comparator\":" ++ quoted (order_name order)
+    ++ named_number (codes ",\"log\":") v.log_number
+    ++ named_number (codes ",\"previous\":") v.previous_log
+    ++ named_number (codes ",\"next\":") v.next_file
+    ++ named_number (codes ",\"last\":") v.last_sequence

@@ -4,6 +4,10 @@ use Rattle.clap.specs.Words.{App, Rule, Text, new_app, new_rule, with_rule, with
 use Rattle.clap.specs.declared.builder.action.ArgAction.TheVariants.{SetTrue}
 use Rattle.clap.specs.declared.builder.value_parser.ValueParser.TheVariants as parser
 use Rattle.grammar.specs.declared.commands.TheConstants.{MAX_MEMORY}
+use Rattle.grammar.specs.declared.command_name.CommandName.{CommandName}
+use Rattle.grammar.specs.declared.command_name.CommandName.TheVariants.{Blocks, Dump, Manifest}
+use Rattle.grammar.specs.declared.command_name.CommandName.TheVariants.{Verify, Get, Scan, Compact}
+use Rattle.grammar.specs.declared.command_name.CommandName.TheVariants.{Clean}
 
 -- the app with these arguments too, in their order
 abbrev pub with_rules : App → List Rule → App
@@ -14,7 +18,7 @@ with_rules app (rule ∷ rules) = with_rules (with_rule app rule) rules
 abbrev pub required_argument : Text → Rule
 required_argument id = record (new_rule id) { required = true }
 
--- an option that takes a value, as `--snapshots S,S,..`
+-- an option that takes a value, as `--from KEY`
 abbrev pub value_rule : Text → Rule
 value_rule id = record (new_rule id) { long = Some id; value_names = 1 }
 
@@ -44,13 +48,20 @@ abbrev pub bare_app : App
 bare_app = let app = new_app (codes "sedvokt") in
     record app { top = record app.top { has_version = true; subcommand_required = true } }
 
--- `dump TABLE`
+-- `dump TABLE [--text]`
 abbrev pub dump_app : App
-dump_app = with_rule (new_app (codes "dump")) (required_argument (codes "TABLE"))
+dump_app = with_rules (new_app (codes "dump")) (required_argument (codes "TABLE")
+    ∷ flag_rule (codes "text") ∷ [])
 
--- a command on a folder, as `manifest DIR [-v]`
-abbrev pub folder_app : Text → App
-folder_app name = with_rules (new_app name) (required_argument (codes "DIR") ∷ verbose_rule ∷ [])
+-- `manifest DIR [--text] [--json] [-v]`
+abbrev pub manifest_app : App
+manifest_app = with_rules (new_app (codes "manifest")) (required_argument (codes "DIR")
+    ∷ flag_rule (codes "text") ∷ flag_rule (codes "json") ∷ verbose_rule ∷ [])
+
+-- `clean DIR [--dry-run] [-v]`
+abbrev pub clean_app : App
+clean_app = with_rules (new_app (codes "clean")) (required_argument (codes "DIR")
+    ∷ flag_rule (codes "dry-run") ∷ verbose_rule ∷ [])
 
 -- `--memory MIB`: 1 to 2^24
 abbrev pub memory_rule : Rule
@@ -60,15 +71,28 @@ memory_rule = record (value_rule (codes "memory")) { parser = Some (parser.Unsig
 abbrev pub with_testing : App → App
 with_testing app = with_rules app (flag_rule (codes "no-verify") ∷ memory_rule ∷ [])
 
--- `verify DIR [--memory MIB] [-v]`
+-- `verify DIR [--json] [--memory MIB] [-v]`
 abbrev pub verify_app : App
-verify_app = with_rules (new_app (codes "verify")) (required_argument (codes "DIR") ∷ memory_rule
-    ∷ verbose_rule ∷ [])
+verify_app = with_rules (new_app (codes "verify")) (required_argument (codes "DIR")
+    ∷ flag_rule (codes "json") ∷ memory_rule ∷ verbose_rule ∷ [])
 
--- `get DIR HEXKEY [--at N] [--no-verify] [--memory MIB] [-v]`
+-- `get DIR KEY [--at N] [--text] [--raw] [--json] [--no-verify] [--memory MIB] [-v]`
 abbrev pub get_app : App
 get_app = with_rule (with_testing (with_rules (new_app (codes "get")) (required_argument
-    (codes "DIR") ∷ required_argument (codes "HEXKEY") ∷ number_rule (codes "at") ∷ [])))
+    (codes "DIR") ∷ required_argument (codes "KEY") ∷ number_rule (codes "at")
+    ∷ flag_rule (codes "text") ∷ flag_rule (codes "raw") ∷ flag_rule (codes "json") ∷ [])))
+    verbose_rule
+
+-- `[--from KEY] [--to KEY] [--at N] [--limit N] [--keys]`, after what a command has
+abbrev pub with_rows : App → App
+with_rows app = with_rules app (value_rule (codes "from") ∷ value_rule (codes "to")
+    ∷ number_rule (codes "at") ∷ number_rule (codes "limit") ∷ flag_rule (codes "keys") ∷ [])
+
+-- `scan DIR [--from KEY] [--to KEY] [--at N] [--limit N] [--keys] [--text] [--json] [--no-verify]
+-- [--memory MIB] [-v]`
+abbrev pub scan_app : App
+scan_app = with_rule (with_testing (with_rules (with_rows (with_rule (new_app (codes "scan"))
+    (required_argument (codes "DIR")))) (flag_rule (codes "text") ∷ flag_rule (codes "json") ∷ [])))
     verbose_rule
 
 -- `[--snapshot S] [--snapshots S,S,..] [--block-size B] [--file-size F]`, after what a command has
@@ -87,9 +111,10 @@ with_work app = with_rules app (number_rule (codes "workers") ∷ number_rule (c
     ∷ verbose_rule ∷ flag_rule (codes "explain") ∷ [])
 
 -- `compact DIR [--level N] [--all] [--no-verify] [--memory MIB] [--workers W] [--ranges R] [-v]
--- [--explain] [--snapshot S] [--snapshots S,S,..] [--block-size B] [--file-size F]`
+-- [--explain] [--snapshot S] [--snapshots S,S,..] [--block-size B] [--file-size F] [--clean]`
 abbrev pub compact_app : App
-compact_app = with_outputs (with_work (with_testing (with_levels (new_app (codes "compact")))))
+compact_app = with_rule (with_outputs (with_work (with_testing (with_levels
+    (new_app (codes "compact")))))) (flag_rule (codes "clean"))
 
 -- the app with these commands too, in their order
 abbrev pub with_commands : App → List App → App
@@ -98,5 +123,16 @@ with_commands app (command ∷ commands) = with_commands (with_subcommand app co
 
 -- the program with its commands
 abbrev pub program_app : App
-program_app = with_commands bare_app (blocks_app ∷ dump_app ∷ folder_app (codes "manifest")
-    ∷ verify_app ∷ get_app ∷ compact_app ∷ [])
+program_app = with_commands bare_app (blocks_app ∷ dump_app ∷ manifest_app ∷ verify_app ∷ get_app
+    ∷ scan_app ∷ compact_app ∷ clean_app ∷ [])
+
+-- the command of a name
+abbrev pub app_of_name : CommandName → App
+app_of_name Blocks = blocks_app
+app_of_name Dump = dump_app
+app_of_name Manifest = manifest_app
+app_of_name Verify = verify_app
+app_of_name Get = get_app
+app_of_name Scan = scan_app
+app_of_name Compact = compact_app
+app_of_name Clean = clean_app

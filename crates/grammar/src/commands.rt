@@ -3,12 +3,13 @@
 ghost use Rattle.std.specs.Prelude.{◌≡◌, IfOk, codes};
 ghost use Rattle.clap.specs.Words.{App, app_of, new_app, with_subcommand};
 ghost use Rattle.grammar.specs.Commands.{Extends, IsCommand, with_argument};
-ghost use Rattle.grammar.specs.Apps.{at_rule, bare_app, blocks_app, compact_app, dump_app};
-ghost use Rattle.grammar.specs.Apps.{flag_rule, folder_app, get_app, memory_rule, number_rule};
-ghost use Rattle.grammar.specs.Apps.{program_app, required_argument, value_rule, verbose_rule};
-ghost use Rattle.grammar.specs.Apps.{verify_app, with_levels, with_outputs, with_testing};
-ghost use Rattle.grammar.specs.Apps.{with_work};
+ghost use Rattle.grammar.specs.Apps.{app_of_name, at_rule, bare_app, blocks_app, clean_app};
+ghost use Rattle.grammar.specs.Apps.{compact_app, dump_app, flag_rule, get_app, manifest_app};
+ghost use Rattle.grammar.specs.Apps.{memory_rule, number_rule, program_app, required_argument};
+ghost use Rattle.grammar.specs.Apps.{scan_app, value_rule, verbose_rule, verify_app, with_levels};
+ghost use Rattle.grammar.specs.Apps.{with_outputs, with_rows, with_testing, with_work};
 
+use crate::command_name::CommandName;
 use clap::builder::ValueParser;
 use clap::{Arg, ArgAction, Command, value_parser};
 use std::alloc::{AllocError, Global};
@@ -38,13 +39,41 @@ const MANIFEST_ABOUT: &str = "Prints the version that a database folder holds";
 
 const VERIFY_ABOUT: &str = "Tests whether the version that a database folder holds is lawful";
 
-const GET_ABOUT: &str =
-    "Prints the value that a key has in a database folder, in hexadecimal digits, or none";
+const GET_ABOUT: &str = "Prints the value that a key has in a database folder, or none";
 
-const GET_KEY_HELP: &str = "The user key: hexadecimal digits, or - for the empty key";
+const GET_KEY_HELP: &str =
+    "The user key: hexadecimal digits, or - for the empty key; text with --text";
 
-const GET_AT_HELP: &str =
+const READ_AT_HELP: &str =
     "The sequence at which to read, in decimal digits, in place of the version's last one";
+
+const RAW_HELP: &str = "Prints the bytes of the value themselves, with nothing around them";
+
+const SCAN_ABOUT: &str =
+    "Prints the keys that have a value in a database folder, in their order, each with its value";
+
+const FROM_HELP: &str =
+    "The user key at which the scan begins: hexadecimal digits, or - for the empty key; text with \
+        --text";
+
+const TO_HELP: &str = "The user key before which the scan ends, written in the same way";
+
+const LIMIT_HELP: &str = "At most how many keys are printed, in decimal digits";
+
+const KEYS_HELP: &str = "Prints the keys alone";
+
+const TEXT_HELP: &str = "Keys and values are text: printable ASCII, and \\xHH for every other byte";
+
+const JSON_HELP: &str =
+    "Prints one JSON object a line, and tells a refusal as one too, after the line of its name";
+
+const CLEAN_ABOUT: &str =
+    "Removes the files of a database folder that its version does not need, and prints their names";
+
+const DRY_RUN_HELP: &str = "Prints the names of these files, and removes none";
+
+const CLEAN_FLAG_HELP: &str =
+    "Removes, after each installation, the files that the version does not need any more";
 
 const COMPACT_ABOUT: &str =
     "Compacts files of a database folder into the next level, and installs the outcome";
@@ -68,20 +97,29 @@ const NO_VERIFY_HELP: &str =
 const MEMORY_HELP: &str =
     "How many MiB of tables the test of a version may hold: 1 to 16777216; 1024 if it is left out";
 
-const BLOCKS_EXAMPLE: &str = "Example: sedvokt blocks A B --at 6b3130 OUT";
+const BLOCKS_EXAMPLE: &str =
+    "Example: sedvokt blocks tests/data/blocks/edges.a tests/data/blocks/edges.b --at - /tmp/edges";
 
-const DUMP_EXAMPLE: &str = "Example: sedvokt dump db/000005.ldb";
+const DUMP_EXAMPLE: &str = "Example: sedvokt dump tests/data/folders/mixed/000019.ldb --text";
 
-const MANIFEST_EXAMPLE: &str = "Example: sedvokt manifest db";
+const MANIFEST_EXAMPLE: &str = "Example: sedvokt manifest tests/data/folders/mixed --text";
 
-const VERIFY_EXAMPLE: &str = "Example: sedvokt verify db -v";
+const VERIFY_EXAMPLE: &str = "Example: sedvokt verify tests/data/folders/mixed -v";
 
-const GET_EXAMPLE: &str = "Examples: sedvokt get db 6b3030303031 --at 1151
-          sedvokt get db 6b3030303031 --no-verify";
+const GET_EXAMPLE: &str = "Examples: sedvokt get tests/data/folders/mixed k00001 --text
+          sedvokt get tests/data/folders/mixed 6b3030303031 --at 900
+          sedvokt get tests/data/folders/mixed 6b3030303031 --no-verify --raw
+          sedvokt get tests/data/folders/mixed k00001 --text --json";
 
-const COMPACT_EXAMPLE: &str = "Examples: sedvokt compact db --level 0
-          sedvokt compact db --all --snapshots 900,1151
-          sedvokt compact db --level 1 --no-verify --explain";
+const SCAN_EXAMPLE: &str = "Examples: sedvokt scan tests/data/folders/mixed --text --limit 10
+          sedvokt scan tests/data/folders/mixed --from k00001 --to k00005 --text
+          sedvokt scan tests/data/folders/mixed --from 6b3030303031 --at 900 --keys";
+
+const COMPACT_EXAMPLE: &str = "Examples: sedvokt compact /tmp/mixed --level 0 --explain
+          sedvokt compact /tmp/mixed --all --snapshots 900,1151 --clean
+Each is for a new copy in /tmp of the folder tests/data/folders/mixed.";
+
+const CLEAN_EXAMPLE: &str = "Example: sedvokt clean tests/data/folders/mixed --dry-run";
 
 const WORKERS_HELP: &str = "How many workers carry it out: 1 to 64; 4 if it is left out";
 
@@ -104,6 +142,7 @@ const FILE_SIZE_HELP: &str =
 
 const STATUSES: &str =
     "A key is written as hexadecimal digits of either case, two a byte; - is the empty key.
+As text (--text) it is printable ASCII, and \\xHH for every other byte; \"\" is the empty key.
 The status is 0 when the work is done, 1 when it is refused, 2 for a fault of usage and 3 when a \
 device fails.";
 
@@ -113,13 +152,36 @@ pub fn program_command<'a>(alloc: Global) -> Result<Command<'a>, AllocError>
 {
     let command = with_command(bare_command(alloc), blocks_command(alloc))?;
     let command = with_command(command, dump_command(alloc))?;
-    let command = with_command(
-        command,
-        folder_command(alloc, "manifest", MANIFEST_ABOUT, MANIFEST_EXAMPLE),
-    )?;
+    let command = with_command(command, manifest_command(alloc))?;
     let command = with_command(command, verify_command(alloc))?;
     let command = with_command(command, get_command(alloc))?;
-    with_command(command, compact_command(alloc))
+    let command = with_command(command, scan_command(alloc))?;
+    let command = with_command(command, compact_command(alloc))?;
+    with_command(command, clean_command(alloc))
+}
+
+/// A command by itself, whose errors tell its own usage. The only fault is out of memory.
+pub fn command_alone<'a>(alloc: Global, name: CommandName) -> Result<Command<'a>, AllocError>
+    ensures { IfOk result (λ command. app_of command ≡ app_of_name name) }
+{
+    let command = command_of_name(alloc, name)?;
+    command.bin_name(name.in_usage())
+}
+
+/// The command of a name.
+fn command_of_name<'a>(alloc: Global, name: CommandName) -> Result<Command<'a>, AllocError>
+    ensures { IfOk result (IsCommand (app_of_name name)) }
+{
+    match name {
+        CommandName::Blocks => blocks_command(alloc),
+        CommandName::Dump => dump_command(alloc),
+        CommandName::Manifest => manifest_command(alloc),
+        CommandName::Verify => verify_command(alloc),
+        CommandName::Get => get_command(alloc),
+        CommandName::Scan => scan_command(alloc),
+        CommandName::Compact => compact_command(alloc),
+        CommandName::Clean => clean_command(alloc),
+    }
 }
 
 /// The program without its commands.
@@ -155,47 +217,73 @@ fn blocks_command<'a>(alloc: Global) -> Result<Command<'a>, AllocError>
     with_wanted(alloc, command, "OUT", OUT_HELP)
 }
 
-/// The command `verify DIR [--memory MIB] [-v]`.
+/// The command `verify DIR [--json] [--memory MIB] [-v]`.
 fn verify_command<'a>(alloc: Global) -> Result<Command<'a>, AllocError>
     ensures { IfOk result (IsCommand verify_app) }
 {
     let command = named(alloc, "verify", VERIFY_ABOUT, VERIFY_EXAMPLE);
     let command = with_wanted(alloc, command, "DIR", FOLDER_HELP)?;
+    let command = with_flag(alloc, command, "json", JSON_HELP)?;
     let command = with_memory(alloc, command)?;
     with_verbose(alloc, command)
 }
 
-/// The command `get DIR HEXKEY [--at N] [--no-verify] [--memory MIB] [-v]`.
+/// The command `get DIR KEY [--at N] [--text] [--raw] [--json] [--no-verify] [--memory MIB] [-v]`.
 fn get_command<'a>(alloc: Global) -> Result<Command<'a>, AllocError>
     ensures { IfOk result (IsCommand get_app) }
 {
     let command = named(alloc, "get", GET_ABOUT, GET_EXAMPLE);
     let command = with_wanted(alloc, command, "DIR", FOLDER_HELP)?;
-    let command = with_wanted(alloc, command, "HEXKEY", GET_KEY_HELP)?;
-    let command = with_number(alloc, command, "at", "N", GET_AT_HELP)?;
+    let command = with_wanted(alloc, command, "KEY", GET_KEY_HELP)?;
+    let command = with_number(alloc, command, "at", "N", READ_AT_HELP)?;
+    let command = with_flag(alloc, command, "text", TEXT_HELP)?;
+    let command = with_flag(alloc, command, "raw", RAW_HELP)?;
+    let command = with_flag(alloc, command, "json", JSON_HELP)?;
     let command = with_testing(alloc, command)?;
     with_verbose(alloc, command)
 }
 
-/// The command `dump TABLE`.
+/// The command `scan DIR`, with the options on its rows, and
+/// `[--text] [--json] [--no-verify] [--memory MIB] [-v]`.
+fn scan_command<'a>(alloc: Global) -> Result<Command<'a>, AllocError>
+    ensures { IfOk result (IsCommand scan_app) }
+{
+    let command = named(alloc, "scan", SCAN_ABOUT, SCAN_EXAMPLE);
+    let command = with_wanted(alloc, command, "DIR", FOLDER_HELP)?;
+    let command = with_rows(alloc, command)?;
+    let command = with_flag(alloc, command, "text", TEXT_HELP)?;
+    let command = with_flag(alloc, command, "json", JSON_HELP)?;
+    let command = with_testing(alloc, command)?;
+    with_verbose(alloc, command)
+}
+
+/// The command `dump TABLE [--text]`.
 fn dump_command<'a>(alloc: Global) -> Result<Command<'a>, AllocError>
     ensures { IfOk result (IsCommand dump_app) }
 {
     let command = named(alloc, "dump", DUMP_ABOUT, DUMP_EXAMPLE);
-    with_wanted(alloc, command, "TABLE", "The file of the table")
+    let command = with_wanted(alloc, command, "TABLE", "The file of the table")?;
+    with_flag(alloc, command, "text", TEXT_HELP)
 }
 
-/// A command on a folder, as `manifest DIR [-v]`.
-fn folder_command<'a>(
-    alloc: Global,
-    name: &'a str,
-    about: &'a str,
-    example: &'a str,
-) -> Result<Command<'a>, AllocError>
-    ensures { IfOk result (IsCommand (folder_app name.entry.now)) }
+/// The command `manifest DIR [--text] [--json] [-v]`.
+fn manifest_command<'a>(alloc: Global) -> Result<Command<'a>, AllocError>
+    ensures { IfOk result (IsCommand manifest_app) }
 {
-    let command = named(alloc, name, about, example);
+    let command = named(alloc, "manifest", MANIFEST_ABOUT, MANIFEST_EXAMPLE);
     let command = with_wanted(alloc, command, "DIR", FOLDER_HELP)?;
+    let command = with_flag(alloc, command, "text", TEXT_HELP)?;
+    let command = with_flag(alloc, command, "json", JSON_HELP)?;
+    with_verbose(alloc, command)
+}
+
+/// The command `clean DIR [--dry-run] [-v]`.
+fn clean_command<'a>(alloc: Global) -> Result<Command<'a>, AllocError>
+    ensures { IfOk result (IsCommand clean_app) }
+{
+    let command = named(alloc, "clean", CLEAN_ABOUT, CLEAN_EXAMPLE);
+    let command = with_wanted(alloc, command, "DIR", FOLDER_HELP)?;
+    let command = with_flag(alloc, command, "dry-run", DRY_RUN_HELP)?;
     with_verbose(alloc, command)
 }
 
@@ -207,7 +295,8 @@ fn compact_command<'a>(alloc: Global) -> Result<Command<'a>, AllocError>
     let command = with_levels(alloc, command)?;
     let command = with_testing(alloc, command)?;
     let command = with_work(alloc, command)?;
-    with_outputs(alloc, command)
+    let command = with_outputs(alloc, command)?;
+    with_flag(alloc, command, "clean", CLEAN_FLAG_HELP)
 }
 
 /// The command with the folder, and with the options that name a level or all.
@@ -227,6 +316,17 @@ fn with_testing<'a>(alloc: Global, command: Command<'a>) -> Result<Command<'a>, 
     with_memory(alloc, command)
 }
 
+/// The command with the options on which rows a scan prints.
+fn with_rows<'a>(alloc: Global, command: Command<'a>) -> Result<Command<'a>, AllocError>
+    ensures { IfOk result (Extends with_rows command.entry) }
+{
+    let command = with_value(alloc, command, "from", "KEY", FROM_HELP)?;
+    let command = with_value(alloc, command, "to", "KEY", TO_HELP)?;
+    let command = with_number(alloc, command, "at", "N", READ_AT_HELP)?;
+    let command = with_number(alloc, command, "limit", "N", LIMIT_HELP)?;
+    with_flag(alloc, command, "keys", KEYS_HELP)
+}
+
 /// The command with the options on workers and ranges, and on what is told.
 fn with_work<'a>(alloc: Global, command: Command<'a>) -> Result<Command<'a>, AllocError>
     ensures { IfOk result (Extends with_work command.entry) }
@@ -242,7 +342,7 @@ fn with_outputs<'a>(alloc: Global, command: Command<'a>) -> Result<Command<'a>, 
     ensures { IfOk result (Extends with_outputs command.entry) }
 {
     let command = with_number(alloc, command, "snapshot", "S", SNAPSHOT_HELP)?;
-    let command = with_snapshots(alloc, command)?;
+    let command = with_value(alloc, command, "snapshots", "S,S,..", SNAPSHOTS_HELP)?;
     let command = with_number(alloc, command, "block-size", "B", BLOCK_SIZE_HELP)?;
     with_number(alloc, command, "file-size", "F", FILE_SIZE_HELP)
 }
@@ -336,13 +436,16 @@ fn with_at<'a>(alloc: Global, command: Command<'a>) -> Result<Command<'a>, Alloc
     command.arg(at)
 }
 
-/// The command with `--snapshots S,S,..`.
-fn with_snapshots<'a>(alloc: Global, command: Command<'a>) -> Result<Command<'a>, AllocError>
-    ensures { IfOk result (Extends (with_argument (value_rule (codes "snapshots"))) command.entry) }
+/// The command with an option that takes a value.
+fn with_value<'a>(
+    alloc: Global,
+    command: Command<'a>,
+    id: &'a str,
+    name: &'a str,
+    help: &'a str,
+) -> Result<Command<'a>, AllocError>
+    ensures { IfOk result (Extends (with_argument (value_rule id.entry.now)) command.entry) }
 {
-    let snapshots = Arg::new(alloc, "snapshots")
-        .long("snapshots")
-        .value_name("S,S,..")
-        .help(SNAPSHOTS_HELP);
-    command.arg(snapshots)
+    let value = Arg::new(alloc, id).long(id).value_name(name).help(help);
+    command.arg(value)
 }

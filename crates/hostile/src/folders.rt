@@ -7,7 +7,7 @@ use crate::worked::{
     BOTH_ENTRIES, CURRENT_FIVE, FIRST_BLOCK, MANIFEST, NEXT_TEN, SECOND_BLOCK, TABLE_U_TWICE,
 };
 use coding::{Fault, FaultName};
-use commands::{dump, get_dir, manifest, unverified_value, verify};
+use commands::{Spelling, ValueForm, dump, get_dir, manifest, unverified_value, verify};
 use edit::{Outcome, Version};
 use folder::{Shelf, load, open};
 use ikey::Bytewise;
@@ -23,6 +23,9 @@ const FILES: &[(&str, &[u8])] = &[
     ("MANIFEST-000005", MANIFEST),
     ("000007.ldb", TABLE_U_TWICE),
 ];
+
+/// The form in which a folder is asked for a value.
+const DIGITS: ValueForm = ValueForm::Line(Spelling::Hexadecimal);
 
 /// How many bytes of tables are held while a version is tested.
 const MEMORY: u64 = 1_073_741_824;
@@ -155,17 +158,30 @@ fn told<R: AllocGlobal + Threads + Sync>(
     question: &Question,
 ) -> Result<Vec<u8>, Fault> {
     match question {
-        Question::Manifest => manifest(rt.alloc(), shelf),
+        Question::Manifest => manifest(rt.alloc(), Spelling::Hexadecimal, shelf),
         Question::Verify => verify(rt, rt.alloc(), shelf, MEMORY, &Open),
-        Question::Get(at) => get_dir(rt, rt.alloc(), shelf, b"u", *at, MEMORY, &Open),
+        Question::Get(at) => verified(rt, shelf, *at),
         Question::UnverifiedGet(at) => unverified(rt.alloc(), shelf, *at),
     }
+}
+
+/// The line of the value of `u`, in a version that is tested.
+fn verified<R: AllocGlobal + Threads + Sync>(
+    rt: &R,
+    shelf: &mut Shelf<'_>,
+    at: Option<u64>,
+) -> Result<Vec<u8>, Fault> {
+    let alloc = rt.alloc();
+    let answer = get_dir(rt, alloc, shelf, b"u", at, DIGITS, MEMORY, &Open)?;
+    Ok(answer.unwrap_or(Vec::new(alloc)))
 }
 
 /// The line of the value of `u`, in a version that isn't tested.
 fn unverified(alloc: Global, shelf: &mut Shelf<'_>, at: Option<u64>) -> Result<Vec<u8>, Fault> {
     let opened = open(alloc, shelf)?;
-    unverified_value(alloc, shelf, opened.order, &opened.version, b"u", at)
+    let (order, version) = (opened.order, &opened.version);
+    let answer = unverified_value(alloc, shelf, order, version, b"u", at, DIGITS)?;
+    Ok(answer.unwrap_or(Vec::new(alloc)))
 }
 
 /// Whether a folder answers these lines. If memory was refused, it is asked again.
@@ -196,7 +212,7 @@ pub fn folder_asked<R: AllocGlobal + Threads + Sync>(
 
 /// A table of two entries, dumped.
 pub fn table_dumped(alloc: Global) -> Result<bool, Fault> {
-    Ok(dump(alloc, TABLE_U_TWICE)?.as_slice() == DUMPED)
+    Ok(dump(alloc, Spelling::Hexadecimal, TABLE_U_TWICE)?.as_slice() == DUMPED)
 }
 
 /// Two blocks of one entry each, merged to one.

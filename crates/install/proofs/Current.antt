@@ -4,7 +4,7 @@ use Rattle.coding.proofs.Refusals.{unless_device, unless_from}
 use Rattle.coding.specs.Answers.{UnlessMemory}
 use Rattle.coding.specs.declared.fault.Fault.{Fault}
 use Rattle.coding.specs.declared.fault.FaultName.TheVariants as name
-use Rattle.folder.specs.Calls.{Call, Created, Done, Files, FolderSynced, FolderView, Renamed, Shows, Step, Synced, Tells}
+use Rattle.folder.specs.Calls.{Call, Created, Done, Files, FolderSynced, FolderView, Removed, Renamed, Shows, Step, Synced, Tells}
 use Rattle.folder.specs.CallSequence.{MakesCalls, ShowsAll}
 use Rattle.folder.specs.Folder.{TellsSame}
 use Rattle.folder.specs.Names.{current_text}
@@ -21,6 +21,7 @@ abbrev LeavesCurrent : Call → Type 0
 LeavesCurrent (Created name bytes) = name ≢ CURRENT
 LeavesCurrent (Synced name) = Unit {0}
 LeavesCurrent (Renamed from to) = ⊥
+LeavesCurrent (Removed name) = ⊥
 LeavesCurrent FolderSynced = Unit {0}
 
 abbrev AllLeaveCurrent : List Call → Type 0
@@ -43,6 +44,7 @@ shows_current : (call : Call) (s next : FolderView) → LeavesCurrent call → S
 shows_current (Created name bytes) s next h is = ap (λ (v : FolderView). v.files CURRENT) is ∙ put_other s.files name (Some bytes) CURRENT (λ e. h (sym e))
 shows_current (Synced name) s next h is = ap (λ (v : FolderView). v.files CURRENT) is
 shows_current (Renamed from to) s next h is = absurd h
+shows_current (Removed name) s next h is = absurd h
 shows_current FolderSynced s next h is = ap (λ (v : FolderView). v.files CURRENT) is
 
 show_current : (calls : List Call) (s last : FolderView) → AllLeaveCurrent calls → ShowsAll (map Done calls) s last → last.files CURRENT ≡ s.files CURRENT

@@ -1,4 +1,4 @@
-mod Parts
+pub mod Parts
 mod Outputs
 mod Switch
 pub mod Moments

@@ -20,17 +20,17 @@ use Rattle.folder.specs.ReadsAs.{IsOneOf}
 use Rattle.install.proofs.Options.{made, option_parts}
 
 -- what stands in one of two lists
-among_append : (xs ys : List ℕ) (n : ℕ) → IsOneOf (xs ++ ys) n → IsOneOf xs n ⊎ IsOneOf ys n
+pub among_append : (xs ys : List ℕ) (n : ℕ) → IsOneOf (xs ++ ys) n → IsOneOf xs n ⊎ IsOneOf ys n
 among_append [] ys n m = inr m
 among_append (x ∷ xs) ys n (inl same) = inl (inl same)
 among_append (x ∷ xs) ys n (inr m) = elim (among_append xs ys n m) [ inl a ↦ inl (inr a) | inr b ↦ inr b ]
 
-among_first : (xs ys : List ℕ) (n : ℕ) → IsOneOf xs n → IsOneOf (xs ++ ys) n
+pub among_first : (xs ys : List ℕ) (n : ℕ) → IsOneOf xs n → IsOneOf (xs ++ ys) n
 among_first [] ys n m = absurd m
 among_first (x ∷ xs) ys n (inl same) = inl same
 among_first (x ∷ xs) ys n (inr m) = inr (among_first xs ys n m)
 
-among_second : (xs ys : List ℕ) (n : ℕ) → IsOneOf ys n → IsOneOf (xs ++ ys) n
+pub among_second : (xs ys : List ℕ) (n : ℕ) → IsOneOf ys n → IsOneOf (xs ++ ys) n
 among_second [] ys n m = m
 among_second (x ∷ xs) ys n m = inr (among_second xs ys n m)
 

@@ -19,7 +19,7 @@ use Rattle.folder.specs.Levels.{file_numbers}
 use Rattle.folder.specs.Manifest.{order_name}
 use Rattle.folder.specs.Names.{current_text, manifest_name, table_name, temporary_name}
 use Rattle.folder.specs.OpenAnswer.{IsStopped}
-use Rattle.folder.specs.ReadsAs.{IsOneOf, ReadsAs, StandsAs}
+use Rattle.folder.specs.ReadsAs.{IsOneOf, ReadsAs, StandsAs, StandsBy}
 use Rattle.folder.specs.declared.order.Order.{Order}
 
 -- tables of the code as numbers and bytes
@@ -114,6 +114,13 @@ abbrev pub AlwaysStandsAs : KeyOrder → Order → State → List (ℕ × List �
     Type 0
 AlwaysStandsAs cmp order v tables start calls = (w : World) → Leads start calls w →
     StandsAs cmp order v tables w
+
+-- After these calls from the start, the folder stands for the version and its tables, and CURRENT
+-- names the manifest of this number.
+abbrev pub AlwaysStandsBy : KeyOrder → Order → State → ℕ → List (ℕ × List ℕ) → World →
+    List Step → Type 0
+AlwaysStandsBy cmp order v manifest tables start calls = (w : World) → Leads start calls w →
+    StandsBy cmp order v manifest tables w
 
 -- What an installation of the next version guarantees, of its calls and of what the folder tells
 -- before and after them.

@@ -21,8 +21,9 @@ use Rattle.reads.specs.Tables.{NumberedContents}
 use Rattle.checks.specs.LawfulTables.{IsLawfulTables}
 use Rattle.install.proofs.Moments.{nothing_done}
 use Rattle.install.specs.Install.{AlwaysStandsAs, next_version_tables}
+use Rattle.install.specs.Told.{AreTold}
 use Rattle.settings.specs.declared.settings.Settings.{Settings}
-use Rattle.store.specs.AllLevels.{AnswersAs, AreTold, CompactionLink, IsAtLink, IsChain, IsDescended, IsEndOf, IsNextRefused, last_tables, last_version}
+use Rattle.store.specs.AllLevels.{AnswersAs, CompactionLink, IsAtLink, IsChain, IsDescended, IsEndOf, IsNextRefused, last_tables, last_version}
 use Rattle.store.specs.Answers.{IsLoadedCompacted}
 use Rattle.store.specs.Descent.{IsBottom, IsNextLevel}
 use Rattle.store.specs.FolderRequest.{manifest_of}

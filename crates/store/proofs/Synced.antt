@@ -13,7 +13,7 @@ use Rattle.folder.specs.ReadsAs.{Current, IsOneOf, Manifest, OldTable, ReadsAs, 
 use Rattle.folder.specs.declared.order.Order.{Order}
 use Rattle.folder.proofs.CrashLemmas.{stands_folder_synced}
 use Rattle.folder.proofs.PutLemmas.{put_other, put_same, same_name}
-use Rattle.install.specs.Install.{AlwaysStandsAs}
+use Rattle.install.specs.Install.{AlwaysStandsAs, AlwaysStandsBy}
 use Rattle.install.proofs.Moments.{leads_split}
 use Rattle.store.specs.Compaction.{SyncLaw}
 use Rattle.store.specs.VersionSync.{AlwaysReadsBy, sync_calls, table_syncs}
@@ -119,9 +119,25 @@ module _ (cmp : List ℕ → List ℕ → Ordering) (order : Order) (v : State) 
         λ name rests. inl (synced.synced name (inl (rests_among w.shown.files name named rests))),
       )))
 
+  -- CURRENT still names the manifest
+  version_named : (tables : List (ℕ × List ℕ)) (start : World) (before : List Step) → AlwaysReadsBy cmp order v manifest tables start before
+      → (w : World) → Leads start (before ++ map Done (sync_calls cmp v manifest)) w → w.shown.files (codes "CURRENT") ≡ Some (current_text manifest)
+  version_named tables start before h w leads =
+      let steps : before ++ map Done (sync_calls cmp v manifest) ≡ (before ++ map Done file_syncs) ++ Done FolderSynced ∷ [] =
+      ap (λ (t : List Step). before ++ t) (map-append Done file_syncs (FolderSynced ∷ [])) ∙ sym (append_assoc before (map Done file_syncs) (Done FolderSynced ∷ [])) in
+      let are : AreFileSyncs file_syncs = ((codes "CURRENT", refl), ((manifest_name manifest, refl), tables_are_syncs (file_numbers cmp v))) in
+      let last = leads_split start w (before ++ map Done file_syncs) (Done FolderSynced ∷ []) (subst (λ (s : List Step). Leads start s w) steps leads) in
+      let first = leads_split start last.0 before (map Done file_syncs) last.1 in
+      let synced = synced_all file_syncs first.0 last.0 are first.2 in
+      let shown : last.2.0.shown ≡ last.0.shown = last.2.1.0 in
+      let same : w ≡ last.2.0 = last.2.2 in
+      ap (λ (x : World). x.shown.files (codes "CURRENT")) same
+      ∙ (ap (λ (s : FolderView). s.files (codes "CURRENT")) shown ∙ (ap (λ (f : Files). f (codes "CURRENT")) synced.files ∙ (h first.0 first.1).named))
+
   pub synced_stands : {T E : Type 0} (tables : List (ℕ × List ℕ)) (start : World) (before after : List Step) (old new : List ℕ → Option (List ℕ) → Type 0) (r : Result T E) → MakesCalls (sync_calls cmp v manifest) before after old new r
-      → AlwaysReadsBy cmp order v manifest tables start before → OnOk r (AlwaysStandsAs cmp order v tables start after)
+      → AlwaysReadsBy cmp order v manifest tables start before → OnOk r (AlwaysStandsBy cmp order v manifest tables start after)
   synced_stands tables start before after old new (Ok x) runs h =
       let made : runs.steps ≡ map Done (sync_calls cmp v manifest) = runs.made in
-      subst (AlwaysStandsAs cmp order v tables start) (sym (runs.appended ∙ ap (λ (t : List Step). before ++ t) made)) (version_stands tables start before h)
+      subst (AlwaysStandsBy cmp order v manifest tables start) (sym (runs.appended ∙ ap (λ (t : List Step). before ++ t) made))
+      (λ w leads. record { stands = version_stands tables start before h w leads; named = version_named tables start before h w leads })
   synced_stands tables start before after old new (Err e) runs h = tt

@@ -2,7 +2,7 @@
 use Rattle.std.proofs.Common.{◌≡◌, ℕ, false, List, [], ◌∷◌, ◌++◌, Option, Result, sym, ap, subst, ◌∙◌, inl, inr}
 use Rattle.std.specs.declared.cmp.Ordering.{Ordering}
 use Rattle.edit.specs.Version.{State}
-use Rattle.folder.specs.Calls.{Call, Created, Done, Files, FolderSynced, FolderView, Renamed, Shows, Step, Synced, Tells, Tried}
+use Rattle.folder.specs.Calls.{Call, Created, Done, Files, FolderSynced, FolderView, Removed, Renamed, Shows, Step, Synced, Tells, Tried}
 use Rattle.folder.specs.CallSequence.{AreMade, MakesCalls, ShowsAll}
 use Rattle.folder.specs.Levels.{file_numbers}
 use Rattle.install.proofs.Moments.{made_by}
@@ -12,6 +12,7 @@ abbrev IsSync : Call → Type 0
 IsSync (Created name bytes) = ⊥
 IsSync (Synced name) = Unit {0}
 IsSync (Renamed from to) = ⊥
+IsSync (Removed name) = ⊥
 IsSync FolderSynced = Unit {0}
 
 abbrev AreSyncs : List Call → Type 0
@@ -22,12 +23,14 @@ done_told : (call : Call) (s next : FolderView) → IsSync call → Shows (Done 
 done_told (Created name bytes) s next is h = absurd is
 done_told (Synced name) s next is h = ap (λ (t : FolderView). t.files) h
 done_told (Renamed from to) s next is h = absurd is
+done_told (Removed name) s next is h = absurd is
 done_told FolderSynced s next is h = ap (λ (t : FolderView). t.files) h
 
 tried_told : (call : Call) (s next : FolderView) → IsSync call → Shows (Tried call) s next → next.files ≡ s.files
 tried_told (Created name bytes) s next is h = absurd is
 tried_told (Synced name) s next is h = ap (λ (t : FolderView). t.files) h
 tried_told (Renamed from to) s next is h = absurd is
+tried_told (Removed name) s next is h = absurd is
 tried_told FolderSynced s next is h = ap (λ (t : FolderView). t.files) h
 
 syncs_told : (calls : List Call) (steps : List Step) (s last : FolderView) → AreSyncs calls → AreMade calls steps → ShowsAll steps s last → last.files ≡ s.files

@@ -18,6 +18,7 @@ use Rattle.keep.specs.Readable.{is_read, readable_of}
 use Rattle.checks.specs.LawfulTables.{IsLawfulTables}
 use Rattle.request.specs.OneThread.{Answer}
 use Rattle.install.specs.Install.{AlwaysStandsAs, next_version_tables}
+use Rattle.install.specs.Told.{AreTold}
 use Rattle.settings.specs.declared.settings.Settings.{Settings}
 use Rattle.store.specs.Answers.{IsLoadedCompacted}
 use Rattle.store.specs.Compaction.{VersionCompaction}
@@ -64,12 +65,6 @@ last_version v (l ∷ links) = last_version l.version links
 abbrev pub last_tables : List (ℕ × List ℕ) → List CompactionLink → List (ℕ × List ℕ)
 last_tables loaded [] = loaded
 last_tables loaded (l ∷ links) = last_tables l.tables links
-
--- somebody was told these lists of lines, one after the other
-abbrev pub AreTold : {W : Type 0} → (W → List ℕ → W → Type 0) → W → List (List ℕ) → W → Type 0
-AreTold tells told [] now = now ≡ told
-AreTold {W} tells told (lines ∷ others) now = (next : W) × tells told lines next
-    × AreTold tells next others now
 
 -- files that read as the version before all of them, or as the one that one of them leaves
 abbrev pub IsAtLink : (List ℕ → List ℕ → Ordering) → Order → State → List (ℕ × List ℕ) →

@@ -1,13 +1,13 @@
 -- The calls that sync what a version rests on, and the folders for which they make it stand.
-use Rattle.std.specs.Prelude.{◌≡◌, ℕ, List, [], ◌∷◌, ◌++◌, codes, Some}
+use Rattle.std.specs.Prelude.{ℕ, List, [], ◌∷◌, ◌++◌, codes}
 use Rattle.std.specs.List.{flat_map}
 use Rattle.std.specs.declared.cmp.Ordering.{Ordering}
 use Rattle.edit.specs.Version.{State}
-use Rattle.folder.specs.Calls.{Call, Files, FolderSynced, Step, Synced}
+use Rattle.folder.specs.Calls.{Call, FolderSynced, Step, Synced}
 use Rattle.folder.specs.Crash.{Leads, World}
 use Rattle.folder.specs.Levels.{file_numbers}
-use Rattle.folder.specs.Names.{current_text, manifest_name, old_table_name, table_name}
-use Rattle.folder.specs.ReadsAs.{ReadsAs}
+use Rattle.folder.specs.Names.{manifest_name, old_table_name, table_name}
+use Rattle.folder.specs.ReadsAs.{ReadsBy}
 use Rattle.folder.specs.declared.order.Order.{Order}
 
 -- each table is synced under its name and under its older one
@@ -23,14 +23,8 @@ sync_calls cmp v manifest =
     Synced (codes "CURRENT") ∷ Synced (manifest_name manifest)
     ∷ (table_syncs (file_numbers cmp v) ++ FolderSynced ∷ [])
 
--- The files read as a version of this order and its tables, and CURRENT names the manifest of this
--- number.
-pub record ReadsBy (cmp : List ℕ → List ℕ → Ordering) (order : Order) (v : State) (manifest : ℕ)
-    (tables : List (ℕ × List ℕ)) (files : Files) : Type 0 where
-  pub reads : ReadsAs cmp order v tables files
-  pub named : files (codes "CURRENT") ≡ Some (current_text manifest)
-
--- After these calls from the start, the folder reads so. Nothing is said of what was synced.
+-- After these calls from the start, the folder reads as the version and its tables, by this
+-- manifest. Nothing is said of what was synced.
 abbrev pub AlwaysReadsBy : (List ℕ → List ℕ → Ordering) → Order → State → ℕ →
     List (ℕ × List ℕ) → World → List Step → Type 0
 AlwaysReadsBy cmp order v manifest tables start calls = (w : World) → Leads start calls w →

@@ -11,6 +11,19 @@
 //!    same without the test. [`bottom`] and [`next_level`] say which levels they take.
 //! 5. All tell a [`Watch`] of the work; [`Open`] is the one that does nothing.
 //!
+//! What the clauses say. They are of a folder that tells contracts what it holds, but for `device`,
+//! `refused` and the calls of `runs`.
+//!
+//! - `answer`: the lines, or the first refusal in the order of the call's own documentation.
+//! - `left`: the folder holds what it held, at most synced; or a compaction was installed. Of
+//!   [`compact_inputs`] that is if the version is lawful, and CURRENT then names the manifest of
+//!   the edited version.
+//! - `device`: Device if the device failed during the call, and only then.
+//! - `other`: Ok isn't answered if CURRENT is another one than was opened.
+//! - `runs` of [`sync_version`]: CURRENT, its manifest, both names of each table, and then the
+//!   folder are synced. `same`: it holds what it held. `stands`: at Ok it stands for the version,
+//!   if it reads as it. `refused`: Device or Memory.
+//!
 //! The laws tie a compaction to its installation. After [`sync_version`] a folder stands for the
 //! version that was opened, whatever was synced before. The law [`sync_stands`] says when a sync of
 //! the folder alone is enough.

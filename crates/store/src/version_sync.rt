@@ -10,7 +10,7 @@ ghost use Rattle.folder.specs.Levels.{file_numbers};
 ghost use Rattle.folder.specs.OpenAnswer.{IsStopped};
 ghost use Rattle.folder.specs.Orders.{order_cmp};
 ghost use Rattle.folder.specs.Reports.{ReportsDevice};
-ghost use Rattle.install.specs.Install.{AlwaysStandsAs};
+ghost use Rattle.install.specs.Install.{AlwaysStandsBy};
 ghost use Rattle.store.specs.CallRun.{IsRunOf};
 ghost use Rattle.store.specs.VersionSync.{AlwaysReadsBy, sync_calls, table_syncs};
 
@@ -42,13 +42,13 @@ pub fn sync_version<F: Folder>(alloc: Global, folder: &mut F, opened: &Opened) -
         (F.calls folder.old) (F.calls folder.new) (F.tells folder.old) (F.tells folder.new) result }
     ensures same { (files : Files) → Tells (F.tells folder.old) files →
         Tells (F.tells folder.new) files }
-    // If the folder reads as this version by this manifest, at Ok it stands for it, whatever was
-    // synced before.
+    // If the folder reads as this version by this manifest, at Ok it stands for it by that
+    // manifest, whatever was synced before.
     ensures stands { (tables : List (ℕ × List ℕ)) (start : World) →
         AlwaysReadsBy (order_cmp opened.now.order) opened.now.order opened.now.version
         opened.now.manifest tables start (F.calls folder.old) → OnOk result
-        (AlwaysStandsAs (order_cmp opened.now.order) opened.now.order opened.now.version tables
-        start (F.calls folder.new)) }
+        (AlwaysStandsBy (order_cmp opened.now.order) opened.now.order opened.now.version
+        opened.now.manifest tables start (F.calls folder.new)) }
     // Only Device and Memory are answered, Device only if the device failed.
     ensures refused { IfErr result
         (λ e. UnlessMemory e (IsStopped (F.failed folder.old) (F.failed folder.new) e)) }

@@ -2,8 +2,7 @@
 
 use crate::explanations::{Words, of_file};
 use crate::files;
-use crate::folder_work::unwritten;
-use crate::refusal::{Refusal, told};
+use crate::refusal::{Refusal, RefusalText, told};
 use coding::{Fault, FaultName};
 use pairing::blocks;
 use std::alloc::Global;
@@ -27,7 +26,10 @@ pub(crate) fn merge<R: Files + Print + AllocGlobal + Threads + Sync>(
     let (entries, block) = merged(rt, a, b, at, out)?;
     files::replace(rt, out, block.as_slice())?;
     let length = block.len();
-    println!(rt; "{entries} entries, {length} bytes").map_err(|error| unwritten(rt.alloc(), &error))
+    println!(rt; "{entries} entries, {length} bytes").map_err(|error| Refusal::of_output(
+        rt.alloc(),
+        &error,
+    ))
 }
 
 /// The block of the entries of the blocks in two files, and the number of entries.
@@ -69,10 +71,7 @@ fn too_large(alloc: Global, path: &str) -> Refusal {
         wrong: "it has more than 1073741824 bytes",
         remedy: REMEDY,
     };
-    Refusal {
-        fault: Fault::of(FaultName::TooLarge),
-        told: told(alloc, path, words),
-    }
+    Refusal::new(Fault::of(FaultName::TooLarge), told(alloc, path, words))
 }
 
 /// Whether a block is refused so by itself. A block that can't be read again, since memory is
@@ -99,22 +98,24 @@ fn refused_alone(alloc: Global, path: &str, fault: Fault) -> Refusal {
         wrong,
         remedy: REMEDY,
     };
-    Refusal {
-        fault,
-        told: told(alloc, path, words),
-    }
+    Refusal::new(fault, told(alloc, path, words))
 }
 
 /// The refusal of the blocks in two files, each of which is accepted alone.
 fn refused_together(alloc: Global, a: &str, b: &str, out: &str, fault: Fault) -> Refusal {
-    let told = match fault.name {
-        FaultName::Duplicate => format!(in alloc;
-            "{a}: it has a user key and sequence that {b} has too; give blocks that share none"
-        ).ok(),
-        FaultName::TooLarge => format!(in alloc;
-            "{out}: the block would have more than 1073741824 bytes; merge smaller ones"
-        ).ok(),
+    let text = match fault.name {
+        FaultName::Duplicate => {
+            let wrong = format!(in alloc; "it has a user key and sequence that {b} has too");
+            RefusalText::new(alloc, a, wrong, "give blocks that share none")
+        }
+        FaultName::TooLarge => {
+            let words = Words {
+                wrong: "the block would have more than 1073741824 bytes",
+                remedy: "merge smaller ones",
+            };
+            told(alloc, out, words)
+        }
         _ => None,
     };
-    Refusal { fault, told }
+    Refusal::new(fault, text)
 }

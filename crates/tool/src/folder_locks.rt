@@ -1,6 +1,7 @@
 //! The locks of a folder that a command holds until it ends.
 
-use crate::refusal::Refusal;
+use crate::explanations::Words;
+use crate::refusal::{Refusal, RefusalText, told};
 use coding::{Fault, FaultName};
 use folder::{FolderLock, SystemFiles, lock_to_change, lock_to_read};
 use std::fs;
@@ -29,22 +30,22 @@ fn unlocked<R: SystemFiles + AllocGlobal>(rt: &R, path: &str, fault: Fault) -> R
     if fault.name != FaultName::Device {
         return Refusal::from(fault);
     }
-    let text = match fs::metadata(rt, path) {
-        Err(error) => return Refusal::of_call(rt.alloc(), path, "read", &error),
-        Ok(metadata) if metadata.is_dir() => return lock_refused(rt, path, fault),
+    match fs::metadata(rt, path) {
+        Err(error) => Refusal::of_call(rt.alloc(), path, "read", &error),
+        Ok(metadata) if metadata.is_dir() => lock_refused(rt, path, fault),
         Ok(_) => {
-            format!(in rt.alloc(); "{path}: it is no folder; give the folder of a database")
+            let words = Words {
+                wrong: "it is no folder",
+                remedy: "give the folder of a database",
+            };
+            Refusal::new(fault, told(rt.alloc(), path, words))
         }
-    };
-    Refusal {
-        fault,
-        told: text.ok(),
     }
 }
 
 /// The refusal of a folder whose LOCK can't be locked, in the system's words if it can't be opened.
 fn lock_refused<R: SystemFiles + AllocGlobal>(rt: &R, path: &str, fault: Fault) -> Refusal {
-    let text = format!(in rt.alloc(); "{path}: cannot make or lock its file LOCK");
+    let text = String::from_str(rt.alloc(), "cannot make or lock its file LOCK");
     let Ok(lock) = format!(in rt.alloc(); "{path}/LOCK") else {
         return Refusal::from(fault);
     };
@@ -56,9 +57,6 @@ fn lock_refused<R: SystemFiles + AllocGlobal>(rt: &R, path: &str, fault: Fault) 
         Err(error) if error.kind() != ErrorKind::NotFound => {
             Refusal::of_call(rt.alloc(), path, "open LOCK", &error)
         }
-        _ => Refusal {
-            fault,
-            told: text.ok(),
-        },
+        _ => Refusal::new(fault, RefusalText::alone(rt.alloc(), path, text)),
     }
 }

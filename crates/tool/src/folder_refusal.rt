@@ -1,7 +1,7 @@
 //! What is told of the refusal of a command on a folder.
 
 use crate::explanations::{Words, of_file};
-use crate::refusal::{Refusal, told};
+use crate::refusal::{Refusal, RefusalText, told};
 use crate::settings_refusal::settings_told;
 use coding::{Fault, FaultName};
 use diagnostics::{Detail, RefusedFile, refused_file};
@@ -22,10 +22,8 @@ pub(crate) fn explained<R: SystemFiles + AllocGlobal>(
     if refusal.told.is_some() || is_of_no_file(refusal.fault.name) {
         return refusal;
     }
-    Refusal {
-        fault: refusal.fault,
-        told: file_found(rt, folder, refusal.fault.name),
-    }
+    let told = file_found(rt, folder, refusal.fault.name);
+    Refusal::new(refusal.fault, told)
 }
 
 /// The same of a compaction: a refusal of what was asked for is told without reading.
@@ -41,10 +39,7 @@ pub(crate) fn compaction_explained<R: SystemFiles + AllocGlobal>(
     }
     match settings_told(rt.alloc(), folder, levels, settings, refusal.fault.name) {
         None => explained(rt, folder, refusal),
-        told => Refusal {
-            fault: refusal.fault,
-            told,
-        },
+        told => Refusal::new(refusal.fault, told),
     }
 }
 
@@ -55,11 +50,9 @@ pub(crate) fn table_explained(alloc: Global, folder: &str, refusal: Refusal) -> 
         return refusal;
     }
     let wrong = of_file(refusal.fault.name).wrong;
-    let told = format!(in alloc; "{folder}: of a table, {wrong}; verify tells of which");
-    Refusal {
-        fault: refusal.fault,
-        told: told.ok(),
-    }
+    let wrong = format!(in alloc; "of a table, {wrong}");
+    let told = RefusalText::new(alloc, folder, wrong, "verify tells of which");
+    Refusal::new(refusal.fault, told)
 }
 
 /// Whether a refusal of this name is about no file that can be found.
@@ -76,7 +69,7 @@ fn file_found<R: SystemFiles + AllocGlobal>(
     rt: &R,
     folder: &str,
     name: FaultName,
-) -> Option<String> {
+) -> Option<RefusalText> {
     match refused_file(rt.alloc(), &mut Disk::new(rt, folder)) {
         Ok(Some(file)) if file.fault.name == name => file_told(rt.alloc(), folder, &file),
         _ => None,
@@ -84,7 +77,7 @@ fn file_found<R: SystemFiles + AllocGlobal>(
 }
 
 /// What is told of a refused file of a folder.
-fn file_told(alloc: Global, folder: &str, file: &RefusedFile) -> Option<String> {
+fn file_told(alloc: Global, folder: &str, file: &RefusedFile) -> Option<RefusalText> {
     let path = path_in(alloc, folder, file.name.as_str())?;
     let path = path.as_str();
     match &file.detail {
@@ -126,20 +119,23 @@ fn of_missing(name: &str) -> Words {
 }
 
 /// What is told of a file of which more is known.
-fn detail_told(alloc: Global, path: &str, name: FaultName, detail: &Detail) -> Option<String> {
+fn detail_told(alloc: Global, path: &str, name: FaultName, detail: &Detail) -> Option<RefusalText> {
     match detail {
         Detail::NotBelow(next) => not_below(alloc, path, name, *next),
-        Detail::UnknownComparator(name) => format!(in alloc;
-            "{path}: it names the comparator {name:?}, and only leveldb.BytewiseComparator and \
-                subcompaction.ShortlexComparator are known; compact it with the program that wrote \
-                it"
-        )
-        .ok(),
-        Detail::OtherComparator(name) => format!(in alloc;
-            "{path}: it names a second comparator, {name:?}: the database is damaged; restore the \
-                folder from a copy"
-        )
-        .ok(),
+        Detail::UnknownComparator(name) => {
+            let wrong = format!(in alloc;
+                "it names the comparator {name:?}, and only leveldb.BytewiseComparator and \
+                    subcompaction.ShortlexComparator are known"
+            );
+            let remedy = "compact it with the program that wrote it";
+            RefusalText::new(alloc, path, wrong, remedy)
+        }
+        Detail::OtherComparator(name) => {
+            let wrong = format!(in alloc;
+                "it names a second comparator, {name:?}: the database is damaged"
+            );
+            RefusalText::new(alloc, path, wrong, "restore the folder from a copy")
+        }
         detail => match of_detail(detail) {
             Some(words) => told(alloc, path, words),
             None => lawless_told(alloc, path, detail),
@@ -148,13 +144,14 @@ fn detail_told(alloc: Global, path: &str, name: FaultName, detail: &Detail) -> O
 }
 
 /// What is told of a file whose number is not below next file.
-fn not_below(alloc: Global, path: &str, name: FaultName, next: u64) -> Option<String> {
+fn not_below(alloc: Global, path: &str, name: FaultName, next: u64) -> Option<RefusalText> {
     let remedy = if name == FaultName::Apply {
         "open the database once with LevelDB, which mends it"
     } else {
         "restore the folder from a copy"
     };
-    format!(in alloc; "{path}: its number is not below the next file number, {next}; {remedy}").ok()
+    let wrong = format!(in alloc; "its number is not below the next file number, {next}");
+    RefusalText::new(alloc, path, wrong, remedy)
 }
 
 /// The words of what is known, if it has no value.
@@ -198,18 +195,16 @@ fn of_counter(wrong: &'static str) -> (&'static str, &'static str) {
 }
 
 /// What is told of a table that makes a version unlawful.
-fn lawless_told(alloc: Global, path: &str, detail: &Detail) -> Option<String> {
+fn lawless_told(alloc: Global, path: &str, detail: &Detail) -> Option<RefusalText> {
     match detail {
-        Detail::Size { held, stated } => format!(in alloc;
-            "{path}: it has {held} bytes, and the manifest says {stated}; restore the file from a \
-                copy"
-        )
-        .ok(),
-        Detail::Overlap { other, level } => format!(in alloc;
-            "{path}: its keys overlap those of {other} at level {level}; restore the folder from a \
-                copy"
-        )
-        .ok(),
+        Detail::Size { held, stated } => {
+            let wrong = format!(in alloc; "it has {held} bytes, and the manifest says {stated}");
+            RefusalText::new(alloc, path, wrong, "restore the file from a copy")
+        }
+        Detail::Overlap { other, level } => {
+            let wrong = format!(in alloc; "its keys overlap those of {other} at level {level}");
+            RefusalText::new(alloc, path, wrong, "restore the folder from a copy")
+        }
         Detail::Misplaced {
             user,
             here,
@@ -231,19 +226,16 @@ fn misplaced_told(
     key: &str,
     sequences: (u64, u64),
     other: &str,
-) -> Option<String> {
+) -> Option<RefusalText> {
     let (here, there) = sequences;
-    if here != there {
-        return format!(in alloc;
-            "{path}: user key {key} has sequence {here} here, and the newer {there} in {other}, \
-                which is searched later; restore the folder from a copy, or have LevelDB compact \
-                all of it"
+    let wrong = if here != there {
+        format!(in alloc;
+            "user key {key} has sequence {here} here, and the newer {there} in {other}, which is \
+                searched later"
         )
-        .ok();
-    }
-    format!(in alloc;
-        "{path}: user key {key} has sequence {here} here, and once more in {other}; restore the \
-            folder from a copy, or have LevelDB compact all of it"
-    )
-    .ok()
+    } else {
+        format!(in alloc; "user key {key} has sequence {here} here, and once more in {other}")
+    };
+    let remedy = "restore the folder from a copy, or have LevelDB compact all of it";
+    RefusalText::new(alloc, path, wrong, remedy)
 }

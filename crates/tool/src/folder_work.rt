@@ -3,77 +3,161 @@
 use crate::folder_locks::locked_to_read;
 use crate::folder_refusal::{explained, table_explained};
 use crate::progress_line::ProgressLine;
-use crate::refusal::Refusal;
+use crate::refusal::{Refusal, RefusalText};
 use crate::reporter::{Telling, tell_time};
 use crate::table_sizes::{are_within, is_too_large, sizes_tested, too_large};
 use coding::{Fault, FaultName};
-use commands::{Question, answer_opened, manifest_lines, unverified_value};
+use commands::{Question, ValueForm, answer_opened, manifest_lines, test_opened, unverified_value};
 use folder::{Disk, Opened, SystemFiles, WholeFiles, open};
-use std::alloc::Global;
+use json_lines::{lawful_json, value_json, version_json};
 use std::io;
 use std::io::Write;
 use std::thread::Threads;
 use std::time::Clock;
+use store::sync_version;
+use texts::Spelling;
+use usage::Testing;
 
 /// The bytes of a MiB.
 const MEBIBYTE: u64 = 1 << 20;
 
-/// Prints the version of a folder.
+/// What is printed of the value of a key.
+#[derive(Clone, Copy)]
+pub(crate) enum ValueOutput {
+    /// Its line, in a spelling.
+    Line(Spelling),
+    /// Its bytes.
+    Raw,
+    /// The JSON line of the key and its value, in a spelling.
+    Json(Spelling),
+}
+
+impl ValueOutput {
+    /// The form in which the value is asked for.
+    fn form(self) -> ValueForm {
+        match self {
+            ValueOutput::Line(spelling) => ValueForm::Line(spelling),
+            ValueOutput::Raw | ValueOutput::Json(_) => ValueForm::Raw,
+        }
+    }
+}
+
+/// Prints the version of a folder, as JSON if that is asked for.
 pub(crate) fn print_version<R: SystemFiles + Print + Eprint + Clock + AllocGlobal>(
     rt: &R,
     telling: Telling<'_>,
+    spelling: Spelling,
+    is_json: bool,
 ) -> Result<(), Refusal> {
     let _lock = locked_to_read(rt, telling.folder)?;
-    version_printed(rt, telling).map_err(|refusal| explained(rt, telling.folder, refusal))
+    version_printed(rt, telling, spelling, is_json).map_err(|refusal| explained(
+        rt,
+        telling.folder,
+        refusal,
+    ))
 }
 
 fn version_printed<R: SystemFiles + Print + Eprint + Clock + AllocGlobal>(
     rt: &R,
     telling: Telling<'_>,
+    spelling: Spelling,
+    is_json: bool,
 ) -> Result<(), Refusal> {
     let begun = telling.begin(rt);
     let opened = begin_work(rt, telling)?;
-    let lines = manifest_lines(rt.alloc(), opened.order, &opened.version)?;
+    let lines = if is_json {
+        version_json(rt.alloc(), spelling, opened.order, &opened.version)?
+    } else {
+        manifest_lines(rt.alloc(), spelling, opened.order, &opened.version)?
+    };
     tell_time(rt, "manifest", begun);
     print_lines(rt, lines.as_slice())
 }
 
-/// Checks the version of a folder, and prints the line of a lawful one. The test may hold this many
-/// bytes of tables.
+/// Checks the version of a folder, and prints the line of a lawful one, as JSON if that is asked
+/// for. The test may hold this many bytes of tables.
 pub(crate) fn print_verdict<
     R: SystemFiles + WholeFiles + Print + Eprint + Clock + AllocGlobal + Threads + Sync,
->(rt: &R, telling: Telling<'_>, memory: u64) -> Result<(), Refusal> {
+>(rt: &R, telling: Telling<'_>, is_json: bool, memory: u64) -> Result<(), Refusal> {
     let _lock = locked_to_read(rt, telling.folder)?;
-    answer_printed(rt, telling, "verify", Question::Lawful, memory).map_err(|refusal| explained(
+    verdict_printed(rt, telling, is_json, memory).map_err(|refusal| explained(
         rt,
         telling.folder,
         refusal,
     ))
 }
 
-/// Prints the value of a key in a folder, whose version is tested before. The test may hold this
-/// many bytes of tables.
+fn verdict_printed<
+    R: SystemFiles + WholeFiles + Print + Eprint + Clock + AllocGlobal + Threads + Sync,
+>(rt: &R, telling: Telling<'_>, is_json: bool, memory: u64) -> Result<(), Refusal> {
+    let begun = telling.begin(rt);
+    let opened = begin_work(rt, telling)?;
+    sizes_tested(rt, telling.folder, &opened)?;
+    if is_json {
+        let line = json_verdict(rt, telling, &opened, memory)?;
+        tell_time(rt, "verify", begun);
+        return print_lines(rt, line.as_bytes());
+    }
+    let answer = answered(rt, telling, &opened, Question::Lawful, memory)?;
+    tell_time(rt, "verify", begun);
+    print_answer(rt, telling.folder, answer)
+}
+
+/// The JSON line of the version of a folder, if it is lawful.
+fn json_verdict<R: SystemFiles + WholeFiles + Eprint + Clock + AllocGlobal + Threads + Sync>(
+    rt: &R,
+    telling: Telling<'_>,
+    opened: &Opened,
+    memory: u64,
+) -> Result<String, Refusal> {
+    let progress = ProgressLine::new(rt, telling.is_watched);
+    let mut folder = folder_to_test(rt, telling.folder, opened, memory);
+    let tested = test_opened(
+        rt,
+        rt.alloc(),
+        &mut folder,
+        opened.order,
+        &opened.version,
+        memory,
+        &progress,
+    );
+    progress.erase();
+    let tested = tested.map_err(|fault| refused_at(rt, telling.folder, &folder, fault))?;
+    Ok(lawful_json(rt.alloc(), tested.files, tested.entries)?)
+}
+
+/// Prints the value of a key in a folder. The version is tested before, if that is asked for.
 pub(crate) fn print_value<
     R: SystemFiles + WholeFiles + Print + Eprint + Clock + AllocGlobal + Threads + Sync,
->(rt: &R, telling: Telling<'_>, key: &[u8], at: Option<u64>, memory: u64) -> Result<(), Refusal> {
-    let _lock = locked_to_read(rt, telling.folder)?;
-    let question = Question::Value { key, at };
-    answer_printed(rt, telling, "get", question, memory).map_err(|refusal| explained(
-        rt,
-        telling.folder,
-        refusal,
-    ))
-}
-
-/// Prints the value of a key in a folder, whose version was verified before. If a table is refused,
-/// the folder isn't read again to tell of which one.
-pub(crate) fn print_unverified_value<R: SystemFiles + Print + Eprint + Clock + AllocGlobal>(
+>(
     rt: &R,
     telling: Telling<'_>,
     key: &[u8],
     at: Option<u64>,
+    output: ValueOutput,
+    testing: &Testing,
 ) -> Result<(), Refusal> {
     let _lock = locked_to_read(rt, telling.folder)?;
+    if testing.is_skipped {
+        return print_unverified_value(rt, telling, key, at, output);
+    }
+    let memory = bytes_of(testing.memory);
+    value_printed(rt, telling, key, at, output, memory).map_err(|refusal| explained(
+        rt,
+        telling.folder,
+        refusal,
+    ))
+}
+
+/// Prints the value of a key in a folder. The version was verified before. If a table is refused,
+/// the folder isn't read again to tell of which one.
+fn print_unverified_value<R: SystemFiles + Print + Eprint + Clock + AllocGlobal>(
+    rt: &R,
+    telling: Telling<'_>,
+    key: &[u8],
+    at: Option<u64>,
+    output: ValueOutput,
+) -> Result<(), Refusal> {
     let begun = telling.begin(rt);
     let opened = begin_work(rt, telling).map_err(|refusal| explained(rt, telling.folder, refusal))?;
     let mut folder = Disk::new(rt, telling.folder);
@@ -84,32 +168,68 @@ pub(crate) fn print_unverified_value<R: SystemFiles + Print + Eprint + Clock + A
         &opened.version,
         key,
         at,
+        output.form(),
     );
-    let lines = answer.map_err(|fault| table_explained(
+    let answer = answer.map_err(|fault| table_explained(
         rt.alloc(),
         telling.folder,
         refused_at(rt, telling.folder, &folder, fault),
     ))?;
     tell_time(rt, "get --no-verify", begun);
-    print_lines(rt, lines.as_slice())
+    print_value_answer(rt, telling.folder, key, output, answer)
 }
 
-/// Prints what the version of a folder answers to a question. The command is told as this `step`.
-fn answer_printed<
+fn value_printed<
     R: SystemFiles + WholeFiles + Print + Eprint + Clock + AllocGlobal + Threads + Sync,
 >(
     rt: &R,
     telling: Telling<'_>,
-    step: &str,
-    question: Question<'_>,
+    key: &[u8],
+    at: Option<u64>,
+    output: ValueOutput,
     memory: u64,
 ) -> Result<(), Refusal> {
     let begun = telling.begin(rt);
     let opened = begin_work(rt, telling)?;
     sizes_tested(rt, telling.folder, &opened)?;
-    let lines = answered(rt, telling, &opened, question, memory)?;
-    tell_time(rt, step, begun);
-    print_lines(rt, lines.as_slice())
+    let form = output.form();
+    let question = Question::Value { key, at, form };
+    let answer = answered(rt, telling, &opened, question, memory)?;
+    tell_time(rt, "get", begun);
+    print_value_answer(rt, telling.folder, key, output, answer)
+}
+
+/// Writes the answer of a key's value to the standard output, as the JSON line of both if that is
+/// asked for.
+fn print_value_answer<R: Print + Eprint + AllocGlobal>(
+    rt: &R,
+    folder: &str,
+    key: &[u8],
+    output: ValueOutput,
+    answer: Option<Vec<u8>>,
+) -> Result<(), Refusal> {
+    match output {
+        ValueOutput::Json(spelling) => {
+            let line = value_json(rt.alloc(), spelling, key, answer.as_deref())?;
+            print_lines(rt, line.as_bytes())
+        }
+        _ => print_answer(rt, folder, answer),
+    }
+}
+
+/// Writes an answer to the standard output. If there is none, it is told that the key has no value.
+fn print_answer<R: Print + Eprint + AllocGlobal>(
+    rt: &R,
+    folder: &str,
+    answer: Option<Vec<u8>>,
+) -> Result<(), Refusal> {
+    match answer {
+        Some(bytes) => print_lines(rt, &bytes),
+        None => {
+            let _ = eprintln!(rt; "sedvokt: {folder}: the key has no value");
+            Ok(())
+        }
+    }
 }
 
 /// Opens a folder, and tells of its logs.
@@ -136,7 +256,7 @@ fn answered<R: SystemFiles + WholeFiles + Eprint + Clock + AllocGlobal + Threads
     opened: &Opened,
     question: Question<'_>,
     memory: u64,
-) -> Result<Vec<u8>, Refusal> {
+) -> Result<Option<Vec<u8>>, Refusal> {
     let progress = ProgressLine::new(rt, telling.is_watched);
     let mut folder = folder_to_test(rt, telling.folder, opened, memory);
     let answer = answer_opened(
@@ -163,6 +283,18 @@ pub(crate) fn open_folder<R: SystemFiles + AllocGlobal>(
     opened.map_err(|fault| refused_at(rt, path, &folder, fault))
 }
 
+/// Syncs what a folder was opened as, so that it outlives a crash.
+pub(crate) fn sync<R: SystemFiles + WholeFiles + AllocGlobal + Threads>(
+    rt: &R,
+    path: &str,
+    opened: &Opened,
+) -> Result<(), Refusal> {
+    let mut folder = Disk::new(rt, path);
+    folder.sync_ahead(opened.order, &opened.version, opened.manifest);
+    let synced = sync_version(rt.alloc(), &mut folder, opened);
+    synced.map_err(|fault| refused_at(rt, path, &folder, fault))
+}
+
 /// The refusal of work on the folder at a path. If the device failed, the call that failed is told.
 /// TooLarge if that was to read a file that has more than 2^30 bytes.
 pub(crate) fn refused_at<R: SystemFiles + AllocGlobal>(
@@ -180,10 +312,8 @@ pub(crate) fn refused_at<R: SystemFiles + AllocGlobal>(
     if is_too_large(failure) {
         return too_large(rt.alloc(), path, failure.name.as_str());
     }
-    Refusal {
-        fault,
-        told: format!(in rt.alloc(); "{path}: {failure}").ok(),
-    }
+    let told = RefusalText::alone(rt.alloc(), path, format!(in rt.alloc(); "{failure}"));
+    Refusal::new(fault, told)
 }
 
 /// The folder at a path, for a test of what it was opened as. If the tables have at most `memory`
@@ -206,12 +336,7 @@ pub(crate) fn folder_to_test<'r, R: SystemFiles + WholeFiles + AllocGlobal + Thr
 pub(crate) fn print_lines<R: Print + AllocGlobal>(rt: &R, lines: &[u8]) -> Result<(), Refusal> {
     io::writer(rt)
         .write_all(lines)
-        .map_err(|error| unwritten(rt.alloc(), &error))
-}
-
-/// The refusal that the standard output can't be written.
-pub(crate) fn unwritten(alloc: Global, error: &io::Error) -> Refusal {
-    Refusal::of_call(alloc, "standard output", "write", error)
+        .map_err(|error| Refusal::of_output(rt.alloc(), &error))
 }
 
 /// How many bytes these MiB are.

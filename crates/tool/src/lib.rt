@@ -7,6 +7,7 @@
 #![tactic(auto)]
 
 mod block_files;
+mod cleaning;
 mod compaction_work;
 mod explanations;
 mod files;
@@ -18,14 +19,17 @@ mod program;
 mod progress_line;
 mod refusal;
 mod reporter;
+mod row_printer;
 mod settings_refusal;
+mod step_printer;
 mod table_sizes;
+mod work_left;
 
-pub use commands::{dump, get_dir, manifest, progress_text, status, verify};
+pub use commands::{Spelling, ValueForm, dump, get_dir, manifest, progress_text, status, verify};
 pub use folder::{Disk, Folder, FolderFault, Order, load, open};
 pub use pairing::blocks;
 pub use program::run;
 pub use settings::Settings;
 pub use store::{bottom, next_level};
 pub use texts::{key_of, text_of};
-pub use usage::{Levels, Line, Usage, Verbosity, line};
+pub use usage::{Levels, Line, RowChoice, Usage, Verbosity, line};

@@ -1,24 +1,27 @@
 //! The program, from its words to its status.
 
 use crate::block_files::merge;
-use crate::compaction_work::compact_folder;
+use crate::cleaning::{clean_folder, print_removable};
+use crate::compaction_work::{CompactionTask, compact_folder};
 use crate::explanations::in_words;
 use crate::files;
 use crate::folder_work::{
-    bytes_of, print_lines, print_unverified_value, print_value, print_verdict, print_version,
-    unwritten,
+    ValueOutput, bytes_of, print_lines, print_value, print_verdict, print_version,
 };
-use crate::refusal::Refusal;
+use crate::refusal::{Refusal, RefusalParts};
 use crate::reporter::Telling;
+use crate::row_printer::{RowForm, print_rows};
 use coding::{Fault, FaultName};
 use commands::{dump, status};
 use folder::{SystemFiles, WholeFiles};
+use json_lines::{Told, refusal_json};
 use std::env::Env;
 use std::io::ErrorKind;
 use std::rt::Files;
 use std::thread::Threads;
 use std::time::Clock;
 use std::{env, io};
+use texts::Spelling;
 use usage::{Line, Usage, line};
 
 /// The status of work that was done, and of help or a version that was asked for.
@@ -26,6 +29,9 @@ const DONE: u8 = 0;
 
 /// The status of a fault of usage.
 const USAGE: u8 = 2;
+
+/// What is told of a key that has to be hexadecimal digits, and isn't.
+const NO_DIGITS: &str = "usage: key is not hexadecimal";
 
 /// What is told to be refused if no command is known.
 const COMMAND_LINE: &str = "the command line";
@@ -35,7 +41,8 @@ const COMMAND_LINE: &str = "the command line";
 ///
 /// - Results go to the standard output, and so do help and a version that were asked for. All else
 ///   goes to the standard error.
-/// - A refusal is told in two lines: its name; then the path, what is wrong and what to do.
+/// - A refusal is told in two lines: its name; then the path, what is wrong and what to do. With
+///   `--json` the second one is a JSON object.
 /// - If nothing can be written to the standard error, the status is the same.
 /// - The work on a folder is told on the standard error as `-v` asks. If `is_watched`, as a
 ///   terminal is, long work shows a line of progress there.
@@ -49,14 +56,17 @@ pub fn run<
         }
         Err(error) => {
             let refusal = Refusal::of_call(rt.alloc(), COMMAND_LINE, "read", &error);
-            return report_refusal(rt, COMMAND_LINE, &refusal);
+            return report_refusal(rt, COMMAND_LINE, false, &refusal);
         }
     };
     let mut listed = Vec::new(rt.alloc());
     match line(rt.alloc(), words.as_slice(), &mut listed) {
         Ok(line) => match carry_out(rt, &line, is_watched) {
             Ok(()) => DONE,
-            Err(refusal) => report_refusal(rt, subject(&line), &refusal),
+            Err(refusal) => {
+                let is_json = is_json(&line);
+                report_refusal(rt, subject(&line), is_json, &refusal)
+            }
         },
         Err(usage) => report_usage(rt, usage),
     }
@@ -76,41 +86,105 @@ fn carry_out<R: SystemFiles + WholeFiles + Print + Eprint + Clock + AllocGlobal 
 ) -> Result<(), Refusal> {
     match line {
         Line::Blocks { a, b, at, out } => merge(rt, a, b, at.as_slice(), out),
-        Line::Dump { table } => print_table(rt, table),
-        Line::Manifest { folder, verbose } => {
-            print_version(rt, telling(folder, *verbose, is_watched))
+        Line::Dump { table, spelling } => print_table(rt, table, *spelling),
+        Line::Manifest {
+            folder,
+            spelling,
+            is_json,
+            verbose,
+        } => {
+            let telling = telling(folder, *verbose, is_watched);
+            print_version(rt, telling, *spelling, *is_json)
         }
         Line::Verify {
             folder,
+            is_json,
             memory,
             verbose,
-        } => print_verdict(rt, telling(folder, *verbose, is_watched), bytes_of(*memory)),
+        } => {
+            let telling = telling(folder, *verbose, is_watched);
+            print_verdict(rt, telling, *is_json, bytes_of(*memory))
+        }
+        Line::Get {
+            folder,
+            key,
+            at,
+            spelling,
+            is_raw,
+            is_json,
+            testing,
+            verbose,
+        } => {
+            let telling = telling(folder, *verbose, is_watched);
+            let output = output_of(*is_raw, *is_json, *spelling);
+            print_value(rt, telling, key.as_slice(), *at, output, testing)
+        }
+        Line::Scan {
+            folder,
+            rows,
+            spelling,
+            is_json,
+            testing,
+            verbose,
+        } => {
+            let telling = telling(folder, *verbose, is_watched);
+            let form = RowForm {
+                spelling: *spelling,
+                is_json: *is_json,
+            };
+            print_rows(rt, telling, rows, form, testing)
+        }
         Line::Compact {
             folder,
             levels,
             settings,
             testing,
             verbosity,
+            cleans,
         } => {
-            let telling = telling(folder, verbosity.verbose, is_watched).explaining(
-                verbosity.explain,
-            );
-            compact_folder(rt, telling, *levels, settings, testing)
+            let telling = telling(folder, verbosity.verbose, is_watched);
+            let task = CompactionTask {
+                levels: *levels,
+                settings,
+                testing,
+                cleans: *cleans,
+            };
+            compact_folder(rt, telling.explaining(verbosity.explain), task)
         }
-        Line::Get {
+        Line::Clean {
             folder,
-            key,
-            at,
-            testing,
+            is_dry_run,
             verbose,
         } => {
             let telling = telling(folder, *verbose, is_watched);
-            if testing.is_skipped {
-                print_unverified_value(rt, telling, key.as_slice(), *at)
+            if *is_dry_run {
+                print_removable(rt, telling)
             } else {
-                print_value(rt, telling, key.as_slice(), *at, bytes_of(testing.memory))
+                clean_folder(rt, telling)
             }
         }
+    }
+}
+
+/// What is printed of a value.
+fn output_of(is_raw: bool, is_json: bool, spelling: Spelling) -> ValueOutput {
+    if is_raw {
+        ValueOutput::Raw
+    } else if is_json {
+        ValueOutput::Json(spelling)
+    } else {
+        ValueOutput::Line(spelling)
+    }
+}
+
+/// Whether answers and refusals are JSON.
+fn is_json(line: &Line<'_>) -> bool {
+    match line {
+        Line::Manifest { is_json, .. }
+        | Line::Verify { is_json, .. }
+        | Line::Get { is_json, .. }
+        | Line::Scan { is_json, .. } => *is_json,
+        _ => false,
     }
 }
 
@@ -118,18 +192,24 @@ fn carry_out<R: SystemFiles + WholeFiles + Print + Eprint + Clock + AllocGlobal 
 fn subject<'a>(line: &Line<'a>) -> &'a str {
     match line {
         Line::Blocks { a, .. } => a,
-        Line::Dump { table } => table,
+        Line::Dump { table, .. } => table,
         Line::Manifest { folder, .. }
         | Line::Verify { folder, .. }
         | Line::Get { folder, .. }
-        | Line::Compact { folder, .. } => folder,
+        | Line::Scan { folder, .. }
+        | Line::Compact { folder, .. }
+        | Line::Clean { folder, .. } => folder,
     }
 }
 
 /// Prints the entries of the table in a file.
-fn print_table<R: Files + Print + AllocGlobal>(rt: &R, table: &str) -> Result<(), Refusal> {
+fn print_table<R: Files + Print + AllocGlobal>(
+    rt: &R,
+    table: &str,
+    spelling: Spelling,
+) -> Result<(), Refusal> {
     let bytes = files::read(rt, table)?;
-    let lines = dump(rt.alloc(), bytes.as_slice()).map_err(|fault| Refusal::of_file(
+    let lines = dump(rt.alloc(), spelling, bytes.as_slice()).map_err(|fault| Refusal::of_file(
         rt.alloc(),
         table,
         fault,
@@ -148,20 +228,67 @@ fn telling(folder: &str, verbose: bool, is_watched: bool) -> Telling<'_> {
 }
 
 /// Tells a refusal of work on `path`, and answers its status.
-fn report_refusal<R: Eprint>(rt: &R, path: &str, refusal: &Refusal) -> u8 {
-    let fault = &refusal.fault;
-    let _ = eprintln!(rt; "refused: {fault}");
-    match &refusal.told {
-        Some(told) => {
-            let _ = eprintln!(rt; "sedvokt: {told}");
-        }
-        None => {
-            let words = in_words(fault.name);
-            let (wrong, remedy) = (words.wrong, words.remedy);
-            let _ = eprintln!(rt; "sedvokt: {path}: {wrong}; {remedy}");
+fn report_refusal<'a, R: Eprint + AllocGlobal>(
+    rt: &R,
+    path: &'a str,
+    is_json: bool,
+    refusal: &'a Refusal,
+) -> u8 {
+    if !refusal.is_silent {
+        let fault = &refusal.fault;
+        let _ = eprintln!(rt; "refused: {fault}");
+        let parts = parts_of(path, refusal);
+        if is_json {
+            tell_json(rt, fault, parts);
+        } else {
+            tell_text(rt, parts);
         }
     }
-    status(fault)
+    status(&refusal.fault)
+}
+
+/// What is told of a refusal of work on `path`.
+fn parts_of<'a>(path: &'a str, refusal: &'a Refusal) -> RefusalParts<'a> {
+    match &refusal.told {
+        Some(text) => text.parts(),
+        None => {
+            let words = in_words(refusal.fault.name);
+            RefusalParts {
+                path,
+                wrong: words.wrong,
+                remedy: Some(words.remedy),
+            }
+        }
+    }
+}
+
+/// Tells them as a JSON object. If there is no memory for that, nothing is told.
+fn tell_json<R: Eprint + AllocGlobal>(rt: &R, fault: &Fault, parts: RefusalParts<'_>) {
+    let told = Told {
+        path: Some(parts.path),
+        wrong: Some(parts.wrong),
+        remedy: parts.remedy,
+    };
+    let alloc = rt.alloc();
+    let Ok(name) = format!(in alloc; "{fault}") else {
+        return;
+    };
+    if let Ok(line) = refusal_json(alloc, name.as_str(), told) {
+        let _ = rt.eprint(line.as_str());
+    }
+}
+
+/// Tells them as text.
+fn tell_text<R: Eprint>(rt: &R, parts: RefusalParts<'_>) {
+    let (path, wrong) = (parts.path, parts.wrong);
+    match parts.remedy {
+        Some(remedy) => {
+            let _ = eprintln!(rt; "sedvokt: {path}: {wrong}; {remedy}");
+        }
+        None => {
+            let _ = eprintln!(rt; "sedvokt: {path}: {wrong}");
+        }
+    }
 }
 
 /// Tells a fault of usage, and answers its status.
@@ -173,11 +300,17 @@ fn report_misuse<R: Eprint>(rt: &R, text: &str) -> u8 {
 /// Tells why a command line asks for nothing, and answers the status.
 fn report_usage<R: Print + Eprint + AllocGlobal>(rt: &R, usage: Usage) -> u8 {
     match usage {
-        Usage::Key => report_misuse(rt, "usage: key is not hexadecimal"),
+        Usage::Key => report_misuse(rt, NO_DIGITS),
+        Usage::Hexadecimal => {
+            let status = report_misuse(rt, NO_DIGITS);
+            let _ = rt.eprintln("sedvokt: with --text a key is given as text");
+            status
+        }
+        Usage::Text => report_misuse(rt, "usage: key is not text"),
         Usage::Snapshots => report_misuse(rt, "usage: snapshots are not numbers"),
         Usage::Memory => {
             let refusal = Refusal::from(Fault::of(FaultName::Memory));
-            report_refusal(rt, COMMAND_LINE, &refusal)
+            report_refusal(rt, COMMAND_LINE, false, &refusal)
         }
         Usage::Clap(error) if error.use_stderr() => {
             let _ = rt.eprint(&error);
@@ -185,7 +318,10 @@ fn report_usage<R: Print + Eprint + AllocGlobal>(rt: &R, usage: Usage) -> u8 {
         }
         Usage::Clap(error) => match rt.print(&error) {
             Ok(()) => DONE,
-            Err(error) => report_refusal(rt, COMMAND_LINE, &unwritten(rt.alloc(), &error)),
+            Err(error) => {
+                let refusal = Refusal::of_output(rt.alloc(), &error);
+                report_refusal(rt, COMMAND_LINE, false, &refusal)
+            }
         },
     }
 }

@@ -1,6 +1,8 @@
 //! A line of progress on the standard error.
 
+use crate::work_left::WorkLeft;
 use board::Gate;
+use coding::Fault;
 use commands::progress_text;
 use std::sync::atomic::{AtomicBool, AtomicU64, Ordering};
 use std::time::{Clock, Instant};
@@ -11,6 +13,9 @@ const PATIENCE: u64 = 200;
 
 /// The milliseconds that pass before the line is written again.
 const PAUSE: u64 = 100;
+
+/// The bytes of a MB.
+const MEGABYTE: u64 = 1_000_000;
 
 /// A line that tells how far long work is. It is rewritten in place, and erased when the work ends.
 /// If it can't be written, nothing else changes.
@@ -27,8 +32,16 @@ pub(crate) struct ProgressLine<'r, R> {
     done: AtomicU64,
     /// The milliseconds after which the line is due.
     due: AtomicU64,
-    /// Whether it was ever written.
+    /// Whether it is written, and was not erased since.
     is_written: AtomicBool,
+    /// Which step of a compaction of all levels this is, from 1 on. 0 of other work.
+    step: AtomicU64,
+    /// About how many steps there are.
+    steps: AtomicU64,
+    /// The level that the step compacts.
+    level: AtomicU64,
+    /// How many bytes are above the bottom before the step.
+    left: AtomicU64,
 }
 
 impl<'r, R: Eprint + Clock + AllocGlobal> ProgressLine<'r, R> {
@@ -46,12 +59,25 @@ impl<'r, R: Eprint + Clock + AllocGlobal> ProgressLine<'r, R> {
             done: AtomicU64::new(0),
             due: AtomicU64::new(PATIENCE),
             is_written: AtomicBool::new(false),
+            step: AtomicU64::new(0),
+            steps: AtomicU64::new(0),
+            level: AtomicU64::new(0),
+            left: AtomicU64::new(0),
         }
     }
 
-    /// Erases the line.
+    /// A step of a compaction of all levels begins, after `done` others.
+    pub fn begin_step(&self, done: u64, left: WorkLeft) {
+        let steps = done.saturating_add(left.steps);
+        self.step.store(done.saturating_add(1), Ordering::SeqCst);
+        self.steps.store(steps, Ordering::SeqCst);
+        self.level.store(left.level, Ordering::SeqCst);
+        self.left.store(left.bytes, Ordering::SeqCst);
+    }
+
+    /// Erases the line, if it is written.
     pub fn erase(&self) {
-        if self.is_written.load(Ordering::SeqCst) {
+        if self.is_written.swap(false, Ordering::SeqCst) {
             let _ = self.rt.eprint("\r\x1b[K");
         }
     }
@@ -77,21 +103,35 @@ impl<'r, R: Eprint + Clock + AllocGlobal> ProgressLine<'r, R> {
 
     /// Writes the line over the one before.
     fn write(&self) {
-        let alloc = self.rt.alloc();
-        let work = if self.is_compacting.load(Ordering::SeqCst) {
-            Work::Compact
-        } else {
-            Work::Check
-        };
-        let jobs = self.jobs.load(Ordering::SeqCst);
-        let done = self.done.load(Ordering::SeqCst);
-        let Ok(text) = progress_text(alloc, work, jobs, done) else {
+        let Ok(text) = self.text() else {
             return;
         };
         self.is_written.store(true, Ordering::SeqCst);
-        if let Ok(line) = format!(in alloc; "\r{text}\x1b[K") {
+        if let Ok(line) = format!(in self.rt.alloc(); "\r{text}\x1b[K") {
             let _ = self.rt.eprint(line.as_str());
         }
+    }
+
+    /// What the line says: which step this is, if there are several, and how far it is.
+    fn text(&self) -> Result<String, Fault> {
+        let alloc = self.rt.alloc();
+        let jobs = self.jobs.load(Ordering::SeqCst);
+        let done = self.done.load(Ordering::SeqCst);
+        if !self.is_compacting.load(Ordering::SeqCst) {
+            return progress_text(alloc, Work::Check, jobs, done);
+        }
+        let text = progress_text(alloc, Work::Compact, jobs, done)?;
+        let step = self.step.load(Ordering::SeqCst);
+        if step == 0 {
+            return Ok(text);
+        }
+        let steps = self.steps.load(Ordering::SeqCst);
+        let level = self.level.load(Ordering::SeqCst);
+        let next = level.saturating_add(1);
+        let left = self.left.load(Ordering::SeqCst).div_ceil(MEGABYTE);
+        Ok(format!(in alloc;
+            "step {step} of about {steps}, level {level} to {next}, {left} MB left; {text}"
+        )?)
     }
 }
 

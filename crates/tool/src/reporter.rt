@@ -80,19 +80,32 @@ impl<'a> Telling<'a> {
         }
     }
 
-    /// Tells of the files that compactions from this version on may replace, a line each. Nothing
-    /// is told if the folder can't be listed: that is told with its logs.
-    pub fn tell_replaceable<R: Files + Eprint + AllocGlobal>(self, rt: &R, version: &Version) {
+    /// Tells of the files that compactions from this version on may replace, a line each, but for
+    /// those that are removed now. Nothing is told if the folder can't be listed: that is told with
+    /// its logs.
+    pub fn tell_replaceable<R: Files + Eprint + AllocGlobal>(
+        self,
+        rt: &R,
+        version: &Version,
+        removed: &[String],
+    ) {
         let Ok(names) = replaceable_files(rt, self.folder, version) else {
             return;
         };
         for name in &names {
-            if let Some(path) = path_in(rt.alloc(), self.folder, name.as_str()) {
-                let _ = eprintln!(rt;
-                    "sedvokt: {path}: the manifest says that its number is free; a new file may \
-                        replace it"
-                );
+            if !removed.contains(name) {
+                self.tell_replaceable_file(rt, name.as_str());
             }
+        }
+    }
+
+    /// Tells of a file that a compaction may replace.
+    fn tell_replaceable_file<R: Eprint + AllocGlobal>(self, rt: &R, name: &str) {
+        if let Some(path) = path_in(rt.alloc(), self.folder, name) {
+            let _ = eprintln!(rt;
+                "sedvokt: {path}: the manifest says that its number is free; a new file may \
+                    replace it"
+            );
         }
     }
 }

@@ -1,5 +1,6 @@
 //! What is told if a compaction is refused for what was asked for.
 
+use crate::refusal::RefusalText;
 use coding::FaultName;
 use ikey::MAX_SEQUENCE;
 use keep::Snapshots;
@@ -10,6 +11,9 @@ use usage::Levels;
 /// The most snapshots in a list.
 const MAX_LISTED: usize = 4_096;
 
+/// What to do about a list of more.
+const LIST_FEWER: &str = "give at most 4096";
+
 /// What is told if the compaction of the folder at a path is refused by this name. None if it isn't
 /// refused for what was asked for.
 pub(crate) fn settings_told(
@@ -18,7 +22,7 @@ pub(crate) fn settings_told(
     levels: Levels,
     settings: &Settings<'_>,
     name: FaultName,
-) -> Option<String> {
+) -> Option<RefusalText> {
     match name {
         FaultName::Level | FaultName::NoInput => level_told(alloc, folder, levels, name),
         FaultName::Workers => outside(alloc, folder, "--workers", settings.workers, 64),
@@ -31,34 +35,40 @@ pub(crate) fn settings_told(
 }
 
 /// What is told of a level that can't be compacted.
-fn level_told(alloc: Global, folder: &str, levels: Levels, name: FaultName) -> Option<String> {
+fn level_told(alloc: Global, folder: &str, levels: Levels, name: FaultName) -> Option<RefusalText> {
     let Levels::One(level) = levels else {
         return None;
     };
     if name == FaultName::Level {
-        return format!(in alloc;
-            "{folder}: level {level} cannot be compacted; give a level from 0 to 5"
-        ).ok();
+        let wrong = format!(in alloc; "level {level} cannot be compacted");
+        return RefusalText::new(alloc, folder, wrong, "give a level from 0 to 5");
     }
-    format!(in alloc;
-        "{folder}: there is nothing to compact at level {level}: it has no file; manifest shows \
-            which levels have files"
+    let wrong = format!(in alloc; "there is nothing to compact at level {level}: it has no file");
+    RefusalText::new(
+        alloc,
+        folder,
+        wrong,
+        "manifest shows which levels have files",
     )
-    .ok()
 }
 
 /// What is told of an option that is outside its limits, 1 and `most`. None if it is within.
-fn outside(alloc: Global, folder: &str, option: &str, value: u64, most: u64) -> Option<String> {
+fn outside(
+    alloc: Global,
+    folder: &str,
+    option: &str,
+    value: u64,
+    most: u64,
+) -> Option<RefusalText> {
     if (1..=most).contains(&value) {
         return None;
     }
-    format!(in alloc;
-        "{folder}: {option} {value} is outside 1 to {most}; give a number within these limits"
-    ).ok()
+    let wrong = format!(in alloc; "{option} {value} is outside 1 to {most}");
+    RefusalText::new(alloc, folder, wrong, "give a number within these limits")
 }
 
 /// What is told of the option of the outputs that is outside its limits. None if none is.
-fn options_told(alloc: Global, folder: &str, settings: &Settings<'_>) -> Option<String> {
+fn options_told(alloc: Global, folder: &str, settings: &Settings<'_>) -> Option<RefusalText> {
     let options = &settings.options;
     let block_size = outside(alloc, folder, "--block-size", options.block_size, 4_194_304);
     if block_size.is_some() {
@@ -74,7 +84,7 @@ fn options_told(alloc: Global, folder: &str, settings: &Settings<'_>) -> Option<
 }
 
 /// What is told of a snapshot that is 2^56 - 1 or more. None if there is none.
-fn snapshot_told(alloc: Global, folder: &str, snapshots: Snapshots<'_>) -> Option<String> {
+fn snapshot_told(alloc: Global, folder: &str, snapshots: Snapshots<'_>) -> Option<RefusalText> {
     match snapshots {
         Snapshots::From(sequence) => beyond(alloc, folder, "--snapshot", sequence),
         Snapshots::Listed(list) => {
@@ -95,40 +105,34 @@ fn first_beyond(list: &[u64]) -> Option<u64> {
 }
 
 /// What is told of a sequence that is 2^56 - 1 or more. None of any other.
-fn beyond(alloc: Global, folder: &str, option: &str, sequence: u64) -> Option<String> {
+fn beyond(alloc: Global, folder: &str, option: &str, sequence: u64) -> Option<RefusalText> {
     if sequence < MAX_SEQUENCE {
         return None;
     }
-    format!(in alloc;
-        "{folder}: {option} has {sequence}, and snapshots are below {MAX_SEQUENCE}; give an \
-            earlier sequence"
-    )
-    .ok()
+    let wrong = format!(in alloc;
+        "{option} has {sequence}, and snapshots are below {MAX_SEQUENCE}"
+    );
+    RefusalText::new(alloc, folder, wrong, "give an earlier sequence")
 }
 
 /// What is told of a list of snapshots that is too long, doesn't rise, or has one above the last
 /// sequence: then the greatest.
-fn list_told(alloc: Global, folder: &str, snapshots: Snapshots<'_>) -> Option<String> {
+fn list_told(alloc: Global, folder: &str, snapshots: Snapshots<'_>) -> Option<RefusalText> {
     let Snapshots::Listed(list) = snapshots else {
         return None;
     };
     let count = list.len();
     if count > MAX_LISTED {
-        return format!(in alloc;
-            "{folder}: --snapshots has {count} sequences; give at most {MAX_LISTED}"
-        ).ok();
+        let wrong = format!(in alloc; "--snapshots has {count} sequences");
+        return RefusalText::new(alloc, folder, wrong, LIST_FEWER);
     }
     if let Some((before, after)) = first_fall(list) {
-        return format!(in alloc;
-            "{folder}: --snapshots does not rise: {after} comes after {before}; give rising \
-                sequences"
-        )
-        .ok();
+        let wrong = format!(in alloc; "--snapshots does not rise: {after} comes after {before}");
+        return RefusalText::new(alloc, folder, wrong, "give rising sequences");
     }
     let greatest = list.last()?;
-    format!(in alloc;
-        "{folder}: --snapshots has {greatest}, which is above the last sequence; leave it out"
-    ).ok()
+    let wrong = format!(in alloc; "--snapshots has {greatest}, which is above the last sequence");
+    RefusalText::new(alloc, folder, wrong, "leave it out")
 }
 
 /// The first two neighbours of a list that don't rise.

@@ -3,7 +3,7 @@
 
 use crate::explanations::{Words, of_file};
 use crate::folder_refusal::path_in;
-use crate::refusal::{Refusal, told};
+use crate::refusal::{Refusal, RefusalText, told};
 use coding::{Fault, FaultName};
 use edit::FileMeta;
 use folder::{CURRENT, Disk, Failure, FolderCall, Opened, SystemFiles, old_table_name, table_name};
@@ -29,7 +29,7 @@ pub(crate) fn sizes_tested<R: SystemFiles + AllocGlobal>(
         } else {
             None
         };
-        Refusal { fault, told }
+        Refusal::new(fault, told)
     })
 }
 
@@ -46,7 +46,7 @@ pub(crate) fn are_within<R: AllocGlobal>(rt: &R, opened: &Opened, memory: u64) -
 }
 
 /// How many bytes the tables of these files have together, 2^64 - 1 if they have more.
-fn bytes_of(files: &[&FileMeta]) -> u64 {
+pub(crate) fn bytes_of(files: &[&FileMeta]) -> u64 {
     let mut bytes = 0u64;
     for file in files {
         bytes = bytes.saturating_add(file.size);
@@ -55,7 +55,11 @@ fn bytes_of(files: &[&FileMeta]) -> u64 {
 }
 
 /// What is told of the first table that is too large. None if there is none.
-fn large_told<R: SystemFiles + AllocGlobal>(rt: &R, path: &str, opened: &Opened) -> Option<String> {
+fn large_told<R: SystemFiles + AllocGlobal>(
+    rt: &R,
+    path: &str,
+    opened: &Opened,
+) -> Option<RefusalText> {
     for level in 0..7 {
         let files = opened.version.files::<Bytewise>(rt.alloc(), level).ok()?;
         let told = large_among(rt, path, &files);
@@ -71,7 +75,7 @@ fn large_among<R: SystemFiles + AllocGlobal>(
     rt: &R,
     path: &str,
     files: &[&FileMeta],
-) -> Option<String> {
+) -> Option<RefusalText> {
     for file in files {
         let told = large_of(rt, path, file.number);
         if told.is_some() {
@@ -82,7 +86,7 @@ fn large_among<R: SystemFiles + AllocGlobal>(
 }
 
 /// What is told of the table of a number, if it is too large.
-fn large_of<R: SystemFiles + AllocGlobal>(rt: &R, path: &str, number: u64) -> Option<String> {
+fn large_of<R: SystemFiles + AllocGlobal>(rt: &R, path: &str, number: u64) -> Option<RefusalText> {
     let name = table_name(rt.alloc(), number).ok()?;
     let older = old_table_name(rt.alloc(), number).ok()?;
     let told = told_if_large(rt, path, name.as_str());
@@ -93,7 +97,11 @@ fn large_of<R: SystemFiles + AllocGlobal>(rt: &R, path: &str, number: u64) -> Op
 }
 
 /// What is told of the file of this name, if it is too large.
-fn told_if_large<R: SystemFiles + AllocGlobal>(rt: &R, folder: &str, name: &str) -> Option<String> {
+fn told_if_large<R: SystemFiles + AllocGlobal>(
+    rt: &R,
+    folder: &str,
+    name: &str,
+) -> Option<RefusalText> {
     let path = path_in(rt.alloc(), folder, name)?;
     match fs::metadata(rt, path.as_str()) {
         Ok(metadata) if metadata.len() > MOST_BYTES => {
@@ -114,10 +122,7 @@ pub(crate) fn too_large(alloc: Global, folder: &str, name: &str) -> Refusal {
         Some(path) => told(alloc, path.as_str(), of_large(name)),
         None => None,
     };
-    Refusal {
-        fault: Fault::of(FaultName::TooLarge),
-        told,
-    }
+    Refusal::new(Fault::of(FaultName::TooLarge), told)
 }
 
 /// The words of a folder's file of this name that has more than 2^30 bytes.

@@ -1,6 +1,6 @@
 -- What is given to the command `compact`, and what it asks for.
-use Rattle.std.specs.Prelude.{◌≡◌, ◌≢◌, ◌⊎◌, ◌==◌, ℕ, true, false, List, [], map, Option, Some}
-use Rattle.std.specs.Prelude.{None, codes, unwrap_or}
+use Rattle.std.specs.Prelude.{◌≡◌, ◌≢◌, ◌⊎◌, ◌==◌, ℕ, Bool, true, false, List, [], map}
+use Rattle.std.specs.Prelude.{Option, Some, None, codes, unwrap_or}
 use Rattle.std.specs.List.{All, slice_split}
 use Rattle.std.specs.Str.Parse.{digits_value}
 use Rattle.clap.specs.Words.{Row, Text, first_of}
@@ -59,13 +59,15 @@ abbrev pub HasVerbosity : Verbosity → List Row → Type 0
 HasVerbosity verbosity rows = (verbosity.verbose ≡ is_flagged (codes "verbose") rows)
     × (verbosity.explain ≡ is_flagged (codes "explain") rows)
 
--- the rows give this text of DIR, these levels, these options, and these flags
+-- the rows give this text of DIR, these levels, these options, these flags, and this flag of
+-- `--clean`
 abbrev pub HasCompact : Text → Levels → CompactNumbers → Option ℕ → Option Text → Testing →
-    Verbosity → List Row → Type 0
-HasCompact folder levels numbers since listed testing verbosity rows =
+    Verbosity → Bool → List Row → Type 0
+HasCompact folder levels numbers since listed testing verbosity cleans rows =
     (first_of (codes "DIR") rows ≡ Some folder)
     × HasLevels levels rows × HasNumbers numbers rows × HasReadable since listed rows
     × HasTesting testing rows × HasVerbosity verbosity rows
+    × (cleans ≡ is_flagged (codes "clean") rows)
 
 -- the rows give no text of DIR, no levels, or an invalid option
 abbrev pub LacksCompact : List Row → Type 0

@@ -2,8 +2,12 @@
 pub mod Usage
 pub mod Flags
 pub mod Testing
+pub mod Keys
+pub mod ScanLine
 pub mod CompactLine
 pub mod Line
 -- serves proofs alone
 pub mod LineParts
+pub mod KeyParts
+pub mod ScanLineParts
 pub mod CompactLineParts

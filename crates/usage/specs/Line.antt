@@ -1,14 +1,18 @@
 -- What a command line asks for.
-use Rattle.std.specs.Prelude.{◌≡◌, ◌⊎◌, ℕ, Bool, List, [], Option, Some, None, Result, Ok, Err}
-use Rattle.std.specs.Prelude.{codes, if◌then◌else◌, option_and_then}
+use Rattle.std.specs.Prelude.{◌≡◌, ◌⊎◌, ℕ, Bool, true, false, List, [], Option, Some, None, Result}
+use Rattle.std.specs.Prelude.{Ok, Err, codes, if◌then◌else◌, option_and_then}
 use Rattle.std.specs.Str.{bytes_eq}
 use Rattle.clap.specs.Words.{IsAmong, Row, Text, fault_of, first_of, kind_of, subcommand_of}
 use Rattle.clap.specs.declared.error.Error.{Error}
 use Rattle.grammar.specs.Apps.{program_app}
 use Rattle.usage.specs.CompactLine.{AreSettings, HasCompact, IsNoNumberList, LacksCompact}
-use Rattle.usage.specs.Flags.{is_flagged}
+use Rattle.usage.specs.Flags.{is_flagged, spelling_of}
+use Rattle.usage.specs.ScanLine.{AreBounds, HasScan, LacksScan}
 use Rattle.usage.specs.Testing.{HasTesting, IsMemoryOf, LacksMemory}
+use Rattle.texts.specs.Spelling.{bytes_of}
 use Rattle.texts.specs.Text.{IsNoNumber, IsNumberOf, bytes_of_text}
+use Rattle.texts.specs.declared.spelling.Spelling.{Spelling}
+use Rattle.texts.specs.declared.spelling.Spelling.TheVariants as way
 use Rattle.usage.specs.declared.requests.Levels.{Levels}
 use Rattle.usage.specs.declared.compact_texts.CompactNumbers.{CompactNumbers}
 use Rattle.usage.specs.declared.requests.Line.{Line}
@@ -17,6 +21,8 @@ use Rattle.usage.specs.declared.requests.Testing.{Testing}
 use Rattle.usage.specs.declared.requests.Verbosity.{Verbosity}
 use Rattle.usage.specs.declared.requests.Usage.{Usage}
 use Rattle.usage.specs.declared.requests.Usage.TheVariants.{Key, Snapshots, Memory, Clap}
+use Rattle.usage.specs.declared.requests.Usage.TheVariants.{Hexadecimal as NotHexadecimal}
+use Rattle.usage.specs.declared.requests.Usage.TheVariants.{Text as NotText}
 
 -- the rows of a parse, if its command has this name
 abbrev pub rows_of_command : Text → Text × List Row → Option (List Row)
@@ -45,22 +51,32 @@ abbrev pub LacksBlocks : List Row → Type 0
 LacksBlocks rows = (first_of (codes "A") rows ≡ None) ⊎ ((first_of (codes "B") rows ≡ None)
     ⊎ ((first_of (codes "at") rows ≡ None) ⊎ (first_of (codes "OUT") rows ≡ None)))
 
--- the rows give this text of one argument
-abbrev pub HasPath : Text → Text → List Row → Type 0
-HasPath id text rows = first_of id rows ≡ Some text
-
 -- the rows give no text of one argument
 abbrev pub LacksPath : Text → List Row → Type 0
 LacksPath id rows = first_of id rows ≡ None
 
--- the rows give this text of DIR, and this flag of `--verbose`
-abbrev pub HasFolder : Text → Bool → List Row → Type 0
-HasFolder folder verbose rows = (first_of (codes "DIR") rows ≡ Some folder)
+-- the rows give this text of TABLE, and this spelling
+abbrev pub HasDump : Text → Spelling → List Row → Type 0
+HasDump table spelling rows =
+    (first_of (codes "TABLE") rows ≡ Some table) × (spelling ≡ spelling_of rows)
+
+-- the rows give this text of DIR, this spelling, and these flags of `--json` and `--verbose`
+abbrev pub HasManifest : Text → Spelling → Bool → Bool → List Row → Type 0
+HasManifest folder spelling is_json verbose rows = (first_of (codes "DIR") rows ≡ Some folder)
+    × (spelling ≡ spelling_of rows) × (is_json ≡ is_flagged (codes "json") rows)
     × (verbose ≡ is_flagged (codes "verbose") rows)
 
--- the rows give this text of DIR, this number of `--memory`, and this flag of `--verbose`
-abbrev pub HasVerify : Text → ℕ → Bool → List Row → Type 0
-HasVerify folder memory verbose rows = (first_of (codes "DIR") rows ≡ Some folder)
+-- the rows give this text of DIR, and these flags of `--dry-run` and `--verbose`
+abbrev pub HasClean : Text → Bool → Bool → List Row → Type 0
+HasClean folder is_dry_run verbose rows = (first_of (codes "DIR") rows ≡ Some folder)
+    × (is_dry_run ≡ is_flagged (codes "dry-run") rows)
+    × (verbose ≡ is_flagged (codes "verbose") rows)
+
+-- the rows give this text of DIR, this flag of `--json`, this number of `--memory`, and this flag
+-- of `--verbose`
+abbrev pub HasVerify : Text → Bool → ℕ → Bool → List Row → Type 0
+HasVerify folder is_json memory verbose rows = (first_of (codes "DIR") rows ≡ Some folder)
+    × (is_json ≡ is_flagged (codes "json") rows)
     × IsMemoryOf (first_of (codes "memory") rows) memory
     × (verbose ≡ is_flagged (codes "verbose") rows)
 
@@ -68,19 +84,33 @@ HasVerify folder memory verbose rows = (first_of (codes "DIR") rows ≡ Some fol
 abbrev pub LacksVerify : List Row → Type 0
 LacksVerify rows = (first_of (codes "DIR") rows ≡ None) ⊎ LacksMemory rows
 
--- the rows give these texts of DIR and HEXKEY, this number of `--at`, these options on the test,
--- and this flag of `--verbose`
-abbrev pub HasGet : Text → Text → Option ℕ → Testing → Bool → List Row → Type 0
-HasGet folder key at testing verbose rows = (first_of (codes "DIR") rows ≡ Some folder)
-    × (first_of (codes "HEXKEY") rows ≡ Some key)
+-- the rows give these flags of `--raw` and `--json`, and at most one of them is given
+abbrev pub HasValueFlags : Bool → Bool → List Row → Type 0
+HasValueFlags is_raw is_json rows = (is_raw ≡ is_flagged (codes "raw") rows)
+    × (is_json ≡ is_flagged (codes "json") rows) × ((is_raw ≡ false) ⊎ (is_json ≡ false))
+
+-- both are given
+abbrev pub LacksValueFlags : List Row → Type 0
+LacksValueFlags rows =
+    (is_flagged (codes "raw") rows ≡ true) × (is_flagged (codes "json") rows ≡ true)
+
+-- the rows give these texts of DIR and KEY, this number of `--at`, this spelling, these flags of
+-- `--raw` and `--json`, these options on the test, and this flag of `--verbose`
+abbrev pub HasGet : Text → Text → Option ℕ → Spelling → Bool → Bool → Testing → Bool → List Row →
+    Type 0
+HasGet folder key at spelling is_raw is_json testing verbose rows =
+    (first_of (codes "DIR") rows ≡ Some folder)
+    × (first_of (codes "KEY") rows ≡ Some key)
     × IsNumberOf (first_of (codes "at") rows) at
+    × (spelling ≡ spelling_of rows) × HasValueFlags is_raw is_json rows
     × HasTesting testing rows × (verbose ≡ is_flagged (codes "verbose") rows)
 
--- the rows give no text of DIR or HEXKEY, or a text of `--at` or `--memory` that is no number
+-- the rows give no text of DIR or KEY, a text of `--at` or `--memory` that is no number, or both
+-- `--raw` and `--json`
 abbrev pub LacksGet : List Row → Type 0
 LacksGet rows = (first_of (codes "DIR") rows ≡ None)
-    ⊎ ((first_of (codes "HEXKEY") rows ≡ None)
-    ⊎ (IsNoNumber (first_of (codes "at") rows) ⊎ LacksMemory rows))
+    ⊎ ((first_of (codes "KEY") rows ≡ None)
+    ⊎ (IsNoNumber (first_of (codes "at") rows) ⊎ (LacksValueFlags rows ⊎ LacksMemory rows)))
 
 -- the parse is no command with all its texts
 abbrev pub LacksAll : Option (Text × List Row) → Type 0
@@ -89,7 +119,9 @@ LacksAll parsed = LacksRows LacksBlocks (rows_under (codes "blocks") parsed)
     × (LacksRows (LacksPath (codes "DIR")) (rows_under (codes "manifest") parsed)
     × (LacksRows LacksVerify (rows_under (codes "verify") parsed)
     × (LacksRows LacksGet (rows_under (codes "get") parsed)
-    × LacksRows LacksCompact (rows_under (codes "compact") parsed)))))
+    × (LacksRows LacksScan (rows_under (codes "scan") parsed)
+    × (LacksRows LacksCompact (rows_under (codes "compact") parsed)
+    × LacksRows (LacksPath (codes "DIR")) (rows_under (codes "clean") parsed)))))))
 
 -- `clap` refuses the words with this error, or they are no command with all its texts
 abbrev pub RefusedWith : List Text → Error → Type 0
@@ -101,41 +133,75 @@ abbrev pub GivesRows : List Text → Text → (List Row → Type 0) → Type 0
 GivesRows words name Has = (fault_of program_app words ≡ [])
     × HasRows Has (rows_under name (subcommand_of program_app words))
 
--- `clap` accepts the words, and they give a command this text of a key
-abbrev pub GivesKeyText : List Text → Text → Type 0
-GivesKeyText words text =
-    ((a b out : Text) × GivesRows words (codes "blocks") (HasBlocks a b text out))
-    ⊎ ((folder : Text) × (at : Option ℕ) × (testing : Testing) × (verbose : Bool)
-    × GivesRows words (codes "get") (HasGet folder text at testing verbose))
+-- `clap` accepts the words, and they give `blocks` this text of a key
+abbrev pub GivesBlocksKey : List Text → Text → Type 0
+GivesBlocksKey words text =
+    (a b out : Text) × GivesRows words (codes "blocks") (HasBlocks a b text out)
+
+-- `clap` accepts the words, and they give `get` this text of a key, in this spelling
+abbrev pub GivesGetKey : List Text → Spelling → Text → Type 0
+GivesGetKey words spelling text = (folder : Text) × (at : Option ℕ) × (is_raw is_json : Bool)
+    × (testing : Testing) × (verbose : Bool)
+    × GivesRows words (codes "get") (HasGet folder text at spelling is_raw is_json testing verbose)
+
+-- `clap` accepts the words, and they give `scan` this text of `--from` or `--to`, in this spelling
+abbrev pub GivesBound : List Text → Spelling → Text → Type 0
+GivesBound words spelling text = (folder : Text) × (from to : Option Text) × (at limit : Option ℕ)
+    × (with_values is_json : Bool) × (testing : Testing) × (verbose : Bool)
+    × (GivesRows words (codes "scan")
+    (HasScan folder from to at limit with_values spelling is_json testing verbose)
+    × ((from ≡ Some text) ⊎ (to ≡ Some text)))
+
+-- `clap` accepts the words, and they give `get` or `scan` a text of a key that stands for no bytes
+-- in this spelling
+abbrev pub GivesNoKey : List Text → Spelling → Type 0
+GivesNoKey words spelling = (text : Text)
+    × ((GivesGetKey words spelling text ⊎ GivesBound words spelling text)
+    × (bytes_of spelling text ≡ None))
 
 -- `clap` accepts the words, and they give `compact` this text of a list of snapshots
 abbrev pub GivesListText : List Text → Text → Type 0
 GivesListText words text = (folder : Text) × (levels : Levels) × (numbers : CompactNumbers)
-    × (testing : Testing) × (verbosity : Verbosity) × GivesRows words (codes "compact")
-    (HasCompact folder levels numbers None (Some text) testing verbosity)
+    × (testing : Testing) × (verbosity : Verbosity) × (cleans : Bool)
+    × GivesRows words (codes "compact")
+    (HasCompact folder levels numbers None (Some text) testing verbosity cleans)
 
--- What a command line asks for: the texts of its command, with that of a key or of a list read. Key
--- comes exactly if the text of the key is invalid, Snapshots exactly if the other is no list of
--- numbers, and `clap`'s error if it refuses the words. Memory may come for any words.
+-- What a command line asks for: the texts of its command, with those of keys or of a list read. Key
+-- comes exactly if the text of the key of `blocks` is invalid, Hexadecimal or Text exactly if one
+-- of `get` or `scan` is, Snapshots exactly if a list is no list of numbers, and `clap`'s error if
+-- it refuses the words. Memory may come for any words.
 abbrev pub LineGives : List Text → Result Line Usage → Type 0
 LineGives words (Ok (line.Blocks a b at out)) = (text : Text)
     × (GivesRows words (codes "blocks") (HasBlocks a.now b.now text out.now)
     × (bytes_of_text text ≡ Some at.items))
-LineGives words (Ok (line.Dump table)) =
-    GivesRows words (codes "dump") (HasPath (codes "TABLE") table.now)
-LineGives words (Ok (line.Manifest folder verbose)) =
-    GivesRows words (codes "manifest") (HasFolder folder.now verbose)
-LineGives words (Ok (line.Verify folder memory verbose)) =
-    GivesRows words (codes "verify") (HasVerify folder.now memory verbose)
-LineGives words (Ok (line.Get folder key at testing verbose)) = (text : Text)
-    × (GivesRows words (codes "get") (HasGet folder.now text at testing verbose)
-    × (bytes_of_text text ≡ Some key.items))
-LineGives words (Ok (line.Compact folder levels settings testing verbosity)) =
+LineGives words (Ok (line.Dump table spelling)) =
+    GivesRows words (codes "dump") (HasDump table.now spelling)
+LineGives words (Ok (line.Manifest folder spelling is_json verbose)) =
+    GivesRows words (codes "manifest") (HasManifest folder.now spelling is_json verbose)
+LineGives words (Ok (line.Verify folder is_json memory verbose)) =
+    GivesRows words (codes "verify") (HasVerify folder.now is_json memory verbose)
+LineGives words (Ok (line.Get folder key at spelling is_raw is_json testing verbose)) =
+    (text : Text)
+    × (GivesRows words (codes "get")
+    (HasGet folder.now text at spelling is_raw is_json testing verbose)
+    × (bytes_of spelling text ≡ Some key.items))
+LineGives words (Ok (line.Scan folder choice spelling is_json testing verbose)) =
+    (from to : Option Text)
+    × (GivesRows words (codes "scan")
+    (HasScan folder.now from to choice.at choice.limit choice.with_values spelling is_json testing
+    verbose)
+    × AreBounds spelling from to choice)
+LineGives words (Ok (line.Compact folder levels settings testing verbosity cleans)) =
     (numbers : CompactNumbers) × (since : Option ℕ) × (listed : Option Text)
     × (GivesRows words (codes "compact")
-    (HasCompact folder.now levels numbers since listed testing verbosity)
+    (HasCompact folder.now levels numbers since listed testing verbosity cleans)
     × AreSettings numbers since listed settings)
+LineGives words (Ok (line.Clean folder is_dry_run verbose)) =
+    GivesRows words (codes "clean") (HasClean folder.now is_dry_run verbose)
 LineGives words (Err Snapshots) = (text : Text) × (GivesListText words text × IsNoNumberList text)
-LineGives words (Err Key) = (text : Text) × (GivesKeyText words text × (bytes_of_text text ≡ None))
+LineGives words (Err Key) =
+    (text : Text) × (GivesBlocksKey words text × (bytes_of_text text ≡ None))
+LineGives words (Err NotHexadecimal) = GivesNoKey words way.Hexadecimal
+LineGives words (Err NotText) = GivesNoKey words way.Text
 LineGives words (Err Memory) = Unit {0}
 LineGives words (Err (Clap e)) = RefusedWith words e

@@ -2,11 +2,11 @@
 
 ghost use Rattle.std.specs.Prelude.{◌≡◌, MatchOption, MatchResult};
 ghost use Rattle.clap.specs.Words.{first_of, found_of, rows_of};
-ghost use Rattle.usage.specs.Flags.{is_flagged};
+ghost use Rattle.usage.specs.Flags.{is_flagged, spelling_of};
 ghost use Rattle.texts.specs.Text.{IsNoNumber, IsNumberOf};
 
 use clap::ArgMatches;
-use texts::number_of;
+use texts::{Spelling, number_of};
 
 /// The text given to an argument.
 pub(crate) fn first_text<'a>(values: &ArgMatches<'a>, id: &str) -> Option<&'a str>
@@ -41,5 +41,16 @@ pub(crate) fn first_number(values: &ArgMatches<'_>, id: &str) -> Result<Option<u
             None => Err(NotDigits),
         },
         None => Ok(None),
+    }
+}
+
+/// How keys and values are written: as text if `--text` is given.
+pub(crate) fn spelling_given(values: &ArgMatches<'_>) -> Spelling
+    ensures { result ≡ spelling_of (rows_of (found_of values.now)) }
+{
+    if is_flagged(values, "text") {
+        Spelling::Text
+    } else {
+        Spelling::Hexadecimal
     }
 }

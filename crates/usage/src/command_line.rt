@@ -1,39 +1,29 @@
 //! A command line, read.
 
-ghost use Rattle.std.specs.Prelude.{◌≡◌, ◌≢◌, MatchOption, codes, map};
+ghost use Rattle.std.specs.Prelude.{◌≡◌, MatchOption, codes, map};
 ghost use Rattle.clap.specs.Words.{app_of, found_of, rows_of, subcommand_rows_of};
 ghost use Rattle.grammar.specs.Apps.{program_app};
-ghost use Rattle.usage.specs.Line.{HasBlocks, HasFolder, HasGet, HasPath, HasRows, HasVerify};
-ghost use Rattle.usage.specs.Line.{LacksAll, LacksBlocks, LacksGet, LacksPath, LacksRows};
-ghost use Rattle.usage.specs.Line.{LacksVerify, LineGives, rows_under};
-ghost use Rattle.usage.specs.LineParts.{BlocksLine, GetLine, GivesCommand, IsKeyAnswer, TextsGiven};
-ghost use Rattle.usage.specs.declared.requests.Usage.TheVariants.{Key, Snapshots};
+ghost use Rattle.usage.specs.Line.{HasBlocks, HasClean, HasDump, HasGet, HasManifest, HasRows};
+ghost use Rattle.usage.specs.Line.{HasValueFlags, HasVerify, LacksAll, LacksBlocks, LacksGet};
+ghost use Rattle.usage.specs.Line.{LacksPath, LacksRows, LacksValueFlags, LacksVerify, LineGives};
+ghost use Rattle.usage.specs.Line.{rows_under};
+ghost use Rattle.usage.specs.LineParts.{BlocksLine, GetLine, GivesCommand, IsKeyAnswer};
+ghost use Rattle.usage.specs.LineParts.{IsRefusal, TextsGiven};
 
-use crate::arguments::{first_number, first_text, is_flagged};
+use crate::arguments::{first_number, first_text, is_flagged, spelling_given};
 use crate::compact_line::compact_line;
 use crate::compact_texts::{CompactTexts, compact_texts};
+use crate::complaint::complaint_of;
+use crate::keys::key_in;
 use crate::requests::{Line, Testing, Usage};
+use crate::scan_line::scan_line;
+use crate::scan_texts::{ScanTexts, scan_texts};
 use crate::test_options::{memory_of, testing_of};
-use clap::error::ErrorKind;
 use clap::{ArgMatches, Command};
 use grammar::program_command;
 use std::alloc::Global;
 use std::convert::AsStr;
-use texts::key_of;
-
-/// The message if `--level` and `--all` are both given.
-const LEVEL_WITH_ALL: &str = "the argument '--level <N>' cannot be used with '--all'";
-
-/// The message if neither is given.
-const NO_LEVELS: &str =
-    "the following required arguments were not provided:\n  <--level <N>|--all>";
-
-/// The message if both options on snapshots are given.
-const SNAPSHOT_WITH_LIST: &str =
-    "the argument '--snapshot <S>' cannot be used with '--snapshots <S,S,..>'";
-
-/// The message for a text that is no number.
-const NO_DIGITS: &str = "a number is written in decimal digits alone";
+use texts::{Spelling, key_of};
 
 /// What the words of a command line ask for. The first word is the program's name. The answer lends
 /// the words, and `listed`, which gets the snapshots that `compact` lists.
@@ -43,7 +33,8 @@ const NO_DIGITS: &str = "a number is written in decimal digits alone";
 /// 1. a fault that `clap` finds;
 /// 2. options that have to go together, or must not;
 /// 3. a number with a sign;
-/// 4. `Key` or `Snapshots`: a text that is no key, or no list of numbers.
+/// 4. `Key`, `Hexadecimal` or `Text`: a text that is no key, of `--from` before that of `--to`; or
+///    `Snapshots`: a text that is no list of numbers.
 ///
 /// `Memory` may come for any words.
 pub fn line<'a, S: AsStr>(
@@ -55,18 +46,30 @@ pub fn line<'a, S: AsStr>(
 {
     match texts_given(alloc, words)? {
         Given::Blocks(texts) => blocks_line(alloc, texts),
-        Given::Dump(table) => Ok(Line::Dump { table }),
+        Given::Dump(texts) => Ok(Line::Dump {
+            table: texts.table,
+            spelling: texts.spelling,
+        }),
         Given::Manifest(texts) => Ok(Line::Manifest {
             folder: texts.folder,
+            spelling: texts.spelling,
+            is_json: texts.is_json,
             verbose: texts.verbose,
         }),
         Given::Verify(texts) => Ok(Line::Verify {
             folder: texts.folder,
+            is_json: texts.is_json,
             memory: texts.memory,
             verbose: texts.verbose,
         }),
         Given::Get(texts) => get_line(alloc, texts),
+        Given::Scan(texts) => scan_line(alloc, texts),
         Given::Compact(texts) => compact_line(alloc, texts, listed),
+        Given::Clean(texts) => Ok(Line::Clean {
+            folder: texts.folder,
+            is_dry_run: texts.is_dry_run,
+            verbose: texts.verbose,
+        }),
     }
 }
 
@@ -74,11 +77,13 @@ pub fn line<'a, S: AsStr>(
 #[derive(Clone, Copy)]
 enum Given<'a> {
     Blocks(BlocksTexts<'a>),
-    Dump(&'a str),
-    Manifest(FolderTexts<'a>),
+    Dump(DumpTexts<'a>),
+    Manifest(ManifestTexts<'a>),
     Verify(VerifyTexts<'a>),
     Get(GetTexts<'a>),
+    Scan(ScanTexts<'a>),
     Compact(CompactTexts<'a>),
+    Clean(CleanTexts<'a>),
 }
 
 /// The texts given to `blocks`.
@@ -113,25 +118,82 @@ impl<'a> BlocksTexts<'a> {
     }
 }
 
-/// What is given to a command that takes a folder alone.
+/// What is given to `dump`.
 #[derive(Clone, Copy)]
-struct FolderTexts<'a> {
+struct DumpTexts<'a> {
+    table: &'a str,
+    spelling: Spelling,
+}
+
+impl<'a> DumpTexts<'a> {
+    /// The text of TABLE, and the spelling.
+    fn of(values: &ArgMatches<'a>) -> Option<DumpTexts<'a>>
+        ensures { let rows = rows_of (found_of values.now) in
+            MatchOption result (LacksPath (codes "TABLE") rows)
+            (λ texts. HasDump texts.table.now texts.spelling rows) }
+    {
+        let Some(table) = first_text(values, "TABLE") else {
+            return None;
+        };
+        let spelling = spelling_given(values);
+        Some(DumpTexts { table, spelling })
+    }
+}
+
+/// What is given to `manifest`.
+#[derive(Clone, Copy)]
+struct ManifestTexts<'a> {
     folder: &'a str,
+    spelling: Spelling,
+    is_json: bool,
     verbose: bool,
 }
 
-impl<'a> FolderTexts<'a> {
-    /// The text of DIR, and whether `--verbose` is given.
-    fn of(values: &ArgMatches<'a>) -> Option<FolderTexts<'a>>
+impl<'a> ManifestTexts<'a> {
+    /// The text of DIR, the spelling, and whether `--json` and `--verbose` are given.
+    fn of(values: &ArgMatches<'a>) -> Option<ManifestTexts<'a>>
         ensures { let rows = rows_of (found_of values.now) in
             MatchOption result (LacksPath (codes "DIR") rows)
-            (λ texts. HasFolder texts.folder.now texts.verbose rows) }
+            (λ texts. HasManifest texts.folder.now texts.spelling texts.is_json texts.verbose
+            rows) }
     {
         let Some(folder) = first_text(values, "DIR") else {
             return None;
         };
+        Some(ManifestTexts {
+            folder,
+            spelling: spelling_given(values),
+            is_json: is_flagged(values, "json"),
+            verbose: is_flagged(values, "verbose"),
+        })
+    }
+}
+
+/// What is given to `clean`.
+#[derive(Clone, Copy)]
+struct CleanTexts<'a> {
+    folder: &'a str,
+    is_dry_run: bool,
+    verbose: bool,
+}
+
+impl<'a> CleanTexts<'a> {
+    /// The text of DIR, and whether `--dry-run` and `--verbose` are given.
+    fn of(values: &ArgMatches<'a>) -> Option<CleanTexts<'a>>
+        ensures { let rows = rows_of (found_of values.now) in
+            MatchOption result (LacksPath (codes "DIR") rows)
+            (λ texts. HasClean texts.folder.now texts.is_dry_run texts.verbose rows) }
+    {
+        let Some(folder) = first_text(values, "DIR") else {
+            return None;
+        };
+        let is_dry_run = is_flagged(values, "dry-run");
         let verbose = is_flagged(values, "verbose");
-        Some(FolderTexts { folder, verbose })
+        Some(CleanTexts {
+            folder,
+            is_dry_run,
+            verbose,
+        })
     }
 }
 
@@ -139,16 +201,17 @@ impl<'a> FolderTexts<'a> {
 #[derive(Clone, Copy)]
 struct VerifyTexts<'a> {
     folder: &'a str,
+    is_json: bool,
     memory: u64,
     verbose: bool,
 }
 
 impl<'a> VerifyTexts<'a> {
-    /// The text of DIR, the number of `--memory`, and whether `--verbose` is given.
+    /// The text of DIR, the number of `--memory`, and whether `--json` and `--verbose` are given.
     fn of(values: &ArgMatches<'a>) -> Option<VerifyTexts<'a>>
         ensures { let rows = rows_of (found_of values.now) in
             MatchOption result (LacksVerify rows)
-            (λ texts. HasVerify texts.folder.now texts.memory texts.verbose rows) }
+            (λ texts. HasVerify texts.folder.now texts.is_json texts.memory texts.verbose rows) }
     {
         let Some(folder) = first_text(values, "DIR") else {
             return None;
@@ -156,12 +219,35 @@ impl<'a> VerifyTexts<'a> {
         let Ok(memory) = memory_of(values) else {
             return None;
         };
-        let verbose = is_flagged(values, "verbose");
         Some(VerifyTexts {
             folder,
+            is_json: is_flagged(values, "json"),
             memory,
-            verbose,
+            verbose: is_flagged(values, "verbose"),
         })
+    }
+}
+
+/// Which of `--raw` and `--json` is given: at most one.
+#[derive(Clone, Copy)]
+struct ValueFlags {
+    is_raw: bool,
+    is_json: bool,
+}
+
+impl ValueFlags {
+    /// The flags. None if both are given.
+    fn of(values: &ArgMatches<'_>) -> Option<ValueFlags>
+        ensures { let rows = rows_of (found_of values.now) in
+            MatchOption result (LacksValueFlags rows)
+            (λ flags. HasValueFlags flags.is_raw flags.is_json rows) }
+    {
+        let is_raw = is_flagged(values, "raw");
+        let is_json = is_flagged(values, "json");
+        if is_raw && is_json {
+            return None;
+        }
+        Some(ValueFlags { is_raw, is_json })
     }
 }
 
@@ -171,38 +257,44 @@ struct GetTexts<'a> {
     folder: &'a str,
     key: &'a str,
     at: Option<u64>,
+    spelling: Spelling,
+    flags: ValueFlags,
     testing: Testing,
     verbose: bool,
 }
 
 impl<'a> GetTexts<'a> {
-    /// The texts of both arguments, the number of `--at` if it is given, the options on the test,
-    /// and whether `--verbose` is given.
+    /// The texts of both arguments, the number of `--at` if it is given, the spelling, whether
+    /// `--raw` or `--json` is given, the options on the test, and whether `--verbose` is given.
     fn of(values: &ArgMatches<'a>) -> Option<GetTexts<'a>>
         ensures { let rows = rows_of (found_of values.now) in
             MatchOption result (LacksGet rows)
-            (λ texts. HasGet texts.folder.now texts.key.now texts.at texts.testing texts.verbose
-            rows) }
+            (λ texts. HasGet texts.folder.now texts.key.now texts.at texts.spelling
+            texts.flags.is_raw texts.flags.is_json texts.testing texts.verbose rows) }
     {
         let Some(folder) = first_text(values, "DIR") else {
             return None;
         };
-        let Some(key) = first_text(values, "HEXKEY") else {
+        let Some(key) = first_text(values, "KEY") else {
             return None;
         };
         let Ok(at) = first_number(values, "at") else {
             return None;
         };
+        let Some(flags) = ValueFlags::of(values) else {
+            return None;
+        };
         let Ok(testing) = testing_of(values) else {
             return None;
         };
-        let verbose = is_flagged(values, "verbose");
         Some(GetTexts {
             folder,
             key,
             at,
+            spelling: spelling_given(values),
+            flags,
             testing,
-            verbose,
+            verbose: is_flagged(values, "verbose"),
         })
     }
 }
@@ -212,11 +304,15 @@ fn texts_given<'a, S: AsStr>(alloc: Global, words: &'a [S]) -> Result<Given<'a>,
     ensures { TextsGiven (map S.text words.entry.now) result }
 {
     let mut command = program_command(alloc)?;
-    texts_taken(&mut command, words)
+    texts_taken(alloc, &mut command, words)
 }
 
 /// The texts that the words give to the program's `command`.
-fn texts_taken<'a, S: AsStr>(command: &mut Command<'a>, words: &'a [S]) -> Result<Given<'a>, Usage>
+fn texts_taken<'a, S: AsStr>(
+    alloc: Global,
+    command: &mut Command<'a>,
+    words: &'a [S],
+) -> Result<Given<'a>, Usage>
     ensures { app_of command.old ≡ program_app → TextsGiven (map S.text words.entry.now) result }
 {
     let matches = command.try_get_matches_from_mut(words)?;
@@ -224,38 +320,19 @@ fn texts_taken<'a, S: AsStr>(command: &mut Command<'a>, words: &'a [S]) -> Resul
         Some(given) => Ok(given),
         // `clap` accepts a number with a plus sign, and knows no options that go together or not.
         // It demands all else.
-        None => Err(refusal(command, &matches)),
+        None => Err(refusal(alloc, &matches)),
     }
 }
 
 /// The refusal of words that `clap` accepts.
-fn refusal(command: &mut Command<'_>, matches: &ArgMatches<'_>) -> Usage
-    ensures { (result ≢ Key) × (result ≢ Snapshots) }
+fn refusal(alloc: Global, matches: &ArgMatches<'_>) -> Usage
+    ensures { IsRefusal result }
 {
-    let (kind, text) = complaint(matches);
-    match command.error(kind, text) {
+    match complaint_of(matches).error(alloc) {
         Ok(error) => Usage::from(error),
         // Formatting fails only if memory runs out.
         Err(_) => Usage::Memory,
     }
-}
-
-/// What is wrong with words that `clap` accepts.
-fn complaint(matches: &ArgMatches<'_>) -> (ErrorKind, &'static str) {
-    if let Some(values) = matches.subcommand_matches("compact") {
-        let has_level = first_text(values, "level").is_some();
-        let has_all = is_flagged(values, "all");
-        if has_level && has_all {
-            return (ErrorKind::ArgumentConflict, LEVEL_WITH_ALL);
-        }
-        if first_text(values, "snapshot").is_some() && first_text(values, "snapshots").is_some() {
-            return (ErrorKind::ArgumentConflict, SNAPSHOT_WITH_LIST);
-        }
-        if !has_level && !has_all {
-            return (ErrorKind::MissingRequiredArgument, NO_LEVELS);
-        }
-    }
-    (ErrorKind::ValueValidation, NO_DIGITS)
 }
 
 /// The texts of the command, if it is one of the program's and its texts are there.
@@ -266,10 +343,10 @@ fn texts_in<'a>(matches: &ArgMatches<'a>) -> Option<Given<'a>>
     if let Some(texts) = blocks_texts(matches) {
         return Some(Given::Blocks(texts));
     }
-    if let Some(table) = path_text(matches, "dump", "TABLE") {
-        return Some(Given::Dump(table));
+    if let Some(texts) = dump_texts(matches) {
+        return Some(Given::Dump(texts));
     }
-    if let Some(texts) = folder_texts(matches, "manifest") {
+    if let Some(texts) = manifest_texts(matches) {
         return Some(Given::Manifest(texts));
     }
     if let Some(texts) = verify_texts(matches) {
@@ -278,8 +355,14 @@ fn texts_in<'a>(matches: &ArgMatches<'a>) -> Option<Given<'a>>
     if let Some(texts) = get_texts(matches) {
         return Some(Given::Get(texts));
     }
-    let texts = compact_texts(matches)?;
-    Some(Given::Compact(texts))
+    if let Some(texts) = scan_texts(matches) {
+        return Some(Given::Scan(texts));
+    }
+    if let Some(texts) = compact_texts(matches) {
+        return Some(Given::Compact(texts));
+    }
+    let texts = clean_texts(matches)?;
+    Some(Given::Clean(texts))
 }
 
 /// The texts of `blocks`, if that is the command and all four are there.
@@ -298,7 +381,8 @@ fn blocks_texts<'a>(matches: &ArgMatches<'a>) -> Option<BlocksTexts<'a>>
 fn verify_texts<'a>(matches: &ArgMatches<'a>) -> Option<VerifyTexts<'a>>
     ensures { let given = rows_under (codes "verify") (subcommand_rows_of matches.now) in
         MatchOption result (LacksRows LacksVerify given)
-        (λ texts. HasRows (HasVerify texts.folder.now texts.memory texts.verbose) given) }
+        (λ texts. HasRows (HasVerify texts.folder.now texts.is_json texts.memory texts.verbose)
+        given) }
 {
     let Some(values) = matches.subcommand_matches("verify") else {
         return None;
@@ -311,7 +395,8 @@ fn get_texts<'a>(matches: &ArgMatches<'a>) -> Option<GetTexts<'a>>
     ensures { let given = rows_under (codes "get") (subcommand_rows_of matches.now) in
         MatchOption result (LacksRows LacksGet given)
         (λ texts. HasRows
-        (HasGet texts.folder.now texts.key.now texts.at texts.testing texts.verbose) given) }
+        (HasGet texts.folder.now texts.key.now texts.at texts.spelling texts.flags.is_raw
+        texts.flags.is_json texts.testing texts.verbose) given) }
 {
     let Some(values) = matches.subcommand_matches("get") else {
         return None;
@@ -319,30 +404,41 @@ fn get_texts<'a>(matches: &ArgMatches<'a>) -> Option<GetTexts<'a>>
     GetTexts::of(values)
 }
 
-/// What is given to the command of this `name`, which takes a folder alone, if that is the command
-/// and its text is there.
-fn folder_texts<'a>(matches: &ArgMatches<'a>, name: &str) -> Option<FolderTexts<'a>>
-    ensures { let given = rows_under name.now (subcommand_rows_of matches.now) in
-        MatchOption result (LacksRows (LacksPath (codes "DIR")) given)
-        (λ texts. HasRows (HasFolder texts.folder.now texts.verbose) given) }
+/// What is given to `dump`, if that is the command and its text is there.
+fn dump_texts<'a>(matches: &ArgMatches<'a>) -> Option<DumpTexts<'a>>
+    ensures { let given = rows_under (codes "dump") (subcommand_rows_of matches.now) in
+        MatchOption result (LacksRows (LacksPath (codes "TABLE")) given)
+        (λ texts. HasRows (HasDump texts.table.now texts.spelling) given) }
 {
-    let Some(values) = matches.subcommand_matches(name) else {
+    let Some(values) = matches.subcommand_matches("dump") else {
         return None;
     };
-    FolderTexts::of(values)
+    DumpTexts::of(values)
 }
 
-/// The text of the one argument of the command of this `name`, if that is the command and the text
-/// is there.
-fn path_text<'a>(matches: &ArgMatches<'a>, name: &str, id: &str) -> Option<&'a str>
-    ensures { let given = rows_under name.now (subcommand_rows_of matches.now) in
-        MatchOption result (LacksRows (LacksPath id.now) given)
-        (λ text. HasRows (HasPath id.now text.now) given) }
+/// What is given to `manifest`, if that is the command and its text is there.
+fn manifest_texts<'a>(matches: &ArgMatches<'a>) -> Option<ManifestTexts<'a>>
+    ensures { let given = rows_under (codes "manifest") (subcommand_rows_of matches.now) in
+        MatchOption result (LacksRows (LacksPath (codes "DIR")) given)
+        (λ texts. HasRows
+        (HasManifest texts.folder.now texts.spelling texts.is_json texts.verbose) given) }
 {
-    let Some(values) = matches.subcommand_matches(name) else {
+    let Some(values) = matches.subcommand_matches("manifest") else {
         return None;
     };
-    first_text(values, id)
+    ManifestTexts::of(values)
+}
+
+/// What is given to `clean`, if that is the command and its text is there.
+fn clean_texts<'a>(matches: &ArgMatches<'a>) -> Option<CleanTexts<'a>>
+    ensures { let given = rows_under (codes "clean") (subcommand_rows_of matches.now) in
+        MatchOption result (LacksRows (LacksPath (codes "DIR")) given)
+        (λ texts. HasRows (HasClean texts.folder.now texts.is_dry_run texts.verbose) given) }
+{
+    let Some(values) = matches.subcommand_matches("clean") else {
+        return None;
+    };
+    CleanTexts::of(values)
 }
 
 /// The line of `blocks`. Key if the text of its key is invalid.
@@ -359,22 +455,26 @@ fn blocks_line<'a>(alloc: Global, texts: BlocksTexts<'a>) -> Result<Line<'a>, Us
     })
 }
 
-/// The line of `get`. Key if the text of its key is invalid.
+/// The line of `get`. Hexadecimal or Text if the text of its key stands for no bytes.
 fn get_line<'a>(alloc: Global, texts: GetTexts<'a>) -> Result<Line<'a>, Usage>
-    ensures { GetLine texts.entry.folder.now texts.entry.key.now texts.entry.at texts.entry.testing
-        texts.entry.verbose result }
+    ensures { GetLine texts.entry.folder.now texts.entry.key.now texts.entry.at
+        texts.entry.spelling texts.entry.flags.is_raw texts.entry.flags.is_json
+        texts.entry.testing texts.entry.verbose result }
 {
-    let key = user_key(alloc, texts.key)?;
+    let key = key_in(alloc, texts.spelling, texts.key)?;
     Ok(Line::Get {
         folder: texts.folder,
         key,
         at: texts.at,
+        spelling: texts.spelling,
+        is_raw: texts.flags.is_raw,
+        is_json: texts.flags.is_json,
         testing: texts.testing,
         verbose: texts.verbose,
     })
 }
 
-/// The user key of a text. Key if the text is invalid.
+/// The user key of a text of `blocks`. Key if the text is invalid.
 fn user_key(alloc: Global, text: &str) -> Result<Vec<u8>, Usage>
     ensures { IsKeyAnswer text.now result }
 {

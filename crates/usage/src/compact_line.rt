@@ -25,7 +25,7 @@ pub(crate) fn compact_line<'a>(
     ensures { CompactLine texts.entry.folder.now texts.entry.levels texts.entry.numbers
         texts.entry.readable.since
         (option_map (λ text. text.now) texts.entry.readable.listed) texts.entry.testing
-        texts.entry.verbosity result }
+        texts.entry.verbosity texts.entry.cleans result }
 {
     let snapshots = snapshots(alloc, texts.readable, listed)?;
     let numbers = texts.numbers;
@@ -45,6 +45,7 @@ pub(crate) fn compact_line<'a>(
         },
         testing: texts.testing,
         verbosity: texts.verbosity,
+        cleans: texts.cleans,
     })
 }
 

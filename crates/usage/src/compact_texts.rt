@@ -83,6 +83,7 @@ pub(crate) struct CompactTexts<'a> {
     pub readable: ReadableTexts<'a>,
     pub testing: Testing,
     pub verbosity: Verbosity,
+    pub cleans: bool,
 }
 
 impl<'a> CompactTexts<'a> {
@@ -93,7 +94,7 @@ impl<'a> CompactTexts<'a> {
             MatchOption result (LacksCompact rows)
             (λ texts. HasCompact texts.folder.now texts.levels texts.numbers texts.readable.since
             (option_map (λ text. text.now) texts.readable.listed) texts.testing texts.verbosity
-            rows) }
+            texts.cleans rows) }
     {
         let Some(folder) = first_text(values, "DIR") else {
             return None;
@@ -117,6 +118,7 @@ impl<'a> CompactTexts<'a> {
             readable,
             testing,
             verbosity: verbosity_of(values),
+            cleans: is_flagged(values, "clean"),
         })
     }
 }
@@ -153,8 +155,8 @@ pub(crate) fn compact_texts<'a>(matches: &ArgMatches<'a>) -> Option<CompactTexts
         MatchOption result (LacksRows LacksCompact given)
         (λ texts. HasRows
         (HasCompact texts.folder.now texts.levels texts.numbers texts.readable.since
-        (option_map (λ text. text.now) texts.readable.listed) texts.testing texts.verbosity)
-        given) }
+        (option_map (λ text. text.now) texts.readable.listed) texts.testing texts.verbosity
+        texts.cleans) given) }
 {
     let Some(values) = matches.subcommand_matches("compact") else {
         return None;

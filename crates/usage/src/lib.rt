@@ -9,8 +9,12 @@ mod arguments;
 mod command_line;
 mod compact_line;
 mod compact_texts;
+mod complaint;
+mod keys;
 mod requests;
+mod scan_line;
+mod scan_texts;
 mod test_options;
 
 pub use command_line::line;
-pub use requests::{Levels, Line, Testing, Usage, Verbosity};
+pub use requests::{Levels, Line, RowChoice, Testing, Usage, Verbosity};

@@ -7,6 +7,7 @@ ghost use Rattle.usage.specs.declared.requests.Usage.TheVariants.{Memory};
 use clap::error::ErrorKind;
 use settings::Settings;
 use std::alloc::AllocError;
+use texts::Spelling;
 
 /// What a command line asks for.
 #[derive(Debug, Drop)]
@@ -26,11 +27,17 @@ pub enum Line<'a> {
     Dump {
         /// The path of the table's file.
         table: &'a str,
+        /// How keys and values are printed.
+        spelling: Spelling,
     },
     /// Prints the version that a database folder holds.
     Manifest {
         /// The path of the folder.
         folder: &'a str,
+        /// How keys are printed.
+        spelling: Spelling,
+        /// Whether it is printed as JSON.
+        is_json: bool,
         /// Whether more is told on the standard error.
         verbose: bool,
     },
@@ -38,6 +45,8 @@ pub enum Line<'a> {
     Verify {
         /// The path of the folder.
         folder: &'a str,
+        /// Whether the answer is printed as JSON.
+        is_json: bool,
         /// How many MiB of tables the test may hold, 1 to 2^24.
         memory: u64,
         /// Whether more is told on the standard error.
@@ -51,6 +60,27 @@ pub enum Line<'a> {
         key: Vec<u8>,
         /// The sequence, any number. Without it, the version's last sequence.
         at: Option<u64>,
+        /// How the key was given and the value is printed.
+        spelling: Spelling,
+        /// Whether the bytes of the value are printed themselves.
+        is_raw: bool,
+        /// Whether key and value are printed as JSON. At most one of the two is asked for.
+        is_json: bool,
+        /// How the version is tested before.
+        testing: Testing,
+        /// Whether more is told on the standard error.
+        verbose: bool,
+    },
+    /// Prints the user keys that have a value at a sequence, in their order.
+    Scan {
+        /// The path of the folder.
+        folder: &'a str,
+        /// Which keys are printed, and whether with their values.
+        rows: RowChoice,
+        /// How keys were given, and how keys and values are printed.
+        spelling: Spelling,
+        /// Whether they are printed as JSON.
+        is_json: bool,
         /// How the version is tested before.
         testing: Testing,
         /// Whether more is told on the standard error.
@@ -68,7 +98,33 @@ pub enum Line<'a> {
         testing: Testing,
         /// What is told of it on the standard error.
         verbosity: Verbosity,
+        /// Whether files that no version needs are removed after each installation.
+        cleans: bool,
     },
+    /// Removes the files of a database folder that no version needs.
+    Clean {
+        /// The path of the folder.
+        folder: &'a str,
+        /// Whether the files are only told, and none is removed.
+        is_dry_run: bool,
+        /// Whether more is told on the standard error.
+        verbose: bool,
+    },
+}
+
+/// Which rows a scan prints.
+#[derive(Debug, Drop)]
+pub struct RowChoice {
+    /// The user key at which the scan begins. Without it, the first one.
+    pub from: Option<Vec<u8>>,
+    /// The user key before which the scan ends. Without it, the scan ends with the last one.
+    pub to: Option<Vec<u8>>,
+    /// The sequence, any number. Without it, the version's last sequence.
+    pub at: Option<u64>,
+    /// At most how many rows are printed, any number. Without it, all.
+    pub limit: Option<u64>,
+    /// Whether each key has its value beside it.
+    pub with_values: bool,
 }
 
 /// How a version is tested before the work on it.
@@ -102,8 +158,12 @@ pub enum Levels {
 /// Why a command line asks for nothing that can be done.
 #[derive(Debug, Drop)]
 pub enum Usage {
-    /// The text of a key is no hexadecimal digits.
+    /// The text of the key of `blocks` is no hexadecimal digits.
     Key,
+    /// The text of a key of `get` or `scan` is no hexadecimal digits, and `--text` isn't given.
+    Hexadecimal,
+    /// The text of a key of `get` or `scan` stands for no bytes, and `--text` is given.
+    Text,
     /// The text of a list of snapshots is no list of numbers.
     Snapshots,
     /// Out of memory.

@@ -1,0 +1,191 @@
+//! The rows of a folder, from its path to what is printed.
+
+use crate::folder_locks::locked_to_read;
+use crate::folder_refusal::{explained, table_explained};
+use crate::folder_work::{begin_work, bytes_of, folder_to_test, print_lines, refused_at};
+use crate::progress_line::ProgressLine;
+use crate::refusal::Refusal;
+use crate::reporter::{Telling, tell_time};
+use crate::table_sizes::sizes_tested;
+use coding::Fault;
+use commands::row_line;
+use folder::{Disk, Opened, SystemFiles, WholeFiles};
+use json_lines::row_json;
+use scan::{RowChoice, RowTaker, scan_unverified, scan_version};
+use std::thread::Threads;
+use std::time::Clock;
+use texts::Spelling;
+use usage::Testing;
+
+/// How many bytes of lines are written at once, or somewhat more.
+const AT_ONCE: usize = 65_536;
+
+/// How rows are printed.
+#[derive(Clone, Copy)]
+pub(crate) struct RowForm {
+    pub spelling: Spelling,
+    /// Whether each is printed as JSON.
+    pub is_json: bool,
+}
+
+/// Prints the rows of a folder that are asked for. Its version is tested before, if that is asked
+/// for. If it isn't, and a table is refused, the folder isn't read again to tell of which one.
+pub(crate) fn print_rows<
+    R: SystemFiles + WholeFiles + Print + Eprint + Clock + AllocGlobal + Threads + Sync,
+>(
+    rt: &R,
+    telling: Telling<'_>,
+    rows: &usage::RowChoice,
+    form: RowForm,
+    testing: &Testing,
+) -> Result<(), Refusal> {
+    let folder = telling.folder;
+    let _lock = locked_to_read(rt, folder)?;
+    let begun = telling.begin(rt);
+    let opened = begin_work(rt, telling).map_err(|refusal| explained(rt, folder, refusal))?;
+    if testing.is_skipped {
+        rows_printed(rt, telling, &opened, rows, form, testing).map_err(|refusal| table_explained(
+            rt.alloc(),
+            folder,
+            refusal,
+        ))?;
+        tell_time(rt, "scan --no-verify", begun);
+    } else {
+        sizes_tested(rt, folder, &opened).map_err(|refusal| explained(rt, folder, refusal))?;
+        rows_printed(rt, telling, &opened, rows, form, testing).map_err(|refusal| explained(
+            rt, folder, refusal,
+        ))?;
+        tell_time(rt, "scan", begun);
+    }
+    Ok(())
+}
+
+/// Prints the rows of what a folder was opened as. Those that were told before a refusal are
+/// printed.
+fn rows_printed<
+    R: SystemFiles + WholeFiles + Print + Eprint + Clock + AllocGlobal + Threads + Sync,
+>(
+    rt: &R,
+    telling: Telling<'_>,
+    opened: &Opened,
+    rows: &usage::RowChoice,
+    form: RowForm,
+    testing: &Testing,
+) -> Result<(), Refusal> {
+    let progress = ProgressLine::new(rt, telling.is_watched);
+    let mut folder = if testing.is_skipped {
+        Disk::new(rt, telling.folder)
+    } else {
+        folder_to_test(rt, telling.folder, opened, bytes_of(testing.memory))
+    };
+    let mut printer = RowPrinter {
+        rt,
+        progress: &progress,
+        form,
+        with_values: rows.with_values,
+        lines: Vec::new(rt.alloc()),
+        refusal: None,
+    };
+    let scanned = scanned(
+        rt,
+        &mut folder,
+        opened,
+        choice_of(rows),
+        testing,
+        &mut printer,
+    );
+    progress.erase();
+    printer.end()?;
+    scanned.map_err(|fault| refused_at(rt, telling.folder, &folder, fault))
+}
+
+/// Tells the rows of what a folder was opened as, and tests it before, if that is asked for.
+fn scanned<R: SystemFiles + WholeFiles + Print + Eprint + Clock + AllocGlobal + Threads + Sync>(
+    rt: &R,
+    folder: &mut Disk<'_, R>,
+    opened: &Opened,
+    choice: RowChoice<'_>,
+    testing: &Testing,
+    printer: &mut RowPrinter<'_, R>,
+) -> Result<(), Fault> {
+    let (alloc, order, version) = (rt.alloc(), opened.order, &opened.version);
+    let memory = bytes_of(testing.memory);
+    if testing.is_skipped {
+        scan_unverified(rt, alloc, folder, order, version, choice, memory, printer)
+    } else {
+        let progress = printer.progress;
+        scan_version(
+            rt, alloc, folder, order, version, choice, memory, printer, progress,
+        )
+    }
+}
+
+/// The rows that are asked for, as a scan takes them.
+fn choice_of(rows: &usage::RowChoice) -> RowChoice<'_> {
+    RowChoice {
+        from: rows.from.as_deref(),
+        to: rows.to.as_deref(),
+        at: rows.at,
+        limit: rows.limit,
+    }
+}
+
+/// Who prints rows, a line each.
+#[derive(Drop)]
+struct RowPrinter<'t, R> {
+    rt: &'t R,
+    progress: &'t ProgressLine<'t, R>,
+    form: RowForm,
+    /// Whether each key has its value beside it.
+    with_values: bool,
+    /// The lines that are not written yet.
+    lines: Vec<u8>,
+    /// Why a row could not be printed. No row comes after it.
+    refusal: Option<Refusal>,
+}
+
+impl<'t, R: Print + Eprint + Clock + AllocGlobal> RowPrinter<'t, R> {
+    /// Adds the line of a row, and writes the lines if there are enough of them.
+    fn push(&mut self, key: &[u8], value: &[u8]) -> Result<(), Refusal> {
+        let value = if self.with_values { Some(value) } else { None };
+        let (alloc, spelling) = (self.rt.alloc(), self.form.spelling);
+        let line = if self.form.is_json {
+            row_json(alloc, spelling, key, value)?.into_bytes()
+        } else {
+            row_line(alloc, spelling, key, value)?
+        };
+        self.lines.extend_from_slice(&line).map_err(Fault::from)?;
+        if self.lines.len() >= AT_ONCE {
+            self.write()?;
+        }
+        Ok(())
+    }
+
+    /// Writes the lines.
+    fn write(&mut self) -> Result<(), Refusal> {
+        self.progress.erase();
+        print_lines(self.rt, &self.lines)?;
+        self.lines.clear();
+        Ok(())
+    }
+
+    /// Writes what is left, unless a row could not be printed.
+    fn end(mut self) -> Result<(), Refusal> {
+        match self.refusal.take() {
+            Some(refusal) => Err(refusal),
+            None => self.write(),
+        }
+    }
+}
+
+impl<'t, R: Print + Eprint + Clock + AllocGlobal> RowTaker for RowPrinter<'t, R> {
+    fn row(&mut self, key: &[u8], value: &[u8]) -> bool {
+        match self.push(key, value) {
+            Ok(()) => true,
+            Err(refusal) => {
+                self.refusal = Some(refusal);
+                false
+            }
+        }
+    }
+}

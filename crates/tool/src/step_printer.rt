@@ -1,0 +1,207 @@
+//! What is printed and told of the steps of a compaction.
+
+use crate::cleaning::clean_installed;
+use crate::compaction_work::CompactionTask;
+use crate::explanations::{Words, in_words};
+use crate::folder_work::print_lines;
+use crate::progress_line::ProgressLine;
+use crate::refusal::{Refusal, told};
+use crate::reporter::{Telling, tell_time};
+use crate::work_left::WorkLeft;
+use account::text;
+use coding::{Fault, FaultName};
+use diagnostics::account_of;
+use edit::Version;
+use folder::{Disk, Opened, Order, SystemFiles};
+use std::alloc::Global;
+use std::time::{Clock, Instant};
+use store::{InstallWatch, bottom};
+use usage::Levels;
+
+/// Who prints the steps of a compaction of all levels, and has files removed after each.
+#[derive(Drop)]
+pub(crate) struct StepPrinter<'t, R> {
+    rt: &'t R,
+    telling: Telling<'t>,
+    progress: &'t ProgressLine<'t, R>,
+    order: Order,
+    ranges: u64,
+    /// The bytes of full blocks that a new file has when it ends.
+    file_size: u64,
+    /// Whether files that the version doesn't need are removed after each step.
+    cleans: bool,
+    /// The level to which all files go.
+    bottom: u64,
+    /// How many steps are done.
+    done: u64,
+    /// When the step began, if that is told.
+    begun: Option<Instant>,
+    /// Why the lines of a step could not be printed, or files could not be removed after it. No
+    /// step comes after that one.
+    refusal: Option<Refusal>,
+}
+
+impl<'t, R> StepPrinter<'t, R> {
+    /// The line of progress of the steps.
+    pub fn progress(&self) -> &'t ProgressLine<'t, R> {
+        self.progress
+    }
+
+    /// Whether all steps could be printed, and files be removed after them.
+    pub fn end(self) -> Result<(), Refusal> {
+        match self.refusal {
+            Some(refusal) => Err(refusal),
+            None => Ok(()),
+        }
+    }
+}
+
+impl<'t, R: Eprint + Clock + AllocGlobal> StepPrinter<'t, R> {
+    /// Who prints the steps from what a folder was opened as. The first one begins. The only fault
+    /// is Memory.
+    pub fn new(
+        rt: &'t R,
+        telling: Telling<'t>,
+        progress: &'t ProgressLine<'t, R>,
+        opened: &Opened,
+        task: CompactionTask<'_>,
+    ) -> Result<StepPrinter<'t, R>, Fault> {
+        let steps = StepPrinter {
+            rt,
+            telling,
+            progress,
+            order: opened.order,
+            ranges: task.settings.ranges,
+            file_size: task.settings.options.file_size,
+            cleans: task.cleans,
+            bottom: bottom(rt.alloc(), &opened.version)?,
+            done: 0,
+            begun: telling.begin(rt),
+            refusal: None,
+        };
+        steps.show_left(&opened.version);
+        Ok(steps)
+    }
+
+    /// Has the line of progress show the step that begins at a version.
+    fn show_left(&self, version: &Version) {
+        let alloc = self.rt.alloc();
+        if let Ok(Some(left)) = WorkLeft::of(alloc, version, self.bottom, self.file_size) {
+            self.progress.begin_step(self.done, left);
+        }
+    }
+}
+
+impl<'t, R: SystemFiles + Print + Eprint + Clock + AllocGlobal> InstallWatch
+    for StepPrinter<'t, R> {
+    fn installed(
+        &mut self,
+        level: u64,
+        lines: &[u8],
+        before: &Version,
+        after: Option<&Version>,
+    ) -> bool {
+        self.progress.erase();
+        tell_step(self.rt, level, self.begun);
+        let folder = self.telling.folder;
+        if let Err(refusal) = print_lines(self.rt, lines) {
+            self.refusal = Some(unprinted(self.rt.alloc(), folder, Levels::All, refusal));
+            return false;
+        }
+        if self.telling.is_explaining {
+            let after = after.ok_or(Fault::of(FaultName::Memory));
+            explain(
+                self.rt,
+                folder,
+                self.order,
+                before,
+                after,
+                level,
+                self.ranges,
+            );
+        }
+        if self.cleans
+            && let Err(refusal) = clean_installed(self.rt, folder)
+        {
+            self.refusal = Some(refusal);
+            return false;
+        }
+        self.done = self.done.saturating_add(1);
+        if let Some(after) = after {
+            self.show_left(after);
+        }
+        self.begun = self.telling.begin(self.rt);
+        true
+    }
+}
+
+/// Tells how long the compaction of a level took, if its beginning is known.
+pub(crate) fn tell_step<R: Eprint + Clock + AllocGlobal>(
+    rt: &R,
+    level: u64,
+    begun: Option<Instant>,
+) {
+    if let Ok(step) = format!(in rt.alloc(); "compact --level {level}") {
+        tell_time(rt, step.as_str(), begun);
+    }
+}
+
+/// The refusal that a compaction's lines can't be written. It is installed by then. Of several
+/// steps it is the last one.
+pub(crate) fn unprinted(alloc: Global, folder: &str, levels: Levels, refusal: Refusal) -> Refusal {
+    let words = match levels {
+        Levels::One(_) => Words {
+            wrong: "the new version is installed, but its lines could not be written",
+            remedy: "manifest shows it",
+        },
+        Levels::All => Words {
+            wrong: "the step is installed, but its lines could not be written, so the work stopped",
+            remedy: "run it again",
+        },
+    };
+    Refusal::new(refusal.fault, told(alloc, folder, words))
+}
+
+/// Tells the account of the compaction of a level, from the versions before it and after it. If it
+/// can't be told, nothing else changes.
+pub(crate) fn explain<R: SystemFiles + Eprint + AllocGlobal>(
+    rt: &R,
+    folder: &str,
+    order: Order,
+    before: &Version,
+    after: Result<&Version, Fault>,
+    level: u64,
+    ranges: u64,
+) {
+    match explanation(rt, folder, order, before, after, level, ranges) {
+        Ok(lines) => {
+            let _ = rt.eprint(lines.as_str());
+        }
+        Err(fault) => {
+            let wrong = in_words(fault.name).wrong;
+            let _ = eprintln!(rt; "compacted, but not explained: {fault}: {wrong}");
+        }
+    }
+}
+
+/// The lines of that account.
+fn explanation<R: SystemFiles + AllocGlobal>(
+    rt: &R,
+    folder: &str,
+    order: Order,
+    before: &Version,
+    after: Result<&Version, Fault>,
+    level: u64,
+    ranges: u64,
+) -> Result<String, Fault> {
+    let account = account_of(
+        rt.alloc(),
+        &mut Disk::new(rt, folder),
+        order,
+        before,
+        after?,
+        level,
+        ranges,
+    )?;
+    text(rt.alloc(), &account)
+}

@@ -1,7 +1,7 @@
 # Completes sedvokt in fish.
 
-set -l commands blocks dump manifest verify get compact
-set -l folders manifest verify get compact
+set -l commands blocks dump manifest verify get scan compact clean
+set -l folders manifest verify get scan compact clean
 
 complete -c sedvokt -f
 complete -c sedvokt -s h -l help -d 'Print help'
@@ -12,7 +12,9 @@ complete -c sedvokt -n __fish_use_subcommand -a dump -d 'Print the entries of a 
 complete -c sedvokt -n __fish_use_subcommand -a manifest -d 'Print the version of a database'
 complete -c sedvokt -n __fish_use_subcommand -a verify -d 'Test all tables of a database'
 complete -c sedvokt -n __fish_use_subcommand -a get -d 'Print the value of a key'
+complete -c sedvokt -n __fish_use_subcommand -a scan -d 'Print keys and their values'
 complete -c sedvokt -n __fish_use_subcommand -a compact -d 'Merge files of a level into the next'
+complete -c sedvokt -n __fish_use_subcommand -a clean -d 'Remove files that are not needed'
 complete -c sedvokt -n __fish_use_subcommand -a help -d 'Print help'
 
 complete -c sedvokt -n '__fish_seen_subcommand_from help' -a "$commands"
@@ -20,10 +22,20 @@ complete -c sedvokt -n '__fish_seen_subcommand_from blocks dump' -F
 complete -c sedvokt -n "__fish_seen_subcommand_from $folders" -a '(__fish_complete_directories)'
 complete -c sedvokt -n "__fish_seen_subcommand_from $folders" -s v -l verbose \
     -d 'Tell how long it took'
-complete -c sedvokt -n '__fish_seen_subcommand_from get' -l at -x -d 'Read at this sequence'
-complete -c sedvokt -n '__fish_seen_subcommand_from verify get compact' -l memory -x \
+complete -c sedvokt -n '__fish_seen_subcommand_from get scan' -l at -x -d 'Read at this sequence'
+complete -c sedvokt -n '__fish_seen_subcommand_from dump manifest get scan' -l text \
+    -d 'Keys and values are text'
+complete -c sedvokt -n '__fish_seen_subcommand_from manifest verify get scan' -l json \
+    -d 'Print JSON, one object a line'
+complete -c sedvokt -n '__fish_seen_subcommand_from get' -l raw -d 'Print the bytes themselves'
+complete -c sedvokt -n '__fish_seen_subcommand_from scan' -l from -x -d 'The first key'
+complete -c sedvokt -n '__fish_seen_subcommand_from scan' -l to -x -d 'The key before which to end'
+complete -c sedvokt -n '__fish_seen_subcommand_from scan' -l limit -x -d 'At most so many keys'
+complete -c sedvokt -n '__fish_seen_subcommand_from scan' -l keys -d 'Print keys alone'
+complete -c sedvokt -n '__fish_seen_subcommand_from clean' -l dry-run -d 'Print names, remove none'
+complete -c sedvokt -n '__fish_seen_subcommand_from verify get scan compact' -l memory -x \
     -d 'MiB of tables that the test may hold'
-complete -c sedvokt -n '__fish_seen_subcommand_from get compact' -l no-verify \
+complete -c sedvokt -n '__fish_seen_subcommand_from get scan compact' -l no-verify \
     -d 'Take the version for lawful'
 complete -c sedvokt -n '__fish_seen_subcommand_from blocks' -l at -x \
     -d 'The key where the second range begins'
@@ -38,3 +50,4 @@ complete -c sedvokt -n $compact -l snapshot -x -d 'The oldest snapshot that stay
 complete -c sedvokt -n $compact -l snapshots -x -d 'The snapshots that stay, as 3,7,9'
 complete -c sedvokt -n $compact -l block-size -x -d 'Bytes at which a block ends'
 complete -c sedvokt -n $compact -l file-size -x -d 'Bytes at which a table ends'
+complete -c sedvokt -n $compact -l clean -d 'Remove files that are not needed any more'

@@ -25,8 +25,11 @@ fn later<'k, C: Comparator>(one: Option<&'k [u8]>, two: Option<&'k [u8]>) -> Opt
         ≡ later_bound C.cmp (option_map (λ k. k.now) one.entry)
         (option_map (λ k. k.now) two.entry) }
 {
-    let (Some(first), Some(second)) = (one, two) else {
-        return one.or(two);
+    let Some(first) = one else {
+        return two;
+    };
+    let Some(second) = two else {
+        return Some(first);
     };
     Some(if is_below::<C>(first, second) {
         second
@@ -41,8 +44,11 @@ fn earlier<'k, C: Comparator>(one: Option<&'k [u8]>, two: Option<&'k [u8]>) -> O
         ≡ earlier_bound C.cmp (option_map (λ k. k.now) one.entry)
         (option_map (λ k. k.now) two.entry) }
 {
-    let (Some(first), Some(second)) = (one, two) else {
-        return one.or(two);
+    let Some(first) = one else {
+        return two;
+    };
+    let Some(second) = two else {
+        return Some(first);
     };
     Some(if is_below::<C>(first, second) {
         first

@@ -3,6 +3,3 @@ mod HeldTables
 mod UnverifiedLemmas
 mod FolderLineLemmas
 mod ValueLineLemmas
-mod TableLemmas
-mod MarkPlaces
-mod StatsLines

@@ -1,10 +1,8 @@
 //! The tests of a compaction, from who draws which job and what a worker keeps to the whole and to
 //! a folder: `board`, `split`, `merge`, `keep`, `encoding`, `cut`, `request`, `compact`, `checks`,
-//! `scan`, `faults`, `store` and `adoption`.
+//! `scan` and `store`.
 #![tactic(auto)]
 
-#[cfg(test)]
-mod adoption_tests;
 #[cfg(test)]
 mod board_tests;
 #[cfg(test)]
@@ -15,8 +13,6 @@ mod compact_tests;
 mod cut_tests;
 #[cfg(test)]
 mod encoding_tests;
-#[cfg(test)]
-mod fault_tests;
 #[cfg(test)]
 mod keep_tests;
 #[cfg(test)]
@@ -29,7 +25,5 @@ mod request_tests;
 mod scan_tests;
 #[cfg(test)]
 mod split_tests;
-#[cfg(test)]
-mod stats_tests;
 #[cfg(test)]
 mod store_tests;

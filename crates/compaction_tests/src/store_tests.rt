@@ -1,5 +1,4 @@
 //! The tests of `store`.
 
-mod outcomes;
 pub(crate) mod rows;
 mod tests;

@@ -1,13 +1,12 @@
-//! Calls that take no memory. Their arguments are made before; then each request for memory is
-//! refused, and none may be made.
+//! Calls that take no memory. Their arguments are made before.
 
 use crate::boards::{are_worked, is_closed};
 use crate::builders::{add_entry, add_row, version_of};
 use crate::case::{picked, three_ranges};
 use crate::cases::{DELETION, SMALLEST};
 use crate::cursors::cursors_over;
+use crate::memory::Memory;
 use crate::plans::runs_of;
-use crate::refusals::{Order, refuse, was_refused};
 use crate::worked::{A_AT_ONE, A_AT_TWO, B_AT_ONE, BLOCK, TABLE, VERSION_TEN};
 use block::{BlockBuilder, BlockCursor};
 use board::Board;
@@ -66,11 +65,12 @@ fn are_keys(own: &KeyBuf) -> bool {
 }
 
 /// Numbers, faults and keys.
-pub fn numbers(alloc: Global) -> Result<bool, Fault> {
+pub fn numbers(alloc: Global, memory: &mut Memory) -> Result<bool, Fault> {
     let own = KeyBuf::of(alloc, InternalKey::parse(&A_AT_ONE)?)?;
-    refuse(alloc, &Order::Bytes(0));
+    memory.leave(alloc, 0)?;
     let is_right = are_numbers() && are_keys(&own);
-    Ok(is_right && !was_refused(alloc))
+    memory.loosen();
+    Ok(is_right)
 }
 
 /// The restarts of bytes that are checked, and of the same block reopened.
@@ -120,37 +120,44 @@ fn are_builders(alloc: Global, block: &BlockBuilder, table: &TableBuilder<Bytewi
 /// Whether a cursor and builders are right while each request for memory is refused.
 fn are_right(
     alloc: Global,
+    memory: &mut Memory,
     cursor: &BlockCursor<'_>,
     block: &BlockBuilder,
     table: &TableBuilder<Bytewise>,
-) -> bool {
-    refuse(alloc, &Order::Bytes(0));
+) -> Result<bool, Fault> {
+    memory.leave(alloc, 0)?;
     let is_right = are_blocks(alloc, cursor) && are_builders(alloc, block, table);
-    is_right && !was_refused(alloc)
+    memory.loosen();
+    Ok(is_right)
 }
 
 /// The same, with a table that is made before.
 fn are_beside_table(
     alloc: Global,
+    memory: &mut Memory,
     cursor: &BlockCursor<'_>,
     block: &BlockBuilder,
 ) -> Result<bool, Fault> {
     let mut table = TableBuilder::<Bytewise>::new(alloc, SMALLEST);
-    add_row(&mut table, &A_AT_ONE)?;
-    Ok(are_right(alloc, cursor, block, &table))
+    add_row(memory, &mut table, &A_AT_ONE)?;
+    are_right(alloc, memory, cursor, block, &table)
 }
 
 /// The same, with a block that is made before that.
-fn are_beside_block(alloc: Global, cursor: &BlockCursor<'_>) -> Result<bool, Fault> {
+fn are_beside_block(
+    alloc: Global,
+    memory: &mut Memory,
+    cursor: &BlockCursor<'_>,
+) -> Result<bool, Fault> {
     let mut block = BlockBuilder::new(alloc, 16);
-    add_entry(&mut block, &A_AT_ONE, b"x")?;
-    are_beside_table(alloc, cursor, &block)
+    add_entry(memory, &mut block, &A_AT_ONE, b"x")?;
+    are_beside_table(alloc, memory, cursor, &block)
 }
 
 /// Blocks, their cursor, and builders.
-pub fn blocks(alloc: Global) -> Result<bool, Fault> {
+pub fn blocks(alloc: Global, memory: &mut Memory) -> Result<bool, Fault> {
     let cursor = BlockCursor::new(alloc, &block::check(BLOCK)?)?;
-    are_beside_block(alloc, &cursor)
+    are_beside_block(alloc, memory, &cursor)
 }
 
 /// Whether a cursor's first entry is `a` at 1 with the value `x`.
@@ -189,42 +196,49 @@ fn are_tables(
 /// Whether a handle, a table and cursors are right while each request for memory is refused.
 fn are_walkable(
     alloc: Global,
+    memory: &mut Memory,
     table: &SoundTable<'_, Bytewise>,
     cursors: &[TableCursor<'_, Bytewise>],
     merging: &Merging<Bytewise, TableCursor<'_, Bytewise>>,
-) -> bool {
-    refuse(alloc, &Order::Bytes(0));
+) -> Result<bool, Fault> {
+    memory.leave(alloc, 0)?;
     let is_right = is_handle() && are_tables(table, cursors, merging);
-    is_right && !was_refused(alloc)
+    memory.loosen();
+    Ok(is_right)
 }
 
 /// The same, with a merging cursor that is made before.
 fn are_merging(
     alloc: Global,
+    memory: &mut Memory,
     table: &SoundTable<'_, Bytewise>,
     cursors: &[TableCursor<'_, Bytewise>],
 ) -> Result<bool, Fault> {
     let merging = Merging::new(alloc, cursors_over(alloc, &[TABLE])?)?;
-    Ok(are_walkable(alloc, table, cursors, &merging))
+    are_walkable(alloc, memory, table, cursors, &merging)
 }
 
 /// The same, with cursors that are made before that.
-fn are_walked(alloc: Global, table: &SoundTable<'_, Bytewise>) -> Result<bool, Fault> {
+fn are_walked(
+    alloc: Global,
+    memory: &mut Memory,
+    table: &SoundTable<'_, Bytewise>,
+) -> Result<bool, Fault> {
     let cursors = cursors_over(alloc, &[TABLE])?;
-    are_merging(alloc, table, &cursors)
+    are_merging(alloc, memory, table, &cursors)
 }
 
 /// Tables and their cursors.
-pub fn tables(alloc: Global) -> Result<bool, Fault> {
+pub fn tables(alloc: Global, memory: &mut Memory) -> Result<bool, Fault> {
     let table = check::<Bytewise>(alloc, TABLE)?;
-    are_walked(alloc, &table)
+    are_walked(alloc, memory, &table)
 }
 
 /// Readable sequences, the orders that a request is tested for, and user keys that a deeper file
 /// from `t0` to `v0` may hold.
-pub fn rules(alloc: Global) -> Result<bool, Fault> {
+pub fn rules(alloc: Global, memory: &mut Memory) -> Result<bool, Fault> {
     let inputs = picked(alloc, DELETION)?;
-    refuse(alloc, &Order::Bytes(0));
+    memory.leave(alloc, 0)?;
     let is_right = Snapshots::From(9).floor(4) == 9
         && Snapshots::Listed(&[1]).floor(4) == 4
         && Snapshots::Listed(&[1]).listed() == [1].as_slice()
@@ -233,7 +247,8 @@ pub fn rules(alloc: Global) -> Result<bool, Fault> {
         && largest_rise::<Bytewise>(&inputs.deeper)
         && is_base::<Bytewise>(&inputs, b"s")
         && !is_base::<Bytewise>(&inputs, b"u");
-    Ok(is_right && !was_refused(alloc))
+    memory.loosen();
+    Ok(is_right)
 }
 
 /// Whether a range keeps its one entry, with its mark.
@@ -279,20 +294,22 @@ fn is_plan(plan: &Plan<'_, '_, Bytewise>) -> bool {
 /// memory is refused.
 fn are_planned(
     alloc: Global,
+    memory: &mut Memory,
     split: &Split<Bytewise>,
     runs: &[RangeRun<'_>],
 ) -> Result<bool, Fault> {
     let plan = plan::<Bytewise>(alloc, runs, &[], SMALLEST, 5)?;
-    refuse(alloc, &Order::Bytes(0));
+    memory.leave(alloc, 0)?;
     let is_right = is_kept(runs) && are_ranges(alloc, split) && is_plan(&plan);
-    Ok(is_right && !was_refused(alloc))
+    memory.loosen();
+    Ok(is_right)
 }
 
 /// What a range keeps, splits, and a plan.
-pub fn plans(alloc: Global) -> Result<bool, Fault> {
+pub fn plans(alloc: Global, memory: &mut Memory) -> Result<bool, Fault> {
     let split = three_ranges(alloc)?;
     let runs = runs_of(alloc, TABLE)?;
-    are_planned(alloc, &split, &runs)
+    are_planned(alloc, memory, &split, &runs)
 }
 
 /// Whether the counters of a version are these, an empty version has none, and there is a compact
@@ -312,17 +329,19 @@ fn is_version(alloc: Global, version: &Version) -> bool {
 }
 
 /// A version.
-pub fn versions(alloc: Global) -> Result<bool, Fault> {
+pub fn versions(alloc: Global, memory: &mut Memory) -> Result<bool, Fault> {
     let version = version_of(alloc, VERSION_TEN)?;
-    refuse(alloc, &Order::Bytes(0));
+    memory.leave(alloc, 0)?;
     let is_right = is_version(alloc, &version);
-    Ok(is_right && !was_refused(alloc))
+    memory.loosen();
+    Ok(is_right)
 }
 
 /// A board of five jobs and five seats.
-pub fn board(alloc: Global) -> Result<bool, Fault> {
+pub fn board(alloc: Global, memory: &mut Memory) -> Result<bool, Fault> {
     let (board, mut seats) = Board::new(alloc, 5, 5)?;
-    refuse(alloc, &Order::Bytes(0));
+    memory.leave(alloc, 0)?;
     let is_right = are_worked(&board, &mut seats) && is_closed(board, seats);
-    Ok(is_right && !was_refused(alloc))
+    memory.loosen();
+    Ok(is_right)
 }

@@ -1,4 +1,4 @@
-//! Expected and unexpected answers.
+//! The fault of an unexpected answer.
 
 use coding::{Fault, FaultName};
 
@@ -8,13 +8,5 @@ pub fn wanted(is_right: bool) -> Result<(), Fault> {
         Ok(())
     } else {
         Err(Fault::of(FaultName::Lawless))
-    }
-}
-
-/// Whether a call was refused since there was no memory for it.
-pub fn is_memory<T>(answer: &Result<T, Fault>) -> bool {
-    match answer {
-        Ok(_) => false,
-        Err(fault) => fault.name == FaultName::Memory,
     }
 }

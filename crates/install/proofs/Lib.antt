@@ -8,5 +8,4 @@ mod Edited
 mod Installed
 mod Files
 mod Current
-mod InstallRuns
 mod Before

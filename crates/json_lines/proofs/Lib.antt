@@ -1,3 +1,1 @@
 mod PieceLemmas
-mod QuotedLemmas
-mod StatsLemmas

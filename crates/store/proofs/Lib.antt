@@ -1,27 +1,25 @@
-pub mod Loaded
+mod Loaded
 mod Found
 mod SameTables
 mod Over
-pub mod TablesAfter
+mod TablesAfter
 mod EditedBy
 mod Joint
-pub mod NoDevice
+mod NoDevice
 mod Synced
 mod SyncsTold
 mod TableSyncs
-pub mod Flow
-pub mod InputNumbers
-pub mod InputsApart
+mod Flow
+mod InputNumbers
+mod InputsApart
 mod LentRises
 mod CheckedInputs
 mod OrderlyFiles
 mod LineLemmas
-mod Tellings
-pub mod Compactions
+mod Compactions
 mod LawfulInputs
-pub mod InstallPart
+mod InstallPart
 mod StepPart
-mod NamesThere
 mod Runs
 mod AfterEdit
 mod StepsTaken

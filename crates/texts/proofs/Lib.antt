@@ -2,5 +2,4 @@ mod DigitLemmas
 mod EscapedLemmas
 mod PrintableLemmas
 mod TextLemmas
-pub mod Appended
 pub mod SpellingLemmas

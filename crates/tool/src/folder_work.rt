@@ -1,6 +1,5 @@
 //! The work on a folder, from its path to what is printed.
 
-use crate::fault_printer::faults_printed;
 use crate::folder_locks::locked_to_read;
 use crate::folder_refusal::{explained, table_explained};
 use crate::progress_line::ProgressLine;
@@ -17,14 +16,14 @@ use std::thread::Threads;
 use std::time::Clock;
 use store::sync_version;
 use texts::Spelling;
-use usage::{GetLine, ManifestLine, VerdictForm, VerifyLine};
+use usage::Testing;
 
 /// The bytes of a MiB.
 const MEBIBYTE: u64 = 1 << 20;
 
 /// What is printed of the value of a key.
 #[derive(Clone, Copy)]
-enum ValueOutput {
+pub(crate) enum ValueOutput {
     /// Its line, in a spelling.
     Line(Spelling),
     /// Its bytes.
@@ -34,17 +33,6 @@ enum ValueOutput {
 }
 
 impl ValueOutput {
-    /// What is printed of the value that a line asks for.
-    fn of(line: &GetLine<'_>) -> ValueOutput {
-        if line.is_raw {
-            ValueOutput::Raw
-        } else if line.is_json {
-            ValueOutput::Json(line.spelling)
-        } else {
-            ValueOutput::Line(line.spelling)
-        }
-    }
-
     /// The form in which the value is asked for.
     fn form(self) -> ValueForm {
         match self {
@@ -58,41 +46,45 @@ impl ValueOutput {
 pub(crate) fn print_version<R: SystemFiles + Print + Eprint + Clock + AllocGlobal>(
     rt: &R,
     telling: Telling<'_>,
-    line: &ManifestLine<'_>,
+    spelling: Spelling,
+    is_json: bool,
 ) -> Result<(), Refusal> {
     let _lock = locked_to_read(rt, telling.folder)?;
-    version_printed(rt, telling, line).map_err(|refusal| explained(rt, telling.folder, refusal))
+    version_printed(rt, telling, spelling, is_json).map_err(|refusal| explained(
+        rt,
+        telling.folder,
+        refusal,
+    ))
 }
 
 fn version_printed<R: SystemFiles + Print + Eprint + Clock + AllocGlobal>(
     rt: &R,
     telling: Telling<'_>,
-    line: &ManifestLine<'_>,
+    spelling: Spelling,
+    is_json: bool,
 ) -> Result<(), Refusal> {
     let begun = telling.begin(rt);
     let opened = begin_work(rt, telling)?;
-    let lines = if line.is_json {
-        version_json(rt.alloc(), line.spelling, opened.order, &opened.version)?
+    let lines = if is_json {
+        version_json(rt.alloc(), spelling, opened.order, &opened.version)?
     } else {
-        manifest_lines(rt.alloc(), line.spelling, opened.order, &opened.version)?
+        manifest_lines(rt.alloc(), spelling, opened.order, &opened.version)?
     };
     tell_time(rt, "manifest", begun);
     print_lines(rt, lines.as_slice())
 }
 
 /// Checks the version of a folder, and prints the line of a lawful one, as JSON if that is asked
-/// for; or all faults of its files.
+/// for. The test may hold this many bytes of tables.
 pub(crate) fn print_verdict<
     R: SystemFiles + WholeFiles + Print + Eprint + Clock + AllocGlobal + Threads + Sync,
->(rt: &R, telling: Telling<'_>, line: &VerifyLine<'_>) -> Result<(), Refusal> {
+>(rt: &R, telling: Telling<'_>, is_json: bool, memory: u64) -> Result<(), Refusal> {
     let _lock = locked_to_read(rt, telling.folder)?;
-    let memory = bytes_of(line.memory);
-    let printed = match line.form {
-        VerdictForm::Line => verdict_printed(rt, telling, false, memory),
-        VerdictForm::Json => verdict_printed(rt, telling, true, memory),
-        VerdictForm::AllFaults => faults_printed(rt, telling, memory),
-    };
-    printed.map_err(|refusal| explained(rt, telling.folder, refusal))
+    verdict_printed(rt, telling, is_json, memory).map_err(|refusal| explained(
+        rt,
+        telling.folder,
+        refusal,
+    ))
 }
 
 fn verdict_printed<
@@ -137,12 +129,24 @@ fn json_verdict<R: SystemFiles + WholeFiles + Eprint + Clock + AllocGlobal + Thr
 /// Prints the value of a key in a folder. The version is tested before, if that is asked for.
 pub(crate) fn print_value<
     R: SystemFiles + WholeFiles + Print + Eprint + Clock + AllocGlobal + Threads + Sync,
->(rt: &R, telling: Telling<'_>, line: &GetLine<'_>) -> Result<(), Refusal> {
+>(
+    rt: &R,
+    telling: Telling<'_>,
+    key: &[u8],
+    at: Option<u64>,
+    output: ValueOutput,
+    testing: &Testing,
+) -> Result<(), Refusal> {
     let _lock = locked_to_read(rt, telling.folder)?;
-    if line.testing.is_skipped {
-        return print_unverified_value(rt, telling, line);
+    if testing.is_skipped {
+        return print_unverified_value(rt, telling, key, at, output);
     }
-    value_printed(rt, telling, line).map_err(|refusal| explained(rt, telling.folder, refusal))
+    let memory = bytes_of(testing.memory);
+    value_printed(rt, telling, key, at, output, memory).map_err(|refusal| explained(
+        rt,
+        telling.folder,
+        refusal,
+    ))
 }
 
 /// Prints the value of a key in a folder. The version was verified before. If a table is refused,
@@ -150,9 +154,10 @@ pub(crate) fn print_value<
 fn print_unverified_value<R: SystemFiles + Print + Eprint + Clock + AllocGlobal>(
     rt: &R,
     telling: Telling<'_>,
-    line: &GetLine<'_>,
+    key: &[u8],
+    at: Option<u64>,
+    output: ValueOutput,
 ) -> Result<(), Refusal> {
-    let output = ValueOutput::of(line);
     let begun = telling.begin(rt);
     let opened = begin_work(rt, telling).map_err(|refusal| explained(rt, telling.folder, refusal))?;
     let mut folder = Disk::new(rt, telling.folder);
@@ -161,8 +166,8 @@ fn print_unverified_value<R: SystemFiles + Print + Eprint + Clock + AllocGlobal>
         &mut folder,
         opened.order,
         &opened.version,
-        &line.key,
-        line.at,
+        key,
+        at,
         output.form(),
     );
     let answer = answer.map_err(|fault| table_explained(
@@ -171,30 +176,27 @@ fn print_unverified_value<R: SystemFiles + Print + Eprint + Clock + AllocGlobal>
         refused_at(rt, telling.folder, &folder, fault),
     ))?;
     tell_time(rt, "get --no-verify", begun);
-    print_value_answer(rt, telling.folder, &line.key, output, answer)
+    print_value_answer(rt, telling.folder, key, output, answer)
 }
 
 fn value_printed<
     R: SystemFiles + WholeFiles + Print + Eprint + Clock + AllocGlobal + Threads + Sync,
->(rt: &R, telling: Telling<'_>, line: &GetLine<'_>) -> Result<(), Refusal> {
+>(
+    rt: &R,
+    telling: Telling<'_>,
+    key: &[u8],
+    at: Option<u64>,
+    output: ValueOutput,
+    memory: u64,
+) -> Result<(), Refusal> {
     let begun = telling.begin(rt);
     let opened = begin_work(rt, telling)?;
     sizes_tested(rt, telling.folder, &opened)?;
-    let output = ValueOutput::of(line);
-    let question = Question::Value {
-        key: &line.key,
-        at: line.at,
-        form: output.form(),
-    };
-    let answer = answered(
-        rt,
-        telling,
-        &opened,
-        question,
-        bytes_of(line.testing.memory),
-    )?;
+    let form = output.form();
+    let question = Question::Value { key, at, form };
+    let answer = answered(rt, telling, &opened, question, memory)?;
     tell_time(rt, "get", begun);
-    print_value_answer(rt, telling.folder, &line.key, output, answer)
+    print_value_answer(rt, telling.folder, key, output, answer)
 }
 
 /// Writes the answer of a key's value to the standard output, as the JSON line of both if that is
@@ -209,7 +211,7 @@ fn print_value_answer<R: Print + Eprint + AllocGlobal>(
     match output {
         ValueOutput::Json(spelling) => {
             let line = value_json(rt.alloc(), spelling, key, answer.as_deref())?;
-            print_lines(rt, &line)
+            print_lines(rt, line.as_bytes())
         }
         _ => print_answer(rt, folder, answer),
     }

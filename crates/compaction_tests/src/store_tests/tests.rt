@@ -13,12 +13,12 @@ use std::alloc::Global;
 use std::test::*;
 use std::thread::Threads;
 use store::{
-    CompactionStep, DescentEnd, InstallWatch, Open, Settings, compact_all, compact_dir,
-    compact_inputs, opened_after,
+    DescentEnd, InstallWatch, Open, Settings, compact_all, compact_dir, compact_inputs,
+    opened_after,
 };
 
 /// How many bytes of tables are held while a version is tested.
-pub(crate) const MEMORY: u64 = 1_073_741_824;
+const MEMORY: u64 = 1_073_741_824;
 
 /// These bytes, or `others` if they are empty.
 fn or(bytes: &'static [u8], others: &'static [u8]) -> &'static [u8] {
@@ -26,7 +26,7 @@ fn or(bytes: &'static [u8], others: &'static [u8]) -> &'static [u8] {
 }
 
 /// The files of the folder of a row.
-pub(crate) fn files_of(row: &Row) -> [(&'static str, &'static [u8]); 4] {
+fn files_of(row: &Row) -> [(&'static str, &'static [u8]); 4] {
     [
         ("CURRENT", CURRENT),
         ("MANIFEST-000005", or(row.manifest, ONE_FILE)),
@@ -41,7 +41,7 @@ fn answer_of<R: AllocGlobal + Threads + Sync>(
     folder: &mut Shelf<'_>,
     row: &Row,
 ) -> Result<Vec<u8>, Fault> {
-    let step = compact_dir(
+    compact_dir(
         rt,
         rt.alloc(),
         folder,
@@ -49,8 +49,7 @@ fn answer_of<R: AllocGlobal + Threads + Sync>(
         &row.settings,
         MEMORY,
         &Open,
-    )?;
-    Ok(step.lines)
+    )
 }
 
 /// Whether an answer is this text, or this refusal.
@@ -73,7 +72,7 @@ fn answers<R: AllocGlobal + Threads + Sync>(
 }
 
 /// Whether a folder holds these files.
-pub(crate) fn holds(folder: &Shelf<'_>, files: Files) -> bool {
+fn holds(folder: &Shelf<'_>, files: Files) -> bool {
     for (name, bytes) in files {
         if folder.held(name) != Some(*bytes) {
             return false;
@@ -140,11 +139,11 @@ impl InstallWatch for Collected {
     fn installed(
         &mut self,
         _level: u64,
-        step: &CompactionStep,
+        lines: &[u8],
         _before: &Version,
         _after: Option<&Version>,
     ) -> bool {
-        let _ = self.lines.extend_from_slice(&step.lines);
+        let _ = self.lines.extend_from_slice(lines);
         self.left = self.left.saturating_sub(1);
         self.left > 0
     }

@@ -1,4 +1,0 @@
-//! The tests of `adoption`.
-
-mod rows;
-mod tests;

@@ -1,0 +1,13 @@
+use Rattle.std.proofs.Common.{ap, ◌≡◌, ◌∙◌, false, true}
+use Rattle.std.proofs.lemmas.Result.{IfOk-weaker}
+use Rattle.clap.specs.Words.{Rule, rule_of}
+use Rattle.grammar.specs.Apps.{required_argument}
+use Rattle.grammar.proofs.CommandLemmas.{argument_added, is_global}
+use Rattle.grammar.proofs.commands.with_wanted.Goals as goal
+
+pub returns : goal.returns
+returns c =
+    let is : rule_of c.help.result ≡ required_argument c.args.id.now =
+    ap rule_of c.help.ensures ∙ ap rule_of c.required.ensures ∙ ap (λ (r : Rule). record r { required = true }) c.new.ensures.rule in
+    let local : is_global c.help.result ≡ false = ap is_global c.help.ensures ∙ ap is_global c.required.ensures ∙ c.new.ensures.optional.1 in
+    IfOk-weaker c.arg.result _ _ (λ made h. argument_added c.args.command made c.help.result _ is local h) c.arg.ensures
